@@ -1,0 +1,25 @@
+//! The plain data of an input service: what a device says, what a window is told, and when.
+//!
+//! A finger that goes down at (540, 1200) on device 1 at 12,345.1 seconds is the message
+//!
+//! ```text
+//! Message { seq: 1, moment: 12345100000, body: Motion { device: 1, action: Down, index: 0, flags: 0, pointers: [0 at (540, 1200)] } }
+//! ```
+//!
+//! and its action word, as a MotionEvent carries it, is 0. All types here are `Copy` and own no memory. A list of pointers is
+//! a fixed table of 16 places, and contracts see it as the list of those that are in use.
+#![tactic(auto)]
+
+mod axis;
+mod key;
+mod message;
+mod motion;
+mod number;
+mod pointer;
+
+pub use axis::{Axis, Pixel, Rotation};
+pub use key::{KeyArgs, KeyMsg};
+pub use message::{Args, Body, Message};
+pub use motion::{FLAG_CANCELED, Motion, MotionAction};
+pub use number::{DeviceId, Limit, Moment, PointerId};
+pub use pointer::{Pointer, Pointers, PushRefused};

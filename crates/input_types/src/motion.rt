@@ -1,0 +1,68 @@
+//! Motion events.
+ghost use Rattle.std.specs.Prelude.{◌≡◌, ◌+◌, ◌*◌, ◌<◌};
+ghost use Rattle.input_types.specs.Action.{action_number};
+
+use crate::number::DeviceId;
+use crate::pointer::Pointers;
+
+/// The flag of a message that ends something without being meant as its end, as KeyEvent's and MotionEvent's `FLAG_CANCELED`.
+pub const FLAG_CANCELED: u32 = 0x20;
+
+/// What a motion says, with MotionEvent's names.
+#[derive(Clone, Copy, Debug, PartialEq, Eq)]
+pub enum MotionAction {
+    /// The first pointer goes down.
+    Down,
+    /// The last pointer goes up.
+    Up,
+    /// The pointers are at these places now.
+    Move,
+    /// The gesture ends, and is not to be acted on.
+    Cancel,
+    /// A pointer went down outside the window.
+    Outside,
+    /// A further pointer goes down.
+    PointerDown,
+    /// One of several pointers goes up.
+    PointerUp,
+}
+
+impl MotionAction {
+    /// Its number, as MotionEvent's `getActionMasked` gives it.
+    pub fn number(self) -> u8
+        ensures value { result ≡ action_number self }
+        ensures range { result < 7 }
+    {
+        match self {
+            MotionAction::Down => 0,
+            MotionAction::Up => 1,
+            MotionAction::Move => 2,
+            MotionAction::Cancel => 3,
+            MotionAction::Outside => 4,
+            MotionAction::PointerDown => 5,
+            MotionAction::PointerUp => 6,
+        }
+    }
+}
+
+/// A motion of the pointers of one device.
+#[derive(Clone, Copy, Debug, PartialEq, Eq)]
+pub struct Motion {
+    pub device: DeviceId,
+    pub action: MotionAction,
+    /// For `PointerDown` and `PointerUp` the place in `pointers` of the one that goes down or up, and 0 for the others.
+    pub index: u8,
+    /// 0 or `FLAG_CANCELED`.
+    pub flags: u32,
+    /// All pointers that are down, the one that goes down or up included.
+    pub pointers: Pointers,
+}
+
+impl Motion {
+    /// The action with the pointer index in bits 8 to 15, as MotionEvent's `getAction` gives it.
+    pub fn action_word(&self) -> u32
+        ensures { result ≡ action_number self.now.action + 256 * self.now.index }
+    {
+        u32::from(self.action.number()) + 256 * u32::from(self.index)
+    }
+}

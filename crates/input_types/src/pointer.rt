@@ -1,0 +1,132 @@
+//! Pointers, and lists of them.
+ghost use Rattle.std.specs.Prelude.{◌≡◌, ℕ, ◌+◌, ◌<◌, ◌≤◌, ◌==◌, ◌↔◌, IsTrue, List, [], ◌∷◌, ◌++◌, length, slice_get, OnOk, OnErr};
+ghost use Rattle.input_types.specs.Pointers.{IsRising, EndsBelow};
+
+use crate::axis::Pixel;
+use crate::number::PointerId;
+use std::marker::Model;
+
+/// One pointer of a motion: its id and where it is.
+#[derive(Clone, Copy, Debug, PartialEq, Eq)]
+pub struct Pointer {
+    pub id: PointerId,
+    pub at: Pixel,
+}
+
+/// Why a pointer was not put behind a list.
+#[derive(Clone, Copy, Debug, PartialEq, Eq)]
+pub enum PushRefused {
+    /// The list has 16 pointers.
+    Full,
+    /// The last id of the list is not below that of the pointer.
+    NotRising,
+}
+
+/// At most 16 pointers with rising ids. Contracts see it as a list.
+#[derive(Clone, Copy, Debug, PartialEq, Eq)]
+pub struct Pointers {
+    items: [Pointer; 16],
+    used: u8,
+}
+
+impl Model for Pointers {
+    ghost use Rattle.std.specs.Prelude.{List, take, length, replicate, ◌++◌, ◌-◌};
+    ghost use Rattle.input_types.specs.declared.pointer.Pointer.{Pointer as Element};
+
+    ghost Value = { List Element };
+
+    ghost use Rattle.input_types.specs.Pointers.{IsTable, unused};
+    ghost use Rattle.input_types.specs.Inverse.{fields_again};
+
+    ghost view = { λ p. take p.used p.items };
+
+    ghost invariant = { λ p. IsTable p.items p.used };
+
+    ghost inverse = { λ ps. record { items = ps ++ replicate (16 - length ps) unused; used = length ps } };
+
+    ghost inverse_ok = { λ p h. fields_again p h };
+}
+
+impl Pointers {
+    /// The most pointers that a list has.
+    pub const MAX: usize = 16;
+
+    /// The list without pointers.
+    pub fn empty() -> Pointers
+        ensures { result ≡ [] }
+    {
+        let unused = Pointer {
+            id: PointerId::zero(),
+            at: Pixel { x: 0, y: 0 },
+        };
+        Pointers {
+            items: [unused; 16],
+            used: 0,
+        }
+    }
+
+    /// How many pointers it has, at most 16.
+    pub fn len(&self) -> usize
+        ensures value { result ≡ length self.now }
+        ensures range { result ≤ 16 }
+        ensures rises { IsRising self.now }
+    {
+        usize::from(self.used)
+    }
+
+    pub fn is_empty(&self) -> bool
+        ensures { result ≡ (length self.now == 0) }
+    {
+        self.used == 0
+    }
+
+    /// The pointer at place `i`, counted from 0; None exactly where `i` is not below `len`.
+    pub fn get(&self, i: usize) -> Option<Pointer>
+        ensures { result ≡ slice_get self.now i }
+    {
+        if i < usize::from(self.used) {
+            Some(self.items[i])
+        } else {
+            None
+        }
+    }
+
+    /// The pointers in use as a slice.
+    pub fn as_slice(&self) -> &[Pointer]
+        ensures { result.now ≡ self.now }
+    {
+        &self.items[..usize::from(self.used)]
+    }
+
+    /// Puts a pointer behind the list.
+    ///
+    /// `Full` comes exactly where 16 pointers stand, and else `NotRising` exactly where the last id is not below that of `p`.
+    /// The list then stays as it was.
+    pub fn push(&mut self, p: Pointer) -> Result<(), PushRefused>
+        ensures ok { OnOk result (self.new ≡ self.old ++ p ∷ []) }
+        ensures full { (result ≡ Err PushRefused.Full) ↔ (length self.old ≡ 16) }
+        ensures not_rising { (result ≡ Err PushRefused.NotRising) ↔ ((length self.old < 16) × ¬ EndsBelow self.old p.id) }
+        ensures err { OnErr result (self.new ≡ self.old) }
+    {
+        let used = usize::from(self.used);
+        if used >= Self::MAX {
+            return Err(PushRefused::Full);
+        }
+        if !ends_below(&self.items[..used], p.id) {
+            return Err(PushRefused::NotRising);
+        }
+        self.items[used] = p;
+        self.used += 1;
+        Ok(())
+    }
+}
+
+/// Whether the last id of a list is below `id`, as it is where the list is empty.
+fn ends_below(pointers: &[Pointer], id: PointerId) -> bool
+    ensures { IsTrue result ↔ EndsBelow pointers.now id }
+{
+    match pointers.last() {
+        None => true,
+        Some(last) => last.id.get() < id.get(),
+    }
+}
