@@ -1,3 +1,6 @@
 pub mod Pointers
 pub mod Action
 pub mod Inverse
+pub mod Gestures
+pub mod DeviceRule
+pub mod StreamRule

@@ -1,0 +1,92 @@
+-- Worked examples of the rules for devices and for windows, computed.
+use Rattle.std.specs.Prelude.{◌≡◌, ℕ, List, [], ◌∷◌, Some, None, Bool, true, false, pos, refl}
+use Rattle.std.specs.Option.{option_map}
+use Rattle.input_types.specs.declared.pointer.Pointer.{Pointer}
+use Rattle.input_types.specs.declared.motion.Motion.{Motion}
+use Rattle.input_types.specs.declared.motion.MotionAction.{MotionAction}
+use Rattle.input_types.specs.declared.motion.MotionAction.TheVariants.{Down, Up, Move, Cancel, PointerDown, PointerUp}
+use Rattle.input_types.specs.declared.message.Args.TheVariants.{Motion as MotionArgs, Key as KeyArgs, Reset}
+use Rattle.input_types.specs.declared.message.Body.TheVariants.{Motion as MotionBody, Key as KeyBody, Focus}
+use Rattle.input_types.specs.declared.message.Message.{Message}
+use Rattle.input_types.specs.Gestures.{after_motion}
+use Rattle.input_types.specs.DeviceRule.{device_state}
+use Rattle.input_types.specs.StreamRule.{is_well_formed}
+
+-- a pointer that stands at (100, 200)
+abbrev at : ℕ → Pointer
+at i = record { id = i; at = record { x = pos 100; y = pos 200 } }
+
+-- a motion of device 1
+abbrev motion : MotionAction → ℕ → ℕ → List Pointer → Motion
+motion action index flags ps = record { device = 1; action = action; index = index; flags = flags; pointers = ps }
+
+abbrev says : Motion → Message
+says m = record { seq = 1; moment = 0; body = MotionBody m }
+
+-- the device's part: two fingers go down, both move, the first goes up; newest first
+pub two_fingers : option_map (λ s. s.ids) (device_state 1 (
+    MotionArgs (motion PointerUp 0 0 (at 0 ∷ at 1 ∷ [])) ∷ MotionArgs (motion Move 0 0 (at 0 ∷ at 1 ∷ []))
+    ∷ MotionArgs (motion PointerDown 1 0 (at 0 ∷ at 1 ∷ [])) ∷ MotionArgs (motion Down 0 0 (at 0 ∷ [])) ∷ [])) ≡ Some (1 ∷ [])
+two_fingers = refl
+
+-- a reset ends all that is down, and another device is not touched by it
+pub reset_ends : option_map (λ s. s.ids) (device_state 1 (Reset 1 ∷ MotionArgs (motion Down 0 0 (at 0 ∷ [])) ∷ [])) ≡ Some []
+reset_ends = refl
+
+pub reset_of_another : option_map (λ s. s.ids) (device_state 1 (Reset 2 ∷ MotionArgs (motion Down 0 0 (at 0 ∷ [])) ∷ [])) ≡ Some (0 ∷ [])
+reset_of_another = refl
+
+-- a device never says that a gesture is cancelled
+pub no_cancel_of_a_device : option_map (λ s. s.ids) (device_state 1 (MotionArgs (motion Cancel 0 0 (at 0 ∷ [])) ∷ MotionArgs (motion Down 0 0 (at 0 ∷ [])) ∷ [])) ≡ None
+no_cancel_of_a_device = refl
+
+-- a window's second finger is no second Down
+pub second_down : after_motion (0 ∷ []) (motion Down 0 0 (at 1 ∷ [])) ≡ None
+second_down = refl
+
+-- the new finger goes to its place among the others, which the index tells
+pub finger_between : after_motion (0 ∷ 2 ∷ []) (motion PointerDown 1 0 (at 0 ∷ at 1 ∷ at 2 ∷ [])) ≡ Some (0 ∷ 1 ∷ 2 ∷ [])
+finger_between = refl
+
+pub wrong_index : after_motion (0 ∷ 2 ∷ []) (motion PointerDown 2 0 (at 0 ∷ at 1 ∷ at 2 ∷ [])) ≡ None
+wrong_index = refl
+
+-- a finger that is taken away goes up cancelled, the last one is cancelled by the word Cancel
+pub lost_one : after_motion (0 ∷ 1 ∷ []) (motion PointerUp 0 32 (at 0 ∷ at 1 ∷ [])) ≡ Some (1 ∷ [])
+lost_one = refl
+
+pub up_with_flag : after_motion (0 ∷ []) (motion Up 0 32 (at 0 ∷ [])) ≡ None
+up_with_flag = refl
+
+-- a gesture that is cancelled is over: no Up follows
+pub well_formed_gesture : is_well_formed (says (motion Cancel 0 0 (at 0 ∷ [])) ∷ says (motion Move 0 0 (at 0 ∷ [])) ∷ says (motion Down 0 0 (at 0 ∷ [])) ∷ []) ≡ true
+well_formed_gesture = refl
+
+pub up_after_cancel : is_well_formed (says (motion Up 0 0 (at 0 ∷ [])) ∷ says (motion Cancel 0 0 (at 0 ∷ [])) ∷ says (motion Down 0 0 (at 0 ∷ [])) ∷ []) ≡ false
+up_after_cancel = refl
+
+-- a key message of scan code 30 on device 1
+abbrev key : Bool → ℕ → ℕ → Message
+key down flags repeat =
+    record { seq = 1; moment = 0; body = KeyBody (record { key = record { device = 1; scan = 30; code = 29; meta = 0; down = down }; flags = flags; repeat = repeat }) }
+
+abbrev focus : Bool → Message
+focus b = record { seq = 1; moment = 0; body = Focus b }
+
+-- a key that is held is repeated by number, and a cancelled up ends it
+pub repeats_in_order : is_well_formed (focus false ∷ key false 32 0 ∷ key true 0 2 ∷ key true 0 1 ∷ key true 0 0 ∷ focus true ∷ []) ≡ true
+repeats_in_order = refl
+
+pub repeat_that_skips_one : is_well_formed (key true 0 2 ∷ key true 0 0 ∷ []) ≡ false
+repeat_that_skips_one = refl
+
+pub up_of_no_key : is_well_formed (key false 0 0 ∷ []) ≡ false
+up_of_no_key = refl
+
+pub focus_lost_first : is_well_formed (focus false ∷ []) ≡ false
+focus_lost_first = refl
+
+-- a device's key goes down once
+pub key_twice : option_map (λ s. s.ids) (device_state 1 (KeyArgs (record { device = 1; scan = 30; code = 29; meta = 0; down = true })
+    ∷ KeyArgs (record { device = 1; scan = 30; code = 29; meta = 0; down = true }) ∷ [])) ≡ None
+key_twice = refl

@@ -1,0 +1,47 @@
+-- The rule that the args of one device keep.
+use Rattle.std.specs.Prelude.{ℕ, ◌&&◌, nat_eq, Bool, true, false, List, [], ◌∷◌, Option, Some, None, if◌then◌else◌}
+use Rattle.std.specs.Option.{option_map, option_and_then}
+use Rattle.input_types.specs.declared.motion.MotionAction.{MotionAction}
+use Rattle.input_types.specs.declared.motion.MotionAction.TheVariants.{Cancel, Outside}
+use Rattle.input_types.specs.declared.message.Args.{Args}
+use Rattle.input_types.specs.declared.message.Args.TheVariants.{Motion as MotionArgs, Key, Reset}
+use Rattle.input_types.specs.Gestures.{after_motion, allowed, differ}
+
+-- what is down on a device: the ids of its pointers in rising order, and its keys by their scan code
+pub record DeviceState : Type 0 where
+  pub ids : List ℕ
+  pub keys : ℕ → Bool
+
+-- nothing is down
+abbrev pub nothing_down : DeviceState
+nothing_down = record { ids = []; keys = λ _. false }
+
+-- a device makes this action itself; Cancel and Outside are only told to windows
+abbrev pub is_of_device : MotionAction → Bool
+is_of_device Cancel = false
+is_of_device Outside = false
+is_of_device _ = true
+
+-- the keys that are down once `scan` is
+abbrev pub with_key : (ℕ → Bool) → ℕ → Bool → ℕ → Bool
+with_key keys scan down s = if nat_eq s scan then down else keys s
+
+-- What is down on a device after its next args, where they may come: a motion without flags by the table of motions, a key down
+-- only when it is up and up only when it is down, and a reset at any time, after which nothing is down.
+abbrev pub after_args : DeviceState → Args → Option DeviceState
+after_args s (MotionArgs m) =
+    if is_of_device m.action && nat_eq m.flags 0 then option_map (λ ids. record { ids = ids; keys = s.keys }) (after_motion s.ids m) else None
+after_args s (Key k) = allowed (differ k.down (s.keys k.scan)) (record { ids = s.ids; keys = with_key s.keys k.scan k.down })
+after_args s (Reset d) = Some nothing_down
+
+-- the device that some args are of
+abbrev pub device_of : Args → ℕ
+device_of (MotionArgs m) = m.device
+device_of (Key k) = k.device
+device_of (Reset d) = d
+
+-- what is down on device `d` after a list of args, the newest first; None where some args of it might not come when they came
+abbrev pub device_state : ℕ → List Args → Option DeviceState
+device_state d [] = Some nothing_down
+device_state d (a ∷ past) =
+    if nat_eq (device_of a) d then option_and_then (λ s. after_args s a) (device_state d past) else device_state d past

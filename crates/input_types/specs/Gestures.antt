@@ -1,0 +1,55 @@
+-- What a motion may do to the pointers that are down. One table serves for what a device does and for what a window is told.
+use Rattle.std.specs.Prelude.{ℕ, ◌==◌, ◌&&◌, ◌||◌, not, nat_eq, nat_lt, Bool, true, false, cond, List, [], length, map, remove, Option, Some, None}
+use Rattle.std.specs.Cmp.Lexicographic.{pointwise}
+use Rattle.input_types.specs.declared.pointer.Pointer.{Pointer}
+use Rattle.input_types.specs.declared.motion.Motion.{Motion}
+use Rattle.input_types.specs.declared.motion.MotionAction.{MotionAction}
+use Rattle.input_types.specs.declared.motion.MotionAction.TheVariants.{Down, Up, Move, Cancel, Outside, PointerDown, PointerUp}
+
+-- the ids of some pointers, in their order
+abbrev pub ids_of : List Pointer → List ℕ
+ids_of ps = map (λ p. p.id) ps
+
+-- two lists of ids are the same
+abbrev pub same_ids : List ℕ → List ℕ → Bool
+same_ids = pointwise nat_eq
+
+-- `next`, where the condition holds
+abbrev pub allowed : {X : Type 0} → Bool → X → Option X
+allowed b next = cond b (Some next) None
+
+-- two truth values are not the same
+abbrev pub differ : Bool → Bool → Bool
+differ true b = not b
+differ false b = b
+
+-- no index and no flag
+abbrev pub is_plain : ℕ → ℕ → Bool
+is_plain index flags = (index == 0) && (flags == 0)
+
+-- no flag, or FLAG_CANCELED
+abbrev pub is_end_flag : ℕ → Bool
+is_end_flag flags = (flags == 0) || (flags == 32)
+
+-- What is down after an action that lists `ids`, where `down` was before it; both rise. None where the action may not come then:
+--   Down          from nothing, and lists one pointer
+--   PointerDown   from something, and lists it with one more, which the index tells
+--   Move          lists what is down
+--   PointerUp     lists what is down, at least two, and the index tells the one that goes
+--   Up            lists what is down, the last one
+--   Cancel        lists what is down, which ends
+--   Outside       lists one pointer, and leaves what is down
+abbrev pub after_action : MotionAction → List ℕ → List ℕ → ℕ → ℕ → Option (List ℕ)
+after_action Down down ids index flags = allowed (nat_eq (length down) 0 && (nat_eq (length ids) 1 && is_plain index flags)) ids
+after_action PointerDown down ids index flags =
+    allowed (nat_lt 0 (length down) && (nat_lt index (length ids) && (same_ids (remove ids index) down && (flags == 0)))) ids
+after_action Move down ids index flags = allowed (same_ids ids down && is_plain index flags) down
+after_action PointerUp down ids index flags =
+    allowed (same_ids ids down && (nat_lt 1 (length ids) && (nat_lt index (length ids) && is_end_flag flags))) (remove ids index)
+after_action Up down ids index flags = allowed (same_ids ids down && (nat_eq (length ids) 1 && is_plain index flags)) []
+after_action Cancel down ids index flags = allowed (same_ids ids down && (nat_lt 0 (length ids) && is_plain index flags)) []
+after_action Outside down ids index flags = allowed (nat_eq (length ids) 1 && is_plain index flags) down
+
+-- the ids of a device that are down after one of its motions
+abbrev pub after_motion : List ℕ → Motion → Option (List ℕ)
+after_motion down m = after_action m.action down (ids_of m.pointers) m.index m.flags
