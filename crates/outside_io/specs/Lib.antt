@@ -1,1 +1,5 @@
+pub mod Calls
+pub mod HostFiles
+pub mod MemFiles
+pub mod MemSink
 pub mod Outside

@@ -1,5 +1,5 @@
 -- What the outside may do: how a count of faults goes on, and what a set of files tells of its names.
-use Rattle.std.specs.Prelude.{◌≡◌, ℕ, ◌+◌, ◌-◌, ◌^◌, ◌≤◌, min, if◌then◌else◌, List, [], ◌∷◌, Option, None, Some, ⊤, IsSomeAnd, bytes_eq}
+use Rattle.std.specs.Prelude.{◌≡◌, ℕ, ◌+◌, ◌-◌, ◌^◌, ◌≤◌, min, Bool, if◌then◌else◌, List, [], ◌∷◌, Option, None, Some, ⊤, IsSomeAnd, bytes_eq}
 
 -- a count that is raised by `more` stands still at the greatest number of 64 bits
 abbrev pub raised : ℕ → ℕ → ℕ
@@ -22,3 +22,7 @@ bytes_of (entry ∷ entries) name = if bytes_eq entry.0 name then Some entry.1 e
 abbrev pub GivesBytes : Option (List Entry) → List ℕ → Option (List ℕ) → Type 0
 GivesBytes None name left = ⊤
 GivesBytes (Some entries) name left = IsSomeAnd (bytes_of entries name) (λ bytes. left ≡ Some bytes)
+
+-- the loan that is out, of files that lend one source at a time: its number is always 0
+abbrev pub loan_of : Bool → Option ℕ
+loan_of lent = if lent then Some 0 else None

@@ -5,6 +5,18 @@
 //! call in which that count rose: nobody above can claim a fault that the outside did not have.
 #![tactic(auto)]
 
+mod copying;
+mod host_files;
+mod host_sink;
+mod mem_files;
+mod mem_sink;
 mod outside;
 
+pub use host_files::{HostFiles, HostSource};
+pub use host_sink::HostSink;
+pub use mem_files::{MemFiles, MemSource, names_differ};
+pub use mem_sink::MemSink;
 pub use outside::{Failed, Files, Sink, Source, SourceRefused};
+
+#[cfg(test)]
+mod tests;

@@ -2,6 +2,9 @@ ghost use Rattle.std.specs.Prelude.{◌≡◌, ℕ, ◌<◌, ◌≤◌, Bool, Li
 ghost use Rattle.std.specs.Io.{ReadsAtMost, WritesAtMost};
 ghost use Rattle.std.specs.Io.KnownBytes.{ReadConsumes, WriteAppends};
 ghost use Rattle.outside_io.specs.Outside.{raised, Rose, Entry, GivesBytes};
+ghost use Rattle.outside_io.specs.declared.outside.SourceRefused.TheVariants.{Memory};
+
+use std::alloc::AllocError;
 
 /// A read or a write that failed. The object that was asked counted a fault.
 #[derive(Clone, Copy, Debug, PartialEq, Eq)]
@@ -53,6 +56,14 @@ pub enum SourceRefused {
     Failed,
     /// There was not enough memory for the source. Nothing changed.
     Memory,
+}
+
+impl From<AllocError> for SourceRefused {
+    ghost from_gives = { λ _ e. e ≡ Memory };
+
+    fn from(_error: AllocError) -> SourceRefused {
+        SourceRefused::Memory
+    }
 }
 
 /// Files under names. One source at a time is lent, until `done` takes it back.

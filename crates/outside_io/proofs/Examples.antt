@@ -1,0 +1,53 @@
+-- Worked examples of the definitions.
+use Rattle.std.proofs.Common.{◌≡◌, ◌^◌, ◌-◌, List, true, false, [], ◌∷◌, Some, None, refl, arith}
+use Rattle.outside_io.specs.Outside.{raised, Rose, Entry, bytes_of}
+use Rattle.outside_io.specs.Calls.{is_listed, faults_after}
+use Rattle.outside_io.specs.MemFiles.{names_differ_in}
+use Rattle.outside_io.specs.MemSink.{SinkState, write_fails}
+
+-- one more fault is a rise, none is not
+a_rise : Rose 3 4
+a_rise = omega arith
+
+no_rise : Rose 3 3 → ⊥
+no_rise = λ h. omega (arith, h)
+
+-- a count that stands at its greatest number may have risen
+at_the_end : Rose (2 ^ 64 - 1) (2 ^ 64 - 1)
+at_the_end = omega arith
+
+stands_still : raised (2 ^ 64 - 2) 5 ≡ 2 ^ 64 - 1
+stands_still = refl
+
+-- the second file, and a name that is not there
+abbrev two : List Entry
+two = ((97 ∷ [], 1 ∷ 2 ∷ []) ∷ (98 ∷ [], 3 ∷ []) ∷ [])
+
+second : bytes_of two (98 ∷ []) ≡ Some (3 ∷ [])
+second = refl
+
+absent : bytes_of two (97 ∷ 97 ∷ []) ≡ None
+absent = refl
+
+differ : names_differ_in two ≡ true
+differ = refl
+
+twice : names_differ_in ((97 ∷ [], []) ∷ two) ≡ false
+twice = refl
+
+-- calls 2 and 5 are to fail
+listed : is_listed 5 (2 ∷ 5 ∷ []) ≡ true
+listed = refl
+
+not_listed : is_listed 4 (2 ∷ 5 ∷ []) ≡ false
+not_listed = refl
+
+-- a full sink fails for a piece that is not empty, and takes an empty one
+abbrev full : SinkState
+full = record { taken = 7 ∷ []; room = 0; piece = 1; failing = []; next = 2; faults = 0 }
+
+full_fails : write_fails full 1 ≡ true
+full_fails = refl
+
+empty_passes : write_fails full 0 ≡ false
+empty_passes = refl
