@@ -1,7 +1,7 @@
 -- Worked examples of the definitions.
 use Rattle.std.proofs.Common.{◌≡◌, ◌^◌, ◌-◌, List, true, false, [], ◌∷◌, Some, None, refl, arith}
 use Rattle.outside_io.specs.Outside.{raised, Rose, Entry, bytes_of}
-use Rattle.outside_io.specs.Calls.{is_listed, faults_after}
+use Rattle.outside_io.specs.Calls.{is_listed}
 use Rattle.outside_io.specs.MemFiles.{names_differ_in}
 use Rattle.outside_io.specs.MemSink.{SinkState, write_fails}
 

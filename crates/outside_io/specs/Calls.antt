@@ -1,5 +1,5 @@
 -- The calls of an outside in memory: which of them fail, and what each leaves of the counts.
-use Rattle.std.specs.Prelude.{ℕ, ◌^◌, Bool, if◌then◌else◌, List, ◌==◌, Result, Ok, Err}
+use Rattle.std.specs.Prelude.{ℕ, Bool, if◌then◌else◌, List, ◌==◌, Result, Ok, Err}
 use Rattle.std.specs.List.{list_any}
 use Rattle.outside_io.specs.Outside.{raised}
 

@@ -1,5 +1,5 @@
 -- Files in memory and the sources that they lend, as contracts see them.
-use Rattle.std.specs.Prelude.{◌≡◌, ℕ, ◌^◌, Bool, true, false, not, ◌&&◌, ◌||◌, List, [], ◌∷◌, Option, Some, None, is_none, String, string_bytes, Vec, if◌then◌else◌}
+use Rattle.std.specs.Prelude.{ℕ, Bool, true, false, ◌&&◌, List, [], ◌∷◌, Option, None, is_none, String, string_bytes, Vec, if◌then◌else◌}
 use Rattle.std.specs.declared.alloc.Global.{Global}
 use Rattle.outside_io.specs.Calls.{is_listed, next_number}
 use Rattle.outside_io.specs.Outside.{raised, Entry, bytes_of}

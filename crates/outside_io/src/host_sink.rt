@@ -8,7 +8,8 @@ use std::io::Write;
 use std::marker::Model;
 
 /// A sink over a file, standard output or standard error of the machine. Contracts see how often it
-/// failed, and nothing of the bytes.
+/// failed, and nothing of the bytes. It calls `write` alone and never flushes, so `W` is to be without
+/// a buffer.
 #[derive(Drop)]
 pub struct HostSink<W> {
     inner: W,

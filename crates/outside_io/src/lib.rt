@@ -3,6 +3,22 @@
 //! A [`Files`] lends a [`Source`] for a name, the source is read to its end, and `done` gives it back.
 //! A [`Sink`] takes bytes. Each of the three counts its faults, and answers that it failed only in a
 //! call in which that count rose: nobody above can claim a fault that the outside did not have.
+//!
+//! Contracts see bytes where the object tells them. [`MemFiles`] and [`MemSink`] always do, and fail
+//! at the calls that they are told to. [`HostFiles`] and [`HostSink`] stand over the machine's files
+//! and streams, and tell only their counts. The form of the traits is this project's own choice.
+//!
+//! For example, with the file `greeting` of the five bytes `hello`, a piece of 3, and call 3 to fail:
+//!
+//! | call | | answer | bytes left | faults of the source |
+//! |---|---|---|---|---|
+//! | 1 | `files.source("greeting")` | a source | `hello` | 0 |
+//! | 2 | `source.read(&mut [0; 8])` | 3, `hel` | `lo` | 0 |
+//! | 3 | `source.read(&mut [0; 8])` | `Failed` | `lo` | 1 |
+//! | 4 | `source.read(&mut [0; 8])` | 2, `lo` | none | 1 |
+//! | 5 | `source.read(&mut [0; 8])` | 0, the end | none | 1 |
+//!
+//! `files.done(source)` then adds that fault to the count of the files, whose next call is number 6.
 #![tactic(auto)]
 
 mod copying;

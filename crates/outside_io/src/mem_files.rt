@@ -1,4 +1,4 @@
-ghost use Rattle.std.specs.Prelude.{◌≡◌, ℕ, ◌-◌, ◌<◌, ◌≤◌, ◌++◌, ◌↔◌, Bool, true, false, min, map, length, take, drop, vec_len, None, Some, option_map, IfOk, IfErr, OnOk, OnErr, IsErrOf, IsTrue, is_err, string_bytes};
+ghost use Rattle.std.specs.Prelude.{◌≡◌, ◌-◌, ◌<◌, ◌≤◌, ◌++◌, ◌↔◌, true, false, min, map, length, take, drop, vec_len, None, Some, option_map, IfOk, OnOk, OnErr, IsErrOf, IsTrue, is_err};
 ghost use Rattle.std.specs.Io.{ReadsAtMost};
 ghost use Rattle.std.specs.Io.KnownBytes.{ReadConsumes};
 ghost use Rattle.outside_io.specs.Outside.{raised, Rose, GivesBytes, bytes_of, loan_of};
@@ -12,7 +12,8 @@ use std::marker::Model;
 use std::mem;
 
 /// Files in memory, for tests: their sources give a few bytes a read, and the calls that are listed
-/// fail. The calls of `source` and of `read` are numbered together from 1.
+/// fail. The calls of `source` and of `read` are numbered together from 1; a call of `source` that
+/// finds no memory has no number. The greatest number of 64 bits stays that of each call after it.
 #[derive(Drop)]
 pub struct MemFiles {
     files: Vec<(String, Vec<u8>)>,

@@ -1,4 +1,4 @@
-ghost use Rattle.std.specs.Prelude.{◌≡◌, ℕ, ◌-◌, ◌<◌, ◌≤◌, min, [], length, take, vec_len, Some, IfOk, OnErr, is_err};
+ghost use Rattle.std.specs.Prelude.{◌≡◌, ◌-◌, ◌<◌, ◌≤◌, min, [], length, take, vec_len, Some, IfOk, OnErr, is_err};
 ghost use Rattle.std.specs.Io.{WritesAtMost};
 ghost use Rattle.std.specs.Io.KnownBytes.{WriteAppends};
 ghost use Rattle.outside_io.specs.Outside.{Rose};
@@ -10,7 +10,7 @@ use crate::outside::{Failed, Sink};
 use std::marker::Model;
 
 /// A sink in memory, for tests: it takes a few bytes a call, has a limited room, and fails at the
-/// calls that it is told to.
+/// calls that it is told to. It takes no memory.
 #[derive(Drop)]
 pub struct MemSink {
     room: Vec<u8>,
