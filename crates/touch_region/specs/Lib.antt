@@ -1,0 +1,4 @@
+pub mod Between
+pub mod Rectangle
+pub mod RectList
+pub mod Region

@@ -1,0 +1,46 @@
+// A rectangle of display pixels.
+
+ghost use Rattle.std.specs.Prelude.{◌≡◌};
+
+/// A rectangle in display pixels, half-open: it has the points with `left <= x < right` and `top <= y < bottom`.
+///
+/// Any four numbers make a rectangle, so one whose right edge is not right of its left edge has no point.
+#[derive(Clone, Copy, PartialEq, Eq, Debug)]
+pub struct Rect {
+    /// The least x of its points.
+    pub left: i32,
+    /// The least y of its points; y grows downwards.
+    pub top: i32,
+    /// The x behind the last column of its points.
+    pub right: i32,
+    /// The y behind the last row of its points.
+    pub bottom: i32,
+}
+
+impl Rect {
+    ghost use Rattle.touch_region.specs.Rectangle.{rect_holds, is_ordered};
+
+    /// Whether the point lies in the rectangle.
+    pub fn contains(&self, x: i32, y: i32) -> bool
+        ensures { result ≡ rect_holds self.now x y }
+    {
+        is_between(self.left, x, self.right) && is_between(self.top, y, self.bottom)
+    }
+
+    /// Whether the left edge is not right of the right one, and the top edge not below the bottom one. Equal edges are
+    /// in order, and leave the rectangle without a point.
+    pub fn is_ordered(&self) -> bool
+        ensures { result ≡ is_ordered self.now }
+    {
+        self.left <= self.right && self.top <= self.bottom
+    }
+}
+
+ghost use Rattle.touch_region.specs.Between.{is_between};
+
+// Whether `from <= x < until`.
+fn is_between(from: i32, x: i32, until: i32) -> bool
+    ensures { result ≡ is_between from x until }
+{
+    from <= x && x < until
+}
