@@ -1,0 +1,35 @@
+-- What a snapshot says of a channel.
+use Rattle.std.specs.Prelude.{ℕ, Bool, ◌&&◌, ◌==◌, List, Option, option_map}
+use Rattle.std.specs.List.{list_any, find, position}
+use Rattle.input_types.specs.declared.axis.Pixel.{Pixel}
+use Rattle.window_snapshot.specs.declared.flags.WindowFlags.{WindowFlags}
+use Rattle.window_snapshot.specs.declared.window.Window.{Window}
+use Rattle.window_snapshot.specs.Window.{is_focusable}
+
+-- the snapshot names the channel: a window is of it
+abbrev pub is_named : List Window → ℕ → Bool
+is_named windows c = list_any (λ w. w.channel == c) windows
+
+-- the window of the channel
+abbrev pub window_of : List Window → ℕ → Option Window
+window_of windows c = find (λ w. w.channel == c) windows
+
+-- how many windows stand in front of that of the channel
+abbrev pub place_of : List Window → ℕ → Option ℕ
+place_of windows c = position (λ w. w.channel == c) windows
+
+-- the flags of the channel's window
+abbrev pub flags_of : List Window → ℕ → Option WindowFlags
+flags_of windows c = option_map (λ w. w.flags) (window_of windows c)
+
+-- the left top corner of the window's frame, from which its owner counts
+abbrev pub origin : Window → Pixel
+origin w = record { x = w.frame.left; y = w.frame.top }
+
+-- the origin of the channel's window
+abbrev pub origin_of : List Window → ℕ → Option Pixel
+origin_of windows c = option_map origin (window_of windows c)
+
+-- the snapshot names the channel with a window that may have the focus
+abbrev pub is_focusable_at : List Window → ℕ → Bool
+is_focusable_at windows c = list_any (λ w. is_focusable w && w.channel == c) windows

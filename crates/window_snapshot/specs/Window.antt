@@ -1,0 +1,30 @@
+-- What a window's flags say, and whether a point hits it.
+use Rattle.std.specs.Prelude.{ℕ, ℤ, Bool, not, ◌&&◌, ◌==◌, bit_and}
+use Rattle.touch_region.specs.RectList.{region_holds}
+use Rattle.window_snapshot.specs.declared.window.Window.{Window}
+
+-- the window has the flag with this bit
+abbrev pub has_flag : Window → ℕ → Bool
+has_flag w flag = bit_and w.flags.bits flag == flag
+
+abbrev pub is_touchable : Window → Bool
+is_touchable w = not (has_flag w 1)
+
+abbrev pub is_focusable : Window → Bool
+is_focusable w = not (has_flag w 2)
+
+abbrev pub watches_outside : Window → Bool
+watches_outside w = has_flag w 4
+
+abbrev pub is_slippery : Window → Bool
+is_slippery w = has_flag w 8
+
+abbrev pub is_spy : Window → Bool
+is_spy w = has_flag w 16
+
+abbrev pub prevents_splitting : Window → Bool
+prevents_splitting w = has_flag w 32
+
+-- the point hits the window: it is touchable, its channel is live, and its region has the point
+abbrev pub is_hit : (ℕ → Bool) → ℤ → ℤ → Window → Bool
+is_hit live x y w = is_touchable w && live w.channel && region_holds w.region x y

@@ -1,0 +1,21 @@
+//! What is on the display: the windows, front to back, and which of them a point touches.
+//!
+//! A snapshot lists the windows with the one in front first. A point touches the first window that takes touches there; the
+//! spies in front of it see the touch too, and the watchers in front of it are told that it fell outside of them. With a spy
+//! from (0, 0) to (1080, 1200) as channel 1 in front of a window of the whole display as channel 2, the point (100, 100)
+//! touches channel 2 and has the spies {1}, and the point (100, 2000) touches channel 2 and has none.
+//!
+//! Positions are display pixels. A mask is a set of channels: bit `id - 1` stands for the channel `id`, for ids 1 to 64. A
+//! channel number outside of them is in no mask, so it is never live.
+#![tactic(auto)]
+
+mod flags;
+mod hits;
+mod mask;
+mod snapshot;
+mod window;
+
+pub use flags::WindowFlags;
+pub use mask::{is_channel, mask_has, mask_with};
+pub use snapshot::{MAX_WINDOWS, Snapshot, SnapshotError};
+pub use window::Window;

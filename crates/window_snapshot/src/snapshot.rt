@@ -1,0 +1,218 @@
+// The list of the windows on the display, and what it says of a channel.
+
+ghost use Rattle.std.specs.Prelude.{◌≡◌, ℕ, ◌&&◌, ◌==◌, [], IfOk, Bool, filter, fold};
+ghost use Rattle.std.specs.List.{position};
+
+use crate::flags::WindowFlags;
+use crate::mask::mask_with;
+use crate::window::Window;
+use input_types::Pixel;
+use std::alloc::{AllocError, Global};
+use std::marker::Model;
+
+/// How many windows a snapshot has at most.
+pub const MAX_WINDOWS: usize = 64;
+
+/// The windows on the display at one moment, front to back.
+///
+/// A clause sees it as the list of its windows, the one in front first. There are at most 64, no two of one channel.
+#[derive(Drop)]
+pub struct Snapshot {
+    windows: Vec<Window>,
+}
+
+impl Model for Snapshot {
+    ghost use Rattle.std.specs.Prelude.{List};
+    ghost use Rattle.window_snapshot.specs.declared.window.Window.{Window};
+    ghost use Rattle.window_snapshot.specs.WindowList.{IsSnapshot};
+
+    ghost Value = { List Window };
+
+    ghost view = { λ s. s.windows.items };
+
+    ghost invariant = { λ s. IsSnapshot s.windows.items };
+}
+
+/// Why a list of windows is no snapshot.
+#[derive(Clone, Copy, PartialEq, Eq, Debug)]
+pub enum SnapshotError {
+    /// More than 64 windows.
+    TooMany,
+    /// A window has the channel of one before it; no window in front of it has.
+    Twice {
+        /// That channel.
+        channel: u32,
+    },
+    /// No memory. A snapshot that is nothing but the list it was made from asks for none.
+    Memory,
+}
+
+impl Snapshot {
+    ghost use Rattle.window_snapshot.specs.Mask.{is_channel, mask_has};
+    ghost use Rattle.window_snapshot.specs.Named.{is_named, is_focusable_at, place_of, flags_of, origin_of};
+    ghost use Rattle.window_snapshot.specs.Snapshot.{snapshot_of};
+    ghost use Rattle.window_snapshot.specs.WindowList.{IsSnapshot};
+
+    /// The snapshot without windows.
+    pub fn empty(alloc: Global) -> Snapshot
+        ensures { result ≡ [] }
+    {
+        Snapshot {
+            windows: Vec::new(alloc),
+        }
+    }
+
+    /// The snapshot of these windows, front to back. More than 64 are refused before any of them is looked at; then the first
+    /// whose channel stands before is refused.
+    pub fn new(windows: Vec<Window>) -> Result<Snapshot, SnapshotError>
+        ensures { result ≡ snapshot_of windows.items }
+    {
+        if windows.len() > MAX_WINDOWS {
+            return Err(SnapshotError::TooMany);
+        }
+        match first_twice(&windows) {
+            Some(channel) => Err(SnapshotError::Twice { channel }),
+            None => Ok(Snapshot { windows }),
+        }
+    }
+
+    /// An equal snapshot.
+    pub fn copy(&self) -> Result<Snapshot, AllocError>
+        ensures { IfOk result (λ copied. copied ≡ self.now) }
+    {
+        let windows = copies(*self.windows.allocator(), &self.windows)?;
+        Ok(Snapshot { windows })
+    }
+
+    /// The windows, front to back.
+    pub fn windows(&self) -> &[Window]
+        ensures windows { result.now ≡ self.now }
+        ensures valid { IsSnapshot self.now }
+    {
+        &self.windows
+    }
+
+    /// The list that the snapshot was made from.
+    pub fn into_windows(self) -> Vec<Window>
+        ensures { result.items ≡ self }
+    {
+        let Snapshot { windows } = self;
+        windows
+    }
+
+    /// The mask of the channels that it names.
+    pub fn names(&self) -> u64
+        ensures { (c : ℕ) → mask_has result c ≡ (is_channel c && is_named self.now c) }
+    {
+        names(&self.windows)
+    }
+
+    /// The mask of the channels that it names with a window that may have the focus.
+    pub fn focusable(&self) -> u64
+        ensures { (c : ℕ) → mask_has result c ≡ (is_channel c && is_focusable_at self.now c) }
+    {
+        focusable(&self.windows)
+    }
+
+    /// How many windows stand in front of that of the channel; `None` where it names no such channel.
+    pub fn place_of(&self, channel: u32) -> Option<u32>
+        ensures { result ≡ place_of self.now channel }
+    {
+        match place_in(&self.windows, channel) {
+            Some(place) => Some(place as u32),
+            None => None,
+        }
+    }
+
+    /// The flags of the channel's window; `None` where it names no such channel.
+    pub fn flags_of(&self, channel: u32) -> Option<WindowFlags>
+        ensures { result ≡ flags_of self.now channel }
+    {
+        match window_in(&self.windows, channel) {
+            Some(window) => Some(window.flags),
+            None => None,
+        }
+    }
+
+    /// The left top corner of the frame of the channel's window, in display pixels; `None` where it names no such channel.
+    pub fn origin_of(&self, channel: u32) -> Option<Pixel>
+        ensures { result ≡ origin_of self.now channel }
+    {
+        match window_in(&self.windows, channel) {
+            Some(window) => Some(Pixel {
+                x: window.frame.left,
+                y: window.frame.top,
+            }),
+            None => None,
+        }
+    }
+}
+
+ghost use Rattle.std.specs.Option.{option_copied};
+ghost use Rattle.window_snapshot.specs.Named.{is_named, window_of, place_of};
+ghost use Rattle.window_snapshot.specs.WindowList.{first_twice};
+ghost use Rattle.window_snapshot.specs.MaskOf.{mask_of};
+ghost use Rattle.window_snapshot.specs.Window.{is_focusable};
+
+// The channel of the first window whose channel stands before.
+fn first_twice(windows: &[Window]) -> Option<u32>
+    ensures { result ≡ first_twice windows.now }
+{
+    for (i, window) in windows.iter().enumerate() {
+        if is_named(windows.split_at(i).0, window.channel) {
+            return Some(window.channel);
+        }
+    }
+    None
+}
+
+// Whether a window is of the channel.
+fn is_named(windows: &[Window], channel: u32) -> bool
+    ensures { result ≡ is_named windows.now channel }
+{
+    windows.iter().any(|window| window.channel == channel)
+}
+
+// The place of the channel's window.
+fn place_in(windows: &[Window], channel: u32) -> Option<usize>
+    ensures { result ≡ place_of windows.now channel }
+{
+    windows.iter().position(|window| window.channel == channel)
+}
+
+// The channel's window.
+fn window_in(windows: &[Window], channel: u32) -> Option<&Window>
+    ensures { option_copied result ≡ window_of windows.now channel }
+{
+    windows.iter().find(|window| window.channel == channel)
+}
+
+// The mask of the windows' channels.
+fn names(windows: &[Window]) -> u64
+    ensures { result ≡ mask_of windows.now }
+{
+    windows
+        .iter()
+        .fold(0, |mask, window| mask_with(mask, window.channel))
+}
+
+// The mask of the channels of the windows that may have the focus.
+fn focusable(windows: &[Window]) -> u64
+    ensures { result ≡ mask_of (filter is_focusable windows.now) }
+{
+    windows
+        .iter()
+        .filter(|window| window.is_focusable())
+        .fold(0, |mask, window| mask_with(mask, window.channel))
+}
+
+// Equal windows, in the same order.
+fn copies(alloc: Global, windows: &[Window]) -> Result<Vec<Window>, AllocError>
+    ensures { IfOk result (λ copied. copied.items ≡ windows.now) }
+{
+    let mut copied = Vec::with_capacity(alloc, windows.len())?;
+    for window in windows {
+        copied.push(window.copy()?)?;
+    }
+    Ok(copied)
+}

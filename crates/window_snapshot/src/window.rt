@@ -1,0 +1,90 @@
+// One window of a snapshot.
+
+ghost use Rattle.std.specs.Prelude.{◌≡◌, IfOk};
+
+use crate::flags::WindowFlags;
+use crate::mask::mask_has;
+use bitflags::Flags;
+use std::alloc::AllocError;
+use touch_region::{Rect, Region};
+
+/// One window of a snapshot.
+#[derive(Drop)]
+pub struct Window {
+    /// The channel that tells the window's owner what it gets.
+    pub channel: u32,
+    /// Where the window is, in display pixels. Its left and top edges alone matter: they are the origin of what the window is
+    /// told.
+    pub frame: Rect,
+    /// Where the window can be touched, in display pixels.
+    pub region: Region,
+    /// What it asks of the dispatcher.
+    pub flags: WindowFlags,
+}
+
+impl Window {
+    ghost use Rattle.window_snapshot.specs.Mask.{mask_has};
+    ghost use Rattle.window_snapshot.specs.Window.{is_spy, is_touchable, is_focusable, watches_outside, is_slippery, prevents_splitting, is_hit};
+
+    /// Whether it has the flag SPY.
+    pub fn is_spy(&self) -> bool
+        ensures { result ≡ is_spy self.now }
+    {
+        self.flags.contains(WindowFlags::SPY)
+    }
+
+    /// Whether it does not have the flag NOT_TOUCHABLE.
+    pub fn is_touchable(&self) -> bool
+        ensures { result ≡ is_touchable self.now }
+    {
+        !self.flags.contains(WindowFlags::NOT_TOUCHABLE)
+    }
+
+    /// Whether it does not have the flag NOT_FOCUSABLE.
+    pub fn is_focusable(&self) -> bool
+        ensures { result ≡ is_focusable self.now }
+    {
+        !self.flags.contains(WindowFlags::NOT_FOCUSABLE)
+    }
+
+    /// Whether it has the flag WATCH_OUTSIDE_TOUCH.
+    pub fn watches_outside(&self) -> bool
+        ensures { result ≡ watches_outside self.now }
+    {
+        self.flags.contains(WindowFlags::WATCH_OUTSIDE_TOUCH)
+    }
+
+    /// Whether it has the flag SLIPPERY.
+    pub fn is_slippery(&self) -> bool
+        ensures { result ≡ is_slippery self.now }
+    {
+        self.flags.contains(WindowFlags::SLIPPERY)
+    }
+
+    /// Whether it has the flag PREVENT_SPLITTING.
+    pub fn prevents_splitting(&self) -> bool
+        ensures { result ≡ prevents_splitting self.now }
+    {
+        self.flags.contains(WindowFlags::PREVENT_SPLITTING)
+    }
+
+    /// Whether its channel is in the mask `live`, it is touchable and its region has the point.
+    pub fn is_hit(&self, x: i32, y: i32, live: u64) -> bool
+        ensures { result ≡ is_hit (mask_has live) x y self.now }
+    {
+        self.is_touchable() && mask_has(live, self.channel) && self.region.contains(x, y)
+    }
+
+    /// An equal window.
+    pub fn copy(&self) -> Result<Window, AllocError>
+        ensures { IfOk result (λ copied. copied ≡ self.now) }
+    {
+        let region = self.region.copy()?;
+        Ok(Window {
+            channel: self.channel,
+            frame: self.frame,
+            region,
+            flags: self.flags,
+        })
+    }
+}
