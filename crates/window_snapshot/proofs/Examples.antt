@@ -1,11 +1,11 @@
 -- Worked examples: what the definitions say of windows that are written out.
-use Rattle.std.specs.Prelude.{ℕ, ℤ, ◌≡◌, Bool, true, false, pos, List, [], ◌∷◌, map, Some, None, Ok, Err, refl}
+use Rattle.std.specs.Prelude.{ℕ, ◌≡◌, Bool, true, false, pos, List, [], ◌∷◌, map, Some, None, Ok, Err, refl}
 use Rattle.touch_region.specs.declared.rectangle.Rect.{Rect}
-use Rattle.window_snapshot.specs.declared.snapshot.SnapshotError.TheVariants.{TooMany, Twice}
+use Rattle.window_snapshot.specs.declared.snapshot.SnapshotError.TheVariants.{Twice}
 use Rattle.window_snapshot.specs.declared.window.Window.{Window}
 use Rattle.window_snapshot.specs.Hits.{touched, spies, watchers, is_spy_at, is_watcher_at}
 use Rattle.window_snapshot.specs.Mask.{mask_has, mask_with}
-use Rattle.window_snapshot.specs.Named.{is_named, place_of, origin_of, is_focusable_at}
+use Rattle.window_snapshot.specs.Named.{place_of, origin_of, is_focusable_at}
 use Rattle.window_snapshot.specs.Snapshot.{snapshot_of}
 
 abbrev pub rect : ℕ → ℕ → ℕ → ℕ → Rect

@@ -1,1 +1,4 @@
 pub mod Examples
+pub mod Fronts
+pub mod Masks
+pub mod Told

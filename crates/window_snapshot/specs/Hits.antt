@@ -1,7 +1,8 @@
 -- Which windows of a snapshot, front to back, a point at (x, y) concerns. `live` says which channels are live.
-use Rattle.std.specs.Prelude.{ℕ, ℤ, Bool, false, not, ◌&&◌, ◌==◌, List, [], ◌∷◌, Option, is_some, option_map, filter, if◌then◌else◌}
-use Rattle.std.specs.List.{list_any, find, before_first}
+use Rattle.std.specs.Prelude.{ℕ, ℤ, Bool, not, ◌&&◌, List, [], Option, is_some, option_map, filter, if◌then◌else◌}
+use Rattle.std.specs.List.{find, before_first}
 use Rattle.window_snapshot.specs.declared.window.Window.{Window}
+use Rattle.window_snapshot.specs.Named.{is_named}
 use Rattle.window_snapshot.specs.Window.{is_hit, is_spy, watches_outside}
 
 -- the point hits the window, and the window is no spy: it takes the touch from those behind it
@@ -38,8 +39,8 @@ watchers windows live x y = if is_some (touched_window windows live x y) then fi
 
 -- the channel is that of a spy at the point
 abbrev pub is_spy_at : List Window → (ℕ → Bool) → ℤ → ℤ → ℕ → Bool
-is_spy_at windows live x y c = list_any (λ w. w.channel == c) (spies windows live x y)
+is_spy_at windows live x y c = is_named (spies windows live x y) c
 
 -- the channel is that of a watcher at the point
 abbrev pub is_watcher_at : List Window → (ℕ → Bool) → ℤ → ℤ → ℕ → Bool
-is_watcher_at windows live x y c = list_any (λ w. w.channel == c) (watchers windows live x y)
+is_watcher_at windows live x y c = is_named (watchers windows live x y) c

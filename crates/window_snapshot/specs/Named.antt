@@ -1,5 +1,5 @@
 -- What a snapshot says of a channel.
-use Rattle.std.specs.Prelude.{ℕ, Bool, ◌&&◌, ◌==◌, List, Option, option_map}
+use Rattle.std.specs.Prelude.{ℕ, Bool, ◌==◌, List, Option, option_map, filter}
 use Rattle.std.specs.List.{list_any, find, position}
 use Rattle.input_types.specs.declared.axis.Pixel.{Pixel}
 use Rattle.window_snapshot.specs.declared.flags.WindowFlags.{WindowFlags}
@@ -30,6 +30,6 @@ origin w = record { x = w.frame.left; y = w.frame.top }
 abbrev pub origin_of : List Window → ℕ → Option Pixel
 origin_of windows c = option_map origin (window_of windows c)
 
--- the snapshot names the channel with a window that may have the focus
+-- the channel is that of a window that may have the focus
 abbrev pub is_focusable_at : List Window → ℕ → Bool
-is_focusable_at windows c = list_any (λ w. is_focusable w && w.channel == c) windows
+is_focusable_at windows c = is_named (filter is_focusable windows) c

@@ -3,7 +3,7 @@
 ghost use Rattle.std.specs.Prelude.{◌≡◌, ℕ, filter};
 ghost use Rattle.std.specs.List.{find, position};
 ghost use Rattle.std.specs.Option.{option_copied};
-ghost use Rattle.window_snapshot.specs.Hits.{touched, is_spy_at, is_watcher_at, takes_touch, spies_touch, watches};
+ghost use Rattle.window_snapshot.specs.Hits.{touched, touched_window, is_spy_at, is_watcher_at, takes_touch, spies_touch, watches};
 ghost use Rattle.window_snapshot.specs.Mask.{mask_has};
 ghost use Rattle.window_snapshot.specs.MaskOf.{mask_of};
 
@@ -17,8 +17,8 @@ impl Snapshot {
     pub fn touched(&self, x: i32, y: i32, live: u64) -> Option<u32>
         ensures { result ≡ touched self.now (mask_has live) x y }
     {
-        match touched_place(self.windows(), x, y, live) {
-            Some(place) => Some(self.windows()[place].channel),
+        match touched_window(self.windows(), x, y, live) {
+            Some(window) => Some(window.channel),
             None => None,
         }
     }
@@ -47,6 +47,15 @@ impl Snapshot {
             None => 0,
         }
     }
+}
+
+// The touched window.
+fn touched_window(windows: &[Window], x: i32, y: i32, live: u64) -> Option<&Window>
+    ensures { option_copied result ≡ touched_window windows.now (mask_has live) x y }
+{
+    windows
+        .iter()
+        .find(|window| takes_touch(window, x, y, live))
 }
 
 // The place of the touched window.

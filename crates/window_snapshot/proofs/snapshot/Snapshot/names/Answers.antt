@@ -1,0 +1,11 @@
+use Rattle.std.proofs.Common.{ap, ◌∙◌, ◌&&◌, List}
+use Rattle.window_snapshot.specs.declared.window.Window.{Window}
+use Rattle.window_snapshot.specs.Mask.{is_channel, mask_has}
+use Rattle.window_snapshot.specs.Named.{is_named}
+use Rattle.window_snapshot.proofs.Masks.{mask_has-mask_of}
+use Rattle.window_snapshot.proofs.snapshot.Snapshot.names.Goals as goal
+
+pub returns : goal.returns
+returns c =
+    λ k. ap (λ m. mask_has m k) c.names.ensures ∙ mask_has-mask_of _ k
+    ∙ ap (λ (ws : List Window). is_channel k && is_named ws k) (c.deref.ensures.value ∙ c.self.view_is)
