@@ -1,4 +1,5 @@
 pub mod Examples
 pub mod Fronts
 pub mod Masks
+pub mod Naming
 pub mod Told

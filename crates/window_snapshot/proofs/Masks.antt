@@ -1,13 +1,14 @@
 -- Masks as sets of channels.
-use Rattle.std.proofs.Common.{◌≡◌, ℕ, ◌-◌, ◌^◌, ◌<◌, Bool, true, false, ◌&&◌, ◌||◌, cond, List, [], ◌∷◌, refl, ap, sym, ◌∙◌, arith, inl, inr}
+use Rattle.std.proofs.Common.{◌≡◌, ℕ, ◌+◌, ◌-◌, ◌^◌, ◌<◌, Bool, true, false, ◌&&◌, ◌||◌, cond, List, [], ◌∷◌, refl, ap, sym, ◌∙◌, arith, inl, inr}
 use Rattle.std.specs.Prelude.{◌==◌, bit_or, fold, filter}
 use Rattle.std.specs.Int.{bit_at}
-use Rattle.std.proofs.lemmas.Bool.{cases_eq, eq-eqb, ne_eqb, and_parts, and_left, and_right, or_from, or_right, ltb-true, both_ways}
-use Rattle.std.proofs.lemmas.Nat.Bits.{bit_at_or, bit_at-pow_same, bit_at-pow_other, bit_at-lt, bit_at-zero}
+use Rattle.std.proofs.lemmas.Bool.{cases_eq, eq-eqb, ne_eqb, and_parts, and_left, and_right, or_right, ltb-true, both_ways, false_from_ne_true, eqb-true, eqb-false, lt-ltb, le-leb, and_from}
+use Rattle.std.proofs.lemmas.Nat.Bits.{bit_at_or, bit_at-pow_same, bit_at-pow_other, bit_at-lt, bit_at-zero, same_from_bits_below}
 use Rattle.window_snapshot.specs.declared.window.Window.{Window}
 use Rattle.window_snapshot.specs.Mask.{is_channel, mask_has, mask_with}
 use Rattle.window_snapshot.specs.MaskOf.{mask_of}
 use Rattle.window_snapshot.specs.Named.{is_named}
+use Rattle.window_snapshot.proofs.Naming.{named_passes}
 
 or_false : (t u : Bool) → u ≡ false → t ≡ (t || u)
 or_false true u e = refl
@@ -90,32 +91,6 @@ mask_has-zero c = and_right (is_channel c) _ (ap (λ b. b == 1) (bit_at-zero (c 
 pub mask_has-mask_of : (ws : List Window) (c : ℕ) → mask_has (mask_of ws) c ≡ (is_channel c && is_named ws c)
 mask_has-mask_of ws c = mask_has-fold ws 0 c ∙ ap (λ t. t || (is_channel c && is_named ws c)) (mask_has-zero c)
 
--- windows that all have channels name nothing else
-none_named_at :
-    (p : Window → Bool)
-    → ((w : Window) → p w ≡ true → is_channel w.channel ≡ true)
-    → (c : ℕ)
-    → is_channel c ≡ false
-    → (w : Window)
-    → (ws : List Window)
-    → is_named ws c ≡ false
-    → (b : Bool)
-    → p w ≡ b
-    → is_named (cond b (w ∷ ws) ws) c ≡ false
-none_named_at p live c e w ws rest true f =
-    or_from (w.channel == c) (is_named ws c) (ne_eqb w.channel c (λ same. both_ways _ e (ap is_channel (sym same) ∙ live w f))) rest
-none_named_at p live c e w ws rest false f = rest
-
-none_named :
-    (p : Window → Bool)
-    → ((w : Window) → p w ≡ true → is_channel w.channel ≡ true)
-    → (c : ℕ)
-    → is_channel c ≡ false
-    → (ws : List Window)
-    → is_named (filter p ws) c ≡ false
-none_named p live c e [] = refl
-none_named p live c e (w ∷ ws) = none_named_at p live c e w (filter p ws) (none_named p live c e ws) (p w) refl
-
 named_by_channel :
     (p : Window → Bool)
     → ((w : Window) → p w ≡ true → is_channel w.channel ≡ true)
@@ -125,7 +100,8 @@ named_by_channel :
     → is_channel c ≡ k
     → (k && is_named (filter p ws) c) ≡ is_named (filter p ws) c
 named_by_channel p live ws c true e = refl
-named_by_channel p live ws c false e = sym (none_named p live c e ws)
+named_by_channel p live ws c false e =
+    sym (false_from_ne_true _ (λ named. both_ways _ e (named_passes p is_channel live c ws named)))
 
 -- the mask of the live windows that pass names just those
 pub mask_has-live :
@@ -135,3 +111,26 @@ pub mask_has-live :
     → (c : ℕ)
     → mask_has (mask_of (filter p ws)) c ≡ is_named (filter p ws) c
 mask_has-live p live ws c = mask_has-mask_of (filter p ws) c ∙ named_by_channel p live ws c (is_channel c) refl
+
+-- a mask has channels alone
+pub mask_has_channel : (mask c : ℕ) → mask_has mask c ≡ true → is_channel c ≡ true
+mask_has_channel mask c e = (and_parts _ _ e).0
+
+same_bit_at : (a b : ℕ) → a < 2 → b < 2 → (a == 1) ≡ (b == 1) → a ≡ b
+same_bit_at a b h k e =
+    elim (cases_eq a 1) [
+      | inl one ↦ one ∙ sym (eqb-true b 1 (sym e ∙ eq-eqb a 1 one))
+      | inr ne ↦ let other : b ≡ 1 → ⊥ = eqb-false b 1 (sym e ∙ ne_eqb a 1 ne) in omega arith
+    ]
+
+bit_of_channel : (mask i : ℕ) → i < 64 → mask_has mask (i + 1) ≡ (bit_at mask i == 1)
+bit_of_channel mask i lt =
+    let channel : is_channel (i + 1) ≡ true = and_from _ _ (lt-ltb 0 (i + 1) (omega arith)) (le-leb (i + 1) 64 (omega arith)) in
+    let back : i + 1 - 1 ≡ i = omega arith in
+    ap (λ k. k && (bit_at mask (i + 1 - 1) == 1)) channel ∙ ap (λ j. bit_at mask j == 1) back
+
+-- masks with the same channels are the same number
+pub same_mask : (a b : ℕ) → a < 2 ^ 64 → b < 2 ^ 64 → ((c : ℕ) → mask_has a c ≡ mask_has b c) → a ≡ b
+same_mask a b h k e =
+    same_from_bits_below 64 a b h k (λ i lt. same_bit_at (bit_at a i) (bit_at b i) (bit_at-lt a i) (bit_at-lt b i)
+    (sym (bit_of_channel a i lt) ∙ e (i + 1) ∙ bit_of_channel b i lt))

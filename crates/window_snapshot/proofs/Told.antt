@@ -1,20 +1,37 @@
 -- The masks of the spies and the watchers.
 use Rattle.std.proofs.Common.{◌≡◌, ℕ, ℤ, Bool, true, false, cond, List, [], ap, sym, ◌∙◌}
-use Rattle.std.specs.Prelude.{filter, is_some}
+use Rattle.std.specs.Prelude.{filter, Some, is_some}
 use Rattle.std.specs.List.{find, before_first}
 use Rattle.std.proofs.lemmas.Bool.{and_parts}
 use Rattle.window_snapshot.specs.declared.window.Window.{Window}
-use Rattle.window_snapshot.specs.Hits.{takes_touch, spies_touch, watches, is_spy_at, is_watcher_at}
-use Rattle.window_snapshot.specs.Mask.{is_channel, mask_has}
+use Rattle.window_snapshot.specs.Hits.{touched, in_front, takes_touch, spies_touch, watches, is_spy_at, is_watcher_at}
+use Rattle.window_snapshot.specs.Mask.{mask_has}
 use Rattle.window_snapshot.specs.MaskOf.{mask_of}
 use Rattle.window_snapshot.specs.Named.{is_named}
-use Rattle.window_snapshot.proofs.Masks.{mask_has-live, mask_has-zero}
+use Rattle.window_snapshot.proofs.Masks.{mask_has-live, mask_has-zero, mask_has_channel}
+use Rattle.window_snapshot.proofs.Naming.{named_passes, found_passes}
+use Rattle.window_snapshot.specs.Window.{is_hit}
 
-spy_is_live : (live : ℕ) (x y : ℤ) (w : Window) → spies_touch (mask_has live) x y w ≡ true → is_channel w.channel ≡ true
-spy_is_live live x y w e = (and_parts _ _ (and_parts _ _ (and_parts _ _ (and_parts _ _ e).1).0).1).0
+hit_is_live : (live : ℕ → Bool) (x y : ℤ) (w : Window) → is_hit live x y w ≡ true → live w.channel ≡ true
+hit_is_live live x y w e = (and_parts _ _ (and_parts _ _ e).0).1
 
-watcher_is_live : (live : ℕ) (w : Window) → watches (mask_has live) w ≡ true → is_channel w.channel ≡ true
-watcher_is_live live w e = (and_parts _ _ (and_parts _ _ e).1).0
+spy_is_live : (live : ℕ → Bool) (x y : ℤ) (w : Window) → spies_touch live x y w ≡ true → live w.channel ≡ true
+spy_is_live live x y w e = hit_is_live live x y w (and_parts _ _ e).1
+
+watcher_is_live : (live : ℕ → Bool) (w : Window) → watches live w ≡ true → live w.channel ≡ true
+watcher_is_live live w e = (and_parts _ _ e).1
+
+-- the touched channel is live
+pub touched_is_live :
+    (windows : List Window) (live : ℕ → Bool) (x y : ℤ) (c : ℕ) → touched windows live x y ≡ Some c → live c ≡ true
+touched_is_live windows live x y c e =
+    found_passes (takes_touch live x y) live (λ w h. hit_is_live live x y w (and_parts _ _ h).1) c windows e
+
+-- a channel that spies is live
+pub spy_at_is_live :
+    (windows : List Window) (live : ℕ → Bool) (x y : ℤ) (c : ℕ) → is_spy_at windows live x y c ≡ true → live c ≡ true
+spy_at_is_live windows live x y c e =
+    named_passes (spies_touch live x y) live (spy_is_live live x y) c (in_front windows live x y) e
 
 pub mask_has-spies :
     (windows front : List Window) (live : ℕ) (x y : ℤ) (m : ℕ)
@@ -24,7 +41,7 @@ pub mask_has-spies :
     → mask_has m c ≡ is_spy_at windows (mask_has live) x y c
 mask_has-spies windows front live x y m e f c =
     ap (λ n. mask_has n c) f
-    ∙ mask_has-live (spies_touch (mask_has live) x y) (spy_is_live live x y) front c
+    ∙ mask_has-live (spies_touch (mask_has live) x y) (λ w h. mask_has_channel live w.channel (spy_is_live (mask_has live) x y w h)) front c
     ∙ ap (λ ws. is_named (filter (spies_touch (mask_has live) x y) ws) c) (sym e)
 
 pub mask_has-watchers :
@@ -36,7 +53,7 @@ pub mask_has-watchers :
     → mask_has m c ≡ is_watcher_at windows (mask_has live) x y c
 mask_has-watchers windows front live x y m some e f c =
     ap (λ n. mask_has n c) f
-    ∙ mask_has-live (watches (mask_has live)) (watcher_is_live live) front c
+    ∙ mask_has-live (watches (mask_has live)) (λ w h. mask_has_channel live w.channel (watcher_is_live (mask_has live) w h)) front c
     ∙ ap (λ ws. is_named (filter (watches (mask_has live)) ws) c) (sym e)
     ∙ ap (λ b. is_named (cond b (filter (watches (mask_has live)) (before_first (takes_touch (mask_has live) x y) windows)) []) c) (sym some)
 
