@@ -1,0 +1,60 @@
+//! The events of a whole recording.
+ghost use Rattle.std.specs.Prelude.{◌≡◌, ℕ, ◌<◌, length, map, ◌∷◌, string_bytes};
+ghost use Rattle.raw_events.specs.Line.{judged};
+ghost use Rattle.raw_events.specs.Recording.{lines_of, refusal, recorded, Answers};
+
+use crate::event::{LineError, RawEvent};
+use crate::line::{Cause, Line, judge};
+use input_types::DeviceId;
+use std::alloc::Global;
+
+/// The bytes up to the first newline, and those behind it.
+fn next_line(bytes: &[u8]) -> (&[u8], &[u8])
+    requires { 0 < length bytes.now }
+    ensures lines { lines_of bytes.now ≡ result.0.now ∷ lines_of result.1.now }
+    ensures shorter { length result.1.now < length bytes.now }
+{
+    match bytes.iter().position(|b| *b == b'\n') {
+        Some(end) => (bytes.split_at(end).0, bytes.split_at(end + 1).1),
+        None => bytes.split_at(bytes.len()),
+    }
+}
+
+/// The refusal of a line by its number.
+fn refused(cause: Cause, line: u64) -> LineError
+    ensures { result ≡ refusal cause line }
+{
+    match cause {
+        Cause::BadLine => LineError::BadLine { line },
+        Cause::NoMoment => LineError::NoMoment { line },
+        Cause::TooLong => LineError::TooLong { line },
+    }
+}
+
+/// The events of a recording in the form that `getevent -t` prints, of the devices of a session with their paths.
+///
+/// A line that begins with `[` has to be of the form `[ SECONDS.FRACTION ] PATH: TYPE CODE VALUE`; without a path it
+/// belongs to the first device. Lines of other devices and other lines are passed over, but a line without a moment is
+/// refused. The answer is the refusal of the first refused line, where there is one.
+pub fn events_of(
+    alloc: Global,
+    devices: &[(String, DeviceId)],
+    bytes: &[u8],
+) -> Result<Vec<RawEvent>, LineError>
+    ensures { Answers result (recorded (map (λ d. (string_bytes d.0, d.1)) devices.now) bytes.now) }
+{
+    let mut events = Vec::new(alloc);
+    let mut rest = bytes;
+    let mut number: u64 = 1;
+    'lines: while !rest.is_empty() {
+        let (line, after) = next_line(rest);
+        match judge(devices, line) {
+            Line::PassedOver => {}
+            Line::Event(event) => events.push(event)?,
+            Line::Refused(cause) => return Err(refused(cause, number)),
+        }
+        number = number.saturating_add(1);
+        rest = after;
+    }
+    Ok(events)
+}
