@@ -1,17 +1,15 @@
 -- What one line of a recording says.
-use Rattle.std.specs.Prelude.{ℕ, ◌+◌, ◌-◌, ◌*◌, ◌==◌, nat_lt, Bool, not, ◌||◌, if◌then◌else◌, List, [], ◌∷◌, map, length, take, drop, Option, Some, None, is_some, String, string_bytes}
+use Rattle.std.specs.Prelude.{ℕ, ◌+◌, ◌-◌, ◌*◌, ◌==◌, nat_lt, ◌||◌, if◌then◌else◌, List, [], ◌∷◌, length, take, drop, Option, Some, None, is_some}
 use Rattle.std.specs.Char.{is_digit}
 use Rattle.std.specs.List.{prefix_len}
 use Rattle.std.specs.Str.{bytes_eq}
 use Rattle.std.specs.Int.{cast_signed, w32}
-use Rattle.std.specs.declared.alloc.Global.{Global}
 use Rattle.input_types.specs.declared.number.DeviceId.{DeviceId}
-use Rattle.raw_events.specs.declared.event.RawEvent.{RawEvent}
 use Rattle.raw_events.specs.declared.line.Fields.{Fields}
 use Rattle.raw_events.specs.declared.line.Cause.TheVariants.{BadLine, NoMoment, TooLong}
 use Rattle.raw_events.specs.declared.line.Line.{Line}
 use Rattle.raw_events.specs.declared.line.Line.TheVariants.{PassedOver, Event, Refused}
-use Rattle.raw_events.specs.Text.{◌>>=◌, is_blank, skip_blanks, after_blanks, after_byte, ends_in, number, number_at, word_len}
+use Rattle.raw_events.specs.Text.{◌>>=◌, skip_blanks, after_blanks, after_byte, ends_in, number_at, word_len}
 
 -- 1 to 12 decimal digits, as many as there are
 unfoldable pub seconds_at : List ℕ → Option (ℕ × List ℕ)

@@ -1,5 +1,6 @@
 -- The lines of a recording and the events that they give.
-use Rattle.std.specs.Prelude.{ℕ, ◌+◌, ◌-◌, ◌^◌, ◌==◌, min, if◌then◌else◌, List, [], ◌∷◌, ◌≡◌, ◌++◌, Result, Ok, Err, Vec}
+use Rattle.std.specs.Prelude.{ℕ, ◌+◌, ◌-◌, ◌^◌, ◌==◌, min, not, if◌then◌else◌, List, [], ◌∷◌, ◌≡◌, Result, Ok, Err, Vec}
+use Rattle.std.specs.List.{prefix_len}
 use Rattle.std.specs.declared.alloc.Global.{Global}
 use Rattle.raw_events.specs.declared.event.RawEvent.{RawEvent}
 use Rattle.raw_events.specs.declared.event.LineError.{LineError}
@@ -9,6 +10,10 @@ use Rattle.raw_events.specs.declared.line.Cause.TheVariants.{BadLine, NoMoment, 
 use Rattle.raw_events.specs.declared.line.Line.{Line}
 use Rattle.raw_events.specs.declared.line.Line.TheVariants.{PassedOver, Event, Refused}
 use Rattle.raw_events.specs.Line.{Known, judged}
+
+-- how many bytes stand before the first newline
+abbrev pub line_len : List ℕ → ℕ
+line_len bs = prefix_len (λ b. not (b == 10)) bs
 
 abbrev pub with_front : ℕ → List (List ℕ) → List (List ℕ)
 with_front b [] = (b ∷ []) ∷ []

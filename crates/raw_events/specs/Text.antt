@@ -1,5 +1,5 @@
 -- The bytes of one line: blanks, words and numbers. A definition with `at` in its name reads what stands in front, and gives it with the bytes behind it, or None where something else stands there.
-use Rattle.std.specs.Prelude.{ℕ, zero, suc, ◌+◌, ◌-◌, ◌*◌, ◌<◌, ◌==◌, nat_le, nat_lt, Bool, true, false, not, ◌&&◌, ◌||◌, if◌then◌else◌, List, [], ◌∷◌, length, take, drop, slice_index, Option, Some, None}
+use Rattle.std.specs.Prelude.{ℕ, ◌-◌, ◌==◌, nat_lt, Bool, not, ◌||◌, if◌then◌else◌, List, [], ◌∷◌, length, take, drop, slice_index, Option, Some, None}
 use Rattle.std.specs.Char.{is_digit}
 use Rattle.std.specs.List.{list_all, prefix_len}
 use Rattle.std.specs.Str.Parse.{digits_value}

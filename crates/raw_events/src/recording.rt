@@ -1,22 +1,40 @@
 //! The events of a whole recording.
-ghost use Rattle.std.specs.Prelude.{◌≡◌, ℕ, ◌<◌, length, map, ◌∷◌, string_bytes};
+ghost use Rattle.std.specs.Prelude.{◌≡◌, ℕ, ◌<◌, ◌≤◌, length, map, ◌∷◌, string_bytes};
 ghost use Rattle.raw_events.specs.Line.{judged};
-ghost use Rattle.raw_events.specs.Recording.{lines_of, refusal, recorded, Answers};
+ghost use Rattle.raw_events.specs.Recording.{line_len, lines_of, refusal, recorded, Answers};
 
 use crate::event::{LineError, RawEvent};
 use crate::line::{Cause, Line, judge};
 use input_types::DeviceId;
 use std::alloc::Global;
 
+/// How many bytes stand before the first newline.
+#[inline(always)]
+fn line_in_front(bytes: &[u8]) -> usize
+    ensures value { result ≡ line_len bytes.now }
+    ensures within { result ≤ length bytes.now }
+{
+    let mut count = 0;
+    for b in bytes {
+        if *b == b'\n' {
+            return count;
+        }
+        count += 1;
+    }
+    count
+}
+
 /// The bytes up to the first newline, and those behind it.
+#[inline(always)]
 fn next_line(bytes: &[u8]) -> (&[u8], &[u8])
     requires { 0 < length bytes.now }
     ensures lines { lines_of bytes.now ≡ result.0.now ∷ lines_of result.1.now }
     ensures shorter { length result.1.now < length bytes.now }
 {
-    match bytes.iter().position(|b| *b == b'\n') {
-        Some(end) => (bytes.split_at(end).0, bytes.split_at(end + 1).1),
-        None => bytes.split_at(bytes.len()),
+    let (line, rest) = bytes.split_at(line_in_front(bytes));
+    match rest {
+        [_, after @ ..] => (line, after),
+        [] => (line, rest),
     }
 }
 
@@ -36,6 +54,7 @@ fn refused(cause: Cause, line: u64) -> LineError
 /// A line that begins with `[` has to be of the form `[ SECONDS.FRACTION ] PATH: TYPE CODE VALUE`; without a path it
 /// belongs to the first device. Lines of other devices and other lines are passed over, but a line without a moment is
 /// refused. The answer is the refusal of the first refused line, where there is one.
+#[tactic(auto, using(crate::proofs::Reading::behind_event, crate::proofs::Reading::behind_nothing), unfolding(crate::specs::Recording::recorded))]
 pub fn events_of(
     alloc: Global,
     devices: &[(String, DeviceId)],
