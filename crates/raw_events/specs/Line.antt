@@ -1,9 +1,10 @@
 -- What one line of a recording says.
-use Rattle.std.specs.Prelude.{ℕ, ◌+◌, ◌-◌, ◌*◌, ◌==◌, nat_lt, ◌||◌, if◌then◌else◌, List, [], ◌∷◌, length, take, drop, Option, Some, None, is_some}
+use Rattle.std.specs.Prelude.{ℕ, ◌+◌, ◌-◌, ◌*◌, ◌==◌, nat_lt, ◌||◌, if◌then◌else◌, List, [], ◌∷◌, length, take, drop, Option, Some, None, is_some, map, String, string_bytes}
 use Rattle.std.specs.Char.{is_digit}
 use Rattle.std.specs.List.{prefix_len}
 use Rattle.std.specs.Str.{bytes_eq}
 use Rattle.std.specs.Int.{cast_signed, w32}
+use Rattle.std.specs.declared.alloc.Global.{Global}
 use Rattle.input_types.specs.declared.number.DeviceId.{DeviceId}
 use Rattle.raw_events.specs.declared.line.Fields.{Fields}
 use Rattle.raw_events.specs.declared.line.Cause.TheVariants.{BadLine, NoMoment, TooLong}
@@ -52,6 +53,10 @@ fields_of bs = do
 -- the devices of a session, each with its path, in the order of the session
 abbrev pub Known : Type 0
 Known = List (List ℕ × DeviceId)
+
+-- the devices as the program has them
+abbrev pub known : List (String Global × DeviceId) → Known
+known devices = map (λ d. (string_bytes d.0, d.1)) devices
 
 -- the device at this path; where two have it, the first one
 abbrev pub device_at : Known → List ℕ → Option DeviceId

@@ -1,6 +1,6 @@
 //! What one line of a recording says.
-ghost use Rattle.std.specs.Prelude.{◌≡◌, ℕ, ◌<◌, ◌≤◌, ◌^◌, length, option_map, IfSome, Some, map, string_bytes};
-ghost use Rattle.raw_events.specs.Line.{seconds_at, moment_at, path_at, fields_of, sender, sent, formed, judged_text, without_return, judged, device_at};
+ghost use Rattle.std.specs.Prelude.{◌≡◌, ℕ, ◌<◌, ◌≤◌, ◌^◌, length, option_map, IfSome, Some};
+ghost use Rattle.raw_events.specs.Line.{known, seconds_at, moment_at, path_at, fields_of, sender, sent, formed, judged_text, without_return, judged, device_at};
 
 use crate::event::RawEvent;
 use crate::text::{
@@ -104,7 +104,7 @@ fn read_fields(bytes: &[u8]) -> Option<Fields>
 /// The device at a path, the first one where two have it.
 #[inline(always)]
 fn device_of(devices: &[(String, DeviceId)], path: &[u8]) -> Option<DeviceId>
-    ensures { result ≡ device_at (map (λ d. (string_bytes d.0, d.1)) devices.now) path.now }
+    ensures { result ≡ device_at (known devices.now) path.now }
 {
     for (known, device) in devices {
         if known.as_bytes() == path {
@@ -117,7 +117,7 @@ fn device_of(devices: &[(String, DeviceId)], path: &[u8]) -> Option<DeviceId>
 /// The device that sent a line.
 #[inline(always)]
 fn sender_of(devices: &[(String, DeviceId)], path: Option<&[u8]>) -> Option<DeviceId>
-    ensures { result ≡ sender (map (λ d. (string_bytes d.0, d.1)) devices.now) (option_map (λ p. p.now) path.entry) }
+    ensures { result ≡ sender (known devices.now) (option_map (λ p. p.now) path.entry) }
 {
     match path {
         Some(path) => device_of(devices, path),
@@ -131,7 +131,7 @@ fn sender_of(devices: &[(String, DeviceId)], path: Option<&[u8]>) -> Option<Devi
 /// A line behind its first bracket; None where it has not the form.
 #[tactic(auto, unfolding(crate::specs::Line::formed))]
 fn formed_line(devices: &[(String, DeviceId)], bytes: &[u8]) -> Option<Line>
-    ensures { result ≡ formed (map (λ d. (string_bytes d.0, d.1)) devices.now) bytes.now }
+    ensures { result ≡ formed (known devices.now) bytes.now }
 {
     let (us, rest) = moment(bytes)?;
     let rest = past_blanks(rest)?;
@@ -153,7 +153,7 @@ fn formed_line(devices: &[(String, DeviceId)], bytes: &[u8]) -> Option<Line>
 #[inline(always)]
 #[tactic(auto, unfolding(crate::specs::Line::judged_text))]
 fn judge_text(devices: &[(String, DeviceId)], text: &[u8]) -> Line
-    ensures { result ≡ judged_text (map (λ d. (string_bytes d.0, d.1)) devices.now) text.now }
+    ensures { result ≡ judged_text (known devices.now) text.now }
 {
     match text {
         [] => Line::PassedOver,
@@ -183,7 +183,7 @@ fn strip_return(line: &[u8]) -> &[u8]
 /// What a line says, its bytes given without its newline.
 #[tactic(auto, unfolding(crate::specs::Line::judged))]
 pub(crate) fn judge(devices: &[(String, DeviceId)], line: &[u8]) -> Line
-    ensures { result ≡ judged (map (λ d. (string_bytes d.0, d.1)) devices.now) line.now }
+    ensures { result ≡ judged (known devices.now) line.now }
 {
     if line.len() > MAX_LINE {
         return Line::Refused(Cause::TooLong);

@@ -1,6 +1,6 @@
 //! The events of a whole recording.
-ghost use Rattle.std.specs.Prelude.{◌≡◌, ℕ, ◌<◌, ◌≤◌, length, map, ◌∷◌, string_bytes};
-ghost use Rattle.raw_events.specs.Line.{judged};
+ghost use Rattle.std.specs.Prelude.{◌≡◌, ℕ, ◌<◌, ◌≤◌, length, ◌∷◌};
+ghost use Rattle.raw_events.specs.Line.{known, judged};
 ghost use Rattle.raw_events.specs.Recording.{line_len, lines_of, refusal, recorded, Answers};
 
 use crate::event::{LineError, RawEvent};
@@ -60,7 +60,7 @@ pub fn events_of(
     devices: &[(String, DeviceId)],
     bytes: &[u8],
 ) -> Result<Vec<RawEvent>, LineError>
-    ensures { Answers result (recorded (map (λ d. (string_bytes d.0, d.1)) devices.now) bytes.now) }
+    ensures { Answers result (recorded (known devices.now) bytes.now) }
 {
     let mut events = Vec::new(alloc);
     let mut rest = bytes;
@@ -77,3 +77,6 @@ pub fn events_of(
     }
     Ok(events)
 }
+
+#[cfg(test)]
+mod tests;
