@@ -1,5 +1,5 @@
 -- What `mark` and `clear` do to each number, and the place of a number in the list of the set's numbers.
-use Rattle.std.proofs.Common.{◌≡◌, ◌≢◌, ℕ, zero, suc, ◌+◌, ◌-◌, ◌*◌, ◌/◌, ◌%◌, ◌^◌, ◌<◌, ◌≤◌, ◌==◌, ◌||◌, ◌&&◌, not, min, max, Bool, true, false, cond, if◌then◌else◌, List, [], ◌∷◌, ◌++◌, length, slice_get, Option, Some, None, sym, ◌∙◌, ap, refl, inl, inr, ⊎_elim, ◌⊎◌, arith, rules, eqb, add-one}
+use Rattle.std.proofs.Common.{◌≡◌, ◌≢◌, ℕ, zero, suc, ◌+◌, ◌-◌, ◌*◌, ◌%◌, ◌^◌, ◌<◌, ◌≤◌, ◌==◌, ◌||◌, ◌&&◌, not, true, false, if◌then◌else◌, List, [], ◌∷◌, ◌++◌, length, slice_get, Some, ◌∙◌, refl, inl, inr, ⊎_elim, ◌⊎◌, arith, add-one}
 use Rattle.std.specs.Int.{bit_at, w32}
 use Rattle.std.specs.Int.RustNames.{bit_and, bit_or, count_ones}
 use Rattle.std.specs.Int.Count.{ones, ones_cat}
@@ -8,7 +8,7 @@ use Rattle.std.proofs.Math.Nat.{mod-eq_of_lt}
 use Rattle.std.proofs.lemmas.List.{length_push}
 use Rattle.std.proofs.lemmas.Nat.{and_comm, and_le_l, and-not, pow_below, mod-pow-add, mod_below, pow_pos, one_shl, and_mask}
 use Rattle.std.proofs.lemmas.Nat.Bits.{and_pow, bit_at_or, bit_at_and, bit_at_not, bit_at-pow_same, bit_at-pow_other, bit_at-lt, bit_at_above}
-use Rattle.std.proofs.lemmas.Bool.{cases_eq, cases_lt, cases_Bool, eq-eqb, ne_eqb, eqb-true, false≢true}
+use Rattle.std.proofs.lemmas.Bool.{cases_eq, cases_lt, eq-eqb, ne_eqb, false≢true}
 use Rattle.bits32.specs.Set.{is_in, cleared, marked, members_below, members}
 
 -- ---- `mark` and `clear`
@@ -108,11 +108,11 @@ in_below n set b i =
 
 pub below_in : (n set : ℕ) → is_in n set ≡ true → length (members_below (n + 1) set) ≡ length (members_below n set) + 1
 unfolding members_below
-below_in n set i = rw (add-one, i) (length_push (members_below n set) n)
+below_in n set i = rw (add-one n, i) (length_push (members_below n set) n)
 
 pub below_out : (n set : ℕ) → is_in n set ≡ false → length (members_below (n + 1) set) ≡ length (members_below n set)
 unfolding members_below
-below_out n set i = rw (add-one, i) refl
+below_out n set i = rw (add-one n, i) refl
 
 get_front : (xs ys : List ℕ) (i x : ℕ) → slice_get xs i ≡ Some x → slice_get (xs ++ ys) i ≡ Some x
 get_front [] ys i x h = absurd (cc)

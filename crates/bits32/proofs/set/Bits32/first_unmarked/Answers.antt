@@ -1,8 +1,6 @@
-use Rattle.std.proofs.Common.{◌≡◌, ℕ, ◌*◌, ◌%◌, ◌^◌, ◌<◌, ◌-◌, ◌+◌, arith, refl, sym, ◌∙◌, ap, rules, true, add-zero, length}
+use Rattle.std.proofs.Common.{◌≡◌, ◌^◌, ◌-◌, arith, refl}
 use Rattle.std.specs.Int.{w32}
 use Rattle.std.proofs.lemmas.Nat.Bits.{bit_at-trailing_ones, bit_at_ones}
-use Rattle.bits32.specs.Set.{is_in, members_below, cleared, marked}
-use Rattle.bits32.proofs.Members.{or_is_marked, and_is_cleared, is_in_marked, is_in_cleared, ones_all, ones_mask, in_below, members_at, below_in, below_out}
 use Rattle.bits32.proofs.set.Bits32.first_unmarked.Goals as goal
 
 pub returns-then-self : goal.returns-then-self

@@ -1,7 +1,6 @@
-use Rattle.std.proofs.Common.{◌≡◌, ℕ, ◌*◌, ◌%◌, ◌^◌, ◌<◌, ◌-◌, ◌+◌, arith, refl, sym, ◌∙◌, ap, rules, true, add-zero, length}
+use Rattle.std.proofs.Common.{refl}
 use Rattle.std.proofs.lemmas.Nat.{one_shl}
-use Rattle.bits32.specs.Set.{is_in, members_below, cleared, marked}
-use Rattle.bits32.proofs.Members.{or_is_marked, and_is_cleared, is_in_marked, is_in_cleared, ones_all, ones_mask, in_below, members_at, below_in, below_out}
+use Rattle.bits32.proofs.Members.{or_is_marked, is_in_marked}
 use Rattle.bits32.proofs.set.Bits32.mark.Goals as goal
 
 pub returns-clause-after : goal.returns-clause-after

@@ -1,7 +1,7 @@
-use Rattle.std.proofs.Common.{◌≡◌, ℕ, ◌*◌, ◌%◌, ◌^◌, ◌<◌, ◌-◌, ◌≤◌, ◌+◌, arith, refl, sym, ◌∙◌, ap, rules, true, add-zero, length}
+use Rattle.std.proofs.Common.{◌≡◌, ◌≤◌, arith, sym, ◌∙◌, ap, true, add-zero, length}
 use Rattle.std.proofs.lemmas.Option.{slice_get_past}
-use Rattle.bits32.specs.Set.{is_in, members_below, members, cleared, marked}
-use Rattle.bits32.proofs.Members.{or_is_marked, and_is_cleared, is_in_marked, is_in_cleared, ones_all, ones_mask, in_below, members_at, below_in, below_out}
+use Rattle.bits32.specs.Set.{is_in, members_below, members}
+use Rattle.bits32.proofs.Members.{members_at, below_in, below_out}
 use Rattle.bits32.proofs.set.Bits32.nth.Goals.{then-has+else-left-eq0, else-has}
 use Rattle.bits32.proofs.set.Bits32.nth.Goals as goal
 
