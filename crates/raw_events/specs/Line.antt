@@ -2,7 +2,7 @@
 use Rattle.std.specs.Prelude.{ℕ, ◌+◌, ◌-◌, ◌*◌, ◌==◌, nat_lt, ◌||◌, if◌then◌else◌, List, [], ◌∷◌, length, take, drop, Option, Some, None, is_some, map, String, string_bytes}
 use Rattle.std.specs.Char.{is_digit}
 use Rattle.std.specs.List.{prefix_len}
-use Rattle.std.specs.Str.{bytes_eq}
+use Rattle.std.specs.Str.{byte, bytes_eq}
 use Rattle.std.specs.Int.{cast_signed, w32}
 use Rattle.std.specs.declared.alloc.Global.{Global}
 use Rattle.input_types.specs.declared.number.DeviceId.{DeviceId}
@@ -22,20 +22,20 @@ seconds_at bs =
 unfoldable pub moment_at : List ℕ → Option (ℕ × List ℕ)
 moment_at bs = do
   seconds ← seconds_at (skip_blanks bs)
-  point ← after_byte 46 seconds.1
+  point ← after_byte (byte ".") seconds.1
   fraction ← number_at 10 6 point
-  rest ← after_byte 93 (skip_blanks fraction.1)
+  rest ← after_byte (byte "]") (skip_blanks fraction.1)
   Some (seconds.0 * 1000000 + fraction.0, rest)
 
 -- a path and the blanks behind it, where a path stands there: a word that begins with '/' and ends with ':', which is not part of the path
 unfoldable pub path_at : List ℕ → Option (Option (List ℕ) × List ℕ)
 path_at [] = Some (None, [])
 path_at (b ∷ bs) =
-    if b == 47
+    if b == byte "/"
     then
     (let len = word_len (b ∷ bs) in
     let word = take len (b ∷ bs) in
-    if ends_in 58 word
+    if ends_in (byte ":") word
     then (after_blanks (drop len (b ∷ bs)) >>= λ rest. Some (Some (take (len - 1) word), rest))
     else None)
     else Some (None, b ∷ bs)
@@ -91,8 +91,8 @@ or_bad (Some line) = line
 unfoldable pub judged_text : Known → List ℕ → Line
 judged_text devices [] = PassedOver
 judged_text devices (b ∷ bs) =
-    if b == 91 then or_bad (formed devices bs)
-    else if b == 47 then Refused NoMoment
+    if b == byte "[" then or_bad (formed devices bs)
+    else if b == byte "/" then Refused NoMoment
     else if is_some (fields_of (b ∷ bs)) then Refused NoMoment
     else PassedOver
 
