@@ -1,0 +1,27 @@
+//! The program: makes the real files and streams, hands the words to the top call, and ends with its status.
+#![tactic(auto)]
+
+use outside_io::{HostFiles, HostSink};
+use std::alloc::{AllocError, Global};
+use std::process::ExitCode;
+use std::{env, io};
+
+/// The words behind the program's name.
+fn words(rt: &HostRuntime, alloc: Global) -> io::Result<Vec<String>> {
+    let mut words = Vec::new(alloc);
+    for word in env::args(rt)?.skip(1) {
+        words.push(word)?;
+    }
+    Ok(words)
+}
+
+fn main(rt: HostRuntime) -> ExitCode {
+    let alloc = rt.alloc();
+
+    // Words that are no text are those of no command.
+    let words = words(&rt, alloc).unwrap_or(Vec::new(alloc));
+    let mut files = HostFiles::new(&rt);
+    let mut out = HostSink::new(rt.stdout());
+    let mut err = HostSink::new(rt.stderr());
+    ExitCode::from(replay_engine::run(alloc, &words, &mut files, &mut out, &mut err))
+}

@@ -1,0 +1,15 @@
+pub mod Chain
+pub mod Finger
+pub mod FingerState
+pub mod Gives
+pub mod Outcome
+pub mod Plan
+pub mod Prepared
+pub mod Program
+pub mod ReadErrors
+pub mod Reading
+pub mod Refusals
+pub mod Session
+pub mod SessionView
+pub mod Streams
+pub mod Words

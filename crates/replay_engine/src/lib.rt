@@ -1,0 +1,30 @@
+//! The top call: from the bytes of a session and of a recording to the bytes of the streams text.
+//!
+//! A recording in which tracking id 45 comes at (540, 1200) and goes again, on a display with the window `main` over it, gives
+//!
+//! ```text
+//! channel 1 main
+//! 1 12345100000 motion 1 DOWN 0@540,1200
+//! 2 12345180000 motion 1 UP 0@540,1200
+//! end 1 sent 2 received 2 finished 2
+//! ```
+//!
+//! [`run`] reads the files, refuses what it does not accept with a status and a line, and writes the text. Its contract says for each
+//! status when it comes and what was written; `specs/Program.antt` says which text that is, as a function of the words and the files.
+#![tactic(auto)]
+
+mod finger;
+mod prepared;
+mod reading;
+mod refusal;
+mod session;
+mod streams;
+mod top;
+mod touch;
+mod words;
+mod writing;
+
+pub use top::run;
+
+#[cfg(test)]
+mod tests;
