@@ -1,0 +1,5 @@
+pub mod Pairs
+pub mod Taking
+pub mod Marks
+pub mod Places
+pub mod Laws

@@ -1,0 +1,33 @@
+-- What steps leave behind, newest first: who holds what after them, since when, and who is pilfering.
+use Rattle.std.specs.Prelude.{ℕ, Bool, false, not, ◌&&◌, ◌||◌, if◌then◌else◌, List, [], ◌∷◌, ◌++◌, length, filter}
+use Rattle.routing_rules.specs.Pairs.{Pair, has_any}
+use Rattle.routing_rules.specs.Taking.{Taking, takes, pilfers}
+
+-- the mark of a step: what it gives, and what it takes
+pub record Mark : Type 0 where
+  pub given : List Pair
+  pub taken : Taking
+
+-- the pairs that a step leaves of those that were there
+abbrev pub kept : Taking → List Pair → List Pair
+kept t qs = filter (λ q. not (takes t q.window q.device q.id)) qs
+
+-- who holds what after these steps, in the order in which it was given
+abbrev pub held : List Mark → List Pair
+held [] = []
+held (m ∷ before) = kept m.taken (held before) ++ m.given
+
+-- with this step window w goes from holding no pointer of device d to holding one
+abbrev pub begins : Mark → List Mark → ℕ → ℕ → Bool
+begins m before w d = has_any (held (m ∷ before)) w d && not (has_any (held before) w d)
+
+-- the last place at which window w went from holding no pointer of device d to holding one, and 0 without one;
+-- the place of a step is how many steps are before it
+abbrev pub since : List Mark → ℕ → ℕ → ℕ
+since [] w d = 0
+since (m ∷ before) w d = if begins m before w d then length before else since before w d
+
+-- window w pilfered device d, and has held a pointer of it ever since
+abbrev pub pilfering : List Mark → ℕ → ℕ → Bool
+pilfering [] w d = false
+pilfering (m ∷ before) w d = has_any (held (m ∷ before)) w d && (pilfers m.taken w d || pilfering before w d)
