@@ -1,13 +1,12 @@
 -- Holding: one step, and the list of pairs that tells it.
-use Rattle.std.proofs.Common.{ℕ, Bool, true, false, not, ◌&&◌, ◌||◌, ◌==◌, IsTrue, ◌≡◌, ◌↔◌, ◌⊎◌, inl, inr, List, [], ◌∷◌, ◌++◌, filter, refl, sym, ap, ◌∙◌}
-use Rattle.std.specs.List.{list_any}
-use Rattle.std.proofs.lemmas.Bool.{and_parts, and_from, or_cases, or_left, or_right, eqb-true, eq-eqb, not-true, true≢false, cases_Bool}
+use Rattle.std.proofs.Common.{ℕ, Bool, true, false, not, ◌&&◌, ◌||◌, ◌==◌, IsTrue, ◌≡◌, ◌⊎◌, inl, inr, List, [], ◌∷◌, ◌++◌, refl, sym, ap, ◌∙◌}
+use Rattle.std.proofs.lemmas.Bool.{and_parts, and_from, or_cases, or_left, or_right, eqb-true, eq-eqb, not-true, true≢false}
 use Rattle.std.proofs.lemmas.Map.Views.{any-filter_same}
 use Rattle.std.proofs.lemmas.List.Folds.{list_any-append}
 use Rattle.routing_rules.specs.Pairs.{Pair, has, has_any}
 use Rattle.routing_rules.specs.Taking.{Taking, takes}
 use Rattle.routing_rules.specs.Marks.{Mark, kept, held}
-use Rattle.routing_rules.specs.Places.{Place, NoneTakes, Holds, HoldsAny}
+use Rattle.routing_rules.specs.Places.{NoneTakes, Holds}
 use Rattle.routing_rules.specs.Laws.{HoldsStep, HeldLaw, HeldAnyLaw, HeldStep}
 
 -- one step, by where the giving place is

@@ -1,10 +1,10 @@
 -- Pilfering: one step, and the test that tells it.
-use Rattle.std.proofs.Common.{ℕ, true, false, ◌&&◌, ◌||◌, IsTrue, ◌≡◌, ◌↔◌, ◌⊎◌, inl, inr, List, [], ◌∷◌, ◌++◌, refl, sym, ap, ◌∙◌, subst, subst₂}
+use Rattle.std.proofs.Common.{ℕ, ◌||◌, IsTrue, ◌≡◌, ◌⊎◌, inl, inr, List, [], ◌∷◌, ◌++◌, refl, sym, ap, subst}
 use Rattle.std.proofs.lemmas.Bool.{and_parts, and_from, or_cases, or_left, or_right, true≢false}
 use Rattle.routing_rules.specs.Pairs.{has_any}
-use Rattle.routing_rules.specs.Taking.{Taking, pilfers}
+use Rattle.routing_rules.specs.Taking.{pilfers}
 use Rattle.routing_rules.specs.Marks.{Mark, held, pilfering}
-use Rattle.routing_rules.specs.Places.{Place, HoldsAny, HoldsThroughout, IsPilfering}
+use Rattle.routing_rules.specs.Places.{HoldsAny, HoldsThroughout, IsPilfering}
 use Rattle.routing_rules.specs.Laws.{PilferingStep, PilferingLaw}
 use Rattle.routing_rules.proofs.HoldingLaws.{held_any_law}
 

@@ -1,9 +1,9 @@
 -- Since when a window holds something: one step, and the number that tells it.
-use Rattle.std.proofs.Common.{ℕ, Bool, true, false, not, ◌&&◌, cond, IsTrue, ◌≡◌, ◌↔◌, ◌⊎◌, inl, inr, List, [], ◌∷◌, ◌++◌, length, refl, sym, ap, ◌∙◌, subst₂}
-use Rattle.std.proofs.lemmas.Bool.{and_parts, and_from, not-true, true≢false, cases_Bool, both_ways}
+use Rattle.std.proofs.Common.{ℕ, false, not, IsTrue, ◌≡◌, ◌↔◌, ◌⊎◌, inl, inr, List, [], ◌∷◌, ◌++◌, length, refl, sym, ap, ◌∙◌, subst₂}
+use Rattle.std.proofs.lemmas.Bool.{and_parts, and_from, not-true, cases_Bool, both_ways}
 use Rattle.routing_rules.specs.Pairs.{has_any}
 use Rattle.routing_rules.specs.Marks.{Mark, held, begins, since}
-use Rattle.routing_rules.specs.Places.{Place, HoldsAny, Begins, NoneBegins, IsSince}
+use Rattle.routing_rules.specs.Places.{HoldsAny, Begins, NoneBegins, IsSince}
 use Rattle.routing_rules.specs.Laws.{SinceStep, SinceLaw}
 use Rattle.routing_rules.proofs.HoldingLaws.{held_any_law, none_held}
 

@@ -1,5 +1,5 @@
 -- What is proved of holding, of its beginning and of pilfering. Each law is the clause of a function of its own.
-use Rattle.std.specs.Prelude.{ℕ, true, false, not, ◌&&◌, ◌||◌, IsTrue, ◌≡◌, ◌↔◌, ◌⊎◌, List, ◌∷◌, length}
+use Rattle.std.specs.Prelude.{ℕ, false, not, ◌&&◌, ◌||◌, IsTrue, ◌≡◌, ◌↔◌, ◌⊎◌, List, ◌∷◌, length}
 use Rattle.routing_rules.specs.Pairs.{has, has_any}
 use Rattle.routing_rules.specs.Taking.{takes, pilfers}
 use Rattle.routing_rules.specs.Marks.{Mark, held, since, pilfering}

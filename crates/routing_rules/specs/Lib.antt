@@ -3,3 +3,8 @@ pub mod Taking
 pub mod Marks
 pub mod Places
 pub mod Laws
+pub mod Scene
+pub mod Choice
+pub mod Slip
+pub mod Given
+pub mod Told

@@ -1,5 +1,5 @@
 -- The same three words as facts about places: some place does it, and no later place undoes it.
-use Rattle.std.specs.Prelude.{ℕ, Bool, false, IsTrue, ◌≡◌, List, [], ◌∷◌, ◌++◌, length}
+use Rattle.std.specs.Prelude.{ℕ, false, IsTrue, ◌≡◌, List, [], ◌∷◌, ◌++◌, length}
 use Rattle.routing_rules.specs.Pairs.{has}
 use Rattle.routing_rules.specs.Taking.{takes, pilfers}
 use Rattle.routing_rules.specs.Marks.{Mark}

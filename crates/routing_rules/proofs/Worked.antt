@@ -1,0 +1,36 @@
+-- Windows, pointers, motions and scenes for the worked examples.
+use Rattle.std.specs.Prelude.{ℕ, pos, true, false, ◌&&◌, List, [], ◌∷◌, nat_lt}
+use Rattle.input_types.specs.declared.motion.Motion.{Motion}
+use Rattle.input_types.specs.declared.motion.MotionAction.{MotionAction}
+use Rattle.input_types.specs.declared.pointer.Pointer.{Pointer}
+use Rattle.touch_region.specs.declared.rectangle.Rect.{Rect}
+use Rattle.window_snapshot.specs.declared.window.Window.{Window}
+use Rattle.routing_rules.specs.Pairs.{Pair, has_any}
+use Rattle.routing_rules.specs.Scene.{Scene, scene_of}
+
+-- a window whose region is its frame
+abbrev pub window : (channel flags left top right bottom : ℕ) → Window
+window c f l t r b =
+    let frame : Rect = record { left = pos l; top = pos t; right = pos r; bottom = pos b } in
+    record { channel = c; frame = frame; region = frame ∷ []; flags = record { bits = f } }
+
+-- pointer i at a place
+abbrev pub at : ℕ → ℕ → ℕ → Pointer
+at i x y = record { id = i; at = record { x = pos x; y = pos y } }
+
+-- a motion of device 1
+abbrev pub motion : MotionAction → ℕ → List Pointer → Motion
+motion action index ps = record { device = 1; action = action; index = index; flags = 0; pointers = ps }
+
+-- the same with FLAG_CANCELED
+abbrev pub cancelled : MotionAction → ℕ → List Pointer → Motion
+cancelled action index ps = record { device = 1; action = action; index = index; flags = 0x20; pointers = ps }
+
+abbrev pub pair : ℕ → ℕ → Pair
+pair w i = record { window = w; device = 1; id = i }
+
+-- a scene in which all channels are able, nobody pilfers, and of two windows that hold something the one with the lesser
+-- number began first
+abbrev pub scene : List Window → List Pair → List Pointer → Scene
+scene windows qs last =
+    scene_of windows (λ w. true) (λ w. true) qs (λ v w d. has_any qs v d && has_any qs w d && nat_lt v w) (λ w d. false) (λ d. last)

@@ -1,0 +1,60 @@
+-- Who gets a pointer that goes down.
+use Rattle.std.specs.Prelude.{ℕ, Bool, false, not, ◌==◌, ◌&&◌, ◌||◌, if◌then◌else◌, List, fold, Option, Some, None}
+use Rattle.std.specs.List.{list_any}
+use Rattle.input_types.specs.declared.axis.Pixel.{Pixel}
+use Rattle.window_snapshot.specs.declared.window.Window.{Window}
+use Rattle.window_snapshot.specs.Window.{is_spy, prevents_splitting}
+use Rattle.window_snapshot.specs.Hits.{touched, is_spy_at}
+use Rattle.routing_rules.specs.Scene.{Scene, shows, which}
+
+-- a holder of the device: a window without SPY that holds some pointer of it
+abbrev pub is_holder : Scene → ℕ → Window → Bool
+is_holder s d v = not (is_spy v) && s.any v.channel d
+
+-- of the best so far and a window behind it, the one that began first; where neither did, the one in front
+abbrev pub sooner : Scene → ℕ → Option ℕ → ℕ → Option ℕ
+sooner s d None w = Some w
+sooner s d (Some v) w = Some (if s.earlier w v d then w else v)
+
+-- the earliest of some windows, front to back
+abbrev pub earliest : Scene → ℕ → List ℕ → Option ℕ
+earliest s d ws = fold (sooner s d) None ws
+
+-- The choice, as a table: of the earliest holder, the earliest holder that prevents splitting, and the touched window with
+-- whether that is on its own.
+-- Nobody holds anything: the touched window, if there is one.
+-- Some holder prevents splitting: the earliest such holder.
+-- Nothing is touched: the earliest holder.
+-- The touched window is on its own: the earliest holder. Else the touched window.
+abbrev pub choose : Option ℕ → Option ℕ → Option ℕ → Bool → Option ℕ
+choose None whole touched alone = touched
+choose (Some first) (Some whole) touched alone = Some whole
+choose (Some first) None None alone = Some first
+choose (Some first) None (Some t) alone = Some (if alone then first else t)
+
+-- the touched window is on its own: it prevents splitting, and holds nothing of the device
+abbrev pub is_alone : Scene → ℕ → Option ℕ → Bool
+is_alone s d None = false
+is_alone s d (Some t) = shows s prevents_splitting t && not (s.any t d)
+
+-- the window that is chosen for a pointer of the device that goes down at this place
+abbrev pub chosen : Scene → ℕ → Pixel → Option ℕ
+chosen s d at =
+    let first = earliest s d (which s (is_holder s d)) in
+    let whole = earliest s d (which s (λ v. is_holder s d v && prevents_splitting v)) in
+    let t = touched s.windows s.live at.x at.y in
+    choose first whole t (is_alone s d t)
+
+-- a candidate is the chosen window, or a spy at the place
+abbrev pub is_candidate : Scene → Pixel → Option ℕ → ℕ → Bool
+is_candidate s at None w = is_spy_at s.windows s.live at.x at.y w
+is_candidate s at (Some c) w = w == c || is_spy_at s.windows s.live at.x at.y w
+
+-- a target is a candidate that is pilfering the device, and where none is, every candidate
+abbrev pub is_target : Scene → ℕ → (ℕ → Bool) → ℕ → Bool
+is_target s d candidate w =
+    candidate w && (s.pilfering w d || not (list_any (λ v. candidate v.channel && s.pilfering v.channel d) s.windows))
+
+-- the windows that get a pointer of the device that goes down at this place, front to back: the targets that are able to
+abbrev pub takers : Scene → ℕ → Pixel → List ℕ
+takers s d at = let c = chosen s d at in which s (λ v. is_target s d (is_candidate s at c) v.channel && s.able v.channel)

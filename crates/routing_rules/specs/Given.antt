@@ -1,0 +1,63 @@
+-- What a step gives, and what it takes.
+use Rattle.std.specs.Prelude.{ℕ, not, ◌==◌, List, [], ◌∷◌, map, Option, Some, None, slice_get}
+use Rattle.input_types.specs.declared.motion.Motion.{Motion}
+use Rattle.input_types.specs.declared.motion.MotionAction.{MotionAction}
+use Rattle.input_types.specs.declared.motion.MotionAction.TheVariants.{Down, Up, Move, PointerDown, PointerUp}
+use Rattle.input_types.specs.declared.pointer.Pointer.{Pointer}
+use Rattle.routing_rules.specs.Pairs.{Pair}
+use Rattle.routing_rules.specs.Taking.{Taking, Nothing, Lifted, Emptied, Slipped, Pilfered, Dropped}
+use Rattle.routing_rules.specs.Marks.{Mark}
+use Rattle.routing_rules.specs.Scene.{Scene, Step, Moves, Resets, Pilfers, Shows, Mutes, Removes, Rests}
+use Rattle.routing_rules.specs.Choice.{takers}
+use Rattle.routing_rules.specs.Slip.{Slip, slip}
+
+-- the pointer that goes down or up with a motion; of a move it is the first one
+abbrev pub changed : Motion → Option Pointer
+changed m = slice_get m.pointers m.index
+
+-- the pairs of these windows with one pointer
+abbrev pub pairs : ℕ → ℕ → List ℕ → List Pair
+pairs d i ws = map (λ w. record { window = w; device = d; id = i }) ws
+
+-- a pointer that slips is given to the window that it slips to, and taken from the other
+abbrev pub slips_in : ℕ → ℕ → Option Slip → List Pair
+slips_in d i None = []
+slips_in d i (Some x) = record { window = x.to; device = d; id = i } ∷ []
+
+abbrev pub slips_out : ℕ → ℕ → Option Slip → Taking
+slips_out d i None = Nothing
+slips_out d i (Some x) = Slipped x.from d i
+
+-- what a motion gives of its changed pointer: a down to its takers, and a move where it slips
+abbrev pub given_by : Scene → Motion → MotionAction → Option Pointer → List Pair
+given_by s m Down (Some p) = pairs m.device p.id (takers s m.device p.at)
+given_by s m PointerDown (Some p) = pairs m.device p.id (takers s m.device p.at)
+given_by s m Move (Some p) = slips_in m.device p.id (slip s m)
+given_by s m _ _ = []
+
+-- what it takes of it: an up takes it from all, and a move where it slips
+abbrev pub taken_by : Scene → Motion → MotionAction → Option Pointer → Taking
+taken_by s m Up (Some p) = Lifted m.device p.id
+taken_by s m PointerUp (Some p) = Lifted m.device p.id
+taken_by s m Move (Some p) = slips_out m.device p.id (slip s m)
+taken_by s m _ _ = Nothing
+
+-- what a step gives to windows: only motions give
+abbrev pub given : Scene → Step → List Pair
+given s (Moves m) = given_by s m m.action (changed m)
+given s _ = []
+
+-- what a step takes from windows: a reset all of its device; a pilfer what the spy holds from all others; a snapshot all
+-- from windows that it does not name; what mutes or removes a window all from it
+abbrev pub taken : Scene → Step → Taking
+taken s (Moves m) = taken_by s m m.action (changed m)
+taken s (Resets d) = Emptied d
+taken s (Pilfers w d) = Pilfered w d (s.holds w d)
+taken s (Shows names) = Dropped (λ w. not (names w))
+taken s (Mutes muted) = Dropped muted
+taken s (Removes w) = Dropped (λ v. v == w)
+taken s Rests = Nothing
+
+-- both together are the mark that the step leaves
+abbrev pub mark : Scene → Step → Mark
+mark s e = record { given = given s e; taken = taken s e }

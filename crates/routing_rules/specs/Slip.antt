@@ -1,0 +1,37 @@
+-- A pointer that slips from one window to another.
+use Rattle.std.specs.Prelude.{ℕ, not, ◌==◌, ◌&&◌, if◌then◌else◌, List, [], ◌∷◌, Option, Some, None}
+use Rattle.input_types.specs.declared.motion.Motion.{Motion}
+use Rattle.input_types.specs.declared.motion.MotionAction.{MotionAction}
+use Rattle.input_types.specs.declared.motion.MotionAction.TheVariants.{Move}
+use Rattle.input_types.specs.declared.pointer.Pointer.{Pointer}
+use Rattle.window_snapshot.specs.Window.{is_spy, is_slippery}
+use Rattle.window_snapshot.specs.Hits.{touched}
+use Rattle.routing_rules.specs.Scene.{Scene, shows, which}
+
+-- from which window to which one a pointer slips
+pub record Slip : Type 0 where
+  pub from : ℕ
+  pub to : ℕ
+
+-- the only element of a list that has one alone
+abbrev pub only : {X : Type 0} → List X → Option X
+only [] = None
+only (x ∷ []) = Some x
+only (x ∷ y ∷ xs) = None
+
+-- the windows without SPY that hold this pointer
+abbrev pub holders_of : Scene → ℕ → ℕ → List ℕ
+holders_of s d i = which s (λ v. not (is_spy v) && s.holds v.channel d i)
+
+-- from the one holder to the touched window: where the holder is slippery and the touched window is another, able one
+abbrev pub slips_to : Scene → Option ℕ → Option ℕ → Option Slip
+slips_to s (Some v) (Some t) = if shows s is_slippery v && not (t == v) && s.able t then Some (record { from = v; to = t }) else None
+slips_to s _ _ = None
+
+-- a motion lets a pointer slip where it is a move that lists it alone
+abbrev pub slip_of : Scene → ℕ → MotionAction → Option Pointer → Option Slip
+slip_of s d Move (Some p) = slips_to s (only (holders_of s d p.id)) (touched s.windows s.live p.at.x p.at.y)
+slip_of s d _ _ = None
+
+abbrev pub slip : Scene → Motion → Option Slip
+slip s m = slip_of s m.device m.action (only m.pointers)
