@@ -1,0 +1,66 @@
+//! Calls of the dispatcher, and the entries that they make.
+use crate::reply::Reply;
+use input_types::{Args, DeviceId, Limit, Moment};
+use window_snapshot::Snapshot;
+
+/// One call of the dispatcher. `now` is the moment of the call, and raises the clock where it is later.
+#[derive(Drop)]
+pub enum Call {
+    /// A new channel, whose messages are to be finished within the limit.
+    Open {
+        limit: Limit,
+    },
+    /// The windows are these from now on.
+    Windows {
+        now: Moment,
+        snapshot: Snapshot,
+    },
+    /// The focus is requested for a channel, or for none. Any number may be requested.
+    FocusOn {
+        now: Moment,
+        channel: Option<u32>,
+    },
+    /// Args of a device, put behind those that wait.
+    Notify {
+        now: Moment,
+        args: Args,
+    },
+    /// The first args that wait are dispatched, or a key that is held is repeated.
+    Pump {
+        now: Moment,
+    },
+    /// Each window whose oldest message was left unfinished for too long is named unresponsive.
+    Tick {
+        now: Moment,
+    },
+    /// The owner of a channel takes its next message.
+    Receive {
+        channel: u32,
+    },
+    /// The owner of a channel is done with a message.
+    Finish {
+        now: Moment,
+        channel: u32,
+        seq: u64,
+    },
+    /// A spy takes the pointers of a device that it holds from all other windows.
+    Pilfer {
+        now: Moment,
+        channel: u32,
+        device: DeviceId,
+    },
+    /// A channel is closed for good.
+    Remove {
+        now: Moment,
+        channel: u32,
+    },
+}
+
+/// A call that was answered: one entry of the dispatcher's history.
+#[derive(Drop)]
+pub struct Entry {
+    /// The number of the caller, which no rule of the dispatcher reads.
+    pub seat: u64,
+    pub call: Call,
+    pub reply: Reply,
+}
