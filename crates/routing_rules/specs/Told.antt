@@ -8,7 +8,7 @@ use Rattle.window_snapshot.specs.Hits.{is_watcher_at}
 use Rattle.routing_rules.specs.Pairs.{has}
 use Rattle.routing_rules.specs.Taking.{takes}
 use Rattle.routing_rules.specs.Marks.{Mark}
-use Rattle.routing_rules.specs.Scene.{Scene, Step, Moves, Removes}
+use Rattle.routing_rules.specs.Scene.{Scene, Step, Moves, Removes, Rests}
 use Rattle.routing_rules.specs.Given.{mark, changed}
 
 -- the ids that window w holds of device d after a step with this mark
@@ -94,13 +94,12 @@ told_motion s m (Some p) w before later =
     else or_else (cancels m.device (s.last m.device) before later)
     (or_else (moves m.device (listing later m.pointers)) (outside s m p w))
 
--- what window w is told of device d at a step with this mark: of a motion of the device by those rows; nobody is told
--- anything where a channel is removed; and else what is taken is cancelled
+-- What window w is told of device d at a step with this mark: of a motion of the device by those rows, and nothing of one of
+-- another device; nobody is told anything where a channel is removed; and else what is taken is cancelled.
 abbrev pub told_with : Scene → Step → Mark → ℕ → ℕ → List Motion
-told_with s (Moves m) k w d =
-    if m.device == d then told_motion s m (changed m) w (s.holds w d) (after s k w d)
-    else cancels d (s.last d) (s.holds w d) (after s k w d)
+told_with s (Moves m) k w d = if m.device == d then told_motion s m (changed m) w (s.holds w d) (after s k w d) else []
 told_with s (Removes v) k w d = []
+told_with s Rests k w d = []
 told_with s _ k w d = cancels d (s.last d) (s.holds w d) (after s k w d)
 
 abbrev pub told : Scene → Step → ℕ → ℕ → List Motion
