@@ -1,0 +1,53 @@
+-- Windows, motions, calls and messages for the worked examples. Lists of calls and messages stand in order here, the first first.
+use Rattle.std.specs.Prelude.{ℕ, pos, Bool, true, false, List, [], ◌∷◌, ◌++◌, map, reverse, Option, Some, None}
+use Rattle.touch_region.specs.declared.rectangle.Rect.{Rect}
+use Rattle.window_snapshot.specs.declared.window.Window.{Window}
+use Rattle.input_types.specs.declared.key.KeyArgs.{KeyArgs}
+use Rattle.input_types.specs.declared.message.Args.TheVariants.{Motion as MotionArgs, Key as KeyOfDevice}
+use Rattle.input_types.specs.declared.message.Body.{Body}
+use Rattle.input_types.specs.declared.message.Body.TheVariants.{Motion as MotionBody, Key as KeyBody, Focus}
+use Rattle.input_types.specs.declared.message.Message.{Message}
+use Rattle.input_types.specs.declared.motion.Motion.{Motion}
+use Rattle.input_types.specs.declared.motion.MotionAction.{MotionAction}
+use Rattle.input_types.specs.declared.pointer.Pointer.{Pointer}
+use Rattle.dispatch_calls.specs.declared.call.Call.{Call}
+use Rattle.dispatch_calls.specs.declared.call.Call.TheVariants.{Open, Windows, Notify, Pump}
+use Rattle.dispatch_calls.specs.declared.reply.Reply.{Reply}
+use Rattle.dispatch_history.specs.Effect.{stream}
+use Rattle.dispatch_history.specs.Legal.{run, replay}
+
+-- a window whose region is its frame
+abbrev pub window : (channel flags left top right bottom : ℕ) → Window
+window c f l t r b =
+    let frame : Rect = record { left = pos l; top = pos t; right = pos r; bottom = pos b } in
+    record { channel = c; frame = frame; region = frame ∷ []; flags = record { bits = f } }
+
+-- pointer i at a place
+abbrev pub at : ℕ → ℕ → ℕ → Pointer
+at i x y = record { id = i; at = record { x = pos x; y = pos y } }
+
+-- a motion of device 1, and the same with FLAG_CANCELED
+abbrev pub motion : MotionAction → ℕ → List Pointer → Motion
+motion action index ps = record { device = 1; action = action; index = index; flags = 0; pointers = ps }
+
+abbrev pub cancelled : MotionAction → ℕ → List Pointer → Motion
+cancelled action index ps = record { device = 1; action = action; index = index; flags = 0x20; pointers = ps }
+
+-- a motion that is notified and pumped at a moment
+abbrev pub moved : ℕ → MotionAction → ℕ → List Pointer → List Call
+moved now action index ps = Notify now (MotionArgs (motion action index ps)) ∷ Pump now ∷ []
+
+-- the messages of a stream by their numbers and moments
+abbrev pub says : ℕ → ℕ → Motion → Message
+says seq now m = record { seq = seq; moment = now; body = MotionBody m }
+
+-- channels 1 and 2 are opened
+abbrev pub open_two : List Call
+open_two = Open 5000000 ∷ Open 5000000 ∷ []
+
+-- the stream of a channel after the replay of some calls, and the replies to them
+abbrev pub stream_of : List Call → ℕ → List Message
+stream_of calls c = reverse (stream (run (reverse calls)) c)
+
+abbrev pub replies_of : List Call → List Reply
+replies_of calls = map (λ e. e.1) (reverse (replay (reverse calls)))

@@ -1,0 +1,69 @@
+-- When messages reach the owner of a channel, and which windows do not answer.
+use Rattle.std.specs.Prelude.{ℕ, ◌+◌, max, min, Bool, true, false, not, ◌==◌, ◌&&◌, ◌||◌, nat_le, List, [], ◌∷◌, length, take, reverse, filter, slice_get, Option, Some, None, if◌then◌else◌}
+use Rattle.std.specs.List.{list_any}
+use Rattle.input_types.specs.declared.message.Message.{Message}
+use Rattle.window_snapshot.specs.Mask.{mask_has}
+use Rattle.dispatch_calls.specs.declared.call.Call.{Call}
+use Rattle.dispatch_calls.specs.declared.call.Call.TheVariants.{Tick, Finish}
+use Rattle.dispatch_calls.specs.declared.reply.Reply.{Reply}
+use Rattle.dispatch_calls.specs.declared.reply.Reply.TheVariants.{Named, Done}
+use Rattle.dispatch_history.specs.History.{History, clock, live, limit_of, finished}
+use Rattle.dispatch_history.specs.Effect.{Effect, past_of, stream}
+
+-- how many messages of a channel are published: all that were told, but at most 64 that are not finished
+abbrev pub published : List Effect → ℕ → ℕ
+published es c = min (length (stream es c)) (length (finished (past_of es) c) + 64)
+
+-- the moment at which message k of a channel was published: the clock of the first step after which it was
+abbrev pub delivery : List Effect → ℕ → ℕ → ℕ
+delivery [] c k = 0
+delivery (x ∷ before) c k = if nat_le k (published before c) then delivery before c k else clock x.past
+
+-- message k of a channel is finished
+abbrev pub is_finished : History → ℕ → ℕ → Bool
+is_finished h c k = list_any (λ n. n == k) (finished h c)
+
+-- the messages of a channel that are published and not finished, oldest first
+abbrev pub unfinished : List Effect → ℕ → List Message
+unfinished es c = filter (λ m. not (is_finished (past_of es) c m.seq)) (take (published es c) (reverse (stream es c)))
+
+-- a message is late at a moment where its delivery is at least the limit of its channel before it
+abbrev pub is_late : List Effect → ℕ → ℕ → Message → Bool
+is_late es c now m = nat_le (delivery es c m.seq + limit_of (past_of es) c) now
+
+-- some published and unfinished message of the channel is late
+abbrev pub has_late : List Effect → ℕ → Bool
+has_late es c = list_any (is_late es c (clock (past_of es))) (unfinished es c)
+
+-- a step's part in who is unresponsive: a tick that names the channel makes it so, and a finish of a message of it ends
+-- that, unless there is a late message after it
+abbrev pub is_named_by : Reply → ℕ → Bool
+is_named_by (Named mask) c = mask_has mask c
+is_named_by reply c = false
+
+abbrev pub is_finish_of : Call → Reply → ℕ → Bool
+is_finish_of (Finish now k seq) Done c = c == k
+is_finish_of call reply c = false
+
+abbrev pub names : History → ℕ → Bool
+names [] c = false
+names (e ∷ h) c = is_named_by e.1 c
+
+abbrev pub finishes : History → ℕ → Bool
+finishes [] c = false
+finishes (e ∷ h) c = is_finish_of e.0 e.1 c
+
+-- a channel is unresponsive where a tick named it, and after no later finish of it was it without late messages
+abbrev pub unresponsive : List Effect → ℕ → Bool
+unresponsive [] c = false
+unresponsive (x ∷ before) c =
+    names x.past c
+    || elim (unresponsive before c) [ false ↦ false | true ↦ elim (finishes x.past c) [ false ↦ true | true ↦ has_late (x ∷ before) c ] ]
+
+-- a channel is able to take input where it is live and not unresponsive
+abbrev pub able : List Effect → ℕ → Bool
+able es c = live (past_of es) c && not (unresponsive es c)
+
+-- the oldest published and unfinished message of a channel
+abbrev pub oldest : List Effect → ℕ → Option Message
+oldest es c = slice_get (unfinished es c) 0

@@ -1,0 +1,68 @@
+-- Which windows a tick names, and when the next one is due.
+use Rattle.std.specs.Prelude.{ℕ, ◌+◌, max, Bool, false, ◌&&◌, nat_lt, nat_le, List, [], ◌∷◌, ◌++◌, filter, filter_map, fold, reverse, Option, Some, None, if◌then◌else◌}
+use Rattle.input_types.specs.declared.message.Message.{Message}
+use Rattle.window_snapshot.specs.Mask.{mask_has, mask_with}
+use Rattle.dispatch_calls.specs.declared.call.Call.{Call}
+use Rattle.dispatch_calls.specs.declared.call.Call.TheVariants.{Tick}
+use Rattle.dispatch_calls.specs.declared.counts.Naming.{Naming}
+use Rattle.dispatch_calls.specs.declared.reply.Reply.{Reply}
+use Rattle.dispatch_calls.specs.declared.reply.Reply.TheVariants.{Named}
+use Rattle.dispatch_history.specs.History.{clock, opened, limit_of}
+use Rattle.dispatch_history.specs.Effect.{Effect, past_of}
+use Rattle.dispatch_history.specs.Delivery.{able, delivery, is_late, oldest}
+use Rattle.dispatch_history.specs.Effects.{channels}
+
+-- some message is there, and it is late at the moment
+abbrev pub is_late_at : List Effect → ℕ → ℕ → Option Message → Bool
+is_late_at es c now None = false
+is_late_at es c now (Some m) = is_late es c now m
+
+-- the channels that a tick at this moment names: those that are able whose oldest published and unfinished message is late
+-- once the clock is raised
+abbrev pub named : List Effect → ℕ → List ℕ
+named es now =
+    filter (λ c. able es c && is_late_at es c (max now (clock (past_of es))) (oldest es c)) (channels (opened (past_of es)))
+
+-- channels as a mask
+abbrev pub mask_of : List ℕ → ℕ
+mask_of cs = fold mask_with 0 cs
+
+-- when a channel is due to be named: its limit after the delivery of its oldest published and unfinished message
+pub record Due : Type 0 where
+  pub moment : ℕ
+  pub channel : ℕ
+
+abbrev pub due_at : List Effect → ℕ → Option Message → Option Due
+due_at es c None = None
+due_at es c (Some m) = Some (record { moment = delivery es c m.seq + limit_of (past_of es) c; channel = c })
+
+-- each channel that is able and is due
+abbrev pub dues : List Effect → List Due
+dues es = filter_map (λ c. due_at es c (oldest es c)) (filter (able es) (channels (opened (past_of es))))
+
+-- the first due of all: the least moment, and of one moment the least channel
+abbrev pub sooner_due : Option Due → Due → Option Due
+sooner_due None d = Some d
+sooner_due (Some best) d = Some (if nat_lt d.moment best.moment then d else best)
+
+abbrev pub first_due : List Effect → Option Due
+first_due es = fold sooner_due None (dues es)
+
+-- what is noted of each channel that a tick names, in rising order: the clock of the tick, and its oldest message then
+abbrev pub naming_of : List Effect → ℕ → ℕ → Option Message → Option Naming
+naming_of es now c None = None
+naming_of es now c (Some m) = Some (record { clock = now; channel = c; seq = m.seq })
+
+abbrev pub namings_by : Reply → ℕ → List Effect → List Naming
+namings_by (Named mask) now before =
+    filter_map (λ c. naming_of before now c (oldest before c)) (filter (mask_has mask) (channels (opened (past_of before))))
+namings_by reply now before = []
+
+-- all namings, in the order of the history
+abbrev pub namings : List Effect → List Naming
+namings [] = []
+namings (x ∷ before) = namings before ++ namings_at x.past before
+  where
+    namings_at : List (Call × Reply) → List Effect → List Naming
+    namings_at [] before = []
+    namings_at (e ∷ h) before = namings_by e.1 (clock (e ∷ h)) before

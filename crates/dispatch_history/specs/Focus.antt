@@ -1,0 +1,40 @@
+-- Which window has the focus.
+use Rattle.std.specs.Prelude.{ℕ, Bool, true, false, not, ◌==◌, ◌&&◌, List, [], ◌∷◌, ◌++◌, Option, Some, None, if◌then◌else◌}
+use Rattle.input_types.specs.declared.message.Body.{Body}
+use Rattle.input_types.specs.declared.message.Body.TheVariants.{Focus}
+use Rattle.window_snapshot.specs.Named.{is_focusable_at}
+use Rattle.dispatch_calls.specs.declared.call.Call.{Call}
+use Rattle.dispatch_calls.specs.declared.call.Call.TheVariants.{FocusOn}
+use Rattle.dispatch_history.specs.History.{History, live, snapshot}
+
+-- the channel for which the focus was requested last
+abbrev pub requested_after : Call → Option ℕ → Option ℕ
+requested_after (FocusOn now channel) before = channel
+requested_after call before = before
+
+abbrev pub requested : History → Option ℕ
+requested [] = None
+requested (e ∷ h) = requested_after e.0 (requested h)
+
+-- it has the focus where it is live, and the snapshot names it with a window that may have it
+abbrev pub focus_if : History → Option ℕ → Option ℕ
+focus_if h None = None
+focus_if h (Some c) = if live h c && is_focusable_at (snapshot h) c then Some c else None
+
+-- the window that has the focus, if there is one
+abbrev pub focus : History → Option ℕ
+focus h = focus_if h (requested h)
+
+-- this window has it
+abbrev pub is_at : Option ℕ → ℕ → Bool
+is_at None w = false
+is_at (Some c) w = w == c
+
+abbrev pub has_focus : History → ℕ → Bool
+has_focus h w = is_at (focus h) w
+
+-- what a window is told where the focus moves: that it has lost it, or that it has it now
+abbrev pub focus_told : Bool → Bool → List Body
+focus_told true false = Focus false ∷ []
+focus_told false true = Focus true ∷ []
+focus_told before later = []

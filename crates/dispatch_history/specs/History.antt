@@ -1,0 +1,97 @@
+-- A history of the dispatcher: its calls with their replies, newest first. What is before a step is the tail.
+use Rattle.std.specs.Prelude.{ℕ, ◌+◌, max, Bool, true, false, not, ◌==◌, ◌&&◌, ◌||◌, List, [], ◌∷◌, if◌then◌else◌, Option, Some, None}
+use Rattle.input_types.specs.declared.axis.Pixel.{Pixel}
+use Rattle.window_snapshot.specs.declared.window.Window.{Window}
+use Rattle.window_snapshot.specs.Named.{origin_of}
+use Rattle.dispatch_calls.specs.declared.call.Call.{Call}
+use Rattle.dispatch_calls.specs.declared.call.Call.TheVariants.{Open, Windows, FocusOn, Notify, Pump, Tick, Receive, Finish, Pilfer, Remove}
+use Rattle.dispatch_calls.specs.declared.reply.Reply.{Reply}
+use Rattle.dispatch_calls.specs.declared.reply.Reply.TheVariants.{Opened, Done, Got}
+use Rattle.dispatch_history.specs.Start.{corner, or_origin}
+
+-- a history
+abbrev pub History : Type 0
+History = List (Call × Reply)
+
+-- the moment that a call hands in, 0 where it hands in none
+abbrev pub moment_of : Call → ℕ
+moment_of (Open limit) = 0
+moment_of (Windows now snapshot) = now
+moment_of (FocusOn now channel) = now
+moment_of (Notify now args) = now
+moment_of (Pump now) = now
+moment_of (Tick now) = now
+moment_of (Receive channel) = 0
+moment_of (Finish now channel seq) = now
+moment_of (Pilfer now channel device) = now
+moment_of (Remove now channel) = now
+
+-- the clock: the greatest moment that any call handed in, refused ones included
+abbrev pub clock : History → ℕ
+clock [] = 0
+clock (e ∷ h) = max (moment_of e.0) (clock h)
+
+-- how many channels were opened; they have the numbers from 1 to this
+abbrev pub opened_by : Reply → ℕ
+opened_by (Opened c) = 1
+opened_by _ = 0
+
+abbrev pub opened : History → ℕ
+opened [] = 0
+opened (e ∷ h) = opened_by e.1 + opened h
+
+-- a step's part in what is live: a channel that it opens is, and one that it removes is not; the others are as before
+abbrev pub live_after : Call → Reply → ℕ → Bool → Bool
+live_after call (Opened k) c before = c == k || before
+live_after (Remove now k) Done c before = not (c == k) && before
+live_after call reply c before = before
+
+-- a channel is live from its opening to its removal
+abbrev pub live : History → ℕ → Bool
+live [] c = false
+live (e ∷ h) c = live_after e.0 e.1 c (live h c)
+
+-- how long the owner of a channel may leave a message unfinished, as its opening said
+abbrev pub limit_after : Call → Reply → ℕ → ℕ → ℕ
+limit_after (Open limit) (Opened k) c before = if c == k then limit else before
+limit_after call reply c before = before
+
+abbrev pub limit_of : History → ℕ → ℕ
+limit_of [] c = 0
+limit_of (e ∷ h) c = limit_after e.0 e.1 c (limit_of h c)
+
+-- the windows of the last snapshot, front to back; none at first
+abbrev pub windows_after : Call → List Window → List Window
+windows_after (Windows now snapshot) before = snapshot
+windows_after call before = before
+
+abbrev pub snapshot : History → List Window
+snapshot [] = []
+snapshot (e ∷ h) = windows_after e.0 (snapshot h)
+
+-- the origin of a window: the corner of its frame in the last snapshot that named it
+abbrev pub origin_after : Call → ℕ → Pixel → Pixel
+origin_after (Windows now snapshot) w before = or_origin (origin_of snapshot w) before
+origin_after call w before = before
+
+abbrev pub origin : History → ℕ → Pixel
+origin [] w = corner
+origin (e ∷ h) w = origin_after e.0 w (origin h w)
+
+-- how many messages of a channel its owner took
+abbrev pub is_got : Call → Reply → ℕ → ℕ
+is_got (Receive k) (Got m) c = if c == k then 1 else 0
+is_got call reply c = 0
+
+abbrev pub received : History → ℕ → ℕ
+received [] c = 0
+received (e ∷ h) c = is_got e.0 e.1 c + received h c
+
+-- the numbers of the messages of a channel with which its owner is done, the last first
+abbrev pub finished_after : Call → Reply → ℕ → List ℕ → List ℕ
+finished_after (Finish now k seq) Done c before = if c == k then seq ∷ before else before
+finished_after call reply c before = before
+
+abbrev pub finished : History → ℕ → List ℕ
+finished [] c = []
+finished (e ∷ h) c = finished_after e.0 e.1 c (finished h c)

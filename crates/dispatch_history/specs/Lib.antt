@@ -1,0 +1,14 @@
+pub mod Start
+pub mod History
+pub mod Queue
+pub mod Effect
+pub mod Delivery
+pub mod Focus
+pub mod Keys
+pub mod KeyTold
+pub mod Step
+pub mod Said
+pub mod Effects
+pub mod Due
+pub mod Reply
+pub mod Legal

@@ -1,0 +1,55 @@
+-- What a channel is told at a step.
+use Rattle.std.specs.Prelude.{ℕ, ◌+◌, ℤ, ◌+ℤ◌, ◌-ℤ◌, Bool, ◌&&◌, List, [], ◌∷◌, ◌++◌, map, flat_map, Option, if◌then◌else◌}
+use Rattle.std.specs.Int.{saturate_signed, w32}
+use Rattle.input_types.specs.declared.axis.Pixel.{Pixel}
+use Rattle.input_types.specs.declared.message.Args.{Args}
+use Rattle.input_types.specs.declared.message.Body.{Body}
+use Rattle.input_types.specs.declared.message.Body.TheVariants.{Motion as MotionBody, Key}
+use Rattle.input_types.specs.declared.motion.Motion.{Motion}
+use Rattle.input_types.specs.declared.pointer.Pointer.{Pointer}
+use Rattle.dispatch_calls.specs.declared.call.Call.{Call}
+use Rattle.dispatch_calls.specs.declared.reply.Reply.{Reply}
+use Rattle.routing_rules.specs.Marks.{Mark}
+use Rattle.routing_rules.specs.Scene.{Scene, Step}
+use Rattle.routing_rules.specs.Told.{told_with, devices}
+use Rattle.dispatch_history.specs.History.{History, live, origin}
+use Rattle.dispatch_history.specs.Effect.{Effect, past_of}
+use Rattle.dispatch_history.specs.Delivery.{able}
+use Rattle.dispatch_history.specs.Focus.{has_focus, focus_told}
+use Rattle.dispatch_history.specs.Keys.{keys, loses_all}
+use Rattle.dispatch_history.specs.KeyTold.{keys_told, repeat_told, last_key}
+
+-- a place counted from an origin, kept at the ends of its type
+abbrev pub place_from : Pixel → Pixel → Pixel
+place_from o at = record { x = saturate_signed w32 (at.x -ℤ o.x); y = saturate_signed w32 (at.y -ℤ o.y) }
+
+-- a motion whose places are counted from an origin
+abbrev pub motion_from : Pixel → Motion → Motion
+motion_from o m =
+    record {
+      device = m.device;
+      action = m.action;
+      index = m.index;
+      flags = m.flags;
+      pointers = map (λ p. record { id = p.id; at = place_from o p.at }) m.pointers;
+    }
+
+-- the motions that a channel is told: device by device, counted from its origin before the step
+abbrev pub motions_said : Scene → Step → Mark → Pixel → ℕ → List Body
+motions_said s e k o w = map (λ m. MotionBody (motion_from o m)) (flat_map (told_with s e k w) devices)
+
+-- the key messages that it is told
+abbrev pub keys_said : History → Reply → Option Args → List Effect → ℕ → List Body
+keys_said after reply args before w =
+    map Key
+    (keys_told args (has_focus (past_of before) w && able before w) (loses_all after (past_of before) w) (keys before w)
+    ++ repeat_told reply (last_key before) w)
+
+-- what a channel is told that is live after the step: motions, then keys, then the focus
+abbrev pub said : History → Reply → Option Args → Scene → Step → Mark → List Effect → ℕ → List Body
+said after reply args s e k before w =
+    if live after w then
+    motions_said s e k (origin (past_of before) w) w
+    ++ keys_said after reply args before w
+    ++ focus_told (has_focus (past_of before) w) (has_focus after w)
+    else []

@@ -1,0 +1,4 @@
+//! What is proved of the words of this crate.
+
+/// Nothing.
+pub fn nothing() {}

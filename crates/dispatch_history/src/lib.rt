@@ -1,0 +1,4 @@
+//! What a history of the dispatcher means.
+#![tactic(auto)]
+
+pub mod laws;
