@@ -1,2 +1,9 @@
 pub mod Worked
 pub mod Gestures
+pub mod Losses
+pub mod Timeouts
+pub mod Held
+pub mod Runs
+pub mod LegalLaws
+pub mod OrderedLaws
+pub mod AbleLaws

@@ -16,11 +16,17 @@ use Rattle.dispatch_calls.specs.declared.reply.Reply.{Reply}
 use Rattle.dispatch_history.specs.Effect.{stream}
 use Rattle.dispatch_history.specs.Legal.{run, replay}
 
+abbrev pub rectangle : (left top right bottom : ℕ) → Rect
+rectangle l t r b = record { left = pos l; top = pos t; right = pos r; bottom = pos b }
+
+-- a window whose frame begins at the corner of the display
+abbrev pub window_of : (channel flags : ℕ) → List Rect → Window
+window_of c f region = record { channel = c; frame = rectangle 0 0 0 0; region = region; flags = record { bits = f } }
+
 -- a window whose region is its frame
 abbrev pub window : (channel flags left top right bottom : ℕ) → Window
 window c f l t r b =
-    let frame : Rect = record { left = pos l; top = pos t; right = pos r; bottom = pos b } in
-    record { channel = c; frame = frame; region = frame ∷ []; flags = record { bits = f } }
+    record { channel = c; frame = rectangle l t r b; region = rectangle l t r b ∷ []; flags = record { bits = f } }
 
 -- pointer i at a place
 abbrev pub at : ℕ → ℕ → ℕ → Pointer
@@ -40,6 +46,17 @@ moved now action index ps = Notify now (MotionArgs (motion action index ps)) ∷
 -- the messages of a stream by their numbers and moments
 abbrev pub says : ℕ → ℕ → Motion → Message
 says seq now m = record { seq = seq; moment = now; body = MotionBody m }
+
+-- a key of device 1 without meta bits
+abbrev pub key : ℕ → ℕ → Bool → KeyArgs
+key scan code down = record { device = 1; scan = scan; code = code; meta = 0; down = down }
+
+-- messages of keys, with flags and repeat number, and of the focus
+abbrev pub keyed : ℕ → ℕ → KeyArgs → ℕ → ℕ → Message
+keyed seq now k flags repeat = record { seq = seq; moment = now; body = KeyBody (record { key = k; flags = flags; repeat = repeat }) }
+
+abbrev pub focused : ℕ → ℕ → Bool → Message
+focused seq now has = record { seq = seq; moment = now; body = Focus has }
 
 -- channels 1 and 2 are opened
 abbrev pub open_two : List Call

@@ -12,3 +12,8 @@ pub mod Effects
 pub mod Due
 pub mod Reply
 pub mod Legal
+pub mod Plan
+pub mod Given
+pub mod Ordered
+pub mod Settled
+pub mod Laws

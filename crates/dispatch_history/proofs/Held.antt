@@ -1,0 +1,44 @@
+-- Worked examples: keys, the focus, and repeats.
+use Rattle.std.specs.Prelude.{ℕ, ◌≡◌, Bool, true, false, List, [], ◌∷◌, ◌++◌, drop, refl, Some}
+use Rattle.input_types.specs.declared.key.KeyArgs.{KeyArgs}
+use Rattle.input_types.specs.declared.message.Args.TheVariants.{Key as KeyOfDevice}
+use Rattle.input_types.specs.declared.message.Body.{Body}
+use Rattle.input_types.specs.declared.message.Body.TheVariants.{Key, Focus}
+use Rattle.input_types.specs.declared.message.Message.{Message}
+use Rattle.dispatch_calls.specs.declared.call.Call.{Call}
+use Rattle.dispatch_calls.specs.declared.call.Call.TheVariants.{Open, Windows, FocusOn, Notify, Pump}
+use Rattle.dispatch_calls.specs.declared.reply.Reply.{Reply}
+use Rattle.dispatch_calls.specs.declared.reply.Reply.TheVariants.{Opened, Done, Taken, Dispatched, Repeated, Idle}
+use Rattle.dispatch_history.proofs.Worked.{window, key, focused, keyed, open_two, stream_of, replies_of}
+
+-- A key goes down in the focused window and stays down.
+abbrev held_down : List Call
+held_down =
+    Open 5000000 ∷ Windows 0 (window 1 0 0 0 1080 2400 ∷ []) ∷ FocusOn 0 (Some 1) ∷ Notify 1000000 (KeyOfDevice (key 115 24 true)) ∷ []
+    ++ Pump 1000000 ∷ Pump 1499999 ∷ Pump 1500000 ∷ Pump 1549999 ∷ Pump 1550000 ∷ []
+
+a_held_key_is_repeated_at_its_moments :
+    replies_of held_down ≡ Opened 1 ∷ Done ∷ Done ∷ Taken ∷ Dispatched ∷ Idle ∷ Repeated ∷ Idle ∷ Repeated ∷ []
+a_held_key_is_repeated_at_its_moments = refl
+
+each_repeat_has_the_next_number :
+    stream_of held_down 1
+    ≡ focused 1 0 true ∷ keyed 2 1000000 (key 115 24 true) 0 0 ∷ keyed 3 1500000 (key 115 24 true) 0 1 ∷ keyed 4 1550000 (key 115 24 true) 0 2 ∷ []
+each_repeat_has_the_next_number = refl
+
+-- The focus moves while a key is down: the window that loses it is told a cancelled up, and the up goes to nobody. A key without a
+-- place in the layout goes to the window that has the focus now.
+abbrev focus_moves : List Call
+focus_moves =
+    open_two ++ Windows 0 (window 1 0 0 0 540 2400 ∷ window 2 0 540 0 1080 2400 ∷ []) ∷ FocusOn 0 (Some 1) ∷ []
+    ++ Notify 1000000 (KeyOfDevice (key 115 24 true)) ∷ Pump 1000000 ∷ FocusOn 1200000 (Some 2) ∷ []
+    ++ Notify 1300000 (KeyOfDevice (key 115 24 false)) ∷ Pump 1300000 ∷ Notify 1400000 (KeyOfDevice (key 999 0 true)) ∷ Pump 1400000 ∷ []
+
+the_window_that_loses_the_focus_loses_its_keys_first :
+    stream_of focus_moves 1
+    ≡ focused 1 0 true ∷ keyed 2 1000000 (key 115 24 true) 0 0 ∷ keyed 3 1200000 (key 115 24 false) 0x20 0 ∷ focused 4 1200000 false ∷ []
+the_window_that_loses_the_focus_loses_its_keys_first = refl
+
+the_up_of_a_key_that_nobody_holds_is_told_to_nobody :
+    stream_of focus_moves 2 ≡ focused 1 1200000 true ∷ keyed 2 1400000 (key 999 0 true) 0 0 ∷ []
+the_up_of_a_key_that_nobody_holds_is_told_to_nobody = refl

@@ -1,0 +1,53 @@
+-- The calls of a plan in a given order.
+use Rattle.std.specs.Prelude.{ℕ, ◌+◌, ◌==◌, List, [], ◌∷◌, ◌++◌, map, Option, Some, None, Result, Ok, Err, if◌then◌else◌}
+use Rattle.dispatch_calls.specs.declared.call.Call.{Call}
+use Rattle.dispatch_calls.specs.declared.call.Call.TheVariants.{Open, Notify, Pump, Tick, Receive, Finish}
+use Rattle.dispatch_history.specs.Plan.{Plan, ChannelOf, ScriptStep, Cooked, Line, ReaderLine, ScriptLine, PumpLine, TickLine, ReceiveLine, FinishLine}
+
+-- each channel is opened
+abbrev pub opens : List ChannelOf → List Call
+opens cs = map (λ c. Open c.limit) cs
+
+-- the first step of a lane, and all others
+abbrev pub next_of_lane : ℕ → List ScriptStep → Option Call
+next_of_lane l [] = None
+next_of_lane l (s ∷ ss) = if s.lane == l then Some s.call else next_of_lane l ss
+
+abbrev pub without_next : ℕ → List ScriptStep → List ScriptStep
+without_next l [] = []
+without_next l (s ∷ ss) = if s.lane == l then ss else s ∷ without_next l ss
+
+-- One call, and then the rest, unless there is none: then the number of lines before is the answer.
+abbrev pub then_rest : Option Call → ℕ → Result (List Call) ℕ → Result (List Call) ℕ
+then_rest None n rest = Err n
+then_rest (Some call) n (Ok calls) = Ok (call ∷ calls)
+then_rest (Some call) n (Err k) = Err k
+
+abbrev pub next_args : List Cooked → Option Call
+next_args [] = None
+next_args (a ∷ later) = Some (Notify a.moment a.args)
+
+abbrev pub without_first : List Cooked → List Cooked
+without_first [] = []
+without_first (a ∷ later) = later
+
+-- The calls of some lines, behind n lines, with what is left of the args and of the steps: a reader's line takes the next args
+-- and a script's line the next step of its lane, both at their moments, and the other lines hand in moment 0. The first line
+-- whose step does not exist is the answer, as the number of the lines before it.
+abbrev pub line_calls : ℕ → List Cooked → List ScriptStep → List Line → Result (List Call) ℕ
+line_calls n cooked steps [] = Ok []
+line_calls n cooked steps (ReaderLine ∷ ls) = then_rest (next_args cooked) n (line_calls (n + 1) (without_first cooked) steps ls)
+line_calls n cooked steps (ScriptLine l ∷ ls) =
+    then_rest (next_of_lane l steps) n (line_calls (n + 1) cooked (without_next l steps) ls)
+line_calls n cooked steps (PumpLine ∷ ls) = then_rest (Some (Pump 0)) n (line_calls (n + 1) cooked steps ls)
+line_calls n cooked steps (TickLine ∷ ls) = then_rest (Some (Tick 0)) n (line_calls (n + 1) cooked steps ls)
+line_calls n cooked steps (ReceiveLine c ∷ ls) = then_rest (Some (Receive c)) n (line_calls (n + 1) cooked steps ls)
+line_calls n cooked steps (FinishLine c seq ∷ ls) = then_rest (Some (Finish 0 c seq)) n (line_calls (n + 1) cooked steps ls)
+
+abbrev pub after_opens : List ChannelOf → Result (List Call) ℕ → Result (List Call) ℕ
+after_opens cs (Ok calls) = Ok (opens cs ++ calls)
+after_opens cs (Err n) = Err n
+
+-- the given run: the channels are opened, and then the lines are followed; in order
+abbrev pub given : Plan → List Line → Result (List Call) ℕ
+given plan lines = after_opens plan.channels (line_calls 0 plan.cooked plan.steps lines)

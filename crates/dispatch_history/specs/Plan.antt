@@ -1,0 +1,37 @@
+-- What a whole run is to do, as plain data.
+use Rattle.std.specs.Prelude.{ℕ, Bool, List}
+use Rattle.input_types.specs.declared.message.Args.{Args}
+use Rattle.dispatch_calls.specs.declared.call.Call.{Call}
+
+-- a channel: how long its owner may leave a message unfinished, whether it finishes messages, and how long after it took them
+pub record ChannelOf : Type 0 where
+  pub limit : ℕ
+  pub finishes : Bool
+  pub finish_after : ℕ
+
+-- a step of a script: its lane, and its call, which has its moment
+pub record ScriptStep : Type 0 where
+  pub lane : ℕ
+  pub call : Call
+
+-- args that were cooked from a recording, with their moment
+pub record Cooked : Type 0 where
+  pub moment : ℕ
+  pub args : Args
+
+-- the channels in the order of their opening, the steps and the args in the order of their moments, and the moment at which the
+-- run ends unless something of it comes later
+pub record Plan : Type 0 where
+  pub channels : List ChannelOf
+  pub steps : List ScriptStep
+  pub cooked : List Cooked
+  pub until : ℕ
+
+-- what a line of an order asks for: the next args, the next step of a lane, a pump, a tick, a receive, a finish
+pub data Line : Type 0 where
+  ReaderLine : Line
+  ScriptLine : (lane : ℕ) → Line
+  PumpLine : Line
+  TickLine : Line
+  ReceiveLine : (channel : ℕ) → Line
+  FinishLine : (channel seq : ℕ) → Line
