@@ -3,3 +3,8 @@ pub mod SinceLaws
 pub mod PilferingLaws
 pub mod Worked
 pub mod Examples
+pub mod Listings
+pub mod ToldRows
+pub mod ToldMotion
+pub mod Changes
+pub mod ToldLaws

@@ -1,8 +1,12 @@
 -- What is proved of holding, of its beginning and of pilfering. Each law is the clause of a function of its own.
-use Rattle.std.specs.Prelude.{ℕ, false, not, ◌&&◌, ◌||◌, IsTrue, ◌≡◌, ◌↔◌, ◌⊎◌, List, ◌∷◌, length}
+use Rattle.std.specs.Prelude.{ℕ, false, not, ◌&&◌, ◌||◌, IsTrue, ◌≡◌, ◌↔◌, ◌⊎◌, List, [], ◌∷◌, length, filter, Some}
 use Rattle.routing_rules.specs.Pairs.{has, has_any}
 use Rattle.routing_rules.specs.Taking.{takes, pilfers}
 use Rattle.routing_rules.specs.Marks.{Mark, held, since, pilfering}
+use Rattle.routing_rules.specs.Scene.{Scene, Step}
+use Rattle.routing_rules.specs.Given.{taken, mark}
+use Rattle.routing_rules.specs.Told.{after, told}
+use Rattle.routing_rules.specs.Fits.{Fits, Rises, Leaves, down_after, told_ids, is_motion_of}
 use Rattle.routing_rules.specs.Places.{Holds, HoldsAny, Begins, IsSince, IsPilfering}
 
 -- After a step a window holds a pointer exactly where the step gives it, or it held it before and the step does not take it.
@@ -46,3 +50,17 @@ PilferingStep =
 -- Pilfering is told by the test that is computed.
 abbrev pub PilferingLaw : Type 0
 PilferingLaw = (ms : List Mark) (w d : ℕ) → IsTrue (pilfering ms w d) ↔ IsPilfering ms w d
+
+-- What a window is told of a device at a step may come after what it was told before, and leaves it knowing to be down what it
+-- holds then: of the ids that are down on the device after the step, those that it holds.
+abbrev pub ToldLaw : Type 0
+ToldLaw =
+    (s : Scene) (e : Step) (w d : ℕ) (down next : List ℕ)
+    → Fits s d down → Rises e → Leaves e w → down_after e d down ≡ Some next
+    → told_ids (filter (s.holds w d) down) (told s e w d) ≡ Some (filter (after s (mark s e) w d) next)
+
+-- A step that is no motion of a device, and takes nothing of it from a window, tells the window nothing of it.
+abbrev pub QuietLaw : Type 0
+QuietLaw =
+    (s : Scene) (e : Step) (w d : ℕ)
+    → is_motion_of e d ≡ false → ((i : ℕ) → takes (taken s e) w d i ≡ false) → told s e w d ≡ []

@@ -8,3 +8,4 @@ pub mod Choice
 pub mod Slip
 pub mod Given
 pub mod Told
+pub mod Fits

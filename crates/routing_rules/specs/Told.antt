@@ -1,5 +1,5 @@
 -- What a window is told of a device at a step.
-use Rattle.std.specs.Prelude.{ℕ, Bool, true, false, not, ◌==◌, ◌&&◌, ◌||◌, ◌+◌, if◌then◌else◌, List, [], ◌∷◌, filter, flat_map, Option, Some, None}
+use Rattle.std.specs.Prelude.{ℕ, Bool, true, false, not, ◌==◌, ◌&&◌, ◌||◌, suc, if◌then◌else◌, List, [], ◌∷◌, filter, flat_map, Option, Some, None}
 use Rattle.input_types.specs.declared.motion.Motion.{Motion}
 use Rattle.input_types.specs.declared.motion.MotionAction.{MotionAction}
 use Rattle.input_types.specs.declared.motion.MotionAction.TheVariants.{Down, Up, Move, Cancel, Outside, PointerDown, PointerUp}
@@ -22,7 +22,7 @@ listing set ps = filter (λ p. set p.id) ps
 -- the place of an id among pointers
 abbrev pub index_in : ℕ → List Pointer → ℕ
 index_in i [] = 0
-index_in i (p ∷ ps) = if p.id == i then 0 else 1 + index_in i ps
+index_in i (p ∷ ps) = if p.id == i then 0 else suc (index_in i ps)
 
 -- a motion of a device without flags, about no pointer of its own
 abbrev pub plain : ℕ → MotionAction → List Pointer → Motion

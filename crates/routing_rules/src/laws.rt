@@ -1,5 +1,5 @@
-//! What is proved of who holds what. Each function has the laws as its clauses, and does nothing.
-ghost use Rattle.routing_rules.specs.Laws.{HoldsStep, HeldStep, HeldLaw, HeldAnyLaw, SinceStep, SinceLaw, PilferingStep, PilferingLaw};
+//! What is proved of who holds what, and of what windows are told. Each function has the laws as its clauses, and does nothing.
+ghost use Rattle.routing_rules.specs.Laws.{HoldsStep, HeldStep, HeldLaw, HeldAnyLaw, SinceStep, SinceLaw, PilferingStep, PilferingLaw, ToldLaw, QuietLaw};
 
 /// Who holds a pointer: some step gave it, and no later one took it. The list of pairs that is computed step by step tells
 /// exactly this.
@@ -21,4 +21,12 @@ pub fn beginning()
 pub fn pilfering()
     ensures step { PilferingStep }
     ensures test { PilferingLaw }
+{}
+
+/// What a window is told at a step may come after what it was told before, by the rule of streams; it then knows to be down just
+/// what it holds. So each motion lists what the window holds, and its index is right. A step that is no motion of a device and takes
+/// nothing of it tells nothing of it.
+pub fn telling()
+    ensures fits { ToldLaw }
+    ensures quiet { QuietLaw }
 {}

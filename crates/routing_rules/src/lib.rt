@@ -18,6 +18,7 @@
 //! - `Choice`, `Slip`, `Given`: which windows get a pointer that goes down (`takers`), when a pointer slips from one window to
 //!   another, and so what a step gives and takes (`given`, `taken`, both together `mark`).
 //! - `Told`: what a window is told of a device at a step (`told`), and of all devices (`told_all`).
+//! - `Fits`: what a scene and a step have to meet for what is told to fit what was told before; that it does is proved too.
 //!
 //! The rules follow Android's input dispatcher in idea. Which window is chosen for a later finger, what the earliest holder is,
 //! when touches outside are told and when a pointer slips are this project's own choices, and claim nothing of any release.

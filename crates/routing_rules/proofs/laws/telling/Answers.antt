@@ -1,0 +1,5 @@
+use Rattle.routing_rules.proofs.ToldLaws.{told_law, quiet_law}
+use Rattle.routing_rules.proofs.laws.telling.Goals as goal
+
+pub returns : goal.returns
+returns c = record { fits = told_law; quiet = quiet_law }
