@@ -1,6 +1,5 @@
 -- Who is unresponsive after a step.
-use Rattle.std.proofs.Common.{◌≡◌, ℕ, Bool, true, false, not, ◌&&◌, ◌||◌, List, ◌∷◌, refl, ap}
-use Rattle.dispatch_history.specs.Effect.{Effect}
+use Rattle.std.proofs.Common.{◌≡◌, Bool, true, false, not, ◌&&◌, ◌||◌, ◌∷◌, refl, ap}
 use Rattle.dispatch_history.specs.Delivery.{unresponsive, names, finishes, has_late}
 use Rattle.dispatch_history.specs.Laws.{UnresponsiveStep}
 

@@ -1,10 +1,9 @@
 -- Worked examples: gestures over windows, as streams.
 use Rattle.std.specs.Prelude.{ℕ, ◌≡◌, List, [], ◌∷◌, ◌++◌, refl}
-use Rattle.input_types.specs.declared.message.Message.{Message}
 use Rattle.input_types.specs.declared.motion.MotionAction.TheVariants.{Down, Up, Move, Cancel, Outside, PointerDown, PointerUp}
 use Rattle.dispatch_calls.specs.declared.call.Call.{Call}
-use Rattle.dispatch_calls.specs.declared.call.Call.TheVariants.{Open, Windows, Pilfer, Tick}
-use Rattle.dispatch_history.proofs.Worked.{window, at, motion, cancelled, moved, says, open_two, stream_of}
+use Rattle.dispatch_calls.specs.declared.call.Call.TheVariants.{Open, Windows, Tick}
+use Rattle.dispatch_history.proofs.Worked.{window, at, motion, moved, says, open_two, stream_of}
 
 -- Two fingers go down on one window, the first moves and then goes up.
 abbrev two_fingers : List Call

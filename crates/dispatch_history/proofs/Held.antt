@@ -1,13 +1,8 @@
 -- Worked examples: keys, the focus, and repeats.
-use Rattle.std.specs.Prelude.{ℕ, ◌≡◌, Bool, true, false, List, [], ◌∷◌, ◌++◌, drop, refl, Some}
-use Rattle.input_types.specs.declared.key.KeyArgs.{KeyArgs}
+use Rattle.std.specs.Prelude.{◌≡◌, true, false, List, [], ◌∷◌, ◌++◌, refl, Some}
 use Rattle.input_types.specs.declared.message.Args.TheVariants.{Key as KeyOfDevice}
-use Rattle.input_types.specs.declared.message.Body.{Body}
-use Rattle.input_types.specs.declared.message.Body.TheVariants.{Key, Focus}
-use Rattle.input_types.specs.declared.message.Message.{Message}
 use Rattle.dispatch_calls.specs.declared.call.Call.{Call}
 use Rattle.dispatch_calls.specs.declared.call.Call.TheVariants.{Open, Windows, FocusOn, Notify, Pump}
-use Rattle.dispatch_calls.specs.declared.reply.Reply.{Reply}
 use Rattle.dispatch_calls.specs.declared.reply.Reply.TheVariants.{Opened, Done, Taken, Dispatched, Repeated, Idle}
 use Rattle.dispatch_history.proofs.Worked.{window, key, focused, keyed, open_two, stream_of, replies_of}
 

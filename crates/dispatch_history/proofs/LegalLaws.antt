@@ -1,12 +1,11 @@
 -- Legal histories, and replays.
-use Rattle.std.proofs.Common.{◌≡◌, List, [], ◌∷◌, map, refl, sym, ap, ap₂, ◌∙◌}
+use Rattle.std.proofs.Common.{◌≡◌, List, [], ◌∷◌, refl, sym, ap, ap₂, ◌∙◌}
 use Rattle.dispatch_calls.specs.declared.call.Call.{Call}
 use Rattle.dispatch_calls.specs.declared.reply.Reply.{Reply}
 use Rattle.dispatch_history.specs.History.{History}
-use Rattle.dispatch_history.specs.Effect.{Effect, past_of}
 use Rattle.dispatch_history.specs.Effects.{effects, step}
 use Rattle.dispatch_history.specs.Reply.{reply_to}
-use Rattle.dispatch_history.specs.Legal.{Legal, reply, calls_of, run, replay}
+use Rattle.dispatch_history.specs.Legal.{reply, calls_of, run, replay}
 use Rattle.dispatch_history.specs.Laws.{LegalLast, LegalMore, LegalUnique, ReplayLaw, LegalReplay, EffectsLaw}
 
 pub effects_law : EffectsLaw

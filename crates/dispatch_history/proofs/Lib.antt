@@ -7,3 +7,6 @@ pub mod Runs
 pub mod LegalLaws
 pub mod OrderedLaws
 pub mod AbleLaws
+pub mod QueueLaws
+pub mod StreamLaws
+pub mod PointerLaws

@@ -1,14 +1,10 @@
 -- Worked examples: pilfering spies, windows that go, removed channels, and a device that begins anew.
-use Rattle.std.specs.Prelude.{ℕ, ◌≡◌, true, false, List, [], ◌∷◌, ◌++◌, refl}
+use Rattle.std.specs.Prelude.{◌≡◌, false, List, [], ◌∷◌, ◌++◌, refl}
 use Rattle.input_types.specs.declared.message.Args.TheVariants.{Motion as MotionArgs, Reset}
-use Rattle.input_types.specs.declared.message.Message.{Message}
 use Rattle.input_types.specs.declared.motion.MotionAction.TheVariants.{Down, Up, Move, Cancel, PointerDown, PointerUp}
-use Rattle.touch_region.specs.declared.rectangle.Rect.{Rect}
-use Rattle.window_snapshot.specs.declared.window.Window.{Window}
 use Rattle.dispatch_calls.specs.declared.call.Call.{Call}
 use Rattle.dispatch_calls.specs.declared.call.Call.TheVariants.{Open, Windows, Notify, Pump, Receive, Finish, Pilfer, Remove}
-use Rattle.dispatch_calls.specs.declared.reply.Reply.{Reply}
-use Rattle.dispatch_calls.specs.declared.reply.Reply.TheVariants.{Opened, Full, Done, Taken, Inconsistent, Dispatched, Got, Gone, NotSpy, NothingHeld}
+use Rattle.dispatch_calls.specs.declared.reply.Reply.TheVariants.{Opened, Done, Taken, Inconsistent, Dispatched, Gone, NotSpy, NothingHeld}
 use Rattle.dispatch_history.proofs.Worked.{window, window_of, rectangle, at, motion, cancelled, moved, says, open_two, stream_of, replies_of}
 
 -- Channel 1 is a spy over the upper half of channel 2 (16 is SPY). One finger goes down under the spy, one below it; the spy pilfers;

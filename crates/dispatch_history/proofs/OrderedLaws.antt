@@ -1,8 +1,8 @@
 -- The ordered run as a relation and as a function.
-use Rattle.std.proofs.Common.{◌≡◌, ℕ, zero, suc, ◌+◌, List, [], ◌∷◌, Option, Some, None, refl, sym, ap, ◌∙◌, arith}
+use Rattle.std.proofs.Common.{◌≡◌, ℕ, zero, suc, ◌+◌, List, Option, Some, None, refl, sym, ap, ◌∙◌, arith}
 use Rattle.dispatch_history.specs.Effect.{Effect}
 use Rattle.dispatch_history.specs.Plan.{Plan}
-use Rattle.dispatch_history.specs.Ordered.{Candidate, chosen, round, Rounds, start, next, Ordered, rounds_with, rounds, ordered, begun}
+use Rattle.dispatch_history.specs.Ordered.{Candidate, chosen, round, Rounds, start, next, rounds_with, rounds, ordered, begun}
 use Rattle.dispatch_history.specs.Laws.{OrderedSound, OrderedComplete, OrderedUnique}
 
 rounds_by : (n : ℕ) (plan : Plan) (es : List Effect) → Rounds plan es → ((fs : List Effect) → Rounds plan fs → Rounds plan (rounds n plan fs))

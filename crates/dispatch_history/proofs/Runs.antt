@@ -1,7 +1,5 @@
 -- Worked examples: whole runs of a plan, in the order of its moments and in a given order.
-use Rattle.std.specs.Prelude.{ℕ, ◌≡◌, Bool, true, false, List, [], ◌∷◌, ◌++◌, reverse, length, Some, None, Ok, Err, Result, refl}
-use Rattle.input_types.specs.declared.key.KeyArgs.{KeyArgs}
-use Rattle.input_types.specs.declared.message.Args.{Args}
+use Rattle.std.specs.Prelude.{ℕ, ◌≡◌, Bool, true, false, List, [], ◌∷◌, reverse, length, Some, None, Ok, Err, Result, refl}
 use Rattle.input_types.specs.declared.message.Args.TheVariants.{Motion as MotionArgs, Key as KeyOfDevice}
 use Rattle.input_types.specs.declared.message.Message.{Message}
 use Rattle.input_types.specs.declared.motion.MotionAction.{MotionAction}
@@ -9,14 +7,13 @@ use Rattle.input_types.specs.declared.motion.MotionAction.TheVariants.{Down, Up,
 use Rattle.input_types.specs.declared.pointer.Pointer.{Pointer}
 use Rattle.dispatch_calls.specs.declared.call.Call.{Call}
 use Rattle.dispatch_calls.specs.declared.call.Call.TheVariants.{Windows, FocusOn}
-use Rattle.dispatch_calls.specs.declared.counts.Naming.{Naming}
 use Rattle.dispatch_history.specs.Effect.{Effect, stream, past_of}
 use Rattle.dispatch_history.specs.History.{received, finished}
 use Rattle.dispatch_history.specs.Due.{namings}
 use Rattle.dispatch_history.specs.Plan.{Plan, ChannelOf, ScriptStep, Cooked, Line, ReaderLine, ScriptLine, PumpLine, ReceiveLine, FinishLine}
 use Rattle.dispatch_history.specs.Given.{given}
 use Rattle.dispatch_history.specs.Ordered.{ordered, chosen, extend}
-use Rattle.dispatch_history.proofs.Worked.{window, at, motion, key, focused, keyed, says, stream_of}
+use Rattle.dispatch_history.proofs.Worked.{window, at, motion, key, focused, keyed, says}
 
 -- a channel with the defaults of a session, and one that never finishes
 abbrev by_default : ChannelOf

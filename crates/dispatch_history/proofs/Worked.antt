@@ -1,17 +1,16 @@
 -- Windows, motions, calls and messages for the worked examples. Lists of calls and messages stand in order here, the first first.
-use Rattle.std.specs.Prelude.{ℕ, pos, Bool, true, false, List, [], ◌∷◌, ◌++◌, map, reverse, Option, Some, None}
+use Rattle.std.specs.Prelude.{ℕ, pos, Bool, List, [], ◌∷◌, map, reverse}
 use Rattle.touch_region.specs.declared.rectangle.Rect.{Rect}
 use Rattle.window_snapshot.specs.declared.window.Window.{Window}
 use Rattle.input_types.specs.declared.key.KeyArgs.{KeyArgs}
-use Rattle.input_types.specs.declared.message.Args.TheVariants.{Motion as MotionArgs, Key as KeyOfDevice}
-use Rattle.input_types.specs.declared.message.Body.{Body}
+use Rattle.input_types.specs.declared.message.Args.TheVariants.{Motion as MotionArgs}
 use Rattle.input_types.specs.declared.message.Body.TheVariants.{Motion as MotionBody, Key as KeyBody, Focus}
 use Rattle.input_types.specs.declared.message.Message.{Message}
 use Rattle.input_types.specs.declared.motion.Motion.{Motion}
 use Rattle.input_types.specs.declared.motion.MotionAction.{MotionAction}
 use Rattle.input_types.specs.declared.pointer.Pointer.{Pointer}
 use Rattle.dispatch_calls.specs.declared.call.Call.{Call}
-use Rattle.dispatch_calls.specs.declared.call.Call.TheVariants.{Open, Windows, Notify, Pump}
+use Rattle.dispatch_calls.specs.declared.call.Call.TheVariants.{Open, Notify, Pump}
 use Rattle.dispatch_calls.specs.declared.reply.Reply.{Reply}
 use Rattle.dispatch_history.specs.Effect.{stream}
 use Rattle.dispatch_history.specs.Legal.{run, replay}

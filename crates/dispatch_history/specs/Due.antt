@@ -1,9 +1,8 @@
 -- Which windows a tick names, and when the next one is due.
-use Rattle.std.specs.Prelude.{ℕ, ◌+◌, max, Bool, false, ◌&&◌, nat_lt, nat_le, List, [], ◌∷◌, ◌++◌, filter, filter_map, fold, reverse, Option, Some, None, if◌then◌else◌}
+use Rattle.std.specs.Prelude.{ℕ, ◌+◌, max, Bool, false, ◌&&◌, nat_lt, List, [], ◌∷◌, ◌++◌, filter, filter_map, fold, Option, Some, None, if◌then◌else◌}
 use Rattle.input_types.specs.declared.message.Message.{Message}
 use Rattle.window_snapshot.specs.Mask.{mask_has, mask_with}
 use Rattle.dispatch_calls.specs.declared.call.Call.{Call}
-use Rattle.dispatch_calls.specs.declared.call.Call.TheVariants.{Tick}
 use Rattle.dispatch_calls.specs.declared.counts.Naming.{Naming}
 use Rattle.dispatch_calls.specs.declared.reply.Reply.{Reply}
 use Rattle.dispatch_calls.specs.declared.reply.Reply.TheVariants.{Named}

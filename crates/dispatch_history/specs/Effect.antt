@@ -1,5 +1,5 @@
 -- What a step did. The effects of a history stand beside its steps, newest first.
-use Rattle.std.specs.Prelude.{ℕ, ◌+◌, ◌==◌, if◌then◌else◌, length, List, [], ◌∷◌, ◌++◌, map, filter, Option, Some, None}
+use Rattle.std.specs.Prelude.{ℕ, ◌+◌, ◌==◌, if◌then◌else◌, length, List, [], ◌∷◌, map, filter, Option, Some, None}
 use Rattle.input_types.specs.declared.message.Args.{Args}
 use Rattle.input_types.specs.declared.message.Args.TheVariants.{Motion as MotionArgs}
 use Rattle.input_types.specs.declared.message.Body.{Body}
@@ -28,6 +28,15 @@ pub record Effect : Type 0 where
 abbrev pub past_of : List Effect → History
 past_of [] = []
 past_of (x ∷ before) = x.past
+
+-- the args that were dispatched, newest first
+abbrev pub with_args : Option Args → List Args → List Args
+with_args None before = before
+with_args (Some args) before = args ∷ before
+
+abbrev pub dispatched : List Effect → List Args
+dispatched [] = []
+dispatched (x ∷ before) = with_args x.args (dispatched before)
 
 -- what a step told to a channel
 abbrev pub told_to : List Told → ℕ → List Body

@@ -1,6 +1,7 @@
 -- The effects of a history, step by step.
-use Rattle.std.specs.Prelude.{ℕ, suc, zero, ◌+◌, List, [], ◌∷◌, ◌++◌, map, flat_map, Option}
+use Rattle.std.specs.Prelude.{ℕ, suc, zero, List, [], ◌∷◌, ◌++◌, map, flat_map, Option}
 use Rattle.input_types.specs.declared.message.Args.{Args}
+use Rattle.input_types.specs.declared.message.Body.{Body}
 use Rattle.dispatch_calls.specs.declared.call.Call.{Call}
 use Rattle.dispatch_calls.specs.declared.reply.Reply.{Reply}
 use Rattle.routing_rules.specs.Marks.{Mark}
@@ -18,28 +19,39 @@ channels zero = []
 channels (suc n) = channels n ++ suc n ∷ []
 
 -- what a step tells, channel by channel
-abbrev pub told_by : History → Reply → Option Args → Scene → Step → Mark → List Effect → List Told
-told_by after reply args s e k before =
-    flat_map (λ w. map (λ b. record { channel = w; body = b }) (said after reply args s e k before w)) (channels (opened after))
+abbrev pub told_by : (ℕ → List Body) → ℕ → List Told
+told_by said_to n = flat_map (λ w. map (λ b. record { channel = w; body = b }) (said_to w)) (channels n)
+
+-- what a step with this mark says to a channel
+abbrev pub said_with : History → Reply → Option Args → List Effect → Scene → Step → Mark → ℕ → List Body
+said_with after reply args before s e k c = said after reply args s e k before c
 
 -- the effect of a step that has this mark
-abbrev pub effect_with : History → Reply → Option Args → Scene → Step → Mark → List Effect → Effect
-effect_with after reply args s e k before =
-    record { past = after; args = args; mark = k; told = told_by after reply args s e k before }
+abbrev pub effect_with : History → Reply → Option Args → List Effect → Scene → Step → Mark → Effect
+effect_with after reply args before s e k =
+    record { past = after; args = args; mark = k; told = told_by (said_with after reply args before s e k) (opened after) }
 
-abbrev pub effect_in : History → Reply → Option Args → Scene → Step → List Effect → Effect
-effect_in after reply args s e before = effect_with after reply args s e (mark s e) before
+abbrev pub effect_in : History → Reply → Option Args → List Effect → Scene → Step → Effect
+effect_in after reply args before s e = effect_with after reply args before s e (mark s e)
 
--- the effect of the step with this call and reply
+-- the effect of the step with this call and reply, which dispatches these args
 abbrev pub effect_of : Call → Reply → Option Args → List Effect → Effect
 effect_of call reply args before =
-    effect_in ((call, reply) ∷ past_of before) reply args (scene before) (step_of call reply args) before
+    effect_in ((call, reply) ∷ past_of before) reply args before (scene before) (step_of call reply args)
 
 -- one step more
 abbrev pub step : Call → Reply → List Effect → List Effect
-step call reply before = effect_of call reply (args_of reply (inbound (past_of before))) before ∷ before
+step call reply before = effect_of call reply (args_of call reply (inbound (past_of before))) before ∷ before
 
 -- the effects of a history, newest first
 abbrev pub effects : History → List Effect
 effects [] = []
 effects (e ∷ h) = step e.0 e.1 (effects h)
+
+-- what the step with this call and reply says to a channel
+abbrev pub said_at : Call → Reply → List Effect → ℕ → List Body
+said_at call reply before c =
+    let args = args_of call reply (inbound (past_of before)) in
+    let s = scene before in
+    let e = step_of call reply args in
+    said_with ((call, reply) ∷ past_of before) reply args before s e (mark s e) c

@@ -1,5 +1,5 @@
 -- A history of the dispatcher: its calls with their replies, newest first. What is before a step is the tail.
-use Rattle.std.specs.Prelude.{ℕ, ◌+◌, max, Bool, true, false, not, ◌==◌, ◌&&◌, ◌||◌, List, [], ◌∷◌, if◌then◌else◌, Option, Some, None}
+use Rattle.std.specs.Prelude.{ℕ, suc, max, Bool, false, not, ◌==◌, ◌&&◌, ◌||◌, List, [], ◌∷◌, if◌then◌else◌}
 use Rattle.input_types.specs.declared.axis.Pixel.{Pixel}
 use Rattle.window_snapshot.specs.declared.window.Window.{Window}
 use Rattle.window_snapshot.specs.Named.{origin_of}
@@ -32,17 +32,17 @@ clock [] = 0
 clock (e ∷ h) = max (moment_of e.0) (clock h)
 
 -- how many channels were opened; they have the numbers from 1 to this
-abbrev pub opened_by : Reply → ℕ
-opened_by (Opened c) = 1
-opened_by _ = 0
+abbrev pub opened_after : Call → Reply → ℕ → ℕ
+opened_after (Open limit) (Opened k) before = suc before
+opened_after call reply before = before
 
 abbrev pub opened : History → ℕ
 opened [] = 0
-opened (e ∷ h) = opened_by e.1 + opened h
+opened (e ∷ h) = opened_after e.0 e.1 (opened h)
 
 -- a step's part in what is live: a channel that it opens is, and one that it removes is not; the others are as before
 abbrev pub live_after : Call → Reply → ℕ → Bool → Bool
-live_after call (Opened k) c before = c == k || before
+live_after (Open limit) (Opened k) c before = c == k || before
 live_after (Remove now k) Done c before = not (c == k) && before
 live_after call reply c before = before
 
@@ -79,13 +79,13 @@ origin [] w = corner
 origin (e ∷ h) w = origin_after e.0 w (origin h w)
 
 -- how many messages of a channel its owner took
-abbrev pub is_got : Call → Reply → ℕ → ℕ
-is_got (Receive k) (Got m) c = if c == k then 1 else 0
-is_got call reply c = 0
+abbrev pub received_after : Call → Reply → ℕ → ℕ → ℕ
+received_after (Receive k) (Got m) c before = if c == k then suc before else before
+received_after call reply c before = before
 
 abbrev pub received : History → ℕ → ℕ
 received [] c = 0
-received (e ∷ h) c = is_got e.0 e.1 c + received h c
+received (e ∷ h) c = received_after e.0 e.1 c (received h c)
 
 -- the numbers of the messages of a channel with which its owner is done, the last first
 abbrev pub finished_after : Call → Reply → ℕ → List ℕ → List ℕ

@@ -1,8 +1,6 @@
 -- Which window holds a key that is down, and what it is told of it.
-use Rattle.std.specs.Prelude.{ℕ, ◌+◌, Bool, true, false, not, ◌==◌, ◌&&◌, ◌||◌, nat_lt, List, [], ◌∷◌, ◌++◌, map, filter, Option, Some, None, if◌then◌else◌}
-use Rattle.std.specs.List.{list_any}
+use Rattle.std.specs.Prelude.{ℕ, Bool, true, false, not, ◌==◌, ◌&&◌, ◌||◌, nat_lt, List, [], ◌∷◌, filter, Option, Some, None, if◌then◌else◌}
 use Rattle.input_types.specs.declared.key.KeyArgs.{KeyArgs}
-use Rattle.input_types.specs.declared.key.KeyMsg.{KeyMsg}
 use Rattle.input_types.specs.declared.message.Args.{Args}
 use Rattle.input_types.specs.declared.message.Args.TheVariants.{Key as KeyOfDevice, Reset}
 use Rattle.dispatch_history.specs.History.{History, live}

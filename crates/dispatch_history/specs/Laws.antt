@@ -1,11 +1,14 @@
 -- What is proved of histories. Each law is the clause of a function of its own.
-use Rattle.std.specs.Prelude.{ℕ, ◌≡◌, Bool, true, false, not, ◌&&◌, ◌||◌, List, [], ◌∷◌, Option, None}
+use Rattle.std.specs.Prelude.{ℕ, ◌≡◌, ◌≤◌, IsTrue, is_some, reverse, ◌++◌, true, false, not, ◌&&◌, ◌||◌, List, ◌∷◌, None}
 use Rattle.dispatch_calls.specs.declared.call.Call.{Call}
 use Rattle.dispatch_calls.specs.declared.reply.Reply.{Reply}
-use Rattle.dispatch_history.specs.History.{History, live, opened}
-use Rattle.dispatch_history.specs.Effect.{Effect, past_of, stream}
-use Rattle.dispatch_history.specs.Effects.{effects, step}
-use Rattle.dispatch_history.specs.Delivery.{able, unresponsive, names, finishes, has_late}
+use Rattle.input_types.specs.DeviceRule.{device_state}
+use Rattle.dispatch_history.specs.History.{History, clock, live, opened}
+use Rattle.dispatch_history.specs.Queue.{accepted, inbound}
+use Rattle.dispatch_history.specs.PointerOf.{PointerOf, IsDown, AllRise}
+use Rattle.dispatch_history.specs.Effect.{Effect, past_of, stream, dispatched, told_on}
+use Rattle.dispatch_history.specs.Effects.{effects, said_at}
+use Rattle.dispatch_history.specs.Delivery.{unresponsive, names, finishes, has_late}
 use Rattle.dispatch_history.specs.Legal.{Legal, reply, calls_of, run, replay}
 use Rattle.dispatch_history.specs.Plan.{Plan}
 use Rattle.dispatch_history.specs.Ordered.{Ordered, ordered, chosen}
@@ -52,3 +55,36 @@ OrderedComplete = (plan : Plan) (es : List Effect) → Ordered plan es → (n : 
 
 abbrev pub OrderedUnique : Type 0
 OrderedUnique = (plan : Plan) (es fs : List Effect) → Ordered plan es → Ordered plan fs → es ≡ fs
+
+-- In a legal history what was accepted is what waits and what was dispatched.
+abbrev pub QueueLaw : Type 0
+QueueLaw = (h : History) → Legal h → accepted h ≡ reverse (inbound h) ++ dispatched (effects h)
+
+-- What was accepted, and what was dispatched of it, keeps the rule of each device.
+abbrev pub DeviceLaw : Type 0
+DeviceLaw =
+    (h : History) (d : ℕ) → Legal h → IsTrue (is_some (device_state d (accepted h))) × IsTrue (is_some (device_state d (dispatched (effects h))))
+
+-- A live channel has one of the numbers that were given.
+abbrev pub LiveLaw : Type 0
+LiveLaw = (h : History) (c : ℕ) → Legal h → live h c ≡ true → (1 ≤ c) × (c ≤ opened h)
+
+-- A step adds to the stream of a channel what it says to it.
+abbrev pub StreamStep : Type 0
+StreamStep =
+    (call : Call) (answer : Reply) (h : History) (c : ℕ)
+    → Legal ((call, answer) ∷ h)
+    → stream (effects ((call, answer) ∷ h)) c
+    ≡ told_on (clock ((call, answer) ∷ h)) (said_at call answer (effects h) c) (stream (effects h) c)
+
+-- A channel that is not live after a step is told nothing at it: nothing follows a removal.
+abbrev pub SilentLaw : Type 0
+SilentLaw =
+    (call : Call) (answer : Reply) (h : History) (c : ℕ)
+    → live ((call, answer) ∷ h) c ≡ false → stream (effects ((call, answer) ∷ h)) c ≡ stream (effects h) c
+
+-- At each moment an id that is down is one pointer.
+abbrev pub OnePointer : Type 0
+OnePointer =
+    (h : History) (p q : PointerOf)
+    → Legal h → AllRise h → IsDown (effects h) p → IsDown (effects h) q → p.device ≡ q.device → p.id ≡ q.id → p ≡ q

@@ -17,3 +17,4 @@ pub mod Given
 pub mod Ordered
 pub mod Settled
 pub mod Laws
+pub mod PointerOf

@@ -1,6 +1,5 @@
 -- The calls of a plan in the order of their moments.
-use Rattle.std.specs.Prelude.{ℕ, zero, suc, ◌+◌, ◌-◌, max, Bool, true, false, not, ◌==◌, ◌&&◌, nat_lt, nat_le, ◌≡◌, List, [], ◌∷◌, ◌++◌, map, filter, flat_map, fold, replicate, slice_get, drop, length, Option, Some, None, option_map, if◌then◌else◌}
-use Rattle.std.specs.List.{list_any}
+use Rattle.std.specs.Prelude.{ℕ, zero, suc, ◌+◌, ◌-◌, max, Bool, true, false, not, ◌==◌, ◌&&◌, nat_lt, nat_le, ◌≡◌, List, [], ◌∷◌, ◌++◌, map, filter, flat_map, fold, replicate, slice_get, length, Option, Some, None, if◌then◌else◌}
 use Rattle.dispatch_calls.specs.declared.call.Call.{Call}
 use Rattle.dispatch_calls.specs.declared.call.Call.TheVariants.{Windows, FocusOn, Notify, Pump, Tick, Receive, Finish, Pilfer, Remove}
 use Rattle.dispatch_calls.specs.declared.reply.Reply.{Reply}

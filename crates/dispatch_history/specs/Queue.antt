@@ -1,5 +1,5 @@
 -- The args that devices hand in: accepted first, and dispatched later in the same order.
-use Rattle.std.specs.Prelude.{ℕ, ◌+◌, List, [], ◌∷◌, reverse, drop, slice_get, Option, None, unwrap_or}
+use Rattle.std.specs.Prelude.{ℕ, suc, List, [], ◌∷◌, reverse, drop, slice_get, Option, None, unwrap_or}
 use Rattle.input_types.specs.declared.message.Args.{Args}
 use Rattle.input_types.specs.DeviceRule.{DeviceState, device_state, nothing_down}
 use Rattle.dispatch_calls.specs.declared.call.Call.{Call}
@@ -18,22 +18,22 @@ accepted [] = []
 accepted (e ∷ h) = accepted_after e.0 e.1 (accepted h)
 
 -- how many of them were dispatched
-abbrev pub is_dispatched : Reply → ℕ
-is_dispatched Dispatched = 1
-is_dispatched reply = 0
+abbrev pub dispatches_after : Call → Reply → ℕ → ℕ
+dispatches_after (Pump now) Dispatched before = suc before
+dispatches_after call reply before = before
 
 abbrev pub dispatches : History → ℕ
 dispatches [] = 0
-dispatches (e ∷ h) = is_dispatched e.1 + dispatches h
+dispatches (e ∷ h) = dispatches_after e.0 e.1 (dispatches h)
 
 -- the args that wait, the next one first: those that were accepted without the ones that were dispatched
 abbrev pub inbound : History → List Args
 inbound h = drop (dispatches h) (reverse (accepted h))
 
 -- what a step dispatches: the first args that wait before it
-abbrev pub args_of : Reply → List Args → Option Args
-args_of Dispatched waiting = slice_get waiting 0
-args_of reply waiting = None
+abbrev pub args_of : Call → Reply → List Args → Option Args
+args_of (Pump now) Dispatched waiting = slice_get waiting 0
+args_of call reply waiting = None
 
 -- what is down on a device by the args that were accepted
 abbrev pub down_on : History → ℕ → DeviceState

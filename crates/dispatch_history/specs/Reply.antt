@@ -1,8 +1,8 @@
 -- What each call is to be answered.
-use Rattle.std.specs.Prelude.{ℕ, ◌+◌, ◌^◌, max, Bool, true, false, not, ◌==◌, ◌&&◌, ◌||◌, nat_lt, nat_le, List, [], ◌∷◌, is_some, length, reverse, slice_get, sum_by, Option, Some, None, if◌then◌else◌}
+use Rattle.std.specs.Prelude.{ℕ, ◌+◌, ◌^◌, max, Bool, false, not, ◌==◌, ◌&&◌, nat_lt, nat_le, List, [], ◌∷◌, is_some, reverse, slice_get, sum_by, Option, Some, None, if◌then◌else◌}
 use Rattle.std.specs.List.{list_any}
 use Rattle.input_types.specs.declared.message.Args.{Args}
-use Rattle.input_types.specs.declared.message.Args.TheVariants.{Motion as MotionArgs, Key, Reset}
+use Rattle.input_types.specs.declared.message.Args.TheVariants.{Key}
 use Rattle.input_types.specs.declared.message.Message.{Message}
 use Rattle.input_types.specs.DeviceRule.{DeviceState, after_args, device_of}
 use Rattle.window_snapshot.specs.Window.{is_spy}
@@ -12,7 +12,7 @@ use Rattle.dispatch_calls.specs.declared.reply.Reply.{Reply}
 use Rattle.dispatch_calls.specs.declared.reply.Reply.TheVariants.{Opened, Full, Done, Taken, Inconsistent, Dispatched, Repeated, Idle, Named, Got, Empty, Gone, UnknownSeq, NotSpy, NothingHeld}
 use Rattle.routing_rules.specs.Pairs.{has_any}
 use Rattle.routing_rules.specs.Marks.{held}
-use Rattle.dispatch_history.specs.History.{History, clock, opened, live, snapshot, received}
+use Rattle.dispatch_history.specs.History.{clock, opened, live, snapshot, received}
 use Rattle.dispatch_history.specs.Queue.{inbound, down_on}
 use Rattle.dispatch_history.specs.Effect.{Effect, past_of, stream}
 use Rattle.dispatch_history.specs.Delivery.{published, is_finished}

@@ -1,13 +1,11 @@
 -- What a channel is told at a step.
-use Rattle.std.specs.Prelude.{ℕ, ◌+◌, ℤ, ◌+ℤ◌, ◌-ℤ◌, Bool, ◌&&◌, List, [], ◌∷◌, ◌++◌, map, flat_map, Option, if◌then◌else◌}
+use Rattle.std.specs.Prelude.{ℕ, ◌-ℤ◌, ◌&&◌, List, [], ◌++◌, map, flat_map, Option, if◌then◌else◌}
 use Rattle.std.specs.Int.{saturate_signed, w32}
 use Rattle.input_types.specs.declared.axis.Pixel.{Pixel}
 use Rattle.input_types.specs.declared.message.Args.{Args}
 use Rattle.input_types.specs.declared.message.Body.{Body}
 use Rattle.input_types.specs.declared.message.Body.TheVariants.{Motion as MotionBody, Key}
 use Rattle.input_types.specs.declared.motion.Motion.{Motion}
-use Rattle.input_types.specs.declared.pointer.Pointer.{Pointer}
-use Rattle.dispatch_calls.specs.declared.call.Call.{Call}
 use Rattle.dispatch_calls.specs.declared.reply.Reply.{Reply}
 use Rattle.routing_rules.specs.Marks.{Mark}
 use Rattle.routing_rules.specs.Scene.{Scene, Step}

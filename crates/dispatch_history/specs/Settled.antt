@@ -1,12 +1,11 @@
 -- A history in which nothing is left to do.
-use Rattle.std.specs.Prelude.{ℕ, ◌≡◌, ◌<◌, Bool, true, false, IsTrue, IfSome, List, [], ◌∷◌, All, length}
+use Rattle.std.specs.Prelude.{ℕ, ◌≡◌, ◌<◌, Bool, true, false, IsTrue, IfSome, [], ◌∷◌, length}
 use Rattle.dispatch_calls.specs.declared.call.Call.{Call}
 use Rattle.dispatch_calls.specs.declared.call.Call.TheVariants.{Pump, Tick}
 use Rattle.dispatch_history.specs.History.{History, clock, live, received, finished}
 use Rattle.dispatch_history.specs.Queue.{inbound}
-use Rattle.dispatch_history.specs.Effect.{past_of}
 use Rattle.dispatch_history.specs.Effects.{effects}
-use Rattle.dispatch_history.specs.Delivery.{published, is_finished}
+use Rattle.dispatch_history.specs.Delivery.{published}
 use Rattle.dispatch_history.specs.KeyTold.{repeat_due}
 
 -- there is a tick with no pump after it

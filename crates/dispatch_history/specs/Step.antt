@@ -1,7 +1,7 @@
 -- What a step of a history is to the rules of routing, and the moment before it.
-use Rattle.std.specs.Prelude.{ℕ, Bool, ◌&&◌, nat_lt, List, [], ◌∷◌, map, Option, Some, None}
+use Rattle.std.specs.Prelude.{ℕ, Bool, ◌&&◌, nat_lt, List, map, Option, Some}
 use Rattle.input_types.specs.declared.message.Args.{Args}
-use Rattle.input_types.specs.declared.message.Args.TheVariants.{Motion as MotionArgs, Key, Reset}
+use Rattle.input_types.specs.declared.message.Args.TheVariants.{Motion as MotionArgs, Reset}
 use Rattle.window_snapshot.specs.Mask.{mask_has}
 use Rattle.window_snapshot.specs.Named.{is_named}
 use Rattle.dispatch_calls.specs.declared.call.Call.{Call}

@@ -1,5 +1,5 @@
 //! What is proved of histories. Each function has the laws as its clauses, and does nothing.
-ghost use Rattle.dispatch_history.specs.Laws.{LegalLast, LegalMore, LegalUnique, ReplayLaw, LegalReplay, EffectsLaw, UnresponsiveStep, OrderedSound, OrderedComplete, OrderedUnique};
+ghost use Rattle.dispatch_history.specs.Laws.{LegalLast, LegalMore, LegalUnique, ReplayLaw, LegalReplay, EffectsLaw, UnresponsiveStep, OrderedSound, OrderedComplete, OrderedUnique, QueueLaw, DeviceLaw, LiveLaw, StreamStep, SilentLaw, OnePointer};
 
 /// A list of calls has exactly one legal history, its replay, and each step of it was answered as the history before it says.
 pub fn legality()
@@ -9,6 +9,24 @@ pub fn legality()
     ensures replay { ReplayLaw }
     ensures again { LegalReplay }
     ensures past { EffectsLaw }
+{}
+
+/// Args wait in the order in which they were accepted, and keep the rule of their device, also those that were dispatched.
+pub fn queueing()
+    ensures queue { QueueLaw }
+    ensures devices { DeviceLaw }
+{}
+
+/// A step adds to the stream of each channel what it says to it, and nothing to that of a channel that is not live after it.
+pub fn streaming()
+    ensures live { LiveLaw }
+    ensures step { StreamStep }
+    ensures silent { SilentLaw }
+{}
+
+/// At each moment an id that is down on a device is one pointer.
+pub fn pointing()
+    ensures { OnePointer }
 {}
 
 /// Who is unresponsive after a step.

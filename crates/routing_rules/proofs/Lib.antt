@@ -7,4 +7,5 @@ pub mod Listings
 pub mod ToldRows
 pub mod ToldMotion
 pub mod Changes
+pub mod MotionKind
 pub mod ToldLaws

@@ -1,86 +1,23 @@
 -- What a window is told at a step fits what it was told before.
-use Rattle.std.proofs.Common.{ℕ, Bool, true, false, not, cond, ◌&&◌, ◌==◌, nat_lt, ◌≡◌, List, [], ◌∷◌, filter, length, remove, Option, Some, None, if◌then◌else◌, refl, sym, ap, ◌∙◌, subst, inl, inr, arith}
+use Rattle.std.proofs.Common.{ℕ, Bool, true, false, not, cond, ◌&&◌, ◌==◌, ◌≡◌, List, [], ◌∷◌, filter, remove, Option, Some, None, if◌then◌else◌, refl, sym, ap, ◌∙◌, subst, inl, inr}
 use Rattle.std.specs.List.{list_any}
-use Rattle.std.proofs.lemmas.Bool.{eqb-true, eq-eqb, cases_Bool, both_ways, and_parts, and_right, ltb-true}
+use Rattle.std.proofs.lemmas.Bool.{eqb-true, eq-eqb, cases_Bool, both_ways, and_parts, and_right}
 use Rattle.std.proofs.lemmas.List.Elements.{filter_agree}
 use Rattle.input_types.specs.declared.motion.Motion.{Motion}
-use Rattle.input_types.specs.declared.motion.MotionAction.{MotionAction}
-use Rattle.input_types.specs.declared.motion.MotionAction.TheVariants.{Down, Up, Move, Cancel, Outside, PointerDown, PointerUp}
 use Rattle.input_types.specs.declared.pointer.Pointer.{Pointer}
 use Rattle.input_types.specs.Pointers.{IsRising}
 use Rattle.input_types.specs.DeviceRule.{is_of_device}
-use Rattle.input_types.specs.Gestures.{ids_of, same_ids, after_motion, after_action, allowed}
+use Rattle.input_types.specs.Gestures.{ids_of, after_motion}
 use Rattle.routing_rules.specs.Scene.{Scene, Moves, Resets, Pilfers, Shows, Mutes, Removes, Rests}
 use Rattle.routing_rules.specs.Given.{changed, mark}
 use Rattle.routing_rules.specs.Told.{listing, cancels, cancels_of, or_else, moves as moved, is_up, told_motion, after}
 use Rattle.routing_rules.specs.Fits.{Fits, told_ids}
 use Rattle.routing_rules.specs.Laws.{ToldLaw, QuietLaw}
-use Rattle.routing_rules.proofs.Listings.{Apart, apart_rising, ids_of-listing, filter-filter_sub, filter-remove, not_in_remove, some_at, id_at, same_ids_is}
+use Rattle.routing_rules.proofs.Listings.{Apart, apart_rising, ids_of-listing, filter-filter_sub, filter-remove, not_in_remove, id_at}
+use Rattle.routing_rules.proofs.MotionKind.{Kind, opens, moves, closes, kind_at}
 use Rattle.routing_rules.proofs.ToldRows.{cancels_fit, moves_fit, or_else_fits}
 use Rattle.routing_rules.proofs.ToldMotion.{Shape, told_motion_fits}
 use Rattle.routing_rules.proofs.Changes.{other_way, after_apart, after_none, after_up}
-
--- what is allowed comes only where it is
-allowed_parts : {X : Type 0} (b : Bool) (x y : X) → allowed b x ≡ Some y → (b ≡ true) × (x ≡ y)
-allowed_parts true x y e = (refl, cc)
-allowed_parts false x y e = cc
-
--- the three kinds of motions of a device, by their ids: what was down, what is down next, and the changed pointer
-data Kind (m : Motion) (down next : List ℕ) : Type 0 where
-  opens : (p : Pointer) → changed m ≡ Some p → remove (ids_of m.pointers) m.index ≡ down → ids_of m.pointers ≡ next → Kind m down next
-  moves : ids_of m.pointers ≡ down → down ≡ next → is_up m.action ≡ false → Kind m down next
-  closes : (p : Pointer) → changed m ≡ Some p → ids_of m.pointers ≡ down → remove (ids_of m.pointers) m.index ≡ next → is_up m.action ≡ true → Kind m down next
-
-remove_only : (xs : List ℕ) (k : ℕ) → length xs ≡ 1 → k ≡ 0 → remove xs k ≡ []
-remove_only [] k one e = absurd (omega (arith, one))
-remove_only (x ∷ []) k one e = rw e refl
-remove_only (x ∷ y ∷ xs) k one e = absurd (omega (arith, one))
-
-empty_of : (xs : List ℕ) → length xs ≡ 0 → [] ≡ xs
-empty_of [] e = refl
-empty_of (x ∷ xs) e = absurd (omega (arith, e))
-
-kind_at : (m : Motion) (down next : List ℕ) (a : MotionAction) → m.action ≡ a → is_of_device a ≡ true
-    → after_action a down (ids_of m.pointers) m.index m.flags ≡ Some next → Kind m down next
-kind_at m down next Down q o e =
-    let ids = ids_of m.pointers in
-    let x = allowed_parts _ ids next e in
-    let y = and_parts (length down == 0) _ x.0 in
-    let z = and_parts (length ids == 1) _ y.1 in
-    let one = eqb-true (length ids) 1 z.0 in
-    let index = eqb-true m.index 0 (and_parts (m.index == 0) (m.flags == 0) z.1).0 in
-    let p = some_at m.pointers m.index (omega (arith, one, index)) in
-    opens p.0 p.1 (remove_only ids m.index one index ∙ empty_of down (eqb-true (length down) 0 y.0)) x.1
-kind_at m down next PointerDown q o e =
-    let ids = ids_of m.pointers in
-    let x = allowed_parts _ ids next e in
-    let y = and_parts (nat_lt 0 (length down)) _ x.0 in
-    let z = and_parts (nat_lt m.index (length ids)) _ y.1 in
-    let p = some_at m.pointers m.index (ltb-true m.index (length ids) z.0) in
-    opens p.0 p.1 (same_ids_is (remove ids m.index) down (and_parts (same_ids (remove ids m.index) down) (m.flags == 0) z.1).0) x.1
-kind_at m down next Move q o e =
-    let ids = ids_of m.pointers in
-    let x = allowed_parts _ down next e in
-    let y = and_parts (same_ids ids down) _ x.0 in
-    moves (same_ids_is ids down y.0) x.1 (ap is_up q)
-kind_at m down next PointerUp q o e =
-    let ids = ids_of m.pointers in
-    let x = allowed_parts _ (remove ids m.index) next e in
-    let y = and_parts (same_ids ids down) _ x.0 in
-    let z = and_parts (nat_lt 1 (length ids)) _ y.1 in
-    let p = some_at m.pointers m.index (ltb-true m.index (length ids) (and_parts (nat_lt m.index (length ids)) _ z.1).0) in
-    closes p.0 p.1 (same_ids_is ids down y.0) x.1 (ap is_up q)
-kind_at m down next Up q o e =
-    let ids = ids_of m.pointers in
-    let x = allowed_parts _ [] next e in
-    let y = and_parts (same_ids ids down) _ x.0 in
-    let z = and_parts (length ids == 1) _ y.1 in
-    let one = eqb-true (length ids) 1 z.0 in
-    let index = eqb-true m.index 0 (and_parts (m.index == 0) (m.flags == 0) z.1).0 in
-    let p = some_at m.pointers m.index (omega (arith, one, index)) in
-    closes p.0 p.1 (same_ids_is ids down y.0) (remove_only ids m.index one index ∙ x.1) (ap is_up q)
-kind_at m down next Cancel q o e = cc
-kind_at m down next Outside q o e = cc
 
 not_gained : (x y : Bool) → (x && not y) ≡ false → y ≡ false → x ≡ false
 not_gained x y n e = sym (and_true x) ∙ ap (λ c. x && not c) (sym e) ∙ n
@@ -105,7 +42,7 @@ lies m p b l down next c fresh gone (opens q d e g) =
       later_is = ap (filter l) (sym g) ∙ ids_of-listing l m.pointers;
       kept_is = λ n. ap (filter l) (sym e) ∙ filter-remove l m.pointers m.index p c (not_gained (l p.id) (b p.id) n bp) ∙ ap (filter l) g;
     }
-lies m p b l down next c fresh gone (moves e g u) =
+lies m p b l down next c fresh gone (moves e g u v) =
     record {
       before_is = ap (filter b) (sym e) ∙ ids_of-listing b m.pointers;
       later_is = ap (filter l) (sym g ∙ sym e) ∙ ids_of-listing l m.pointers;
@@ -172,7 +109,7 @@ none_moves : (s : Scene) (m : Motion) (w : ℕ) (down next : List ℕ) → Fits 
     ≡ Some (filter (after s (mark s (Moves m)) w m.device) next)
 none_moves s m w down next f c (opens p d e g) = cc
 none_moves s m w down next f c (closes p d e g u) = cc
-none_moves s m w down next f c (moves e g u) =
+none_moves s m w down next f c (moves e g u v) =
     let l : ℕ → Bool = after s (mark s (Moves m)) w m.device in
     let left : filter l next ≡ ids_of (listing l m.pointers) = ap (filter l) (sym g ∙ sym e) ∙ ids_of-listing l m.pointers in
     or_else_fits (filter (s.holds w m.device) down) (filter l next) (cancels m.device (s.last m.device) (s.holds w m.device) l)

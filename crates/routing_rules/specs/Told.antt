@@ -68,6 +68,12 @@ is_up Up = true
 is_up PointerUp = true
 is_up _ = false
 
+-- the motion is one with which a pointer goes down
+abbrev pub is_down : MotionAction → Bool
+is_down Down = true
+is_down PointerDown = true
+is_down _ = false
+
 -- the motion is one that begins a gesture
 abbrev pub is_first : MotionAction → Bool
 is_first Down = true

@@ -1,0 +1,141 @@
+-- What a step adds to a stream.
+use Rattle.std.proofs.Common.{◌≡◌, ℕ, zero, suc, ◌+◌, ◌≤◌, ◌<◌, ◌==◌, nat_lt, Bool, true, false, not, cond, List, [], ◌∷◌, ◌++◌, map, filter, flat_map, refl, sym, ap, ap₂, ◌∙◌, subst, inl, inr, arith, append-nil}
+use Rattle.std.proofs.lemmas.Bool.{cases_Bool, cases_cond, or_cases, and_parts, true≢false, eqb-true, eq-eqb, ne_eqb, cases_eq, cases_lt}
+use Rattle.std.proofs.lemmas.Grind.{flat_map-append}
+use Rattle.input_types.specs.declared.message.Body.{Body}
+use Rattle.dispatch_calls.specs.declared.call.Call.{Call}
+use Rattle.dispatch_calls.specs.declared.call.Call.TheVariants.{Open, Windows, FocusOn, Notify, Pump, Tick, Receive, Finish, Pilfer, Remove}
+use Rattle.dispatch_calls.specs.declared.reply.Reply.{Reply}
+use Rattle.dispatch_calls.specs.declared.reply.Reply.TheVariants.{Opened, Full, Done}
+use Rattle.dispatch_history.specs.History.{History, clock, live, live_after, opened, opened_after}
+use Rattle.dispatch_history.specs.Effect.{Effect, Told, past_of, told_to, told_on, stream}
+use Rattle.dispatch_history.specs.Effects.{effects, channels, told_by, said_at}
+use Rattle.dispatch_history.specs.Legal.{Legal}
+use Rattle.dispatch_history.specs.Laws.{LiveLaw, StreamStep, SilentLaw}
+use Rattle.dispatch_history.proofs.LegalLaws.{effects_law}
+
+-- what is told in two parts
+told_to-append : (xs ys : List Told) (c : ℕ) → told_to (xs ++ ys) c ≡ told_to xs c ++ told_to ys c
+told_to-append [] ys c = refl
+told_to-append (x ∷ xs) ys c = first (x.channel == c) (told_to-append xs ys c)
+  where
+    first : (b : Bool) → told_to (xs ++ ys) c ≡ told_to xs c ++ told_to ys c
+        → map (λ t. t.body) (cond b (x ∷ filter (λ t. t.channel == c) (xs ++ ys)) (filter (λ t. t.channel == c) (xs ++ ys)))
+        ≡ map (λ t. t.body) (cond b (x ∷ filter (λ t. t.channel == c) xs) (filter (λ t. t.channel == c) xs)) ++ told_to ys c
+    first true e = ap (λ bs. x.body ∷ bs) e
+    first false e = e
+
+-- what is told to one channel, of bodies for another one and for itself
+told_one : (w c : ℕ) (b : Bool) (bs : List Body) → (w == c) ≡ b → told_to (map (λ x. record { channel = w; body = x }) bs) c ≡ cond b bs []
+told_one w c true [] e = refl
+told_one w c false [] e = refl
+told_one w c true (x ∷ bs) e = rw e (ap (λ ys. x ∷ ys) (told_one w c true bs e))
+told_one w c false (x ∷ bs) e = rw e (told_one w c false bs e)
+
+abbrev tell : (ℕ → List Body) → ℕ → List Told
+tell f w = map (λ b. record { channel = w; body = b }) (f w)
+
+-- a channel that is said nothing to is told nothing
+told_none : (f : ℕ → List Body) (c : ℕ) → f c ≡ [] → (ws : List ℕ) → told_to (flat_map (tell f) ws) c ≡ []
+told_none f c e [] = refl
+told_none f c e (w ∷ ws) =
+    told_to-append (tell f w) (flat_map (tell f) ws) c
+    ∙ ap₂ (λ xs ys. xs ++ ys) (told_one w c (w == c) (f w) refl ∙ here (w == c) refl) (told_none f c e ws)
+  where
+    here : (b : Bool) → (w == c) ≡ b → cond b (f w) [] ≡ []
+    here true q = ap f (eqb-true w c q) ∙ e
+    here false q = refl
+
+-- what is told to one of the channels 1 to n, the last of which stands apart
+last_apart : (f : ℕ → List Body) (n c : ℕ) → told_to (told_by f (suc n)) c ≡ told_to (told_by f n) c ++ cond (suc n == c) (f (suc n)) []
+last_apart f n c =
+    ap (λ ts. told_to ts c) (flat_map-append (tell f) (channels n) (suc n ∷ []))
+    ∙ told_to-append (flat_map (tell f) (channels n)) (tell f (suc n) ++ []) c
+    ∙ ap (λ xs. told_to (told_by f n) c ++ xs)
+    (ap (λ ts. told_to ts c) (append-nil (tell f (suc n))) ∙ told_one (suc n) c (suc n == c) (f (suc n)) refl)
+
+told_above : (f : ℕ → List Body) (n c : ℕ) → n < c → told_to (told_by f n) c ≡ []
+told_above f zero c lt = refl
+told_above f (suc n) c lt =
+    last_apart f n c ∙ ap₂ (λ xs b. xs ++ cond b (f (suc n)) []) (told_above f n c (omega (arith, lt))) (ne_eqb (suc n) c (λ e. absurd (omega (arith, lt, e))))
+
+told_within : (f : ℕ → List Body) (n c : ℕ) → 1 ≤ c → c ≤ n → told_to (told_by f n) c ≡ f c
+told_within f zero c one le = absurd (omega (arith, one, le))
+told_within f (suc n) c one le =
+    elim (cases_eq (suc n) c) [
+      | inl e ↦
+          last_apart f n c
+          ∙ ap₂ (λ xs b. xs ++ cond b (f (suc n)) []) (told_above f n c (omega (arith, e))) (eq-eqb (suc n) c e)
+          ∙ ap f e
+      | inr ne ↦
+          let below : c ≤ n = below_of ne in
+          last_apart f n c
+          ∙ ap₂ (λ xs b. xs ++ cond b (f (suc n)) []) (told_within f n c one below) (ne_eqb (suc n) c ne)
+          ∙ append-nil (f c)
+    ]
+  where
+    below_of : (suc n ≡ c → ⊥) → c ≤ n
+    below_of ne = elim (cases_lt n c) [ inl lt ↦ absurd (ne (omega (arith, lt, le))) | inr ge ↦ ge ]
+
+-- a live channel has one of the numbers that were given
+opened_live : (n k c : ℕ) (answer : Reply) (limit : ℕ) (before : Bool) → answer ≡ cond (nat_lt n 64) (Opened (n + 1)) Full
+    → (before ≡ true → (1 ≤ c) × (c ≤ n)) → live_after (Open limit) answer c before ≡ true → (1 ≤ c) × (c ≤ opened_after (Open limit) answer n)
+opened_live n k c answer limit before r old l =
+    elim (cases_cond (nat_lt n 64) (Opened (n + 1)) Full answer r) [
+      | inl e ↦
+          subst (λ a. live_after (Open limit) a c before ≡ true → (1 ≤ c) × (c ≤ opened_after (Open limit) a n)) (sym e)
+          (λ h.
+          elim (or_cases (c == n + 1) before h) [
+            | inl q ↦ let p : c ≡ n + 1 = eqb-true c (n + 1) q in (omega (arith, p), omega (arith, p))
+            | inr b ↦ ((old b).0, omega (arith, (old b).1))
+          ])
+          l
+      | inr e ↦ subst (λ a. live_after (Open limit) a c before ≡ true → (1 ≤ c) × (c ≤ opened_after (Open limit) a n)) (sym e) old l
+    ]
+
+removed_live : (now k c : ℕ) (answer : Reply) (before : Bool) → live_after (Remove now k) answer c before ≡ true → before ≡ true
+removed_live now k c Done before e = (and_parts (not (c == k)) before e).1
+removed_live now k c _ before e = e
+
+pub live_law : LiveLaw
+live_law [] c l e = absurd (true≢false (sym e))
+live_law ((Open limit, answer) ∷ h) c l e =
+    opened_live (opened h) 0 c answer limit (live h c)
+    (subst (λ past. answer ≡ cond (nat_lt (opened past) 64) (Opened (opened past + 1)) Full) (effects_law h) l.0)
+    (λ b. live_law h c l.1 b) e
+live_law ((Remove now k, answer) ∷ h) c l e = live_law h c l.1 (removed_live now k c answer (live h c) e)
+live_law ((Windows now shown, answer) ∷ h) c l e = live_law h c l.1 e
+live_law ((FocusOn now channel, answer) ∷ h) c l e = live_law h c l.1 e
+live_law ((Notify now a, answer) ∷ h) c l e = live_law h c l.1 e
+live_law ((Pump now, answer) ∷ h) c l e = live_law h c l.1 e
+live_law ((Tick now, answer) ∷ h) c l e = live_law h c l.1 e
+live_law ((Receive channel, answer) ∷ h) c l e = live_law h c l.1 e
+live_law ((Finish now channel seq, answer) ∷ h) c l e = live_law h c l.1 e
+live_law ((Pilfer now channel device, answer) ∷ h) c l e = live_law h c l.1 e
+
+-- a channel that is not live after a step is said nothing
+not_live_said : (call : Call) (answer : Reply) (es : List Effect) (c : ℕ) → live ((call, answer) ∷ past_of es) c ≡ false → said_at call answer es c ≡ []
+not_live_said call answer es c n = rw n refl
+
+told_at : (call : Call) (answer : Reply) (h : History) (c : ℕ) → Legal ((call, answer) ∷ h)
+    → told_to (told_by (said_at call answer (effects h)) (opened ((call, answer) ∷ past_of (effects h)))) c ≡ said_at call answer (effects h) c
+told_at call answer h c l =
+    let P : History → History = λ k. (call, answer) ∷ k in
+    elim (cases_Bool (live (P (past_of (effects h))) c)) [
+      | inl y ↦
+          let r = live_law (P h) c l (subst (λ k. live (P k) c ≡ true) (effects_law h) y) in
+          told_within (said_at call answer (effects h)) (opened (P (past_of (effects h)))) c r.0 (subst (λ k. c ≤ opened (P k)) (sym (effects_law h)) r.1)
+      | inr n ↦
+          let e = not_live_said call answer (effects h) c n in
+          told_none (said_at call answer (effects h)) c e (channels (opened (P (past_of (effects h))))) ∙ sym e
+    ]
+
+pub stream_step : StreamStep
+stream_step call answer h c l =
+    ap₂ (λ now bs. told_on now bs (stream (effects h) c)) (ap (λ k. clock ((call, answer) ∷ k)) (effects_law h)) (told_at call answer h c l)
+
+pub silent_law : SilentLaw
+silent_law call answer h c n =
+    let e = not_live_said call answer (effects h) c (subst (λ k. live ((call, answer) ∷ k) c ≡ false) (sym (effects_law h)) n) in
+    ap (λ bs. told_on (clock ((call, answer) ∷ past_of (effects h))) bs (stream (effects h) c))
+    (told_none (said_at call answer (effects h)) c e (channels (opened ((call, answer) ∷ past_of (effects h)))))
