@@ -35,20 +35,22 @@ is_late es c now m = nat_le (delivery es c m.seq + limit_of (past_of es) c) now
 abbrev pub has_late : List Effect → ℕ → Bool
 has_late es c = list_any (is_late es c (clock (past_of es))) (unfinished es c)
 
--- a step's part in who is unresponsive: a tick that names the channel makes it so, and a finish of a message of it ends
--- that, unless there is a late message after it
+-- a reply that names the channel unresponsive
 abbrev pub is_named_by : Reply → ℕ → Bool
 is_named_by (Named mask) c = mask_has mask c
 is_named_by reply c = false
 
+-- a finish of a message of the channel that was done
 abbrev pub is_finish_of : Call → Reply → ℕ → Bool
 is_finish_of (Finish now k seq) Done c = c == k
 is_finish_of call reply c = false
 
+-- the last step of a history names the channel unresponsive
 abbrev pub names : History → ℕ → Bool
 names [] c = false
 names (e ∷ h) c = is_named_by e.1 c
 
+-- the last step of a history finishes a message of the channel
 abbrev pub finishes : History → ℕ → Bool
 finishes [] c = false
 finishes (e ∷ h) c = is_finish_of e.0 e.1 c

@@ -1,14 +1,15 @@
 -- Which windows a tick names, and when the next one is due.
-use Rattle.std.specs.Prelude.{ℕ, ◌+◌, max, Bool, false, ◌&&◌, nat_lt, List, [], ◌∷◌, ◌++◌, filter, filter_map, fold, Option, Some, None, if◌then◌else◌}
+use Rattle.std.specs.Prelude.{ℕ, ◌+◌, max, length, nat_le, Bool, false, ◌&&◌, nat_lt, List, [], ◌∷◌, ◌++◌, filter, filter_map, fold, Option, Some, None, if◌then◌else◌}
 use Rattle.input_types.specs.declared.message.Message.{Message}
 use Rattle.window_snapshot.specs.Mask.{mask_has, mask_with}
 use Rattle.dispatch_calls.specs.declared.call.Call.{Call}
+use Rattle.dispatch_calls.specs.declared.counts.Counts.{Counts}
 use Rattle.dispatch_calls.specs.declared.counts.Naming.{Naming}
 use Rattle.dispatch_calls.specs.declared.reply.Reply.{Reply}
 use Rattle.dispatch_calls.specs.declared.reply.Reply.TheVariants.{Named}
-use Rattle.dispatch_history.specs.History.{clock, opened, limit_of}
-use Rattle.dispatch_history.specs.Effect.{Effect, past_of}
-use Rattle.dispatch_history.specs.Delivery.{able, delivery, is_late, oldest}
+use Rattle.dispatch_history.specs.History.{clock, opened, limit_of, live, received, finished}
+use Rattle.dispatch_history.specs.Effect.{Effect, past_of, stream}
+use Rattle.dispatch_history.specs.Delivery.{able, delivery, is_late, oldest, published}
 use Rattle.dispatch_history.specs.Effects.{channels}
 
 -- some message is there, and it is late at the moment
@@ -31,6 +32,7 @@ pub record Due : Type 0 where
   pub moment : ℕ
   pub channel : ℕ
 
+-- the due of a channel whose oldest message this is
 abbrev pub due_at : List Effect → ℕ → Option Message → Option Due
 due_at es c None = None
 due_at es c (Some m) = Some (record { moment = delivery es c m.seq + limit_of (past_of es) c; channel = c })
@@ -39,11 +41,12 @@ due_at es c (Some m) = Some (record { moment = delivery es c m.seq + limit_of (p
 abbrev pub dues : List Effect → List Due
 dues es = filter_map (λ c. due_at es c (oldest es c)) (filter (able es) (channels (opened (past_of es))))
 
--- the first due of all: the least moment, and of one moment the least channel
+-- the better of two dues: the lesser moment, and of one moment the one that comes first
 abbrev pub sooner_due : Option Due → Due → Option Due
 sooner_due None d = Some d
 sooner_due (Some best) d = Some (if nat_lt d.moment best.moment then d else best)
 
+-- the first due of all: the least moment, and of one moment the least channel
 abbrev pub first_due : List Effect → Option Due
 first_due es = fold sooner_due None (dues es)
 
@@ -52,6 +55,7 @@ abbrev pub naming_of : List Effect → ℕ → ℕ → Option Message → Option
 naming_of es now c None = None
 naming_of es now c (Some m) = Some (record { clock = now; channel = c; seq = m.seq })
 
+-- the namings that a step with this reply and this clock makes, by rising channel
 abbrev pub namings_by : Reply → ℕ → List Effect → List Naming
 namings_by (Named mask) now before =
     filter_map (λ c. naming_of before now c (oldest before c)) (filter (mask_has mask) (channels (opened (past_of before))))
@@ -65,3 +69,11 @@ namings (x ∷ before) = namings before ++ namings_at x.past before
     namings_at : List (Call × Reply) → List Effect → List Naming
     namings_at [] before = []
     namings_at (e ∷ h) before = namings_by e.1 (clock (e ∷ h)) before
+
+-- how far a channel has come, where it was opened
+abbrev pub counts : List Effect → ℕ → Option Counts
+counts es c =
+    let h = past_of es in
+    if nat_le 1 c && nat_le c (opened h) then
+    Some (record { sent = length (stream es c); received = received h c; finished = length (finished h c); published = published es c; live = live h c })
+    else None

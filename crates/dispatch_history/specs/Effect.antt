@@ -29,11 +29,12 @@ abbrev pub past_of : List Effect → History
 past_of [] = []
 past_of (x ∷ before) = x.past
 
--- the args that were dispatched, newest first
+-- what a step dispatched, before what was dispatched earlier
 abbrev pub with_args : Option Args → List Args → List Args
 with_args None before = before
 with_args (Some args) before = args ∷ before
 
+-- all args that were dispatched, newest first
 abbrev pub dispatched : List Effect → List Args
 dispatched [] = []
 dispatched (x ∷ before) = with_args x.args (dispatched before)
@@ -52,11 +53,12 @@ abbrev pub stream : List Effect → ℕ → List Message
 stream [] c = []
 stream (x ∷ before) c = told_on (clock x.past) (told_to x.told c) (stream before c)
 
--- the pointers of a device at the places where its last motion listed them; none before its first motion
+-- a motion of the device lists its pointers anew
 abbrev pub last_after : Option Args → ℕ → List Pointer → List Pointer
 last_after (Some (MotionArgs m)) d before = if m.device == d then m.pointers else before
 last_after args d before = before
 
+-- the pointers of a device at the places where its last motion listed them; none before its first motion
 abbrev pub last : List Effect → ℕ → List Pointer
 last [] d = []
 last (x ∷ before) d = last_after x.args d (last before d)

@@ -31,6 +31,7 @@ abbrev pub effect_with : History → Reply → Option Args → List Effect → S
 effect_with after reply args before s e k =
     record { past = after; args = args; mark = k; told = told_by (said_with after reply args before s e k) (opened after) }
 
+-- the effect of a step that is this to the rules
 abbrev pub effect_in : History → Reply → Option Args → List Effect → Scene → Step → Effect
 effect_in after reply args before s e = effect_with after reply args before s e (mark s e)
 

@@ -7,16 +7,17 @@ use Rattle.dispatch_calls.specs.declared.call.Call.{Call}
 use Rattle.dispatch_calls.specs.declared.call.Call.TheVariants.{FocusOn}
 use Rattle.dispatch_history.specs.History.{History, live, snapshot}
 
--- the channel for which the focus was requested last
+-- a step may request the focus for another channel, or for none
 abbrev pub requested_after : Call → Option ℕ → Option ℕ
 requested_after (FocusOn now channel) before = channel
 requested_after call before = before
 
+-- the channel for which the focus was requested last
 abbrev pub requested : History → Option ℕ
 requested [] = None
 requested (e ∷ h) = requested_after e.0 (requested h)
 
--- it has the focus where it is live, and the snapshot names it with a window that may have it
+-- a requested channel has the focus where it is live, and the snapshot names it with a window that may have it
 abbrev pub focus_if : History → Option ℕ → Option ℕ
 focus_if h None = None
 focus_if h (Some c) = if live h c && is_focusable_at (snapshot h) c then Some c else None
@@ -25,11 +26,12 @@ focus_if h (Some c) = if live h c && is_focusable_at (snapshot h) c then Some c 
 abbrev pub focus : History → Option ℕ
 focus h = focus_if h (requested h)
 
--- this window has it
+-- the focus is at this window
 abbrev pub is_at : Option ℕ → ℕ → Bool
 is_at None w = false
 is_at (Some c) w = w == c
 
+-- the window has the focus
 abbrev pub has_focus : History → ℕ → Bool
 has_focus h w = is_at (focus h) w
 

@@ -8,11 +8,12 @@ use Rattle.dispatch_history.specs.Plan.{Plan, ChannelOf, ScriptStep, Cooked, Lin
 abbrev pub opens : List ChannelOf → List Call
 opens cs = map (λ c. Open c.limit) cs
 
--- the first step of a lane, and all others
+-- the next step of a lane
 abbrev pub next_of_lane : ℕ → List ScriptStep → Option Call
 next_of_lane l [] = None
 next_of_lane l (s ∷ ss) = if s.lane == l then Some s.call else next_of_lane l ss
 
+-- the steps that are left once the next one of a lane is made
 abbrev pub without_next : ℕ → List ScriptStep → List ScriptStep
 without_next l [] = []
 without_next l (s ∷ ss) = if s.lane == l then ss else s ∷ without_next l ss
@@ -23,10 +24,12 @@ then_rest None n rest = Err n
 then_rest (Some call) n (Ok calls) = Ok (call ∷ calls)
 then_rest (Some call) n (Err k) = Err k
 
+-- the next args are handed in
 abbrev pub next_args : List Cooked → Option Call
 next_args [] = None
 next_args (a ∷ later) = Some (Notify a.moment a.args)
 
+-- the args that are left once the next ones are handed in
 abbrev pub without_first : List Cooked → List Cooked
 without_first [] = []
 without_first (a ∷ later) = later
@@ -44,6 +47,7 @@ line_calls n cooked steps (TickLine ∷ ls) = then_rest (Some (Tick 0)) n (line_
 line_calls n cooked steps (ReceiveLine c ∷ ls) = then_rest (Some (Receive c)) n (line_calls (n + 1) cooked steps ls)
 line_calls n cooked steps (FinishLine c seq ∷ ls) = then_rest (Some (Finish 0 c seq)) n (line_calls (n + 1) cooked steps ls)
 
+-- calls behind those that open the channels
 abbrev pub after_opens : List ChannelOf → Result (List Call) ℕ → Result (List Call) ℕ
 after_opens cs (Ok calls) = Ok (opens cs ++ calls)
 after_opens cs (Err n) = Err n

@@ -7,7 +7,7 @@ use Rattle.dispatch_calls.specs.declared.call.Call.{Call}
 use Rattle.dispatch_calls.specs.declared.call.Call.TheVariants.{Open, Windows, FocusOn, Notify, Pump, Tick, Receive, Finish, Pilfer, Remove}
 use Rattle.dispatch_calls.specs.declared.reply.Reply.{Reply}
 use Rattle.dispatch_calls.specs.declared.reply.Reply.TheVariants.{Opened, Done, Got}
-use Rattle.dispatch_history.specs.Start.{corner, or_origin}
+use Rattle.dispatch_history.specs.Origin.{corner, or_origin}
 
 -- a history
 abbrev pub History : Type 0
@@ -31,11 +31,12 @@ abbrev pub clock : History → ℕ
 clock [] = 0
 clock (e ∷ h) = max (moment_of e.0) (clock h)
 
--- how many channels were opened; they have the numbers from 1 to this
+-- a step that opens a channel makes one more
 abbrev pub opened_after : Call → Reply → ℕ → ℕ
 opened_after (Open limit) (Opened k) before = suc before
 opened_after call reply before = before
 
+-- how many channels were opened; they have the numbers from 1 to this
 abbrev pub opened : History → ℕ
 opened [] = 0
 opened (e ∷ h) = opened_after e.0 e.1 (opened h)
@@ -51,47 +52,52 @@ abbrev pub live : History → ℕ → Bool
 live [] c = false
 live (e ∷ h) c = live_after e.0 e.1 c (live h c)
 
--- how long the owner of a channel may leave a message unfinished, as its opening said
+-- the opening of a channel says its limit
 abbrev pub limit_after : Call → Reply → ℕ → ℕ → ℕ
 limit_after (Open limit) (Opened k) c before = if c == k then limit else before
 limit_after call reply c before = before
 
+-- how long the owner of a channel may leave a message unfinished
 abbrev pub limit_of : History → ℕ → ℕ
 limit_of [] c = 0
 limit_of (e ∷ h) c = limit_after e.0 e.1 c (limit_of h c)
 
--- the windows of the last snapshot, front to back; none at first
+-- a new snapshot takes the place of the last one
 abbrev pub windows_after : Call → List Window → List Window
 windows_after (Windows now snapshot) before = snapshot
 windows_after call before = before
 
+-- the windows of the last snapshot, front to back; none at first
 abbrev pub snapshot : History → List Window
 snapshot [] = []
 snapshot (e ∷ h) = windows_after e.0 (snapshot h)
 
--- the origin of a window: the corner of its frame in the last snapshot that named it
+-- a snapshot that names a window says its origin
 abbrev pub origin_after : Call → ℕ → Pixel → Pixel
 origin_after (Windows now snapshot) w before = or_origin (origin_of snapshot w) before
 origin_after call w before = before
 
+-- the origin of a window: the corner of its frame in the last snapshot that named it
 abbrev pub origin : History → ℕ → Pixel
 origin [] w = corner
 origin (e ∷ h) w = origin_after e.0 w (origin h w)
 
--- how many messages of a channel its owner took
+-- a message that the owner of a channel got is one more
 abbrev pub received_after : Call → Reply → ℕ → ℕ → ℕ
 received_after (Receive k) (Got m) c before = if c == k then suc before else before
 received_after call reply c before = before
 
+-- how many messages of a channel its owner took
 abbrev pub received : History → ℕ → ℕ
 received [] c = 0
 received (e ∷ h) c = received_after e.0 e.1 c (received h c)
 
--- the numbers of the messages of a channel with which its owner is done, the last first
+-- a finish that was done adds its number
 abbrev pub finished_after : Call → Reply → ℕ → List ℕ → List ℕ
 finished_after (Finish now k seq) Done c before = if c == k then seq ∷ before else before
 finished_after call reply c before = before
 
+-- the numbers of the messages of a channel with which its owner is done, the last first
 abbrev pub finished : History → ℕ → List ℕ
 finished [] c = []
 finished (e ∷ h) c = finished_after e.0 e.1 c (finished h c)

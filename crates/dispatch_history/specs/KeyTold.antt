@@ -30,12 +30,13 @@ keys_told (Some (KeyOfDevice k)) hears loses held =
     if k.down then (if hears then key_as_is k ∷ [] else []) else (if list_any (same_key k) held then key_as_is k ∷ [] else [])
 keys_told args hears loses held = map key_cancelled (if loses then held else filter (ends args) held)
 
--- the last key message that was told to any window: to which, what, and at which clock
+-- a key message that was told: to which window, what, and at which clock
 pub record LastKey : Type 0 where
   pub window : ℕ
   pub message : KeyMsg
   pub clock : ℕ
 
+-- the last key message among what a step told, or else the one before
 abbrev pub key_in : ℕ → List Told → Option LastKey → Option LastKey
 key_in now [] before = before
 key_in now (t ∷ ts) before = key_in now ts (key_of now t.channel t.body before)
@@ -44,6 +45,7 @@ key_in now (t ∷ ts) before = key_in now ts (key_of now t.channel t.body before
     key_of now w (Key m) before = Some (record { window = w; message = m; clock = now })
     key_of now w body before = before
 
+-- the last key message that was told to any window
 abbrev pub last_key : List Effect → Option LastKey
 last_key [] = None
 last_key (x ∷ before) = key_in (clock x.past) x.told (last_key before)
@@ -52,8 +54,8 @@ last_key (x ∷ before) = key_in (clock x.past) x.told (last_key before)
 abbrev pub repeat_delay : ℕ → ℕ
 repeat_delay repeat = if repeat == 0 then 500000 else 50000
 
--- The moment at which the last key message is to be repeated: where it is a down whose window still holds the key, and its
--- repeat number is not the greatest of its type.
+-- a key message is to be repeated where it is a down, its window still holds the key, and its repeat number is not the
+-- greatest of its type
 abbrev pub due_of : List Effect → Option LastKey → Option ℕ
 due_of es None = None
 due_of es (Some l) =
@@ -61,6 +63,7 @@ due_of es (Some l) =
     Some (l.clock + repeat_delay l.message.repeat)
     else None
 
+-- the moment at which the last key message is to be repeated, if it is to be
 abbrev pub repeat_due : List Effect → Option ℕ
 repeat_due es = due_of es (last_key es)
 

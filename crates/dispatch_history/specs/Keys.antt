@@ -12,10 +12,11 @@ use Rattle.dispatch_history.specs.Delivery.{able, names}
 abbrev pub same_key : KeyArgs → KeyArgs → Bool
 same_key k l = k.device == l.device && k.scan == l.scan
 
--- keys in rising order of device and scan code
+-- the order of keys: by device, and then by scan code
 abbrev pub is_before : KeyArgs → KeyArgs → Bool
 is_before k l = nat_lt k.device l.device || k.device == l.device && nat_lt k.scan l.scan
 
+-- a key put into its place among keys in rising order
 abbrev pub with_key : KeyArgs → List KeyArgs → List KeyArgs
 with_key k [] = k ∷ []
 with_key k (l ∷ ls) = if is_before k l then k ∷ l ∷ ls else l ∷ with_key k ls

@@ -45,14 +45,15 @@ UnresponsiveStep =
     → unresponsive (x ∷ before) c
     ≡ (names x.past c || unresponsive before c && not (finishes x.past c && not (has_late (x ∷ before) c)))
 
--- Rounds of the ordered run after which nothing is chosen are the ordered run; the ordered run has some number of rounds; and
--- there is only one.
+-- Rounds after which nothing is chosen are the ordered run.
 abbrev pub OrderedSound : Type 0
 OrderedSound = (plan : Plan) (n : ℕ) → chosen plan (ordered n plan) ≡ None → Ordered plan (ordered n plan)
 
+-- The ordered run has some number of rounds.
 abbrev pub OrderedComplete : Type 0
 OrderedComplete = (plan : Plan) (es : List Effect) → Ordered plan es → (n : ℕ) × (ordered n plan ≡ es)
 
+-- A plan has at most one ordered run.
 abbrev pub OrderedUnique : Type 0
 OrderedUnique = (plan : Plan) (es fs : List Effect) → Ordered plan es → Ordered plan fs → es ≡ fs
 

@@ -1,4 +1,4 @@
-pub mod Start
+pub mod Origin
 pub mod History
 pub mod Queue
 pub mod Effect

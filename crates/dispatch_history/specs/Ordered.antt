@@ -20,7 +20,7 @@ pub record Candidate : Type 0 where
   pub moment : ℕ
   pub calls : List Call
 
--- how many steps of scripts were made, and how many args were handed in
+-- a call that a script makes
 abbrev pub is_scripted : Call → ℕ
 is_scripted (Windows now snapshot) = 1
 is_scripted (FocusOn now channel) = 1
@@ -28,32 +28,37 @@ is_scripted (Pilfer now channel device) = 1
 is_scripted (Remove now channel) = 1
 is_scripted call = 0
 
+-- a call that hands in args
 abbrev pub is_notified : Call → ℕ
 is_notified (Notify now args) = 1
 is_notified call = 0
 
+-- how many steps of scripts were made
 abbrev pub scripted : History → ℕ
 scripted [] = 0
 scripted (e ∷ h) = is_scripted e.0 + scripted h
 
+-- how many args were handed in
 abbrev pub notified : History → ℕ
 notified [] = 0
 notified (e ∷ h) = is_notified e.0 + notified h
 
--- the clock after the receive of message k of a channel
+-- the receive of message k of a channel
 abbrev pub is_receive_of : Call → Reply → ℕ → ℕ → Bool
 is_receive_of (Receive c) (Got m) d k = c == d && m.seq == k
 is_receive_of call reply d k = false
 
+-- the clock after the receive of message k of a channel
 abbrev pub received_at : History → ℕ → ℕ → ℕ
 received_at [] c k = 0
 received_at (e ∷ h) c k = if is_receive_of e.0 e.1 c k then clock (e ∷ h) else received_at h c k
 
--- of two things with one moment the first one stays
+-- the sooner of two candidates; of one moment the first one stays
 abbrev pub sooner_of : Option Candidate → Candidate → Option Candidate
 sooner_of None c = Some c
 sooner_of (Some best) c = Some (if nat_lt c.moment best.moment then c else best)
 
+-- the soonest of some candidates, and of one moment the first of them
 abbrev pub soonest : List Candidate → Option Candidate
 soonest cs = fold sooner_of None cs
 
@@ -65,23 +70,27 @@ finishes_of h c p =
     (filter (λ k. not (is_finished h c k)) (channels (received h c)))
     else []
 
+-- those of all channels, from channel c on
 abbrev pub all_finishes : History → ℕ → List ChannelOf → List Candidate
 all_finishes h c [] = []
 all_finishes h c (p ∷ ps) = finishes_of h c p ++ all_finishes h (c + 1) ps
 
+-- a tick is due with the first due of the channels
 abbrev pub due_tick : Option Due → List Candidate
 due_tick None = []
 due_tick (Some d) = record { moment = d.moment; calls = Tick d.moment ∷ [] } ∷ []
 
--- a repeat is made only where no args wait
+-- a repeat is due at its moment, where no args wait
 abbrev pub due_repeat : Bool → Option ℕ → List Candidate
 due_repeat true (Some t) = record { moment = t; calls = Pump t ∷ [] } ∷ []
 due_repeat idle due = []
 
+-- the next step of a script is due at its moment
 abbrev pub next_step : Option ScriptStep → List Candidate
 next_step None = []
 next_step (Some s) = record { moment = moment_of s.call; calls = s.call ∷ [] } ∷ []
 
+-- the next args are due at their moment: they are handed in, and then dispatched
 abbrev pub next_cooked : Option Cooked → List Candidate
 next_cooked None = []
 next_cooked (Some a) = record { moment = a.moment; calls = Notify a.moment a.args ∷ Pump a.moment ∷ [] } ∷ []
@@ -109,16 +118,18 @@ abbrev pub extend : List Effect → List Call → List Effect
 extend es [] = es
 extend es (call ∷ calls) = extend (answered call es) calls
 
--- then each live channel receives all that is published
+-- the receives of all that is published on live channels, by rising channel
 abbrev pub receives : List Effect → List Call
 receives es =
     flat_map
     (λ c. if live (past_of es) c then replicate (published es c - received (past_of es) c) (Receive c) else [])
     (channels (opened (past_of es)))
 
+-- the effects after these receives
 abbrev pub received_all : List Effect → List Effect
 received_all es = extend es (receives es)
 
+-- one round: what is chosen is done, and then all that is published is received
 abbrev pub round : List Effect → Candidate → List Effect
 round es c = received_all (extend es c.calls)
 
@@ -135,11 +146,12 @@ pub data Rounds (plan : Plan) : List Effect → Type 0 where
 abbrev pub Ordered : Plan → List Effect → Type 0
 Ordered plan es = Rounds plan es × (chosen plan es ≡ None)
 
--- at most n rounds from some effects on
+-- no more rounds where nothing is chosen, and else one round and then more
 abbrev pub rounds_with : (List Effect → List Effect) → List Effect → Option Candidate → List Effect
 rounds_with more es None = es
 rounds_with more es (Some c) = more (round es c)
 
+-- at most n rounds
 abbrev pub rounds : ℕ → Plan → List Effect → List Effect
 rounds zero plan es = es
 rounds (suc n) plan es = rounds_with (λ later. rounds n plan later) es (chosen plan es)

@@ -50,11 +50,12 @@ abbrev pub IsDown : List Effect → PointerOf → Type 0
 IsDown es p =
     (at : StepAt es) × (length at.before ≡ p.place) × IsTrue (downs at.effect.args p.device p.id) × NoneUps at.later p.device p.id
 
--- the pointers of each motion that was handed in have rising ids
+-- the pointers of a motion that a call hands in have rising ids
 abbrev pub RisesIn : Call → Type 0
 RisesIn (Notify now (MotionArgs m)) = IsRising m.pointers
 RisesIn call = Unit {0}
 
+-- those of all motions that were handed in
 abbrev pub AllRise : History → Type 0
 AllRise [] = Unit {0}
 AllRise (e ∷ h) = RisesIn e.0 × AllRise h

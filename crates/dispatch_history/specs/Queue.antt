@@ -8,20 +8,22 @@ use Rattle.dispatch_calls.specs.declared.reply.Reply.{Reply}
 use Rattle.dispatch_calls.specs.declared.reply.Reply.TheVariants.{Taken, Dispatched}
 use Rattle.dispatch_history.specs.History.{History}
 
--- the args that were accepted, newest first
+-- args that are taken are one more
 abbrev pub accepted_after : Call → Reply → List Args → List Args
 accepted_after (Notify now args) Taken before = args ∷ before
 accepted_after call reply before = before
 
+-- the args that were accepted, newest first
 abbrev pub accepted : History → List Args
 accepted [] = []
 accepted (e ∷ h) = accepted_after e.0 e.1 (accepted h)
 
--- how many of them were dispatched
+-- a pump that dispatches takes one
 abbrev pub dispatches_after : Call → Reply → ℕ → ℕ
 dispatches_after (Pump now) Dispatched before = suc before
 dispatches_after call reply before = before
 
+-- how many args were dispatched
 abbrev pub dispatches : History → ℕ
 dispatches [] = 0
 dispatches (e ∷ h) = dispatches_after e.0 e.1 (dispatches h)

@@ -47,11 +47,12 @@ abbrev pub pump_reply : List Args → Option ℕ → ℕ → Reply
 pump_reply (a ∷ waiting) due now = Dispatched
 pump_reply [] due now = if is_due due now then Repeated else Idle
 
--- the next message of a live channel, where it is published
+-- the owner gets this message, where there is one
 abbrev pub got_reply : Option Message → Reply
 got_reply None = Empty
 got_reply (Some m) = Got m
 
+-- the owner of a live channel gets its next message, where that is published
 abbrev pub receive_reply : List Effect → ℕ → Reply
 receive_reply es c =
     let n = received (past_of es) c in

@@ -8,12 +8,13 @@ use Rattle.dispatch_history.specs.Effects.{effects}
 use Rattle.dispatch_history.specs.Delivery.{published}
 use Rattle.dispatch_history.specs.KeyTold.{repeat_due}
 
--- there is a tick with no pump after it
+-- a tick counts until the next pump
 abbrev pub ticked_after : Call → Bool → Bool
 ticked_after (Tick now) before = true
 ticked_after (Pump now) before = false
 ticked_after call before = before
 
+-- there is a tick with no pump after it
 abbrev pub ticked : History → Bool
 ticked [] = false
 ticked (e ∷ h) = ticked_after e.0 (ticked h)

@@ -23,11 +23,12 @@ marks es = map (λ x. x.mark) es
 abbrev pub is_earlier : List Pair → List Mark → (v w device : ℕ) → Bool
 is_earlier qs ms v w d = has_any qs v d && has_any qs w d && nat_lt (since ms v d) (since ms w d)
 
--- the moment after these steps, as the rules see it
+-- the moment after these steps, with their marks and the pairs that these leave
 abbrev pub scene_with : List Effect → List Mark → List Pair → Scene
 scene_with es ms qs =
     scene_of (snapshot (past_of es)) (live (past_of es)) (able es) qs (is_earlier qs ms) (pilfering ms) (last es)
 
+-- the moment after these steps, as the rules see it
 abbrev pub scene : List Effect → Scene
 scene es = let ms = marks es in scene_with es ms (held ms)
 

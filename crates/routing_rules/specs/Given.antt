@@ -24,6 +24,7 @@ abbrev pub slips_in : ℕ → ℕ → Option Slip → List Pair
 slips_in d i None = []
 slips_in d i (Some x) = record { window = x.to; device = d; id = i } ∷ []
 
+-- and it is taken from the other
 abbrev pub slips_out : ℕ → ℕ → Option Slip → Taking
 slips_out d i None = Nothing
 slips_out d i (Some x) = Slipped x.from d i

@@ -19,6 +19,7 @@ HoldsStep =
 abbrev pub HeldLaw : Type 0
 HeldLaw = (ms : List Mark) (w d i : ℕ) → IsTrue (has (held ms) w d i) ↔ Holds ms w d i
 
+-- So is holding something of a device.
 abbrev pub HeldAnyLaw : Type 0
 HeldAnyLaw = (ms : List Mark) (w d : ℕ) → IsTrue (has_any (held ms) w d) ↔ HoldsAny ms w d
 

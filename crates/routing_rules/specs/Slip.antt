@@ -33,5 +33,6 @@ abbrev pub slip_of : Scene → ℕ → MotionAction → Option Pointer → Optio
 slip_of s d Move (Some p) = slips_to s (only (holders_of s d p.id)) (touched s.windows s.live p.at.x p.at.y)
 slip_of s d _ _ = None
 
+-- what slips at a motion
 abbrev pub slip : Scene → Motion → Option Slip
 slip s m = slip_of s m.device m.action (only m.pointers)

@@ -108,6 +108,7 @@ told_with s (Removes v) k w d = []
 told_with s Rests k w d = []
 told_with s _ k w d = cancels d (s.last d) (s.holds w d) (after s k w d)
 
+-- what window w is told of device d at a step
 abbrev pub told : Scene → Step → ℕ → ℕ → List Motion
 told s e w d = told_with s e (mark s e) w d
 

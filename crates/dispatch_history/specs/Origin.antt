@@ -6,6 +6,7 @@ use Rattle.input_types.specs.declared.axis.Pixel.{Pixel}
 abbrev pub corner : Pixel
 corner = record { x = pos 0; y = pos 0 }
 
+-- an origin, or else the one before
 abbrev pub or_origin : Option Pixel → Pixel → Pixel
 or_origin None before = before
 or_origin (Some p) before = p
