@@ -1,10 +1,10 @@
 -- Worked examples: pilfering spies, windows that go, removed channels, and a device that begins anew.
-use Rattle.std.specs.Prelude.{◌≡◌, false, List, [], ◌∷◌, ◌++◌, refl}
+use Rattle.std.specs.Prelude.{◌≡◌, false, List, [], ◌∷◌, ◌++◌, replicate, drop, refl}
 use Rattle.input_types.specs.declared.message.Args.TheVariants.{Motion as MotionArgs, Reset}
 use Rattle.input_types.specs.declared.motion.MotionAction.TheVariants.{Down, Up, Move, Cancel, PointerDown, PointerUp}
 use Rattle.dispatch_calls.specs.declared.call.Call.{Call}
 use Rattle.dispatch_calls.specs.declared.call.Call.TheVariants.{Open, Windows, Notify, Pump, Receive, Finish, Pilfer, Remove}
-use Rattle.dispatch_calls.specs.declared.reply.Reply.TheVariants.{Opened, Done, Taken, Inconsistent, Dispatched, Gone, NotSpy, NothingHeld}
+use Rattle.dispatch_calls.specs.declared.reply.Reply.TheVariants.{Opened, Full, Done, Taken, Inconsistent, Dispatched, Gone, NotSpy, NothingHeld}
 use Rattle.dispatch_history.proofs.Worked.{window, window_of, rectangle, at, motion, cancelled, moved, says, open_two, stream_of, replies_of}
 
 -- Channel 1 is a spy over the upper half of channel 2 (16 is SPY). One finger goes down under the spy, one below it; the spy pilfers;
@@ -95,3 +95,10 @@ a_reset_cancels_all = refl
 
 an_up_after_a_reset_is_refused : replies_of reset ≡ Opened 1 ∷ Done ∷ Taken ∷ Dispatched ∷ Taken ∷ Dispatched ∷ Taken ∷ Dispatched ∷ Inconsistent 0 false ∷ []
 an_up_after_a_reset_is_refused = refl
+
+-- 64 channels are opened, and one of them is removed: its number is not given again.
+abbrev sixty_four : List Call
+sixty_four = replicate 64 (Open 5000000) ++ Remove 0 1 ∷ Open 5000000 ∷ []
+
+no_65th_channel : drop 63 (replies_of sixty_four) ≡ Opened 64 ∷ Done ∷ Full ∷ []
+no_65th_channel = refl

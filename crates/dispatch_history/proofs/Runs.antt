@@ -9,7 +9,7 @@ use Rattle.dispatch_calls.specs.declared.call.Call.{Call}
 use Rattle.dispatch_calls.specs.declared.call.Call.TheVariants.{Windows, FocusOn}
 use Rattle.dispatch_history.specs.Effect.{Effect, stream, past_of}
 use Rattle.dispatch_history.specs.History.{received, finished}
-use Rattle.dispatch_history.specs.Due.{namings}
+use Rattle.dispatch_history.specs.Due.{namings, counts}
 use Rattle.dispatch_history.specs.Plan.{Plan, ChannelOf, ScriptStep, Cooked, Line, ReaderLine, ScriptLine, PumpLine, ReceiveLine, FinishLine}
 use Rattle.dispatch_history.specs.Given.{given}
 use Rattle.dispatch_history.specs.Ordered.{ordered, chosen, extend}
@@ -92,8 +92,9 @@ a_run_with_a_window_that_never_finishes :
     ≡ says 1 1000000 (motion Down 0 (at 0 540 1200 ∷ [])) ∷ says 2 6000000 (motion Cancel 0 (at 0 540 1200 ∷ [])) ∷ []
 a_run_with_a_window_that_never_finishes = refl
 
-it_receives_both : received (past_of (ordered 9 unresponsive)) 1 ≡ 2
-it_receives_both = refl
+it_receives_both_and_finishes_none :
+    counts (ordered 9 unresponsive) 1 ≡ Some (record { sent = 2; received = 2; finished = 0; published = 2; live = true })
+it_receives_both_and_finishes_none = refl
 
 it_is_named_once : namings (ordered 9 unresponsive) ≡ record { clock = 6000000; channel = 1; seq = 1 } ∷ []
 it_is_named_once = refl

@@ -8,7 +8,7 @@ use Rattle.dispatch_history.specs.Queue.{accepted, inbound}
 use Rattle.dispatch_history.specs.PointerOf.{PointerOf, IsDown, AllRise}
 use Rattle.dispatch_history.specs.Effect.{Effect, past_of, stream, dispatched, told_on}
 use Rattle.dispatch_history.specs.Effects.{effects, said_at}
-use Rattle.dispatch_history.specs.Delivery.{unresponsive, names, finishes, has_late}
+use Rattle.dispatch_history.specs.Delivery.{able, unresponsive, names, finishes, has_late}
 use Rattle.dispatch_history.specs.Legal.{Legal, reply, calls_of, run, replay}
 use Rattle.dispatch_history.specs.Plan.{Plan}
 use Rattle.dispatch_history.specs.Ordered.{Ordered, ordered, chosen}
@@ -44,6 +44,14 @@ UnresponsiveStep =
     (x : Effect) (before : List Effect) (c : ℕ)
     → unresponsive (x ∷ before) c
     ≡ (names x.past c || unresponsive before c && not (finishes x.past c && not (has_late (x ∷ before) c)))
+
+-- A channel that was able stays so, unless the step names or removes it; and one that is able after a step that is no opening and no
+-- finish of it was able before.
+abbrev pub AbleStep : Type 0
+AbleStep =
+    (x : Effect) (before : List Effect) (c : ℕ)
+    → (unresponsive before c ≡ false → able (x ∷ before) c ≡ (live x.past c && not (names x.past c)))
+    × (finishes x.past c ≡ false → able (x ∷ before) c ≡ (live x.past c && not (names x.past c || unresponsive before c)))
 
 -- Rounds after which nothing is chosen are the ordered run.
 abbrev pub OrderedSound : Type 0

@@ -1,5 +1,5 @@
 //! What is proved of histories. Each function has the laws as its clauses, and does nothing.
-ghost use Rattle.dispatch_history.specs.Laws.{LegalLast, LegalMore, LegalUnique, ReplayLaw, LegalReplay, EffectsLaw, UnresponsiveStep, OrderedSound, OrderedComplete, OrderedUnique, QueueLaw, DeviceLaw, LiveLaw, StreamStep, SilentLaw, OnePointer};
+ghost use Rattle.dispatch_history.specs.Laws.{LegalLast, LegalMore, LegalUnique, ReplayLaw, LegalReplay, EffectsLaw, UnresponsiveStep, AbleStep, OrderedSound, OrderedComplete, OrderedUnique, QueueLaw, DeviceLaw, LiveLaw, StreamStep, SilentLaw, OnePointer};
 
 /// A list of calls has exactly one legal history, its replay, and each step of it was answered as the history before it says.
 pub fn legality()
@@ -29,9 +29,10 @@ pub fn pointing()
     ensures { OnePointer }
 {}
 
-/// Who is unresponsive after a step.
+/// Who is unresponsive, and who is able to take input, after a step.
 pub fn responding()
-    ensures { UnresponsiveStep }
+    ensures unresponsive { UnresponsiveStep }
+    ensures able { AbleStep }
 {}
 
 /// A plan has at most one ordered run, and the function that makes it round by round, up to any number of rounds, finds it.
