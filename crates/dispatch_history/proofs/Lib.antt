@@ -10,3 +10,6 @@ pub mod AbleLaws
 pub mod QueueLaws
 pub mod StreamLaws
 pub mod PointerLaws
+pub mod FitLaws
+pub mod HolderLaws
+pub mod MotionLaws

@@ -53,7 +53,7 @@ stays_in (q ∷ ps) (suc k) i p e n h =
     ]
 
 -- the pointers of each of these motions have rising ids
-abbrev RiseAll : List Args → Type 0
+abbrev pub RiseAll : List Args → Type 0
 RiseAll [] = Unit {0}
 RiseAll (MotionArgs m ∷ rest) = IsRising m.pointers × RiseAll rest
 RiseAll (a ∷ rest) = RiseAll rest
@@ -219,7 +219,7 @@ rise_accepted now (Key k) Taken acc r old = old
 rise_accepted now (Reset d) Taken acc r old = old
 rise_accepted now a _ acc r old = old
 
-all_rise : (h : History) → AllRise h → RiseAll (accepted h)
+pub all_rise : (h : History) → AllRise h → RiseAll (accepted h)
 all_rise [] r = tt
 all_rise ((Notify now a, answer) ∷ h) r = rise_accepted now a answer (accepted h) r.0 (all_rise h r.1)
 all_rise ((Pump now, answer) ∷ h) r = all_rise h r.1
@@ -232,7 +232,7 @@ all_rise ((Finish now channel seq, answer) ∷ h) r = all_rise h r.1
 all_rise ((Pilfer now channel device, answer) ∷ h) r = all_rise h r.1
 all_rise ((Remove now channel, answer) ∷ h) r = all_rise h r.1
 
-rise_older : (xs ys : List Args) → RiseAll (xs ++ ys) → RiseAll ys
+pub rise_older : (xs ys : List Args) → RiseAll (xs ++ ys) → RiseAll ys
 rise_older [] ys r = r
 rise_older (MotionArgs m ∷ xs) ys r = rise_older xs ys r.1
 rise_older (Key k ∷ xs) ys r = rise_older xs ys r

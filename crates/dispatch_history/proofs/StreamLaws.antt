@@ -93,7 +93,7 @@ opened_live n k c answer limit before r old l =
       | inr e ↦ subst (λ a. live_after (Open limit) a c before ≡ true → (1 ≤ c) × (c ≤ opened_after (Open limit) a n)) (sym e) old l
     ]
 
-removed_live : (now k c : ℕ) (answer : Reply) (before : Bool) → live_after (Remove now k) answer c before ≡ true → before ≡ true
+pub removed_live : (now k c : ℕ) (answer : Reply) (before : Bool) → live_after (Remove now k) answer c before ≡ true → before ≡ true
 removed_live now k c Done before e = (and_parts (not (c == k)) before e).1
 removed_live now k c _ before e = e
 

@@ -4,7 +4,7 @@ use Rattle.std.specs.List.{list_any}
 use Rattle.input_types.specs.declared.message.Message.{Message}
 use Rattle.window_snapshot.specs.Mask.{mask_has}
 use Rattle.dispatch_calls.specs.declared.call.Call.{Call}
-use Rattle.dispatch_calls.specs.declared.call.Call.TheVariants.{Finish}
+use Rattle.dispatch_calls.specs.declared.call.Call.TheVariants.{Tick, Finish}
 use Rattle.dispatch_calls.specs.declared.reply.Reply.{Reply}
 use Rattle.dispatch_calls.specs.declared.reply.Reply.TheVariants.{Named, Done}
 use Rattle.dispatch_history.specs.History.{History, clock, live, limit_of, finished}
@@ -35,10 +35,10 @@ is_late es c now m = nat_le (delivery es c m.seq + limit_of (past_of es) c) now
 abbrev pub has_late : List Effect → ℕ → Bool
 has_late es c = list_any (is_late es c (clock (past_of es))) (unfinished es c)
 
--- a reply that names the channel unresponsive
-abbrev pub is_named_by : Reply → ℕ → Bool
-is_named_by (Named mask) c = mask_has mask c
-is_named_by reply c = false
+-- a tick that names the channel unresponsive
+abbrev pub is_named_by : Call → Reply → ℕ → Bool
+is_named_by (Tick now) (Named mask) c = mask_has mask c
+is_named_by call reply c = false
 
 -- a finish of a message of the channel that was done
 abbrev pub is_finish_of : Call → Reply → ℕ → Bool
@@ -48,7 +48,7 @@ is_finish_of call reply c = false
 -- the last step of a history names the channel unresponsive
 abbrev pub names : History → ℕ → Bool
 names [] c = false
-names (e ∷ h) c = is_named_by e.1 c
+names (e ∷ h) c = is_named_by e.0 e.1 c
 
 -- the last step of a history finishes a message of the channel
 abbrev pub finishes : History → ℕ → Bool

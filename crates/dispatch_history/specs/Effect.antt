@@ -1,8 +1,11 @@
 -- What a step did. The effects of a history stand beside its steps, newest first.
-use Rattle.std.specs.Prelude.{ℕ, ◌+◌, ◌==◌, if◌then◌else◌, length, List, [], ◌∷◌, map, filter, Option, Some, None}
+use Rattle.std.specs.Prelude.{ℕ, ◌+◌, ◌==◌, if◌then◌else◌, length, List, [], ◌∷◌, map, filter, Option, Some, None, option_and_then, unwrap_or}
 use Rattle.input_types.specs.declared.message.Args.{Args}
 use Rattle.input_types.specs.declared.message.Args.TheVariants.{Motion as MotionArgs}
 use Rattle.input_types.specs.declared.message.Body.{Body}
+use Rattle.input_types.specs.declared.message.Body.TheVariants.{Motion as MotionBody}
+use Rattle.input_types.specs.DeviceRule.{device_state, nothing_down}
+use Rattle.input_types.specs.Gestures.{after_motion}
 use Rattle.input_types.specs.declared.message.Message.{Message}
 use Rattle.input_types.specs.declared.pointer.Pointer.{Pointer}
 use Rattle.routing_rules.specs.Marks.{Mark}
@@ -62,3 +65,17 @@ last_after args d before = before
 abbrev pub last : List Effect → ℕ → List Pointer
 last [] d = []
 last (x ∷ before) d = last_after x.args d (last before d)
+
+-- the ids that are down on a device by the args that were dispatched
+abbrev pub down_ids : List Effect → ℕ → List ℕ
+down_ids es d = (unwrap_or (device_state d (dispatched es)) nothing_down).ids
+
+-- what a message does to the ids of a device that are known to be down, where it may come
+abbrev pub ids_after : ℕ → Body → Option (List ℕ) → Option (List ℕ)
+ids_after d (MotionBody m) ids = if m.device == d then option_and_then (λ down. after_motion down m) ids else ids
+ids_after d body ids = ids
+
+-- the ids of a device that the owner of a channel knows to be down after its messages, where each of its motions may come
+abbrev pub told_down : ℕ → List Message → Option (List ℕ)
+told_down d [] = Some []
+told_down d (m ∷ past) = ids_after d m.body (told_down d past)

@@ -1,14 +1,19 @@
 -- What is proved of histories. Each law is the clause of a function of its own.
-use Rattle.std.specs.Prelude.{ℕ, ◌≡◌, ◌≤◌, IsTrue, is_some, reverse, ◌++◌, true, false, not, ◌&&◌, ◌||◌, List, ◌∷◌, None}
+use Rattle.std.specs.Prelude.{ℕ, ◌==◌, filter, Some, ◌≡◌, ◌≤◌, IsTrue, is_some, reverse, ◌++◌, true, false, not, ◌&&◌, ◌||◌, List, ◌∷◌, None}
+use Rattle.std.specs.List.{list_any}
+use Rattle.window_snapshot.specs.Named.{is_named}
 use Rattle.dispatch_calls.specs.declared.call.Call.{Call}
 use Rattle.dispatch_calls.specs.declared.reply.Reply.{Reply}
 use Rattle.input_types.specs.DeviceRule.{device_state}
-use Rattle.dispatch_history.specs.History.{History, clock, live, opened}
+use Rattle.dispatch_history.specs.History.{History, clock, live, opened, snapshot}
 use Rattle.dispatch_history.specs.Queue.{accepted, inbound}
 use Rattle.dispatch_history.specs.PointerOf.{PointerOf, IsDown, AllRise}
-use Rattle.dispatch_history.specs.Effect.{Effect, past_of, stream, dispatched, told_on}
+use Rattle.dispatch_history.specs.Effect.{Effect, past_of, stream, dispatched, told_on, told_down, down_ids}
 use Rattle.dispatch_history.specs.Effects.{effects, said_at}
 use Rattle.dispatch_history.specs.Delivery.{able, unresponsive, names, finishes, has_late}
+use Rattle.dispatch_history.specs.Step.{scene}
+use Rattle.routing_rules.specs.Fits.{Fits}
+use Rattle.routing_rules.specs.Told.{devices}
 use Rattle.dispatch_history.specs.Legal.{Legal, reply, calls_of, run, replay}
 use Rattle.dispatch_history.specs.Plan.{Plan}
 use Rattle.dispatch_history.specs.Ordered.{Ordered, ordered, chosen}
@@ -97,3 +102,25 @@ abbrev pub OnePointer : Type 0
 OnePointer =
     (h : History) (p q : PointerOf)
     → Legal h → AllRise h → IsDown (effects h) p → IsDown (effects h) q → p.device ≡ q.device → p.id ≡ q.id → p ≡ q
+
+-- Every window that holds a pointer is able, and so live, and the snapshot names it.
+abbrev pub HolderLaw : Type 0
+HolderLaw =
+    (h : History) (w d i : ℕ) → (scene (effects h)).holds w d i ≡ true → (able (effects h) w ≡ true) × (is_named (snapshot h) w ≡ true)
+
+-- In a legal history whose motions have rising ids, each moment fits the ids that are down: windows hold only ids that are down, and
+-- the last motion of a device lists all that are held.
+abbrev pub FitLaw : Type 0
+FitLaw = (h : History) (d : ℕ) → Legal h → AllRise h → Fits (scene (effects h)) d (down_ids (effects h) d)
+
+-- The motions of each device in the stream of a live channel come one after the other as the rule of streams says, and leave down just
+-- the ids that its window holds.
+abbrev pub MotionsLaw : Type 0
+MotionsLaw =
+    (h : History) (w d : ℕ)
+    → Legal h → AllRise h → live h w ≡ true → list_any (λ e. e == d) devices ≡ true
+    → told_down d (stream (effects h) w) ≡ Some (filter ((scene (effects h)).holds w d) (down_ids (effects h) d))
+
+-- So do those of a channel that is not live any more.
+abbrev pub MotionsComeLaw : Type 0
+MotionsComeLaw = (h : History) (w d : ℕ) → Legal h → AllRise h → IsTrue (is_some (told_down d (stream (effects h) w)))

@@ -1,5 +1,5 @@
 //! What is proved of histories. Each function has the laws as its clauses, and does nothing.
-ghost use Rattle.dispatch_history.specs.Laws.{LegalLast, LegalMore, LegalUnique, ReplayLaw, LegalReplay, EffectsLaw, UnresponsiveStep, AbleStep, OrderedSound, OrderedComplete, OrderedUnique, QueueLaw, DeviceLaw, LiveLaw, StreamStep, SilentLaw, OnePointer};
+ghost use Rattle.dispatch_history.specs.Laws.{LegalLast, LegalMore, LegalUnique, ReplayLaw, LegalReplay, EffectsLaw, UnresponsiveStep, AbleStep, OrderedSound, OrderedComplete, OrderedUnique, QueueLaw, DeviceLaw, LiveLaw, StreamStep, SilentLaw, OnePointer, HolderLaw, FitLaw, MotionsLaw, MotionsComeLaw};
 
 /// A list of calls has exactly one legal history, its replay, and each step of it was answered as the history before it says.
 pub fn legality()
@@ -27,6 +27,19 @@ pub fn streaming()
 /// At each moment an id that is down on a device is one pointer.
 pub fn pointing()
     ensures { OnePointer }
+{}
+
+/// Windows that hold something are able and shown; and at each moment what they hold is down, and listed by the last motion.
+pub fn holding()
+    ensures holders { HolderLaw }
+    ensures fits { FitLaw }
+{}
+
+/// The motions of each device in a stream come one after the other as the rule of streams says, and leave down just the ids that the
+/// window holds.
+pub fn gestures()
+    ensures live { MotionsLaw }
+    ensures each { MotionsComeLaw }
 {}
 
 /// Who is unresponsive, and who is able to take input, after a step.

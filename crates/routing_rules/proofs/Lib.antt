@@ -9,3 +9,4 @@ pub mod ToldMotion
 pub mod Changes
 pub mod MotionKind
 pub mod ToldLaws
+pub mod FitsLaws

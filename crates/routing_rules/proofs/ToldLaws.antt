@@ -19,7 +19,7 @@ use Rattle.routing_rules.proofs.ToldRows.{cancels_fit, moves_fit, or_else_fits}
 use Rattle.routing_rules.proofs.ToldMotion.{Shape, told_motion_fits}
 use Rattle.routing_rules.proofs.Changes.{other_way, after_apart, after_none, after_up}
 
-not_gained : (x y : Bool) → (x && not y) ≡ false → y ≡ false → x ≡ false
+pub not_gained : (x y : Bool) → (x && not y) ≡ false → y ≡ false → x ≡ false
 not_gained x y n e = sym (and_true x) ∙ ap (λ c. x && not c) (sym e) ∙ n
   where
     and_true : (c : Bool) → (c && true) ≡ c
@@ -27,12 +27,12 @@ not_gained x y n e = sym (and_true x) ∙ ap (λ c. x && not c) (sym e) ∙ n
     and_true false = refl
 
 -- how two sets lie in a motion, the first in what was down before it and the second in what is down next
-record Lies (m : Motion) (p : Pointer) (b l : ℕ → Bool) (down next : List ℕ) : Type 0 where
-  before_is : filter b down ≡ ids_of (listing b m.pointers)
-  later_is : filter l next ≡ ids_of (listing l m.pointers)
-  kept_is : (l p.id && not (b p.id)) ≡ false → filter l down ≡ filter l next
+pub record Lies (m : Motion) (p : Pointer) (b l : ℕ → Bool) (down next : List ℕ) : Type 0 where
+  pub before_is : filter b down ≡ ids_of (listing b m.pointers)
+  pub later_is : filter l next ≡ ids_of (listing l m.pointers)
+  pub kept_is : (l p.id && not (b p.id)) ≡ false → filter l down ≡ filter l next
 
-lies : (m : Motion) (p : Pointer) (b l : ℕ → Bool) (down next : List ℕ) → changed m ≡ Some p
+pub lies : (m : Motion) (p : Pointer) (b l : ℕ → Bool) (down next : List ℕ) → changed m ≡ Some p
     → (remove (ids_of m.pointers) m.index ≡ down → b p.id ≡ false) → (is_up m.action ≡ true → l p.id ≡ false)
     → Kind m down next → Lies m p b l down next
 lies m p b l down next c fresh gone (opens q d e g) =
@@ -57,7 +57,7 @@ lies m p b l down next c fresh gone (closes q d e g u) =
     }
 
 -- a pointer that goes down was held by nobody
-fresh_id : (s : Scene) (m : Motion) (p : Pointer) (w : ℕ) (down : List ℕ) → Fits s m.device down → Apart m.pointers → changed m ≡ Some p
+pub fresh_id : (s : Scene) (m : Motion) (p : Pointer) (w : ℕ) (down : List ℕ) → Fits s m.device down → Apart m.pointers → changed m ≡ Some p
     → remove (ids_of m.pointers) m.index ≡ down → s.holds w m.device p.id ≡ false
 fresh_id s m p w down f a c e =
     elim (cases_Bool (s.holds w m.device p.id)) [
@@ -147,7 +147,7 @@ unchanged b l down next same e =
     ap Some (sym (filter_agree l b same down) ∙ ap (filter l) q)
 
 -- a motion of another device changes nothing of this one
-other_motion : (s : Scene) (m : Motion) (w d : ℕ) → (m.device == d) ≡ false → (o : Option Pointer) → changed m ≡ o → (j : ℕ)
+pub other_motion : (s : Scene) (m : Motion) (w d : ℕ) → (m.device == d) ≡ false → (o : Option Pointer) → changed m ≡ o → (j : ℕ)
     → after s (mark s (Moves m)) w d j ≡ s.holds w d j
 other_motion s m w d n None c j = after_none s m c w d j
 other_motion s m w d n (Some p) c j = after_apart s m p c w d j (inl n)
@@ -167,7 +167,7 @@ any_motion s m w d down next f r true t e =
     ≡ Some (filter (after s (mark s (Moves m)) w x) next))
     q (λ g. own_motion s m w down next g r e) f
 
-filter_none : (l : ℕ → Bool) (xs : List ℕ) → ((j : ℕ) → l j ≡ false) → filter l xs ≡ []
+pub filter_none : (l : ℕ → Bool) (xs : List ℕ) → ((j : ℕ) → l j ≡ false) → filter l xs ≡ []
 filter_none l [] none = refl
 filter_none l (x ∷ xs) none = rw (none x) (filter_none l xs none)
 
@@ -183,7 +183,7 @@ reset_leaves b e d down next false t q = let z : down ≡ next = cc in ap (filte
 same_down : (l : ℕ → Bool) (down next : List ℕ) → Some down ≡ Some next → Some (filter l down) ≡ Some (filter l next)
 same_down l down next e = let q : down ≡ next = cc in ap (λ ids. Some (filter l ids)) q
 
-and_not : (b c : Bool) → c ≡ false → (b && not c) ≡ b
+pub and_not : (b c : Bool) → c ≡ false → (b && not c) ≡ b
 and_not b c e = ap (λ x. b && not x) e ∙ and_true b
   where
     and_true : (x : Bool) → (x && true) ≡ x

@@ -3,6 +3,7 @@ use Rattle.std.specs.Prelude.{ℕ, Bool, true, false, ◌==◌, ◌&&◌, ◌≡
 use Rattle.std.specs.List.{list_any}
 use Rattle.std.specs.Option.{option_and_then}
 use Rattle.input_types.specs.declared.motion.Motion.{Motion}
+use Rattle.input_types.specs.declared.pointer.Pointer.{Pointer}
 use Rattle.input_types.specs.DeviceRule.{is_of_device}
 use Rattle.input_types.specs.Gestures.{after_motion, ids_of}
 use Rattle.input_types.specs.Pointers.{IsRising}
@@ -41,3 +42,8 @@ pub record Fits (s : Scene) (d : ℕ) (down : List ℕ) : Type 0 where
 abbrev pub is_motion_of : Step → ℕ → Bool
 is_motion_of (Moves m) d = m.device == d
 is_motion_of e d = false
+
+-- the pointers of a device at their last places, after a step
+abbrev pub last_then : Step → ℕ → List Pointer → List Pointer
+last_then (Moves m) d last = if m.device == d then m.pointers else last
+last_then e d last = last

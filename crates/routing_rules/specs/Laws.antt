@@ -6,7 +6,7 @@ use Rattle.routing_rules.specs.Marks.{Mark, held, since, pilfering}
 use Rattle.routing_rules.specs.Scene.{Scene, Step}
 use Rattle.routing_rules.specs.Given.{taken, mark}
 use Rattle.routing_rules.specs.Told.{after, told}
-use Rattle.routing_rules.specs.Fits.{Fits, Rises, Leaves, down_after, told_ids, is_motion_of}
+use Rattle.routing_rules.specs.Fits.{Fits, Rises, Leaves, down_after, told_ids, is_motion_of, last_then}
 use Rattle.routing_rules.specs.Places.{Holds, HoldsAny, Begins, IsSince, IsPilfering}
 
 -- After a step a window holds a pointer exactly where the step gives it, or it held it before and the step does not take it.
@@ -65,3 +65,12 @@ abbrev pub QuietLaw : Type 0
 QuietLaw =
     (s : Scene) (e : Step) (w d : ℕ)
     → is_motion_of e d ≡ false → ((i : ℕ) → takes (taken s e) w d i ≡ false) → told s e w d ≡ []
+
+-- A scene that fits what is down on a device is followed by one that does: windows hold in it what they hold after the step, and the
+-- last places are those after the step.
+abbrev pub FitsStep : Type 0
+FitsStep =
+    (s t : Scene) (e : Step) (d : ℕ) (down next : List ℕ)
+    → Fits s d down → Rises e → down_after e d down ≡ Some next
+    → ((w i : ℕ) → t.holds w d i ≡ after s (mark s e) w d i) → t.last d ≡ last_then e d (s.last d)
+    → Fits t d next

@@ -1,5 +1,5 @@
 //! What is proved of who holds what, and of what windows are told. Each function has the laws as its clauses, and does nothing.
-ghost use Rattle.routing_rules.specs.Laws.{HoldsStep, HeldStep, HeldLaw, HeldAnyLaw, SinceStep, SinceLaw, PilferingStep, PilferingLaw, ToldLaw, QuietLaw};
+ghost use Rattle.routing_rules.specs.Laws.{HoldsStep, HeldStep, HeldLaw, HeldAnyLaw, SinceStep, SinceLaw, PilferingStep, PilferingLaw, ToldLaw, QuietLaw, FitsStep};
 
 /// Who holds a pointer: some step gave it, and no later one took it. The list of pairs that is computed step by step tells
 /// exactly this.
@@ -29,4 +29,5 @@ pub fn pilfering()
 pub fn telling()
     ensures fits { ToldLaw }
     ensures quiet { QuietLaw }
+    ensures next { FitsStep }
 {}
