@@ -1,14 +1,13 @@
 -- Each moment of a legal history fits the ids that are down.
-use Rattle.std.proofs.Common.{◌≡◌, ℕ, ◌==◌, ◌&&◌, ◌||◌, Bool, true, false, not, cond, IsTrue, is_some, List, [], ◌∷◌, ◌++◌, map, reverse, option_and_then, option_map, unwrap_or, Option, Some, None, refl, sym, ap, ◌∙◌, subst}
+use Rattle.std.proofs.Common.{◌≡◌, ℕ, ◌==◌, ◌&&◌, ◌||◌, Bool, true, false, not, cond, is_some, List, [], ◌∷◌, reverse, option_and_then, option_map, unwrap_or, Option, Some, None, refl, sym, ◌∙◌, subst}
 use Rattle.std.proofs.lemmas.Bool.{true≢false}
 use Rattle.input_types.specs.declared.message.Args.{Args}
 use Rattle.input_types.specs.declared.message.Args.TheVariants.{Motion as MotionArgs, Key, Reset}
 use Rattle.input_types.specs.declared.key.KeyArgs.{KeyArgs}
 use Rattle.input_types.specs.declared.motion.Motion.{Motion}
 use Rattle.input_types.specs.declared.pointer.Pointer.{Pointer}
-use Rattle.input_types.specs.DeviceRule.{DeviceState, after_args, device_of, device_state, nothing_down, is_of_device, with_key}
+use Rattle.input_types.specs.DeviceRule.{DeviceState, after_args, device_state, nothing_down, is_of_device, with_key}
 use Rattle.input_types.specs.Gestures.{after_motion, allowed, differ}
-use Rattle.input_types.specs.Pointers.{IsRising}
 use Rattle.dispatch_calls.specs.declared.call.Call.{Call}
 use Rattle.dispatch_calls.specs.declared.call.Call.TheVariants.{Open, Windows, FocusOn, Notify, Pump, Tick, Receive, Finish, Pilfer, Remove}
 use Rattle.dispatch_calls.specs.declared.reply.Reply.{Reply}
@@ -16,14 +15,13 @@ use Rattle.dispatch_calls.specs.declared.reply.Reply.TheVariants.{Named, Done}
 use Rattle.routing_rules.specs.Pairs.{has}
 use Rattle.routing_rules.specs.Taking.{takes}
 use Rattle.routing_rules.specs.Marks.{Mark, held}
-use Rattle.routing_rules.specs.Scene.{Scene, Step, Rests}
+use Rattle.routing_rules.specs.Scene.{Step, Rests}
 use Rattle.routing_rules.specs.Given.{mark}
-use Rattle.routing_rules.specs.Told.{after}
 use Rattle.routing_rules.specs.Fits.{Fits, Rises, down_after, last_then}
 use Rattle.routing_rules.proofs.HoldingLaws.{held_step}
 use Rattle.routing_rules.proofs.FitsLaws.{fits_step}
 use Rattle.dispatch_history.specs.History.{History}
-use Rattle.dispatch_history.specs.Queue.{inbound, args_of, accepted}
+use Rattle.dispatch_history.specs.Queue.{inbound, args_of}
 use Rattle.dispatch_history.specs.Effect.{Effect, past_of, dispatched, with_args, last, last_after, down_ids}
 use Rattle.dispatch_history.specs.Effects.{effects, effect_of}
 use Rattle.dispatch_history.specs.Step.{marks, scene, step_of}

@@ -1,7 +1,7 @@
 -- Every window that holds a pointer is able, and the snapshot names it.
-use Rattle.std.proofs.Common.{◌≡◌, ℕ, ℤ, ◌==◌, ◌&&◌, ◌||◌, ◌⊎◌, Bool, true, false, not, cond, List, [], ◌∷◌, map, filter, find, option_map, Option, Some, None, refl, sym, ap, ap₂, ◌∙◌, subst, inl, inr}
+use Rattle.std.proofs.Common.{◌≡◌, ℕ, ◌==◌, ◌&&◌, ◌||◌, ◌⊎◌, Bool, true, false, not, cond, List, [], ◌∷◌, map, filter, find, option_map, Option, Some, None, refl, sym, ap, ◌∙◌, subst, inl, inr}
 use Rattle.std.specs.List.{list_any}
-use Rattle.std.proofs.lemmas.Bool.{and_parts, and_from, or_cases, or_left, or_right, cases_Bool, both_ways, true≢false, not-true, not-false, eqb-true, eq-eqb}
+use Rattle.std.proofs.lemmas.Bool.{and_parts, and_from, or_cases, or_left, or_right, both_ways, true≢false, not-true, not-false, eqb-true, eq-eqb}
 use Rattle.input_types.specs.declared.message.Args.{Args}
 use Rattle.input_types.specs.declared.message.Args.TheVariants.{Motion as MotionArgs, Key, Reset}
 use Rattle.input_types.specs.declared.motion.Motion.{Motion}
@@ -12,14 +12,13 @@ use Rattle.window_snapshot.specs.declared.window.Window.{Window}
 use Rattle.window_snapshot.specs.Named.{is_named}
 use Rattle.window_snapshot.specs.Hits.{touched, takes_touch}
 use Rattle.window_snapshot.specs.Window.{is_slippery}
-use Rattle.dispatch_calls.specs.declared.call.Call.{Call}
 use Rattle.dispatch_calls.specs.declared.call.Call.TheVariants.{Open, Windows, FocusOn, Notify, Pump, Tick, Receive, Finish, Pilfer, Remove}
 use Rattle.dispatch_calls.specs.declared.reply.Reply.{Reply}
 use Rattle.dispatch_calls.specs.declared.reply.Reply.TheVariants.{Opened, Named, Done}
-use Rattle.routing_rules.specs.Pairs.{Pair, has}
+use Rattle.routing_rules.specs.Pairs.{has}
 use Rattle.routing_rules.specs.Taking.{takes}
 use Rattle.routing_rules.specs.Marks.{Mark, held}
-use Rattle.routing_rules.specs.Scene.{Scene, Moves, Shows, Rests, Step, shows, which}
+use Rattle.routing_rules.specs.Scene.{Scene, Shows, Rests, shows}
 use Rattle.routing_rules.specs.Choice.{takers, is_target, is_candidate, chosen}
 use Rattle.routing_rules.specs.Slip.{Slip, slip, slip_of, slips_to, only, holders_of}
 use Rattle.routing_rules.specs.Given.{pairs, slips_in, given_by, changed, given, taken, mark}
@@ -27,7 +26,7 @@ use Rattle.dispatch_history.specs.History.{History, live, live_after, snapshot}
 use Rattle.dispatch_history.specs.Queue.{inbound, args_of}
 use Rattle.dispatch_history.specs.Effect.{Effect, past_of}
 use Rattle.dispatch_history.specs.Effects.{effects, effect_of}
-use Rattle.dispatch_history.specs.Delivery.{able, unresponsive, names, finishes, is_named_by}
+use Rattle.dispatch_history.specs.Delivery.{able, unresponsive, names, is_named_by}
 use Rattle.dispatch_history.specs.Step.{marks, scene, step_of}
 use Rattle.dispatch_history.specs.Laws.{HolderLaw}
 use Rattle.dispatch_history.proofs.AbleLaws.{able_step}

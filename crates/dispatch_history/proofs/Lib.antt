@@ -13,3 +13,4 @@ pub mod PointerLaws
 pub mod FitLaws
 pub mod HolderLaws
 pub mod MotionLaws
+pub mod FocusLaws

@@ -1,14 +1,13 @@
 -- The motions in the stream of a channel.
-use Rattle.std.proofs.Common.{◌≡◌, ℕ, suc, ◌+◌, ◌≤◌, ◌<◌, ◌==◌, ◌&&◌, ◌||◌, nat_lt, Bool, true, false, not, cond, IsTrue, is_some, length, List, [], ◌∷◌, ◌++◌, map, filter, flat_map, option_and_then, Option, Some, None, refl, sym, ap, ap₂, ◌∙◌, subst, inl, inr, arith}
+use Rattle.std.proofs.Common.{◌≡◌, ℕ, ◌+◌, ◌≤◌, ◌<◌, ◌==◌, ◌&&◌, nat_lt, Bool, true, false, not, cond, is_some, length, List, [], ◌∷◌, ◌++◌, map, filter, flat_map, option_and_then, Option, Some, None, refl, sym, ap, ◌∙◌, subst, inl, inr, arith}
 use Rattle.std.specs.List.{list_any}
 use Rattle.std.proofs.lemmas.Bool.{cases_Bool, cases_cond, both_ways, true≢false, or_cases, or_parts, and_parts, eqb-true, eq-eqb, not-true}
 use Rattle.std.proofs.lemmas.List.Elements.{filter_agree}
 use Rattle.input_types.specs.declared.message.Body.{Body}
-use Rattle.input_types.specs.declared.message.Body.TheVariants.{Motion as MotionBody, Key, Focus}
+use Rattle.input_types.specs.declared.message.Body.TheVariants.{Motion as MotionBody, Key}
 use Rattle.input_types.specs.declared.key.KeyMsg.{KeyMsg}
 use Rattle.input_types.specs.declared.message.Message.{Message}
 use Rattle.input_types.specs.declared.motion.Motion.{Motion}
-use Rattle.input_types.specs.declared.motion.MotionAction.{MotionAction}
 use Rattle.input_types.specs.declared.motion.MotionAction.TheVariants.{Outside}
 use Rattle.window_snapshot.specs.Hits.{is_watcher_at}
 use Rattle.input_types.specs.declared.axis.Pixel.{Pixel}
@@ -35,7 +34,7 @@ use Rattle.dispatch_history.proofs.HolderLaws.{holder_law}
 use Rattle.routing_rules.specs.Marks.{Mark}
 use Rattle.routing_rules.specs.Scene.{Scene, Step, Moves, Resets, Pilfers, Shows, Mutes, Removes, Rests}
 use Rattle.routing_rules.specs.Given.{changed, mark}
-use Rattle.routing_rules.specs.Told.{plain, opening, closing, cancels, cancels_of, cancelled_ups, moves, outside, or_else, is_up, is_first, listing, index_in, told_motion, told_with, told, after, devices}
+use Rattle.routing_rules.specs.Told.{plain, opening, closing, cancels, cancels_of, cancelled_ups, moves, outside, or_else, is_up, is_first, listing, told_motion, told_with, told, after, devices}
 use Rattle.routing_rules.specs.Fits.{told_ids, Leaves}
 use Rattle.dispatch_history.specs.Effect.{Effect, past_of, stream, told_on, ids_after, told_down, down_ids}
 use Rattle.dispatch_history.specs.Focus.{has_focus, focus_told}
@@ -132,7 +131,7 @@ unfolding bodies_down
 bodies_down-append d [] ys x = refl
 bodies_down-append d (b ∷ xs) ys x = bodies_down-append d xs ys (ids_after d b x)
 
-abbrev shifted : Pixel → List Motion → List Body
+abbrev pub shifted : Pixel → List Motion → List Body
 shifted o ms = map (λ m. MotionBody (motion_from o m)) ms
 
 ids_shifted : (o : Pixel) (ps : List Pointer) → ids_of (map (λ p. record { id = p.id; at = place_from o p.at }) ps) ≡ ids_of ps
@@ -183,7 +182,7 @@ abbrev Differ : List ℕ → Type 0
 Differ [] = Unit {0}
 Differ (d ∷ ds) = (list_any (λ e. e == d) ds ≡ false) × Differ ds
 
-map_flat : (o : Pixel) (xs ys : List Motion) → shifted o (xs ++ ys) ≡ shifted o xs ++ shifted o ys
+pub map_flat : (o : Pixel) (xs ys : List Motion) → shifted o (xs ++ ys) ≡ shifted o xs ++ shifted o ys
 map_flat o [] ys = refl
 map_flat o (x ∷ xs) ys = ap (λ bs. MotionBody (motion_from o x) ∷ bs) (map_flat o xs ys)
 
@@ -239,7 +238,7 @@ removes_other (Receive c) answer args w before e = tt
 removes_other (Finish now c n) answer args w before e = tt
 
 -- what a live channel is said, by its three parts
-live_said : (call : Call) (answer : Reply) (es : List Effect) (w : ℕ) → live ((call, answer) ∷ past_of es) w ≡ true
+pub live_said : (call : Call) (answer : Reply) (es : List Effect) (w : ℕ) → live ((call, answer) ∷ past_of es) w ≡ true
     → said_at call answer es w
     ≡ (let after_it = (call, answer) ∷ past_of es in
     let args = args_of call answer (inbound (past_of es)) in
@@ -299,7 +298,7 @@ opened_mono (Open limit) (Opened k) n = omega arith
 opened_mono (Open limit) _ n = omega arith
 opened_mono _ answer n = omega arith
 
-unopened : (h : History) (w : ℕ) → Legal h → opened h < w → stream (effects h) w ≡ []
+pub unopened : (h : History) (w : ℕ) → Legal h → opened h < w → stream (effects h) w ≡ []
 unopened [] w l lt = refl
 unopened ((call, answer) ∷ h) w l lt =
     let n : live ((call, answer) ∷ h) w ≡ false =
@@ -318,7 +317,7 @@ opens_next n w limit answer before b r e =
       | inr q ↦ absurd (both_ways before b (subst (λ a. live_after (Open limit) a w before ≡ true) q e))
     ]
 
-new_channel : (call : Call) (answer : Reply) (h : History) (w : ℕ) → Legal ((call, answer) ∷ h) → live h w ≡ false → live ((call, answer) ∷ h) w ≡ true → opened h < w
+pub new_channel : (call : Call) (answer : Reply) (h : History) (w : ℕ) → Legal ((call, answer) ∷ h) → live h w ≡ false → live ((call, answer) ∷ h) w ≡ true → opened h < w
 new_channel (Open limit) answer h w l n e =
     opens_next (opened h) w limit answer (live h w) n
     (subst (λ past. answer ≡ cond (nat_lt (opened past) 64) (Opened (opened past + 1)) Full) (effects_law h) l.0) e

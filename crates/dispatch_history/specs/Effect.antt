@@ -1,11 +1,11 @@
 -- What a step did. The effects of a history stand beside its steps, newest first.
-use Rattle.std.specs.Prelude.{ℕ, ◌+◌, ◌==◌, if◌then◌else◌, length, List, [], ◌∷◌, map, filter, Option, Some, None, option_and_then, unwrap_or}
+use Rattle.std.specs.Prelude.{ℕ, ◌+◌, ◌==◌, Bool, false, if◌then◌else◌, length, List, [], ◌∷◌, map, filter, Option, Some, None, option_and_then, unwrap_or}
 use Rattle.input_types.specs.declared.message.Args.{Args}
 use Rattle.input_types.specs.declared.message.Args.TheVariants.{Motion as MotionArgs}
 use Rattle.input_types.specs.declared.message.Body.{Body}
-use Rattle.input_types.specs.declared.message.Body.TheVariants.{Motion as MotionBody}
+use Rattle.input_types.specs.declared.message.Body.TheVariants.{Motion as MotionBody, Focus as FocusBody}
 use Rattle.input_types.specs.DeviceRule.{device_state, nothing_down}
-use Rattle.input_types.specs.Gestures.{after_motion}
+use Rattle.input_types.specs.Gestures.{after_motion, allowed, differ}
 use Rattle.input_types.specs.declared.message.Message.{Message}
 use Rattle.input_types.specs.declared.pointer.Pointer.{Pointer}
 use Rattle.routing_rules.specs.Marks.{Mark}
@@ -79,3 +79,13 @@ ids_after d body ids = ids
 abbrev pub told_down : ℕ → List Message → Option (List ℕ)
 told_down d [] = Some []
 told_down d (m ∷ past) = ids_after d m.body (told_down d past)
+
+-- what a message does to the focus that is known, where it may come
+abbrev pub focus_after : Body → Option Bool → Option Bool
+focus_after (FocusBody b) x = option_and_then (λ has. allowed (differ b has) b) x
+focus_after body x = x
+
+-- whether the owner of a channel knows to have the focus after its messages, where each change of it may come
+abbrev pub told_focus : List Message → Option Bool
+told_focus [] = Some false
+told_focus (m ∷ past) = focus_after m.body (told_focus past)

@@ -8,12 +8,13 @@ use Rattle.input_types.specs.DeviceRule.{device_state}
 use Rattle.dispatch_history.specs.History.{History, clock, live, opened, snapshot}
 use Rattle.dispatch_history.specs.Queue.{accepted, inbound}
 use Rattle.dispatch_history.specs.PointerOf.{PointerOf, IsDown, AllRise}
-use Rattle.dispatch_history.specs.Effect.{Effect, past_of, stream, dispatched, told_on, told_down, down_ids}
+use Rattle.dispatch_history.specs.Effect.{Effect, past_of, stream, dispatched, told_on, told_down, told_focus, down_ids}
 use Rattle.dispatch_history.specs.Effects.{effects, said_at}
 use Rattle.dispatch_history.specs.Delivery.{able, unresponsive, names, finishes, has_late}
 use Rattle.dispatch_history.specs.Step.{scene}
 use Rattle.routing_rules.specs.Fits.{Fits}
 use Rattle.routing_rules.specs.Told.{devices}
+use Rattle.dispatch_history.specs.Focus.{has_focus}
 use Rattle.dispatch_history.specs.Legal.{Legal, reply, calls_of, run, replay}
 use Rattle.dispatch_history.specs.Plan.{Plan}
 use Rattle.dispatch_history.specs.Ordered.{Ordered, ordered, chosen}
@@ -124,3 +125,11 @@ MotionsLaw =
 -- So do those of a channel that is not live any more.
 abbrev pub MotionsComeLaw : Type 0
 MotionsComeLaw = (h : History) (w d : ℕ) → Legal h → AllRise h → IsTrue (is_some (told_down d (stream (effects h) w)))
+
+-- The owner of a live channel knows from its stream whether its window has the focus, each change of which comes as it may.
+abbrev pub FocusLaw : Type 0
+FocusLaw = (h : History) (w : ℕ) → Legal h → live h w ≡ true → told_focus (stream (effects h) w) ≡ Some (has_focus h w)
+
+-- So do those of a channel that is not live any more.
+abbrev pub FocusComesLaw : Type 0
+FocusComesLaw = (h : History) (w : ℕ) → Legal h → IsTrue (is_some (told_focus (stream (effects h) w)))

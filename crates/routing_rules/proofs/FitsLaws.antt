@@ -1,19 +1,19 @@
 -- A scene that fits what is down is followed by one that does.
-use Rattle.std.proofs.Common.{ℕ, zero, suc, Bool, true, false, not, cond, ◌&&◌, ◌||◌, ◌==◌, ◌≡◌, List, [], ◌∷◌, filter, remove, if◌then◌else◌, Option, Some, None, slice_get, refl, sym, ap, ◌∙◌, subst, inl, inr}
+use Rattle.std.proofs.Common.{ℕ, zero, suc, Bool, true, false, not, cond, ◌&&◌, ◌==◌, ◌≡◌, List, [], ◌∷◌, filter, remove, if◌then◌else◌, Option, Some, None, slice_get, refl, sym, ap, ◌∙◌, subst, inl, inr}
 use Rattle.std.specs.List.{list_any}
-use Rattle.std.proofs.lemmas.Bool.{eqb-true, eq-eqb, cases_Bool, both_ways, true≢false, and_parts, and_right, or_cases, or_left, or_right}
+use Rattle.std.proofs.lemmas.Bool.{eqb-true, eq-eqb, cases_Bool, both_ways, and_parts, and_right, or_cases, or_left, or_right}
 use Rattle.std.proofs.lemmas.List.Elements.{filter_agree}
 use Rattle.input_types.specs.declared.motion.Motion.{Motion}
 use Rattle.input_types.specs.declared.pointer.Pointer.{Pointer}
 use Rattle.input_types.specs.DeviceRule.{is_of_device}
 use Rattle.input_types.specs.Gestures.{ids_of, after_motion}
 use Rattle.input_types.specs.Pointers.{IsRising}
-use Rattle.routing_rules.specs.Scene.{Scene, Step, Moves, Resets, Pilfers, Shows, Mutes, Removes, Rests}
+use Rattle.routing_rules.specs.Scene.{Scene, Moves, Resets, Pilfers, Shows, Mutes, Removes, Rests}
 use Rattle.routing_rules.specs.Given.{changed, mark}
-use Rattle.routing_rules.specs.Told.{listing, is_up, after}
-use Rattle.routing_rules.specs.Fits.{Fits, Rises, down_after, last_then}
+use Rattle.routing_rules.specs.Told.{after}
+use Rattle.routing_rules.specs.Fits.{Fits}
 use Rattle.routing_rules.specs.Laws.{FitsStep}
-use Rattle.routing_rules.proofs.Listings.{Apart, apart_rising, has_id, id_at, any-ids_of, ids_of-listing, filter-filter_sub}
+use Rattle.routing_rules.proofs.Listings.{apart_rising, id_at, any-ids_of, ids_of-listing, filter-filter_sub}
 use Rattle.routing_rules.proofs.MotionKind.{Kind, opens, moves, closes, kind_at}
 use Rattle.routing_rules.proofs.Changes.{other_way, after_apart, after_none, after_up}
 use Rattle.routing_rules.proofs.ToldLaws.{Lies, lies, fresh_id, filter_none, other_motion}
