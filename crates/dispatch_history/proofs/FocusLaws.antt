@@ -26,7 +26,7 @@ use Rattle.dispatch_history.proofs.StreamLaws.{stream_step, silent_law}
 use Rattle.dispatch_history.proofs.MotionLaws.{live_said, unopened, new_channel, shifted}
 
 -- what bodies do to what is known of something
-pub bodies_after : {X : Type 0} → (Body → Option X → Option X) → List Body → Option X → Option X
+unfoldable pub bodies_after : {X : Type 0} → (Body → Option X → Option X) → List Body → Option X → Option X
 bodies_after f [] x = x
 bodies_after f (b ∷ bs) x = bodies_after f bs (f b x)
 
@@ -82,7 +82,7 @@ step_focus call answer es w n =
     let o = origin (past_of es) w in
     let x : Option Bool = Some (has_focus (past_of es) w) in
     let m = motions_said s e (mark s e) o w in
-    let k = keys_said after_it answer args es w in
+    let k = keys_said after_it args es w in
     let f = focus_told (has_focus (past_of es) w) (has_focus after_it w) in
     ap (λ bs. bodies_after focus_after bs x) (live_said call answer es w n)
     ∙ bodies_after-append focus_after (m ++ k) f x
@@ -92,7 +92,7 @@ step_focus call answer es w n =
     ∙ moved_focus (has_focus (past_of es) w) (has_focus after_it w)
   where
     keys_said_focus : (after_it : History) (answer : Reply) (args : Option Args) (es : List Effect) (w : ℕ) (x : Option Bool)
-        → bodies_after focus_after (keys_said after_it answer args es w) x ≡ x
+        → bodies_after focus_after (keys_said after_it args es w) x ≡ x
     keys_said_focus after_it answer args es w x = keys_focus _ x
 
 pub focus_law : FocusLaw

@@ -40,7 +40,7 @@ use Rattle.dispatch_history.specs.Effect.{Effect, past_of, stream, told_on, ids_
 use Rattle.dispatch_history.specs.Focus.{has_focus, focus_told}
 use Rattle.dispatch_history.specs.Delivery.{able, unresponsive}
 use Rattle.dispatch_history.specs.Keys.{keys, loses_all}
-use Rattle.dispatch_history.specs.KeyTold.{keys_told, repeat_told, last_key}
+use Rattle.dispatch_history.specs.KeyTold.{keys_told, repeat_by, last_key}
 use Rattle.dispatch_history.specs.Said.{motion_from, place_from, motions_said, keys_said}
 
 -- all these motions are of one device
@@ -244,14 +244,14 @@ pub live_said : (call : Call) (answer : Reply) (es : List Effect) (w : ℕ) → 
     let args = args_of call answer (inbound (past_of es)) in
     let s = scene es in
     let e = step_of call answer args in
-    motions_said s e (mark s e) (origin (past_of es) w) w ++ keys_said after_it answer args es w ++ focus_told (has_focus (past_of es) w) (has_focus after_it w))
+    motions_said s e (mark s e) (origin (past_of es) w) w ++ keys_said after_it args es w ++ focus_told (has_focus (past_of es) w) (has_focus after_it w))
 live_said call answer es w n = rw n refl
 
 keys_said_down : (d : ℕ) (after_it : History) (answer : Reply) (args : Option Args) (es : List Effect) (w : ℕ) (x : Option (List ℕ))
-    → bodies_down d (keys_said after_it answer args es w) x ≡ x
+    → bodies_down d (keys_said after_it args es w) x ≡ x
 keys_said_down d after_it answer args es w x =
     keys_down d
-    (keys_told args (has_focus (past_of es) w && able es w) (loses_all after_it (past_of es) w) (keys es w) ++ repeat_told answer (last_key es) w) x
+    (keys_told args (has_focus (past_of es) w && able es w) (loses_all after_it (past_of es) w) (keys es w) ++ repeat_by after_it (last_key es) w) x
 
 -- a step does to the ids that a window knows of a device what it is told of that device
 step_down : (call : Call) (answer : Reply) (es : List Effect) (w d : ℕ) (ids next : List ℕ) → live ((call, answer) ∷ past_of es) w ≡ true → list_any (λ e. e == d) devices ≡ true
@@ -264,7 +264,7 @@ step_down call answer es w d ids next n h t =
     let e = step_of call answer args in
     let o = origin (past_of es) w in
     let m = motions_said s e (mark s e) o w in
-    let k = keys_said after_it answer args es w in
+    let k = keys_said after_it args es w in
     let f = focus_told (has_focus (past_of es) w) (has_focus after_it w) in
     ap (λ bs. bodies_down d bs (Some ids)) (live_said call answer es w n)
     ∙ bodies_down-append d (m ++ k) f (Some ids)
@@ -283,7 +283,7 @@ step_skips call answer es w d x n h =
     let e = step_of call answer args in
     let o = origin (past_of es) w in
     let m = motions_said s e (mark s e) o w in
-    let k = keys_said after_it answer args es w in
+    let k = keys_said after_it args es w in
     let f = focus_told (has_focus (past_of es) w) (has_focus after_it w) in
     ap (λ bs. bodies_down d bs x) (live_said call answer es w n)
     ∙ bodies_down-append d (m ++ k) f x

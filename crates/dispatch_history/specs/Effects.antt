@@ -23,22 +23,22 @@ abbrev pub told_by : (ℕ → List Body) → ℕ → List Told
 told_by said_to n = flat_map (λ w. map (λ b. record { channel = w; body = b }) (said_to w)) (channels n)
 
 -- what a step with this mark says to a channel
-abbrev pub said_with : History → Reply → Option Args → List Effect → Scene → Step → Mark → ℕ → List Body
-said_with after reply args before s e k c = said after reply args s e k before c
+abbrev pub said_with : History → Option Args → List Effect → Scene → Step → Mark → ℕ → List Body
+said_with after args before s e k c = said after args s e k before c
 
 -- the effect of a step that has this mark
-abbrev pub effect_with : History → Reply → Option Args → List Effect → Scene → Step → Mark → Effect
-effect_with after reply args before s e k =
-    record { past = after; args = args; mark = k; told = told_by (said_with after reply args before s e k) (opened after) }
+abbrev pub effect_with : History → Option Args → List Effect → Scene → Step → Mark → Effect
+effect_with after args before s e k =
+    record { past = after; args = args; mark = k; told = told_by (said_with after args before s e k) (opened after) }
 
 -- the effect of a step that is this to the rules
-abbrev pub effect_in : History → Reply → Option Args → List Effect → Scene → Step → Effect
-effect_in after reply args before s e = effect_with after reply args before s e (mark s e)
+abbrev pub effect_in : History → Option Args → List Effect → Scene → Step → Effect
+effect_in after args before s e = effect_with after args before s e (mark s e)
 
 -- the effect of the step with this call and reply, which dispatches these args
 abbrev pub effect_of : Call → Reply → Option Args → List Effect → Effect
 effect_of call reply args before =
-    effect_in ((call, reply) ∷ past_of before) reply args before (scene before) (step_of call reply args)
+    effect_in ((call, reply) ∷ past_of before) args before (scene before) (step_of call reply args)
 
 -- one step more
 abbrev pub step : Call → Reply → List Effect → List Effect
@@ -55,4 +55,4 @@ said_at call reply before c =
     let args = args_of call reply (inbound (past_of before)) in
     let s = scene before in
     let e = step_of call reply args in
-    said_with ((call, reply) ∷ past_of before) reply args before s e (mark s e) c
+    said_with ((call, reply) ∷ past_of before) args before s e (mark s e) c

@@ -7,9 +7,11 @@ use Rattle.input_types.specs.declared.message.Args.{Args}
 use Rattle.input_types.specs.declared.message.Args.TheVariants.{Key as KeyOfDevice}
 use Rattle.input_types.specs.declared.message.Body.{Body}
 use Rattle.input_types.specs.declared.message.Body.TheVariants.{Key}
+use Rattle.dispatch_calls.specs.declared.call.Call.{Call}
+use Rattle.dispatch_calls.specs.declared.call.Call.TheVariants.{Pump}
 use Rattle.dispatch_calls.specs.declared.reply.Reply.{Reply}
 use Rattle.dispatch_calls.specs.declared.reply.Reply.TheVariants.{Repeated}
-use Rattle.dispatch_history.specs.History.{clock}
+use Rattle.dispatch_history.specs.History.{History, clock}
 use Rattle.dispatch_history.specs.Effect.{Effect, Told}
 use Rattle.dispatch_history.specs.Keys.{same_key, ends, keys}
 
@@ -67,8 +69,13 @@ due_of es (Some l) =
 abbrev pub repeat_due : List Effect → Option ℕ
 repeat_due es = due_of es (last_key es)
 
--- a step that repeats a key tells its window the same down with the next repeat number
-abbrev pub repeat_told : Reply → Option LastKey → ℕ → List KeyMsg
-repeat_told Repeated (Some l) w =
+-- a pump that repeats a key tells its window the same down with the next repeat number
+abbrev pub repeat_told : Call → Reply → Option LastKey → ℕ → List KeyMsg
+repeat_told (Pump now) Repeated (Some l) w =
     if w == l.window then record { key = l.message.key; flags = 0; repeat = l.message.repeat + 1 } ∷ [] else []
-repeat_told reply last w = []
+repeat_told call reply last w = []
+
+-- what the last step of a history tells a window of repeats
+abbrev pub repeat_by : History → Option LastKey → ℕ → List KeyMsg
+repeat_by [] last w = []
+repeat_by (e ∷ h) last w = repeat_told e.0 e.1 last w

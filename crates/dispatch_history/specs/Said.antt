@@ -6,7 +6,6 @@ use Rattle.input_types.specs.declared.message.Args.{Args}
 use Rattle.input_types.specs.declared.message.Body.{Body}
 use Rattle.input_types.specs.declared.message.Body.TheVariants.{Motion as MotionBody, Key}
 use Rattle.input_types.specs.declared.motion.Motion.{Motion}
-use Rattle.dispatch_calls.specs.declared.reply.Reply.{Reply}
 use Rattle.routing_rules.specs.Marks.{Mark}
 use Rattle.routing_rules.specs.Scene.{Scene, Step}
 use Rattle.routing_rules.specs.Told.{told_with, devices}
@@ -15,7 +14,7 @@ use Rattle.dispatch_history.specs.Effect.{Effect, past_of}
 use Rattle.dispatch_history.specs.Delivery.{able}
 use Rattle.dispatch_history.specs.Focus.{has_focus, focus_told}
 use Rattle.dispatch_history.specs.Keys.{keys, loses_all}
-use Rattle.dispatch_history.specs.KeyTold.{keys_told, repeat_told, last_key}
+use Rattle.dispatch_history.specs.KeyTold.{keys_told, repeat_by, last_key}
 
 -- a place counted from an origin, kept at the ends of its type
 abbrev pub place_from : Pixel → Pixel → Pixel
@@ -37,17 +36,17 @@ abbrev pub motions_said : Scene → Step → Mark → Pixel → ℕ → List Bod
 motions_said s e k o w = map (λ m. MotionBody (motion_from o m)) (flat_map (told_with s e k w) devices)
 
 -- the key messages that it is told
-abbrev pub keys_said : History → Reply → Option Args → List Effect → ℕ → List Body
-keys_said after reply args before w =
+abbrev pub keys_said : History → Option Args → List Effect → ℕ → List Body
+keys_said after args before w =
     map Key
     (keys_told args (has_focus (past_of before) w && able before w) (loses_all after (past_of before) w) (keys before w)
-    ++ repeat_told reply (last_key before) w)
+    ++ repeat_by after (last_key before) w)
 
 -- what a channel is told that is live after the step: motions, then keys, then the focus
-abbrev pub said : History → Reply → Option Args → Scene → Step → Mark → List Effect → ℕ → List Body
-said after reply args s e k before w =
+abbrev pub said : History → Option Args → Scene → Step → Mark → List Effect → ℕ → List Body
+said after args s e k before w =
     if live after w then
     motions_said s e k (origin (past_of before) w) w
-    ++ keys_said after reply args before w
+    ++ keys_said after args before w
     ++ focus_told (has_focus (past_of before) w) (has_focus after w)
     else []
