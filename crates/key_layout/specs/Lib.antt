@@ -1,0 +1,4 @@
+pub mod KeyNames
+pub mod Layout
+pub mod Line
+pub mod Text

@@ -1,0 +1,159 @@
+//! The lines of a text, the words of a line, and the numbers that words write.
+ghost use Rattle.std.specs.Prelude.{◌≡◌, ◌<◌, ◌≤◌, ◌∷◌, ◌==◌, not, length};
+ghost use Rattle.std.specs.Char.{digit_value};
+ghost use Rattle.std.specs.List.{prefix_len};
+ghost use Rattle.key_layout.specs.Text.{behind_word, content, is_blank, line_len, lines_of, number, scan_of, skip_blanks, without_comment, without_last, word, word_len};
+
+fn is_blank(b: u8) -> bool
+    ensures { result ≡ is_blank b }
+{
+    b == b' ' || b == b'\t'
+}
+
+fn skip_blanks(bytes: &[u8]) -> &[u8]
+    ensures { result.now ≡ skip_blanks bytes.now }
+{
+    let mut rest = bytes;
+    while let [b, after @ ..] = rest {
+        if !is_blank(*b) {
+            return rest;
+        }
+        rest = after;
+    }
+    rest
+}
+
+fn word_len(bytes: &[u8]) -> usize
+    ensures value { result ≡ word_len bytes.now }
+    ensures within { result ≤ length bytes.now }
+{
+    let mut count = 0;
+    for b in bytes {
+        if is_blank(*b) {
+            return count;
+        }
+        count += 1;
+    }
+    count
+}
+
+/// The first word and what stands behind it; the word is empty where there is none.
+#[tactic(auto, unfolding(crate::specs::Text::word, crate::specs::Text::behind_word))]
+pub(crate) fn next_word(bytes: &[u8]) -> (&[u8], &[u8])
+    ensures word { result.0.now ≡ word bytes.now }
+    ensures rest { result.1.now ≡ behind_word bytes.now }
+{
+    let text = skip_blanks(bytes);
+    text.split_at(word_len(text))
+}
+
+/// The value of a digit in a base up to 36; 36 for a byte that is no digit.
+fn value_of(b: u8) -> u8
+    ensures { result ≡ digit_value b }
+{
+    match b {
+        b'0'..=b'9' => b - b'0',
+        b'A'..=b'Z' => b - (b'A' - 10),
+        b'a'..=b'z' => b - (b'a' - 10),
+        _ => 36,
+    }
+}
+
+#[tactic(auto, unfolding(crate::specs::Text::number))]
+fn number(base: u8, digits: &[u8]) -> Option<u16>
+    requires low { 1 < base }
+    requires high { base ≤ 36 }
+    ensures { result ≡ number base digits.now }
+{
+    if digits.is_empty() {
+        return None;
+    }
+    let mut n: u32 = 0;
+    for b in digits {
+        let digit = value_of(*b);
+        if digit >= base {
+            return None;
+        }
+        n = n * u32::from(base) + u32::from(digit);
+        if n > 65535 {
+            return None;
+        }
+    }
+    Some(n as u16)
+}
+
+/// The number of 16 bits that a word writes in decimal digits, or as `0x` and hexadecimal ones.
+#[tactic(auto, unfolding(crate::specs::Text::scan_of))]
+pub(crate) fn scan_of(word: &[u8]) -> Option<u16>
+    ensures { result ≡ scan_of word.now }
+{
+    match word {
+        [b'0', b'x', digits @ ..] => number(16, digits),
+        _ => number(10, word),
+    }
+}
+
+fn line_len(bytes: &[u8]) -> usize
+    ensures value { result ≡ line_len bytes.now }
+    ensures within { result ≤ length bytes.now }
+    ensures some { 0 < length bytes.now → 0 < result }
+{
+    let mut count = 0;
+    for b in bytes {
+        count += 1;
+        if *b == b'\n' {
+            return count;
+        }
+    }
+    count
+}
+
+/// The first line, with the newline that ends it, and the bytes behind it.
+pub(crate) fn next_line(bytes: &[u8]) -> (&[u8], &[u8])
+    requires { 0 < length bytes.now }
+    ensures lines { lines_of bytes.now ≡ result.0.now ∷ lines_of result.1.now }
+    ensures shorter { length result.1.now < length bytes.now }
+{
+    bytes.split_at(line_len(bytes))
+}
+
+fn without_return(line: &[u8]) -> &[u8]
+    ensures { result.now ≡ without_last 13 line.now }
+{
+    match line {
+        [text @ .., b'\r'] => text,
+        _ => line,
+    }
+}
+
+/// A line without its newline and a carriage return before it.
+pub(crate) fn content(line: &[u8]) -> &[u8]
+    ensures { result.now ≡ content line.now }
+{
+    match line {
+        [text @ .., b'\n'] => without_return(text),
+        _ => line,
+    }
+}
+
+fn comment_at(line: &[u8]) -> usize
+    ensures value { result ≡ prefix_len (λ b. not (b == 35)) line.now }
+    ensures within { result ≤ length line.now }
+{
+    let mut count = 0;
+    for b in line {
+        if *b == b'#' {
+            return count;
+        }
+        count += 1;
+    }
+    count
+}
+
+/// The bytes in front of the first `#`.
+#[tactic(auto, unfolding(crate::specs::Text::without_comment))]
+pub(crate) fn without_comment(line: &[u8]) -> &[u8]
+    ensures { result.now ≡ without_comment line.now }
+{
+    line.split_at(comment_at(line)).0
+}
