@@ -1,0 +1,4 @@
+pub mod Elements
+pub mod Order
+pub mod Snapshots
+pub mod Text

@@ -1,0 +1,11 @@
+-- What a stable sort by the moment ensures.
+use Rattle.std.proofs.Common.{rules}
+use Rattle.std.proofs.lemmas.List.Sorted.{IsNonDecreasingBy-from_sort_by_key, answers_always}
+use Rattle.session_plan.proofs.Order.{sorted_is}
+use Rattle.session_plan.proofs.step.in_order.Goals as goal
+
+pub returns : goal.returns
+returns c =
+    sorted_is c.args.steps.items c.sort_by_key.new.self.items
+    (IsNonDecreasingBy-from_sort_by_key (λ s. s.at) c.sort_by_key.new.self.items c.in_ok-sort_by_key.ensures.sorted (λ a r q k. search rules))
+    (c.in_ok-sort_by_key.ensures.stable (λ s. s.at) (answers_always _ _ _ (λ f a r q k. search rules)))

@@ -1,0 +1,14 @@
+pub mod Channels
+pub mod Devices
+pub mod Display
+pub mod ErrorLine
+pub mod Fault
+pub mod Gives
+pub mod Keys
+pub mod Order
+pub mod Plan
+pub mod Reading
+pub mod Session
+pub mod Steps
+pub mod View
+pub mod Windows

@@ -1,0 +1,25 @@
+-- What a session says: lists and numbers in place of vectors and texts.
+use Rattle.std.specs.Prelude.{ℕ, Bool, List}
+use Rattle.session_plan.specs.declared.plan.DeviceKind.{DeviceKind}
+use Rattle.session_plan.specs.declared.plan.Display.{Display}
+use Rattle.session_plan.specs.declared.plan.Step.{Step}
+
+-- a device: the bytes of its path, and what it is
+pub record DeviceData : Type 0 where
+  pub path : List ℕ
+  pub kind : DeviceKind
+
+-- a channel: the bytes of its name, its limit and its delay in microseconds, and whether it finishes messages
+pub record ChannelData : Type 0 where
+  pub name : List ℕ
+  pub limit : ℕ
+  pub finish_after : ℕ
+  pub finishes : Bool
+
+-- a plan: device and channel k are the k-th of their lists, from 1; end is a moment in microseconds
+pub record PlanData : Type 0 where
+  pub display : Display
+  pub devices : List DeviceData
+  pub channels : List ChannelData
+  pub steps : List Step
+  pub end : ℕ

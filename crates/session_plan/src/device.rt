@@ -1,0 +1,203 @@
+//! The devices of a session.
+ghost use Rattle.std.specs.Prelude.{[], ◌≡◌, ◌≤◌, ◌==◌, ◌||◌, not, ℤ, map, option_map, bytes_eq, length, IfOk};
+ghost use Rattle.std.specs.List.{list_all, list_any};
+ghost use Rattle.toml.specs.View.{view};
+ghost use Rattle.session_plan.specs.Devices.{axis_at, both, device_of, devices_of, is_new, is_path, keys_of, layout_text, ordered, span_in, span_of, touch_of};
+ghost use Rattle.session_plan.specs.Gives.{Gives};
+ghost use Rattle.session_plan.specs.Keys.{key_of};
+ghost use Rattle.session_plan.specs.Reading.{as_list, each};
+ghost use Rattle.session_plan.specs.View.{device_view};
+
+use crate::error::PlanError;
+use crate::key::{Place, key_text};
+use crate::plan::{DeviceKind, DevicePlan};
+use crate::reading::{at_most, coordinate, elements, number_or, required, tables_at, text_at};
+use input_types::Axis;
+use key_layout::{Layout, LayoutError};
+use std::alloc::Global;
+use toml::Value;
+
+/// The most devices of a session.
+const MAX_DEVICES: usize = 8;
+
+/// The least and the greatest raw position of an axis, which may be too great for one.
+#[derive(Clone, Copy)]
+pub(crate) struct Span {
+    min: i64,
+    max: i64,
+}
+
+fn has_no_blank(bytes: &[u8]) -> bool
+    ensures { result ≡ list_all (λ c. not (c == 32 || c == 9)) bytes.now }
+{
+    bytes.iter().all(|c| !(*c == b' ' || *c == b'\t'))
+}
+
+fn is_path(path: &str) -> bool
+    ensures { result ≡ is_path path.now }
+{
+    match path.as_bytes() {
+        [first, rest @ ..] => *first == b'/' && has_no_blank(rest),
+        [] => false,
+    }
+}
+
+fn is_new(devices: &[DevicePlan], path: &str) -> bool
+    ensures { result ≡ is_new (map device_view devices.now) path.now }
+{
+    for device in devices {
+        if device.path.as_str() == path {
+            return false;
+        }
+    }
+    true
+}
+
+fn ordered(min: i64, max: i64) -> Option<Span>
+    ensures { result ≡ ordered min max }
+{
+    if min <= max {
+        Some(Span { min, max })
+    } else {
+        None
+    }
+}
+
+fn both(min: Option<i64>, max: Option<i64>) -> Option<Span>
+    ensures { result ≡ both min max }
+{
+    let min = min?;
+    let max = max?;
+    ordered(min, max)
+}
+
+fn span_of(values: &[Value]) -> Option<Span>
+    ensures { result ≡ span_of (map view values.now) }
+{
+    match values {
+        [min, max] => both(min.as_integer(), max.as_integer()),
+        _ => None,
+    }
+}
+
+fn span_in(value: &Value) -> Option<Span>
+    ensures { result ≡ span_in (as_list (view value.now)) }
+{
+    let values = elements(value)?;
+    span_of(values)
+}
+
+#[tactic(auto, unfolding(crate::specs::Devices::axis_at))]
+fn axis(alloc: Global, k: usize, key: &str, table: &Value) -> Result<Axis, PlanError>
+    ensures { Gives (λ a. a) result (axis_at k key.now (view table.now)) }
+{
+    let place = Place::Device(k);
+    let value = required(alloc, place, key, table)?;
+    let Some(span) = span_in(value) else {
+        return Err(PlanError::Wrong {
+            key: key_text(alloc, place, key)?,
+        });
+    };
+    let min = coordinate(alloc, place, key, span.min)?;
+    let max = coordinate(alloc, place, key, span.max)?;
+    Ok(Axis { min, max })
+}
+
+#[tactic(auto, unfolding(crate::specs::Devices::touch_of))]
+fn touch(alloc: Global, k: usize, table: &Value) -> Result<DeviceKind, PlanError>
+    ensures { Gives (λ d. d) result (touch_of k (view table.now)) }
+{
+    let slots = number_or(alloc, 10, Place::Device(k), "slots", 1, 16, table)?;
+    let x = axis(alloc, k, "x", table)?;
+    let y = axis(alloc, k, "y", table)?;
+    Ok(DeviceKind::Touch {
+        slots: slots as u8,
+        x,
+        y,
+    })
+}
+
+fn layout_text(alloc: Global, k: usize, table: &Value) -> Result<&str, PlanError>
+    ensures { Gives (λ text. text.now) result (layout_text k (view table.now)) }
+{
+    let Some(value) = table.get("layout") else {
+        return Ok("");
+    };
+    match value.as_str() {
+        Some(text) => Ok(text),
+        None => Err(PlanError::Wrong {
+            key: key_text(alloc, Place::Device(k), "layout")?,
+        }),
+    }
+}
+
+#[tactic(auto, unfolding(crate::specs::Devices::keys_of))]
+fn keys(alloc: Global, k: usize, table: &Value) -> Result<DeviceKind, PlanError>
+    requires { k ≤ 8 }
+    ensures { Gives (λ d. d) result (keys_of k (view table.now)) }
+{
+    let text = layout_text(alloc, k, table)?;
+    match Layout::read(alloc, text) {
+        Ok(layout) => Ok(DeviceKind::Keys { layout }),
+        Err(LayoutError::Memory) => Err(PlanError::Memory),
+        Err(error) => Err(PlanError::BadLayout {
+            device: k as u8,
+            error,
+        }),
+    }
+}
+
+#[tactic(auto, unfolding(crate::specs::Devices::device_of))]
+fn device(
+    alloc: Global,
+    k: usize,
+    found: &[DevicePlan],
+    table: &Value,
+) -> Result<DevicePlan, PlanError>
+    requires { k ≤ 8 }
+    ensures { Gives device_view result (device_of k (map device_view found.now) (view table.now)) }
+{
+    let place = Place::Device(k);
+    let word = text_at(alloc, place, "kind", table)?;
+    if !(word == "touch" || word == "keys") {
+        return Err(PlanError::Wrong {
+            key: key_text(alloc, place, "kind")?,
+        });
+    }
+    let path = text_at(alloc, place, "path", table)?;
+    if !(is_path(path) && is_new(found, path)) {
+        return Err(PlanError::Wrong {
+            key: key_text(alloc, place, "path")?,
+        });
+    }
+    let kind = if word == "touch" {
+        touch(alloc, k, table)?
+    } else {
+        keys(alloc, k, table)?
+    };
+    let path = String::from_str(alloc, path)?;
+    Ok(DevicePlan { path, kind })
+}
+
+fn each_device(alloc: Global, tables: &[Value]) -> Result<Vec<DevicePlan>, PlanError>
+    requires { length tables.now ≤ 8 }
+    ensures value { Gives (λ v. map device_view v.items) result (each device_of 1 [] (map view tables.now)) }
+    ensures len { IfOk result (λ v. length v.items ≡ length tables.now) }
+{
+    let mut devices = Vec::new(alloc);
+    for (i, table) in tables.iter().enumerate() {
+        devices.push(device(alloc, i + 1, &devices, table)?)?;
+    }
+    Ok(devices)
+}
+
+/// The devices of a session.
+#[tactic(auto, unfolding(crate::specs::Devices::devices_of))]
+pub(crate) fn devices(alloc: Global, document: &Value) -> Result<Vec<DevicePlan>, PlanError>
+    ensures value { Gives (λ v. map device_view v.items) result (devices_of (view document.now)) }
+    ensures few { IfOk result (λ v. length v.items ≤ 8) }
+{
+    let tables = tables_at(alloc, Place::Document, "device", document)?;
+    at_most(alloc, Place::Document, "device", MAX_DEVICES, tables)?;
+    each_device(alloc, tables)
+}
