@@ -1,4 +1,5 @@
 pub mod Elements
+pub mod ErrorLines
 pub mod Order
 pub mod Snapshots
 pub mod Text
