@@ -10,5 +10,6 @@ pub mod Plan
 pub mod Reading
 pub mod Session
 pub mod Steps
+pub mod Valid
 pub mod View
 pub mod Windows

@@ -1,11 +1,12 @@
 //! The channels of a session.
 ghost use Rattle.std.specs.Prelude.{[], ◌≡◌, ◌≤◌, ◌&&◌, nat_le, map, length, string_bytes, IfOk, IfSome};
-ghost use Rattle.std.specs.List.{list_all};
+ghost use Rattle.std.specs.List.{All, list_all};
 ghost use Rattle.toml.specs.View.{view};
 ghost use Rattle.session_plan.specs.Channels.{channel_named, channel_of, channels_of, finishes_at, is_name, is_new, named_from};
 ghost use Rattle.session_plan.specs.Gives.{Gives};
 ghost use Rattle.session_plan.specs.Keys.{key_of};
 ghost use Rattle.session_plan.specs.Reading.{each};
+ghost use Rattle.session_plan.specs.Valid.{IsChannel};
 ghost use Rattle.session_plan.specs.View.{channel_view};
 
 use crate::error::PlanError;
@@ -96,7 +97,8 @@ fn channel(
     found: &[ChannelPlan],
     table: &Value,
 ) -> Result<ChannelPlan, PlanError>
-    ensures { Gives channel_view result (channel_of k (map channel_view found.now) (view table.now)) }
+    ensures value { Gives channel_view result (channel_of k (map channel_view found.now) (view table.now)) }
+    ensures valid { IfOk result IsChannel }
 {
     let place = Place::Channel(k);
     let name = text_at(alloc, place, "name", table)?;
@@ -128,6 +130,7 @@ fn channel(
 fn each_channel(alloc: Global, tables: &[Value]) -> Result<Vec<ChannelPlan>, PlanError>
     ensures value { Gives (λ v. map channel_view v.items) result (each channel_of 1 [] (map view tables.now)) }
     ensures len { IfOk result (λ v. length v.items ≡ length tables.now) }
+    ensures valid { IfOk result (λ v. All IsChannel v.items) }
 {
     let mut channels = Vec::new(alloc);
     for (i, table) in tables.iter().enumerate() {
@@ -141,6 +144,7 @@ fn each_channel(alloc: Global, tables: &[Value]) -> Result<Vec<ChannelPlan>, Pla
 pub(crate) fn channels(alloc: Global, document: &Value) -> Result<Vec<ChannelPlan>, PlanError>
     ensures value { Gives (λ v. map channel_view v.items) result (channels_of (view document.now)) }
     ensures few { IfOk result (λ v. length v.items ≤ 64) }
+    ensures valid { IfOk result (λ v. All IsChannel v.items) }
 {
     let tables = tables_at(alloc, Place::Document, "channel", document)?;
     at_most(alloc, Place::Document, "channel", MAX_CHANNELS, tables)?;

@@ -1,11 +1,12 @@
 //! The devices of a session.
-ghost use Rattle.std.specs.Prelude.{[], ◌≡◌, ◌≤◌, ◌==◌, ◌||◌, not, ℤ, map, option_map, bytes_eq, length, IfOk};
-ghost use Rattle.std.specs.List.{list_all, list_any};
+ghost use Rattle.std.specs.Prelude.{[], ◌≡◌, ◌≤◌, ◌==◌, ◌||◌, not, ℤ, map, option_map, bytes_eq, length, IfOk, IfSome, ◌≤ℤ◌};
+ghost use Rattle.std.specs.List.{All, list_all, list_any};
 ghost use Rattle.toml.specs.View.{view};
 ghost use Rattle.session_plan.specs.Devices.{axis_at, both, device_of, devices_of, is_new, is_path, keys_of, layout_text, ordered, span_in, span_of, touch_of};
 ghost use Rattle.session_plan.specs.Gives.{Gives};
 ghost use Rattle.session_plan.specs.Keys.{key_of};
 ghost use Rattle.session_plan.specs.Reading.{as_list, each};
+ghost use Rattle.session_plan.specs.Valid.{IsAxis, IsDevice, IsKind};
 ghost use Rattle.session_plan.specs.View.{device_view};
 
 use crate::error::PlanError;
@@ -54,7 +55,8 @@ fn is_new(devices: &[DevicePlan], path: &str) -> bool
 }
 
 fn ordered(min: i64, max: i64) -> Option<Span>
-    ensures { result ≡ ordered min max }
+    ensures value { result ≡ ordered min max }
+    ensures ordered { IfSome result (λ s. s.min ≤ℤ s.max) }
 {
     if min <= max {
         Some(Span { min, max })
@@ -64,7 +66,8 @@ fn ordered(min: i64, max: i64) -> Option<Span>
 }
 
 fn both(min: Option<i64>, max: Option<i64>) -> Option<Span>
-    ensures { result ≡ both min max }
+    ensures value { result ≡ both min max }
+    ensures ordered { IfSome result (λ s. s.min ≤ℤ s.max) }
 {
     let min = min?;
     let max = max?;
@@ -72,7 +75,8 @@ fn both(min: Option<i64>, max: Option<i64>) -> Option<Span>
 }
 
 fn span_of(values: &[Value]) -> Option<Span>
-    ensures { result ≡ span_of (map view values.now) }
+    ensures value { result ≡ span_of (map view values.now) }
+    ensures ordered { IfSome result (λ s. s.min ≤ℤ s.max) }
 {
     match values {
         [min, max] => both(min.as_integer(), max.as_integer()),
@@ -81,7 +85,8 @@ fn span_of(values: &[Value]) -> Option<Span>
 }
 
 fn span_in(value: &Value) -> Option<Span>
-    ensures { result ≡ span_in (as_list (view value.now)) }
+    ensures value { result ≡ span_in (as_list (view value.now)) }
+    ensures ordered { IfSome result (λ s. s.min ≤ℤ s.max) }
 {
     let values = elements(value)?;
     span_of(values)
@@ -89,7 +94,8 @@ fn span_in(value: &Value) -> Option<Span>
 
 #[tactic(auto, unfolding(crate::specs::Devices::axis_at))]
 fn axis(alloc: Global, k: usize, key: &str, table: &Value) -> Result<Axis, PlanError>
-    ensures { Gives (λ a. a) result (axis_at k key.now (view table.now)) }
+    ensures value { Gives (λ a. a) result (axis_at k key.now (view table.now)) }
+    ensures valid { IfOk result IsAxis }
 {
     let place = Place::Device(k);
     let value = required(alloc, place, key, table)?;
@@ -105,7 +111,8 @@ fn axis(alloc: Global, k: usize, key: &str, table: &Value) -> Result<Axis, PlanE
 
 #[tactic(auto, unfolding(crate::specs::Devices::touch_of))]
 fn touch(alloc: Global, k: usize, table: &Value) -> Result<DeviceKind, PlanError>
-    ensures { Gives (λ d. d) result (touch_of k (view table.now)) }
+    ensures value { Gives (λ d. d) result (touch_of k (view table.now)) }
+    ensures valid { IfOk result IsKind }
 {
     let slots = number_or(alloc, 10, Place::Device(k), "slots", 1, 16, table)?;
     let x = axis(alloc, k, "x", table)?;
@@ -134,7 +141,8 @@ fn layout_text(alloc: Global, k: usize, table: &Value) -> Result<&str, PlanError
 #[tactic(auto, unfolding(crate::specs::Devices::keys_of))]
 fn keys(alloc: Global, k: usize, table: &Value) -> Result<DeviceKind, PlanError>
     requires { k ≤ 8 }
-    ensures { Gives (λ d. d) result (keys_of k (view table.now)) }
+    ensures value { Gives (λ d. d) result (keys_of k (view table.now)) }
+    ensures valid { IfOk result IsKind }
 {
     let text = layout_text(alloc, k, table)?;
     match Layout::read(alloc, text) {
@@ -155,7 +163,8 @@ fn device(
     table: &Value,
 ) -> Result<DevicePlan, PlanError>
     requires { k ≤ 8 }
-    ensures { Gives device_view result (device_of k (map device_view found.now) (view table.now)) }
+    ensures value { Gives device_view result (device_of k (map device_view found.now) (view table.now)) }
+    ensures valid { IfOk result IsDevice }
 {
     let place = Place::Device(k);
     let word = text_at(alloc, place, "kind", table)?;
@@ -183,6 +192,7 @@ fn each_device(alloc: Global, tables: &[Value]) -> Result<Vec<DevicePlan>, PlanE
     requires { length tables.now ≤ 8 }
     ensures value { Gives (λ v. map device_view v.items) result (each device_of 1 [] (map view tables.now)) }
     ensures len { IfOk result (λ v. length v.items ≡ length tables.now) }
+    ensures valid { IfOk result (λ v. All IsDevice v.items) }
 {
     let mut devices = Vec::new(alloc);
     for (i, table) in tables.iter().enumerate() {
@@ -196,6 +206,7 @@ fn each_device(alloc: Global, tables: &[Value]) -> Result<Vec<DevicePlan>, PlanE
 pub(crate) fn devices(alloc: Global, document: &Value) -> Result<Vec<DevicePlan>, PlanError>
     ensures value { Gives (λ v. map device_view v.items) result (devices_of (view document.now)) }
     ensures few { IfOk result (λ v. length v.items ≤ 8) }
+    ensures valid { IfOk result (λ v. All IsDevice v.items) }
 {
     let tables = tables_at(alloc, Place::Document, "device", document)?;
     at_most(alloc, Place::Document, "device", MAX_DEVICES, tables)?;

@@ -1,9 +1,10 @@
 //! The display of a session.
-ghost use Rattle.std.specs.Prelude.{◌≡◌};
+ghost use Rattle.std.specs.Prelude.{◌≡◌, IfOk};
 ghost use Rattle.toml.specs.View.{view};
 ghost use Rattle.session_plan.specs.Display.{display_at, display_of, rotation_of, turned};
 ghost use Rattle.session_plan.specs.Gives.{Gives};
 ghost use Rattle.session_plan.specs.Keys.{key_of};
+ghost use Rattle.session_plan.specs.Valid.{IsDisplay};
 
 use crate::error::PlanError;
 use crate::key::{Place, key_text};
@@ -43,7 +44,8 @@ fn rotation(alloc: Global, place: Place, key: &str, value: &Value) -> Result<Rot
 
 #[tactic(auto, unfolding(crate::specs::Display::display_of))]
 fn display_of(alloc: Global, table: &Value) -> Result<Display, PlanError>
-    ensures { Gives (λ d. d) result (display_of (view table.now)) }
+    ensures value { Gives (λ d. d) result (display_of (view table.now)) }
+    ensures valid { IfOk result IsDisplay }
 {
     let width = number_at(alloc, Place::Display, "width", 1, 16384, table)?;
     let height = number_at(alloc, Place::Display, "height", 1, 16384, table)?;
@@ -61,7 +63,8 @@ fn display_of(alloc: Global, table: &Value) -> Result<Display, PlanError>
 /// The display of a session.
 #[tactic(auto, unfolding(crate::specs::Display::display_at))]
 pub(crate) fn display(alloc: Global, document: &Value) -> Result<Display, PlanError>
-    ensures { Gives (λ d. d) result (display_at (view document.now)) }
+    ensures value { Gives (λ d. d) result (display_at (view document.now)) }
+    ensures valid { IfOk result IsDisplay }
 {
     let table = required(alloc, Place::Document, "display", document)?;
     if !table.is_table() {

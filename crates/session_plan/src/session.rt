@@ -1,9 +1,10 @@
 //! How the bytes of a session file say a plan.
-ghost use Rattle.std.specs.Prelude.{◌≡◌};
+ghost use Rattle.std.specs.Prelude.{IfOk};
 ghost use Rattle.toml.specs.View.{view};
 ghost use Rattle.session_plan.specs.Gives.{Gives};
 ghost use Rattle.session_plan.specs.Reading.{document_of, parsed};
 ghost use Rattle.session_plan.specs.Session.{plan_of, session_of};
+ghost use Rattle.session_plan.specs.Valid.{IsPlan};
 ghost use Rattle.session_plan.specs.View.{plan_view};
 
 use crate::channel::channels;
@@ -40,7 +41,8 @@ fn document(alloc: Global, bytes: &[u8]) -> Result<Value, PlanError>
 
 #[tactic(auto, unfolding(crate::specs::Session::plan_of))]
 fn plan(alloc: Global, document: &Value) -> Result<Plan, PlanError>
-    ensures { Gives plan_view result (plan_of (view document.now)) }
+    ensures value { Gives plan_view result (plan_of (view document.now)) }
+    ensures valid { IfOk result IsPlan }
 {
     let display = display(alloc, document)?;
     let end = number_or(alloc, 0, Place::Document, "end_us", 0, MAX_US, document)?;
@@ -63,7 +65,8 @@ impl Plan {
     /// step has. Memory may run out at any time; every other answer is that of the bytes.
     #[tactic(auto, unfolding(crate::specs::Session::session_of))]
     pub fn read(alloc: Global, bytes: &[u8]) -> Result<Plan, PlanError>
-        ensures { Gives plan_view result (session_of bytes.now) }
+        ensures value { Gives plan_view result (session_of bytes.now) }
+        ensures valid { IfOk result IsPlan }
     {
         let document = document(alloc, bytes)?;
         plan(alloc, &document)

@@ -1,10 +1,13 @@
 //! The steps of a session.
 ghost use Rattle.std.specs.Prelude.{[], ◌≡◌, ◌≤◌, map, length, option_map, IfOk};
+ghost use Rattle.std.specs.List.{All};
+ghost use Rattle.std.specs.List.Sorted.{IsNonDecreasingBy};
 ghost use Rattle.toml.specs.View.{view};
 ghost use Rattle.session_plan.specs.Gives.{Gives};
 ghost use Rattle.session_plan.specs.Order.{in_order};
 ghost use Rattle.session_plan.specs.Reading.{each};
 ghost use Rattle.session_plan.specs.Steps.{act_of, channel_at, focus_of, is_act, pilfer_of, step_of, steps_of};
+ghost use Rattle.session_plan.specs.Valid.{IsStep};
 ghost use Rattle.session_plan.specs.View.{channel_view};
 
 use crate::channel::channel_named;
@@ -118,7 +121,8 @@ fn step(
 ) -> Result<Step, PlanError>
     requires few { length channels.now ≤ 64 }
     requires few_devices { devices ≤ 8 }
-    ensures { Gives (λ s. s) result (step_of (map channel_view channels.now) devices k (view table.now)) }
+    ensures value { Gives (λ s. s) result (step_of (map channel_view channels.now) devices k (view table.now)) }
+    ensures valid { IfOk result IsStep }
 {
     let place = Place::Step(k);
     let us = number_at(alloc, place, "at_us", 0, MAX_US, table)?;
@@ -145,7 +149,8 @@ fn each_step(
 ) -> Result<Vec<Step>, PlanError>
     requires few { length channels.now ≤ 64 }
     requires few_devices { devices ≤ 8 }
-    ensures { Gives (λ v. v.items) result (each (λ k found d. step_of (map channel_view channels.now) devices k d) 1 [] (map view tables.now)) }
+    ensures value { Gives (λ v. v.items) result (each (λ k found d. step_of (map channel_view channels.now) devices k d) 1 [] (map view tables.now)) }
+    ensures valid { IfOk result (λ v. All IsStep v.items) }
 {
     let mut steps = Vec::new(alloc);
     for (i, table) in tables.iter().enumerate() {
@@ -155,7 +160,10 @@ fn each_step(
 }
 
 fn in_order(mut steps: Vec<Step>) -> Result<Vec<Step>, AllocError>
-    ensures { IfOk result (λ v. v.items ≡ in_order steps.items) }
+    requires { All IsStep steps.items }
+    ensures value { IfOk result (λ v. v.items ≡ in_order steps.items) }
+    ensures valid { IfOk result (λ v. All IsStep v.items) }
+    ensures rising { IfOk result (λ v. IsNonDecreasingBy (λ s. s.at) v.items) }
 {
     steps.sort_by_key(|step| step.at.get())?;
     Ok(steps)
@@ -171,7 +179,9 @@ pub(crate) fn steps(
 ) -> Result<Vec<Step>, PlanError>
     requires few { length channels.now ≤ 64 }
     requires few_devices { devices ≤ 8 }
-    ensures { Gives (λ v. v.items) result (steps_of (map channel_view channels.now) devices (view document.now)) }
+    ensures value { Gives (λ v. v.items) result (steps_of (map channel_view channels.now) devices (view document.now)) }
+    ensures valid { IfOk result (λ v. All IsStep v.items) }
+    ensures rising { IfOk result (λ v. IsNonDecreasingBy (λ s. s.at) v.items) }
 {
     let tables = tables_at(alloc, Place::Document, "step", document)?;
     let steps = each_step(alloc, channels, devices, tables)?;
