@@ -1,5 +1,6 @@
 pub mod Elements
 pub mod ErrorLines
+pub mod Examples
 pub mod Order
 pub mod Snapshots
 pub mod Text

@@ -1,0 +1,171 @@
+//! Sessions and what is read from them.
+//!
+//! Standard input is a list of cases. A case is the bytes of a session file, and then a line that begins with `=> ` and has
+//! what `Plan::read` is to answer: the line of the refusal, or the plan in the words of `plan_text`, or `cuts`, which wants a plan
+//! or a refusal for each prefix of the session. A case that is answered otherwise is printed, and at the end how many were not.
+#![tactic(auto)]
+
+use input_types::Rotation;
+use session_plan::{Act, ChannelPlan, DeviceKind, DevicePlan, Plan, PlanError, Step};
+use std::alloc::{AllocError, Global};
+use std::io;
+use std::io::Read;
+use window_snapshot::Window;
+
+fn degrees(rotation: Rotation) -> u16 {
+    match rotation {
+        Rotation::R0 => 0,
+        Rotation::R90 => 90,
+        Rotation::R180 => 180,
+        Rotation::R270 => 270,
+    }
+}
+
+/// A device; one with keys by the key code of scan code 30.
+fn device_text(alloc: Global, device: &DevicePlan) -> Result<String, AllocError> {
+    let path = device.path.as_str();
+    match &device.kind {
+        DeviceKind::Touch { slots, x, y } => {
+            format!(in alloc;
+                " touch {path} {slots} {} {} {} {}",
+                x.min, x.max, y.min, y.max
+            )
+        }
+        DeviceKind::Keys { layout } => {
+            let code = layout.code_of(30);
+            format!(in alloc; " keys {path} {code}")
+        }
+    }
+}
+
+fn channel_text(alloc: Global, channel: &ChannelPlan) -> Result<String, AllocError> {
+    let name = channel.name.as_str();
+    let limit = channel.limit.get();
+    let after = channel.finish_after;
+    let finishes = if channel.finishes {
+        "finishes"
+    } else {
+        "keeps"
+    };
+    format!(in alloc; " channel {name} {limit} {after} {finishes}")
+}
+
+/// A window: its channel, its frame, its flags, and its rectangles.
+fn window_text(alloc: Global, window: &Window) -> Result<String, AllocError> {
+    let frame = window.frame;
+    let bits = bitflags::Flags::bits(&window.flags);
+    let mut text = format!(in alloc;
+        " {}@{},{},{},{}/{bits}",
+        window.channel, frame.left, frame.top, frame.right, frame.bottom
+    )?;
+    for rect in window.region.rects() {
+        text.push_str(format!(in alloc;
+            "+{},{},{},{}",
+            rect.left, rect.top, rect.right, rect.bottom
+        )?
+        .as_str())?;
+    }
+    Ok(text)
+}
+
+fn act_text(alloc: Global, act: &Act) -> Result<String, AllocError> {
+    match act {
+        Act::Windows(snapshot) => {
+            let mut text = String::from_str(alloc, " windows")?;
+            for window in snapshot.windows() {
+                text.push_str(window_text(alloc, window)?.as_str())?;
+            }
+            Ok(text)
+        }
+        Act::FocusOn(Some(channel)) => format!(in alloc; " focus {channel}"),
+        Act::FocusOn(None) => String::from_str(alloc, " focus"),
+        Act::Pilfer { channel, device } => {
+            let device = device.get();
+            format!(in alloc; " pilfer {channel} {device}")
+        }
+        Act::Remove { channel } => format!(in alloc; " remove {channel}"),
+    }
+}
+
+fn step_text(alloc: Global, step: &Step) -> Result<String, AllocError> {
+    let at = step.at.get();
+    let act = act_text(alloc, &step.act)?;
+    format!(in alloc; " {at}:{}{act}", step.lane)
+}
+
+/// The whole plan on one line.
+fn plan_text(alloc: Global, plan: &Plan) -> Result<String, AllocError> {
+    let turn = degrees(plan.display.rotation);
+    let end = plan.end.get();
+    let mut text = format!(in alloc;
+        "plan {}x{} {turn} {end}",
+        plan.display.width, plan.display.height
+    )?;
+    for device in &plan.devices {
+        text.push_str(device_text(alloc, device)?.as_str())?;
+    }
+    for channel in &plan.channels {
+        text.push_str(channel_text(alloc, channel)?.as_str())?;
+    }
+    for step in &plan.steps {
+        text.push_str(step_text(alloc, step)?.as_str())?;
+    }
+    Ok(text)
+}
+
+fn answer(alloc: Global, session: &[u8]) -> Result<String, AllocError> {
+    match Plan::read(alloc, session) {
+        Ok(plan) => plan_text(alloc, &plan),
+        Err(error) => error.line(alloc),
+    }
+}
+
+/// Whether each prefix of a session is a plan or is refused; want of memory is neither.
+fn cuts_are_read(alloc: Global, session: &[u8]) -> bool {
+    for end in 0..session.len() {
+        if let Err(PlanError::Memory) = Plan::read(alloc, session.split_at(end).0) {
+            return false;
+        }
+    }
+    true
+}
+
+fn given(alloc: Global, session: &[u8], wanted: &[u8]) -> Result<String, AllocError> {
+    if wanted == b"cuts".as_slice() {
+        let text = if cuts_are_read(alloc, session) {
+            "cuts"
+        } else {
+            "no memory"
+        };
+        String::from_str(alloc, text)
+    } else {
+        answer(alloc, session)
+    }
+}
+
+fn main(rt: HostRuntime) -> io::Result<()> {
+    let alloc = rt.alloc();
+    let mut input = Vec::new(alloc);
+    rt.reader().read_to_end(&mut input)?;
+    let mut session: Vec<u8> = Vec::new(alloc);
+    let mut cases: u64 = 0;
+    let mut failed: u64 = 0;
+    for line in input.as_slice().split(|b| *b == b'\n') {
+        match line {
+            [b'=', b'>', b' ', wanted @ ..] => {
+                cases = cases.saturating_add(1);
+                let given = given(alloc, &session, wanted)?;
+                if given.as_bytes() != wanted {
+                    failed = failed.saturating_add(1);
+                    println!(rt; "case {cases}: {given}")?;
+                }
+                session.clear();
+            }
+            _ => {
+                session.extend_from_slice(line)?;
+                session.push(b'\n')?;
+            }
+        }
+    }
+    println!(rt; "{cases} cases, {failed} answered otherwise")
+}
