@@ -16,14 +16,14 @@ use Rattle.session_plan.specs.Keys.{key_of}
 use Rattle.session_plan.specs.Plan.{ChannelData}
 use Rattle.session_plan.specs.Reading.{required, of_kind, needs, or_default, as_list, coordinate, text_at, tables, at_most, each}
 
--- four integers, where left is not right of right, and top not below bottom
-abbrev pub four : Option ℤ → Option ℤ → Option ℤ → Option ℤ → Option Corners
-four (Some left) (Some top) (Some right) (Some bottom) =
+-- from_edges integers, where left is not right of right, and top not below bottom
+abbrev pub from_edges : Option ℤ → Option ℤ → Option ℤ → Option ℤ → Option Corners
+from_edges (Some left) (Some top) (Some right) (Some bottom) =
     if int_le left right && int_le top bottom then Some (record { left = left; top = top; right = right; bottom = bottom }) else None
-four _ _ _ _ = None
+from_edges _ _ _ _ = None
 
 abbrev pub corners_of : List Data → Option Corners
-corners_of (a ∷ b ∷ c ∷ d ∷ []) = four (as_integer a) (as_integer b) (as_integer c) (as_integer d)
+corners_of (a ∷ b ∷ c ∷ d ∷ []) = from_edges (as_integer a) (as_integer b) (as_integer c) (as_integer d)
 corners_of _ = None
 
 abbrev pub corners_in : Option (List Data) → Option Corners

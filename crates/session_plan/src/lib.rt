@@ -28,6 +28,38 @@
 //! each key, one that has to be there and is not is `Missing`; a value of another kind, or a malformed one, is `Wrong`; a
 //! number or a count outside its range is `OutOfRange`; a name that is not known is `UnknownName`. Other keys are not looked
 //! at.
+//!
+//! | key | kind, and its default where it may be absent | range |
+//! |---|---|---|
+//! | `display.width`, `display.height` | integer | 1 to 16384 pixels |
+//! | `display.rotation` | integer, 0 | 0, 90, 180 or 270 degrees |
+//! | `end_us` | integer, 0 | 0 to 10^18 microseconds |
+//! | `device` | array of tables, none | at most 8 |
+//! | `device[k].kind` | text | `touch` or `keys` |
+//! | `device[k].path` | text | begins with `/`, has no space or tab, and no earlier device has it |
+//! | `device[k].slots` (touch) | integer, 10 | 1 to 16 |
+//! | `device[k].x`, `device[k].y` (touch) | array of two integers, the least and the greatest raw position | 32 bits each |
+//! | `device[k].layout` (keys) | text, empty | a key layout |
+//! | `channel` | array of tables, none | at most 64 |
+//! | `channel[k].name` | text | 1 to 64 bytes from `!` to `~`, and no earlier channel has it |
+//! | `channel[k].limit_ms` | integer, 5000 | 1 to 600000 milliseconds |
+//! | `channel[k].finish_after_us` | integer, 0 | 0 to 10^15 microseconds |
+//! | `channel[k].finishes` | truth value, true | |
+//! | `step` | array of tables, none | any number |
+//! | `step[k].at_us` | integer | 0 to 10^18 microseconds |
+//! | `step[k].lane` | integer, 1 | 1 to 8 |
+//! | `step[k].do` | text | `windows`, `focus`, `pilfer` or `remove` |
+//! | `step[k].windows` (windows) | array of tables, front to back | at most 64 |
+//! | `step[k].windows[j].channel` | text | the name of a channel that no earlier window of the step has |
+//! | `step[k].windows[j].frame` | array of four integers: left, top, right, bottom | 32 bits each, in order |
+//! | `step[k].windows[j].region` | array of such arrays, the frame alone | at most 64 |
+//! | `step[k].windows[j].flags` | array of texts, none | names of `WindowFlags` |
+//! | `step[k].channel` (focus) | text, no channel | the name of a channel |
+//! | `step[k].channel` (pilfer, remove) | text | the name of a channel |
+//! | `step[k].device` (pilfer) | integer | 1 to the number of devices |
+//!
+//! An array is of another kind also where an element of it is. Numbers of an array that are out of order are `Wrong`, also
+//! where they are out of range.
 #![tactic(auto)]
 
 mod channel;

@@ -15,7 +15,7 @@ ghost use Rattle.session_plan.specs.Gives.{Gives};
 ghost use Rattle.session_plan.specs.Keys.{key_of};
 ghost use Rattle.session_plan.specs.Reading.{as_list, each};
 ghost use Rattle.session_plan.specs.View.{channel_view};
-ghost use Rattle.session_plan.specs.Windows.{bits_at, bits_from, bits_of, four, corners_in, corners_of, rect_of, rectangle, rects_of, region_at, window_of, windows_of};
+ghost use Rattle.session_plan.specs.Windows.{bits_at, bits_from, bits_of, from_edges, corners_in, corners_of, rect_of, rectangle, rects_of, region_at, window_of, windows_of};
 
 use crate::channel::channel_named;
 use crate::error::PlanError;
@@ -43,13 +43,13 @@ fn is_ordered(low: i64, high: i64) -> bool
     low <= high
 }
 
-fn four(
+fn from_edges(
     left: Option<i64>,
     top: Option<i64>,
     right: Option<i64>,
     bottom: Option<i64>,
 ) -> Option<Corners>
-    ensures value { result ≡ four left top right bottom }
+    ensures value { result ≡ from_edges left top right bottom }
     ensures ordered { IfSome result (λ c. (int_le c.left c.right && int_le c.top c.bottom) ≡ true) }
 {
     let left = left?;
@@ -73,7 +73,7 @@ fn corners_of(values: &[Value]) -> Option<Corners>
     ensures ordered { IfSome result (λ c. (int_le c.left c.right && int_le c.top c.bottom) ≡ true) }
 {
     match values {
-        [a, b, c, d] => four(
+        [a, b, c, d] => from_edges(
             a.as_integer(),
             b.as_integer(),
             c.as_integer(),
