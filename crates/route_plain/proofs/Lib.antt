@@ -1,0 +1,13 @@
+pub mod IdSets
+pub mod Holding
+pub mod Listings
+pub mod Sayings
+pub mod Slipped
+pub mod Gains
+pub mod Left
+pub mod SaidLaws
+pub mod NextState
+pub mod Following
+pub mod Conditions
+pub mod Examples
+pub mod Silence

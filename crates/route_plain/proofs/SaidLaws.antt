@@ -1,0 +1,176 @@
+-- What is said, channel by channel and device by device.
+use Rattle.std.proofs.Common.{◌≡◌, ℕ, zero, suc, ◌+◌, ◌<◌, ◌≤◌, Bool, true, false, not, ◌&&◌, ◌||◌, ◌==◌, List, [], ◌∷◌, ◌++◌, map, drop, Option, Some, None, refl, ap, ap₂, sym, ◌∙◌, arith, add-one, append_assoc, append-nil}
+use Rattle.std.proofs.lemmas.List.{map-append}
+use Rattle.std.specs.Prelude.{flat_map, if◌then◌else◌}
+use Rattle.std.proofs.Math.Path.{fun_ext}
+use Rattle.input_types.specs.declared.pointer.Pointer.{Pointer}
+use Rattle.input_types.specs.declared.motion.Motion.{Motion}
+use Rattle.input_types.specs.declared.motion.MotionAction.TheVariants.{Outside}
+use Rattle.window_snapshot.specs.declared.window.Window.{Window}
+use Rattle.window_snapshot.specs.Hits.{is_watcher_at}
+use Rattle.routing_rules.specs.Pairs.{has}
+use Rattle.routing_rules.specs.Taking.{Taking, takes}
+use Rattle.routing_rules.specs.Marks.{Mark}
+use Rattle.routing_rules.specs.Scene.{Scene, Step, Moves, Resets, Pilfers, Shows, Mutes, Removes, Rests}
+use Rattle.routing_rules.specs.Given.{given, taken, mark, changed}
+use Rattle.routing_rules.specs.Told.{devices, listing, plain, opening, closing, cancels, moves, is_up, is_first, or_else, told_motion, told_with, told_all, after}
+use Rattle.route_plain.specs.declared.hold.Hold.{Hold}
+use Rattle.route_plain.specs.declared.loss.Loss.{Loss}
+use Rattle.route_plain.specs.declared.turn.Said.{Said}
+use Rattle.route_plain.specs.declared.turn.Turn.{Turn}
+use Rattle.route_plain.specs.declared.turn.Turn.TheVariants.{Pointers, Reset, Pilfer, Windows, Mute, Forget}
+use Rattle.route_plain.specs.Holds.{pairs_of}
+use Rattle.route_plain.specs.Loss.{taking_of}
+use Rattle.route_plain.specs.Route.{to_channel, said_up_to, said_at, step_of, hold_from}
+use Rattle.route_plain.specs.Telling.{outside_of, told_here, is_watching, held_after, told_of_motion, told_of_losses}
+use Rattle.route_plain.specs.Changing.{IsChange}
+use Rattle.route_plain.proofs.Gains.{pairs_of-gained}
+use Rattle.route_plain.proofs.Listings.{or_else-nil}
+
+-- nothing is said to no channel
+pub said_none : (f : ℕ → List Motion) → said_up_to f 0 ≡ []
+unfolding said_up_to
+said_none f = refl
+
+said_more : (f : ℕ → List Motion) (k : ℕ) → said_up_to f (suc k) ≡ said_up_to f k ++ to_channel (suc k) (f (suc k))
+unfolding said_up_to
+said_more f k = refl
+
+-- one channel more
+pub said_step : (f : ℕ → List Motion) (k : ℕ) (out new : List Said) (ms : List Motion)
+    → new ≡ out ++ to_channel (k + 1) ms → out ≡ said_up_to f k → ms ≡ f (k + 1) → new ≡ said_up_to f (k + 1)
+said_step f k out new ms e i m =
+    e ∙ ap₂ (λ xs ys. xs ++ to_channel (k + 1) ys) i m ∙ ap (λ n. said_up_to f k ++ to_channel n (f n)) (add-one k) ∙ sym (said_more f k)
+    ∙ ap (said_up_to f) (sym (add-one k))
+
+-- where each channel is told nothing, nothing is said
+pub said_nothing : (f : ℕ → List Motion) (n : ℕ) → ((c : ℕ) → f c ≡ []) → said_up_to f n ≡ []
+said_nothing f zero e = said_none f
+said_nothing f (suc n) e = said_more f n ∙ ap₂ (λ xs ms. xs ++ to_channel (suc n) ms) (said_nothing f n e) (e (suc n))
+
+-- several motions, then the rest
+pub say_many : (out : List Said) (c : ℕ) (ms ns : List Motion) → (out ++ to_channel c ms) ++ to_channel c ns ≡ out ++ to_channel c (ms ++ ns)
+say_many out c ms ns = append_assoc out (to_channel c ms) (to_channel c ns) ∙ ap (λ xs. out ++ xs) (sym (map-append _ ms ns))
+
+-- the devices from one on
+pub devices_from : (k : ℕ) → k < 8 → drop k devices ≡ (k + 1) ∷ drop (k + 1) devices
+devices_from zero lt = refl
+devices_from (suc zero) lt = refl
+devices_from (suc (suc zero)) lt = refl
+devices_from (suc (suc (suc zero))) lt = refl
+devices_from (suc (suc (suc (suc zero)))) lt = refl
+devices_from (suc (suc (suc (suc (suc zero))))) lt = refl
+devices_from (suc (suc (suc (suc (suc (suc zero)))))) lt = refl
+devices_from (suc (suc (suc (suc (suc (suc (suc zero))))))) lt = refl
+devices_from (suc (suc (suc (suc (suc (suc (suc (suc k)))))))) lt = absurd (omega (arith, lt))
+
+pub losses_step : (f : ℕ → List Motion) (k : ℕ) → k < 8 → flat_map f (drop k devices) ≡ f (k + 1) ++ flat_map f (drop (k + 1) devices)
+losses_step f k lt = ap (flat_map f) (devices_from k lt)
+
+-- of the devices one alone is told something
+one_device : (f : ℕ → List Motion) (e : ℕ) → 1 ≤ e → e ≤ 8 → flat_map (λ d. if e == d then f d else []) devices ≡ f e
+one_device f zero p q = absurd (omega (arith, p))
+one_device f (suc zero) p q = append-nil (f 1)
+one_device f (suc (suc zero)) p q = append-nil (f 2)
+one_device f (suc (suc (suc zero))) p q = append-nil (f 3)
+one_device f (suc (suc (suc (suc zero)))) p q = append-nil (f 4)
+one_device f (suc (suc (suc (suc (suc zero))))) p q = append-nil (f 5)
+one_device f (suc (suc (suc (suc (suc (suc zero)))))) p q = append-nil (f 6)
+one_device f (suc (suc (suc (suc (suc (suc (suc zero))))))) p q = append-nil (f 7)
+one_device f (suc (suc (suc (suc (suc (suc (suc (suc zero)))))))) p q = append-nil (f 8)
+one_device f (suc (suc (suc (suc (suc (suc (suc (suc (suc e))))))))) p q = absurd (omega (arith, q))
+
+outside_by : (b : Bool) (d : ℕ) (p : Pointer) → (if b then plain d Outside (p ∷ []) ∷ [] else []) ≡ outside_of d (if b then Some p else None)
+outside_by true d p = refl
+outside_by false d p = refl
+
+-- what the rules say of a motion is what is told
+told_motion_is : (s : Scene) (m : Motion) (p : Option Pointer) (w : ℕ) (b l : ℕ → Bool)
+    → told_here m p (s.last m.device) b l (is_watching s m p w) ≡ told_motion s m p w b l
+told_motion_is s m None w b l = ap (or_else (cancels m.device (s.last m.device) b l)) (or_else-nil (moves m.device (listing l m.pointers)))
+told_motion_is s m (Some p) w b l =
+    ap
+    (λ ys.
+    if l p.id && not (b p.id) then opening m.device p.id (listing l m.pointers) ∷ []
+    else if is_up m.action && b p.id then closing m.device p.id (listing b m.pointers) ∷ []
+    else or_else (cancels m.device (s.last m.device) b l) (or_else (moves m.device (listing l m.pointers)) ys))
+    (sym (outside_by (is_first m.action && s.able w && is_watcher_at s.windows s.live p.at.x p.at.y w) m.device p))
+
+-- what is held after a turn is what the rules say is
+held_after_is : (s : Scene) (e : Step) (n : ℕ) (hs gained : List Hold) (loss : Loss) → s.holds ≡ has (pairs_of hs) → IsChange s e n hs gained loss
+    → (c d : ℕ) → held_after gained (taking_of s.windows loss) hs c d ≡ after s (mark s e) c d
+held_after_is s e n hs gained loss h x c d =
+    ap₂ (λ qs t. λ i. has qs c d i || has (pairs_of hs) c d i && not (takes t c d i)) (ap pairs_of x.gains ∙ pairs_of-gained n hs (given s e)) x.loses
+    ∙ ap (λ f. λ i. has (given s e) c d i || f c d i && not (takes (taken s e) c d i)) (sym h)
+
+-- what is said of a motion is what the rules say
+pub said_of_motion_is : (s : Scene) (m : Motion) (n : ℕ) (hs gained : List Hold) (loss : Loss) → s.holds ≡ has (pairs_of hs)
+    → IsChange s (Moves m) n hs gained loss → 1 ≤ m.device → m.device ≤ 8
+    → said_up_to (told_of_motion s m gained (taking_of s.windows loss) hs) 64 ≡ said_at s (Moves m)
+said_of_motion_is s m n hs gained loss h x p q =
+    ap (λ f. said_up_to f 64)
+    (fun_ext
+    (λ c. ap₂ (λ b l. told_here m (changed m) (s.last m.device) b l (is_watching s m (changed m) c)) (ap (λ f. f c m.device) (sym h))
+    (held_after_is s (Moves m) n hs gained loss h x c m.device)
+    ∙ told_motion_is s m (changed m) c (s.holds c m.device) (after s (mark s (Moves m)) c m.device)
+    ∙ sym (one_device (λ d. told_motion s m (changed m) c (s.holds c d) (after s (mark s (Moves m)) c d)) m.device p q)))
+
+-- what is said where a channel is removed is nothing
+pub said_of_removal : (s : Scene) (c : ℕ) → said_at s (Removes c) ≡ []
+said_of_removal s c = said_nothing (told_all s (Removes c)) 64 (λ w. refl)
+
+-- the step is none but a loss
+abbrev pub IsLoss : Step → Type 0
+IsLoss (Moves m) = ⊥
+IsLoss (Removes c) = ⊥
+IsLoss Rests = ⊥
+IsLoss e = Unit {0}
+
+cancelled : (s : Scene) (e : Step) → IsLoss e → (k : Mark) (c d : ℕ) → cancels d (s.last d) (s.holds c d) (after s k c d) ≡ told_with s e k c d
+cancelled s (Moves m) i k c d = absurd i
+cancelled s (Removes v) i k c d = absurd i
+cancelled s Rests i k c d = absurd i
+cancelled s (Resets e) i k c d = refl
+cancelled s (Pilfers w e) i k c d = refl
+cancelled s (Shows names) i k c d = refl
+cancelled s (Mutes muted) i k c d = refl
+
+none_given : (s : Scene) (e : Step) → IsLoss e → given s e ≡ []
+none_given s (Moves m) i = absurd i
+none_given s (Removes v) i = absurd i
+none_given s Rests i = absurd i
+none_given s (Resets e) i = refl
+none_given s (Pilfers w e) i = refl
+none_given s (Shows names) i = refl
+none_given s (Mutes muted) i = refl
+
+-- what is said of a loss is what the rules say
+pub said_of_loss_is : (s : Scene) (e : Step) (n : ℕ) (hs gained : List Hold) (loss : Loss) → s.holds ≡ has (pairs_of hs)
+    → IsLoss e → IsChange s e n hs gained loss → said_up_to (told_of_losses s (taking_of s.windows loss) hs) 64 ≡ said_at s e
+said_of_loss_is s e n hs gained loss h i x =
+    ap (λ f. said_up_to f 64)
+    (fun_ext
+    (λ c. ap (λ f. flat_map f devices)
+    (fun_ext
+    (λ d. ap₂ (λ b l. cancels d (s.last d) b l) (ap (λ f. f c d) (sym h))
+    (held_after_is s e n hs [] loss h (record { gains = sym (ap (map (hold_from n hs)) (none_given s e i)); loses = x.loses }) c d)
+    ∙ cancelled s e i (mark s e) c d))))
+
+-- a turn that is no motion and no removal is a loss
+pub is_loss : (turn : Turn) (windows : List Window) → ((m : Motion) → turn ≡ Pointers m → ⊥) → ((c : ℕ) → turn ≡ Forget c → ⊥) → IsLoss (step_of turn windows)
+is_loss (Pointers m) windows h k = absurd (h m refl)
+is_loss (Forget c) windows h k = absurd (k c refl)
+is_loss (Reset d) windows h k = tt
+is_loss (Pilfer c d) windows h k = tt
+is_loss Windows windows h k = tt
+is_loss (Mute cs) windows h k = tt
+
+-- what is told of a motion, by the last places and whether a window watches
+pub same_told_here : (m : Motion) (p p' : Option Pointer) (l l' : List Pointer) (b b' a a' : ℕ → Bool) (w w' : Bool) → p ≡ p' → l ≡ l' → b ≡ b' → a ≡ a' → w ≡ w'
+    → told_here m p l b a w ≡ told_here m p' l' b' a' w'
+same_told_here m p p' l l' b b' a a' w w' d e f g h = λ k. told_here m (d k) (e k) (f k) (g k) (h k)
+
+pub told_of_motion_is : (s : Scene) (m : Motion) (gained : List Hold) (t : Taking) (hs : List Hold) (c : ℕ) (l : List Pointer) (w : Bool)
+    → l ≡ s.last m.device → w ≡ is_watching s m (changed m) c
+    → told_here m (changed m) l (has (pairs_of hs) c m.device) (held_after gained t hs c m.device) w ≡ told_of_motion s m gained t hs c
+told_of_motion_is s m gained t hs c l w e f = λ k. told_here m (changed m) (e k) (has (pairs_of hs) c m.device) (held_after gained t hs c m.device) (f k)

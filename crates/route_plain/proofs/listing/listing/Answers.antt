@@ -1,0 +1,25 @@
+use Rattle.std.proofs.Common.{arith, ap, length}
+use Rattle.std.specs.Prelude.{◌<◌}
+use Rattle.route_plain.specs.IdSet.{set_has}
+use Rattle.route_plain.proofs.Listings.{length-listing_take, listing_ends_below}
+use Rattle.route_plain.proofs.listing.listing.Goals as goal
+
+pub put-requires-clause-room : goal.put-requires-clause-room
+put-requires-clause-room c =
+    rw c.loop-pointer.invariant
+    (omega (
+      arith,
+      length-listing_take (set_has c.args.set) c.args.pointers.now c.loop-pointer.pointer-index,
+      c.loop-pointer-test.true,
+      ap length c.as_slice-pointer-items.ensures,
+      c.len-count.ensures.value,
+      c.len-count.ensures.range,
+    ))
+
+pub put-requires-clause-rises : goal.put-requires-clause-rises
+put-requires-clause-rises c =
+    let lt : c.loop-pointer.pointer-index < length c.args.pointers.now =
+    omega (arith, c.loop-pointer-test.true, ap length c.as_slice-pointer-items.ensures) in
+    rw c.loop-pointer.invariant
+    (listing_ends_below (set_has c.args.set) c.args.pointers.now c.loop-pointer.pointer-index c.pointer-item.result c.len-count.ensures.rises lt
+    (rw c.as_slice-pointer-items.ensures at c.pointer-item.is))

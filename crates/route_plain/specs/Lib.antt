@@ -1,0 +1,11 @@
+pub mod IdSet
+pub mod Holds
+pub mod State
+pub mod Loss
+pub mod Route
+pub mod Telling
+pub mod Moment
+pub mod Choosing
+pub mod Slipping
+pub mod Changing
+pub mod Laws

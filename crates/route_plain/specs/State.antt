@@ -1,0 +1,30 @@
+-- What the router keeps, and the moment before a turn as the rules see it.
+use Rattle.std.specs.Prelude.{ℕ, ◌-◌, List, [], slice_index_or, replicate}
+use Rattle.input_types.specs.declared.pointer.Pointer.{Pointer}
+use Rattle.window_snapshot.specs.declared.window.Window.{Window}
+use Rattle.window_snapshot.specs.Mask.{mask_has}
+use Rattle.routing_rules.specs.Scene.{Scene, scene_of}
+use Rattle.route_plain.specs.declared.hold.Hold.{Hold}
+use Rattle.route_plain.specs.declared.hold.Pilferer.{Pilferer}
+use Rattle.route_plain.specs.Holds.{pairs_of, is_earlier, is_pilfering}
+
+-- how many turns there were; who holds what; who is pilfering; and for each device, 1 first, its pointers at the places where its
+-- last motion listed them
+pub record State : Type 0 where
+  pub turns : ℕ
+  pub holds : List Hold
+  pub pilferers : List Pilferer
+  pub last : List (List Pointer)
+
+-- the last places of a device
+abbrev pub last_of : List (List Pointer) → ℕ → List Pointer
+last_of last d = slice_index_or last (d - 1) []
+
+-- the moment before a turn, with these windows and masks of live and able channels
+abbrev pub scene_before : State → List Window → ℕ → ℕ → Scene
+scene_before s windows live able =
+    scene_of windows (mask_has live) (mask_has able) (pairs_of s.holds) (is_earlier s.holds) (is_pilfering s.pilferers) (last_of s.last)
+
+-- before the first turn
+abbrev pub fresh : State
+fresh = record { turns = 0; holds = []; pilferers = []; last = replicate 8 [] }

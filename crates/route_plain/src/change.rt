@@ -1,0 +1,225 @@
+//! What a turn gives and takes.
+ghost use Rattle.std.specs.Prelude.{◌≡◌, ℕ, [], ◌∷◌, map, filter, option_map, IfOk, unwrap_or};
+ghost use Rattle.window_snapshot.specs.Mask.{mask_has};
+ghost use Rattle.window_snapshot.specs.Hits.{is_spy_at};
+ghost use Rattle.routing_rules.specs.Scene.{Moves};
+ghost use Rattle.routing_rules.specs.Slip.{slip};
+ghost use Rattle.routing_rules.specs.Given.{given, taken, pairs, slips_in, changed};
+ghost use Rattle.routing_rules.specs.Choice.{takers};
+ghost use Rattle.route_plain.specs.Choosing.{is_candidate_of, is_taker};
+ghost use Rattle.route_plain.specs.Loss.{taking_of};
+ghost use Rattle.route_plain.specs.Moment.{scene_at};
+ghost use Rattle.route_plain.specs.Route.{hold_from, step_of};
+ghost use Rattle.route_plain.specs.Slipping.{rule_slip};
+ghost use Rattle.route_plain.specs.Changing.{IsChange, IsNoMotion};
+
+use crate::choice::{chosen, is_taker, some_pilfering};
+use crate::hold::{Hold, began, ids_with};
+use crate::loss::Loss;
+use crate::moment::Moment;
+use crate::slip::{Slip, slip_of};
+use crate::turn::Turn;
+use input_types::{DeviceId, Motion, MotionAction, Pixel, Pointer, PointerId};
+use std::alloc::{AllocError, Global};
+
+// What a turn gives, in the order in which it stands behind what was held, and what it takes.
+#[derive(Drop)]
+pub(crate) struct Change {
+    pub(crate) gained: Vec<Hold>,
+    pub(crate) loss: Loss,
+}
+
+// The hold of a window that is given a pointer at a turn.
+fn hold_from(moment: &Moment, turn: u64, window: u32, device: DeviceId, id: PointerId) -> Hold
+    ensures { result ≡ hold_from turn moment.now.holds.now (record { window = window; device = device; id = id }) }
+{
+    Hold {
+        window,
+        device,
+        id,
+        since: began(moment.holds, window, device).unwrap_or(turn),
+    }
+}
+
+// The holds of those that get a pointer, of these candidates.
+fn taken_by(
+    alloc: Global,
+    moment: &Moment,
+    turn: u64,
+    device: DeviceId,
+    id: PointerId,
+    chosen: Option<u32>,
+    spies: u64,
+    some_pilfering: bool,
+) -> Result<Vec<Hold>, AllocError>
+    ensures { let s = scene_at moment.now in
+        IfOk result (λ v. v.items ≡ map (λ w. hold_from turn moment.now.holds.now (record { window = w.channel; device = device; id = id })) (filter (λ w. is_taker s device (is_candidate_of chosen (mask_has spies)) some_pilfering w.channel) s.windows)) }
+{
+    moment
+        .snapshot
+        .windows()
+        .iter()
+        .filter(|window| is_taker(
+            moment,
+            device,
+            chosen,
+            spies,
+            some_pilfering,
+            window.channel,
+        ))
+        .map(|window| hold_from(moment, turn, window.channel, device, id))
+        .collect(alloc)
+}
+
+// The spies of the snapshot at a point.
+fn spies(moment: &Moment, at: Pixel) -> u64
+    ensures { let s = scene_at moment.now in (c : ℕ) → mask_has result c ≡ is_spy_at s.windows s.live at.x at.y c }
+{
+    moment.snapshot.spies(at.x, at.y, moment.live)
+}
+
+// The holds of those that get a pointer that goes down.
+fn gained_down(
+    alloc: Global,
+    moment: &Moment,
+    turn: u64,
+    device: DeviceId,
+    pointer: Pointer,
+) -> Result<Vec<Hold>, AllocError>
+    ensures { let s = scene_at moment.now in
+        IfOk result (λ v. v.items ≡ map (hold_from turn moment.now.holds.now) (pairs device pointer.id (takers s device pointer.at))) }
+{
+    let chosen = chosen(moment, device, pointer.at);
+    let spies = spies(moment, pointer.at);
+    let some = some_pilfering(moment, device, chosen, spies);
+    taken_by(alloc, moment, turn, device, pointer.id, chosen, spies, some)
+}
+
+// The hold of the window that a pointer slips to.
+fn gained_slip(
+    alloc: Global,
+    moment: &Moment,
+    turn: u64,
+    device: DeviceId,
+    id: PointerId,
+    slipped: Option<Slip>,
+) -> Result<Vec<Hold>, AllocError>
+    ensures { IfOk result (λ v. v.items ≡ map (hold_from turn moment.now.holds.now) (slips_in device id (option_map rule_slip slipped))) }
+{
+    let mut gained = Vec::new(alloc);
+    if let Some(slip) = slipped {
+        gained.push(hold_from(moment, turn, slip.to, device, id))?;
+    }
+    Ok(gained)
+}
+
+// The pointer that goes down or up with a motion, or the first one of a move.
+pub(crate) fn changed(motion: &Motion) -> Option<Pointer>
+    ensures { result ≡ changed motion.now }
+{
+    motion.pointers.get(usize::from(motion.index))
+}
+
+// What a motion gives.
+fn gained(
+    alloc: Global,
+    moment: &Moment,
+    turn: u64,
+    motion: &Motion,
+    slipped: Option<Slip>,
+) -> Result<Vec<Hold>, AllocError>
+    requires { option_map rule_slip slipped ≡ slip (scene_at moment.now) motion.now }
+    ensures { IfOk result (λ v. v.items ≡ map (hold_from turn moment.now.holds.now) (given (scene_at moment.now) (Moves motion.now))) }
+{
+    let Some(pointer) = changed(motion) else {
+        return Ok(Vec::new(alloc));
+    };
+    match motion.action {
+        MotionAction::Down | MotionAction::PointerDown => gained_down(
+            alloc,
+            moment,
+            turn,
+            motion.device,
+            pointer,
+        ),
+        MotionAction::Move => gained_slip(alloc, moment, turn, motion.device, pointer.id, slipped),
+        _ => Ok(Vec::new(alloc)),
+    }
+}
+
+// What a motion takes.
+fn lost(moment: &Moment, motion: &Motion, slipped: Option<Slip>) -> Loss
+    requires { option_map rule_slip slipped ≡ slip (scene_at moment.now) motion.now }
+    ensures { taking_of moment.now.snapshot.now result ≡ taken (scene_at moment.now) (Moves motion.now) }
+{
+    let Some(pointer) = changed(motion) else {
+        return Loss::None;
+    };
+    match motion.action {
+        MotionAction::Up | MotionAction::PointerUp => Loss::Lift {
+            device: motion.device,
+            id: pointer.id,
+        },
+        MotionAction::Move => match slipped {
+            Some(slip) => Loss::Slip {
+                window: slip.from,
+                device: motion.device,
+                id: pointer.id,
+            },
+            None => Loss::None,
+        },
+        _ => Loss::None,
+    }
+}
+
+// What a motion changes.
+fn change_by(
+    alloc: Global,
+    moment: &Moment,
+    turn: u64,
+    motion: &Motion,
+) -> Result<Change, AllocError>
+    ensures { IfOk result (λ k. IsChange (scene_at moment.now) (Moves motion.now) turn moment.now.holds.now k.gained.items k.loss) }
+{
+    let slipped = slip_of(moment, motion);
+    let gained = gained(alloc, moment, turn, motion, slipped)?;
+    let loss = lost(moment, motion, slipped);
+    Ok(Change { gained, loss })
+}
+
+// What a turn that is no motion takes; such a turn gives nothing.
+fn loss_of(moment: &Moment, turn: &Turn) -> Loss
+    requires { IsNoMotion turn.now }
+    ensures { let s = scene_at moment.now in taking_of s.windows result ≡ taken s (step_of turn.now s.windows) }
+{
+    match *turn {
+        Turn::Pointers(_) => unreachable!(),
+        Turn::Reset(device) => Loss::Empty { device },
+        Turn::Pilfer { channel, device } => Loss::Pilfer {
+            window: channel,
+            device,
+            ids: ids_with(0, moment.holds, channel, device),
+        },
+        Turn::Windows => Loss::Unnamed,
+        Turn::Mute { channels } => Loss::Mute { channels },
+        Turn::Forget { channel } => Loss::Forget { channel },
+    }
+}
+
+// What a turn changes.
+pub(crate) fn change_of(
+    alloc: Global,
+    moment: &Moment,
+    number: u64,
+    turn: &Turn,
+) -> Result<Change, AllocError>
+    ensures { let s = scene_at moment.now in IfOk result (λ k. IsChange s (step_of turn.now s.windows) number moment.now.holds.now k.gained.items k.loss) }
+{
+    match turn {
+        Turn::Pointers(motion) => change_by(alloc, moment, number, motion),
+        _ => Ok(Change {
+            gained: Vec::new(alloc),
+            loss: loss_of(moment, turn),
+        }),
+    }
+}

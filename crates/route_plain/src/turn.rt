@@ -1,0 +1,37 @@
+//! The turns of the router, and what is said at them.
+use input_types::{DeviceId, Motion};
+
+/// A step that changes who holds what, or tells windows of what they hold. Channels are numbers from 1 to 64.
+#[derive(Clone, Copy, Debug, PartialEq, Eq)]
+pub enum Turn {
+    /// A motion of a device, in display pixels.
+    Pointers(Motion),
+    /// A device begins anew: all its pointers are taken from all windows.
+    Reset(DeviceId),
+    /// A spy takes what it holds of a device from all other windows.
+    Pilfer {
+        /// The spy's channel.
+        channel: u32,
+        device: DeviceId,
+    },
+    /// The snapshot is a new one: windows that it does not name lose all that they hold.
+    Windows,
+    /// Channels are found unresponsive: they lose all that they hold.
+    Mute {
+        /// The mask of these channels.
+        channels: u64,
+    },
+    /// A channel is removed: it loses all that it holds, and is told nothing.
+    Forget {
+        /// That channel.
+        channel: u32,
+    },
+}
+
+/// What a channel is told, in display pixels.
+#[derive(Clone, Copy, Debug, PartialEq, Eq)]
+pub struct Said {
+    /// The channel, 1 to 64.
+    pub channel: u32,
+    pub motion: Motion,
+}
