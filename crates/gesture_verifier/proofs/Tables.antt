@@ -1,0 +1,119 @@
+-- What a write into a table does to what the table stands for.
+use Rattle.std.proofs.Common.{◌≡◌, ◌≢◌, ℕ, Bool, zero, suc, ◌-◌, ◌<◌, ◌≤◌, ◌&&◌, true, false, if◌then◌else◌, List, [], length, get_or, set, replicate, Option, Some, None, ⊎_elim, refl, sym, ap, ◌∙◌, arith, nat_eq, eq-eqb}
+use Rattle.std.proofs.lemmas.List.{get_or-set_same, get_or-set_other}
+use Rattle.std.proofs.lemmas.Bool.{cases_eq, ne_eqb, false≢true}
+use Rattle.std.specs.Option.{option_map}
+use Rattle.std.proofs.lemmas.Option.{slice_get_read, get_or_from_slice_get}
+use Rattle.bits32.specs.Set.{members}
+use Rattle.input_types.specs.declared.key.KeyMsg.{KeyMsg}
+use Rattle.input_types.specs.declared.motion.Motion.{Motion}
+use Rattle.input_types.specs.declared.message.Body.TheVariants.{Motion as MotionBody, Key}
+use Rattle.input_types.specs.Gestures.{after_motion}
+use Rattle.input_types.specs.StreamRule.{StreamState, untold, with_ids, with_repeat, after_key, after_body}
+use Rattle.gesture_verifier.proofs.Sets.{none_listed}
+use Rattle.gesture_verifier.specs.Told.{Told, state_of, is_device, ids_kept, due_of, due_kept, place_of}
+
+within : (d : ℕ) → is_device d ≡ true → (1 ≤ d) × (d ≤ 8)
+within d h = grind arith
+
+ids_kept_at : (sets : List ℕ) (d n e : ℕ) → is_device d ≡ true → length sets ≡ 8 → (v : Bool) → is_device e ≡ v
+    → (if v then members (get_or (set sets (d - 1) n) (e - 1) 0) else []) ≡ (if nat_eq e d then members n else (if v then members (get_or sets (e - 1) 0) else []))
+ids_kept_at sets d n e h len true w =
+    let a : (1 ≤ d) × (d ≤ 8) = within d h in
+    let b : (1 ≤ e) × (e ≤ 8) = within e w in
+    ⊎_elim
+    (λ (same : e ≡ d). rw (same, eq-eqb d d refl, get_or-set_same sets (d - 1) n 0 (omega (arith, a.1, len))) refl)
+    (λ (other : e ≢ d). rw (ne_eqb e d other, get_or-set_other sets (d - 1) (e - 1) n 0 (λ x. other (omega (arith, a.0, b.0, x)))) refl)
+    (cases_eq e d)
+ids_kept_at sets d n e h len false w =
+    rw (ne_eqb e d (λ same. false≢true (sym w ∙ ap is_device same ∙ h))) refl
+
+-- a new set for one device
+pub ids_kept_after : (sets : List ℕ) (d n : ℕ) → is_device d ≡ true → length sets ≡ 8 → ids_kept (set sets (d - 1) n) ≡ with_ids (ids_kept sets) d (members n)
+ids_kept_after sets d n h len i e = ids_kept_at sets d n e h len (is_device e) refl i
+
+unwritten : (x : ℕ) (n i : ℕ) → get_or (replicate n x) i x ≡ x
+unwritten x zero i = refl
+unwritten x (suc n) zero = refl
+unwritten x (suc n) (suc i) = unwritten x n i
+
+first_at : (x : ℕ) (v : Bool) → x ≡ 0 → (if v then members x else []) ≡ []
+first_at x true e = rw e none_listed
+first_at x false e = refl
+
+no_due : (x : Option ℕ) (v : Bool) → x ≡ None → (if v then x else None) ≡ None
+no_due x true e = e
+no_due x false e = refl
+
+-- at first nothing is down
+pub nothing_told : (x : ℕ) (table : List ℕ) → x ≡ 0 → table ≡ []
+    → state_of (record { sets = replicate 8 x; repeats = table; focus = false; accepted = 0 }) ≡ untold
+nothing_told x table e t = rw (e, t) (λ i. record {
+  ids = λ d. first_at (get_or (replicate 8 0) (d - 1) 0) (is_device d) (unwritten 0 8 (d - 1)) i;
+  repeats = λ d s. no_due None (is_device d) refl i;
+  focus = false;
+})
+
+not_both : (e d t s : ℕ) → (e ≡ d → t ≡ s → ⊥) → (nat_eq e d && nat_eq t s) ≡ false
+not_both e d t s h =
+    ⊎_elim
+    (λ (same : e ≡ d). rw (same, eq-eqb d d refl) (ne_eqb t s (λ x. h same x)))
+    (λ (other : e ≢ d). rw (ne_eqb e d other) refl)
+    (cases_eq e d)
+
+due_kept_at : (table : List ℕ) (d s n e t : ℕ) → is_device d ≡ true → place_of d s < length table → (v : Bool) → is_device e ≡ v
+    → (if v then due_of (get_or (set table (place_of d s) n) (place_of e t) 0) else None)
+    ≡ (if nat_eq e d && nat_eq t s then due_of n else (if v then due_of (get_or table (place_of e t) 0) else None))
+due_kept_at table d s n e t h len true w =
+    let a : (1 ≤ d) × (d ≤ 8) = within d h in
+    let b : (1 ≤ e) × (e ≤ 8) = within e w in
+    ⊎_elim
+    (λ (same : place_of e t ≡ place_of d s).
+    let keys : t ≡ s = omega (arith, a, b, same) in
+    let devices : e ≡ d = omega (arith, a, b, same) in
+    rw (devices, keys, eq-eqb d d refl, eq-eqb s s refl, get_or-set_same table (place_of d s) n 0 len) refl)
+    (λ (other : place_of e t ≢ place_of d s).
+    let apart : (nat_eq e d && nat_eq t s) ≡ false = not_both e d t s (λ x y. other (rw (x, y) refl)) in
+    rw (apart, get_or-set_other table (place_of d s) (place_of e t) n 0 other) refl)
+    (cases_eq (place_of e t) (place_of d s))
+due_kept_at table d s n e t h len false w =
+    rw (ne_eqb e d (λ same. false≢true (sym w ∙ ap is_device same ∙ h))) refl
+
+-- a new number for one key
+pub due_kept_after : (table : List ℕ) (d s n : ℕ) → is_device d ≡ true → place_of d s < length table
+    → due_kept (set table (place_of d s) n) ≡ with_repeat (due_kept table) d s (due_of n)
+due_kept_after table d s n h len i e t = due_kept_at table d s n e t h len (is_device e) refl i
+
+-- a table that reads alike stands for the same
+pub due_kept_alike : (a b : List ℕ) → ((k : ℕ) → get_or a k 0 ≡ get_or b k 0) → due_kept a ≡ due_kept b
+due_kept_alike a b same i d s = if is_device d then due_of (same (place_of d s) i) else None
+
+-- a motion that may come
+pub motion_taken : (old : Told) (m : Motion) (held after : ℕ) → is_device m.device ≡ true → length old.sets ≡ 8
+    → held ≡ get_or old.sets (m.device - 1) held → Some (members after) ≡ after_motion (members held) m
+    → after_body (state_of old) (MotionBody m) ≡ Some (state_of (record old { sets = set old.sets (m.device - 1) after }))
+motion_taken old m held after h len is e =
+    let Next : List ℕ → StreamState = λ ids. record { ids = with_ids (ids_kept old.sets) m.device ids; repeats = due_kept old.repeats; focus = old.focus } in
+    let d : (1 ≤ m.device) × (m.device ≤ 8) = within m.device h in
+    let read : get_or old.sets (m.device - 1) 0 ≡ held =
+    get_or_from_slice_get old.sets (m.device - 1) held 0 (slice_get_read old.sets 8 (m.device - 1) held (sym len) (omega (arith, d)) is) in
+    let kept : ids_kept old.sets m.device ≡ members held = rw h (ap members read) in
+    ap (λ ids. option_map Next (after_motion ids m)) kept
+    ∙ ap (option_map Next) (sym e)
+    ∙ ap (λ t. Some (record { ids = t; repeats = due_kept old.repeats; focus = old.focus })) (sym (ids_kept_after old.sets m.device after h len))
+
+-- a key message that may come
+pub key_taken : (old : Told) (table : List ℕ) (m : KeyMsg) (due next : ℕ) → is_device m.key.device ≡ true
+    → due ≡ get_or old.repeats (place_of m.key.device m.key.scan) 0 → Some (due_of next) ≡ after_key (due_of due) m
+    → ((k : ℕ) → get_or table k 0 ≡ get_or old.repeats k 0) → place_of m.key.device m.key.scan < length table
+    → after_body (state_of old) (Key m) ≡ Some (state_of (record old { repeats = set table (place_of m.key.device m.key.scan) next }))
+key_taken old table m due next h is e alike room =
+    let Next : Option ℕ → StreamState =
+    λ due. record { ids = ids_kept old.sets; repeats = with_repeat (due_kept old.repeats) m.key.device m.key.scan due; focus = old.focus } in
+    let kept : due_kept old.repeats m.key.device m.key.scan ≡ due_of due = rw h (ap due_of (sym is)) in
+    let written : with_repeat (due_kept old.repeats) m.key.device m.key.scan (due_of next) ≡ due_kept (set table (place_of m.key.device m.key.scan) next) =
+    ap (λ t. with_repeat t m.key.device m.key.scan (due_of next)) (sym (due_kept_alike table old.repeats alike))
+    ∙ sym (due_kept_after table m.key.device m.key.scan next h room) in
+    ap (λ known. option_map Next (after_key known m)) kept
+    ∙ ap (option_map Next) (sym e)
+    ∙ ap (λ t. Some (record { ids = ids_kept old.sets; repeats = t; focus = old.focus })) written

@@ -1,0 +1,43 @@
+-- What a fault tells of the stream and of the message that was refused.
+use Rattle.std.specs.Prelude.{◌≡◌, ℕ, Bool, true, false, List, [], Option, Some, None, Result, Ok, Err}
+use Rattle.std.specs.declared.alloc.AllocError.{AllocError}
+use Rattle.input_types.specs.declared.message.Body.{Body}
+use Rattle.input_types.specs.declared.message.Body.TheVariants.{Motion, Key, Focus}
+use Rattle.input_types.specs.declared.message.Message.{Message}
+use Rattle.input_types.specs.StreamRule.{StreamState, after_body}
+use Rattle.bits32.specs.Set.{members}
+use Rattle.gesture_verifier.specs.declared.fault.Fault.{Fault}
+use Rattle.gesture_verifier.specs.Told.{Told, state_of}
+
+-- the ids that are down on the device of a motion; none for what is no motion
+abbrev pub ids_of_body : StreamState → Body → List ℕ
+ids_of_body s (Motion m) = s.ids m.device
+ids_of_body s (Key m) = []
+ids_of_body s (Focus b) = []
+
+-- the next repeat number of the key of a key message; none for what is no key message
+abbrev pub due_of_body : StreamState → Body → Option ℕ
+due_of_body s (Motion m) = None
+due_of_body s (Key m) = s.repeats m.key.device m.key.scan
+due_of_body s (Focus b) = None
+
+-- a message that might not come when it came, with what the window knew then
+pub record IsFault (told : Told) (m : Message) (f : Fault) : Type 0 where
+  pub refused : after_body (state_of told) m.body ≡ None
+  pub place : f.place ≡ told.accepted
+  pub held : members f.held ≡ ids_of_body (state_of told) m.body
+  pub next_repeat : f.next_repeat ≡ due_of_body (state_of told) m.body
+  pub focus : f.focus ≡ told.focus
+  pub message : f.message ≡ m
+
+-- the body of a key message
+abbrev pub is_key : Body → Bool
+is_key (Motion m) = false
+is_key (Key m) = true
+is_key (Focus b) = false
+
+-- what a body does to what a window knows: taken, refused, or want of memory for a key; the two last leave all as it was
+abbrev pub Takes : Result Bool AllocError → Told → Told → Body → Type 0
+Takes (Ok true) old new body = (after_body (state_of old) body ≡ Some (state_of new)) × (new.accepted ≡ old.accepted)
+Takes (Ok false) old new body = (after_body (state_of old) body ≡ None) × (new ≡ old)
+Takes (Err e) old new body = (new ≡ old) × (is_key body ≡ true)

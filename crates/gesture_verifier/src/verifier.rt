@@ -1,0 +1,240 @@
+//! The judge of one stream.
+ghost use Rattle.std.specs.Prelude.{◌≡◌, List, [], ◌∷◌, false, true, OnOk, OnErr};
+
+use crate::fault::{Fault, StepError};
+use crate::held::{next_held, nothing, row};
+use crate::repeats::{due, entry, grow, next_repeat, place};
+use bits32::Bits32;
+use input_types::{Body, KeyMsg, Message, Motion};
+use std::alloc::{AllocError, Global};
+use std::marker::Model;
+
+/// What a window knows from the messages that it was told, in the order in which they were accepted.
+#[derive(Drop)]
+pub struct Verifier {
+    /// The ids that are down on each device, that of device 1 first.
+    down: [Bits32; 8],
+    /// For each key the next repeat number, or 0 where it is up. Keys past its end are up.
+    repeats: Vec<u64>,
+    focus: bool,
+    accepted: u64,
+}
+
+impl Model for Verifier {
+    ghost use Rattle.std.specs.Prelude.{◌≡◌, length};
+    ghost use Rattle.gesture_verifier.specs.Told.{Told};
+
+    ghost Value = { Told };
+
+    ghost view = { λ v. record { sets = v.down; repeats = v.repeats.items; focus = v.focus; accepted = v.accepted } };
+
+    ghost invariant = { λ v. length v.down ≡ 8 };
+}
+
+impl Verifier {
+    ghost use Rattle.input_types.specs.StreamRule.{untold, after_body, is_well_formed};
+    ghost use Rattle.bits32.specs.Set.{members};
+    ghost use Rattle.gesture_verifier.specs.Told.{state_of, one_more, StandsFor};
+    ghost use Rattle.gesture_verifier.specs.Faults.{IsFault, Takes, is_key, ids_of_body, due_of_body};
+
+    /// A judge of a stream that has no message yet.
+    pub fn new(alloc: Global) -> Verifier
+        ensures untold { state_of result ≡ untold }
+        ensures stands { StandsFor [] result }
+    {
+        Verifier {
+            down: [Bits32::empty(); 8],
+            repeats: Vec::new(alloc),
+            focus: false,
+            accepted: 0,
+        }
+    }
+
+    /// Accepts the next message of the stream, or says why it may not come.
+    ///
+    /// `Fault` comes exactly where the stream with this message is not well-formed, and then tells what the window knew.
+    /// `Memory` comes only at a key message. An error leaves the verifier as it was.
+    pub fn step(&mut self, message: &Message) -> Result<(), StepError>
+        ensures ok { OnOk result (after_body (state_of self.old) message.now.body ≡ Some (state_of self.new)) }
+        ensures stands { (past : List Message) → StandsFor past self.old → OnOk result (StandsFor (message.now ∷ past) self.new) }
+        ensures counted { OnOk result (self.new.accepted ≡ one_more self.old.accepted) }
+        ensures fault { (fault : Fault) → result ≡ Err (StepError.Fault fault) → IsFault self.old message.now fault }
+        ensures breaks { (past : List Message) → StandsFor past self.old → (fault : Fault) → result ≡ Err (StepError.Fault fault) → is_well_formed (message.now ∷ past) ≡ false }
+        ensures memory { result ≡ Err StepError.Memory → is_key message.now.body ≡ true }
+        ensures err { OnErr result (self.new ≡ self.old) }
+    {
+        if !self.take(&message.body)? {
+            return Err(StepError::Fault(self.fault(message)));
+        }
+        self.accepted = self.accepted.saturating_add(1);
+        Ok(())
+    }
+
+    /// Takes what a message says, where it may come.
+    fn take(&mut self, body: &Body) -> Result<bool, AllocError>
+        ensures { Takes result self.old self.new body.now }
+    {
+        match body {
+            Body::Motion(motion) => Ok(self.take_motion(motion)),
+            Body::Key(key) => self.take_key(key),
+            Body::Focus(had) => Ok(self.take_focus(*had)),
+        }
+    }
+
+    fn take_motion(&mut self, motion: &Motion) -> bool
+        ensures { Takes (Ok result) self.old self.new (Body.Motion motion.now) }
+    {
+        let row = row(motion.device);
+        match next_held(self.down[row], motion) {
+            Some(held) => {
+                self.down[row] = held;
+                true
+            }
+            None => false,
+        }
+    }
+
+    fn take_key(&mut self, message: &KeyMsg) -> Result<bool, AllocError>
+        ensures { Takes result self.old self.new (Body.Key message.now) }
+    {
+        let at = place(&message.key);
+        let Some(next) = next_repeat(entry(&self.repeats, at), message) else {
+            return Ok(false);
+        };
+        grow(&mut self.repeats, at)?;
+        self.repeats[at] = next;
+        Ok(true)
+    }
+
+    fn take_focus(&mut self, had: bool) -> bool
+        ensures { Takes (Ok result) self.old self.new (Body.Focus had) }
+    {
+        if had == self.focus {
+            return false;
+        }
+        self.focus = had;
+        true
+    }
+
+    /// What is to be told of a message that may not come.
+    fn fault(&self, message: &Message) -> Fault
+        ensures { after_body (state_of self.now) message.now.body ≡ None → IsFault self.now message.now result }
+    {
+        Fault {
+            place: self.accepted,
+            held: self.held(&message.body),
+            next_repeat: self.next_repeat(&message.body),
+            focus: self.focus,
+            message: *message,
+        }
+    }
+
+    /// The ids that are down on the device of a motion, as bits.
+    fn held(&self, body: &Body) -> u32
+        ensures { members result ≡ ids_of_body (state_of self.now) body.now }
+    {
+        match body {
+            Body::Motion(motion) => self.down[row(motion.device)].bits(),
+            Body::Key(_) | Body::Focus(_) => nothing().bits(),
+        }
+    }
+
+    /// The next repeat number of the key of a key message.
+    fn next_repeat(&self, body: &Body) -> Option<u64>
+        ensures { result ≡ due_of_body (state_of self.now) body.now }
+    {
+        match body {
+            Body::Key(message) => due(entry(&self.repeats, place(&message.key))),
+            Body::Motion(_) | Body::Focus(_) => None,
+        }
+    }
+}
+
+#[cfg(test)]
+mod tests {
+    use super::*;
+    use input_types::{
+        DeviceId, KeyArgs, Moment, MotionAction, Pixel, Pointer, PointerId, Pointers,
+    };
+    use std::test::Fail;
+
+    fn says(body: Body) -> Message {
+        Message {
+            seq: 1,
+            moment: Moment::zero(),
+            body,
+        }
+    }
+
+    fn one_finger(device: DeviceId, action: MotionAction) -> Message {
+        let mut pointers = Pointers::empty();
+        let finger = Pointer {
+            id: PointerId::zero(),
+            at: Pixel { x: 100, y: 200 },
+        };
+        let _ = pointers.push(finger);
+        says(Body::Motion(Motion {
+            device,
+            action,
+            index: 0,
+            flags: 0,
+            pointers,
+        }))
+    }
+
+    fn key(device: DeviceId, down: bool, repeat: u32) -> Message {
+        let key = KeyArgs {
+            device,
+            scan: 30,
+            code: 29,
+            meta: 0,
+            down,
+        };
+        says(Body::Key(KeyMsg {
+            key,
+            flags: 0,
+            repeat,
+        }))
+    }
+
+    #[test]
+    fn a_second_down_is_refused(rt: HostRuntime) -> Result<(), Fail> {
+        let device = DeviceId::new(1).ok_or("a device")?;
+        let mut verifier = Verifier::new(rt.alloc());
+        let down = one_finger(device, MotionAction::Down);
+        assert_eq!(rt; verifier.step(&down), Ok(()));
+        let fault = Fault {
+            place: 1,
+            held: 1,
+            next_repeat: None,
+            focus: false,
+            message: down,
+        };
+        assert_eq!(rt; verifier.step(&down), Err(StepError::Fault(fault)));
+        assert_eq!(rt;
+            verifier.step(&one_finger(device, MotionAction::Up)),
+            Ok(())
+        );
+        Ok(())
+    }
+
+    #[test]
+    fn repeats_are_counted(rt: HostRuntime) -> Result<(), Fail> {
+        let device = DeviceId::new(8).ok_or("a device")?;
+        let mut verifier = Verifier::new(rt.alloc());
+        assert_eq!(rt; verifier.step(&says(Body::Focus(true))), Ok(()));
+        assert_eq!(rt; verifier.step(&key(device, true, 0)), Ok(()));
+        assert_eq!(rt; verifier.step(&key(device, true, 1)), Ok(()));
+        let skips = key(device, true, 3);
+        let fault = Fault {
+            place: 3,
+            held: 0,
+            next_repeat: Some(2),
+            focus: true,
+            message: skips,
+        };
+        assert_eq!(rt; verifier.step(&skips), Err(StepError::Fault(fault)));
+        assert_eq!(rt; verifier.step(&key(device, false, 0)), Ok(()));
+        Ok(())
+    }
+}
