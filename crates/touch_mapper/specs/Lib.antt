@@ -1,0 +1,4 @@
+pub mod Cooking
+pub mod Rising
+pub mod Gesture
+pub mod GestureState
