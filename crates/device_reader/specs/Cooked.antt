@@ -1,5 +1,5 @@
 -- What the dispatcher is given of a device. Events and args stand with the newest first.
-use Rattle.std.specs.Prelude.{◌≡◌, ℕ, Bool, List, [], ◌∷◌, ◌++◌, map, reverse, if◌then◌else◌}
+use Rattle.std.specs.Prelude.{◌≡◌, ℕ, List, [], ◌∷◌, ◌++◌, map, reverse, if◌then◌else◌}
 use Rattle.raw_events.specs.declared.event.RawEvent.{RawEvent}
 use Rattle.input_types.specs.declared.pointer.Pointer.{Pointer}
 use Rattle.input_types.specs.declared.message.Args.{Args}
@@ -8,7 +8,6 @@ use Rattle.slot_accumulator.specs.SlotContacts.{StandsFor as SlotsStandFor}
 use Rattle.pointer_ids.specs.PointerIds.{named_after, assigned}
 use Rattle.touch_mapper.specs.Cooking.{Cooking}
 use Rattle.touch_mapper.specs.Gesture.{placed_all, gesture}
-use Rattle.touch_mapper.specs.GestureState.{GestureState}
 use Rattle.device_reader.specs.Reading.{Reading}
 use Rattle.device_reader.specs.Packets.{is_report, is_drop, is_void, since_drop, packets}
 

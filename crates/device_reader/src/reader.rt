@@ -4,6 +4,7 @@ ghost use Rattle.raw_events.specs.declared.event.RawEvent.{RawEvent as Event};
 ghost use Rattle.input_types.specs.declared.message.Args.TheVariants.{Motion as MotionArgs, Reset};
 ghost use Rattle.device_reader.specs.Packets.{is_report as ends_packet, is_drop as drops};
 ghost use Rattle.device_reader.specs.Cooked.{TouchPlan, args_of, StandsFor};
+ghost use Rattle.device_reader.specs.Rule.{KeepsRule};
 
 use input_types::{Args, DeviceId, Motion};
 use pointer_ids::Ids;
@@ -34,10 +35,14 @@ impl Model for DeviceReader {
 
 impl DeviceReader {
     /// The reader of a touch device with so many slots, whose positions become pixels by `cook`.
+    ///
+    /// Whatever the device sends, all that it gives keeps the rule for devices, and the ids that are down by that rule are those of
+    /// its last packet since the last SYN_DROPPED.
     pub fn touch(device: DeviceId, slots: u8, cook: Cook) -> DeviceReader
         requires { (1 ≤ slots) × (slots ≤ 16) }
         ensures state { StandsFor (record { device = device; slots = slots; cook = cook }) [] result }
         ensures device { result.device ≡ device }
+        ensures rule { (past : List Event) → KeepsRule (record { device = device; slots = slots; cook = cook }) past }
     {
         DeviceReader {
             device,
@@ -126,3 +131,6 @@ fn motion_args(alloc: Global, motions: &[Motion]) -> Result<Vec<Args>, AllocErro
     }
     Ok(args)
 }
+
+#[cfg(test)]
+mod tests;
