@@ -11,5 +11,7 @@
 #![tactic(auto)]
 
 mod reader;
+mod recording;
 
 pub use reader::DeviceReader;
+pub use recording::cook;

@@ -1,6 +1,8 @@
-ghost use Rattle.std.specs.Prelude.{◌≡◌, IfSome};
+ghost use Rattle.std.specs.Prelude.{◌≡◌, IfSome, IfOk};
+ghost use Rattle.device_reader.specs.CookedList.{AreNumbered};
 
 use super::*;
+use crate::recording::cook;
 use input_types::{Axis, Moment, MotionAction, Pixel, Pointer, PointerId, Pointers, Rotation};
 use raw_events::codes::{
     ABS_MT_POSITION_X, ABS_MT_POSITION_Y, ABS_MT_SLOT, ABS_MT_TRACKING_ID, EV_ABS,
@@ -130,5 +132,45 @@ fn lost_events_reset_the_device(rt: HostRuntime) -> Result<(), Fail> {
     let after = [REPORT, (EV_ABS, ABS_MT_POSITION_X, 130), REPORT];
     let given = feed(rt.alloc(), &mut reader, device, &after)?;
     assert_eq!(rt; given.len(), 0);
+    Ok(())
+}
+
+/// The readers of a session whose one device this is.
+fn alone(alloc: Global, reader: DeviceReader) -> Result<Vec<DeviceReader>, AllocError>
+    requires { reader.device ≡ 1 }
+    ensures { IfOk result (λ v. AreNumbered v.items) }
+{
+    let mut readers = Vec::new(alloc);
+    readers.push(reader)?;
+    Ok(readers)
+}
+
+fn at(device: DeviceId, us: u64, kind: u16, code: u16, value: i32) -> RawEvent {
+    RawEvent {
+        device,
+        moment: Moment::new(us).unwrap_or(Moment::zero()),
+        kind,
+        code,
+        value,
+    }
+}
+
+#[test]
+fn moments_never_fall(rt: HostRuntime) -> Result<(), Fail> {
+    let device = DeviceId::new(1).ok_or("a device")?;
+    let readers = alone(rt.alloc(), phone(device).ok_or("a reader")?)?;
+    let events = [
+        at(device, 1000, EV_ABS, ABS_MT_TRACKING_ID, 45),
+        at(device, 2000, EV_SYN, SYN_REPORT, 0),
+        at(device, 1000, EV_SYN, SYN_REPORT, 0),
+    ];
+    let given = cook(rt.alloc(), readers, &events)?;
+    assert_eq!(rt; given.len(), 2);
+    assert_eq!(rt; given[0].0.get(), 2000);
+    assert_eq!(rt; given[1].0.get(), 2000);
+    assert_eq!(rt;
+        given[1].1,
+        motion(device, MotionAction::Move, 0, &[(0, 0, 0)])
+    );
     Ok(())
 }
