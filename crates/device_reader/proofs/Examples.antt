@@ -1,0 +1,99 @@
+-- Worked events of a touch device of ten slots, on a display of 1080 by 2400 with as many raw positions, computed. The newest stands first.
+use Rattle.std.specs.Prelude.{◌≡◌, ℕ, ℤ, pos, negsuc, List, [], ◌∷◌, map, refl}
+use Rattle.raw_events.specs.declared.event.RawEvent.{RawEvent}
+use Rattle.input_types.specs.declared.axis.Rotation.TheVariants.{R0}
+use Rattle.input_types.specs.declared.pointer.Pointer.{Pointer}
+use Rattle.input_types.specs.declared.motion.MotionAction.{MotionAction}
+use Rattle.input_types.specs.declared.motion.MotionAction.TheVariants.{Down, Up, Move, PointerDown, PointerUp}
+use Rattle.input_types.specs.declared.message.Args.{Args}
+use Rattle.input_types.specs.declared.message.Args.TheVariants.{Motion as MotionArgs, Reset}
+use Rattle.pointer_ids.specs.PointerIds.{assigned, least_free}
+use Rattle.device_reader.specs.Cooked.{TouchPlan, device_args}
+use Rattle.device_reader.specs.CookedList.{cooked}
+
+abbrev phone : TouchPlan
+phone = record {
+  device = 1;
+  slots = 10;
+  cook = record { x = record { min = pos 0; max = pos 1079 }; y = record { min = pos 0; max = pos 2399 }; width = 1080; height = 2400; rotation = R0 };
+}
+
+abbrev event : ℕ → ℕ → ℤ → RawEvent
+event kind code value = record { device = 1; moment = 1000; kind = kind; code = code; value = value }
+
+abbrev slot : ℕ → RawEvent
+slot s = event 3 47 (pos s)
+
+abbrev tracking : ℤ → RawEvent
+tracking t = event 3 57 t
+
+abbrev x : ℕ → RawEvent
+x v = event 3 53 (pos v)
+
+abbrev y : ℕ → RawEvent
+y v = event 3 54 (pos v)
+
+abbrev report : RawEvent
+report = event 0 0 (pos 0)
+
+abbrev drop : RawEvent
+drop = event 0 3 (pos 0)
+
+abbrev finger : ℕ → ℕ → ℕ → Pointer
+finger i px py = record { id = i; at = record { x = pos px; y = pos py } }
+
+abbrev says : MotionAction → ℕ → List Pointer → Args
+says action index ps = MotionArgs (record { device = 1; action = action; index = index; flags = 0; pointers = ps })
+
+-- two fingers in one packet
+abbrev two : List RawEvent
+two = report ∷ y 400 ∷ x 300 ∷ tracking (pos 46) ∷ slot 1 ∷ y 200 ∷ x 100 ∷ tracking (pos 45) ∷ slot 0 ∷ []
+
+abbrev both : List Pointer
+both = finger 0 100 200 ∷ finger 1 300 400 ∷ []
+
+abbrev two_down : List Args
+two_down = says PointerDown 1 both ∷ says Down 0 (finger 0 100 200 ∷ []) ∷ []
+
+pub two_fingers : device_args phone two ≡ two_down
+unfolding assigned least_free
+two_fingers = refl
+
+-- one moves, and goes up where it was
+pub one_goes_up : device_args phone (report ∷ tracking (negsuc 0) ∷ report ∷ x 110 ∷ slot 0 ∷ two)
+    ≡ says PointerUp 0 (finger 0 110 200 ∷ finger 1 300 400 ∷ []) ∷ says Move 0 (finger 0 110 200 ∷ finger 1 300 400 ∷ []) ∷ two_down
+unfolding assigned least_free
+one_goes_up = refl
+
+-- a tracking id that changes in a packet is another finger
+pub another_finger : device_args phone (report ∷ tracking (pos 46) ∷ report ∷ y 1200 ∷ x 540 ∷ tracking (pos 45) ∷ [])
+    ≡ says Down 0 (finger 1 540 1200 ∷ []) ∷ says Up 0 (finger 0 540 1200 ∷ []) ∷ says Down 0 (finger 0 540 1200 ∷ []) ∷ []
+unfolding assigned least_free
+another_finger = refl
+
+-- a drop in mid-packet: what comes up to the next SYN_REPORT is void, another drop too, and nothing is known of the fingers after it
+pub drop_in_a_packet : device_args phone (report ∷ x 130 ∷ report ∷ drop ∷ tracking (pos 47) ∷ drop ∷ x 120 ∷ slot 0 ∷ two) ≡ Reset 1 ∷ two_down
+unfolding assigned least_free
+drop_in_a_packet = refl
+
+-- the current slot is 0 again after a drop, and its positions are too
+pub slot_after_a_drop : device_args phone (report ∷ tracking (pos 48) ∷ report ∷ drop ∷ two) ≡ says Down 0 (finger 0 0 0 ∷ []) ∷ Reset 1 ∷ two_down
+unfolding assigned least_free
+slot_after_a_drop = refl
+
+-- events after the last SYN_REPORT belong to no packet
+pub no_report : device_args phone (tracking (negsuc 0) ∷ two) ≡ two_down
+unfolding assigned least_free
+no_report = refl
+
+-- moments never fall: what the clock gives later, but with an earlier moment, counts as of the latest moment that gave args
+abbrev at : ℕ → RawEvent → RawEvent
+at us e = record { device = e.device; moment = us; kind = e.kind; code = e.code; value = e.value }
+
+pub moments_never_fall : map (λ (g : ℕ × Args). g.0) (cooked (phone ∷ []) (at 1000 report ∷ at 9000 (x 7) ∷ at 2000 report ∷ tracking (pos 45) ∷ [])) ≡ 2000 ∷ 2000 ∷ []
+unfolding assigned least_free
+moments_never_fall = refl
+
+-- an event of a device without a plan gives nothing
+pub no_such_device : cooked [] (report ∷ tracking (pos 45) ∷ []) ≡ []
+no_such_device = refl

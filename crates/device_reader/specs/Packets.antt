@@ -1,0 +1,28 @@
+-- The packets of a device's events. Events stand with the newest first.
+use Rattle.std.specs.Prelude.{ℕ, Bool, false, not, ◌&&◌, nat_eq, List, [], ◌∷◌, if◌then◌else◌}
+use Rattle.raw_events.specs.declared.event.RawEvent.{RawEvent}
+use Rattle.slot_accumulator.specs.declared.contacts.Contact.{Contact}
+use Rattle.slot_accumulator.specs.SlotContacts.{contacts_at}
+
+-- a SYN_REPORT
+abbrev pub is_report : RawEvent → Bool
+is_report e = nat_eq e.kind 0 && nat_eq e.code 0
+
+-- a SYN_DROPPED
+abbrev pub is_drop : RawEvent → Bool
+is_drop e = nat_eq e.kind 0 && nat_eq e.code 3
+
+-- what comes next is void: a drop came, and no SYN_REPORT since
+abbrev pub is_void : List RawEvent → Bool
+is_void [] = false
+is_void (e ∷ past) = if is_void past then not (is_report e) else is_drop e
+
+-- the events that are not void, since the last drop
+abbrev pub since_drop : List RawEvent → List RawEvent
+since_drop [] = []
+since_drop (e ∷ past) = if is_void past then since_drop past else (if is_drop e then [] else e ∷ since_drop past)
+
+-- the contacts of each packet of some events without a drop, the newest packet first
+abbrev pub packets : ℕ → List RawEvent → List (List Contact)
+packets slots [] = []
+packets slots (e ∷ past) = if is_report e then contacts_at slots past ∷ packets slots past else packets slots past

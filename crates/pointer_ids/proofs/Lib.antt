@@ -1,0 +1,4 @@
+pub mod Taken
+pub mod Naming
+pub mod RisingId
+pub mod Examples

@@ -1,0 +1,129 @@
+-- The pointers of a packet in rising id.
+use Rattle.std.specs.Prelude.{◌≡◌, ℕ, zero, suc, ◌+◌, ◌-◌, ◌<◌, ◌≤◌, Bool, true, false, nat_eq, nat_lt, List, [], ◌∷◌, ◌++◌, length, take, drop, replicate, Option, Some, None, find, if◌then◌else◌}
+use Rattle.std.proofs.Common.{sym, ◌∙◌, ap, subst, refl, arith, set, take-suc-set, drop-set-lt, drop-drop, add-one, length-append}
+use Rattle.std.proofs.lemmas.Bool.{eqb-true, ltb-true, ltb-false}
+use Rattle.std.proofs.lemmas.List.{length-set, drop-replicate}
+use Rattle.pointer_ids.specs.declared.named.Named.{Named}
+use Rattle.pointer_ids.specs.declared.assigned.Held.{Held}
+use Rattle.pointer_ids.specs.Assigned.{IsRising, EndsBelow, IsTable, unused}
+use Rattle.pointer_ids.specs.PointerIds.{held, joined, by_id}
+
+pub IsRising-append : (ps : List Held) (p : Held) → IsRising ps → EndsBelow ps p.id → IsRising (ps ++ p ∷ [])
+IsRising-append [] p h e = tt
+IsRising-append (q ∷ []) p h e = (e, tt)
+IsRising-append (q ∷ r ∷ ps) p h e = (h.0, IsRising-append (r ∷ ps) p h.1 e)
+
+-- a pointer put into the first place that is not in use
+pub IsTable-set : (items : List Held) (used : ℕ) (p : Held) → IsTable items used → used < 16 → EndsBelow (take used items) p.id
+    → IsTable (set items used p) (used + 1)
+IsTable-set items used p h lt e =
+    let here : used < length items = omega (arith, lt, h.whole)
+    in let pushed : take (used + 1) (set items used p) ≡ take used items ++ p ∷ []
+    = ap (λ n. take n (set items used p)) (add-one used) ∙ take-suc-set items used p here
+    in let left : drop (used + 1) (set items used p) ≡ replicate (16 - (used + 1)) unused
+    = drop-set-lt (used + 1) items used p (omega arith)
+    ∙ sym (drop-drop 1 used items)
+    ∙ ap (λ xs. drop 1 xs) h.rest
+    ∙ drop-replicate 1 (16 - used) unused
+    ∙ ap (λ n. replicate n unused) (omega arith)
+    in record {
+      whole = length-set items used p ∙ h.whole;
+      within = omega (arith, lt);
+      rises = subst IsRising (sym pushed) (IsRising-append (take used items) p h.rises e);
+      rest = left;
+    }
+
+-- ---- pointers by id
+
+abbrev AllBelow : List Held → ℕ → Type 0
+AllBelow [] n = Unit {0}
+AllBelow (h ∷ hs) n = (h.id < n) × AllBelow hs n
+
+below_next : (hs : List Held) (n : ℕ) → AllBelow hs n → AllBelow hs (suc n)
+below_next [] n h = tt
+below_next (x ∷ hs) n h = (omega (arith, h.0), below_next hs n h.1)
+
+below_push : (hs : List Held) (n : ℕ) (x : Held) → x.id ≡ n → AllBelow hs n → AllBelow (hs ++ x ∷ []) (suc n)
+below_push [] n x e h = (omega (arith, e), tt)
+below_push (y ∷ hs) n x e h = (omega (arith, h.0), below_push hs n x e h.1)
+
+ends_below : (hs : List Held) (n : ℕ) → AllBelow hs n → EndsBelow hs n
+ends_below [] n h = tt
+ends_below (x ∷ []) n h = h.0
+ends_below (x ∷ y ∷ hs) n h = ends_below (y ∷ hs) n h.1
+
+found_at : (m : Named) (ms : List Named) (i : ℕ) (n : Named) (b : Bool) → nat_eq m.id i ≡ b
+    → (find (λ (x : Named). nat_eq x.id i) ms ≡ Some n → n.id ≡ i) → (if b then Some m else find (λ (x : Named). nat_eq x.id i) ms) ≡ Some n → n.id ≡ i
+found_at m ms i n true is later e = let same : m ≡ n = cc in ap (λ (x : Named). x.id) (sym same) ∙ eqb-true m.id i is
+found_at m ms i n false is later e = later e
+
+-- a contact that is found by its id has it
+pub found_id : (ns : List Named) (i : ℕ) (n : Named) → find (λ (x : Named). nat_eq x.id i) ns ≡ Some n → n.id ≡ i
+found_id [] i n e = absurd (cc)
+found_id (m ∷ ms) i n e = found_at m ms i n (nat_eq m.id i) refl (λ f. found_id ms i n f) e
+
+joined_below : (hs : List Held) (i : ℕ) (o : Option Named) → ((n : Named) → o ≡ Some n → n.id ≡ i) → AllBelow hs i → AllBelow (joined hs o) (suc i)
+joined_below hs i None is h = below_next hs i h
+joined_below hs i (Some n) is h = below_push hs i (held n) (is n refl) h
+
+by_id_below : (i : ℕ) (ns : List Named) → AllBelow (by_id i ns) i
+by_id_below zero ns = tt
+by_id_below (suc i) ns = joined_below (by_id i ns) i (find (λ (x : Named). nat_eq x.id i) ns) (λ n e. found_id ns i n e) (by_id_below i ns)
+
+-- the next pointer may come behind those with lower ids
+pub rises_next : (i : ℕ) (ns : List Named) (n : Named) → find (λ (x : Named). nat_eq x.id i) ns ≡ Some n → EndsBelow (by_id i ns) n.id
+rises_next i ns n e = rw (found_id ns i n e) (ends_below (by_id i ns) i (by_id_below i ns))
+
+-- how many contacts have ids below `i`
+abbrev lower : ℕ → List Named → ℕ
+lower i [] = 0
+lower i (n ∷ ns) = (if nat_lt n.id i then 1 else 0) + lower i ns
+
+lower_le : (i : ℕ) (ns : List Named) → lower i ns ≤ length ns
+lower_le i [] = omega arith
+lower_le i (n ∷ ns) =
+    elim (nat_lt n.id i) as (λ b. (if b then 1 else 0) + lower i ns ≤ length (n ∷ ns)) [
+      | true ↦ omega (arith, lower_le i ns)
+      | false ↦ omega (arith, lower_le i ns)
+    ]
+
+-- one id more counts no fewer
+one_le : (x i : ℕ) (b c : Bool) → nat_lt x i ≡ b → nat_lt x (suc i) ≡ c → (if b then 1 else 0) ≤ (if c then 1 else 0)
+one_le x i true true h k = omega arith
+one_le x i true false h k = absurd (omega (arith, ltb-true x i h, ltb-false x (suc i) k))
+one_le x i false c h k = omega arith
+
+lower_more : (i : ℕ) (ns : List Named) → lower i ns ≤ lower (suc i) ns
+lower_more i [] = omega arith
+lower_more i (n ∷ ns) = omega (arith, one_le n.id i (nat_lt n.id i) (nat_lt n.id (suc i)) refl refl, lower_more i ns)
+
+one_here : (x i : ℕ) (b c : Bool) → x ≡ i → nat_lt x i ≡ b → nat_lt x (suc i) ≡ c → (if b then 1 else 0) + 1 ≤ (if c then 1 else 0)
+one_here x i true c e h k = absurd (omega (arith, ltb-true x i h))
+one_here x i false true e h k = omega arith
+one_here x i false false e h k = absurd (omega (arith, ltb-false x (suc i) k))
+
+lower_at : (m : Named) (ms : List Named) (i : ℕ) (n : Named) (b : Bool) → nat_eq m.id i ≡ b
+    → (find (λ (x : Named). nat_eq x.id i) ms ≡ Some n → lower i ms + 1 ≤ lower (suc i) ms)
+    → (if b then Some m else find (λ (x : Named). nat_eq x.id i) ms) ≡ Some n → lower i (m ∷ ms) + 1 ≤ lower (suc i) (m ∷ ms)
+lower_at m ms i n true is later e =
+    omega (arith, one_here m.id i (nat_lt m.id i) (nat_lt m.id (suc i)) (eqb-true m.id i is) refl refl, lower_more i ms)
+lower_at m ms i n false is later e =
+    omega (arith, one_le m.id i (nat_lt m.id i) (nat_lt m.id (suc i)) refl refl, later e)
+
+-- a contact with the next id counts
+lower_found : (ns : List Named) (i : ℕ) (n : Named) → find (λ (x : Named). nat_eq x.id i) ns ≡ Some n → lower i ns + 1 ≤ lower (suc i) ns
+lower_found [] i n e = absurd (cc)
+lower_found (m ∷ ms) i n e = lower_at m ms i n (nat_eq m.id i) refl (λ f. lower_found ms i n f) e
+
+joined_few : (hs : List Held) (i : ℕ) (ns : List Named) (o : Option Named) → o ≡ find (λ (x : Named). nat_eq x.id i) ns
+    → length hs ≤ lower i ns → length (joined hs o) ≤ lower (suc i) ns
+joined_few hs i ns None is h = omega (arith, h, lower_more i ns)
+joined_few hs i ns (Some n) is h = omega (arith, h, lower_found ns i n (sym is), length-append hs (held n ∷ []))
+
+few_below : (i : ℕ) (ns : List Named) → length (by_id i ns) ≤ lower i ns
+few_below zero ns = omega arith
+few_below (suc i) ns = joined_few (by_id i ns) i ns (find (λ (x : Named). nat_eq x.id i) ns) refl (few_below i ns)
+
+-- there is room for the next pointer
+pub room_next : (i : ℕ) (ns : List Named) (n : Named) → length ns ≤ 16 → find (λ (x : Named). nat_eq x.id i) ns ≡ Some n → length (by_id i ns) < 16
+room_next i ns n few e = omega (arith, few, few_below i ns, lower_found ns i n e, lower_le (suc i) ns)

@@ -1,0 +1,7 @@
+use Rattle.std.specs.Prelude.{◌≡◌}
+use Rattle.pointer_ids.specs.PointerIds.{by_id}
+use Rattle.pointer_ids.proofs.ids.in_rising_id.Given as goal
+
+-- the pointers with the ids so far
+abbrev pub invariant-loop-id : goal.invariant-loop-id
+invariant-loop-id l = l.pointers ≡ by_id l.id l.named

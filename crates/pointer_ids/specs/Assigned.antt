@@ -1,0 +1,26 @@
+-- Lists of pointers with rising ids, and the table that keeps one.
+use Rattle.std.specs.Prelude.{◌≡◌, ℕ, ◌-◌, ◌<◌, ◌≤◌, pos, List, [], ◌∷◌, length, take, drop, replicate}
+use Rattle.pointer_ids.specs.declared.assigned.Held.{Held}
+
+-- each id is below that of the next pointer
+abbrev pub IsRising : List Held → Type 0
+IsRising [] = Unit {0}
+IsRising (p ∷ []) = Unit {0}
+IsRising (p ∷ q ∷ ps) = (p.id < q.id) × IsRising (q ∷ ps)
+
+-- the id is above that of the last pointer of the list
+abbrev pub EndsBelow : List Held → ℕ → Type 0
+EndsBelow [] n = Unit {0}
+EndsBelow (p ∷ []) n = p.id < n
+EndsBelow (p ∷ q ∷ ps) n = EndsBelow (q ∷ ps) n
+
+-- what stands in the places of a table that are not in use
+abbrev pub unused : Held
+unused = record { id = 0; x = pos 0; y = pos 0 }
+
+-- a table of 16 places whose first `used` are a list with rising ids, and whose others are all `unused`
+pub record IsTable (items : List Held) (used : ℕ) : Type 0 where
+  pub whole : length items ≡ 16
+  pub within : used ≤ 16
+  pub rises : IsRising (take used items)
+  pub rest : drop used items ≡ replicate (16 - used) unused

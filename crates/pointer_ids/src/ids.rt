@@ -1,0 +1,209 @@
+//! Pointer ids from packet to packet.
+ghost use Rattle.std.specs.Prelude.{◌≡◌, ℕ, ◌+◌, ◌<◌, ◌≤◌, List, [], ◌∷◌, length, option_map, find, nat_eq};
+ghost use Rattle.bits32.specs.Set.{is_in, members};
+ghost use Rattle.slot_accumulator.specs.declared.contacts.Contact.{Contact as Touch};
+ghost use Rattle.pointer_ids.specs.PointerIds.{id_in, id_of, taken_after, least_free, has_id, named_contact, named_from, named as named_in, named_after, held, by_id, assigned};
+
+use crate::assigned::{Assigned, Held};
+use crate::named::{Named, NamedList};
+use bits32::Bits32;
+use input_types::PointerId;
+use slot_accumulator::{Contact, Contacts};
+use std::marker::Model;
+
+/// The pointer ids of one device. It is `Copy` and takes no memory.
+///
+/// Contracts see the contacts of the last packet with their ids, in slot order.
+#[derive(Clone, Copy, Debug, PartialEq, Eq)]
+pub struct Ids {
+    last: NamedList,
+}
+
+impl Model for Ids {
+    ghost use Rattle.std.specs.Prelude.{List};
+    ghost use Rattle.pointer_ids.specs.declared.named.Named.{Named as Element};
+
+    ghost Value = { List Element };
+
+    ghost view = { λ i. i.last };
+
+    ghost inverse = { λ ns. record { last = ns } };
+}
+
+impl Ids {
+    /// No packet came.
+    pub fn new() -> Ids
+        ensures { result ≡ named_after [] }
+    {
+        Ids {
+            last: NamedList::empty(),
+        }
+    }
+
+    /// The pointers of the next packet, in rising id.
+    ///
+    /// A contact keeps its id while its tracking id is present in successive packets. Each new contact, in slot order, gets the
+    /// least id that no contact of the packet before has and that no new contact of a lower slot got. AOSP's touch mapper
+    /// gives its ids in this way.
+    pub fn assign(&mut self, now: &Contacts) -> Assigned
+        ensures pointers { result ≡ assigned (named_in self.old now.now) }
+        ensures last { self.new ≡ named_in self.old now.now }
+        ensures packets { (past : List (List Touch)) → self.old ≡ named_after past → self.new ≡ named_after (now.now ∷ past) }
+    {
+        self.last = named(self.last.as_slice(), now.as_slice());
+        in_rising_id(self.last.as_slice())
+    }
+
+    /// Begins anew, as `new` does.
+    pub fn reset(&mut self)
+        ensures { self.new ≡ named_after [] }
+    {
+        self.last = NamedList::empty();
+    }
+}
+
+/// The contacts of a packet with their ids, given those of the packet before.
+fn named(before: &[Named], now: &[Contact]) -> NamedList
+    requires before { length before.now ≤ 16 }
+    requires now { length now.now ≤ 16 }
+    ensures { result ≡ named_in before.now now.now }
+{
+    let mut taken = ids_of(before);
+    let mut named = NamedList::empty();
+    for contact in now {
+        let id = id_for(before, &mut taken, contact);
+        named.push(name(contact, id));
+    }
+    named
+}
+
+/// The ids of some contacts.
+fn ids_of(contacts: &[Named]) -> Bits32
+    ensures ids { (k : ℕ) → is_in k result ≡ has_id k contacts.now }
+    ensures few { length (members result) ≤ length contacts.now }
+{
+    let mut ids = Bits32::empty();
+    for contact in contacts {
+        ids.mark(contact.id.get());
+    }
+    ids
+}
+
+/// The id of a contact, which is taken from then on.
+fn id_for(before: &[Named], taken: &mut Bits32, contact: &Contact) -> PointerId
+    requires { length (members taken.old) < 32 }
+    ensures id { result ≡ id_of before.now (λ k. is_in k taken.old) contact.now.tracking }
+    ensures taken { (k : ℕ) → is_in k taken.new ≡ taken_after before.now (λ i. is_in i taken.old) contact.now.tracking k }
+    ensures few { length (members taken.new) ≤ length (members taken.old) + 1 }
+{
+    match kept_id(before, contact) {
+        Some(id) => id,
+        None => {
+            let id = free_id(*taken);
+            taken.mark(id.get());
+            id
+        }
+    }
+}
+
+/// The id that a contact had in the packet before.
+fn kept_id(before: &[Named], contact: &Contact) -> Option<PointerId>
+    ensures { result ≡ id_in contact.now.tracking before.now }
+{
+    for earlier in before {
+        if earlier.tracking == contact.tracking {
+            return Some(earlier.id);
+        }
+    }
+    None
+}
+
+/// The least id that is not taken.
+fn free_id(taken: Bits32) -> PointerId
+    requires { length (members taken) < 32 }
+    ensures { result ≡ least_free (λ k. is_in k taken) }
+{
+    match taken.first_unmarked() {
+        None => unreachable!(),
+        Some(n) => match PointerId::new(n) {
+            None => unreachable!(),
+            Some(id) => id,
+        },
+    }
+}
+
+fn name(contact: &Contact, id: PointerId) -> Named
+    ensures { result ≡ named_contact contact.now id }
+{
+    Named {
+        tracking: contact.tracking,
+        id,
+        x: contact.x,
+        y: contact.y,
+    }
+}
+
+/// The contacts as pointers in rising id.
+fn in_rising_id(named: &[Named]) -> Assigned
+    requires { length named.now ≤ 16 }
+    ensures { result ≡ assigned named.now }
+{
+    let mut pointers = Assigned::empty();
+    for id in 0..32 {
+        if let Some(contact) = with_id(named, id) {
+            pointers.push(pointer(&contact));
+        }
+    }
+    pointers
+}
+
+/// The first contact with this id.
+fn with_id(named: &[Named], id: u8) -> Option<Named>
+    ensures { result ≡ find (λ n. nat_eq n.id id) named.now }
+{
+    named.iter().copied().find(|n| n.id.get() == id)
+}
+
+fn pointer(contact: &Named) -> Held
+    ensures { result ≡ held contact.now }
+{
+    Held {
+        id: contact.id,
+        x: contact.x,
+        y: contact.y,
+    }
+}
+
+#[cfg(test)]
+mod tests {
+    use super::*;
+    use input_types::{DeviceId, Moment};
+    use raw_events::RawEvent;
+    use raw_events::codes::{ABS_MT_TRACKING_ID, EV_ABS};
+    use slot_accumulator::Slots;
+
+    /// The pointer id after slot 0 got this tracking id.
+    fn next_id(slots: &mut Slots, ids: &mut Ids, tracking: i32) -> Option<u8> {
+        let device = DeviceId::new(1)?;
+        slots.take(RawEvent {
+            device,
+            moment: Moment::zero(),
+            kind: EV_ABS,
+            code: ABS_MT_TRACKING_ID,
+            value: tracking,
+        });
+        let held = ids.assign(&slots.contacts()).get(0)?;
+        Some(held.id.get())
+    }
+
+    #[test]
+    fn a_freed_id_is_given_in_the_next_packet(rt: HostRuntime) {
+        let mut slots = Slots::new(10);
+        let mut ids = Ids::new();
+        assert_eq!(rt; next_id(&mut slots, &mut ids, 45), Some(0));
+        assert_eq!(rt; next_id(&mut slots, &mut ids, 46), Some(1));
+        assert_eq!(rt; next_id(&mut slots, &mut ids, 46), Some(1));
+        assert_eq!(rt; next_id(&mut slots, &mut ids, 47), Some(0));
+        assert_eq!(rt; next_id(&mut slots, &mut ids, -1), None);
+    }
+}

@@ -1,0 +1,14 @@
+//! Pointer ids: the small numbers by which a window tells the fingers of a gesture apart.
+//!
+//! A touch device tells contacts apart by tracking ids, which grow without end. A motion has pointer ids from 0 to 31
+//! instead, and a new finger gets the least one that is free. So two contacts with the tracking ids 45 and 46 are pointers
+//! 0 and 1. When 45 ends and 47 begins in one packet, 47 is pointer 2: an id that the packet before still had is not
+//! given again at once. In the next packet 0 is free.
+#![tactic(auto)]
+
+mod assigned;
+mod ids;
+mod named;
+
+pub use assigned::{Assigned, Held};
+pub use ids::Ids;

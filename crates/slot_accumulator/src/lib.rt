@@ -1,0 +1,19 @@
+//! The slots of a touch device that speaks the kernel's multi-touch protocol B, and the contacts that they hold.
+//!
+//! A device names a slot by ABS_MT_SLOT and then says what changed in it. The events
+//!
+//! ```text
+//! ABS_MT_SLOT 0, ABS_MT_TRACKING_ID 45, ABS_MT_POSITION_X 100, ABS_MT_POSITION_Y 200
+//! ABS_MT_SLOT 1, ABS_MT_TRACKING_ID 46, ABS_MT_POSITION_X 300, ABS_MT_POSITION_Y 400
+//! ```
+//!
+//! leave two contacts: slot 0 with tracking id 45 at (100, 200) and slot 1 with tracking id 46 at (300, 400). What is not
+//! said again stays: after ABS_MT_SLOT 0 and ABS_MT_TRACKING_ID -1 slot 0 holds no contact, and a new tracking id in it
+//! stands at (100, 200) until the device writes another position.
+#![tactic(auto)]
+
+mod contacts;
+mod slots;
+
+pub use contacts::{Contact, Contacts};
+pub use slots::Slots;

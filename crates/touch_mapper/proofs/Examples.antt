@@ -1,0 +1,96 @@
+-- Worked positions and packets, computed.
+use Rattle.std.specs.Prelude.{◌≡◌, ℕ, ℤ, pos, negsuc, false, List, [], ◌∷◌, refl}
+use Rattle.input_types.specs.declared.axis.Axis.{Axis}
+use Rattle.input_types.specs.declared.axis.Pixel.{Pixel}
+use Rattle.input_types.specs.declared.axis.Rotation.{Rotation}
+use Rattle.input_types.specs.declared.axis.Rotation.TheVariants.{R0, R90, R180, R270}
+use Rattle.input_types.specs.declared.pointer.Pointer.{Pointer}
+use Rattle.input_types.specs.declared.motion.Motion.{Motion}
+use Rattle.input_types.specs.declared.motion.MotionAction.{MotionAction}
+use Rattle.input_types.specs.declared.motion.MotionAction.TheVariants.{Down, Up, Move, PointerDown, PointerUp}
+use Rattle.touch_mapper.specs.Cooking.{Cooking, pixel, can_cook, natural}
+use Rattle.touch_mapper.specs.Gesture.{gesture}
+
+abbrev axis : ℤ → ℤ → Axis
+axis least greatest = record { min = least; max = greatest }
+
+abbrev at : ℕ → ℕ → Pixel
+at x y = record { x = pos x; y = pos y }
+
+-- both axes 0 to 4095, on a display of 1080 by 2400 pixels
+abbrev phone : Rotation → Cooking
+phone r = record { x = axis (pos 0) (pos 4095); y = axis (pos 0) (pos 4095); width = 1080; height = 2400; rotation = r }
+
+pub as_it_is : pixel (phone R0) (pos 2048) (pos 1024) ≡ at 540 600
+as_it_is = refl
+
+pub turned_by_90 : pixel (phone R90) (pos 2048) (pos 1024) ≡ at 600 539
+turned_by_90 = refl
+
+pub turned_by_180 : pixel (phone R180) (pos 2048) (pos 1024) ≡ at 539 1799
+turned_by_180 = refl
+
+pub turned_by_270 : pixel (phone R270) (pos 2048) (pos 1024) ≡ at 1799 540
+turned_by_270 = refl
+
+-- the greatest position is the last pixel, and what is outside the axis is its nearest position
+pub last_position : pixel (phone R0) (pos 4095) (pos 5000) ≡ at 1079 2399
+last_position = refl
+
+pub below_the_axis : pixel (phone R0) (negsuc 6) (pos 0) ≡ at 0 0
+below_the_axis = refl
+
+-- the whole range of 32-bit numbers
+pub widest_axis : natural (axis (negsuc 2147483647) (pos 2147483647)) 1080 (pos 2147483647) ≡ 1079
+widest_axis = refl
+
+pub axis_without_positions : can_cook (axis (pos 5) (pos 4)) (axis (pos 0) (pos 0)) 1080 2400 ≡ false
+axis_without_positions = refl
+
+pub display_without_pixels : can_cook (axis (pos 0) (pos 0)) (axis (pos 0) (pos 0)) 0 2400 ≡ false
+display_without_pixels = refl
+
+-- ---- packets of device 1
+
+abbrev finger : ℕ → ℕ → Pointer
+finger i x = record { id = i; at = at x 0 }
+
+abbrev motion : MotionAction → ℕ → List Pointer → Motion
+motion action index ps = record { device = 1; action = action; index = index; flags = 0; pointers = ps }
+
+pub two_at_once : gesture 1 [] (finger 0 100 ∷ finger 1 300 ∷ [])
+    ≡ motion Down 0 (finger 0 100 ∷ []) ∷ motion PointerDown 1 (finger 0 100 ∷ finger 1 300 ∷ []) ∷ []
+two_at_once = refl
+
+pub one_between : gesture 1 (finger 0 0 ∷ finger 2 20 ∷ []) (finger 0 0 ∷ finger 1 10 ∷ finger 2 20 ∷ [])
+    ≡ motion PointerDown 1 (finger 0 0 ∷ finger 1 10 ∷ finger 2 20 ∷ []) ∷ []
+one_between = refl
+
+-- the same fingers make one Move, also where nothing moved
+pub nothing_moved : gesture 1 (finger 0 100 ∷ []) (finger 0 100 ∷ []) ≡ motion Move 0 (finger 0 100 ∷ []) ∷ []
+nothing_moved = refl
+
+pub nothing_down : gesture 1 [] [] ≡ []
+nothing_down = refl
+
+-- a finger that goes up is at its last place beside the others at their new ones, and these move
+pub up_and_move : gesture 1 (finger 0 100 ∷ finger 1 300 ∷ []) (finger 1 310 ∷ [])
+    ≡ motion PointerUp 0 (finger 0 100 ∷ finger 1 310 ∷ []) ∷ motion Move 0 (finger 1 310 ∷ []) ∷ []
+up_and_move = refl
+
+-- they don't where none has another pixel
+pub up_alone : gesture 1 (finger 0 100 ∷ finger 1 300 ∷ []) (finger 1 300 ∷ []) ≡ motion PointerUp 0 (finger 0 100 ∷ finger 1 300 ∷ []) ∷ []
+up_alone = refl
+
+-- ups come first, and a gesture ends where no finger is left
+pub another_finger : gesture 1 (finger 0 100 ∷ []) (finger 1 100 ∷ []) ≡ motion Up 0 (finger 0 100 ∷ []) ∷ motion Down 0 (finger 1 100 ∷ []) ∷ []
+another_finger = refl
+
+pub ups_move_downs : gesture 1 (finger 0 0 ∷ finger 1 10 ∷ finger 3 30 ∷ []) (finger 1 11 ∷ finger 2 20 ∷ finger 4 40 ∷ [])
+    ≡ motion PointerUp 0 (finger 0 0 ∷ finger 1 11 ∷ finger 3 30 ∷ [])
+    ∷ motion PointerUp 1 (finger 1 11 ∷ finger 3 30 ∷ [])
+    ∷ motion Move 0 (finger 1 11 ∷ [])
+    ∷ motion PointerDown 1 (finger 1 11 ∷ finger 2 20 ∷ [])
+    ∷ motion PointerDown 2 (finger 1 11 ∷ finger 2 20 ∷ finger 4 40 ∷ [])
+    ∷ []
+ups_move_downs = refl

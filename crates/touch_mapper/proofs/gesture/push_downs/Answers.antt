@@ -1,0 +1,38 @@
+use Rattle.std.specs.Prelude.{◌≡◌, ◌+◌, [], ◌∷◌, ◌++◌, length, drop}
+use Rattle.std.proofs.Common.{sym, ◌∙◌, ap}
+use Rattle.touch_mapper.specs.Gesture.{kept, down, downs}
+use Rattle.touch_mapper.proofs.Rising.{ends_item, walk_push}
+use Rattle.touch_mapper.proofs.Walk.{downs_pass, downs_push}
+use Rattle.touch_mapper.proofs.gesture.push_downs.Goals.{then-not-is_down+in_ok-push, else-not-is_down}
+use Rattle.touch_mapper.proofs.gesture.push_downs.Goals as goal
+
+pub append-requires-clause-rises : goal.append-requires-clause-rises
+append-requires-clause-rises c =
+    ends_item c.loop-i.below c.in_use-pointers.result.now c.loop-i.i c.index-pointers-i.result (rw c.loop-i.invariant.whole c.in_use-pointers.ensures.rises) c.loop-i-test.true c.index-pointers-i.is
+
+pub loop-i-preserved : goal.loop-i-preserved
+loop-i-preserved c =
+    elim c.if-not-is_down.branch [
+      | then-not-is_down+in_ok-push w ↦
+          let said : w.down.result ≡ down c.args.device (length c.loop-i.below) ((c.loop-i.below ++ c.index-pointers-i.result ∷ []) ++ kept c.args.last.now (drop (c.loop-i.i + 1) c.in_use-pointers.result.now)) =
+          w.down.ensures
+          ∙ ap (λ n. down c.args.device n w.joined_kept-all.result) c.len-index.ensures.value
+          ∙ ap (λ ps. down c.args.device (length c.loop-i.below) ps)
+          (w.joined_kept-all.ensures
+          ∙ ap (λ xs. xs ++ kept c.args.last.now w.split_at.result.1.now) c.append.ensures
+          ∙ ap (λ ys. (c.loop-i.below ++ c.index-pointers-i.result ∷ []) ++ kept c.args.last.now ys) w.split_at.ensures.back) in
+          let pushed : c.if-not-is_down.motions.items ≡ c.loop-i.motions.items ++ w.down.result ∷ [] = ap (λ v. v.items) w.motions-is ∙ w.in_ok-push.ensures.items in
+          rw c.append.ensures
+          (record {
+            all = ap (λ ms. ms ++ downs c.args.device c.args.last.now (c.loop-i.below ++ c.index-pointers-i.result ∷ []) (drop (c.loop-i.i + 1) c.in_use-pointers.result.now)) (pushed ∙ ap (λ m. c.loop-i.motions.items ++ m ∷ []) said)
+                ∙ downs_push c.loop-i.motions.items c.args.device c.args.last.now c.loop-i.below c.in_use-pointers.result.now c.loop-i.i c.index-pointers-i.result c.loop-i-test.true c.index-pointers-i.is (sym c.is_down.ensures ∙ w.if-not-is_down.true)
+                ∙ c.loop-i.invariant.all;
+            whole = walk_push c.loop-i.below c.in_use-pointers.result.now c.loop-i.i c.index-pointers-i.result c.loop-i-test.true c.index-pointers-i.is ∙ c.loop-i.invariant.whole;
+          })
+      | else-not-is_down w ↦
+          rw (w.motions-is, c.append.ensures)
+          (record {
+            all = downs_pass c.loop-i.motions.items c.args.device c.args.last.now c.loop-i.below c.in_use-pointers.result.now c.loop-i.i c.index-pointers-i.result c.loop-i-test.true c.index-pointers-i.is (sym c.is_down.ensures ∙ w.if-not-is_down.false) ∙ c.loop-i.invariant.all;
+            whole = walk_push c.loop-i.below c.in_use-pointers.result.now c.loop-i.i c.index-pointers-i.result c.loop-i-test.true c.index-pointers-i.is ∙ c.loop-i.invariant.whole;
+          })
+    ]

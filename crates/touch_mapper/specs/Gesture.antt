@@ -1,0 +1,88 @@
+-- What happened to the pointers of a device between two packets, as motions.
+use Rattle.std.specs.Prelude.{ℕ, Bool, not, ◌&&◌, nat_eq, List, [], ◌∷◌, ◌++◌, length, map, filter, find, Option, Some, unwrap_or, if◌then◌else◌}
+use Rattle.std.specs.List.{list_any}
+use Rattle.std.specs.Option.{option_and_then}
+use Rattle.std.specs.Ordering.{int_eq}
+use Rattle.input_types.specs.declared.pointer.Pointer.{Pointer}
+use Rattle.input_types.specs.declared.motion.Motion.{Motion}
+use Rattle.input_types.specs.declared.motion.MotionAction.{MotionAction}
+use Rattle.input_types.specs.declared.motion.MotionAction.TheVariants.{Down, Up, Move, PointerDown, PointerUp}
+use Rattle.input_types.specs.Gestures.{ids_of, same_ids, after_motion}
+use Rattle.pointer_ids.specs.declared.assigned.Held.{Held}
+use Rattle.touch_mapper.specs.Cooking.{Cooking, pixel}
+
+-- a pointer at its pixel
+abbrev pub placed : Cooking → Held → Pointer
+placed c h = record { id = h.id; at = pixel c h.x h.y }
+
+-- pointers at their pixels
+abbrev pub placed_all : Cooking → List Held → List Pointer
+placed_all c hs = map (λ h. placed c h) hs
+
+-- a pointer with this id is down
+abbrev pub is_down : ℕ → List Pointer → Bool
+is_down i ps = list_any (λ p. nat_eq p.id i) ps
+
+-- where a pointer is in a list, else where it was
+abbrev pub moved : List Pointer → Pointer → Pointer
+moved now p = unwrap_or (find (λ q. nat_eq q.id p.id) now) p
+
+-- the pointers that were down before, those that still are at their new places
+abbrev pub moved_all : List Pointer → List Pointer → List Pointer
+moved_all last now = map (λ p. moved now p) last
+
+-- those of the pointers that were down before too
+abbrev pub kept : List Pointer → List Pointer → List Pointer
+kept last now = filter (λ p. is_down p.id last) now
+
+-- a pointer has another pixel in a list
+abbrev pub is_moved : List Pointer → Pointer → Bool
+is_moved now p = let q = moved now p in not (int_eq q.at.x p.at.x && int_eq q.at.y p.at.y)
+
+abbrev pub is_changed : List Pointer → List Pointer → Bool
+is_changed last now = list_any (λ p. is_moved now p) last
+
+-- a motion of device `d`
+abbrev pub motion : ℕ → MotionAction → ℕ → List Pointer → Motion
+motion d action index ps = record { device = d; action = action; index = index; flags = 0; pointers = ps }
+
+-- the pointer at place `index` goes up: the last pointer is an Up
+abbrev pub up : ℕ → ℕ → List Pointer → Motion
+up d index ps = motion d (if nat_eq (length ps) 1 then Up else PointerUp) index ps
+
+-- the pointer at place `index` has gone down: the first pointer is a Down
+abbrev pub down : ℕ → ℕ → List Pointer → Motion
+down d index ps = motion d (if nat_eq (length ps) 1 then Down else PointerDown) index ps
+
+-- The pointers that are gone go up in rising id. `below` are the pointers with lower ids that stay, and what follows are the
+-- pointers with higher ids, which are all still down.
+abbrev pub ups : ℕ → List Pointer → List Pointer → List Pointer → List Motion
+ups d now below [] = []
+ups d now below (p ∷ above) =
+    if is_down p.id now then ups d now (below ++ p ∷ []) above
+    else up d (length below) (below ++ p ∷ above) ∷ ups d now below above
+
+-- The new pointers go down in rising id. `below` are the pointers with lower ids, which are all down by then; of those with higher
+-- ids the ones are down that were down before.
+abbrev pub downs : ℕ → List Pointer → List Pointer → List Pointer → List Motion
+downs d last below [] = []
+downs d last below (p ∷ above) =
+    if is_down p.id last then downs d last (below ++ p ∷ []) above
+    else down d (length below) (below ++ p ∷ kept last above) ∷ downs d last (below ++ p ∷ []) above
+
+-- one Move, where a pointer that stays changed its pixel
+abbrev pub moves : ℕ → List Pointer → List Pointer → List Motion
+moves d last now = if is_changed last now then motion d Move 0 (kept last now) ∷ [] else []
+
+-- The motions between two packets. Where the same pointers are down, it is one Move, also if nothing moved, or nothing where none is
+-- down. Else the gone ones go up, at their last places, while those that stay are at their new places; then comes the Move of those that
+-- stay; then the new ones go down.
+abbrev pub gesture : ℕ → List Pointer → List Pointer → List Motion
+gesture d last now =
+    if same_ids (ids_of last) (ids_of now) then (if nat_eq (length now) 0 then [] else motion d Move 0 now ∷ [])
+    else ups d now [] (moved_all last now) ++ moves d last now ++ downs d last [] now
+
+-- the ids that are down after some motions, in their order; None where one of them might not come
+abbrev pub after_motions : List ℕ → List Motion → Option (List ℕ)
+after_motions ids [] = Some ids
+after_motions ids (m ∷ ms) = option_and_then (λ next. after_motions next ms) (after_motion ids m)
