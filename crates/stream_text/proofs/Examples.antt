@@ -1,0 +1,40 @@
+-- Spellings, computed.
+use Rattle.std.specs.Prelude.{codes, ◌≡◌, pos, negsuc, List, [], ◌∷◌, ◌++◌, true, false, refl}
+use Rattle.std.specs.Fmt.{digits}
+use Rattle.input_types.specs.declared.pointer.Pointer.{Pointer}
+use Rattle.input_types.specs.declared.motion.MotionAction.TheVariants.{Move}
+use Rattle.input_types.specs.declared.message.Body.TheVariants.{Motion, Key, Focus}
+use Rattle.input_types.specs.declared.message.Message.{Message}
+use Rattle.stream_text.specs.Spelling.{message_line, labeled, pointer, motion, key, key_end, numbered}
+
+-- a finger that moved beside one that stayed
+abbrev moved : Message
+moved = record {
+  seq = 2;
+  moment = 2000;
+  body = Motion (record {
+    device = 1;
+    action = Move;
+    index = 0;
+    flags = 0;
+    pointers = record { id = 0; at = record { x = pos 110; y = negsuc 4 } } ∷ record { id = 1; at = record { x = pos 300; y = pos 400 } } ∷ [];
+  });
+}
+
+pub a_move_lists_all : message_line moved ≡ codes "2 2000 motion 1 MOVE 0@110,-5 1@300,400\n"
+unfolding labeled pointer motion numbered digits
+a_move_lists_all = refl
+
+-- the second repeat of a key that is held
+pub a_repeat : message_line (record {
+  seq = 9;
+  moment = 550000;
+  body = Key (record {
+    key = record { device = 1; scan = 115; code = 24; meta = 0; down = true };
+    flags = 0;
+    repeat = 2;
+  });
+})
+    ≡ codes "9 550000 key 1 115 24 0 DOWN 2\n"
+unfolding labeled key key_end numbered digits
+a_repeat = refl

@@ -1,0 +1,114 @@
+//! Sections of channels, and namings.
+ghost use Rattle.std.specs.Prelude.{◌≡◌, ◌++◌, IfOk, OnOk, OnErr};
+ghost use Rattle.stream_text.specs.Spelling.{channel_line, channel_section, end_line, naming_line};
+
+use crate::line::{add_labeled, add_number, add_word};
+use crate::message::add_messages;
+use dispatch_calls::Counts;
+use input_types::{Message, Moment};
+use std::alloc::AllocError;
+
+#[tactic(auto, unfolding(crate::specs::Spelling::channel_line))]
+fn add_channel(text: &mut Vec<u8>, id: u32, name: &str) -> Result<(), AllocError>
+    ensures { IfOk result (λ _. text.new.items ≡ text.old.items ++ channel_line id name.now) }
+{
+    add_word(text, "channel ")?;
+    add_number(text, u64::from(id))?;
+    add_word(text, " ")?;
+    add_word(text, name)?;
+    add_word(text, "\n")
+}
+
+#[tactic(auto, unfolding(crate::specs::Spelling::end_line))]
+fn add_end(
+    text: &mut Vec<u8>,
+    id: u32,
+    sent: u64,
+    received: u64,
+    finished: u64,
+) -> Result<(), AllocError>
+    ensures { IfOk result (λ _. text.new.items ≡ text.old.items ++ end_line id sent received finished) }
+{
+    add_labeled(text, "end ", u64::from(id))?;
+    add_labeled(text, " sent ", sent)?;
+    add_labeled(text, " received ", received)?;
+    add_labeled(text, " finished ", finished)?;
+    add_word(text, "\n")
+}
+
+#[tactic(auto, unfolding(crate::specs::Spelling::naming_line))]
+fn add_naming(text: &mut Vec<u8>, clock: u64, channel: u32, seq: u64) -> Result<(), AllocError>
+    ensures { IfOk result (λ _. text.new.items ≡ text.old.items ++ naming_line clock channel seq) }
+{
+    add_labeled(text, "anr ", clock)?;
+    add_labeled(text, " ", u64::from(channel))?;
+    add_labeled(text, " ", seq)?;
+    add_word(text, "\n")
+}
+
+/// Appends the section of a channel: its number and name, a line for each message of its stream, and how many of them were sent, received
+/// and finished. After want of memory `out` is as before.
+pub fn channel_text(
+    id: u32,
+    name: &str,
+    stream: &[Message],
+    counts: Counts,
+    out: &mut Vec<u8>,
+) -> Result<(), AllocError>
+    ensures ok { OnOk result (out.new.items ≡ out.old.items ++ channel_section id name.now stream.now counts) }
+    ensures err { OnErr result (out.new.items ≡ out.old.items) }
+{
+    let mut text = Vec::new(*out.allocator());
+    add_channel(&mut text, id, name)?;
+    add_messages(&mut text, stream)?;
+    add_end(&mut text, id, counts.sent, counts.received, counts.finished)?;
+    out.extend_from_slice(&text)
+}
+
+/// Appends the line of a naming: at `clock` the channel was named unresponsive for its message `seq`. After want of memory `out` is as
+/// before.
+pub fn naming_text(
+    clock: Moment,
+    channel: u32,
+    seq: u64,
+    out: &mut Vec<u8>,
+) -> Result<(), AllocError>
+    ensures ok { OnOk result (out.new.items ≡ out.old.items ++ naming_line clock channel seq) }
+    ensures err { OnErr result (out.new.items ≡ out.old.items) }
+{
+    let mut text = Vec::new(*out.allocator());
+    add_naming(&mut text, clock.get(), channel, seq)?;
+    out.extend_from_slice(&text)
+}
+
+#[cfg(test)]
+mod tests {
+    use super::*;
+    use input_types::Body;
+    use std::test::Fail;
+
+    #[test]
+    fn a_section_and_a_naming(rt: HostRuntime) -> Result<(), Fail> {
+        let moment = Moment::new(6000000).ok_or("a moment")?;
+        let stream = [Message {
+            seq: 1,
+            moment,
+            body: Body::Focus(true),
+        }];
+        let counts = Counts {
+            sent: 1,
+            received: 1,
+            finished: 0,
+            published: 1,
+            live: true,
+        };
+        let mut out = Vec::new(rt.alloc());
+        channel_text(64, "main", &stream, counts, &mut out)?;
+        naming_text(moment, 64, 1, &mut out)?;
+        assert_eq!(rt;
+            out.as_slice(),
+            b"channel 64 main\n1 6000000 focus 1\nend 64 sent 1 received 1 finished 0\nanr 6000000 64 1\n".as_slice()
+        );
+        Ok(())
+    }
+}
