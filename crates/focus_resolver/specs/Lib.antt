@@ -1,0 +1,2 @@
+pub mod Resolver
+pub mod Changes

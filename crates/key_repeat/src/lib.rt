@@ -1,0 +1,17 @@
+//! When a key that is held is to be repeated.
+//!
+//! Volume up goes down at 1,000,000 microseconds and stays down:
+//!
+//! ```text
+//! sent down, repeat 0, at 1000000     due at 1500000
+//! sent down, repeat 1, at 1500000     due at 1550000
+//! sent up, at 1560000                 nothing is due
+//! ```
+//!
+//! The first repeat comes half a second after the down, and each further one a twentieth of a second after the one before, as Android's
+//! `ViewConfiguration` has it by default.
+#![tactic(auto)]
+
+mod repeat;
+
+pub use repeat::{DELAY_US, FIRST_DELAY_US, Repeat};

@@ -1,0 +1,157 @@
+//! The last key message, and when it is to be repeated.
+ghost use Rattle.std.specs.Prelude.{◌≡◌, None, Some, option_map};
+ghost use Rattle.key_repeat.specs.Due.{Sent as SentView, delay_after, due_of, is_repeated, next_of, repeated};
+
+use input_types::{KeyMsg, Moment};
+use std::marker::Model;
+
+/// From a key's down to its first repeat, in microseconds.
+pub const FIRST_DELAY_US: u64 = 500_000;
+
+/// From a repeat to the next, in microseconds.
+pub const DELAY_US: u64 = 50_000;
+
+/// A key message that a channel was told, and the clock then.
+#[derive(Clone, Copy, Debug)]
+struct Sent {
+    channel: u32,
+    key: KeyMsg,
+    clock: Moment,
+}
+
+/// When a key that is held is to be repeated. The last key message decides; its owner calls `stop` where the window that was told no
+/// longer holds the key.
+#[derive(Clone, Copy, Debug)]
+pub struct Repeat {
+    last: Option<Sent>,
+}
+
+impl Model for Repeat {
+    ghost use Rattle.std.specs.Prelude.{Option, option_map};
+    ghost use Rattle.key_repeat.specs.Due.{Sent as SentView};
+    ghost use Rattle.key_repeat.specs.Last.{seen, kept, kept_seen};
+
+    ghost Value = { Option SentView };
+
+    ghost view = { λ r. seen r.last };
+
+    ghost inverse = { λ s. record { last = kept s } };
+
+    ghost inverse_ok = { λ r h i. record { last = kept_seen r.last i } };
+}
+
+fn delay(repeat: u32) -> u64
+    ensures { result ≡ delay_after repeat }
+{
+    if repeat == 0 {
+        FIRST_DELAY_US
+    } else {
+        DELAY_US
+    }
+}
+
+fn repeats(key: &KeyMsg) -> bool
+    ensures { result ≡ is_repeated key.now }
+{
+    key.key.down && key.repeat < u32::MAX
+}
+
+impl Repeat {
+    /// Nothing was told yet.
+    pub fn new() -> Repeat
+        ensures { result ≡ None }
+    {
+        Repeat { last: None }
+    }
+
+    /// A channel was told a key message at this clock.
+    pub fn sent(&mut self, channel: u32, key: KeyMsg, clock: Moment)
+        ensures { self.new ≡ Some (record { channel = channel; key = key; clock = clock }) }
+    {
+        self.last = Some(Sent {
+            channel,
+            key,
+            clock,
+        });
+    }
+
+    /// The key is not held any more.
+    pub fn stop(&mut self)
+        ensures { self.new ≡ None }
+    {
+        self.last = None;
+    }
+
+    /// When the next repeat is due, in microseconds. None where no message came since `new` or the last `stop`, where the last one was of an
+    /// up, and where its repeat number is the greatest of 32 bits.
+    pub fn due(&self) -> Option<u64>
+        ensures { result ≡ due_of self.now }
+    {
+        let sent = self.last?;
+        if repeats(&sent.key) {
+            Some(sent.clock.get() + delay(sent.key.repeat))
+        } else {
+            None
+        }
+    }
+
+    /// The channel that the next repeat is for, and the repeat: the same down, its number one higher. None exactly where none is due at any
+    /// time.
+    pub fn next(&self) -> Option<(u32, KeyMsg)>
+        ensures { option_map (λ n. (n.0, n.1)) result ≡ next_of self.now }
+    {
+        let sent = self.last?;
+        if repeats(&sent.key) {
+            let key = KeyMsg {
+                key: sent.key.key,
+                flags: sent.key.flags,
+                repeat: sent.key.repeat + 1,
+            };
+            Some((sent.channel, key))
+        } else {
+            None
+        }
+    }
+}
+
+#[cfg(test)]
+mod tests {
+    use super::*;
+    use input_types::{DeviceId, KeyArgs};
+    use std::test::Fail;
+
+    fn told(down: bool, repeat: u32) -> Result<KeyMsg, Fail> {
+        let key = KeyArgs {
+            device: DeviceId::new(1).ok_or("a device")?,
+            scan: 115,
+            code: 24,
+            meta: 0,
+            down,
+        };
+        Ok(KeyMsg {
+            key,
+            flags: 0,
+            repeat,
+        })
+    }
+
+    fn due_after(down: bool, repeat: u32, clock: u64) -> Result<Option<u64>, Fail> {
+        let mut last = Repeat::new();
+        last.sent(
+            3,
+            told(down, repeat)?,
+            Moment::new(clock).ok_or("a moment")?,
+        );
+        Ok(last.due())
+    }
+
+    #[test]
+    fn half_a_second_and_then_a_twentieth(rt: HostRuntime) -> Result<(), Fail> {
+        assert_eq!(rt; due_after(true, 0, 1_000_000)?, Some(1_500_000));
+        assert_eq!(rt; due_after(true, 1, 1_500_000)?, Some(1_550_000));
+        assert_eq!(rt; due_after(false, 0, 1_560_000)?, None);
+        assert_eq!(rt; due_after(true, 4294967295, 0)?, None);
+        assert_eq!(rt; due_after(true, 4294967294, 0)?, Some(50_000));
+        Ok(())
+    }
+}
