@@ -1,5 +1,5 @@
-pub mod Complete
-pub mod Elements
-pub mod Examples
+pub mod Moved
 pub mod Newest
-pub mod Text
+pub mod Readers
+pub mod Sections
+pub mod Told

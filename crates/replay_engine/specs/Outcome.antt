@@ -2,9 +2,8 @@
 use Rattle.std.specs.Prelude.{◌≡◌, ℕ, nat_eq, ◌||◌, Bool, List, take, Option, Some, None, Result, Ok, Err, ⊤, IsTrue, ◌⊎◌}
 use Rattle.std.specs.Io.KnownBytes.{Appends}
 use Rattle.outside_io.specs.Outside.{Entry, Rose}
-use Rattle.replay_engine.specs.declared.refusal.Refusal.{Refusal}
 use Rattle.replay_engine.specs.Program.{answer}
-use Rattle.replay_engine.specs.Refusals.{status_of, line_of}
+use Rattle.replay_engine.specs.Refused.{Refused}
 use Rattle.replay_engine.specs.Words.{Names}
 
 -- the files lend each name that the words give
@@ -13,7 +12,7 @@ LendsNames lends None = ⊤
 LendsNames lends (Some names) = IsTrue (lends names.session) × IsTrue (lends names.events)
 
 -- where the files are told, this is what the program answers
-abbrev pub ComesTo : Option (List Entry) → List (List ℕ) → Result (List ℕ) Refusal → Type 0
+abbrev pub ComesTo : Option (List Entry) → List (List ℕ) → Result (List ℕ) Refused → Type 0
 ComesTo None words a = ⊤
 ComesTo (Some entries) words a = answer entries words ≡ Some a
 
@@ -35,19 +34,23 @@ WroteFront told words before now = (text : List ℕ) × ComesTo told words (Ok t
 
 -- the program answers a refusal with this status
 abbrev pub RefusedBy : Option (List Entry) → List (List ℕ) → ℕ → (List ℕ → Type 0) → Type 0
-RefusedBy told words status said = (refusal : Refusal) × (status_of refusal ≡ status) × ComesTo told words (Err refusal) × said (line_of refusal)
+RefusedBy told words status said = (r : Refused) × (r.status ≡ status) × ComesTo told words (Err r) × said r.line
+
+-- this status, and its line where the sink had no fault
+abbrev pub TellsSo : ℕ → ℕ → Option (List ℕ) → Option (List ℕ) → Refused → ℕ → Type 0
+TellsSo faults_before faults_now before now r status = (status ≡ r.status) × Said faults_before faults_now before now r.line
 
 -- a status that there is
 abbrev pub is_status : ℕ → Bool
 is_status n = nat_eq n 0 || nat_eq n 2 || nat_eq n 3 || nat_eq n 4 || nat_eq n 5 || nat_eq n 6 || nat_eq n 7
 
 -- the status of an answer: 0 for a text, which is written where no fault of the output arose
-abbrev pub HasStatus : Result (List ℕ) Refusal → ℕ → Type 0
+abbrev pub HasStatus : Result (List ℕ) Refused → ℕ → Type 0
 HasStatus (Ok text) status = status ≡ 0
-HasStatus (Err refusal) status = status ≡ status_of refusal
+HasStatus (Err r) status = status ≡ r.status
 
 -- Where the files are told and nothing failed, the program answers and its status is that of the answer, or memory ran out.
 abbrev pub IsComplete : Option (List Entry) → List (List ℕ) → ℕ → Type 0
 IsComplete None words status = ⊤
 IsComplete (Some entries) words status =
-    ((a : Result (List ℕ) Refusal) × (answer entries words ≡ Some a) × HasStatus a status) ⊎ (status ≡ 6)
+    ((a : Result (List ℕ) Refused) × (answer entries words ≡ Some a) × HasStatus a status) ⊎ (status ≡ 6)

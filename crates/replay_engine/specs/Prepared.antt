@@ -3,43 +3,43 @@ use Rattle.std.specs.Prelude.{◌≡◌, ℕ, List, Option, Some, None, Result, 
 use Rattle.std.specs.Option.{option_map}
 use Rattle.outside_io.specs.Outside.{Entry, Rose, bytes_of}
 use Rattle.replay_engine.specs.declared.refusal.Refusal.{Refusal}
-use Rattle.replay_engine.specs.declared.refusal.Refusal.TheVariants.{Usage, SessionNotBuilt, RecordingNotBuilt, ReadFailed, NoMemory, SessionTooLong, RecordingTooLong}
+use Rattle.replay_engine.specs.declared.refusal.Refusal.TheVariants.{Usage, Session, NotBuilt, Recording, ReadFailed, NoMemory, TooLong}
 use Rattle.replay_engine.specs.Outcome.{ComesTo}
-use Rattle.replay_engine.specs.Plan.{Plan}
-use Rattle.replay_engine.specs.Program.{text_for}
+use Rattle.replay_engine.specs.Refused.{Refused}
+use Rattle.replay_engine.specs.RefusalView.{refusal_view}
 use Rattle.replay_engine.specs.Words.{form_of}
 
 -- the file is there, and is judged so
-abbrev pub Judges : {A : Type 0} → Option (List Entry) → List ℕ → (List ℕ → Result A Refusal) → Result A Refusal → Type 0
+abbrev pub Judges : {A : Type 0} → Option (List Entry) → List ℕ → (List ℕ → Result A Refused) → Result A Refused → Type 0
 Judges None name judge r = ⊤
 Judges (Some entries) name judge r = option_map judge (bytes_of entries name) ≡ Some r
 
+-- what is judged is refused so, or memory ran out
+abbrev pub Refuses : {A : Type 0} → Result A Refused → Refusal → Type 0
+Refuses judged Usage = ⊥
+Refuses judged (Session e) = judged ≡ Err (refusal_view (Session e))
+Refuses judged NotBuilt = judged ≡ Err (refusal_view NotBuilt)
+Refuses judged (Recording e) = judged ≡ Err (refusal_view (Recording e))
+Refuses judged ReadFailed = ⊥
+Refuses judged NoMemory = ⊤
+Refuses judged (TooLong what) = judged ≡ Err (refusal_view (TooLong what))
+
 -- a file is refused: a fault arose, memory ran out, or it is judged so
-abbrev pub RefusesFile : {A : Type 0} → Option (List Entry) → List ℕ → (List ℕ → Result A Refusal) → ℕ → ℕ → Refusal → Type 0
+abbrev pub RefusesFile : {A : Type 0} → Option (List Entry) → List ℕ → (List ℕ → Result A Refused) → ℕ → ℕ → Refusal → Type 0
 RefusesFile told name judge before now Usage = ⊥
-RefusesFile told name judge before now SessionNotBuilt = Judges told name judge (Err SessionNotBuilt)
-RefusesFile told name judge before now RecordingNotBuilt = Judges told name judge (Err RecordingNotBuilt)
+RefusesFile told name judge before now (Session e) = Judges told name judge (Err (refusal_view (Session e)))
+RefusesFile told name judge before now NotBuilt = Judges told name judge (Err (refusal_view NotBuilt))
+RefusesFile told name judge before now (Recording e) = Judges told name judge (Err (refusal_view (Recording e)))
 RefusesFile told name judge before now ReadFailed = Rose before now
 RefusesFile told name judge before now NoMemory = ⊤
-RefusesFile told name judge before now SessionTooLong = Judges told name judge (Err SessionTooLong)
-RefusesFile told name judge before now RecordingTooLong = Judges told name judge (Err RecordingTooLong)
-
--- a recording is refused: memory ran out, or it gives no text
-abbrev pub RefusesText : Plan → List ℕ → Refusal → Type 0
-RefusesText plan bytes RecordingNotBuilt = text_for plan bytes ≡ None
-RefusesText plan bytes NoMemory = ⊤
-RefusesText plan bytes Usage = ⊥
-RefusesText plan bytes SessionNotBuilt = ⊥
-RefusesText plan bytes ReadFailed = ⊥
-RefusesText plan bytes SessionTooLong = ⊥
-RefusesText plan bytes RecordingTooLong = ⊥
+RefusesFile told name judge before now (TooLong what) = Judges told name judge (Err (refusal_view (TooLong what)))
 
 -- the program refuses: a fault arose, memory ran out, or that is what it answers
-abbrev pub Refuses : Option (List Entry) → List (List ℕ) → ℕ → ℕ → Refusal → Type 0
-Refuses told words before now Usage = form_of words ≡ None
-Refuses told words before now SessionNotBuilt = ComesTo told words (Err SessionNotBuilt)
-Refuses told words before now RecordingNotBuilt = ComesTo told words (Err RecordingNotBuilt)
-Refuses told words before now ReadFailed = Rose before now
-Refuses told words before now NoMemory = ⊤
-Refuses told words before now SessionTooLong = ComesTo told words (Err SessionTooLong)
-Refuses told words before now RecordingTooLong = ComesTo told words (Err RecordingTooLong)
+abbrev pub RefusesAll : Option (List Entry) → List (List ℕ) → ℕ → ℕ → Refusal → Type 0
+RefusesAll told words before now Usage = form_of words ≡ None
+RefusesAll told words before now (Session e) = ComesTo told words (Err (refusal_view (Session e)))
+RefusesAll told words before now NotBuilt = ComesTo told words (Err (refusal_view NotBuilt))
+RefusesAll told words before now (Recording e) = ComesTo told words (Err (refusal_view (Recording e)))
+RefusesAll told words before now ReadFailed = Rose before now
+RefusesAll told words before now NoMemory = ⊤
+RefusesAll told words before now (TooLong what) = ComesTo told words (Err (refusal_view (TooLong what)))

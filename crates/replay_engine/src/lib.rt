@@ -13,14 +13,15 @@
 //! status when it comes and what was written; `specs/Program.antt` says which text that is, as a function of the words and the files.
 #![tactic(auto)]
 
-mod finger;
+mod built;
+mod cooking;
 mod prepared;
 mod reading;
 mod refusal;
-mod session;
-mod streams;
+mod routing;
+mod stream;
+mod text;
 mod top;
-mod touch;
 mod words;
 mod writing;
 

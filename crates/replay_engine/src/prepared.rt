@@ -1,21 +1,27 @@
 //! The steps before the writing: the words, the session, the recording and the text.
-ghost use Rattle.std.specs.Prelude.{◌≡◌, ◌≢◌, ◌↔◌, ℕ, ◌≤◌, List, map, string_bytes, IsTrue, None, Some, Ok, Err, IfOk, IfErr, OnOk, length};
+ghost use Rattle.std.specs.Prelude.{◌≡◌, ◌≢◌, ◌↔◌, ℕ, ◌+◌, ◌≤◌, List, map, string_bytes, IsTrue, None, Some, Ok, Err, IfOk, IfErr, OnOk, length};
 ghost use Rattle.outside_io.specs.Outside.{Rose};
+ghost use Rattle.raw_events.specs.Line.{known};
+ghost use Rattle.session_plan.specs.Valid.{IsPlan};
+ghost use Rattle.session_plan.specs.View.{plan_view};
 ghost use Rattle.replay_engine.specs.Outcome.{ComesTo, LendsNames};
-ghost use Rattle.replay_engine.specs.Prepared.{Judges, Refuses, RefusesFile, RefusesText};
-ghost use Rattle.replay_engine.specs.Program.{recording_judged, session_judged, text_for};
-ghost use Rattle.replay_engine.specs.SessionView.{plan_view};
+ghost use Rattle.replay_engine.specs.Prepared.{Judges, Refuses, RefusesAll, RefusesFile};
+ghost use Rattle.replay_engine.specs.Program.{devices_of, events_judged, plan_judged, recording_judged, session_judged};
+ghost use Rattle.raw_events.specs.Recording.{recorded};
+ghost use Rattle.session_plan.specs.Session.{session_of};
 ghost use Rattle.replay_engine.specs.Words.{form_of};
 
-use crate::finger::{Extent, touches_of};
+use crate::built::can_run;
+use crate::cooking::device_number;
 use crate::reading::{ReadError, read_file};
-use crate::refusal::Refusal;
-use crate::session::{self, Session, SessionError};
-use crate::streams::text_of;
+use crate::refusal::{Refusal, Subject};
+use crate::text::text_of;
 use crate::words::names_of;
+use input_types::DeviceId;
 use outside_io::Files;
 use raw_events::{LineError, events_of};
-use std::alloc::Global;
+use session_plan::{Plan, PlanError};
+use std::alloc::{AllocError, Global};
 
 /// The most bytes of a session: 4 MiB.
 const SESSION_LIMIT: usize = 4194304;
@@ -23,31 +29,65 @@ const SESSION_LIMIT: usize = 4194304;
 /// The most bytes of a recording: 32 MiB.
 const RECORDING_LIMIT: usize = 33554432;
 
-/// The text for a recording's bytes.
-fn text_from(alloc: Global, session: &Session, bytes: &[u8]) -> Result<String, Refusal>
-    ensures ok { IfOk result (λ text. text_for (plan_view session.now) bytes.now ≡ Some (string_bytes text)) }
-    ensures err { IfErr result (RefusesText (plan_view session.now) bytes.now) }
+/// The most steps of a session.
+const STEP_LIMIT: usize = 100000;
+
+/// The devices' paths with their numbers.
+fn numbered_devices(alloc: Global, plan: &Plan) -> Result<Vec<(String, DeviceId)>, AllocError>
+    requires { IsPlan plan.now }
+    ensures { IfOk result (λ v. known v.items ≡ devices_of (plan_view plan.now)) }
 {
-    let events = match events_of(alloc, &session.devices, bytes) {
-        Ok(events) => events,
-        Err(LineError::Memory) => return Err(Refusal::NoMemory),
-        Err(_) => return Err(Refusal::RecordingNotBuilt),
+    let mut devices = Vec::new(alloc);
+    for (place, device) in plan.devices.iter().enumerate() {
+        devices.push((
+            String::from_str(alloc, device.path.as_str())?,
+            device_number(place),
+        ))?;
+    }
+    Ok(devices)
+}
+
+/// The text of a recording's bytes.
+fn text_from(alloc: Global, plan: &Plan, bytes: &[u8]) -> Result<Vec<u8>, Refusal>
+    requires { IsPlan plan.now }
+    ensures ok { IfOk result (λ text. events_judged (plan_view plan.now) (recorded (devices_of (plan_view plan.now)) bytes.now) ≡ Ok text.items) }
+    ensures err { IfErr result (Refuses (events_judged (plan_view plan.now) (recorded (devices_of (plan_view plan.now)) bytes.now))) }
+{
+    let devices = numbered_devices(alloc, plan)?;
+    match events_of(alloc, &devices, bytes) {
+        Ok(events) => Ok(text_of(alloc, plan, &events)?),
+        Err(LineError::Memory) => Err(Refusal::NoMemory),
+        Err(error) => Err(Refusal::Recording(error)),
+    }
+}
+
+/// The plan of a session's bytes.
+fn plan_from(alloc: Global, bytes: &[u8]) -> Result<Plan, Refusal>
+    ensures ok { IfOk result (λ plan. plan_judged (session_of bytes.now) ≡ Ok (plan_view plan)) }
+    ensures valid { IfOk result IsPlan }
+    ensures err { IfErr result (Refuses (plan_judged (session_of bytes.now))) }
+{
+    let plan = match Plan::read(alloc, bytes) {
+        Ok(plan) => plan,
+        Err(PlanError::Memory) => return Err(Refusal::NoMemory),
+        Err(error) => return Err(Refusal::Session(error)),
     };
-    let extent = Extent {
-        width: session.width,
-        height: session.height,
-    };
-    match touches_of(alloc, extent, &events)? {
-        Some(touches) => Ok(text_of(alloc, session, &touches)?),
-        None => Err(Refusal::RecordingNotBuilt),
+    if plan.steps.len() > STEP_LIMIT {
+        return Err(Refusal::TooLong(Subject::Steps));
+    }
+    if can_run(&plan) {
+        Ok(plan)
+    } else {
+        Err(Refusal::NotBuilt)
     }
 }
 
 /// Reads and judges the session.
-fn session_from<F: Files>(alloc: Global, files: &mut F, name: &str) -> Result<Session, Refusal>
+fn session_from<F: Files>(alloc: Global, files: &mut F, name: &str) -> Result<Plan, Refusal>
     requires lends { IsTrue (F.lends files.old name.now) }
     requires free { F.lent files.old ≡ None }
-    ensures ok { IfOk result (λ s. Judges (F.entries files.old) name.now session_judged (Ok (plan_view s))) }
+    ensures ok { IfOk result (λ plan. Judges (F.entries files.old) name.now session_judged (Ok (plan_view plan))) }
+    ensures valid { IfOk result IsPlan }
     ensures err { IfErr result (RefusesFile (F.entries files.old) name.now session_judged (F.faults files.old) (F.faults files.new)) }
     ensures later { F.faults files.old ≤ F.faults files.new }
     ensures free { F.lent files.new ≡ None }
@@ -58,49 +98,50 @@ fn session_from<F: Files>(alloc: Global, files: &mut F, name: &str) -> Result<Se
         Ok(bytes) => bytes,
         Err(ReadError::Failed) => return Err(Refusal::ReadFailed),
         Err(ReadError::Memory) => return Err(Refusal::NoMemory),
-        Err(ReadError::TooLong) => return Err(Refusal::SessionTooLong),
+        Err(ReadError::TooLong) => return Err(Refusal::TooLong(Subject::Session)),
     };
-    match session::read(alloc, &bytes) {
-        Ok(session) => Ok(session),
-        Err(SessionError::NotBuilt) => Err(Refusal::SessionNotBuilt),
-        Err(SessionError::Memory) => Err(Refusal::NoMemory),
-    }
+    plan_from(alloc, &bytes)
 }
 
 /// Reads the recording, judges it, and makes its text.
 fn recording_text<F: Files>(
     alloc: Global,
     files: &mut F,
-    session: &Session,
+    plan: &Plan,
     name: &str,
-) -> Result<String, Refusal>
+) -> Result<Vec<u8>, Refusal>
     requires lends { IsTrue (F.lends files.old name.now) }
     requires free { F.lent files.old ≡ None }
-    ensures ok { IfOk result (λ text. Judges (F.entries files.old) name.now (recording_judged (plan_view session.now)) (Ok (string_bytes text))) }
-    ensures err { IfErr result (RefusesFile (F.entries files.old) name.now (recording_judged (plan_view session.now)) (F.faults files.old) (F.faults files.new)) }
+    requires valid { IsPlan plan.now }
+    ensures ok { IfOk result (λ text. Judges (F.entries files.old) name.now (recording_judged (plan_view plan.now)) (Ok text.items)) }
+    ensures err { IfErr result (RefusesFile (F.entries files.old) name.now (recording_judged (plan_view plan.now)) (F.faults files.old) (F.faults files.new)) }
     ensures later { F.faults files.old ≤ F.faults files.new }
 {
     let bytes = match read_file(alloc, files, name, RECORDING_LIMIT) {
         Ok(bytes) => bytes,
         Err(ReadError::Failed) => return Err(Refusal::ReadFailed),
         Err(ReadError::Memory) => return Err(Refusal::NoMemory),
-        Err(ReadError::TooLong) => return Err(Refusal::RecordingTooLong),
+        Err(ReadError::TooLong) => return Err(Refusal::TooLong(Subject::Recording)),
     };
-    text_from(alloc, session, &bytes)
+    text_from(alloc, plan, &bytes)
 }
 
 /// The text that the program writes, or why it writes none.
-pub fn prepared<F: Files>(alloc: Global, words: &[String], files: &mut F) -> Result<String, Refusal>
+pub fn prepared<F: Files>(
+    alloc: Global,
+    words: &[String],
+    files: &mut F,
+) -> Result<Vec<u8>, Refusal>
     requires lends { LendsNames (F.lends files.old) (form_of (map string_bytes words.now)) }
     requires free { F.lent files.old ≡ None }
-    ensures ok { IfOk result (λ text. ComesTo (F.entries files.old) (map string_bytes words.now) (Ok (string_bytes text))) }
+    ensures ok { IfOk result (λ text. ComesTo (F.entries files.old) (map string_bytes words.now) (Ok text.items)) }
     ensures formed { OnOk result (form_of (map string_bytes words.now) ≢ None) }
-    ensures err { IfErr result (Refuses (F.entries files.old) (map string_bytes words.now) (F.faults files.old) (F.faults files.new)) }
+    ensures err { IfErr result (RefusesAll (F.entries files.old) (map string_bytes words.now) (F.faults files.old) (F.faults files.new)) }
     ensures usage { (form_of (map string_bytes words.now) ≡ None) ↔ (result ≡ Err Refusal.Usage) }
 {
     let Some(names) = names_of(words) else {
         return Err(Refusal::Usage);
     };
-    let session = session_from(alloc, files, names.session)?;
-    recording_text(alloc, files, &session, names.events)
+    let plan = session_from(alloc, files, names.session)?;
+    recording_text(alloc, files, &plan, names.events)
 }

@@ -1,26 +1,40 @@
 //! Why a run writes no text, with the line that it tells instead and its status.
-ghost use Rattle.std.specs.Prelude.{◌≡◌};
+ghost use Rattle.std.specs.Prelude.{◌≡◌, ◌++◌, codes, string_bytes, IfOk};
+ghost use Rattle.session_plan.specs.ErrorLine.{error_line};
+ghost use Rattle.replay_engine.specs.Refused.{recording_line};
 ghost use Rattle.replay_engine.specs.declared.refusal.Refusal.TheVariants.{NoMemory};
 
-use std::alloc::AllocError;
+use raw_events::LineError;
+use session_plan::PlanError;
+use std::alloc::{AllocError, Global};
+
+/// What a run found to be longer than its limit.
+#[derive(Clone, Copy, Debug, PartialEq, Eq)]
+pub enum Subject {
+    /// The session has more bytes than 4 MiB.
+    Session,
+    /// The recording has more bytes than 32 MiB.
+    Recording,
+    /// The session has more steps than 100,000.
+    Steps,
+}
 
 /// Why a run writes no text.
-#[derive(Clone, Copy, Debug, PartialEq, Eq)]
+#[derive(Debug, Drop)]
 pub enum Refusal {
     /// The words are of no command's form.
     Usage,
-    /// The session is of a form that is not built yet.
-    SessionNotBuilt,
-    /// The recording is of a form that is not built yet.
-    RecordingNotBuilt,
+    /// The session is refused.
+    Session(PlanError),
+    /// The session says something that is not built yet.
+    NotBuilt,
+    /// A line of the recording is refused.
+    Recording(LineError),
     /// A file could not be read.
     ReadFailed,
     /// There was not enough memory.
     NoMemory,
-    /// The session has more bytes than 4 MiB.
-    SessionTooLong,
-    /// The recording has more bytes than 32 MiB.
-    RecordingTooLong,
+    TooLong(Subject),
 }
 
 impl From<AllocError> for Refusal {
@@ -31,35 +45,71 @@ impl From<AllocError> for Refusal {
     }
 }
 
+/// The line of a refused recording.
+fn recording_text(alloc: Global, error: &LineError) -> Result<String, AllocError>
+    ensures { IfOk result (λ text. string_bytes text ≡ recording_line error.now) }
+{
+    match error {
+        LineError::BadLine { line } => format!(in alloc; "recording: BadLine {line}"),
+        LineError::NoMoment { line } => format!(in alloc; "recording: NoMoment {line}"),
+        LineError::TooLong { line } => format!(in alloc; "recording: TooLong {line}"),
+        LineError::Memory => Ok(String::new(alloc)),
+    }
+}
+
 impl Refusal {
-    ghost use Rattle.std.specs.Prelude.{◌≡◌};
-    ghost use Rattle.replay_engine.specs.Refusals.{line_of, status_of};
+    ghost use Rattle.std.specs.Prelude.{◌≡◌, option_map};
+    ghost use Rattle.replay_engine.specs.RefusalView.{plain_line, refusal_view};
 
     /// The status that the program ends with.
-    pub fn status(self) -> u8
-        ensures { result ≡ status_of self }
+    pub fn status(&self) -> u8
+        ensures { result ≡ (refusal_view self.now).status }
     {
         match self {
             Refusal::Usage => 2,
-            Refusal::SessionNotBuilt | Refusal::RecordingNotBuilt => 3,
+            Refusal::Session(_) | Refusal::NotBuilt | Refusal::Recording(_) => 3,
             Refusal::ReadFailed => 4,
             Refusal::NoMemory => 6,
-            Refusal::SessionTooLong | Refusal::RecordingTooLong => 7,
+            Refusal::TooLong(_) => 7,
         }
     }
 
-    /// The line on standard error.
-    pub fn line(self) -> &'static str
-        ensures { result.now ≡ line_of self }
+    /// The line on standard error, where it is the same each time.
+    pub fn plain_line(&self) -> Option<&'static str>
+        ensures { option_map (λ l. l.now) result ≡ plain_line self.now }
     {
         match self {
-            Refusal::Usage => "usage: inputflinger replay|race|check|verify|work\n",
-            Refusal::SessionNotBuilt => "session: NotBuilt\n",
-            Refusal::RecordingNotBuilt => "recording: NotBuilt\n",
-            Refusal::ReadFailed => "read failed\n",
-            Refusal::NoMemory => "no memory\n",
-            Refusal::SessionTooLong => "too long: session\n",
-            Refusal::RecordingTooLong => "too long: recording\n",
+            Refusal::Usage => Some("usage: inputflinger replay|race|check|verify|work\n"),
+            Refusal::NotBuilt => Some("session: NotBuilt\n"),
+            Refusal::ReadFailed => Some("read failed\n"),
+            Refusal::NoMemory => Some("no memory\n"),
+            Refusal::TooLong(Subject::Session) => Some("too long: session\n"),
+            Refusal::TooLong(Subject::Recording) => Some("too long: recording\n"),
+            Refusal::TooLong(Subject::Steps) => Some("too long: steps\n"),
+            Refusal::Session(_) | Refusal::Recording(_) => None,
         }
     }
+}
+
+/// A line with its newline.
+fn with_newline(text: String) -> Result<String, AllocError>
+    ensures { IfOk result (λ line. string_bytes line ≡ string_bytes text ++ codes "\n") }
+{
+    let mut line = text;
+    line.push_str("\n")?;
+    Ok(line)
+}
+
+/// The line of a refused session.
+pub fn session_line(alloc: Global, error: &PlanError) -> Result<String, AllocError>
+    ensures { IfOk result (λ line. string_bytes line ≡ error_line error.now ++ codes "\n") }
+{
+    with_newline(error.line(alloc)?)
+}
+
+/// The line of a refused recording.
+pub fn recording_line(alloc: Global, error: &LineError) -> Result<String, AllocError>
+    ensures { IfOk result (λ line. string_bytes line ≡ recording_line error.now ++ codes "\n") }
+{
+    with_newline(recording_text(alloc, error)?)
 }

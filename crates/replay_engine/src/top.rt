@@ -1,14 +1,49 @@
 //! The top call.
-ghost use Rattle.std.specs.Prelude.{codes, ◌≡◌, ◌≢◌, ◌↔◌, ℕ, List, map, string_bytes, IsTrue, None};
+ghost use Rattle.std.specs.Prelude.{codes, ◌≡◌, ◌≢◌, ◌↔◌, ℕ, List, map, string_bytes, IfOk, OnErr, IsTrue, None};
 ghost use Rattle.std.specs.Io.KnownBytes.{Keeps};
 ghost use Rattle.outside_io.specs.Outside.{Rose};
-ghost use Rattle.replay_engine.specs.Outcome.{ComesTo, IsComplete, LendsNames, RefusedBy, Said, WroteAll, WroteFront, is_status};
+ghost use Rattle.replay_engine.specs.Outcome.{ComesTo, IsComplete, LendsNames, RefusedBy, Said, TellsSo, WroteAll, WroteFront, is_status};
+ghost use Rattle.replay_engine.specs.RefusalView.{IsTold};
 ghost use Rattle.replay_engine.specs.Words.{form_of};
 
 use crate::prepared::prepared;
+use crate::refusal::{Refusal, recording_line, session_line};
 use crate::writing::{tell, write_all};
 use outside_io::{Files, Sink};
-use std::alloc::Global;
+use std::alloc::{AllocError, Global};
+
+/// Tells a line that was made for a refusal with status 3, or that there was no memory for it.
+fn told_line<E: Sink>(line: Result<String, AllocError>, err: &mut E) -> u8
+    ensures made { IfOk line (λ l. (result ≡ 3) × Said (E.faults err.old) (E.faults err.new) (E.taken err.old) (E.taken err.new) (string_bytes l)) }
+    ensures no_memory { OnErr line ((result ≡ 6) × Said (E.faults err.old) (E.faults err.new) (E.taken err.old) (E.taken err.new) (codes "no memory\n")) }
+{
+    match line {
+        Ok(line) => {
+            tell(err, line.as_str());
+            3
+        }
+        Err(_) => {
+            tell(err, "no memory\n");
+            6
+        }
+    }
+}
+
+/// Tells why a run writes no text, and answers the status.
+fn told<E: Sink>(alloc: Global, refusal: &Refusal, err: &mut E) -> u8
+    ensures { IsTold (TellsSo (E.faults err.old) (E.faults err.new) (E.taken err.old) (E.taken err.new)) refusal.now result }
+{
+    match refusal {
+        Refusal::Session(error) => told_line(session_line(alloc, error), err),
+        Refusal::Recording(error) => told_line(recording_line(alloc, error), err),
+        plain => {
+            if let Some(line) = plain.plain_line() {
+                tell(err, line);
+            }
+            plain.status()
+        }
+    }
+}
 
 /// Runs a command: `words` are those behind the program's name. The answer is the status that the program ends with.
 ///
@@ -16,11 +51,11 @@ use std::alloc::Global;
 /// |---|---|---|
 /// | 0 | the whole text was written to `out` | none |
 /// | 2 | the words are not of the form of a command | `usage: inputflinger replay\|race\|check\|verify\|work` |
-/// | 3 | the session or the recording is refused | `session: NotBuilt`, `recording: NotBuilt` |
+/// | 3 | the session or a line of the recording is refused | as `session: Missing display`, `session: NotBuilt`, `recording: BadLine 3` |
 /// | 4 | a file could not be read | `read failed` |
 /// | 5 | a part of the text could not be written | `write failed` |
 /// | 6 | want of memory | `no memory` |
-/// | 7 | a file is longer than its limit | `too long: session`, `too long: recording` |
+/// | 7 | a file is longer than its limit, or the session has more steps than 100,000 | `too long: session`, `too long: recording`, `too long: steps` |
 pub fn run<F: Files, O: Sink, E: Sink>(
     alloc: Global,
     words: &[String],
@@ -56,16 +91,13 @@ pub fn run<F: Files, O: Sink, E: Sink>(
     ensures complete { ¬ (Rose (F.faults files.old) (F.faults files.new)) → ¬ (Rose (O.faults out.old) (O.faults out.new)) → IsComplete (F.entries files.old) (map string_bytes words.now) result }
 {
     match prepared(alloc, words, files) {
-        Ok(text) => match write_all(out, text.as_bytes()) {
+        Ok(text) => match write_all(out, &text) {
             Ok(()) => 0,
             Err(_) => {
                 tell(err, "write failed\n");
                 5
             }
         },
-        Err(refusal) => {
-            tell(err, refusal.line());
-            refusal.status()
-        }
+        Err(refusal) => told(alloc, &refusal, err),
     }
 }

@@ -1,6 +1,17 @@
--- A refusal without a fault is what the program answers.
-use Rattle.replay_engine.proofs.Complete.{complete_refusal}
+-- A refusal that was told is what the program answers, or want of memory.
+use Rattle.std.proofs.Common.{arith, ℕ, map, string_bytes, subst}
+use Rattle.replay_engine.specs.Outcome.{RefusedBy, Said}
+use Rattle.replay_engine.proofs.Told.{refused_by, complete_refusal}
 use Rattle.replay_engine.proofs.top.run.Goals as goal
 
+pub returns-clause-usage : goal.returns-clause-usage
+returns-clause-usage g c = λ two.
+    let files = g.F.Files.entries c.args.files.now
+    in let words = map string_bytes c.args.words.now
+    in let BySo : ℕ → Type 0 = λ n. RefusedBy files words n
+    (Said (g.E.Sink.faults c.args.err.now) (g.E.Sink.faults c.told.new.err) (g.E.Sink.taken c.args.err.now) (g.E.Sink.taken c.told.new.err))
+    in subst BySo two
+    (refused_by _ _ _ _ c.in-Err.refusal _ _ _ _ _ c.in-Err.ensures.err c.told.ensures (λ four. omega (arith, two, four)) (λ six. omega (arith, two, six)))
+
 pub returns-clause-complete : goal.returns-clause-complete
-returns-clause-complete g c = λ kept written. complete_refusal _ _ _ _ c.in-Err.refusal _ c.in-Err.ensures.err kept c.status.ensures
+returns-clause-complete g c = λ kept written. complete_refusal _ _ _ _ c.in-Err.refusal _ _ _ _ _ c.in-Err.ensures.err kept c.told.ensures

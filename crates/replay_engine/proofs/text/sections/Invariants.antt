@@ -1,0 +1,11 @@
+use Rattle.std.proofs.Common.{◌≡◌, ◌+◌, ◌++◌, map, drop}
+use Rattle.session_plan.specs.View.{channel_view}
+use Rattle.replay_engine.specs.Routing.{stream_at}
+use Rattle.replay_engine.specs.Text.{sections_from}
+use Rattle.replay_engine.proofs.text.sections.Given as goal
+
+-- the text so far, and then the sections that are left, are all
+abbrev pub invariant-loop-place : goal.invariant-loop-place
+invariant-loop-place l =
+    l.text.items ++ sections_from (l.place + 1) (map channel_view (drop l.place l.plan.channels.items)) (stream_at l.streams)
+    ≡ sections_from 1 (map channel_view l.plan.channels.items) (stream_at l.streams)
