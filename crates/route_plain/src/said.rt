@@ -113,7 +113,6 @@ fn tell_channel(
         out,
         channel,
         motion,
-        changed(motion),
         last,
         before,
         later,

@@ -1,10 +1,12 @@
 //! What one channel is told.
 ghost use Rattle.std.specs.Prelude.{◌≡◌, ◌++◌, [], ◌∷◌, ◌&&◌, not, OnOk};
+ghost use Rattle.routing_rules.specs.Given.{changed};
 ghost use Rattle.routing_rules.specs.Told.{listing, cancelled_ups, cancels_of, cancels};
 ghost use Rattle.route_plain.specs.IdSet.{set_has};
 ghost use Rattle.route_plain.specs.Route.{to_channel};
 ghost use Rattle.route_plain.specs.Telling.{outside_of, told_others, told_here, is_silent};
 
+use crate::change::changed;
 use crate::hold::{set_has, set_with};
 use crate::listing::{about, closing, is_up, listing, opening, plain, set_without, single};
 use crate::turn::Said;
@@ -133,18 +135,17 @@ pub(crate) fn tell_motion(
     out: &mut Vec<Said>,
     channel: u32,
     motion: &Motion,
-    changed: Option<Pointer>,
     last: &Pointers,
     before: u32,
     later: u32,
     watching: bool,
 ) -> Result<(), AllocError>
-    ensures { OnOk result (out.new.items ≡ out.old.items ++ to_channel channel (told_here motion.now changed last.now (set_has before) (set_has later) watching)) }
+    ensures { OnOk result (out.new.items ≡ out.old.items ++ to_channel channel (told_here motion.now (changed motion.now) last.now (set_has before) (set_has later) watching)) }
 {
     if is_silent(before, later, watching) {
         return Ok(());
     }
-    let Some(pointer) = changed else {
+    let Some(pointer) = changed(motion) else {
         return tell_others(out, channel, motion, last, before, later, None);
     };
     if set_has(later, pointer.id) && !set_has(before, pointer.id) {
