@@ -23,7 +23,7 @@ no_others m last b l n o =
     ap₂ (λ xs ys. or_else (cancels_of m.device (listing b last) (listing l last) xs) (or_else (moves m.device ys) []))
     (listing_none (λ i. b i && not (l i)) last (λ i. ap (λ c. c && not (l i)) (n i))) (listing_none l m.pointers o)
 
-nothing_told : (m : Motion) (p : Option Pointer) (last : List Pointer) (b l : ℕ → Bool) → ((i : ℕ) → b i ≡ false) → ((i : ℕ) → l i ≡ false)
+pub nothing_told : (m : Motion) (p : Option Pointer) (last : List Pointer) (b l : ℕ → Bool) → ((i : ℕ) → b i ≡ false) → ((i : ℕ) → l i ≡ false)
     → told_here m p last b l false ≡ []
 nothing_told m None last b l n o = no_others m last b l n o
 nothing_told m (Some p) last b l n o =

@@ -3,9 +3,10 @@ ghost use Rattle.std.specs.Prelude.{◌≡◌, ◌==◌, ◌&&◌};
 ghost use Rattle.std.specs.List.{list_any};
 ghost use Rattle.routing_rules.specs.Pairs.{has, has_any};
 ghost use Rattle.route_plain.specs.IdSet.{set_has, set_with};
-ghost use Rattle.route_plain.specs.Holds.{pairs_of, is_of, began, is_below, is_earlier, is_pilfering, ids_with};
+ghost use Rattle.route_plain.specs.Holds.{pairs_of, is_of, began, is_below, is_earlier, is_pilfering, ids_with, channels_with};
 
 use input_types::{DeviceId, PointerId};
+use window_snapshot::mask_with;
 
 /// A window that holds a pointer of a device: it was given the pointer's down, and is told of it until it goes up or is taken.
 #[derive(Clone, Copy, Debug, PartialEq, Eq)]
@@ -55,6 +56,15 @@ pub(crate) fn ids_with(set: u32, holds: &[Hold], window: u32, device: DeviceId) 
         .iter()
         .filter(|hold| is_of(hold, window, device))
         .fold(set, |ids, hold| set_with(ids, hold.id))
+}
+
+// The mask with the windows of the holds besides.
+pub(crate) fn channels_with(mask: u64, holds: &[Hold]) -> u64
+    ensures { result ≡ channels_with mask holds.now }
+{
+    holds
+        .iter()
+        .fold(mask, |channels, hold| mask_with(channels, hold.window))
 }
 
 // Whether one of them is a hold of the window on the device.

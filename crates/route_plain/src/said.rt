@@ -14,7 +14,7 @@ ghost use Rattle.route_plain.specs.Telling.{is_watching, held_after, told_here, 
 ghost use Rattle.route_plain.specs.Changing.{IsChange};
 
 use crate::change::{Change, changed};
-use crate::hold::{Hold, ids_with, is_of, set_with};
+use crate::hold::{Hold, channels_with, ids_with, is_of, set_with};
 use crate::loss::{Loss, is_taken};
 use crate::moment::Moment;
 use crate::telling::{tell_cancels, tell_motion};
@@ -109,15 +109,7 @@ fn tell_channel(
         channel,
         motion.device,
     );
-    tell_motion(
-        out,
-        channel,
-        motion,
-        last,
-        before,
-        later,
-        watching,
-    )
+    tell_motion(out, channel, motion, last, before, later, watching)
 }
 
 // What is said of a motion.
@@ -135,17 +127,20 @@ fn said_of_motion(
     let mut out = Vec::new(alloc);
     let last = last_of(moment.last, motion.device);
     let watching = watching(moment, motion, changed(motion));
+    let concerned = channels_with(channels_with(watching, moment.holds), &change.gained);
     for below in 0..64 {
         let channel = below + 1;
-        tell_channel(
-            &mut out,
-            channel,
-            moment,
-            motion,
-            &last,
-            change,
-            mask_has(watching, channel),
-        )?;
+        if mask_has(concerned, channel) {
+            tell_channel(
+                &mut out,
+                channel,
+                moment,
+                motion,
+                &last,
+                change,
+                mask_has(watching, channel),
+            )?;
+        }
     }
     Ok(out)
 }
