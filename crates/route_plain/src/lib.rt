@@ -14,7 +14,7 @@
 //! Windows, the snapshot being empty                2: CANCEL 1@700,400                     none
 //! ```
 //!
-//! A finger that stays within one window costs a walk over the list of holds for each channel, and the answer's vector.
+//! A finger that stays within one window costs some walks over the list of holds, and the answer's vector.
 #![tactic(auto)]
 
 mod change;
