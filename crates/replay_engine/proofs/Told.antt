@@ -3,7 +3,7 @@ use Rattle.std.specs.Prelude.{◌≡◌, ℕ, List, Option, Some, None, Err}
 use Rattle.std.proofs.Common.{ap, sym, inl, inr}
 use Rattle.outside_io.specs.Outside.{Entry, Rose}
 use Rattle.replay_engine.specs.declared.refusal.Refusal.{Refusal}
-use Rattle.replay_engine.specs.declared.refusal.Refusal.TheVariants.{Usage, Session, NotBuilt, Recording, ReadFailed, NoMemory, TooLong}
+use Rattle.replay_engine.specs.declared.refusal.Refusal.TheVariants.{Usage, Session, NotBuilt, Recording, Stream, ReadFailed, NoMemory, TooLong}
 use Rattle.replay_engine.specs.Outcome.{ComesTo, IsComplete, RefusedBy, Said, TellsSo}
 use Rattle.replay_engine.specs.Prepared.{RefusesAll}
 use Rattle.replay_engine.specs.Program.{answer_to}
@@ -25,6 +25,8 @@ refused_by told words before now (Session e) status fb fn eb en refuses said no4
 refused_by told words before now NotBuilt status fb fn eb en refuses said no4 no6 = (refusal_view NotBuilt, sym said.0, refuses, said.1)
 refused_by told words before now (Recording e) status fb fn eb en refuses said no4 no6 =
     elim said [ inl s ↦ (refusal_view (Recording e), sym s.0, refuses, s.1) | inr s ↦ absurd (no6 s.0) ]
+refused_by told words before now (Stream e) status fb fn eb en refuses said no4 no6 =
+    elim said [ inl s ↦ (refusal_view (Stream e), sym s.0, refuses, s.1) | inr s ↦ absurd (no6 s.0) ]
 refused_by told words before now ReadFailed status fb fn eb en refuses said no4 no6 = absurd (no4 said.0)
 refused_by told words before now NoMemory status fb fn eb en refuses said no4 no6 = absurd (no6 said.0)
 refused_by told words before now (TooLong what) status fb fn eb en refuses said no4 no6 = (refusal_view (TooLong what), sym said.0, refuses, said.1)
@@ -39,6 +41,8 @@ complete_refusal (Some es) words before now (Session e) status fb fn eb en refus
 complete_refusal (Some es) words before now NotBuilt status fb fn eb en refuses kept said = inl (Err (refusal_view NotBuilt), refuses, said.0)
 complete_refusal (Some es) words before now (Recording e) status fb fn eb en refuses kept said =
     elim said [ inl s ↦ inl (Err (refusal_view (Recording e)), refuses, s.0) | inr s ↦ inr s.0 ]
+complete_refusal (Some es) words before now (Stream e) status fb fn eb en refuses kept said =
+    elim said [ inl s ↦ inl (Err (refusal_view (Stream e)), refuses, s.0) | inr s ↦ inr s.0 ]
 complete_refusal (Some es) words before now ReadFailed status fb fn eb en refuses kept said = absurd (kept refuses)
 complete_refusal (Some es) words before now NoMemory status fb fn eb en refuses kept said = inr said.0
 complete_refusal (Some es) words before now (TooLong what) status fb fn eb en refuses kept said = inl (Err (refusal_view (TooLong what)), refuses, said.0)

@@ -1,6 +1,8 @@
 pub mod Built
+pub mod CommandView
 pub mod Cooked
 pub mod Following
+pub mod Judging
 pub mod Outcome
 pub mod Prepared
 pub mod Program
@@ -10,4 +12,5 @@ pub mod RefusalView
 pub mod Refused
 pub mod Routing
 pub mod Text
+pub mod Verdict
 pub mod Words

@@ -4,12 +4,13 @@ use Rattle.std.specs.Io.KnownBytes.{Appends}
 use Rattle.outside_io.specs.Outside.{Entry, Rose}
 use Rattle.replay_engine.specs.Program.{answer}
 use Rattle.replay_engine.specs.Refused.{Refused}
-use Rattle.replay_engine.specs.Words.{Names}
+use Rattle.replay_engine.specs.Words.{Command, replay, verify}
 
 -- the files lend each name that the words give
-abbrev pub LendsNames : (List ℕ → Bool) → Option Names → Type 0
+abbrev pub LendsNames : (List ℕ → Bool) → Option Command → Type 0
 LendsNames lends None = ⊤
-LendsNames lends (Some names) = IsTrue (lends names.session) × IsTrue (lends names.events)
+LendsNames lends (Some (replay names)) = IsTrue (lends names.session) × IsTrue (lends names.events)
+LendsNames lends (Some (verify stream)) = IsTrue (lends stream)
 
 -- where the files are told, this is what the program answers
 abbrev pub ComesTo : Option (List Entry) → List (List ℕ) → Result (List ℕ) Refused → Type 0
@@ -42,7 +43,7 @@ TellsSo faults_before faults_now before now r status = (status ≡ r.status) × 
 
 -- a status that there is
 abbrev pub is_status : ℕ → Bool
-is_status n = nat_eq n 0 || nat_eq n 2 || nat_eq n 3 || nat_eq n 4 || nat_eq n 5 || nat_eq n 6 || nat_eq n 7
+is_status n = nat_eq n 0 || nat_eq n 1 || nat_eq n 2 || nat_eq n 3 || nat_eq n 4 || nat_eq n 5 || nat_eq n 6 || nat_eq n 7
 
 -- the status of an answer: 0 for a text, which is written where no fault of the output arose
 abbrev pub HasStatus : Result (List ℕ) Refused → ℕ → Type 0

@@ -3,11 +3,12 @@ use Rattle.std.specs.Prelude.{◌≡◌, ℕ, List, Option, Some, None, Result, 
 use Rattle.std.specs.Option.{option_map}
 use Rattle.outside_io.specs.Outside.{Entry, Rose, bytes_of}
 use Rattle.replay_engine.specs.declared.refusal.Refusal.{Refusal}
-use Rattle.replay_engine.specs.declared.refusal.Refusal.TheVariants.{Usage, Session, NotBuilt, Recording, ReadFailed, NoMemory, TooLong}
+use Rattle.replay_engine.specs.declared.refusal.Refusal.TheVariants.{Usage, Session, NotBuilt, Recording, Stream, ReadFailed, NoMemory, TooLong}
 use Rattle.replay_engine.specs.Outcome.{ComesTo}
 use Rattle.replay_engine.specs.Refused.{Refused}
 use Rattle.replay_engine.specs.RefusalView.{refusal_view}
-use Rattle.replay_engine.specs.Words.{form_of}
+use Rattle.replay_engine.specs.Program.{answer_to}
+use Rattle.replay_engine.specs.Words.{Command, form_of}
 
 -- the file is there, and is judged so
 abbrev pub Judges : {A : Type 0} → Option (List Entry) → List ℕ → (List ℕ → Result A Refused) → Result A Refused → Type 0
@@ -20,6 +21,7 @@ Refuses judged Usage = ⊥
 Refuses judged (Session e) = judged ≡ Err (refusal_view (Session e))
 Refuses judged NotBuilt = judged ≡ Err (refusal_view NotBuilt)
 Refuses judged (Recording e) = judged ≡ Err (refusal_view (Recording e))
+Refuses judged (Stream e) = judged ≡ Err (refusal_view (Stream e))
 Refuses judged ReadFailed = ⊥
 Refuses judged NoMemory = ⊤
 Refuses judged (TooLong what) = judged ≡ Err (refusal_view (TooLong what))
@@ -30,9 +32,26 @@ RefusesFile told name judge before now Usage = ⊥
 RefusesFile told name judge before now (Session e) = Judges told name judge (Err (refusal_view (Session e)))
 RefusesFile told name judge before now NotBuilt = Judges told name judge (Err (refusal_view NotBuilt))
 RefusesFile told name judge before now (Recording e) = Judges told name judge (Err (refusal_view (Recording e)))
+RefusesFile told name judge before now (Stream e) = Judges told name judge (Err (refusal_view (Stream e)))
 RefusesFile told name judge before now ReadFailed = Rose before now
 RefusesFile told name judge before now NoMemory = ⊤
 RefusesFile told name judge before now (TooLong what) = Judges told name judge (Err (refusal_view (TooLong what)))
+
+-- where the files are told, this is the answer to a command
+abbrev pub Answers : Option (List Entry) → Command → Result (List ℕ) Refused → Type 0
+Answers None command a = ⊤
+Answers (Some entries) command a = answer_to entries (Some command) ≡ Some a
+
+-- a command is refused: a fault arose, memory ran out, or that is the answer to it
+abbrev pub RefusesCommand : Option (List Entry) → Command → ℕ → ℕ → Refusal → Type 0
+RefusesCommand told command before now Usage = ⊥
+RefusesCommand told command before now (Session e) = Answers told command (Err (refusal_view (Session e)))
+RefusesCommand told command before now NotBuilt = Answers told command (Err (refusal_view NotBuilt))
+RefusesCommand told command before now (Recording e) = Answers told command (Err (refusal_view (Recording e)))
+RefusesCommand told command before now (Stream e) = Answers told command (Err (refusal_view (Stream e)))
+RefusesCommand told command before now ReadFailed = Rose before now
+RefusesCommand told command before now NoMemory = ⊤
+RefusesCommand told command before now (TooLong what) = Answers told command (Err (refusal_view (TooLong what)))
 
 -- the program refuses: a fault arose, memory ran out, or that is what it answers
 abbrev pub RefusesAll : Option (List Entry) → List (List ℕ) → ℕ → ℕ → Refusal → Type 0
@@ -40,6 +59,7 @@ RefusesAll told words before now Usage = form_of words ≡ None
 RefusesAll told words before now (Session e) = ComesTo told words (Err (refusal_view (Session e)))
 RefusesAll told words before now NotBuilt = ComesTo told words (Err (refusal_view NotBuilt))
 RefusesAll told words before now (Recording e) = ComesTo told words (Err (refusal_view (Recording e)))
+RefusesAll told words before now (Stream e) = ComesTo told words (Err (refusal_view (Stream e)))
 RefusesAll told words before now ReadFailed = Rose before now
 RefusesAll told words before now NoMemory = ⊤
 RefusesAll told words before now (TooLong what) = ComesTo told words (Err (refusal_view (TooLong what)))

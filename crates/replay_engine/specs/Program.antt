@@ -12,14 +12,18 @@ use Rattle.session_plan.specs.Session.{session_of}
 use Rattle.replay_engine.specs.Built.{is_built}
 use Rattle.replay_engine.specs.Refused.{Refused, usage, not_built, session_refused, recording_refused, too_long}
 use Rattle.replay_engine.specs.Text.{text_for}
-use Rattle.replay_engine.specs.Words.{Names, form_of}
+use Rattle.replay_engine.specs.Verdict.{verdict}
+use Rattle.replay_engine.specs.Words.{Command, replay, verify, form_of}
 
--- the most bytes of a session, 4 MiB, and of a recording, 32 MiB, and the most steps
+-- the most bytes of a session, 4 MiB, of a recording, 32 MiB, and of a stream file, 64 MiB, and the most steps
 abbrev pub session_limit : ℕ
 session_limit = 4194304
 
 abbrev pub recording_limit : ℕ
 recording_limit = 33554432
+
+abbrev pub stream_limit : ℕ
+stream_limit = 67108864
 
 abbrev pub step_limit : ℕ
 step_limit = 100000
@@ -59,10 +63,15 @@ abbrev pub answer_after : List Entry → List ℕ → Result PlanData Refused �
 answer_after entries events (Err refused) = Some (Err refused)
 answer_after entries events (Ok plan) = option_map (recording_judged plan) (bytes_of entries events)
 
--- the answer to words of the form of a command: the session is judged first
-abbrev pub answer_to : List Entry → Option Names → Option (Result (List ℕ) Refused)
+-- the judgement of a stream file: its length is looked at first
+abbrev pub stream_judged : List ℕ → Result (List ℕ) Refused
+stream_judged bytes = cond (nat_le (length bytes) stream_limit) (verdict bytes) (Err (too_long (codes "stream")))
+
+-- the answer to words of the form of a command: of `replay` the session is judged first
+abbrev pub answer_to : List Entry → Option Command → Option (Result (List ℕ) Refused)
 answer_to entries None = Some (Err usage)
-answer_to entries (Some names) = option_and_then (λ bytes. answer_after entries names.events (session_judged bytes)) (bytes_of entries names.session)
+answer_to entries (Some (replay names)) = option_and_then (λ bytes. answer_after entries names.events (session_judged bytes)) (bytes_of entries names.session)
+answer_to entries (Some (verify stream)) = option_map stream_judged (bytes_of entries stream)
 
 -- What the program answers: the text that it writes or why it refuses, from the words and the files. None where it asks for a file
 -- that is not there.

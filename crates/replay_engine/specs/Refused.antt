@@ -35,6 +35,13 @@ recording_line lines.Memory = []
 abbrev pub recording_refused : LineError → Refused
 recording_refused error = refused 3 (recording_line error)
 
+-- a line of a stream file is not of its grammar, or its message may not come where it stands
+abbrev pub bad_stream_line : ℕ → Refused
+bad_stream_line n = refused 1 (codes "stream: BadLine " ++ decimal n)
+
+abbrev pub not_well_formed : ℕ → Refused
+not_well_formed n = refused 1 (codes "stream: NotWellFormed " ++ decimal n)
+
 -- something is longer than its limit
 abbrev pub too_long : List ℕ → Refused
 too_long what = refused 7 (codes "too long: " ++ what)

@@ -22,6 +22,7 @@ mod routing;
 mod stream;
 mod text;
 mod top;
+mod verdict;
 mod words;
 mod writing;
 

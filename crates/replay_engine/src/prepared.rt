@@ -5,18 +5,19 @@ ghost use Rattle.raw_events.specs.Line.{known};
 ghost use Rattle.session_plan.specs.Valid.{IsPlan};
 ghost use Rattle.session_plan.specs.View.{plan_view};
 ghost use Rattle.replay_engine.specs.Outcome.{ComesTo, LendsNames};
-ghost use Rattle.replay_engine.specs.Prepared.{Judges, Refuses, RefusesAll, RefusesFile};
+ghost use Rattle.replay_engine.specs.Prepared.{Answers, Judges, Refuses, RefusesAll, RefusesCommand, RefusesFile};
 ghost use Rattle.replay_engine.specs.Program.{devices_of, events_judged, plan_judged, recording_judged, session_judged};
 ghost use Rattle.raw_events.specs.Recording.{recorded};
 ghost use Rattle.session_plan.specs.Session.{session_of};
-ghost use Rattle.replay_engine.specs.Words.{form_of};
+ghost use Rattle.replay_engine.specs.Words.{form_of, replay, verify};
 
 use crate::built::can_run;
 use crate::cooking::device_number;
 use crate::reading::{ReadError, read_file};
 use crate::refusal::{Refusal, Subject};
 use crate::text::text_of;
-use crate::words::names_of;
+use crate::verdict::verdict_text;
+use crate::words::{Command, Names, command_of};
 use input_types::DeviceId;
 use outside_io::Files;
 use raw_events::{LineError, events_of};
@@ -28,6 +29,9 @@ const SESSION_LIMIT: usize = 4194304;
 
 /// The most bytes of a recording: 32 MiB.
 const RECORDING_LIMIT: usize = 33554432;
+
+/// The most bytes of a stream file: 64 MiB.
+const STREAM_LIMIT: usize = 67108864;
 
 /// The most steps of a session.
 const STEP_LIMIT: usize = 100000;
@@ -126,6 +130,34 @@ fn recording_text<F: Files>(
     text_from(alloc, plan, &bytes)
 }
 
+/// Reads and judges both files of `replay`, and makes the text.
+fn replay_text<F: Files>(alloc: Global, files: &mut F, names: Names<'_>) -> Result<Vec<u8>, Refusal>
+    requires session { IsTrue (F.lends files.old names.session.now) }
+    requires events { IsTrue (F.lends files.old names.events.now) }
+    requires free { F.lent files.old ≡ None }
+    ensures ok { IfOk result (λ text. Answers (F.entries files.old) (replay (record { session = names.session.now; events = names.events.now })) (Ok text.items)) }
+    ensures err { IfErr result (RefusesCommand (F.entries files.old) (replay (record { session = names.session.now; events = names.events.now })) (F.faults files.old) (F.faults files.new)) }
+{
+    let plan = session_from(alloc, files, names.session)?;
+    recording_text(alloc, files, &plan, names.events)
+}
+
+/// Reads and judges a stream file, and makes the text.
+fn verify_text<F: Files>(alloc: Global, files: &mut F, name: &str) -> Result<Vec<u8>, Refusal>
+    requires lends { IsTrue (F.lends files.old name.now) }
+    requires free { F.lent files.old ≡ None }
+    ensures ok { IfOk result (λ text. Answers (F.entries files.old) (verify name.now) (Ok text.items)) }
+    ensures err { IfErr result (RefusesCommand (F.entries files.old) (verify name.now) (F.faults files.old) (F.faults files.new)) }
+{
+    let bytes = match read_file(alloc, files, name, STREAM_LIMIT) {
+        Ok(bytes) => bytes,
+        Err(ReadError::Failed) => return Err(Refusal::ReadFailed),
+        Err(ReadError::Memory) => return Err(Refusal::NoMemory),
+        Err(ReadError::TooLong) => return Err(Refusal::TooLong(Subject::Stream)),
+    };
+    verdict_text(alloc, &bytes)
+}
+
 /// The text that the program writes, or why it writes none.
 pub fn prepared<F: Files>(
     alloc: Global,
@@ -139,9 +171,9 @@ pub fn prepared<F: Files>(
     ensures err { IfErr result (RefusesAll (F.entries files.old) (map string_bytes words.now) (F.faults files.old) (F.faults files.new)) }
     ensures usage { (form_of (map string_bytes words.now) ≡ None) ↔ (result ≡ Err Refusal.Usage) }
 {
-    let Some(names) = names_of(words) else {
-        return Err(Refusal::Usage);
-    };
-    let plan = session_from(alloc, files, names.session)?;
-    recording_text(alloc, files, &plan, names.events)
+    match command_of(words) {
+        None => Err(Refusal::Usage),
+        Some(Command::Replay(names)) => replay_text(alloc, files, names),
+        Some(Command::Verify(stream)) => verify_text(alloc, files, stream),
+    }
 }

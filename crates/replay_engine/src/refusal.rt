@@ -2,6 +2,7 @@
 ghost use Rattle.std.specs.Prelude.{◌≡◌, ◌++◌, codes, string_bytes, IfOk};
 ghost use Rattle.session_plan.specs.ErrorLine.{error_line};
 ghost use Rattle.replay_engine.specs.Refused.{recording_line};
+ghost use Rattle.replay_engine.specs.RefusalView.{stream_line as stream_said};
 ghost use Rattle.replay_engine.specs.declared.refusal.Refusal.TheVariants.{NoMemory};
 
 use raw_events::LineError;
@@ -17,6 +18,17 @@ pub enum Subject {
     Recording,
     /// The session has more steps than 100,000.
     Steps,
+    /// The stream file has more bytes than 64 MiB.
+    Stream,
+}
+
+/// Why a stream file is refused. Lines are numbered from 1.
+#[derive(Clone, Copy, Debug, PartialEq, Eq)]
+pub enum StreamError {
+    /// The line is not of the grammar of stream files, or is missing.
+    BadLine { line: u64 },
+    /// The message of the line may not come after those before it in its section.
+    NotWellFormed { line: u64 },
 }
 
 /// Why a run writes no text.
@@ -30,6 +42,8 @@ pub enum Refusal {
     NotBuilt,
     /// A line of the recording is refused.
     Recording(LineError),
+    /// A stream file is refused.
+    Stream(StreamError),
     /// A file could not be read.
     ReadFailed,
     /// There was not enough memory.
@@ -57,6 +71,16 @@ fn recording_text(alloc: Global, error: &LineError) -> Result<String, AllocError
     }
 }
 
+/// The line of a refused stream file.
+fn stream_text(alloc: Global, error: StreamError) -> Result<String, AllocError>
+    ensures { IfOk result (λ text. string_bytes text ≡ stream_said error) }
+{
+    match error {
+        StreamError::BadLine { line } => format!(in alloc; "stream: BadLine {line}"),
+        StreamError::NotWellFormed { line } => format!(in alloc; "stream: NotWellFormed {line}"),
+    }
+}
+
 impl Refusal {
     ghost use Rattle.std.specs.Prelude.{◌≡◌, option_map};
     ghost use Rattle.replay_engine.specs.RefusalView.{plain_line, refusal_view};
@@ -66,6 +90,7 @@ impl Refusal {
         ensures { result ≡ (refusal_view self.now).status }
     {
         match self {
+            Refusal::Stream(_) => 1,
             Refusal::Usage => 2,
             Refusal::Session(_) | Refusal::NotBuilt | Refusal::Recording(_) => 3,
             Refusal::ReadFailed => 4,
@@ -86,7 +111,8 @@ impl Refusal {
             Refusal::TooLong(Subject::Session) => Some("too long: session\n"),
             Refusal::TooLong(Subject::Recording) => Some("too long: recording\n"),
             Refusal::TooLong(Subject::Steps) => Some("too long: steps\n"),
-            Refusal::Session(_) | Refusal::Recording(_) => None,
+            Refusal::TooLong(Subject::Stream) => Some("too long: stream\n"),
+            Refusal::Session(_) | Refusal::Recording(_) | Refusal::Stream(_) => None,
         }
     }
 }
@@ -112,4 +138,11 @@ pub fn recording_line(alloc: Global, error: &LineError) -> Result<String, AllocE
     ensures { IfOk result (λ line. string_bytes line ≡ recording_line error.now ++ codes "\n") }
 {
     with_newline(recording_text(alloc, error)?)
+}
+
+/// The line of a refused stream file.
+pub fn stream_line(alloc: Global, error: StreamError) -> Result<String, AllocError>
+    ensures { IfOk result (λ line. string_bytes line ≡ stream_said error ++ codes "\n") }
+{
+    with_newline(stream_text(alloc, error)?)
 }

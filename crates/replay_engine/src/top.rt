@@ -7,20 +7,20 @@ ghost use Rattle.replay_engine.specs.RefusalView.{IsTold};
 ghost use Rattle.replay_engine.specs.Words.{form_of};
 
 use crate::prepared::prepared;
-use crate::refusal::{Refusal, recording_line, session_line};
+use crate::refusal::{Refusal, recording_line, session_line, stream_line};
 use crate::writing::{tell, write_all};
 use outside_io::{Files, Sink};
 use std::alloc::{AllocError, Global};
 
-/// Tells a line that was made for a refusal with status 3, or that there was no memory for it.
-fn told_line<E: Sink>(line: Result<String, AllocError>, err: &mut E) -> u8
-    ensures made { IfOk line (λ l. (result ≡ 3) × Said (E.faults err.old) (E.faults err.new) (E.taken err.old) (E.taken err.new) (string_bytes l)) }
+/// Tells a line that was made for a refusal with this status, or that there was no memory for it.
+fn told_line<E: Sink>(status: u8, line: Result<String, AllocError>, err: &mut E) -> u8
+    ensures made { IfOk line (λ l. (result ≡ status) × Said (E.faults err.old) (E.faults err.new) (E.taken err.old) (E.taken err.new) (string_bytes l)) }
     ensures no_memory { OnErr line ((result ≡ 6) × Said (E.faults err.old) (E.faults err.new) (E.taken err.old) (E.taken err.new) (codes "no memory\n")) }
 {
     match line {
         Ok(line) => {
             tell(err, line.as_str());
-            3
+            status
         }
         Err(_) => {
             tell(err, "no memory\n");
@@ -34,8 +34,9 @@ fn told<E: Sink>(alloc: Global, refusal: &Refusal, err: &mut E) -> u8
     ensures { IsTold (TellsSo (E.faults err.old) (E.faults err.new) (E.taken err.old) (E.taken err.new)) refusal.now result }
 {
     match refusal {
-        Refusal::Session(error) => told_line(session_line(alloc, error), err),
-        Refusal::Recording(error) => told_line(recording_line(alloc, error), err),
+        Refusal::Session(error) => told_line(3, session_line(alloc, error), err),
+        Refusal::Recording(error) => told_line(3, recording_line(alloc, error), err),
+        Refusal::Stream(error) => told_line(1, stream_line(alloc, *error), err),
         plain => {
             if let Some(line) = plain.plain_line() {
                 tell(err, line);
@@ -50,12 +51,13 @@ fn told<E: Sink>(alloc: Global, refusal: &Refusal, err: &mut E) -> u8
 /// | status | where | line on `err` |
 /// |---|---|---|
 /// | 0 | the whole text was written to `out` | none |
+/// | 1 | a line of the stream file is bad, or its message may not come where it stands | `stream: BadLine 3`, `stream: NotWellFormed 3` |
 /// | 2 | the words are not of the form of a command | `usage: inputflinger replay\|race\|check\|verify\|work` |
 /// | 3 | the session or a line of the recording is refused | as `session: Missing display`, `session: NotBuilt`, `recording: BadLine 3` |
 /// | 4 | a file could not be read | `read failed` |
 /// | 5 | a part of the text could not be written | `write failed` |
 /// | 6 | want of memory | `no memory` |
-/// | 7 | a file is longer than its limit, or the session has more steps than 100,000 | `too long: session`, `too long: recording`, `too long: steps` |
+/// | 7 | a file is longer than its limit, or the session has more steps than 100,000 | `too long: session`, `too long: recording`, `too long: steps`, `too long: stream` |
 pub fn run<F: Files, O: Sink, E: Sink>(
     alloc: Global,
     words: &[String],
@@ -74,6 +76,7 @@ pub fn run<F: Files, O: Sink, E: Sink>(
     ensures nothing { result ≢ 0 → result ≢ 5 → Keeps (O.taken out.old) (O.taken out.new) }
 
     // Each other status is that of a refusal, whose line the error sink took.
+    ensures judged { result ≡ 1 → RefusedBy (F.entries files.old) (map string_bytes words.now) 1 (Said (E.faults err.old) (E.faults err.new) (E.taken err.old) (E.taken err.new)) }
     ensures usage { result ≡ 2 → RefusedBy (F.entries files.old) (map string_bytes words.now) 2 (Said (E.faults err.old) (E.faults err.new) (E.taken err.old) (E.taken err.new)) }
     ensures refused { result ≡ 3 → RefusedBy (F.entries files.old) (map string_bytes words.now) 3 (Said (E.faults err.old) (E.faults err.new) (E.taken err.old) (E.taken err.new)) }
     ensures too_long { result ≡ 7 → RefusedBy (F.entries files.old) (map string_bytes words.now) 7 (Said (E.faults err.old) (E.faults err.new) (E.taken err.old) (E.taken err.new)) }

@@ -1,0 +1,37 @@
+-- What `verify` says of a stream file.
+use Rattle.std.specs.Prelude.{codes, ℕ, ◌+◌, if◌then◌else◌, List, [], ◌∷◌, ◌++◌, length, Option, Some, None, Result, Ok, Err}
+use Rattle.std.specs.Fmt.{decimal}
+use Rattle.std.specs.Option.{option_or}
+use Rattle.input_types.specs.declared.message.Message.{Message}
+use Rattle.input_types.specs.StreamRule.{is_well_formed}
+use Rattle.stream_text.specs.StreamFile.{Stream, events_of, streams_in}
+use Rattle.replay_engine.specs.Refused.{Refused, bad_stream_line, not_well_formed}
+
+-- The line of the first message that may not come where it stands, of messages that stand from line `line` on behind those of `past`, the
+-- newest of which is the first.
+abbrev pub break_from : ℕ → List Message → List Message → Option ℕ
+break_from line past [] = None
+break_from line past (m ∷ ms) = if is_well_formed (m ∷ past) then break_from (line + 1) (m ∷ past) ms else Some line
+
+-- that of a file's streams, of which the first broken one counts
+abbrev pub first_break : List Stream → Option ℕ
+first_break [] = None
+first_break (s ∷ ss) = option_or (break_from s.first_line [] s.messages) (first_break ss)
+
+abbrev pub messages_in : List Stream → ℕ
+messages_in [] = 0
+messages_in (s ∷ ss) = length s.messages + messages_in ss
+
+-- what is said of streams: how many channels and messages they have, or the line of the first message that may not come where it stands
+abbrev pub said : Option ℕ → ℕ → ℕ → Result (List ℕ) Refused
+said None channels messages = Ok (codes "well formed " ++ decimal channels ++ codes " " ++ decimal messages ++ codes "\n")
+said (Some line) channels messages = Err (not_well_formed line)
+
+-- a file with a bad line is refused for it, and only another one is judged by the rule for streams
+abbrev pub judged : Result (List Stream) ℕ → Result (List ℕ) Refused
+judged (Err bad) = Err (bad_stream_line bad)
+judged (Ok streams) = said (first_break streams) (length streams) (messages_in streams)
+
+-- what is said of a stream file's bytes
+abbrev pub verdict : List ℕ → Result (List ℕ) Refused
+verdict bytes = judged (streams_in (events_of bytes))

@@ -1,0 +1,128 @@
+//! What `verify` answers of a stream file.
+ghost use Rattle.std.specs.Prelude.{◌≡◌, ℕ, ◌+◌, ◌^◌, ◌<◌, List, Ok, None, IfOk, IfErr, OnOk, OnErr};
+ghost use Rattle.input_types.specs.declared.message.Message.{Message as Told};
+ghost use Rattle.replay_engine.specs.Judging.{Knows, Takes, judged_on};
+ghost use Rattle.replay_engine.specs.Prepared.{Refuses};
+ghost use Rattle.replay_engine.specs.Verdict.{said, verdict};
+
+use crate::refusal::{Refusal, StreamError};
+use gesture_verifier::{StepError, Verifier};
+use input_types::Message;
+use std::alloc::{AllocError, Global};
+use std::marker::Model;
+use stream_text::{StreamLine, StreamLines};
+
+/// What is known of a stream file behind some of its lines.
+#[derive(Drop)]
+struct Judge {
+    /// That of the open section, up to the first break.
+    verifier: Verifier,
+    /// The line of the first message that may not come where it stands.
+    broken: Option<u64>,
+    channels: u64,
+    messages: u64,
+}
+
+impl Model for Judge {
+    ghost use Rattle.replay_engine.specs.Judging.{Known};
+
+    ghost Value = { Known };
+
+    ghost view = { λ j. record { tables = j.verifier; broken = j.broken; channels = j.channels; messages = j.messages } };
+}
+
+impl Judge {
+    ghost use Rattle.std.specs.Prelude.{[]};
+
+    fn new(alloc: Global) -> Judge
+        ensures knows { Knows [] result }
+        ensures none { result.broken ≡ None }
+        ensures counts { (result.channels ≡ 0) × (result.messages ≡ 0) }
+    {
+        Judge {
+            verifier: Verifier::new(alloc),
+            broken: None,
+            channels: 0,
+            messages: 0,
+        }
+    }
+
+    /// Takes the next line, whose number this is.
+    fn take(&mut self, alloc: Global, number: u64, line: &StreamLine) -> Result<(), Refusal>
+        requires room { (self.old.channels + 1 < 2 ^ 64) × (self.old.messages + 1 < 2 ^ 64) }
+        ensures ok { (past : List Told) → Knows past self.old → OnOk result (Takes past number line.now self.old self.new) }
+        ensures err { IfErr result (λ e. e ≡ Refusal.NoMemory) }
+    {
+        match line {
+            StreamLine::Channel { .. } => {
+                self.verifier = Verifier::new(alloc);
+                self.channels += 1;
+                Ok(())
+            }
+            StreamLine::Message(message) => {
+                self.judge(number, message)?;
+                self.messages += 1;
+                Ok(())
+            }
+            StreamLine::End { .. } | StreamLine::Naming { .. } => Ok(()),
+        }
+    }
+
+    /// Judges the message of a line, unless there was a break before it.
+    fn judge(&mut self, number: u64, message: &Message) -> Result<(), Refusal>
+        ensures knows { (past : List Told) → Knows past self.old → OnOk result (Knows (message.now ∷ past) self.new) }
+        ensures broken { (past : List Told) → Knows past self.old → OnOk result (self.new.broken ≡ option_or self.old.broken (break_at past number (StreamLine.Message message.now))) }
+        ensures counts { (self.new.channels ≡ self.old.channels) × (self.new.messages ≡ self.old.messages) }
+        ensures err { IfErr result (λ e. e ≡ Refusal.NoMemory) }
+    {
+        if self.broken.is_some() {
+            return Ok(());
+        }
+        match self.verifier.step(message) {
+            Ok(()) => Ok(()),
+            Err(StepError::Fault(_)) => {
+                self.broken = Some(number);
+                Ok(())
+            }
+            Err(StepError::Memory) => Err(Refusal::NoMemory),
+        }
+    }
+
+    /// What is said at the end of the file.
+    fn verdict(&self, alloc: Global) -> Result<Vec<u8>, Refusal>
+        ensures ok { IfOk result (λ text. said self.now.broken self.now.channels self.now.messages ≡ Ok text.items) }
+        ensures err { IfErr result (Refuses (said self.now.broken self.now.channels self.now.messages)) }
+    {
+        match self.broken {
+            Some(line) => Err(Refusal::Stream(StreamError::NotWellFormed { line })),
+            None => Ok(well_formed(alloc, self.channels, self.messages)?),
+        }
+    }
+}
+
+fn well_formed(alloc: Global, channels: u64, messages: u64) -> Result<Vec<u8>, AllocError>
+    ensures { IfOk result (λ text. said None channels messages ≡ Ok text.items) }
+{
+    let line = format!(in alloc; "well formed {channels} {messages}\n")?;
+    Ok(line.into_bytes())
+}
+
+/// The text for a stream file's bytes: how many channels and messages it has, where it is well-formed. Its lines are judged one by one, and
+/// none of them is kept.
+pub fn verdict_text(alloc: Global, bytes: &[u8]) -> Result<Vec<u8>, Refusal>
+    ensures ok { IfOk result (λ text. verdict bytes.now ≡ Ok text.items) }
+    ensures err { IfErr result (Refuses (verdict bytes.now)) }
+{
+    let mut lines = match StreamLines::new(bytes) {
+        Ok(lines) => lines,
+        Err(line) => return Err(Refusal::Stream(StreamError::BadLine { line })),
+    };
+    let mut judge = Judge::new(alloc);
+    'lines: loop {
+        match lines.next() {
+            Ok(Some((number, line))) => judge.take(alloc, number, &line)?,
+            Ok(None) => return judge.verdict(alloc),
+            Err(line) => return Err(Refusal::Stream(StreamError::BadLine { line })),
+        }
+    }
+}
