@@ -1,1 +1,5 @@
 pub mod Spelling
+pub mod Number
+pub mod Order
+pub mod OrderText
+pub mod TextLines

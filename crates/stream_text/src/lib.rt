@@ -12,7 +12,16 @@
 
 mod line;
 mod message;
+mod number;
+mod order;
+mod order_error;
+mod order_front;
+mod order_line;
 mod section;
+mod text_lines;
 
 pub use message::{LineWriter, message_text};
+pub use order::{Order, order_text};
+pub use order_error::OrderError;
+pub use order_line::OrderLine;
 pub use section::{channel_text, naming_text};
