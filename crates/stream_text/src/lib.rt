@@ -12,6 +12,7 @@
 
 mod line;
 mod message;
+mod number;
 mod section;
 
 pub use message::{LineWriter, message_text};
