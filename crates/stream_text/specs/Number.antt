@@ -1,5 +1,5 @@
 -- Words and numbers at the front of a text. What is read is given with the bytes behind it; None says that something else stands there.
-use Rattle.std.specs.Prelude.{◌≡◌, false, ℕ, ◌+◌, ◌*◌, ◌-◌, ◌==◌, nat_le, if◌then◌else◌, List, [], ◌∷◌, Option, Some, None, ℤ, pos, negsuc}
+use Rattle.std.specs.Prelude.{◌≡◌, ◌<◌, false, ℕ, ◌+◌, ◌*◌, ◌-◌, ◌==◌, nat_le, if◌then◌else◌, List, [], ◌∷◌, Option, Some, None, ℤ, pos, negsuc}
 use Rattle.std.specs.Char.{is_ascii_digit}
 use Rattle.std.specs.Str.{byte}
 
@@ -58,3 +58,8 @@ whole (x, b ∷ bs) = None
 abbrev pub NoDigit : List ℕ → Type 0
 NoDigit [] = Unit {0}
 NoDigit (b ∷ bs) = is_ascii_digit b ≡ false
+
+-- a number of 32 bits
+abbrev pub IsI32 : ℤ → Type 0
+IsI32 (pos n) = n < 2147483648
+IsI32 (negsuc n) = n < 2147483648

@@ -1,5 +1,5 @@
-use Rattle.std.proofs.Common.{◌≡◌, ◌<◌, ◌+◌, ◌*◌, ◌-◌, get_or, None, sym, ◌∙◌, ap, arith}
-use Rattle.stream_text.specs.Number.{at_most, digits_from}
+use Rattle.std.proofs.Common.{◌<◌, ◌+◌, ◌*◌, ◌-◌, get_or, sym, ◌∙◌, ap, arith}
+use Rattle.stream_text.specs.Number.{at_most}
 use Rattle.stream_text.proofs.Numbers.{too_large}
 use Rattle.stream_text.proofs.number.digits.Goals as goal
 

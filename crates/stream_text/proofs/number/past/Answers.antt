@@ -1,4 +1,4 @@
-use Rattle.std.proofs.Common.{sym, ◌∙◌, arith}
+use Rattle.std.proofs.Common.{sym, ◌∙◌}
 use Rattle.stream_text.proofs.Numbers.{after_short}
 use Rattle.stream_text.proofs.number.past.Goals as goal
 
