@@ -1,3 +1,4 @@
 pub mod Examples
 pub mod OrderReading
 pub mod TextLines
+pub mod Numbers

@@ -8,25 +8,25 @@ use Rattle.stream_text.specs.Number.{◌>>=◌, after, number_at, whole}
 use Rattle.stream_text.specs.Spelling.{labeled}
 
 -- a line without its newline
-abbrev pub order_line : OrderLine → List ℕ
-order_line Reader = codes "r"
-order_line (Script lane) = labeled (codes "s ") lane
-order_line Pump = codes "p"
-order_line Tick = codes "k"
-order_line (Receive channel) = labeled (codes "g ") channel
-order_line (Finish channel seq) = labeled (codes "f ") channel ++ labeled (codes " ") seq
+abbrev pub line_spelling : OrderLine → List ℕ
+line_spelling Reader = codes "r"
+line_spelling (Script lane) = labeled (codes "s ") lane
+line_spelling Pump = codes "p"
+line_spelling Tick = codes "k"
+line_spelling (Receive channel) = labeled (codes "g ") channel
+line_spelling (Finish channel seq) = labeled (codes "f ") channel ++ labeled (codes " ") seq
 
-abbrev pub order_lines : List OrderLine → List ℕ
-order_lines [] = []
-order_lines (line ∷ lines) = order_line line ++ codes "\n" ++ order_lines lines
+abbrev pub lines_spelling : List OrderLine → List ℕ
+lines_spelling [] = []
+lines_spelling (line ∷ lines) = line_spelling line ++ codes "\n" ++ lines_spelling lines
 
 -- the first line, without its newline: how many lines follow
-unfoldable pub head_line : ℕ → List ℕ
-head_line n = labeled (codes "order ") n
+unfoldable pub head_spelling : ℕ → List ℕ
+head_spelling n = labeled (codes "order ") n
 
 -- an order: how many lines it has, and the lines
 unfoldable pub order_spelling : List OrderLine → List ℕ
-order_spelling lines = head_line (length lines) ++ codes "\n" ++ order_lines lines
+order_spelling lines = head_spelling (length lines) ++ codes "\n" ++ lines_spelling lines
 
 -- script lanes have the numbers 1 to 8
 abbrev pub HasLane : OrderLine → Type 0

@@ -3,7 +3,7 @@ ghost use Rattle.std.specs.Prelude.{◌≡◌, ℕ, List, [], ◌∷◌, ◌++�
 
 use crate::line::{add_labeled, add_word};
 use crate::order_error::OrderError;
-use crate::order_line::{OrderLine, add_order_line, read_head, read_line};
+use crate::order_line::{OrderLine, add_order_line, order_line, read_head};
 use crate::text_lines::first_line;
 use std::alloc::{AllocError, Global};
 use std::marker::Model;
@@ -95,7 +95,7 @@ impl Order {
                 return Err(OrderError::BadLine { line: number });
             }
             let line = first_line(rest);
-            let Some(call) = read_line(line.text) else {
+            let Some(call) = order_line(line.text) else {
                 return Err(OrderError::BadLine { line: number });
             };
             order.push(call)?;
@@ -107,10 +107,10 @@ impl Order {
     }
 }
 
-ghost use Rattle.stream_text.specs.Order.{head_line, order_lines, order_spelling};
+ghost use Rattle.stream_text.specs.Order.{head_spelling, lines_spelling, order_spelling};
 
 fn add_lines(text: &mut Vec<u8>, lines: &[OrderLine]) -> Result<(), AllocError>
-    ensures { IfOk result (λ _. text.new.items ≡ text.old.items ++ order_lines lines.now) }
+    ensures { IfOk result (λ _. text.new.items ≡ text.old.items ++ lines_spelling lines.now) }
 {
     for line in lines {
         add_order_line(text, line)?;
@@ -119,7 +119,7 @@ fn add_lines(text: &mut Vec<u8>, lines: &[OrderLine]) -> Result<(), AllocError>
     Ok(())
 }
 
-#[tactic(auto, unfolding(crate::specs::Order::head_line, crate::specs::Order::order_spelling))]
+#[tactic(auto, unfolding(crate::specs::Order::head_spelling, crate::specs::Order::order_spelling))]
 fn add_order(text: &mut Vec<u8>, lines: &[OrderLine]) -> Result<(), AllocError>
     ensures { IfOk result (λ _. text.new.items ≡ text.old.items ++ order_spelling lines.now) }
 {

@@ -3,7 +3,7 @@ ghost use Rattle.std.specs.Prelude.{◌≡◌, ◌+◌, ◌≤◌, length, IfOk,
 ghost use Rattle.stream_text.specs.OrderText.{Passes, head_of, lines_passed, order_passed};
 ghost use Rattle.stream_text.specs.TextLines.{lines_of};
 
-use crate::order_line::{read_head, read_line};
+use crate::order_line::{order_line, read_head};
 use crate::text_lines::first_line;
 
 /// Passes over lines of an order, from line 2 on. It answers the number of the next line and what stands from there on, or the number of
@@ -21,7 +21,7 @@ fn pass_lines(count: u64, bytes: &[u8]) -> Result<(u64, &[u8]), u64>
             return Err(number);
         }
         let line = first_line(rest);
-        if !line.ended || read_line(line.text).is_none() {
+        if !line.ended || order_line(line.text).is_none() {
             return Err(number);
         }
         left -= 1;

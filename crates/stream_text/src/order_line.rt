@@ -1,7 +1,7 @@
 //! One line of an order.
 ghost use Rattle.std.specs.Prelude.{◌≡◌, ◌++◌, IfOk, IfSome, ◌≤◌, ◌-◌, ◌^◌};
 ghost use Rattle.stream_text.specs.Number.{number_at};
-ghost use Rattle.stream_text.specs.Order.{HasLane, finish_line, letter_line, number_alone, numbers_line, order_line, order_line_of, receive_line, script_line};
+ghost use Rattle.stream_text.specs.Order.{HasLane, finish_line, letter_line, number_alone, numbers_line, line_spelling, order_line_of, receive_line, script_line};
 ghost use Rattle.stream_text.specs.OrderText.{head_of};
 
 use crate::line::{add_labeled, add_word};
@@ -27,7 +27,7 @@ pub enum OrderLine {
 
 /// Adds a line without its newline.
 pub(crate) fn add_order_line(text: &mut Vec<u8>, line: &OrderLine) -> Result<(), AllocError>
-    ensures { IfOk result (λ _. text.new.items ≡ text.old.items ++ order_line line.now) }
+    ensures { IfOk result (λ _. text.new.items ≡ text.old.items ++ line_spelling line.now) }
 {
     match line {
         OrderLine::Reader => add_word(text, "r"),
@@ -99,7 +99,7 @@ pub(crate) fn read_head(line: &[u8]) -> Option<u64>
 }
 
 /// What a line says, given without its newline; None exactly where it has not the form of an order's line.
-pub(crate) fn read_line(line: &[u8]) -> Option<OrderLine>
+pub(crate) fn order_line(line: &[u8]) -> Option<OrderLine>
     ensures value { result ≡ order_line_of line.now }
     ensures lane { IfSome result HasLane }
 {
