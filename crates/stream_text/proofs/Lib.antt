@@ -2,3 +2,4 @@ pub mod Examples
 pub mod OrderReading
 pub mod TextLines
 pub mod Numbers
+pub mod Pointers
