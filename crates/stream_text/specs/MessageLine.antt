@@ -71,7 +71,7 @@ with_pointer p None = None
 with_pointer p (Some ps) = Some (p ∷ ps)
 
 -- at most `room` pointers up to the end of the line, whose ids rise from `least` on
-abbrev pub pointers_at : ℕ → ℕ → List ℕ → Option (List Pointer)
+unfoldable pub pointers_at : ℕ → ℕ → List ℕ → Option (List Pointer)
 pointers_at room least [] = Some []
 pointers_at zero least (b ∷ bs) = None
 pointers_at (suc room) least (b ∷ bs) = pointer_at least (b ∷ bs) >>= λ p. with_pointer p.0 (pointers_at room (p.0.id + 1) p.1)

@@ -93,6 +93,7 @@ fn pointer(least: u8, bytes: &[u8]) -> Option<(u8, Pixel, &[u8])>
     Some((id as u8, Pixel { x, y }, rest))
 }
 
+#[tactic(auto, unfolding(crate::specs::MessageLine::pointers_at))]
 fn pointers(bytes: &[u8]) -> Option<Pointers>
     ensures { result ≡ pointers_at 16 0 bytes.now }
 {
