@@ -3,3 +3,4 @@ pub mod OrderReading
 pub mod TextLines
 pub mod Numbers
 pub mod Pointers
+pub mod Streams

@@ -6,3 +6,4 @@ pub mod TextLines
 pub mod MessageLine
 pub mod StreamLine
 pub mod StreamFile
+pub mod StreamAnswer

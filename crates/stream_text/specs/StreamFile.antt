@@ -64,11 +64,12 @@ pub record Unread : Type 0 where
   pub left : ℕ
   pub events : Result (List Event) ℕ
 
--- what a reader answers for the next line, from what was left to what is left: a line with its number, nothing at the end, or the number of a bad line
+-- what a reader answers for the next line, from what was left to what is left: a line with its number, nothing at the end, or the number of a bad line; the
+-- last two change nothing
 abbrev pub Goes : Unread → Result (Option Event) ℕ → Unread → Type 0
-Goes old (Ok None) new = old.events ≡ Ok []
+Goes old (Ok None) new = (old.events ≡ Ok []) × (new ≡ old)
 Goes old (Ok (Some event)) new = (old.events ≡ with_event event new.events) × (new.left < old.left)
-Goes old (Err bad) new = old.events ≡ Err bad
+Goes old (Err bad) new = (old.events ≡ Err bad) × (new ≡ old)
 
 -- a section: its channel, the number of the line behind its first one, and its messages
 pub record Stream : Type 0 where
