@@ -1,9 +1,8 @@
 -- Spellings, computed.
-use Rattle.std.specs.Prelude.{codes, ◌≡◌, pos, negsuc, List, [], ◌∷◌, ◌++◌, true, false, refl}
+use Rattle.std.specs.Prelude.{codes, ◌≡◌, pos, negsuc, [], ◌∷◌, true, refl}
 use Rattle.std.specs.Fmt.{digits}
-use Rattle.input_types.specs.declared.pointer.Pointer.{Pointer}
 use Rattle.input_types.specs.declared.motion.MotionAction.TheVariants.{Move}
-use Rattle.input_types.specs.declared.message.Body.TheVariants.{Motion, Key, Focus}
+use Rattle.input_types.specs.declared.message.Body.TheVariants.{Motion, Key}
 use Rattle.input_types.specs.declared.message.Message.{Message}
 use Rattle.stream_text.specs.Spelling.{message_line, labeled, pointer, motion, key, key_end, numbered}
 

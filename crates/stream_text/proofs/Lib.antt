@@ -1,1 +1,6 @@
 pub mod Examples
+pub mod OrderReading
+pub mod TextLines
+pub mod Numbers
+pub mod Pointers
+pub mod Streams

@@ -12,7 +12,25 @@
 
 mod line;
 mod message;
+mod message_line;
+mod number;
+mod order;
+mod order_error;
+mod order_front;
+mod order_line;
 mod section;
+mod stream_error;
+mod stream_file;
+mod stream_line;
+mod stream_lines;
+mod text_lines;
 
 pub use message::{LineWriter, message_text};
+pub use order::{Order, order_text};
+pub use order_error::OrderError;
+pub use order_line::OrderLine;
 pub use section::{channel_text, naming_text};
+pub use stream_error::StreamError;
+pub use stream_file::{StreamChannel, StreamFile, StreamReader};
+pub use stream_line::StreamLine;
+pub use stream_lines::StreamLines;

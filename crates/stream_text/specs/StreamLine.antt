@@ -1,0 +1,53 @@
+-- What a line of a stream file says. A line is given without its newline.
+use Rattle.std.specs.Prelude.{codes, ℕ, ◌-◌, ◌^◌, ◌==◌, ◌&&◌, nat_le, nat_lt, Bool, if◌then◌else◌, List, [], ◌∷◌, ◌++◌, length, Option, Some, None}
+use Rattle.std.specs.List.{list_all}
+use Rattle.stream_text.specs.declared.stream_line.StreamLine.{StreamLine}
+use Rattle.stream_text.specs.declared.stream_line.StreamLine.TheVariants.{Channel, Message, End, Naming}
+use Rattle.stream_text.specs.Number.{◌>>=◌, after, number_at, whole}
+use Rattle.stream_text.specs.MessageLine.{chosen_by, labeled_at, message_of}
+
+-- the number of a channel, 1 to 64
+unfoldable pub channel_at : List ℕ → Option (ℕ × List ℕ)
+channel_at bs = do
+  n ← number_at 64 bs
+  if n.0 == 0 then None else Some n
+
+-- a byte from `!` to `~`
+abbrev pub is_name_byte : ℕ → Bool
+is_name_byte b = nat_le 33 b && nat_le b 126
+
+-- the name of a channel: 1 to 64 such bytes
+abbrev pub is_name : List ℕ → Bool
+is_name bs = nat_lt 0 (length bs) && (nat_le (length bs) 64 && list_all is_name_byte bs)
+
+-- behind `channel `: the number of the channel whose section begins, and its name
+unfoldable pub channel_of : List ℕ → Option StreamLine
+channel_of bs = do
+  id ← channel_at bs
+  name ← after (codes " ") id.1
+  if is_name name then Some (Channel id.0) else None
+
+-- behind `end `: the channel whose section ends, and how many messages were sent, received and finished
+unfoldable pub end_of : List ℕ → Option StreamLine
+end_of bs = do
+  id ← channel_at bs
+  sent ← labeled_at (codes " sent ") (2 ^ 64 - 1) id.1
+  received ← labeled_at (codes " received ") (2 ^ 64 - 1) sent.1
+  finished ← labeled_at (codes " finished ") (2 ^ 64 - 1) received.1
+  whole (End id.0 sent.0 received.0 finished.0, finished.1)
+
+-- behind `anr `: the clock, the channel that is named, and its oldest unfinished message
+unfoldable pub naming_of : List ℕ → Option StreamLine
+naming_of bs = do
+  clock ← number_at 1000000000000000000 bs
+  to_id ← after (codes " ") clock.1
+  id ← channel_at to_id
+  seq ← labeled_at (codes " ") (2 ^ 64 - 1) id.1
+  whole (Naming clock.0 id.0 seq.0, seq.1)
+
+-- what a line says; None where it has none of the four forms
+unfoldable pub line_of : List ℕ → Option StreamLine
+line_of bs =
+    chosen_by (after (codes "channel ") bs) channel_of
+    (chosen_by (after (codes "end ") bs) end_of
+    (chosen_by (after (codes "anr ") bs) naming_of (message_of bs >>= λ m. Some (Message m))))

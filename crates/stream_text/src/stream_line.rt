@@ -1,0 +1,126 @@
+//! The lines of a stream file.
+ghost use Rattle.std.specs.Prelude.{◌≡◌, ℕ, option_map, IfSome, ◌≤◌};
+ghost use Rattle.stream_text.specs.StreamLine.{channel_at, channel_of, end_of, is_name, is_name_byte, line_of, naming_of};
+ghost use Rattle.std.specs.List.{list_all};
+
+use crate::message_line::{labeled, message};
+use crate::number::{number, past};
+use input_types::{Message, Moment};
+
+/// What a line of a stream file says, behind the order text that may stand in front.
+#[derive(Clone, Copy, Debug, PartialEq, Eq)]
+pub enum StreamLine {
+    /// The section of a channel begins. Its name is not kept.
+    Channel {
+        id: u32,
+    },
+    /// A message of the open section.
+    Message(Message),
+    /// The section of a channel ends: how many messages were sent, received and finished.
+    End {
+        id: u32,
+        sent: u64,
+        received: u64,
+        finished: u64,
+    },
+    /// At `clock` a channel was named unresponsive, and `seq` was its oldest unfinished message.
+    Naming {
+        clock: Moment,
+        id: u32,
+        seq: u64,
+    },
+}
+
+#[inline(always)]
+#[tactic(auto, unfolding(crate::specs::StreamLine::channel_at))]
+fn channel_id(bytes: &[u8]) -> Option<(u32, &[u8])>
+    ensures { option_map (λ read. (read.0, read.1.now)) result ≡ channel_at bytes.now }
+{
+    let (n, rest) = number(64, bytes)?;
+    if n == 0 {
+        return None;
+    }
+    Some((n as u32, rest))
+}
+
+fn are_name_bytes(bytes: &[u8]) -> bool
+    ensures { result ≡ list_all is_name_byte bytes.now }
+{
+    for b in bytes {
+        if *b < b'!' || *b > b'~' {
+            return false;
+        }
+    }
+    true
+}
+
+fn is_channel_name(bytes: &[u8]) -> bool
+    ensures { result ≡ is_name bytes.now }
+{
+    !bytes.is_empty() && bytes.len() <= 64 && are_name_bytes(bytes)
+}
+
+#[tactic(auto, unfolding(crate::specs::StreamLine::channel_of))]
+fn channel(bytes: &[u8]) -> Option<StreamLine>
+    ensures { result ≡ channel_of bytes.now }
+{
+    let (id, rest) = channel_id(bytes)?;
+    let name = past(" ", rest)?;
+    if is_channel_name(name) {
+        Some(StreamLine::Channel { id })
+    } else {
+        None
+    }
+}
+
+#[tactic(auto, unfolding(crate::specs::StreamLine::end_of))]
+fn end(bytes: &[u8]) -> Option<StreamLine>
+    ensures { result ≡ end_of bytes.now }
+{
+    let (id, rest) = channel_id(bytes)?;
+    let (sent, rest) = labeled(" sent ", u64::MAX, rest)?;
+    let (received, rest) = labeled(" received ", u64::MAX, rest)?;
+    let (finished, rest) = labeled(" finished ", u64::MAX, rest)?;
+    if !rest.is_empty() {
+        return None;
+    }
+    Some(StreamLine::End {
+        id,
+        sent,
+        received,
+        finished,
+    })
+}
+
+#[tactic(auto, unfolding(crate::specs::StreamLine::naming_of))]
+fn naming(bytes: &[u8]) -> Option<StreamLine>
+    ensures { result ≡ naming_of bytes.now }
+{
+    let (clock, rest) = number(Moment::MAX_US, bytes)?;
+    let rest = past(" ", rest)?;
+    let (id, rest) = channel_id(rest)?;
+    let (seq, rest) = labeled(" ", u64::MAX, rest)?;
+    if !rest.is_empty() {
+        return None;
+    }
+    let clock = Moment::new(clock)?;
+    Some(StreamLine::Naming { clock, id, seq })
+}
+
+/// What a line says, given without its newline; None where it has none of the four forms.
+#[tactic(auto, unfolding(crate::specs::StreamLine::line_of))]
+pub(crate) fn read_stream_line(line: &[u8]) -> Option<StreamLine>
+    ensures { result ≡ line_of line.now }
+{
+    if let Some(rest) = past("channel ", line) {
+        return channel(rest);
+    }
+    if let Some(rest) = past("end ", line) {
+        return end(rest);
+    }
+    if let Some(rest) = past("anr ", line) {
+        return naming(rest);
+    }
+    let message = message(line)?;
+    Some(StreamLine::Message(message))
+}

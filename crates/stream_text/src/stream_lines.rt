@@ -1,0 +1,142 @@
+//! A stream file, line by line.
+ghost use Rattle.std.specs.Prelude.{◌≡◌, ℕ, ◌+◌, ◌^◌, ◌<◌, ◌≤◌, option_map, IfOk, IfSome, Ok, Err, length};
+ghost use Rattle.stream_text.specs.StreamFile.{Goes, Unread, events_from, events_of, follow, may_end, told};
+
+use crate::order_front::pass_order;
+use crate::stream_line::{StreamLine, read_stream_line};
+use crate::text_lines::{FirstLine, first_line};
+use std::marker::Model;
+
+/// Where a stream file stands between two lines.
+#[derive(Clone, Copy)]
+pub(crate) enum Place {
+    /// Behind the order, or a section.
+    Between,
+    /// In the section of a channel, behind so many of its messages.
+    Section { id: u32, told: u64 },
+    /// Behind a naming.
+    Namings,
+}
+
+impl Place {
+    /// Where the file stands behind a line; None where the line may not stand there.
+    fn follow(self, line: &StreamLine) -> Option<Place>
+        ensures { result ≡ follow self line.now }
+    {
+        match (self, line) {
+            (Place::Between, StreamLine::Channel { id }) => Some(Place::Section {
+                id: *id,
+                told: 0,
+            }),
+            (Place::Between | Place::Namings, StreamLine::Naming { .. }) => Some(Place::Namings),
+            (Place::Section { id, told }, StreamLine::Message(message)) => {
+                if message.seq > told && message.seq - 1 == told {
+                    Some(Place::Section {
+                        id,
+                        told: message.seq,
+                    })
+                } else {
+                    None
+                }
+            }
+            (
+                Place::Section { id, told },
+                StreamLine::End {
+                    id: ended,
+                    sent,
+                    ..
+                },
+            ) => {
+                if *ended == id && *sent == told {
+                    Some(Place::Between)
+                } else {
+                    None
+                }
+            }
+            _ => None,
+        }
+    }
+
+    /// Whether the file may end here.
+    fn may_end(self) -> bool
+        ensures { result ≡ may_end self }
+    {
+        match self {
+            Place::Section { .. } => false,
+            _ => true,
+        }
+    }
+}
+
+/// What a line says that may stand at this place, and the place behind it.
+fn tell(place: Place, line: FirstLine<'_>) -> Option<(StreamLine, Place)>
+    ensures { result ≡ told place (line.entry.text.now, line.entry.ended) }
+{
+    if !line.ended {
+        return None;
+    }
+    let says = read_stream_line(line.text)?;
+    let next = place.follow(&says)?;
+    Some((says, next))
+}
+
+/// Reads a stream file line by line, and takes no memory. Contracts see the lines that are left, or which of them is the first bad one.
+#[derive(Drop)]
+pub struct StreamLines<'a> {
+    place: Place,
+    number: u64,
+    rest: &'a [u8],
+}
+
+impl<'a> Model for StreamLines<'a> {
+    ghost use Rattle.std.specs.Prelude.{◌+◌, ◌^◌, ◌<◌, length};
+    ghost use Rattle.stream_text.specs.TextLines.{lines_of};
+    ghost use Rattle.stream_text.specs.StreamFile.{Unread, events_from};
+
+    ghost Value = { Unread };
+
+    ghost view = { λ l. record { left = length l.rest.now; events = events_from l.place l.number (lines_of l.rest.now) } };
+
+    ghost invariant = { λ l. l.number + length l.rest.now < 2 ^ 64 };
+}
+
+impl<'a> StreamLines<'a> {
+    /// The lines of a stream file behind the order text that may stand in front, which is passed over. It answers the number of a bad or
+    /// missing line of the order.
+    #[tactic(auto, unfolding(crate::specs::StreamFile::events_of))]
+    pub fn new(bytes: &'a [u8]) -> Result<StreamLines<'a>, u64>
+        ensures ok { IfOk result (λ lines. events_of bytes.now ≡ lines.events) }
+        ensures err { (bad : ℕ) → result ≡ Err bad → events_of bytes.now ≡ Err bad }
+    {
+        let (number, rest) = pass_order(bytes)?;
+        Ok(StreamLines {
+            place: Place::Between,
+            number,
+            rest,
+        })
+    }
+
+    /// The next line with its number, or None at the end of the file. A line that has not its form or may not stand there, or that is missing
+    /// because a section does not end, is answered by its number.
+    pub fn next(&mut self) -> Result<Option<(u64, StreamLine)>, u64>
+        ensures lines { Goes self.old result self.new }
+        ensures range { IfOk result (λ line. IfSome line (λ event. event.0 + 1 < 2 ^ 64)) }
+    {
+        if self.rest.is_empty() {
+            return if self.place.may_end() {
+                Ok(None)
+            } else {
+                Err(self.number)
+            };
+        }
+        let number = self.number;
+        let line = first_line(self.rest);
+        let Some((says, next)) = tell(self.place, line) else {
+            return Err(number);
+        };
+        self.place = next;
+        self.number += 1;
+        self.rest = line.rest;
+        Ok(Some((number, says)))
+    }
+}
