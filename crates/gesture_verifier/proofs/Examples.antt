@@ -1,11 +1,11 @@
--- Worked tables, computed: pointers 0 and 2 are down on device 1, pointer 4 on device 3, and the key 1 of device 2 was told twice.
-use Rattle.std.specs.Prelude.{◌≡◌, [], ◌∷◌, ◌++◌, Some, None, true, refl}
-use Rattle.std.proofs.Common.{replicate}
+-- Worked tables, computed: pointers 0 and 2 are down on device 1, pointer 4 on device 3, the key 0 of device 4 was
+-- told once, and the key 1 of device 2 twice.
+use Rattle.std.specs.Prelude.{◌≡◌, [], ◌∷◌, Some, None, true, refl}
 use Rattle.bits32.specs.Set.{members_below}
 use Rattle.gesture_verifier.specs.Told.{Told, state_of, one_more}
 
 abbrev told : Told
-told = record { sets = 5 ∷ 0 ∷ 16 ∷ 0 ∷ 0 ∷ 0 ∷ 0 ∷ 0 ∷ []; repeats = replicate 9 0 ++ 2 ∷ []; focus = true; accepted = 5 }
+told = record { sets = 5 ∷ 0 ∷ 16 ∷ 0 ∷ 0 ∷ 0 ∷ 0 ∷ 0 ∷ []; repeats = (3, 1) ∷ (9, 2) ∷ []; focus = true; accepted = 5 }
 
 pub two_fingers : (state_of told).ids 1 ≡ 0 ∷ 2 ∷ []
 unfolding members_below
@@ -21,11 +21,14 @@ no_device = refl
 pub key_held : (state_of told).repeats 2 1 ≡ Some 2
 key_held = refl
 
+pub key_of_another_device : (state_of told).repeats 4 0 ≡ Some 1
+key_of_another_device = refl
+
 pub key_up : (state_of told).repeats 1 1 ≡ None
 key_up = refl
 
-pub key_past_the_end : (state_of told).repeats 1 700 ≡ None
-key_past_the_end = refl
+pub key_never_told : (state_of told).repeats 1 700 ≡ None
+key_never_told = refl
 
 pub stands_still : one_more 18446744073709551615 ≡ 18446744073709551615
 stands_still = refl

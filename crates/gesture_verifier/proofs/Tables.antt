@@ -1,8 +1,10 @@
 -- What a write into a table does to what the table stands for.
-use Rattle.std.proofs.Common.{◌≡◌, ◌≢◌, ℕ, Bool, zero, suc, ◌-◌, ◌<◌, ◌≤◌, ◌&&◌, true, false, if◌then◌else◌, List, [], length, get_or, set, replicate, Option, Some, None, ⊎_elim, refl, sym, ap, ◌∙◌, arith, nat_eq, eq-eqb}
+use Rattle.std.proofs.Common.{◌≡◌, ◌≢◌, ℕ, Bool, zero, suc, ◌-◌, ◌≤◌, ◌&&◌, true, false, if◌then◌else◌, cond, List, [], length, get_or, set, replicate, Option, Some, None, ⊎_elim, refl, sym, ap, ◌∙◌, arith, nat_eq, eq-eqb}
 use Rattle.std.proofs.lemmas.List.{get_or-set_same, get_or-set_other}
 use Rattle.std.proofs.lemmas.Bool.{cases_eq, ne_eqb, false≢true}
 use Rattle.std.specs.Option.{option_map}
+use Rattle.std.specs.Ordering.{nat_cmp, is_eq}
+use Rattle.std.specs.Cmp.{unsigned_tied}
 use Rattle.std.proofs.lemmas.Option.{slice_get_read, get_or_from_slice_get}
 use Rattle.bits32.specs.Set.{members}
 use Rattle.input_types.specs.declared.key.KeyMsg.{KeyMsg}
@@ -11,7 +13,7 @@ use Rattle.input_types.specs.declared.message.Body.TheVariants.{Motion as Motion
 use Rattle.input_types.specs.Gestures.{after_motion}
 use Rattle.input_types.specs.StreamRule.{StreamState, untold, with_ids, with_repeat, after_key, after_body}
 use Rattle.gesture_verifier.proofs.Sets.{none_listed}
-use Rattle.gesture_verifier.specs.Told.{Told, state_of, is_device, ids_kept, due_of, due_kept, place_of}
+use Rattle.gesture_verifier.specs.Told.{Told, state_of, is_device, ids_kept, due_at, due_kept, place_of}
 
 within : (d : ℕ) → is_device d ≡ true → (1 ≤ d) × (d ≤ 8)
 within d h = grind arith
@@ -46,7 +48,7 @@ no_due x true e = e
 no_due x false e = refl
 
 -- at first nothing is down
-pub nothing_told : (x : ℕ) (table : List ℕ) → x ≡ 0 → table ≡ []
+pub nothing_told : (x : ℕ) (table : List (ℕ × ℕ)) → x ≡ 0 → table ≡ []
     → state_of (record { sets = replicate 8 x; repeats = table; focus = false; accepted = 0 }) ≡ untold
 nothing_told x table e t = rw (e, t) (λ i. record {
   ids = λ d. first_at (get_or (replicate 8 0) (d - 1) 0) (is_device d) (unwritten 0 8 (d - 1)) i;
@@ -61,32 +63,29 @@ not_both e d t s h =
     (λ (other : e ≢ d). rw (ne_eqb e d other) refl)
     (cases_eq e d)
 
-due_kept_at : (table : List ℕ) (d s n e t : ℕ) → is_device d ≡ true → place_of d s < length table → (v : Bool) → is_device e ≡ v
-    → (if v then due_of (get_or (set table (place_of d s) n) (place_of e t) 0) else None)
-    ≡ (if nat_eq e d && nat_eq t s then due_of n else (if v then due_of (get_or table (place_of e t) 0) else None))
-due_kept_at table d s n e t h len true w =
+due_kept_at : (table old : List (ℕ × ℕ)) (d s : ℕ) (due : Option ℕ) (e t : ℕ) → is_device d ≡ true
+    → ((q : ℕ) → due_at table q ≡ cond (is_eq (nat_cmp (place_of d s) q)) due (due_at old q)) → (v : Bool) → is_device e ≡ v
+    → (if v then due_at table (place_of e t) else None) ≡ (if nat_eq e d && nat_eq t s then due else (if v then due_at old (place_of e t) else None))
+due_kept_at table old d s due e t h kept true w =
     let a : (1 ≤ d) × (d ≤ 8) = within d h in
     let b : (1 ≤ e) × (e ≤ 8) = within e w in
     ⊎_elim
-    (λ (same : place_of e t ≡ place_of d s).
+    (λ (same : place_of d s ≡ place_of e t).
     let keys : t ≡ s = omega (arith, a, b, same) in
     let devices : e ≡ d = omega (arith, a, b, same) in
-    rw (devices, keys, eq-eqb d d refl, eq-eqb s s refl, get_or-set_same table (place_of d s) n 0 len) refl)
-    (λ (other : place_of e t ≢ place_of d s).
+    rw (kept (place_of e t), unsigned_tied (place_of d s) (place_of e t), devices, keys, eq-eqb d d refl, eq-eqb s s refl, eq-eqb (place_of d s) (place_of d s) refl) refl)
+    (λ (other : place_of d s ≢ place_of e t).
     let apart : (nat_eq e d && nat_eq t s) ≡ false = not_both e d t s (λ x y. other (rw (x, y) refl)) in
-    rw (apart, get_or-set_other table (place_of d s) (place_of e t) n 0 other) refl)
-    (cases_eq (place_of e t) (place_of d s))
-due_kept_at table d s n e t h len false w =
+    rw (kept (place_of e t), unsigned_tied (place_of d s) (place_of e t), ne_eqb (place_of d s) (place_of e t) other, apart) refl)
+    (cases_eq (place_of d s) (place_of e t))
+due_kept_at table old d s due e t h kept false w =
     rw (ne_eqb e d (λ same. false≢true (sym w ∙ ap is_device same ∙ h))) refl
 
--- a new number for one key
-pub due_kept_after : (table : List ℕ) (d s n : ℕ) → is_device d ≡ true → place_of d s < length table
-    → due_kept (set table (place_of d s) n) ≡ with_repeat (due_kept table) d s (due_of n)
-due_kept_after table d s n h len i e t = due_kept_at table d s n e t h len (is_device e) refl i
-
--- a table that reads alike stands for the same
-pub due_kept_alike : (a b : List ℕ) → ((k : ℕ) → get_or a k 0 ≡ get_or b k 0) → due_kept a ≡ due_kept b
-due_kept_alike a b same i d s = if is_device d then due_of (same (place_of d s) i) else None
+-- what is due of one key anew
+pub due_kept_after : (table old : List (ℕ × ℕ)) (d s : ℕ) (due : Option ℕ) → is_device d ≡ true
+    → ((q : ℕ) → due_at table q ≡ cond (is_eq (nat_cmp (place_of d s) q)) due (due_at old q))
+    → due_kept table ≡ with_repeat (due_kept old) d s due
+due_kept_after table old d s due h kept i e t = due_kept_at table old d s due e t h kept (is_device e) refl i
 
 -- a motion that may come
 pub motion_taken : (old : Told) (m : Motion) (held after : ℕ) → is_device m.device ≡ true → length old.sets ≡ 8
@@ -103,17 +102,14 @@ motion_taken old m held after h len is e =
     ∙ ap (λ t. Some (record { ids = t; repeats = due_kept old.repeats; focus = old.focus })) (sym (ids_kept_after old.sets m.device after h len))
 
 -- a key message that may come
-pub key_taken : (old : Told) (table : List ℕ) (m : KeyMsg) (due next : ℕ) → is_device m.key.device ≡ true
-    → due ≡ get_or old.repeats (place_of m.key.device m.key.scan) 0 → Some (due_of next) ≡ after_key (due_of due) m
-    → ((k : ℕ) → get_or table k 0 ≡ get_or old.repeats k 0) → place_of m.key.device m.key.scan < length table
-    → after_body (state_of old) (Key m) ≡ Some (state_of (record old { repeats = set table (place_of m.key.device m.key.scan) next }))
-key_taken old table m due next h is e alike room =
+pub key_taken : (old : Told) (table : List (ℕ × ℕ)) (m : KeyMsg) (due next : Option ℕ) → is_device m.key.device ≡ true
+    → due ≡ due_at old.repeats (place_of m.key.device m.key.scan) → Some next ≡ after_key due m
+    → ((q : ℕ) → due_at table q ≡ cond (is_eq (nat_cmp (place_of m.key.device m.key.scan) q)) next (due_at old.repeats q))
+    → after_body (state_of old) (Key m) ≡ Some (state_of (record old { repeats = table }))
+key_taken old table m due next h is e kept =
     let Next : Option ℕ → StreamState =
     λ due. record { ids = ids_kept old.sets; repeats = with_repeat (due_kept old.repeats) m.key.device m.key.scan due; focus = old.focus } in
-    let kept : due_kept old.repeats m.key.device m.key.scan ≡ due_of due = rw h (ap due_of (sym is)) in
-    let written : with_repeat (due_kept old.repeats) m.key.device m.key.scan (due_of next) ≡ due_kept (set table (place_of m.key.device m.key.scan) next) =
-    ap (λ t. with_repeat t m.key.device m.key.scan (due_of next)) (sym (due_kept_alike table old.repeats alike))
-    ∙ sym (due_kept_after table m.key.device m.key.scan next h room) in
-    ap (λ known. option_map Next (after_key known m)) kept
+    let known : due_kept old.repeats m.key.device m.key.scan ≡ due = rw h (sym is) in
+    ap (λ due. option_map Next (after_key due m)) known
     ∙ ap (option_map Next) (sym e)
-    ∙ ap (λ t. Some (record { ids = ids_kept old.sets; repeats = t; focus = old.focus })) written
+    ∙ ap (λ t. Some (record { ids = ids_kept old.sets; repeats = t; focus = old.focus })) (sym (due_kept_after table old.repeats m.key.device m.key.scan next h kept))

@@ -1,14 +1,16 @@
 -- What a verifier stands for, and how its tables say it.
-use Rattle.std.specs.Prelude.{◌≡◌, ℕ, zero, suc, ◌+◌, ◌-◌, ◌*◌, ◌^◌, ◌&&◌, nat_le, Bool, List, [], Option, Some, None, slice_index, min, length, if◌then◌else◌}
+use Rattle.std.specs.Prelude.{◌≡◌, ℕ, ◌+◌, ◌-◌, ◌*◌, ◌^◌, ◌&&◌, nat_le, Bool, List, [], Option, Some, None, slice_index, min, length, if◌then◌else◌}
+use Rattle.std.specs.Map.{lookup}
+use Rattle.std.specs.Ordering.{nat_cmp, is_eq}
 use Rattle.input_types.specs.declared.message.Message.{Message}
 use Rattle.input_types.specs.StreamRule.{StreamState, stream_state}
 use Rattle.bits32.specs.Set.{members}
 
--- the tables of a verifier: for each device the set of the ids that are down, for each key the next repeat number or 0 where it is up,
--- the focus, and how many messages were accepted
+-- the tables of a verifier: for each device the set of the ids that are down, for each key that is down the next repeat number beside the
+-- key's place, the focus, and how many messages were accepted
 pub record Told : Type 0 where
   pub sets : List ℕ
-  pub repeats : List ℕ
+  pub repeats : List (ℕ × ℕ)
   pub focus : Bool
   pub accepted : ℕ
 
@@ -24,18 +26,17 @@ is_device d = nat_le 1 d && nat_le d 8
 abbrev pub ids_kept : List ℕ → ℕ → List ℕ
 ids_kept sets d = if is_device d then members (slice_index sets (d - 1)) else []
 
--- the next repeat number of a key from a number that is 0 where the key is up
-abbrev pub due_of : ℕ → Option ℕ
-due_of zero = None
-due_of (suc n) = Some (suc n)
-
--- the place of a key in the table of next repeat numbers
+-- the place of a key among those of all devices: the keys of one scan code stand together
 abbrev pub place_of : ℕ → ℕ → ℕ
 place_of device scan = scan * 8 + (device - 1)
 
--- the next repeat number of a key, from a table of one number for each key; keys past its end are up
-abbrev pub due_kept : List ℕ → ℕ → ℕ → Option ℕ
-due_kept repeats d s = if is_device d then due_of (slice_index repeats (place_of d s)) else None
+-- the next repeat number that stands beside a place
+abbrev pub due_at : List (ℕ × ℕ) → ℕ → Option ℕ
+due_at repeats place = lookup (λ k. is_eq (nat_cmp place k)) repeats
+
+-- the next repeat number of a key; a key without one is up
+abbrev pub due_kept : List (ℕ × ℕ) → ℕ → ℕ → Option ℕ
+due_kept repeats d s = if is_device d then due_at repeats (place_of d s) else None
 
 -- what a window knows, from the tables
 abbrev pub state_of : Told → StreamState

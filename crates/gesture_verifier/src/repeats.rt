@@ -1,64 +1,61 @@
 //! The repeats of keys.
-ghost use Rattle.std.specs.Prelude.{◌≡◌, ◌<◌, ℕ, IsTrue, OnErr, OnOk, length, slice_index};
-ghost use Rattle.std.specs.Option.{option_map};
+ghost use Rattle.std.specs.Prelude.{◌≡◌, ◌<◌, ℕ, IsTrue, OnErr, OnOk, cond};
+ghost use Rattle.std.specs.Ordering.{nat_cmp, is_eq};
 ghost use Rattle.input_types.specs.StreamRule.{after_key};
-ghost use Rattle.gesture_verifier.specs.Told.{due_of, is_device, place_of};
+ghost use Rattle.gesture_verifier.specs.Told.{due_at, is_device, place_of};
 
 use crate::held::ends;
 use input_types::{KeyArgs, KeyMsg};
 use std::alloc::AllocError;
+use std::collections::BTreeMap;
 
-/// The next repeat number of a key after one of its messages, where `due` is the one before it and 0 stands for a key that is up;
-/// None where the message may not come then.
-pub fn next_repeat(due: u64, message: &KeyMsg) -> Option<u64>
-    ensures { option_map due_of result ≡ after_key (due_of due) message.now }
+/// What is due of a key after one of its messages, where `due` is what was due before it: the next repeat number, or None where the key is
+/// up. The answer is None where the message may not come then.
+pub fn next_repeat(due: Option<u64>, message: &KeyMsg) -> Option<Option<u64>>
+    ensures { result ≡ after_key due message.now }
 {
     if message.key.down {
+        let due = due.unwrap_or(0);
         let next = u64::from(message.repeat);
         if message.flags == 0 && due == next {
-            Some(next + 1)
+            Some(Some(next + 1))
         } else {
             None
         }
-    } else if due != 0 && ends(message.flags) && message.repeat == 0 {
-        Some(0)
+    } else if due.is_some() && ends(message.flags) && message.repeat == 0 {
+        Some(None)
     } else {
         None
     }
 }
 
-/// The place of a key in the table of next repeat numbers: the keys of one scan code stand together.
-pub fn place(key: &KeyArgs) -> usize
+/// The place of a key among those of all devices: the keys of one scan code stand together.
+pub fn place(key: &KeyArgs) -> u32
     ensures place { result ≡ place_of key.now.device key.now.scan }
     ensures device { IsTrue (is_device key.now.device) }
-    ensures range { result < 524288 }
 {
-    usize::from(key.scan) * 8 + usize::from(key.device.get() - 1)
+    u32::from(key.scan) * 8 + u32::from(key.device.get() - 1)
 }
 
-/// The number at a place of a table, and 0 past its end.
-pub fn entry(table: &[u64], place: usize) -> u64
-    ensures { result ≡ slice_index table.now place }
+/// The next repeat number of the key at a place, or None where it is up.
+pub fn due(table: &BTreeMap<u32, u64>, place: u32) -> Option<u64>
+    ensures { result ≡ due_at table.now.entries place }
 {
-    if place < table.len() { table[place] } else { 0 }
+    table.get(&place).copied()
 }
 
-/// The next repeat number that an entry of the table says.
-pub fn due(entry: u64) -> Option<u64>
-    ensures { result ≡ due_of entry }
+/// Keeps what is due of the key at a place, and nothing of a key that is up.
+pub fn keep(table: &mut BTreeMap<u32, u64>, place: u32, due: Option<u64>) -> Result<(), AllocError>
+    ensures kept { OnOk result ((q : ℕ) → due_at table.new.entries q ≡ cond (is_eq (nat_cmp place q)) due (due_at table.old.entries q)) }
+    ensures err { OnErr result (table.new.entries ≡ table.old.entries) }
 {
-    if entry == 0 { None } else { Some(entry) }
-}
-
-/// Makes room for `place` in a table of numbers, with zeros.
-pub fn grow(table: &mut Vec<u64>, place: usize) -> Result<(), AllocError>
-    requires { place < 524288 }
-    ensures room { OnOk result (place < length table.new.items) }
-    ensures alike { (k : ℕ) → slice_index table.new.items k ≡ slice_index table.old.items k }
-    ensures err { OnErr result (table.new.items ≡ table.old.items) }
-{
-    if place >= table.len() {
-        table.resize(place + 1, 0)?;
+    match due {
+        Some(next) => {
+            table.insert(place, next)?;
+        }
+        None => {
+            table.remove(&place);
+        }
     }
     Ok(())
 }

@@ -3,10 +3,11 @@ ghost use Rattle.std.specs.Prelude.{◌≡◌, List, [], ◌∷◌, false, true,
 
 use crate::fault::{Fault, StepError};
 use crate::held::{next_held, nothing, row};
-use crate::repeats::{due, entry, grow, next_repeat, place};
+use crate::repeats::{due, keep, next_repeat, place};
 use bits32::Bits32;
 use input_types::{Body, KeyMsg, Message, Motion};
 use std::alloc::{AllocError, Global};
+use std::collections::BTreeMap;
 use std::marker::Model;
 
 /// What a window knows from the messages that it was told, in the order in which they were accepted.
@@ -14,8 +15,8 @@ use std::marker::Model;
 pub struct Verifier {
     /// The ids that are down on each device, that of device 1 first.
     down: [Bits32; 8],
-    /// For each key the next repeat number, or 0 where it is up. Keys past its end are up.
-    repeats: Vec<u64>,
+    /// The next repeat number of each key that is down, under the key's place.
+    repeats: BTreeMap<u32, u64>,
     focus: bool,
     accepted: u64,
 }
@@ -26,7 +27,7 @@ impl Model for Verifier {
 
     ghost Value = { Told };
 
-    ghost view = { λ v. record { sets = v.down; repeats = v.repeats.items; focus = v.focus; accepted = v.accepted } };
+    ghost view = { λ v. record { sets = v.down; repeats = v.repeats.entries; focus = v.focus; accepted = v.accepted } };
 
     ghost invariant = { λ v. length v.down ≡ 8 };
 }
@@ -44,7 +45,7 @@ impl Verifier {
     {
         Verifier {
             down: [Bits32::empty(); 8],
-            repeats: Vec::new(alloc),
+            repeats: BTreeMap::new(alloc),
             focus: false,
             accepted: 0,
         }
@@ -98,11 +99,10 @@ impl Verifier {
         ensures { Takes result self.old self.new (Body.Key message.now) }
     {
         let at = place(&message.key);
-        let Some(next) = next_repeat(entry(&self.repeats, at), message) else {
+        let Some(next) = next_repeat(due(&self.repeats, at), message) else {
             return Ok(false);
         };
-        grow(&mut self.repeats, at)?;
-        self.repeats[at] = next;
+        keep(&mut self.repeats, at, next)?;
         Ok(true)
     }
 
@@ -144,7 +144,7 @@ impl Verifier {
         ensures { result ≡ due_of_body (state_of self.now) body.now }
     {
         match body {
-            Body::Key(message) => due(entry(&self.repeats, place(&message.key))),
+            Body::Key(message) => due(&self.repeats, place(&message.key)),
             Body::Motion(_) | Body::Focus(_) => None,
         }
     }

@@ -4,10 +4,10 @@ use Rattle.gesture_verifier.proofs.Tables.{nothing_told}
 use Rattle.gesture_verifier.proofs.verifier.Verifier.new.Goals as goal
 
 pub returns-clause-untold : goal.returns-clause-untold
-returns-clause-untold c = nothing_told c.empty.result c.new.result.items c.empty.ensures c.new.ensures.items
+returns-clause-untold c = nothing_told c.empty.result c.new.result.entries c.empty.ensures c.new.ensures.empty
 
 pub returns-clause-stands : goal.returns-clause-stands
 returns-clause-stands c = record {
-  state = ap Some (sym (nothing_told c.empty.result c.new.result.items c.empty.ensures c.new.ensures.items));
+  state = ap Some (sym (nothing_told c.empty.result c.new.result.entries c.empty.ensures c.new.ensures.empty));
   count = refl;
 }

@@ -1,4 +1,4 @@
--- The number of the key of the message is written, and no other.
+-- What is due of the key of the message is kept, and what is due of others stays.
 use Rattle.std.proofs.Common.{refl}
 use Rattle.gesture_verifier.specs.Told.{Told}
 use Rattle.gesture_verifier.proofs.Tables.{key_taken}
@@ -7,11 +7,9 @@ use Rattle.gesture_verifier.proofs.verifier.Verifier.take_key.Goals as goal
 pub returns : goal.returns
 returns c =
     let old : Told =
-    record { sets = c.self.inside.down; repeats = c.self.inside.repeats.items; focus = c.self.inside.focus; accepted = c.self.inside.accepted } in
-    let room = c.in_ok-grow.ensures in
-    rw (← c.self.view_is, c.place-at.ensures.place) (
-      key_taken old c.grow.new.table.items c.args.message.now c.entry.result c.in-Some.next c.place-at.ensures.device
-          (rw (c.place-at.ensures.place, c.deref.ensures.value) at c.entry.ensures) c.in-Some.ensures c.grow.ensures.alike
-          (rw c.place-at.ensures.place at room.room),
+    record { sets = c.self.inside.down; repeats = c.self.inside.repeats.entries; focus = c.self.inside.focus; accepted = c.self.inside.accepted } in
+    rw (← c.self.view_is) (
+      key_taken old c.keep.new.table.entries c.args.message.now c.due.result c.in-Some.next c.place-at.ensures.device
+          (rw c.place-at.ensures.place at c.due.ensures) c.in-Some.ensures (rw c.place-at.ensures.place at c.in_ok-keep.ensures.kept),
       refl,
     )

@@ -9,7 +9,7 @@ use Rattle.gesture_verifier.proofs.verifier.Verifier.take_motion.Goals as goal
 pub returns-in-Some : goal.returns-in-Some
 returns-in-Some c =
     let old : Told =
-    record { sets = c.self.inside.down; repeats = c.self.inside.repeats.items; focus = c.self.inside.focus; accepted = c.self.inside.accepted } in
+    record { sets = c.self.inside.down; repeats = c.self.inside.repeats.entries; focus = c.self.inside.focus; accepted = c.self.inside.accepted } in
     rw (← c.self.view_is, c.row-row.ensures.place) (
       motion_taken old c.args.motion.now c.index-self-row.result c.in-Some.held c.row-row.ensures.device c.self.invariant
           (rw c.row-row.ensures.place at c.index-self-row.is)
