@@ -3,4 +3,4 @@ pub mod Newest
 pub mod Readers
 pub mod Sections
 pub mod Told
-pub mod Verdict
+pub mod Ties

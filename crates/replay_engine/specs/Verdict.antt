@@ -24,7 +24,7 @@ messages_in (s ∷ ss) = length s.messages + messages_in ss
 
 -- what is said of streams: how many channels and messages they have, or the line of the first message that may not come where it stands
 abbrev pub said : Option ℕ → ℕ → ℕ → Result (List ℕ) Refused
-said None channels messages = Ok (codes "well formed " ++ decimal channels ++ codes " " ++ decimal messages ++ codes "\n")
+said None channels messages = Ok (codes "well formed " ++ (decimal channels ++ (codes " " ++ (decimal messages ++ codes "\n"))))
 said (Some line) channels messages = Err (not_well_formed line)
 
 -- a file with a bad line is refused for it, and only another one is judged by the rule for streams

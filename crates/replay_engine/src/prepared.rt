@@ -135,8 +135,8 @@ fn replay_text<F: Files>(alloc: Global, files: &mut F, names: Names<'_>) -> Resu
     requires session { IsTrue (F.lends files.old names.session.now) }
     requires events { IsTrue (F.lends files.old names.events.now) }
     requires free { F.lent files.old ≡ None }
-    ensures ok { IfOk result (λ text. Answers (F.entries files.old) (replay (record { session = names.session.now; events = names.events.now })) (Ok text.items)) }
-    ensures err { IfErr result (RefusesCommand (F.entries files.old) (replay (record { session = names.session.now; events = names.events.now })) (F.faults files.old) (F.faults files.new)) }
+    ensures ok { IfOk result (λ text. Answers (F.entries files.old) (replay (record { session = names.entry.session.now; events = names.entry.events.now })) (Ok text.items)) }
+    ensures err { IfErr result (RefusesCommand (F.entries files.old) (replay (record { session = names.entry.session.now; events = names.entry.events.now })) (F.faults files.old) (F.faults files.new)) }
 {
     let plan = session_from(alloc, files, names.session)?;
     recording_text(alloc, files, &plan, names.events)

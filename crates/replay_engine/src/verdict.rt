@@ -1,7 +1,8 @@
 //! What `verify` answers of a stream file.
-ghost use Rattle.std.specs.Prelude.{◌≡◌, ℕ, ◌+◌, ◌^◌, ◌<◌, List, Ok, None, IfOk, IfErr, OnOk, OnErr};
+ghost use Rattle.std.specs.Prelude.{◌≡◌, ℕ, ◌+◌, ◌^◌, ◌<◌, List, ◌∷◌, Ok, None, IfOk, IfErr, OnOk};
+ghost use Rattle.std.specs.Option.{option_or};
 ghost use Rattle.input_types.specs.declared.message.Message.{Message as Told};
-ghost use Rattle.replay_engine.specs.Judging.{Knows, Takes, judged_on};
+ghost use Rattle.replay_engine.specs.Judging.{Knows, Takes, break_at};
 ghost use Rattle.replay_engine.specs.Prepared.{Refuses};
 ghost use Rattle.replay_engine.specs.Verdict.{said, verdict};
 

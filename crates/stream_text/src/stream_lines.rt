@@ -106,6 +106,7 @@ impl<'a> StreamLines<'a> {
     #[tactic(auto, unfolding(crate::specs::StreamFile::events_of))]
     pub fn new(bytes: &'a [u8]) -> Result<StreamLines<'a>, u64>
         ensures ok { IfOk result (λ lines. events_of bytes.now ≡ lines.events) }
+        ensures left { IfOk result (λ lines. lines.left ≤ length bytes.now + 1) }
         ensures err { (bad : ℕ) → result ≡ Err bad → events_of bytes.now ≡ Err bad }
     {
         let (number, rest) = pass_order(bytes)?;

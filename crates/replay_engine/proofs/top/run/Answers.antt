@@ -13,5 +13,14 @@ returns-clause-usage g c = λ two.
     in subst BySo two
     (refused_by _ _ _ _ c.in-Err.refusal _ _ _ _ _ c.in-Err.ensures.err c.told.ensures (λ four. omega (arith, two, four)) (λ six. omega (arith, two, six)))
 
+pub returns-clause-refused : goal.returns-clause-refused
+returns-clause-refused g c = λ three.
+    let files = g.F.Files.entries c.args.files.now
+    in let words = map string_bytes c.args.words.now
+    in let BySo : ℕ → Type 0 = λ n. RefusedBy files words n
+    (Said (g.E.Sink.faults c.args.err.now) (g.E.Sink.faults c.told.new.err) (g.E.Sink.taken c.args.err.now) (g.E.Sink.taken c.told.new.err))
+    in subst BySo three
+    (refused_by _ _ _ _ c.in-Err.refusal _ _ _ _ _ c.in-Err.ensures.err c.told.ensures (λ four. omega (arith, three, four)) (λ six. omega (arith, three, six)))
+
 pub returns-clause-complete : goal.returns-clause-complete
 returns-clause-complete g c = λ kept written. complete_refusal _ _ _ _ c.in-Err.refusal _ _ _ _ _ c.in-Err.ensures.err kept c.told.ensures

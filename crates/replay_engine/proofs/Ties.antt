@@ -1,5 +1,5 @@
 -- A stream file that is judged line by line is judged as its streams are.
-use Rattle.std.proofs.Common.{◌≡◌, ℕ, suc, ◌+◌, ◌==◌, ◌&&◌, Bool, true, false, if◌then◌else◌, List, [], ◌∷◌, length, Option, Some, None, Result, Ok, Err, ap, sym, ◌∙◌, refl, arith}
+use Rattle.std.proofs.Common.{◌≡◌, ℕ, suc, ◌+◌, ◌<◌, ◌≤◌, ◌==◌, ◌&&◌, Bool, true, false, if◌then◌else◌, List, [], ◌∷◌, length, Option, Some, None, Result, Ok, Err, ap, sym, ◌∙◌, refl, arith}
 use Rattle.std.specs.Option.{option_or}
 use Rattle.input_types.specs.declared.message.Message.{Message as Told}
 use Rattle.input_types.specs.StreamRule.{is_well_formed}
@@ -10,7 +10,7 @@ use Rattle.stream_text.specs.declared.stream_lines.Place.TheVariants.{Between, S
 use Rattle.stream_text.specs.Number.{◌>>=◌}
 use Rattle.stream_text.specs.TextLines.{Line, lines_of}
 use Rattle.stream_text.specs.StreamLine.{line_of}
-use Rattle.stream_text.specs.StreamFile.{Event, follow, may_end, told, with_event, numbered_line, events_from, events_behind, events_of, Stream, messages_of, streams_of, streams_in}
+use Rattle.stream_text.specs.StreamFile.{Event, follow, may_end, told, with_event, numbered_line, events_from, events_behind, events_of, Stream, messages_of, streams_of, streams_in, Unread, Goes}
 use Rattle.stream_text.specs.OrderText.{order_passed}
 use Rattle.replay_engine.specs.Refused.{Refused}
 use Rattle.replay_engine.specs.Verdict.{break_from, first_break, messages_in, said, judged, verdict}
@@ -42,16 +42,25 @@ TiesOf place past n (Err bad) = Unit {0}
 -- a section begins
 begins : (past : List Told) (n id : ℕ) (r : Result (List Event) ℕ) → TiesOf (Section id 0) [] (n + 1) r → TiesOf Between past n (with_event (n, Channel id) r)
 begins past n id (Err bad) h = tt
-begins past n id (Ok es) h = record { breaks_are = h.breaks_are; messages_are = h.messages_are; channels_are = ap (λ k. suc k) h.channels_are }
+begins past n id (Ok es) h =
+    let m : 0 + messages_left es ≡ length (messages_of es) + messages_in (streams_of es) = omega (arith, h.messages_are)
+    in let c : 1 + channels_left es ≡ suc (length (streams_of es)) = omega (arith, h.channels_are)
+    in record { breaks_are = h.breaks_are; messages_are = m; channels_are = c }
 
 -- a naming, the first one or another
 first_naming : (past : List Told) (n clock id seq : ℕ) (r : Result (List Event) ℕ) → TiesOf Namings past (n + 1) r → TiesOf Between past n (with_event (n, Naming clock id seq) r)
 first_naming past n clock id seq (Err bad) h = tt
-first_naming past n clock id seq (Ok es) h = record { breaks_are = h.breaks_are; messages_are = h.messages_are; channels_are = h.channels_are }
+first_naming past n clock id seq (Ok es) h =
+    let m : 0 + messages_left es ≡ messages_in (streams_of es) = omega (arith, h.messages_are)
+    in let c : 0 + channels_left es ≡ length (streams_of es) = omega (arith, h.channels_are)
+    in record { breaks_are = h.breaks_are; messages_are = m; channels_are = c }
 
 names : (past : List Told) (n clock id seq : ℕ) (r : Result (List Event) ℕ) → TiesOf Namings past (n + 1) r → TiesOf Namings past n (with_event (n, Naming clock id seq) r)
 names past n clock id seq (Err bad) h = tt
-names past n clock id seq (Ok es) h = record { breaks_are = h.breaks_are; messages_are = h.messages_are; channels_are = h.channels_are }
+names past n clock id seq (Ok es) h =
+    let m : 0 + messages_left es ≡ messages_in (streams_of es) = omega (arith, h.messages_are)
+    in let c : 0 + channels_left es ≡ length (streams_of es) = omega (arith, h.channels_are)
+    in record { breaks_are = h.breaks_are; messages_are = m; channels_are = c }
 
 -- a message, which may come or not
 one_break : (n : ℕ) (b : Bool) (later found rest : Option ℕ) → later ≡ option_or found rest
@@ -62,17 +71,21 @@ one_break n false later found rest h = refl
 tells : (past : List Told) (n id count : ℕ) (m : Told) (r : Result (List Event) ℕ) → TiesOf (Section id (count + 1)) (m ∷ past) (n + 1) r
     → TiesOf (Section id count) past n (with_event (n, Message m) r)
 tells past n id count m (Err bad) h = tt
-tells past n id count m (Ok es) h = record {
-    breaks_are = one_break n (is_well_formed (m ∷ past)) (breaks (m ∷ past) es) (break_from (n + 1) (m ∷ past) (messages_of es)) (first_break (streams_of es)) h.breaks_are;
-    messages_are = ap (λ k. suc k) h.messages_are;
-    channels_are = h.channels_are
-}
+tells past n id count m (Ok es) h =
+    let b : breaks past ((n, Message m) ∷ es) ≡ option_or (break_from n past (m ∷ messages_of es)) (first_break (streams_of es)) =
+    one_break n (is_well_formed (m ∷ past)) (breaks (m ∷ past) es) (break_from (n + 1) (m ∷ past) (messages_of es)) (first_break (streams_of es)) h.breaks_are
+    in let k : 1 + messages_left es ≡ suc (length (messages_of es)) + messages_in (streams_of es) = omega (arith, h.messages_are)
+    in let c : 0 + channels_left es ≡ length (streams_of es) = omega (arith, h.channels_are)
+    in record { breaks_are = b; messages_are = k; channels_are = c }
 
 -- a section ends
 ends : (past : List Told) (n id count e sent received finished : ℕ) (r : Result (List Event) ℕ) → TiesOf Between past (n + 1) r
     → TiesOf (Section id count) past n (with_event (n, End e sent received finished) r)
 ends past n id count e sent received finished (Err bad) h = tt
-ends past n id count e sent received finished (Ok es) h = record { breaks_are = h.breaks_are; messages_are = h.messages_are; channels_are = h.channels_are }
+ends past n id count e sent received finished (Ok es) h =
+    let m : 0 + messages_left es ≡ 0 + messages_in (streams_of es) = omega (arith, h.messages_are)
+    in let c : 0 + channels_left es ≡ length (streams_of es) = omega (arith, h.channels_are)
+    in record { breaks_are = h.breaks_are; messages_are = m; channels_are = c }
 
 -- the lines from here on
 abbrev Behind : ℕ → List Line → Type 0
@@ -135,7 +148,11 @@ pub record IsFresh (j : Known) : Type 0 where
 
 judged_lines : (j : Known) → IsFresh j → (r : Result (List Event) ℕ) → TiesOf Between [] 0 r → judged_on j [] r ≡ judged (streams_in r)
 judged_lines j fresh (Err bad) h = refl
-judged_lines j fresh (Ok es) h = rw (fresh.none, fresh.channels, fresh.messages, h.breaks_are, h.messages_are, h.channels_are) refl
+judged_lines j fresh (Ok es) h =
+    let b : option_or j.broken (breaks [] es) ≡ first_break (streams_of es) = rw fresh.none h.breaks_are
+    in let c : j.channels + channels_left es ≡ length (streams_of es) = omega (arith, fresh.channels, h.channels_are)
+    in let m : j.messages + messages_left es ≡ messages_in (streams_of es) = omega (arith, fresh.messages, h.messages_are)
+    in rw (b, c, m) refl
 
 judged_front : (j : Known) → IsFresh j → (front : Result (ℕ × List Line) ℕ) → judged_on j [] (events_behind front) ≡ judged (streams_in (events_behind front))
 judged_front j fresh (Err bad) = refl
@@ -156,7 +173,24 @@ pub after_line : (past : List Told) (n : ℕ) (line : StreamLine) (old new : Kno
 after_line past n line old new (Err bad) h = refl
 after_line past n line old new (Ok es) h =
     let b : option_or old.broken (option_or (break_at past n line) (breaks (told_after past line) es)) ≡ option_or new.broken (breaks (told_after past line) es) =
-        sym (or_again old.broken (break_at past n line) (breaks (told_after past line) es)) ∙ ap (λ o. option_or o (breaks (told_after past line) es)) (sym h.broken)
+    sym (or_again old.broken (break_at past n line) (breaks (told_after past line) es)) ∙ ap (λ o. option_or o (breaks (told_after past line) es)) (sym h.broken)
     in let c : old.channels + (channels_at line + channels_left es) ≡ new.channels + channels_left es = omega (arith, h.channels)
     in let m : old.messages + (messages_at line + messages_left es) ≡ new.messages + messages_left es = omega (arith, h.messages)
     in rw (b, c, m) refl
+
+-- the line that a reader answered, and one byte at least for it
+pub one_read : (old new : Unread) (o : Option Event) (e : Event) → o ≡ Some e → Goes old (Ok o) new → (old.events ≡ with_event e new.events) × (new.left < old.left)
+one_read old new o e is goes = rw is at goes
+
+-- a line is of one channel at most, and is one message at most
+pub one_channel : (line : StreamLine) → channels_at line ≤ 1
+one_channel (Channel id) = omega arith
+one_channel (Message m) = omega arith
+one_channel (End id sent received finished) = omega arith
+one_channel (Naming clock id seq) = omega arith
+
+pub one_message : (line : StreamLine) → messages_at line ≤ 1
+one_message (Channel id) = omega arith
+one_message (Message m) = omega arith
+one_message (End id sent received finished) = omega arith
+one_message (Naming clock id seq) = omega arith
