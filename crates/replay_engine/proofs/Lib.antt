@@ -1,3 +1,4 @@
+pub mod Added
 pub mod Moved
 pub mod Newest
 pub mod Readers

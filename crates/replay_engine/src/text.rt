@@ -6,7 +6,6 @@ ghost use Rattle.stream_text.specs.Spelling.{channel_section};
 ghost use Rattle.replay_engine.specs.Routing.{stream_at};
 ghost use Rattle.replay_engine.specs.Text.{counts_of, sections_from, text_for};
 
-use crate::cooking::cook;
 use crate::routing::route;
 use crate::stream::Stream;
 use dispatch_calls::Counts;
@@ -60,7 +59,6 @@ pub fn text_of(alloc: Global, plan: &Plan, events: &[RawEvent]) -> Result<Vec<u8
     requires { IsPlan plan.now }
     ensures { IfOk result (λ text. text.items ≡ text_for (plan_view plan.now) events.now) }
 {
-    let cooked = cook(alloc, plan, events)?;
-    let streams = route(alloc, plan, &cooked)?;
+    let streams = route(alloc, plan, events)?;
     sections(alloc, plan, &streams)
 }
