@@ -7,11 +7,12 @@ ghost use Rattle.route_plain.specs.State.{fresh};
 ghost use Rattle.session_plan.specs.Valid.{IsPlan};
 ghost use Rattle.session_plan.specs.View.{plan_view};
 ghost use Rattle.replay_engine.specs.Cooked.{cooked, latest as latest_of, plans_of, with_added};
-ghost use Rattle.replay_engine.specs.Routing.{Timed as TimedView, after_turn, args_turns, channels_to, corner_of, heard, said_by, state_by, stream_at, stream_by, shown_by, turn_by, turn_of, turns_of};
+ghost use Rattle.replay_engine.specs.Routing.{Timed as TimedView, after_turn, args_turns, channels_to, corner_of, heard, said_by, state_by, stream_by, shown_by, turn_by, turn_of, turns_of};
 ghost use Rattle.replay_engine.specs.Following.{Follows};
+ghost use Rattle.replay_engine.specs.Written.{stream_at, written};
 
 use crate::cooking::{later, readers_of, take};
-use crate::stream::{Stream, from_origin};
+use crate::stream::Stream;
 use input_types::{Args, Moment, Pixel};
 use raw_events::RawEvent;
 use route_plain::{Plain, Said, Turn};
@@ -49,13 +50,13 @@ fn tell(
     said: &Said,
 ) -> Result<(), AllocError>
     ensures len { vec_len streams.new ≡ vec_len streams.old }
-    ensures told { OnOk result ((c : ℕ) → 1 ≤ c → c ≤ vec_len streams.old → stream_at streams.new.items c ≡ heard c moment snapshot.now (stream_at streams.old.items c) (said.now ∷ [])) }
+    ensures told { OnOk result ((c : ℕ) (ms : List MessageView) → 1 ≤ c → c ≤ vec_len streams.old → stream_at streams.old.items c ≡ written ms
+        → stream_at streams.new.items c ≡ written (heard c moment snapshot.now ms (said.now ∷ []))) }
 {
-    let motion = from_origin(corner(snapshot, said.channel), &said.motion);
     let place = said.channel as usize;
     if 1 <= place && place <= streams.len() {
         let stream = &mut streams[place - 1];
-        stream.tell(moment, motion)?;
+        stream.tell(moment, corner(snapshot, said.channel), &said.motion)?;
     }
     Ok(())
 }
@@ -68,7 +69,8 @@ fn tell_all(
     all: &[Said],
 ) -> Result<(), AllocError>
     ensures len { vec_len streams.new ≡ vec_len streams.old }
-    ensures told { OnOk result ((c : ℕ) → 1 ≤ c → c ≤ vec_len streams.old → stream_at streams.new.items c ≡ heard c moment snapshot.now (stream_at streams.old.items c) all.now) }
+    ensures told { OnOk result ((c : ℕ) (ms : List MessageView) → 1 ≤ c → c ≤ vec_len streams.old → stream_at streams.old.items c ≡ written ms
+        → stream_at streams.new.items c ≡ written (heard c moment snapshot.now ms all.now)) }
 {
     for said in all {
         tell(streams, moment, snapshot, said)?;
@@ -168,7 +170,7 @@ fn take_added(
 /// A stream without messages for each of `count` channels.
 fn empty_streams(alloc: Global, count: usize) -> Result<Vec<Stream>, AllocError>
     ensures len { IfOk result (λ v. vec_len v ≡ count) }
-    ensures empty { IfOk result (λ v. (c : ℕ) → stream_at v.items c ≡ []) }
+    ensures empty { IfOk result (λ v. (c : ℕ) → stream_at v.items c ≡ written []) }
 {
     let mut streams = Vec::new(alloc);
     for _ in 0..count {
@@ -182,7 +184,7 @@ pub fn route(alloc: Global, plan: &Plan, events: &[RawEvent]) -> Result<Vec<Stre
     requires { IsPlan plan.now }
     ensures len { IfOk result (λ v. vec_len v ≡ length plan.now.channels.items) }
     ensures streams { IfOk result (λ v. (c : ℕ) → 1 ≤ c → c ≤ length plan.now.channels.items → stream_at v.items c
-        ≡ stream_by (channels_to (length plan.now.channels.items)) c (turns_of (reverse plan.now.steps.items) (cooked (plans_of (plan_view plan.now)) (reverse events.now)))) }
+        ≡ written (stream_by (channels_to (length plan.now.channels.items)) c (turns_of (reverse plan.now.steps.items) (cooked (plans_of (plan_view plan.now)) (reverse events.now))))) }
 {
     let count = plan.channels.as_slice().len();
     let live = all_channels(count);

@@ -1,9 +1,9 @@
 -- One step more, and one event more.
-use Rattle.std.proofs.Common.{◌≡◌, ◌<◌, ◌∙◌, ap, sym, take, take_all, reverse, length, vec_len, get_or, arith}
+use Rattle.std.proofs.Common.{◌≡◌, ◌<◌, ◌∙◌, ap, take, take_all, reverse, length, get_or, arith}
 use Rattle.session_plan.specs.View.{plan_view}
-use Rattle.replay_engine.specs.Cooked.{added, cooked, plans_of, with_added}
-use Rattle.replay_engine.specs.Following.{Follows}
-use Rattle.replay_engine.specs.Routing.{args_turns, shown_by, step_turns, stream_by, windows_by, channels_to}
+use Rattle.replay_engine.specs.Cooked.{added, cooked, plans_of}
+use Rattle.replay_engine.specs.Routing.{args_turns, channels_to, shown_by, step_turns, stream_by, turns_of}
+use Rattle.replay_engine.specs.Written.{written}
 use Rattle.replay_engine.proofs.Newest.{newest_of_take}
 use Rattle.replay_engine.proofs.routing.route.Goals as goal
 
@@ -38,4 +38,13 @@ loop-event-preserved c =
     }
 
 pub returns-clause-streams : goal.returns-clause-streams
-returns-clause-streams c = λ ch low high. ?
+returns-clause-streams c = λ ch low high.
+    let plans = plans_of (plan_view c.args.plan.now)
+    in let steps = reverse c.args.plan.now.steps.items
+    in let all : take c.loop-event.event-index c.args.events.now ≡ c.args.events.now = take_all c.loop-event.event-index c.args.events.now (omega (arith, c.loop-event-test.false))
+    in let live : c.all_channels-live.result ≡ channels_to (length c.args.plan.now.channels.items)
+    = c.all_channels-live.ensures ∙ ap (λ xs. channels_to (length xs)) c.as_slice-count.ensures.value
+    in c.loop-event.invariant.follows.told ch low (rw c.loop-event.invariant.len high)
+    ∙ ap (λ xs. written (stream_by c.all_channels-live.result ch (args_turns c.loop-step.shown.now (cooked plans (reverse xs)) (step_turns steps)))) all
+    ∙ ap (λ w. written (stream_by c.all_channels-live.result ch (args_turns w (cooked plans (reverse c.args.events.now)) (step_turns steps)))) c.loop-event.invariant.shown
+    ∙ ap (λ m. written (stream_by m ch (turns_of steps (cooked plans (reverse c.args.events.now))))) live
