@@ -11,3 +11,4 @@ pub mod Refused
 pub mod Routing
 pub mod Text
 pub mod Words
+pub mod Written

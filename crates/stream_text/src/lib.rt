@@ -15,4 +15,4 @@ mod message;
 mod section;
 
 pub use message::{LineWriter, message_text};
-pub use section::{channel_text, naming_text};
+pub use section::{channel_line_text, channel_text, end_line_text, naming_text};
