@@ -113,13 +113,6 @@ latest_args m (a ∷ args) given some =
     ∙ ap (λ xs. latest xs) (append_assoc (reverse (map (λ (c : Args). (m, c)) args)) ((m, a) ∷ []) given)
     ∙ latest_push m args a given)
 
--- an event that gives nothing
-given_same : (plans : List DevicePlan) (past : List RawEvent) (e : RawEvent) (given : List (ℕ × Args)) (args : List Args)
-    → args ≡ added plans past e → length args ≡ 0 → reverse given ≡ cooked plans past → reverse given ≡ cooked plans (e ∷ past)
-given_same plans past e given [] are none is =
-    is ∙ ap (λ (xs : List Args). reverse (map (λ (a : Args). (max (latest (cooked plans past)) e.moment, a)) xs) ++ cooked plans past) are
-given_same plans past e given (a ∷ args) are none is = absurd (omega (arith, none))
-
 -- the moment of the newest args after an event
 pub latest_after : (plans : List DevicePlan) (past : List RawEvent) (e : RawEvent) (args : List Args) (before m : ℕ) → args ≡ added plans past e
     → before ≡ latest (cooked plans past) → m ≡ (if nat_eq (length args) 0 then before else max before e.moment) → m ≡ latest (cooked plans (e ∷ past))
@@ -134,18 +127,16 @@ latest_after plans past e (a ∷ args) before m are late is =
     ∙ ap (λ (xs : List Args). latest (reverse (map (λ (b : Args). (max (latest (cooked plans past)) e.moment, b)) xs) ++ cooked plans past)) are
 
 -- all args after an event
-pub given_after : (plans : List DevicePlan) (past : List RawEvent) (e : RawEvent) (given : List (ℕ × Args)) (args : List Args) (m : ℕ)
-    → args ≡ added plans past e → m ≡ latest (cooked plans (e ∷ past)) → reverse given ≡ cooked plans past
-    → reverse (given ++ map (λ (a : Args). (m, a)) args) ≡ cooked plans (e ∷ past)
-given_after plans past e given [] m are at is = reverse-append given [] ∙ given_same plans past e given [] are refl is
-given_after plans past e given (a ∷ args) m are at is =
+pub given_now : (plans : List DevicePlan) (past : List RawEvent) (e : RawEvent) (args : List Args) (m : ℕ)
+    → args ≡ added plans past e → m ≡ latest (cooked plans (e ∷ past)) → cooked plans (e ∷ past) ≡ reverse (map (λ (a : Args). (m, a)) args) ++ cooked plans past
+given_now plans past e [] m are at =
+    ap (λ (xs : List Args). reverse (map (λ (b : Args). (max (latest (cooked plans past)) e.moment, b)) xs) ++ cooked plans past) (sym are)
+given_now plans past e (a ∷ args) m are at =
     let top : max (latest (cooked plans past)) e.moment ≡ latest (cooked plans (e ∷ past)) =
     latest_args (max (latest (cooked plans past)) e.moment) (a ∷ args) (cooked plans past) (omega arith)
     ∙ ap (λ (xs : List Args). latest (reverse (map (λ (b : Args). (max (latest (cooked plans past)) e.moment, b)) xs) ++ cooked plans past)) are in
-    reverse-append given (map (λ (b : Args). (m, b)) (a ∷ args))
-    ∙ ap (λ xs. reverse (map (λ (b : Args). (m, b)) (a ∷ args)) ++ xs) is
-    ∙ ap (λ n. reverse (map (λ (b : Args). (n, b)) (a ∷ args)) ++ cooked plans past) (at ∙ sym top)
-    ∙ ap (λ (xs : List Args). reverse (map (λ (b : Args). (max (latest (cooked plans past)) e.moment, b)) xs) ++ cooked plans past) are
+    ap (λ (xs : List Args). reverse (map (λ (b : Args). (max (latest (cooked plans past)) e.moment, b)) xs) ++ cooked plans past) (sym are)
+    ∙ ap (λ n. reverse (map (λ (b : Args). (n, b)) (a ∷ args)) ++ cooked plans past) (top ∙ sym at)
 
 take_one : (es : List RawEvent) (i : ℕ) (e : RawEvent) → i < length es → e ≡ get_or es i e → take (i + 1) es ≡ take i es ++ e ∷ []
 take_one es i e lt is = ap (λ n. take n es) (add-one i) ∙ take-suc es i e lt ∙ ap (λ x. take i es ++ x ∷ []) (sym is)

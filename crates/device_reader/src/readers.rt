@@ -1,5 +1,5 @@
 //! The readers of all devices of a recording.
-ghost use Rattle.std.specs.Prelude.{◌≡◌, ℕ, max, nat_eq, length, List, [], ◌∷◌, IfOk, OnOk, OnErr, if◌then◌else◌};
+ghost use Rattle.std.specs.Prelude.{◌≡◌, ℕ, max, nat_eq, length, List, [], ◌∷◌, ◌++◌, map, reverse, IfOk, OnOk, OnErr, if◌then◌else◌};
 ghost use Rattle.raw_events.specs.declared.event.RawEvent.{RawEvent as Event};
 ghost use Rattle.device_reader.specs.All.{AreNumbered};
 ghost use Rattle.device_reader.specs.Cooked.{DevicePlan};
@@ -48,6 +48,7 @@ impl Readers {
     pub fn take(&mut self, event: RawEvent, args: &mut Vec<Args>) -> Result<Moment, AllocError>
         ensures ok { (plans : List DevicePlan) (past : List Event) → ReadersStandFor plans past self.old → OnOk result (args.new.items ≡ added plans past event) }
         ensures moment { (plans : List DevicePlan) (past : List Event) → ReadersStandFor plans past self.old → IfOk result (λ m. m ≡ latest_of (cooked plans (event ∷ past))) }
+        ensures cooked { (plans : List DevicePlan) (past : List Event) → ReadersStandFor plans past self.old → IfOk result (λ m. cooked plans (event ∷ past) ≡ reverse (map (λ a. (m, a)) args.new.items) ++ cooked plans past) }
         ensures after { (plans : List DevicePlan) (past : List Event) → ReadersStandFor plans past self.old → OnOk result (ReadersStandFor plans (event ∷ past) self.new) }
         ensures err { OnErr result (self.new ≡ self.old) }
         ensures none { OnErr result (args.new.items ≡ []) }

@@ -1,10 +1,11 @@
 -- One event more.
 use Rattle.std.specs.Prelude.{◌≡◌, ℕ, ◌+◌, ◌++◌, List, ◌∷◌, map, reverse, take}
+use Rattle.std.proofs.lemmas.List.{reverse-append}
 use Rattle.std.proofs.Common.{sym, ◌∙◌, ap, subst}
 use Rattle.raw_events.specs.declared.event.RawEvent.{RawEvent}
 use Rattle.input_types.specs.declared.message.Args.{Args}
 use Rattle.device_reader.specs.CookedList.{cooked, ReadersStandFor}
-use Rattle.device_reader.proofs.All.{given_after, taken_more}
+use Rattle.device_reader.proofs.All.{taken_more}
 use Rattle.device_reader.proofs.recording.cook.Goals as goal
 
 pub loop-event-preserved : goal.loop-event-preserved
@@ -19,9 +20,8 @@ loop-event-preserved c =
       all = λ plans h.
           ap (λ (v : List (ℕ × Args)). reverse v) c.in_ok-push_all.ensures
           ∙ ap (λ (xs : List Args). reverse (c.loop-event.given.items ++ map (λ (a : Args). (c.in_ok-moment.moment, a)) xs)) c.deref.ensures.value
-          ∙ given_after plans before e c.loop-event.given.items c.take.new.args.items c.in_ok-moment.moment
-          (c.in_ok-moment.ensures.ok plans before (c.loop-event.invariant.stand plans h))
-          (c.in_ok-moment.ensures.moment plans before (c.loop-event.invariant.stand plans h))
-          (c.loop-event.invariant.all plans h)
+          ∙ reverse-append c.loop-event.given.items (map (λ (a : Args). (c.in_ok-moment.moment, a)) c.take.new.args.items)
+          ∙ ap (λ xs. reverse (map (λ (a : Args). (c.in_ok-moment.moment, a)) c.take.new.args.items) ++ xs) (c.loop-event.invariant.all plans h)
+          ∙ sym (c.in_ok-moment.ensures.cooked plans before (c.loop-event.invariant.stand plans h))
           ∙ ap (λ es. cooked plans es) (sym now);
     }
