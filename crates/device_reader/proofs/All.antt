@@ -1,15 +1,17 @@
 -- The readers of all devices, one event more.
-use Rattle.std.specs.Prelude.{◌≡◌, ◌≢◌, ℕ, zero, suc, ◌+◌, ◌-◌, ◌<◌, ◌⊎◌, max, List, [], ◌∷◌, ◌++◌, length, map, reverse, take, get_or, slice_get, Some, Ok, Err, OnOk}
+use Rattle.std.specs.Prelude.{◌≡◌, ◌≢◌, ℕ, zero, suc, ◌+◌, ◌-◌, ◌<◌, ◌⊎◌, max, nat_eq, Bool, false, List, [], ◌∷◌, ◌++◌, length, map, reverse, take, drop, get_or, slice_get, Some, Ok, Err, OnOk, if◌then◌else◌}
 use Rattle.std.specs.declared.result.Result.{Result}
 use Rattle.std.proofs.Common.{sym, ◌∙◌, ap, subst, refl, arith, set, inl, inr, eq-eqb, ne_eqb, append_assoc, add-one, take-suc}
+use Rattle.std.proofs.Math.Seq.{take-append_seam}
 use Rattle.std.proofs.lemmas.Bool.{cases_eq}
 use Rattle.std.proofs.lemmas.List.{length-set, reverse-append}
 use Rattle.std.proofs.lemmas.Option.{slice_get_past, slice_get_within}
 use Rattle.raw_events.specs.declared.event.RawEvent.{RawEvent}
 use Rattle.input_types.specs.declared.message.Args.{Args}
 use Rattle.device_reader.specs.Reading.{Reading}
-use Rattle.device_reader.specs.Cooked.{TouchPlan, StandsFor}
-use Rattle.device_reader.specs.CookedList.{of_device, added_by, added, latest, cooked, AllStandFor, AreNumbered}
+use Rattle.device_reader.specs.Cooked.{DevicePlan, StandsFor}
+use Rattle.device_reader.specs.All.{AreNumbered}
+use Rattle.device_reader.specs.CookedList.{of_device, added_by, added, latest, cooked, AllStandFor}
 
 get_same : {X : Type 0} (xs : List X) (i : ℕ) (v : X) → i < length xs → slice_get (set xs i v) i ≡ Some v
 get_same [] i v lt = absurd (omega arith)
@@ -48,7 +50,7 @@ pub numbered_set : (readers : List Reading) (i : ℕ) (new : Reading) → AreNum
     → AreNumbered (set readers i new)
 numbered_set readers i new h lt d = λ j r g. numbered_at readers i j new r h lt d (cases_eq j i) g
 
-stand_at : (plans : List TouchPlan) (past : List RawEvent) (readers : List Reading) (e : RawEvent) (i j : ℕ) (plan p : TouchPlan) (new r : Reading)
+stand_at : (plans : List DevicePlan) (past : List RawEvent) (readers : List Reading) (e : RawEvent) (i j : ℕ) (plan p : DevicePlan) (new r : Reading)
     → AllStandFor plans past readers → e.device ≡ i + 1 → i < length readers → slice_get plans i ≡ Some plan
     → StandsFor plan (e ∷ of_device (i + 1) past) new
     → (j ≡ i) ⊎ (j ≢ i) → slice_get plans j ≡ Some p → slice_get (set readers i new) j ≡ Some r → StandsFor p (of_device (j + 1) (e ∷ past)) r
@@ -60,14 +62,14 @@ stand_at plans past readers e i j plan p new r h d lt gp stands (inl same) hp hr
     let there : e ∷ of_device (i + 1) past ≡ of_device (j + 1) (e ∷ past) =
     sym (more_of (i + 1) e past d) ∙ ap (λ k. of_device (k + 1) (e ∷ past)) (sym same) in
     subst (λ (x : Reading). StandsFor p (of_device (j + 1) (e ∷ past)) x) r_is
-    (subst (λ (q : TouchPlan). StandsFor q (of_device (j + 1) (e ∷ past)) new) p_is
+    (subst (λ (q : DevicePlan). StandsFor q (of_device (j + 1) (e ∷ past)) new) p_is
     (subst (λ (es : List RawEvent). StandsFor plan es new) there stands))
 stand_at plans past readers e i j plan p new r h d lt gp stands (inr other) hp hr =
     let elsewhere : e.device ≢ j + 1 = omega (arith, d, other) in
     subst (λ (es : List RawEvent). StandsFor p es r) (sym (none_of (j + 1) e past elsewhere))
     (h.each j p r hp (sym (get_other readers i j new other) ∙ hr))
 
-pub stand_set : (plans : List TouchPlan) (past : List RawEvent) (readers : List Reading) (e : RawEvent) (i : ℕ) (plan : TouchPlan) (new : Reading)
+pub stand_set : (plans : List DevicePlan) (past : List RawEvent) (readers : List Reading) (e : RawEvent) (i : ℕ) (plan : DevicePlan) (new : Reading)
     → AllStandFor plans past readers → e.device ≡ i + 1 → i < length readers → slice_get plans i ≡ Some plan
     → StandsFor plan (e ∷ of_device (i + 1) past) new → AllStandFor plans (e ∷ past) (set readers i new)
 stand_set plans past readers e i plan new h d lt gp stands = record {
@@ -76,7 +78,7 @@ stand_set plans past readers e i plan new h d lt gp stands = record {
 }
 
 -- an event of a device without a reader
-pub stand_past : (plans : List TouchPlan) (past : List RawEvent) (readers : List Reading) (e : RawEvent)
+pub stand_past : (plans : List DevicePlan) (past : List RawEvent) (readers : List Reading) (e : RawEvent)
     → AllStandFor plans past readers → length readers < e.device → AllStandFor plans (e ∷ past) readers
 stand_past plans past readers e h far = record {
   as_many = h.as_many;
@@ -86,7 +88,7 @@ stand_past plans past readers e h far = record {
       subst (λ (es : List RawEvent). StandsFor p es r) (sym (none_of (j + 1) e past elsewhere)) (h.each j p r hp hr);
 }
 
-pub nothing_past : (plans : List TouchPlan) (past : List RawEvent) (readers : List Reading) (e : RawEvent)
+pub nothing_past : (plans : List DevicePlan) (past : List RawEvent) (readers : List Reading) (e : RawEvent)
     → AllStandFor plans past readers → length readers < e.device → added plans past e ≡ []
 nothing_past plans past readers e h far =
     ap (λ o. added_by o past e) (slice_get_past plans (e.device - 1) (omega (arith, far, h.as_many)))
@@ -111,27 +113,30 @@ latest_args m (a ∷ args) given some =
     ∙ ap (λ xs. latest xs) (append_assoc (reverse (map (λ (c : Args). (m, c)) args)) ((m, a) ∷ []) given)
     ∙ latest_push m args a given)
 
--- an event that gives something
-pub given_more : (plans : List TouchPlan) (past : List RawEvent) (e : RawEvent) (given : List (ℕ × Args)) (args : List Args) (before m : ℕ)
-    → args ≡ added plans past e → reverse given ≡ cooked plans past → before ≡ latest (reverse given) → m ≡ max before e.moment
-    → reverse (given ++ map (λ (a : Args). (m, a)) args) ≡ cooked plans (e ∷ past)
-given_more plans past e given args before m are is late at =
-    let moment : m ≡ max (latest (cooked plans past)) e.moment = at ∙ ap (λ n. max n e.moment) (late ∙ ap (λ xs. latest xs) is) in
-    reverse-append given (map (λ (a : Args). (m, a)) args)
-    ∙ ap (λ xs. reverse (map (λ (a : Args). (m, a)) args) ++ xs) is
-    ∙ ap (λ n. reverse (map (λ (a : Args). (n, a)) args) ++ cooked plans past) moment
-    ∙ ap (λ (xs : List Args). reverse (map (λ (a : Args). (max (latest (cooked plans past)) e.moment, a)) xs) ++ cooked plans past) are
+-- the moment of the newest args after an event
+pub latest_after : (plans : List DevicePlan) (past : List RawEvent) (e : RawEvent) (args : List Args) (before m : ℕ) → args ≡ added plans past e
+    → before ≡ latest (cooked plans past) → m ≡ (if nat_eq (length args) 0 then before else max before e.moment) → m ≡ latest (cooked plans (e ∷ past))
+latest_after plans past e [] before m are late is =
+    is ∙ late ∙ ap (λ (xs : List Args). latest (reverse (map (λ (a : Args). (max (latest (cooked plans past)) e.moment, a)) xs) ++ cooked plans past)) are
+latest_after plans past e (a ∷ args) before m are late is =
+    let some : nat_eq (length (a ∷ args)) 0 ≡ false = ne_eqb (length (a ∷ args)) 0 (λ h. omega (arith, h)) in
+    is
+    ∙ ap (λ (t : Bool). if t then before else max before e.moment) some
+    ∙ ap (λ n. max n e.moment) late
+    ∙ latest_args (max (latest (cooked plans past)) e.moment) (a ∷ args) (cooked plans past) (omega arith)
+    ∙ ap (λ (xs : List Args). latest (reverse (map (λ (b : Args). (max (latest (cooked plans past)) e.moment, b)) xs) ++ cooked plans past)) are
 
-pub latest_more : (m : ℕ) (given : List (ℕ × Args)) (args : List Args) → 0 < length args → m ≡ latest (reverse (given ++ map (λ (a : Args). (m, a)) args))
-latest_more m given args some =
-    latest_args m args (reverse given) some ∙ ap (λ xs. latest xs) (sym (reverse-append given (map (λ (a : Args). (m, a)) args)))
-
--- an event that gives nothing
-pub given_same : (plans : List TouchPlan) (past : List RawEvent) (e : RawEvent) (given : List (ℕ × Args)) (args : List Args)
-    → args ≡ added plans past e → length args ≡ 0 → reverse given ≡ cooked plans past → reverse given ≡ cooked plans (e ∷ past)
-given_same plans past e given [] are none is =
-    is ∙ ap (λ (xs : List Args). reverse (map (λ (a : Args). (max (latest (cooked plans past)) e.moment, a)) xs) ++ cooked plans past) are
-given_same plans past e given (a ∷ args) are none is = absurd (omega (arith, none))
+-- all args after an event
+pub given_now : (plans : List DevicePlan) (past : List RawEvent) (e : RawEvent) (args : List Args) (m : ℕ)
+    → args ≡ added plans past e → m ≡ latest (cooked plans (e ∷ past)) → cooked plans (e ∷ past) ≡ reverse (map (λ (a : Args). (m, a)) args) ++ cooked plans past
+given_now plans past e [] m are at =
+    ap (λ (xs : List Args). reverse (map (λ (b : Args). (max (latest (cooked plans past)) e.moment, b)) xs) ++ cooked plans past) (sym are)
+given_now plans past e (a ∷ args) m are at =
+    let top : max (latest (cooked plans past)) e.moment ≡ latest (cooked plans (e ∷ past)) =
+    latest_args (max (latest (cooked plans past)) e.moment) (a ∷ args) (cooked plans past) (omega arith)
+    ∙ ap (λ (xs : List Args). latest (reverse (map (λ (b : Args). (max (latest (cooked plans past)) e.moment, b)) xs) ++ cooked plans past)) are in
+    ap (λ (xs : List Args). reverse (map (λ (b : Args). (max (latest (cooked plans past)) e.moment, b)) xs) ++ cooked plans past) (sym are)
+    ∙ ap (λ n. reverse (map (λ (b : Args). (n, b)) (a ∷ args)) ++ cooked plans past) (top ∙ sym at)
 
 take_one : (es : List RawEvent) (i : ℕ) (e : RawEvent) → i < length es → e ≡ get_or es i e → take (i + 1) es ≡ take i es ++ e ∷ []
 take_one es i e lt is = ap (λ n. take n es) (add-one i) ∙ take-suc es i e lt ∙ ap (λ x. take i es ++ x ∷ []) (sym is)
@@ -147,3 +152,7 @@ numbered_first r d (suc i) s g = absurd (cc)
 -- a single reader is that of device 1
 pub numbered_one : (r : Reading) → r.device ≡ 1 → AreNumbered (r ∷ [])
 numbered_one r d = λ i s g. numbered_first r d i s g
+
+-- a list that was written over one of its length
+pub written : (n : ℕ) (xs ys : List Reading) → n ≡ length xs → take n (xs ++ drop (length xs) ys) ≡ xs
+written n xs ys e = ap (λ k. take k (xs ++ drop (length xs) ys)) e ∙ take-append_seam xs (drop (length xs) ys)

@@ -1,22 +1,23 @@
--- Worked events of a touch device of ten slots, on a display of 1080 by 2400 with as many raw positions, computed. The newest stands first.
-use Rattle.std.specs.Prelude.{◌≡◌, ℕ, ℤ, pos, negsuc, List, [], ◌∷◌, map, refl}
+-- Worked events of a touch device of ten slots, on a display of 1080 by 2400 with as many raw positions, and of a device with keys, computed.
+-- The newest stands first.
+use Rattle.std.specs.Prelude.{◌≡◌, ℕ, ℤ, pos, negsuc, Bool, true, false, List, [], ◌∷◌, ◌++◌, map, refl}
 use Rattle.raw_events.specs.declared.event.RawEvent.{RawEvent}
 use Rattle.input_types.specs.declared.axis.Rotation.TheVariants.{R0}
 use Rattle.input_types.specs.declared.pointer.Pointer.{Pointer}
 use Rattle.input_types.specs.declared.motion.MotionAction.{MotionAction}
 use Rattle.input_types.specs.declared.motion.MotionAction.TheVariants.{Down, Up, Move, PointerDown, PointerUp}
 use Rattle.input_types.specs.declared.message.Args.{Args}
-use Rattle.input_types.specs.declared.message.Args.TheVariants.{Motion as MotionArgs, Reset}
+use Rattle.input_types.specs.declared.message.Args.TheVariants.{Motion as MotionArgs, Key, Reset}
 use Rattle.pointer_ids.specs.PointerIds.{assigned, least_free}
-use Rattle.device_reader.specs.Cooked.{TouchPlan, device_args}
+use Rattle.device_reader.specs.Cooked.{DevicePlan, Touches, Keys, device_args}
 use Rattle.device_reader.specs.CookedList.{cooked}
 
-abbrev phone : TouchPlan
-phone = record {
+abbrev phone : DevicePlan
+phone = Touches (record {
   device = 1;
   slots = 10;
   cook = record { x = record { min = pos 0; max = pos 1079 }; y = record { min = pos 0; max = pos 2399 }; width = 1080; height = 2400; rotation = R0 };
-}
+})
 
 abbrev event : ℕ → ℕ → ℤ → RawEvent
 event kind code value = record { device = 1; moment = 1000; kind = kind; code = code; value = value }
@@ -97,3 +98,27 @@ moments_never_fall = refl
 -- an event of a device without a plan gives nothing
 pub no_such_device : cooked [] (report ∷ tracking (pos 45) ∷ []) ≡ []
 no_such_device = refl
+
+-- ---- a device with volume keys
+
+abbrev remote : DevicePlan
+remote = Keys (record { device = 1; layout = (115, 24) ∷ [] })
+
+abbrev key : ℕ → ℕ → RawEvent
+key scan value = event 1 scan (pos value)
+
+abbrev moved : ℕ → ℕ → Bool → Args
+moved scan code down = Key (record { device = 1; scan = scan; code = code; meta = 0; down = down })
+
+-- a scan code that the layout does not have gives code 0, and the kernel's repeat of a key gives nothing
+pub keys_go_down_and_up : device_args remote (key 999 2 ∷ key 999 1 ∷ key 115 0 ∷ key 115 1 ∷ []) ≡ moved 999 0 true ∷ moved 115 24 false ∷ moved 115 24 true ∷ []
+keys_go_down_and_up = refl
+
+-- after a drop the key is up, and may go down anew once the next SYN_REPORT came
+pub drop_of_a_key : device_args remote (key 115 1 ∷ report ∷ key 115 0 ∷ drop ∷ key 115 1 ∷ []) ≡ moved 115 24 true ∷ Reset 1 ∷ moved 115 24 true ∷ []
+drop_of_a_key = refl
+
+-- a device with keys passes over touch, and a touch device over keys
+pub others_are_passed_over : device_args remote two ++ device_args phone (report ∷ key 115 1 ∷ []) ≡ []
+unfolding assigned least_free
+others_are_passed_over = refl

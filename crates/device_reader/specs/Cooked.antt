@@ -1,15 +1,22 @@
 -- What the dispatcher is given of a device. Events and args stand with the newest first.
-use Rattle.std.specs.Prelude.{◌≡◌, ℕ, List, [], ◌∷◌, ◌++◌, map, reverse, if◌then◌else◌}
+use Rattle.std.specs.Prelude.{◌≡◌, ℕ, List, [], ◌∷◌, ◌++◌, reverse, Option, Some, None, if◌then◌else◌}
 use Rattle.raw_events.specs.declared.event.RawEvent.{RawEvent}
 use Rattle.input_types.specs.declared.pointer.Pointer.{Pointer}
+use Rattle.input_types.specs.declared.key.KeyArgs.{KeyArgs}
 use Rattle.input_types.specs.declared.message.Args.{Args}
-use Rattle.input_types.specs.declared.message.Args.TheVariants.{Motion as MotionArgs, Reset}
+use Rattle.input_types.specs.declared.message.Args.TheVariants.{Key, Reset}
 use Rattle.slot_accumulator.specs.SlotContacts.{StandsFor as SlotsStandFor}
 use Rattle.pointer_ids.specs.PointerIds.{named_after, assigned}
 use Rattle.touch_mapper.specs.Cooking.{Cooking}
-use Rattle.touch_mapper.specs.Gesture.{placed_all, gesture}
+use Rattle.touch_mapper.specs.Gesture.{placed_all, gesture, as_args}
+use Rattle.key_layout.specs.Layout.{Codes}
+use Rattle.key_mapper.specs.Key.{key_of}
+use Rattle.key_mapper.specs.Held.{Held, StandsFor as KeysStandFor}
+use Rattle.device_reader.specs.declared.touch.Touch.{Touch}
+use Rattle.device_reader.specs.declared.reader.Kind.{Kind}
+use Rattle.device_reader.specs.declared.reader.Kind.TheVariants as kinds
 use Rattle.device_reader.specs.Reading.{Reading}
-use Rattle.device_reader.specs.Packets.{is_report, is_drop, is_void, since_drop, packets}
+use Rattle.device_reader.specs.Packets.{is_report, is_drop, is_void, since_drop, packets, is_key, key_event, key_events}
 
 -- a touch device: its number, how many slots it has, and how its positions become pixels
 pub record TouchPlan : Type 0 where
@@ -17,29 +24,73 @@ pub record TouchPlan : Type 0 where
   pub slots : ℕ
   pub cook : Cooking
 
+-- a device with keys: its number, and the key codes of its scan codes
+pub record KeysPlan : Type 0 where
+  pub device : ℕ
+  pub layout : Codes
+
+-- what has to be known of a device to read it
+pub data DevicePlan : Type 0 where
+  Touches : TouchPlan → DevicePlan
+  Keys : KeysPlan → DevicePlan
+
+abbrev pub number_of : DevicePlan → ℕ
+number_of (Touches plan) = plan.device
+number_of (Keys plan) = plan.device
+
 -- the pointers that are down after the last packet of some events without a drop
 abbrev pub pointers_at : TouchPlan → List RawEvent → List Pointer
 pointers_at plan past = placed_all plan.cook (assigned (named_after (packets plan.slots past)))
 
--- What an event adds: nothing where it is void; a Reset where it is a drop; where it ends a packet the motions from the packet before
--- to this one; and else nothing. These stand in their order.
-abbrev pub args_of : TouchPlan → List RawEvent → RawEvent → List Args
+-- what an event of a touch device adds after events without a drop: the motions from the packet before to the one that it ends, in their order
+abbrev pub touch_args : TouchPlan → List RawEvent → RawEvent → List Args
+touch_args plan past e = if is_report e then as_args (gesture plan.device (pointers_at plan past) (pointers_at plan (e ∷ past))) else []
+
+abbrev pub key_list : Option KeyArgs → List Args
+key_list None = []
+key_list (Some k) = Key k ∷ []
+
+-- what an event of a keys device adds after events without a drop: the key that it moves, at once and not when its packet ends
+abbrev pub key_args : KeysPlan → List RawEvent → RawEvent → List Args
+key_args plan past e = if is_key e then key_list (key_of plan.device plan.layout (key_events past) (key_event e)) else []
+
+abbrev pub given : DevicePlan → List RawEvent → RawEvent → List Args
+given (Touches plan) past e = touch_args plan past e
+given (Keys plan) past e = key_args plan past e
+
+-- What an event adds: nothing where it is void, a Reset where it is a drop, and else what it gives after the events since the last drop.
+abbrev pub args_of : DevicePlan → List RawEvent → RawEvent → List Args
 args_of plan past e =
     if is_void past then []
-    else if is_drop e then Reset plan.device ∷ []
-    else if is_report e then map (λ m. MotionArgs m) (gesture plan.device (pointers_at plan (since_drop past)) (pointers_at plan (e ∷ since_drop past)))
-    else []
+    else if is_drop e then Reset (number_of plan) ∷ []
+    else given plan (since_drop past) e
 
 -- all that a device gave, the newest first
-abbrev pub device_args : TouchPlan → List RawEvent → List Args
+abbrev pub device_args : DevicePlan → List RawEvent → List Args
 device_args plan [] = []
 device_args plan (e ∷ past) = reverse (args_of plan past e) ++ device_args plan past
 
+-- what is known of a touch device stands for some events without a drop
+pub record TouchStandsFor (plan : TouchPlan) (past : List RawEvent) (t : Touch) : Type 0 where
+  pub slots_stand : SlotsStandFor past t.slots
+  pub slots_are : t.slots.slots ≡ plan.slots
+  pub ids_are : t.ids ≡ named_after (packets plan.slots past)
+  pub gestures_are : t.gestures ≡ record { device = plan.device; cook = plan.cook; last = pointers_at plan past }
+
+-- what is known of a device with keys does
+pub record HeldStandsFor (plan : KeysPlan) (past : List RawEvent) (k : Held) : Type 0 where
+  pub device_is : k.device ≡ plan.device
+  pub layout_is : k.layout ≡ plan.layout
+  pub keys_stand : KeysStandFor (key_events past) k
+
+abbrev pub KindStandsFor : DevicePlan → List RawEvent → Kind → Type 0
+KindStandsFor (Touches plan) past (kinds.Touch t) = TouchStandsFor plan past t
+KindStandsFor (Keys plan) past (kinds.Keys k) = HeldStandsFor plan past k
+KindStandsFor (Touches plan) past (kinds.Keys k) = ⊥
+KindStandsFor (Keys plan) past (kinds.Touch t) = ⊥
+
 -- a reader is where it has to be after a list of the device's events
-pub record StandsFor (plan : TouchPlan) (past : List RawEvent) (r : Reading) : Type 0 where
-  pub device_is : r.device ≡ plan.device
+pub record StandsFor (plan : DevicePlan) (past : List RawEvent) (r : Reading) : Type 0 where
+  pub device_is : r.device ≡ number_of plan
   pub void_is : r.void ≡ is_void past
-  pub slots_stand : SlotsStandFor (since_drop past) r.slots
-  pub slots_are : r.slots.slots ≡ plan.slots
-  pub ids_are : r.ids ≡ named_after (packets plan.slots (since_drop past))
-  pub gestures_are : r.gestures ≡ record { device = plan.device; cook = plan.cook; last = pointers_at plan (since_drop past) }
+  pub kind_stands : KindStandsFor plan (since_drop past) r.kind

@@ -1,5 +1,6 @@
-pub mod Reading
 pub mod Packets
+pub mod Reading
+pub mod All
 pub mod Cooked
-pub mod Rule
 pub mod CookedList
+pub mod Rule

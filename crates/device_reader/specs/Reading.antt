@@ -1,13 +1,9 @@
--- What contracts see of a device's reader.
-use Rattle.std.specs.Prelude.{ℕ, Bool, List}
-use Rattle.slot_accumulator.specs.Table.{Table}
-use Rattle.pointer_ids.specs.declared.named.Named.{Named}
-use Rattle.touch_mapper.specs.GestureState.{GestureState}
+-- What contracts see of the readers of devices.
+use Rattle.std.specs.Prelude.{ℕ, Bool}
+use Rattle.device_reader.specs.declared.reader.Kind.{Kind}
 
--- its number, its slots, the contacts of its last packet with their ids, its gestures, and whether it passes over what comes
+-- the device's number, whether what comes is passed over, and what is known of it by its kind
 pub record Reading : Type 0 where
   pub device : ℕ
-  pub slots : Table
-  pub ids : List Named
-  pub gestures : GestureState
   pub void : Bool
+  pub kind : Kind

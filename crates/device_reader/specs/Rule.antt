@@ -1,26 +1,32 @@
--- All that a touch device gives keeps the rule for devices.
-use Rattle.std.specs.Prelude.{◌≡◌, ℕ, zero, suc, ◌<◌, Bool, true, false, nat_eq, List, [], ◌∷◌, ◌++◌, length, map, reverse, find, Option, Some, None, if◌then◌else◌}
+-- All that a device gives keeps the rule for devices.
+use Rattle.std.specs.Prelude.{◌≡◌, ℕ, zero, suc, ◌<◌, Bool, true, false, not, ◌&&◌, ◌||◌, nat_eq, ℤ, pos, List, [], ◌∷◌, ◌++◌, length, map, reverse, find, Option, Some, None, if◌then◌else◌}
 use Rattle.std.specs.Option.{option_and_then}
+use Rattle.std.specs.Cmp.{Equal-is}
+use Rattle.std.specs.Ordering.{int_eq, int_cmp}
 use Rattle.std.proofs.Common.{sym, ◌∙◌, ap, subst, refl, arith, append_assoc, eq-eqb}
 use Rattle.std.proofs.lemmas.List.{reverse-append}
 use Rattle.std.proofs.lemmas.Bool.{eqb-true}
+use Rattle.std.proofs.lemmas.Map.Lookups.{exact_signed}
 use Rattle.raw_events.specs.declared.event.RawEvent.{RawEvent}
 use Rattle.input_types.specs.declared.pointer.Pointer.{Pointer}
 use Rattle.input_types.specs.declared.motion.Motion.{Motion}
 use Rattle.input_types.specs.declared.motion.MotionAction.TheVariants.{Down, Up, Move, PointerDown, PointerUp}
+use Rattle.input_types.specs.declared.key.KeyArgs.{KeyArgs}
 use Rattle.input_types.specs.declared.message.Args.{Args}
-use Rattle.input_types.specs.declared.message.Args.TheVariants.{Motion as MotionArgs, Reset}
-use Rattle.input_types.specs.Gestures.{ids_of, same_ids, after_motion}
-use Rattle.input_types.specs.DeviceRule.{DeviceState, device_state, is_of_device, nothing_down}
+use Rattle.input_types.specs.declared.message.Args.TheVariants.{Motion as MotionArgs, Key, Reset}
+use Rattle.input_types.specs.Gestures.{ids_of, same_ids, after_motion, differ}
+use Rattle.input_types.specs.DeviceRule.{DeviceState, device_state, is_of_device, nothing_down, with_key}
 use Rattle.pointer_ids.specs.declared.named.Named.{Named}
 use Rattle.pointer_ids.specs.declared.assigned.Held.{Held}
 use Rattle.pointer_ids.specs.PointerIds.{held, joined, by_id, assigned, named_after}
 use Rattle.touch_mapper.specs.Cooking.{Cooking}
 use Rattle.touch_mapper.specs.Rising.{IsAbove, Rises}
-use Rattle.touch_mapper.specs.Gesture.{is_down, moved_all, kept, is_changed, placed, placed_all, up, down, motion, ups, downs, moves, gesture, after_motions}
+use Rattle.touch_mapper.specs.Gesture.{is_down as is_there, moved_all, kept, is_changed, placed, placed_all, up, down, motion, ups, downs, moves, gesture, after_motions, as_args}
 use Rattle.touch_mapper.specs.Fits.{gesture_fits}
-use Rattle.device_reader.specs.Packets.{is_report, is_drop, is_void, since_drop, packets}
-use Rattle.device_reader.specs.Cooked.{TouchPlan, pointers_at, device_args}
+use Rattle.key_layout.specs.Layout.{code_at}
+use Rattle.key_mapper.specs.Key.{KeyEvent, is_press, is_release, is_down, changes, key_of, meta_of}
+use Rattle.device_reader.specs.Packets.{is_report, is_drop, is_void, since_drop, packets, is_key, key_event, key_events}
+use Rattle.device_reader.specs.Cooked.{TouchPlan, KeysPlan, DevicePlan, Touches, Keys, number_of, pointers_at, key_list, given, device_args}
 
 -- these pointers are down on a device, and no key
 abbrev pub only : List Pointer → DeviceState
@@ -60,7 +66,7 @@ move_is d ps = record { device = refl; plain = refl; own = refl }
 ups_are : (d : ℕ) (now below rest : List Pointer) → AllOf d (ups d now below rest)
 ups_are d now below [] = tt
 ups_are d now below (p ∷ rest) =
-    elim (is_down p.id now) as (λ b. AllOf d (if b then ups d now (below ++ p ∷ []) rest else up d (length below) (below ++ p ∷ rest) ∷ ups d now below rest)) [
+    elim (is_there p.id now) as (λ b. AllOf d (if b then ups d now (below ++ p ∷ []) rest else up d (length below) (below ++ p ∷ rest) ∷ ups d now below rest)) [
       | true ↦ ups_are d now (below ++ p ∷ []) rest
       | false ↦ (up_is d (length below) (below ++ p ∷ rest), ups_are d now below rest)
     ]
@@ -68,7 +74,7 @@ ups_are d now below (p ∷ rest) =
 downs_are : (d : ℕ) (last below rest : List Pointer) → AllOf d (downs d last below rest)
 downs_are d last below [] = tt
 downs_are d last below (p ∷ rest) =
-    elim (is_down p.id last) as (λ b. AllOf d (if b then downs d last (below ++ p ∷ []) rest else down d (length below) (below ++ p ∷ kept last rest) ∷ downs d last (below ++ p ∷ []) rest)) [
+    elim (is_there p.id last) as (λ b. AllOf d (if b then downs d last (below ++ p ∷ []) rest else down d (length below) (below ++ p ∷ kept last rest) ∷ downs d last (below ++ p ∷ []) rest)) [
       | true ↦ downs_are d last (below ++ p ∷ []) rest
       | false ↦ (down_is d (length below) (below ++ p ∷ kept last rest), downs_are d last (below ++ p ∷ []) rest)
     ]
@@ -181,31 +187,115 @@ reset_state d tail s state = rw (eq-eqb d d refl, state) refl
 no_packet : (slots : ℕ) (e : RawEvent) (past : List RawEvent) → is_report e ≡ false → packets slots (e ∷ past) ≡ packets slots past
 no_packet slots e past h = rw h refl
 
--- the step of one event, by what it is
-event_state : (plan : TouchPlan) (past : List RawEvent) (e : RawEvent) (v d r : Bool) → is_void past ≡ v → is_drop e ≡ d → is_report e ≡ r
-    → device_state plan.device (device_args plan past) ≡ Some (only (pointers_at plan (since_drop past)))
-    → device_state plan.device (reverse
-    (if v then [] else (if d then Reset plan.device ∷ [] else (if r then map (λ m. MotionArgs m) (gesture plan.device (pointers_at plan (since_drop past)) (pointers_at plan (e ∷ since_drop past))) else [])))
-    ++ device_args plan past)
-    ≡ Some (only (pointers_at plan (if v then since_drop past else (if d then [] else e ∷ since_drop past))))
+touch_state : (plan : TouchPlan) (past : List RawEvent) (e : RawEvent) (r : Bool) (tail : List Args) → is_report e ≡ r
+    → device_state plan.device tail ≡ Some (only (pointers_at plan past))
+    → device_state plan.device (reverse (if r then as_args (gesture plan.device (pointers_at plan past) (pointers_at plan (e ∷ past))) else []) ++ tail)
+    ≡ Some (only (pointers_at plan (e ∷ past)))
 unfolding assigned
-event_state plan past e true d r iv id ir before = before
-event_state plan past e false true r iv id ir before = reset_state plan.device (device_args plan past) (only (pointers_at plan (since_drop past))) before
-event_state plan past e false false true iv id ir before =
-    motions_state plan.device (gesture plan.device (pointers_at plan (since_drop past)) (pointers_at plan (e ∷ since_drop past)))
-    (ids_of (pointers_at plan (since_drop past))) (ids_of (pointers_at plan (e ∷ since_drop past))) (device_args plan past)
-    (gesture_is plan.device (pointers_at plan (since_drop past)) (pointers_at plan (e ∷ since_drop past))) before
-    (gesture_fits plan.device (pointers_at plan (since_drop past)) (pointers_at plan (e ∷ since_drop past)) (rises_at plan (since_drop past)) (rises_at plan (e ∷ since_drop past)))
-event_state plan past e false false false iv id ir before =
-    before ∙ ap (λ ps. Some (only (placed_all plan.cook (assigned (named_after ps))))) (sym (no_packet plan.slots e (since_drop past) ir))
+touch_state plan past e true tail ir before =
+    motions_state plan.device (gesture plan.device (pointers_at plan past) (pointers_at plan (e ∷ past))) (ids_of (pointers_at plan past)) (ids_of (pointers_at plan (e ∷ past))) tail
+    (gesture_is plan.device (pointers_at plan past) (pointers_at plan (e ∷ past))) before
+    (gesture_fits plan.device (pointers_at plan past) (pointers_at plan (e ∷ past)) (rises_at plan past) (rises_at plan (e ∷ past)))
+touch_state plan past e false tail ir before =
+    before ∙ ap (λ ps. Some (only (placed_all plan.cook (assigned (named_after ps))))) (sym (no_packet plan.slots e past ir))
 
--- What a device gives keeps the rule for devices, and the ids that are down by that rule are those of the pointers of its last packet
--- since the last drop.
-abbrev pub KeepsRule : TouchPlan → List RawEvent → Type 0
-KeepsRule plan past = device_state plan.device (device_args plan past) ≡ Some (only (pointers_at plan (since_drop past)))
+-- ---- keys
+
+-- these keys are down on a device, and no pointer
+abbrev pub only_keys : List KeyEvent → DeviceState
+only_keys ks = record { ids = []; keys = λ scan. is_down scan ks }
+
+-- a press is no release
+press_alone : (v : ℤ) → int_eq v (pos 1) ≡ true → int_eq v (pos 0) ≡ false
+press_alone v h =
+    let one : v ≡ pos 1 = exact_signed v (pos 1) ((Equal-is (int_cmp v (pos 1))).0 h) in
+    ap (λ w. int_eq w (pos 0)) one
+
+-- a key after an event that changes nothing: t says that it is the event's key, p that this is a press and r a release, d that the event's
+-- key was down
+same_key : (t p r d now : Bool) → (t ≡ true → now ≡ d) → ((p && not d) || (r && d)) ≡ false → now ≡ (if t && (p || r) then p else now)
+same_key false p r d now is h = refl
+same_key true true r true now is h = is refl
+same_key true true r false now is h = absurd (cc)
+same_key true false true d now is h = is refl ∙ h
+same_key true false false d now is h = refl
+
+-- an event that changes something may come
+moves_key : (p r d : Bool) → (p ≡ true → r ≡ false) → ((p && not d) || (r && d)) ≡ true → (differ p d ≡ true) × ((p || r) ≡ true)
+moves_key true true d alone h = absurd (let e : true ≡ false = alone refl in cc)
+moves_key true false true alone h = absurd (cc)
+moves_key true false false alone h = (refl, refl)
+moves_key false true d alone h = (h, refl)
+moves_key false false d alone h = absurd (cc)
+
+moved_key : (t p r now : Bool) → (p || r) ≡ true → (if t then p else now) ≡ (if t && (p || r) then p else now)
+moved_key true p r now h = rw h refl
+moved_key false p r now h = refl
+
+one_key : (d : ℕ) (k : KeyArgs) (keys : ℕ → Bool) (tail : List Args) → k.device ≡ d → device_state d tail ≡ Some (record { ids = []; keys = keys })
+    → differ k.down (keys k.scan) ≡ true → device_state d (Key k ∷ tail) ≡ Some (record { ids = []; keys = with_key keys k.scan k.down })
+one_key d k keys tail is state fits =
+    let here : nat_eq k.device d ≡ true = eq-eqb k.device d is in
+    rw (here, state, fits) refl
+
+key_state : (plan : KeysPlan) (ks : List KeyEvent) (k : KeyEvent) (c : Bool) (tail : List Args) → changes ks k ≡ c
+    → device_state plan.device tail ≡ Some (only_keys ks)
+    → device_state plan.device (reverse (key_list (if c then Some (record { device = plan.device; scan = k.scan; code = code_at plan.layout k.scan; meta = meta_of plan.layout (k ∷ ks); down = is_press k }) else None)) ++ tail)
+    ≡ Some (only_keys (k ∷ ks))
+key_state plan ks k true tail is before =
+    let moves : (differ (is_press k) (is_down k.scan ks) ≡ true) × ((is_press k || is_release k) ≡ true) =
+    moves_key (is_press k) (is_release k) (is_down k.scan ks) (λ h. press_alone k.value h) is in
+    one_key plan.device (record { device = plan.device; scan = k.scan; code = code_at plan.layout k.scan; meta = meta_of plan.layout (k ∷ ks); down = is_press k })
+    (λ scan. is_down scan ks) tail refl before moves.0
+    ∙ (λ i. Some (record { ids = []; keys = λ scan. moved_key (nat_eq scan k.scan) (is_press k) (is_release k) (is_down scan ks) moves.1 i }))
+key_state plan ks k false tail is before =
+    before
+    ∙ (λ i. Some (record {
+      ids = [];
+      keys = λ scan. same_key (nat_eq scan k.scan) (is_press k) (is_release k) (is_down k.scan ks) (is_down scan ks) (λ t. ap (λ s. is_down s ks) (eqb-true scan k.scan t)) is i;
+    }))
+
+keys_state : (plan : KeysPlan) (past : List RawEvent) (e : RawEvent) (t : Bool) (tail : List Args) → is_key e ≡ t
+    → device_state plan.device tail ≡ Some (only_keys (key_events past))
+    → device_state plan.device (reverse (if t then key_list (key_of plan.device plan.layout (key_events past) (key_event e)) else []) ++ tail)
+    ≡ Some (only_keys (if t then key_event e ∷ key_events past else key_events past))
+keys_state plan past e true tail is before =
+    key_state plan (key_events past) (key_event e) (changes (key_events past) (key_event e)) tail refl before
+keys_state plan past e false tail is before = before
+
+-- ---- events one after the other
+
+-- what is down on a device after some events without a drop
+abbrev pub down_at : DevicePlan → List RawEvent → DeviceState
+down_at (Touches plan) past = only (pointers_at plan past)
+down_at (Keys plan) past = only_keys (key_events past)
+
+given_state : (plan : DevicePlan) (past : List RawEvent) (e : RawEvent) (tail : List Args) → device_state (number_of plan) tail ≡ Some (down_at plan past)
+    → device_state (number_of plan) (reverse (given plan past e) ++ tail) ≡ Some (down_at plan (e ∷ past))
+given_state (Touches plan) past e tail before = touch_state plan past e (is_report e) tail refl before
+given_state (Keys plan) past e tail before = keys_state plan past e (is_key e) tail refl before
+
+none_down : (plan : DevicePlan) → nothing_down ≡ down_at plan []
+unfolding assigned
+none_down (Touches plan) = refl
+none_down (Keys plan) = refl
+
+-- the step of one event, by what it is
+event_state : (plan : DevicePlan) (past : List RawEvent) (e : RawEvent) (v d : Bool)
+    → device_state (number_of plan) (device_args plan past) ≡ Some (down_at plan (since_drop past))
+    → device_state (number_of plan) (reverse (if v then [] else (if d then Reset (number_of plan) ∷ [] else given plan (since_drop past) e)) ++ device_args plan past)
+    ≡ Some (down_at plan (if v then since_drop past else (if d then [] else e ∷ since_drop past)))
+event_state plan past e true d before = before
+event_state plan past e false true before =
+    reset_state (number_of plan) (device_args plan past) (down_at plan (since_drop past)) before ∙ ap (λ s. Some s) (none_down plan)
+event_state plan past e false false before = given_state plan (since_drop past) e (device_args plan past) before
+
+-- What a device gives keeps the rule for devices, and what is down by that rule is what is down after its events since the last drop: the
+-- pointers of its last packet, or its keys whose last press has no release behind it.
+abbrev pub KeepsRule : DevicePlan → List RawEvent → Type 0
+KeepsRule plan past = device_state (number_of plan) (device_args plan past) ≡ Some (down_at plan (since_drop past))
 
 -- it does, whatever the device sends
-pub args_fit : (plan : TouchPlan) (past : List RawEvent) → KeepsRule plan past
-unfolding assigned
-args_fit plan [] = refl
-args_fit plan (e ∷ past) = event_state plan past e (is_void past) (is_drop e) (is_report e) refl refl refl (args_fit plan past)
+pub args_fit : (plan : DevicePlan) (past : List RawEvent) → KeepsRule plan past
+args_fit plan [] = ap (λ s. Some s) (none_down plan)
+args_fit plan (e ∷ past) = event_state plan past e (is_void past) (is_drop e) (args_fit plan past)

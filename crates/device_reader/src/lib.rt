@@ -1,4 +1,4 @@
-//! From the raw events of one device to what the dispatcher takes of it.
+//! From the raw events of devices to what the dispatcher takes of them.
 //!
 //! The events of a touch device come in packets, each ended by a SYN_REPORT. The packet
 //!
@@ -6,12 +6,20 @@
 //! ABS_MT_TRACKING_ID 45, ABS_MT_POSITION_X 540, ABS_MT_POSITION_Y 1200, SYN_REPORT
 //! ```
 //!
-//! gives a motion `Down` of pointer 0 at (540, 1200). At a SYN_DROPPED, by which the kernel says that events were lost, the device
-//! gives a `Reset`, all that was known of it is forgotten, and what comes up to the next SYN_REPORT is passed over.
+//! gives a motion `Down` of pointer 0 at (540, 1200). A key of a device with keys waits for no SYN_REPORT: with the layout line
+//! `key 115 VOLUME_UP` an EV_KEY of code 115 and value 1 gives at once that key 24 goes down. At a SYN_DROPPED, by which the kernel
+//! says that events were lost, the device gives a `Reset`, all that was known of it is forgotten, and what comes up to the next
+//! SYN_REPORT is passed over.
+//!
+//! `Readers` has the readers of all devices of a recording and takes one event at a time; `cook` takes a whole recording.
 #![tactic(auto)]
 
+mod packets;
 mod reader;
+mod readers;
 mod recording;
+mod touch;
 
 pub use reader::DeviceReader;
+pub use readers::Readers;
 pub use recording::cook;

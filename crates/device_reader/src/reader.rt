@@ -1,28 +1,34 @@
 //! One device's reader.
-ghost use Rattle.std.specs.Prelude.{◌≡◌, ℕ, ◌≤◌, List, [], ◌∷◌, map, IfOk, OnOk, OnErr};
+ghost use Rattle.std.specs.Prelude.{◌≡◌, ℕ, ◌≤◌, List, [], ◌∷◌, ◌++◌, OnOk, OnErr};
 ghost use Rattle.raw_events.specs.declared.event.RawEvent.{RawEvent as Event};
-ghost use Rattle.input_types.specs.declared.message.Args.TheVariants.{Motion as MotionArgs, Reset};
-ghost use Rattle.device_reader.specs.Packets.{is_report as ends_packet, is_drop as drops};
-ghost use Rattle.device_reader.specs.Cooked.{TouchPlan, args_of, StandsFor};
+ghost use Rattle.key_mapper.specs.Held.{Held};
+ghost use Rattle.device_reader.specs.Cooked.{DevicePlan, HeldStandsFor, Keys as KeysDevice, KeysPlan, KindStandsFor, StandsFor, Touches, args_of, given, key_args};
 ghost use Rattle.device_reader.specs.Rule.{KeepsRule};
 
-use input_types::{Args, DeviceId, Motion};
-use pointer_ids::Ids;
+use crate::packets::{is_drop, is_report};
+use crate::touch::Touch;
+use input_types::{Args, DeviceId};
+use key_layout::Layout;
+use key_mapper::Keys;
 use raw_events::RawEvent;
-use raw_events::codes::{EV_SYN, SYN_DROPPED, SYN_REPORT};
-use slot_accumulator::Slots;
+use raw_events::codes::EV_KEY;
 use std::alloc::{AllocError, Global};
 use std::marker::Model;
-use touch_mapper::{Cook, Gestures};
+use touch_mapper::Cook;
 
-/// The reader of one touch device. It takes no memory of its own.
+/// What is known of a device.
+#[derive(Drop)]
+enum Kind {
+    Touch(Touch),
+    Keys(Keys),
+}
+
+/// The reader of one device, with touch or with keys.
 #[derive(Drop)]
 pub struct DeviceReader {
     device: DeviceId,
-    slots: Slots,
-    ids: Ids,
-    gestures: Gestures,
     void: bool,
+    kind: Kind,
 }
 
 impl Model for DeviceReader {
@@ -30,106 +36,119 @@ impl Model for DeviceReader {
 
     ghost Value = { Reading };
 
-    ghost view = { λ r. record { device = r.device; slots = r.slots; ids = r.ids; gestures = r.gestures; void = r.void } };
+    ghost view = { λ r. record { device = r.device; void = r.void; kind = r.kind } };
 }
 
 impl DeviceReader {
-    /// The reader of a touch device with so many slots, whose positions become pixels by `cook`.
+    /// The reader of a touch device with so many slots, whose positions become pixels by `cook`. It takes no memory.
     ///
     /// Whatever the device sends, all that it gives keeps the rule for devices, and the ids that are down by that rule are those of
     /// its last packet since the last SYN_DROPPED.
     pub fn touch(device: DeviceId, slots: u8, cook: Cook) -> DeviceReader
         requires { (1 ≤ slots) × (slots ≤ 16) }
-        ensures state { StandsFor (record { device = device; slots = slots; cook = cook }) [] result }
+        ensures state { StandsFor (Touches (record { device = device; slots = slots; cook = cook })) [] result }
         ensures device { result.device ≡ device }
-        ensures rule { (past : List Event) → KeepsRule (record { device = device; slots = slots; cook = cook }) past }
+        ensures rule { (past : List Event) → KeepsRule (Touches (record { device = device; slots = slots; cook = cook })) past }
     {
         DeviceReader {
             device,
-            slots: Slots::new(slots),
-            ids: Ids::new(),
-            gestures: Gestures::new(device, cook),
             void: false,
+            kind: Kind::Touch(Touch::new(device, slots, cook)),
         }
     }
 
-    /// Takes the next event of the device and answers what it adds for the dispatcher.
+    /// The reader of a device with keys, whose layout says which key code each scan code has.
     ///
-    /// A packet ends at a SYN_REPORT and gives its motions. At a SYN_DROPPED the device begins anew, which is a `Reset`; the events
-    /// after it, up to and including the next SYN_REPORT, are passed over, as the kernel's document on event codes asks. Keys of a
-    /// touch device and other events are passed over too. An event that gives nothing takes no memory.
-    pub fn take(&mut self, alloc: Global, event: RawEvent) -> Result<Vec<Args>, AllocError>
+    /// Whatever the device sends, all that it gives keeps the rule for devices: a key goes down only when it is up, and up only when
+    /// it is down. The keys that are down by that rule are those whose last EV_KEY of value 0 or 1 since the last SYN_DROPPED has
+    /// value 1.
+    pub fn keys(alloc: Global, device: DeviceId, layout: Layout) -> DeviceReader
+        ensures state { StandsFor (KeysDevice (record { device = device; layout = layout })) [] result }
+        ensures device { result.device ≡ device }
+        ensures rule { (past : List Event) → KeepsRule (KeysDevice (record { device = device; layout = layout })) past }
+    {
+        DeviceReader {
+            device,
+            void: false,
+            kind: Kind::Keys(Keys::new(alloc, device, layout)),
+        }
+    }
+
+    /// Takes the next event of the device; `args` then holds what it adds for the dispatcher, and nothing after want of memory.
+    ///
+    /// A packet of a touch device ends at a SYN_REPORT and gives its motions. A key of a device with keys is given at its own event, and
+    /// waits for no SYN_REPORT. At a SYN_DROPPED the device begins anew, which is a `Reset`; the events after it, up to and including the
+    /// next SYN_REPORT, are passed over, as the kernel's document on event codes asks. Keys of a touch device, touch of a device with
+    /// keys and other events are passed over too. An event that gives nothing takes no memory but for the room of a key.
+    pub fn take(&mut self, event: RawEvent, args: &mut Vec<Args>) -> Result<(), AllocError>
         requires { event.device ≡ self.old.device }
-        ensures ok { (plan : TouchPlan) (past : List Event) → StandsFor plan past self.old → IfOk result (λ v. v.items ≡ args_of plan past event) }
-        ensures after { (plan : TouchPlan) (past : List Event) → StandsFor plan past self.old → OnOk result (StandsFor plan (event ∷ past) self.new) }
+        ensures ok { (plan : DevicePlan) (past : List Event) → StandsFor plan past self.old → OnOk result (args.new.items ≡ args_of plan past event) }
+        ensures after { (plan : DevicePlan) (past : List Event) → StandsFor plan past self.old → OnOk result (StandsFor plan (event ∷ past) self.new) }
         ensures device { self.new.device ≡ self.old.device }
         ensures err { OnErr result (self.new ≡ self.old) }
+        ensures none { OnErr result (args.new.items ≡ []) }
     {
+        args.clear();
         if self.void {
             self.void = !is_report(&event);
-            return Ok(Vec::new(alloc));
+            return Ok(());
         }
         if is_drop(&event) {
-            let args = reset_args(alloc, self.device)?;
-            self.slots.reset();
-            self.ids.reset();
-            self.gestures.reset();
+            args.push(Args::Reset(self.device))?;
+            reset(&mut self.kind);
             self.void = true;
-            return Ok(args);
+            return Ok(());
         }
-        if !is_report(&event) {
-            self.slots.take(event);
-            return Ok(Vec::new(alloc));
+        match take_given(&mut self.kind, event, args) {
+            Ok(()) => Ok(()),
+            Err(error) => {
+                args.clear();
+                Err(error)
+            }
         }
-        // Copies are worked on until all memory was found.
-        let mut ids = self.ids;
-        let mut gestures = self.gestures;
-        let pointers = ids.assign(&self.slots.contacts());
-        let motions = gestures.next(alloc, &pointers)?;
-        let args = motion_args(alloc, &motions)?;
-        self.slots.take(event);
-        self.ids = ids;
-        self.gestures = gestures;
-        Ok(args)
     }
 }
 
-/// Whether an event ends a packet.
-fn is_report(event: &RawEvent) -> bool
-    ensures { result ≡ ends_packet event.now }
+/// Takes an event that is neither void nor a drop, and gives what it adds.
+fn take_given(kind: &mut Kind, event: RawEvent, args: &mut Vec<Args>) -> Result<(), AllocError>
+    ensures ok { (plan : DevicePlan) (past : List Event) → KindStandsFor plan past kind.old → OnOk result (args.new.items ≡ args.old.items ++ given plan past event) }
+    ensures after { (plan : DevicePlan) (past : List Event) → KindStandsFor plan past kind.old → OnOk result (KindStandsFor plan (event ∷ past) kind.new) }
+    ensures err { OnErr result (kind.new ≡ kind.old) }
 {
-    if event.kind != EV_SYN {
-        return false;
+    match kind {
+        Kind::Touch(touch) => touch.take(event, args),
+        Kind::Keys(keys) => take_key(keys, event, args),
     }
-    event.code == SYN_REPORT
 }
 
-/// Whether an event says that events were lost.
-fn is_drop(event: &RawEvent) -> bool
-    ensures { result ≡ drops event.now }
+/// Takes an event of a device with keys, and gives the key that it moves.
+fn take_key(keys: &mut Keys, event: RawEvent, args: &mut Vec<Args>) -> Result<(), AllocError>
+    ensures ok { (plan : KeysPlan) (past : List Event) → HeldStandsFor plan past keys.old → OnOk result (args.new.items ≡ args.old.items ++ key_args plan past event) }
+    ensures after { (plan : KeysPlan) (past : List Event) → HeldStandsFor plan past keys.old → OnOk result (HeldStandsFor plan (event ∷ past) keys.new) }
+    ensures err { OnErr result (keys.new ≡ keys.old) }
 {
-    if event.kind != EV_SYN {
-        return false;
+    if event.kind != EV_KEY {
+        return Ok(());
     }
-    event.code == SYN_DROPPED
+    // With room for a key nothing fails after the keys changed.
+    args.reserve(1)?;
+    match keys.take(event.code, event.value)? {
+        None => Ok(()),
+        Some(key) => {
+            args.push(Args::Key(key))?;
+            Ok(())
+        }
+    }
 }
 
-fn reset_args(alloc: Global, device: DeviceId) -> Result<Vec<Args>, AllocError>
-    ensures { IfOk result (λ v. v.items ≡ Reset device ∷ []) }
+/// Forgets all that is down.
+fn reset(kind: &mut Kind)
+    ensures { (plan : DevicePlan) (past : List Event) → KindStandsFor plan past kind.old → KindStandsFor plan [] kind.new }
 {
-    let mut args = Vec::new(alloc);
-    args.push(Args::Reset(device))?;
-    Ok(args)
-}
-
-fn motion_args(alloc: Global, motions: &[Motion]) -> Result<Vec<Args>, AllocError>
-    ensures { IfOk result (λ v. v.items ≡ map (λ m. MotionArgs m) motions.now) }
-{
-    let mut args = Vec::new(alloc);
-    for motion in motions {
-        args.push(Args::Motion(*motion))?;
+    match kind {
+        Kind::Touch(touch) => touch.reset(),
+        Kind::Keys(keys) => keys.reset(),
     }
-    Ok(args)
 }
 
 #[cfg(test)]

@@ -1,10 +1,11 @@
 //! The args of a whole recording.
-ghost use Rattle.std.specs.Prelude.{◌≡◌, ℕ, ◌+◌, ◌≤◌, max, List, [], ◌∷◌, ◌++◌, map, reverse, IfOk, OnOk};
-ghost use Rattle.raw_events.specs.declared.event.RawEvent.{RawEvent as Event};
-ghost use Rattle.device_reader.specs.Cooked.{TouchPlan};
-ghost use Rattle.device_reader.specs.CookedList.{added, cooked, AllStandFor, AreNumbered};
+ghost use Rattle.std.specs.Prelude.{◌≡◌, List, [], ◌++◌, map, reverse, IfOk, OnOk};
+ghost use Rattle.device_reader.specs.All.{AreNumbered};
+ghost use Rattle.device_reader.specs.Cooked.{DevicePlan};
+ghost use Rattle.device_reader.specs.CookedList.{cooked, AllStandFor};
 
 use crate::reader::DeviceReader;
+use crate::readers::Readers;
 use input_types::{Args, Moment};
 use raw_events::RawEvent;
 use std::alloc::{AllocError, Global};
@@ -16,59 +17,20 @@ use std::alloc::{AllocError, Global};
 /// a reader gives nothing.
 pub fn cook(
     alloc: Global,
-    mut readers: Vec<DeviceReader>,
+    readers: Vec<DeviceReader>,
     events: &[RawEvent],
 ) -> Result<Vec<(Moment, Args)>, AllocError>
     requires { AreNumbered readers.items }
-    ensures { (plans : List TouchPlan) → AllStandFor plans [] readers.items → IfOk result (λ v. reverse v.items ≡ cooked plans (reverse events.now)) }
+    ensures { (plans : List DevicePlan) → AllStandFor plans [] readers.items → IfOk result (λ v. reverse v.items ≡ cooked plans (reverse events.now)) }
 {
-    cook_all(alloc, &mut readers, events)
-}
-
-fn cook_all(
-    alloc: Global,
-    readers: &mut [DeviceReader],
-    events: &[RawEvent],
-) -> Result<Vec<(Moment, Args)>, AllocError>
-    requires { AreNumbered readers.old }
-    ensures { (plans : List TouchPlan) → AllStandFor plans [] readers.old → IfOk result (λ v. reverse v.items ≡ cooked plans (reverse events.now)) }
-{
+    let mut readers = Readers::new(readers);
     let mut given = Vec::new(alloc);
-    let mut latest = Moment::zero();
+    let mut args = Vec::new(alloc);
     for event in events {
-        let added = take_any(alloc, readers, *event)?;
-        let args = added.as_slice();
-        if !args.is_empty() {
-            latest = later(latest, event.moment);
-            push_all(&mut given, latest, args)?;
-        }
+        let moment = readers.take(*event, &mut args)?;
+        push_all(&mut given, moment, &args)?;
     }
     Ok(given)
-}
-
-/// What an event adds, by the reader of its device.
-fn take_any(
-    alloc: Global,
-    readers: &mut [DeviceReader],
-    event: RawEvent,
-) -> Result<Vec<Args>, AllocError>
-    requires { AreNumbered readers.old }
-    ensures ok { (plans : List TouchPlan) (past : List Event) → AllStandFor plans past readers.old → IfOk result (λ v. v.items ≡ added plans past event) }
-    ensures after { (plans : List TouchPlan) (past : List Event) → AllStandFor plans past readers.old → OnOk result (AllStandFor plans (event ∷ past) readers.new) }
-    ensures numbered { AreNumbered readers.new }
-{
-    let i = usize::from(event.device.get() - 1);
-    if i < readers.len() {
-        readers[i].take(alloc, event)
-    } else {
-        Ok(Vec::new(alloc))
-    }
-}
-
-fn later(a: Moment, b: Moment) -> Moment
-    ensures { result ≡ max a b }
-{
-    if a.get() < b.get() { b } else { a }
 }
 
 fn push_all(

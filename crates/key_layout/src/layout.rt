@@ -4,7 +4,7 @@ ghost use Rattle.std.specs.Prelude.{◌≡◌};
 use crate::error::LayoutError;
 use crate::line::{Line, line_said};
 use crate::text::next_line;
-use std::alloc::Global;
+use std::alloc::{AllocError, Global};
 use std::collections::BTreeMap;
 use std::marker::Model;
 
@@ -75,6 +75,17 @@ fn add_line(codes: &mut BTreeMap<u16, u16>, number: u64, line: Line) -> Result<(
         },
         Line::BadLine => Err(LayoutError::BadLine { line: number }),
         Line::BadName => Err(LayoutError::BadName { line: number }),
+    }
+}
+
+impl Clone for Layout {
+    ghost is_clone = { λ l copy. copy ≡ l };
+
+    /// The same layout in memory of its own.
+    fn clone(&self) -> Result<Layout, AllocError> {
+        Ok(Layout {
+            codes: self.codes.clone()?,
+        })
     }
 }
 

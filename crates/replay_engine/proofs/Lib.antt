@@ -1,6 +1,8 @@
+pub mod Added
+pub mod Heard
+pub mod Lines
 pub mod Moved
 pub mod Newest
 pub mod Readers
-pub mod Sections
 pub mod Told
 pub mod Ties

@@ -14,3 +14,4 @@ pub mod Routing
 pub mod Text
 pub mod Verdict
 pub mod Words
+pub mod Written

@@ -1,5 +1,5 @@
 -- The turns of the router in a run, and what each channel is told. Turns stand with the newest first.
-use Rattle.std.specs.Prelude.{ℕ, zero, suc, ◌+◌, ◌-◌, nat_eq, cond, List, [], ◌∷◌, ◌++◌, length, slice_index_or}
+use Rattle.std.specs.Prelude.{ℕ, zero, suc, ◌+◌, nat_eq, cond, List, [], ◌∷◌, ◌++◌, length}
 use Rattle.input_types.specs.declared.axis.Pixel.{Pixel}
 use Rattle.input_types.specs.declared.message.Args.{Args}
 use Rattle.input_types.specs.declared.message.Args.TheVariants.{Motion as MotionArgs, Key, Reset as ResetArgs}
@@ -93,7 +93,3 @@ channels_to (suc n) = mask_with (channels_to n) (suc n)
 -- the turns of a run: those of its steps, and then those of its args
 abbrev pub turns_of : List Step → List (ℕ × Args) → List Timed
 turns_of past args = args_turns (windows_by past) args (step_turns past)
-
--- the stream of a channel in a list of streams, in which channel 1 is the first
-abbrev pub stream_at : List (List Message) → ℕ → List Message
-stream_at streams c = slice_index_or streams (c - 1) []

@@ -1,10 +1,10 @@
 //! From the raw events of all devices to what the router takes.
-ghost use Rattle.std.specs.Prelude.{◌≡◌, ℕ, ◌+◌, ◌-◌, ◌<◌, ◌≤◌, List, [], ◌∷◌, map, max, reverse, length, IfOk, IfSome, OnOk, IsTrue, slice_index_or, Option, None};
+ghost use Rattle.std.specs.Prelude.{◌≡◌, ℕ, ◌+◌, ◌-◌, ◌<◌, ◌≤◌, List, [], ◌∷◌, map, max, length, IfOk, IfSome, OnOk, IsTrue, slice_index_or, Option, None};
 ghost use Rattle.raw_events.specs.declared.event.RawEvent.{RawEvent as EventView};
 ghost use Rattle.device_reader.specs.Cooked.{TouchPlan};
 ghost use Rattle.session_plan.specs.Valid.{IsKind, IsDisplay, IsPlan};
 ghost use Rattle.session_plan.specs.View.{plan_view};
-ghost use Rattle.replay_engine.specs.Cooked.{AllStand, AreNumbered, Stands, added, added_by, cooked, latest as latest_of, of_device, plans_of, touch_plan, with_added};
+ghost use Rattle.replay_engine.specs.Cooked.{AllStand, AreNumbered, Stands, added, added_by, of_device, plans_of, touch_plan};
 
 use device_reader::DeviceReader;
 use input_types::{Args, DeviceId, Moment};
@@ -53,7 +53,7 @@ fn take_one(
 }
 
 /// What the next event adds.
-fn take(
+pub fn take(
     alloc: Global,
     readers: &mut Vec<Option<DeviceReader>>,
     event: &RawEvent,
@@ -80,7 +80,7 @@ pub fn device_number(place: usize) -> DeviceId
 }
 
 /// The readers of all devices, before the first event.
-fn readers_of(alloc: Global, plan: &Plan) -> Result<Vec<Option<DeviceReader>>, AllocError>
+pub fn readers_of(alloc: Global, plan: &Plan) -> Result<Vec<Option<DeviceReader>>, AllocError>
     requires { IsPlan plan.now }
     ensures stand { IfOk result (λ v. AllStand (plans_of (plan_view plan.now)) [] v.items) }
     ensures numbered { IfOk result (λ v. AreNumbered v.items) }
@@ -93,45 +93,8 @@ fn readers_of(alloc: Global, plan: &Plan) -> Result<Vec<Option<DeviceReader>>, A
 }
 
 /// The later one of two moments.
-fn later(a: Moment, b: Moment) -> Moment
+pub fn later(a: Moment, b: Moment) -> Moment
     ensures { result ≡ max a b }
 {
     if a.get() < b.get() { b } else { a }
-}
-
-/// Adds what an event gives, with its moment raised to that of the args before.
-fn add_args(
-    all: &mut Vec<(Moment, Args)>,
-    latest: &mut Moment,
-    moment: Moment,
-    more: &[Args],
-) -> Result<(), AllocError>
-    requires { latest.old ≡ latest_of (reverse all.old.items) }
-    ensures all { OnOk result (reverse all.new.items ≡ with_added moment more.now (reverse all.old.items)) }
-    ensures latest { OnOk result (latest.new ≡ latest_of (reverse all.new.items)) }
-{
-    for args in more {
-        *latest = later(moment, *latest);
-        all.push((*latest, *args))?;
-    }
-    Ok(())
-}
-
-/// What all devices give for the events of a recording, in order, each with its moment.
-pub fn cook(
-    alloc: Global,
-    plan: &Plan,
-    events: &[RawEvent],
-) -> Result<Vec<(Moment, Args)>, AllocError>
-    requires { IsPlan plan.now }
-    ensures { IfOk result (λ v. reverse v.items ≡ cooked (plans_of (plan_view plan.now)) (reverse events.now)) }
-{
-    let mut readers = readers_of(alloc, plan)?;
-    let mut all = Vec::new(alloc);
-    let mut latest = Moment::zero();
-    for event in events {
-        let more = take(alloc, &mut readers, event)?;
-        add_args(&mut all, &mut latest, event.moment, &more)?;
-    }
-    Ok(all)
 }

@@ -6,11 +6,15 @@ ghost use Rattle.window_snapshot.specs.declared.window.Window.{Window as WindowV
 ghost use Rattle.route_plain.specs.State.{fresh};
 ghost use Rattle.session_plan.specs.Valid.{IsPlan};
 ghost use Rattle.session_plan.specs.View.{plan_view};
-ghost use Rattle.replay_engine.specs.Routing.{Timed as TimedView, after_turn, channels_to, corner_of, heard, said_by, state_by, stream_at, stream_by, shown_by, turn_by, turn_of, turns_of};
+ghost use Rattle.replay_engine.specs.Cooked.{cooked, latest as latest_of, plans_of, with_added};
+ghost use Rattle.replay_engine.specs.Routing.{Timed as TimedView, after_turn, args_turns, channels_to, corner_of, heard, said_by, state_by, stream_by, shown_by, turn_by, turn_of, turns_of};
 ghost use Rattle.replay_engine.specs.Following.{Follows};
+ghost use Rattle.replay_engine.specs.Written.{stream_at, written};
 
-use crate::stream::{Stream, from_origin};
+use crate::cooking::{later, readers_of, take};
+use crate::stream::Stream;
 use input_types::{Args, Moment, Pixel};
+use raw_events::RawEvent;
 use route_plain::{Plain, Said, Turn};
 use session_plan::{Act, Plan, Step};
 use std::alloc::{AllocError, Global};
@@ -46,13 +50,13 @@ fn tell(
     said: &Said,
 ) -> Result<(), AllocError>
     ensures len { vec_len streams.new ≡ vec_len streams.old }
-    ensures told { OnOk result ((c : ℕ) → 1 ≤ c → c ≤ vec_len streams.old → stream_at streams.new.items c ≡ heard c moment snapshot.now (stream_at streams.old.items c) (said.now ∷ [])) }
+    ensures told { OnOk result ((c : ℕ) (ms : List MessageView) → 1 ≤ c → c ≤ vec_len streams.old → stream_at streams.old.items c ≡ written ms
+        → stream_at streams.new.items c ≡ written (heard c moment snapshot.now ms (said.now ∷ []))) }
 {
-    let motion = from_origin(corner(snapshot, said.channel), &said.motion);
     let place = said.channel as usize;
     if 1 <= place && place <= streams.len() {
         let stream = &mut streams[place - 1];
-        stream.tell(moment, motion)?;
+        stream.tell(moment, corner(snapshot, said.channel), &said.motion)?;
     }
     Ok(())
 }
@@ -65,7 +69,8 @@ fn tell_all(
     all: &[Said],
 ) -> Result<(), AllocError>
     ensures len { vec_len streams.new ≡ vec_len streams.old }
-    ensures told { OnOk result ((c : ℕ) → 1 ≤ c → c ≤ vec_len streams.old → stream_at streams.new.items c ≡ heard c moment snapshot.now (stream_at streams.old.items c) all.now) }
+    ensures told { OnOk result ((c : ℕ) (ms : List MessageView) → 1 ≤ c → c ≤ vec_len streams.old → stream_at streams.old.items c ≡ written ms
+        → stream_at streams.new.items c ≡ written (heard c moment snapshot.now ms all.now)) }
 {
     for said in all {
         tell(streams, moment, snapshot, said)?;
@@ -139,10 +144,33 @@ fn take_args(
     }
 }
 
+/// Takes the turns of the args that an event gives, at its moment raised to that of the args before.
+fn take_added(
+    router: &mut Plain,
+    streams: &mut Vec<Stream>,
+    latest: &mut Moment,
+    moment: Moment,
+    added: &[Args],
+    shown: &Snapshot,
+    live: u64,
+) -> Result<(), AllocError>
+    ensures len { vec_len streams.new ≡ vec_len streams.old }
+    ensures follows { (before : List (ℕ × ArgsView)) (past : List TimedView) → latest.old ≡ latest_of before
+        → Follows live (args_turns shown.now before past) router.old streams.old.items (vec_len streams.old)
+        → OnOk result ((latest.new ≡ latest_of (with_added moment added.now before))
+        × Follows live (args_turns shown.now (with_added moment added.now before) past) router.new streams.new.items (vec_len streams.new)) }
+{
+    for args in added {
+        *latest = later(moment, *latest);
+        take_args(router, streams, *latest, args, shown, live)?;
+    }
+    Ok(())
+}
+
 /// A stream without messages for each of `count` channels.
 fn empty_streams(alloc: Global, count: usize) -> Result<Vec<Stream>, AllocError>
     ensures len { IfOk result (λ v. vec_len v ≡ count) }
-    ensures empty { IfOk result (λ v. (c : ℕ) → stream_at v.items c ≡ []) }
+    ensures empty { IfOk result (λ v. (c : ℕ) → stream_at v.items c ≡ written []) }
 {
     let mut streams = Vec::new(alloc);
     for _ in 0..count {
@@ -151,16 +179,12 @@ fn empty_streams(alloc: Global, count: usize) -> Result<Vec<Stream>, AllocError>
     Ok(streams)
 }
 
-/// The streams of all channels: the steps of the session are turns, and then the args of the devices are.
-pub fn route(
-    alloc: Global,
-    plan: &Plan,
-    cooked: &[(Moment, Args)],
-) -> Result<Vec<Stream>, AllocError>
+/// The streams of all channels: the steps of the session are turns, and then what the devices give for the events of a recording is.
+pub fn route(alloc: Global, plan: &Plan, events: &[RawEvent]) -> Result<Vec<Stream>, AllocError>
     requires { IsPlan plan.now }
     ensures len { IfOk result (λ v. vec_len v ≡ length plan.now.channels.items) }
     ensures streams { IfOk result (λ v. (c : ℕ) → 1 ≤ c → c ≤ length plan.now.channels.items → stream_at v.items c
-        ≡ stream_by (channels_to (length plan.now.channels.items)) c (turns_of (reverse plan.now.steps.items) (reverse cooked.now))) }
+        ≡ written (stream_by (channels_to (length plan.now.channels.items)) c (turns_of (reverse plan.now.steps.items) (cooked (plans_of (plan_view plan.now)) (reverse events.now))))) }
 {
     let count = plan.channels.as_slice().len();
     let live = all_channels(count);
@@ -171,8 +195,19 @@ pub fn route(
     for step in &plan.steps {
         shown = take_step(&mut router, &mut streams, step, shown, live)?;
     }
-    for (moment, args) in cooked {
-        take_args(&mut router, &mut streams, *moment, args, shown, live)?;
+    let mut readers = readers_of(alloc, plan)?;
+    let mut latest = Moment::zero();
+    for event in events {
+        let added = take(alloc, &mut readers, event)?;
+        take_added(
+            &mut router,
+            &mut streams,
+            &mut latest,
+            event.moment,
+            &added,
+            shown,
+            live,
+        )?;
     }
     Ok(streams)
 }

@@ -1,53 +1,72 @@
 //! What a channel was told.
-ghost use Rattle.std.specs.Prelude.{◌≡◌, ◌∷◌, [], ◌++◌, map, OnOk, OnErr, length};
+ghost use Rattle.std.specs.Prelude.{◌≡◌, ◌∷◌, [], ◌++◌, map, List, OnOk, OnErr, length};
+ghost use Rattle.input_types.specs.declared.message.Message.{Message as MessageView};
 ghost use Rattle.dispatch_history.specs.Said.{motion_from, place_from};
 ghost use Rattle.replay_engine.specs.Routing.{with_message};
+ghost use Rattle.replay_engine.specs.Written.{written};
 
 use input_types::{Body, Message, Moment, Motion, Pixel, Pointer, Pointers};
 use std::alloc::{AllocError, Global};
 use std::marker::Model;
+use stream_text::LineWriter;
 
-/// The messages of a channel, numbered from 1.
+/// The messages of a channel, numbered from 1. Their lines alone are kept, which are far shorter than they are.
 #[derive(Drop)]
 pub struct Stream {
-    messages: Vec<Message>,
+    sent: u64,
+    lines: Vec<u8>,
+    writer: LineWriter,
 }
 
 impl Model for Stream {
-    ghost use Rattle.std.specs.Prelude.{List};
-    ghost use Rattle.input_types.specs.declared.message.Message.{Message as Element};
+    ghost use Rattle.std.specs.Prelude.{◌≤◌, length};
+    ghost use Rattle.replay_engine.specs.Written.{Written};
 
-    ghost Value = { List Element };
+    ghost Value = { Written };
 
-    ghost view = { λ s. s.messages.items };
+    ghost view = { λ s. record { sent = s.sent; lines = s.lines.items } };
+
+    ghost invariant = { λ s. s.sent ≤ length s.lines.items };
 }
 
 impl Stream {
     pub fn new(alloc: Global) -> Stream
-        ensures { result ≡ [] }
+        ensures { result ≡ written [] }
     {
         Stream {
-            messages: Vec::new(alloc),
+            sent: 0,
+            lines: Vec::new(alloc),
+            writer: LineWriter::new(alloc),
         }
     }
 
-    pub fn messages(&self) -> &[Message]
-        ensures { result.now ≡ self.now }
+    /// How many messages there are.
+    pub fn sent(&self) -> u64
+        ensures { result ≡ self.now.sent }
     {
-        &self.messages
+        self.sent
     }
 
-    /// One message more.
-    pub fn tell(&mut self, moment: Moment, motion: Motion) -> Result<(), AllocError>
-        ensures ok { OnOk result (self.new ≡ with_message self.old moment motion) }
+    /// The lines of the messages.
+    pub fn lines(&self) -> &[u8]
+        ensures { result.now ≡ self.now.lines }
+    {
+        &self.lines
+    }
+
+    /// One message more: a motion with its places counted from the corner of the window.
+    pub fn tell(&mut self, moment: Moment, corner: Pixel, motion: &Motion) -> Result<(), AllocError>
+        ensures ok { (ms : List MessageView) → self.old ≡ written ms → OnOk result (self.new ≡ written (with_message ms moment (motion_from corner motion.now))) }
         ensures err { OnErr result (self.new ≡ self.old) }
     {
-        let seq = self.messages.len() as u64 + 1;
-        self.messages.push(Message {
+        let seq = self.sent + 1;
+        let message = Message {
             seq,
             moment,
-            body: Body::Motion(motion),
-        })?;
+            body: Body::Motion(from_origin(corner, motion)),
+        };
+        self.writer.message(&message, &mut self.lines)?;
+        self.sent = seq;
         Ok(())
     }
 }
@@ -78,7 +97,7 @@ fn pointers_from(origin: Pixel, pointers: &Pointers) -> Pointers
 }
 
 /// A motion with its places counted from an origin.
-pub fn from_origin(origin: Pixel, motion: &Motion) -> Motion
+fn from_origin(origin: Pixel, motion: &Motion) -> Motion
     ensures { result ≡ motion_from origin motion.now }
 {
     Motion {

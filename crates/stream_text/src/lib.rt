@@ -29,7 +29,7 @@ pub use message::{LineWriter, message_text};
 pub use order::{Order, order_text};
 pub use order_error::OrderError;
 pub use order_line::OrderLine;
-pub use section::{channel_text, naming_text};
+pub use section::{channel_line_text, channel_text, end_line_text, naming_text};
 pub use stream_error::StreamError;
 pub use stream_file::{StreamChannel, StreamFile, StreamReader};
 pub use stream_line::StreamLine;

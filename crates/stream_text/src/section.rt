@@ -65,6 +65,33 @@ pub fn channel_text(
     out.extend_from_slice(&text)
 }
 
+/// Appends the first line of a channel's section: its number and name. After want of memory `out` is as before.
+pub fn channel_line_text(id: u32, name: &str, out: &mut Vec<u8>) -> Result<(), AllocError>
+    ensures ok { OnOk result (out.new.items ≡ out.old.items ++ channel_line id name.now) }
+    ensures err { OnErr result (out.new.items ≡ out.old.items) }
+{
+    let mut text = Vec::new(*out.allocator());
+    add_channel(&mut text, id, name)?;
+    out.extend_from_slice(&text)
+}
+
+/// Appends the last line of a channel's section: how many messages were sent, received and finished. After want of memory `out` is as
+/// before.
+pub fn end_line_text(
+    id: u32,
+    sent: u64,
+    received: u64,
+    finished: u64,
+    out: &mut Vec<u8>,
+) -> Result<(), AllocError>
+    ensures ok { OnOk result (out.new.items ≡ out.old.items ++ end_line id sent received finished) }
+    ensures err { OnErr result (out.new.items ≡ out.old.items) }
+{
+    let mut text = Vec::new(*out.allocator());
+    add_end(&mut text, id, sent, received, finished)?;
+    out.extend_from_slice(&text)
+}
+
 /// Appends the line of a naming: at `clock` the channel was named unresponsive for its message `seq`. After want of memory `out` is as
 /// before.
 pub fn naming_text(

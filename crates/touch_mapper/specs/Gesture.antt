@@ -7,6 +7,8 @@ use Rattle.input_types.specs.declared.pointer.Pointer.{Pointer}
 use Rattle.input_types.specs.declared.motion.Motion.{Motion}
 use Rattle.input_types.specs.declared.motion.MotionAction.{MotionAction}
 use Rattle.input_types.specs.declared.motion.MotionAction.TheVariants.{Down, Up, Move, PointerDown, PointerUp}
+use Rattle.input_types.specs.declared.message.Args.{Args}
+use Rattle.input_types.specs.declared.message.Args.TheVariants.{Motion as MotionArgs}
 use Rattle.input_types.specs.Gestures.{ids_of, same_ids, after_motion}
 use Rattle.pointer_ids.specs.declared.assigned.Held.{Held}
 use Rattle.touch_mapper.specs.Cooking.{Cooking, pixel}
@@ -86,3 +88,7 @@ gesture d last now =
 abbrev pub after_motions : List ℕ → List Motion → Option (List ℕ)
 after_motions ids [] = Some ids
 after_motions ids (m ∷ ms) = option_and_then (λ next. after_motions next ms) (after_motion ids m)
+
+-- motions as the dispatcher takes them
+abbrev pub as_args : List Motion → List Args
+as_args ms = map (λ m. MotionArgs m) ms

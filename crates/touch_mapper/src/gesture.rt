@@ -1,41 +1,39 @@
 //! The motions between two packets.
-ghost use Rattle.std.specs.Prelude.{◌≡◌, ℕ, ◌<◌, ◌≤◌, [], ◌++◌, length, IfOk, OnOk};
-ghost use Rattle.touch_mapper.specs.Gesture.{gesture as motions_between, motion as motion_of, up as up_of, down as down_of, ups, downs, moves};
+ghost use Rattle.std.specs.Prelude.{◌≡◌, ℕ, ◌<◌, ◌≤◌, [], ◌++◌, length, OnOk};
+ghost use Rattle.touch_mapper.specs.Gesture.{as_args, gesture as motions_between, motion as motion_of, up as up_of, down as down_of, ups, downs, moves};
 
 use crate::lists::{all_moved, append, in_use, is_changed, is_down, joined, joined_kept, same_ids};
-use input_types::{DeviceId, Motion, MotionAction, Pointer, Pointers};
-use std::alloc::{AllocError, Global};
+use input_types::{Args, DeviceId, Motion, MotionAction, Pointer, Pointers};
+use std::alloc::AllocError;
 
-/// The motions between two packets, from the pointers that were down and those that are. Nothing is allocated where there are none.
+/// Adds the motions between two packets, from the pointers that were down and those that are.
 pub fn gesture(
-    alloc: Global,
+    given: &mut Vec<Args>,
     device: DeviceId,
     last: &Pointers,
     now: &Pointers,
-) -> Result<Vec<Motion>, AllocError>
-    ensures { IfOk result (λ v. v.items ≡ motions_between device last.now now.now) }
+) -> Result<(), AllocError>
+    ensures { OnOk result (given.new.items ≡ given.old.items ++ as_args (motions_between device last.now now.now)) }
 {
-    let mut motions = Vec::new(alloc);
     if same_ids(last.as_slice(), now.as_slice()) {
         if !now.is_empty() {
-            motions.push(motion(device, MotionAction::Move, 0, now))?;
+            given.push(Args::Motion(motion(device, MotionAction::Move, 0, now)))?;
         }
-        return Ok(motions);
+        return Ok(());
     }
-    push_ups(&mut motions, device, &all_moved(last, now), now.as_slice())?;
-    push_move(&mut motions, device, last.as_slice(), now)?;
-    push_downs(&mut motions, device, last.as_slice(), now)?;
-    Ok(motions)
+    push_ups(given, device, &all_moved(last, now), now.as_slice())?;
+    push_move(given, device, last.as_slice(), now)?;
+    push_downs(given, device, last.as_slice(), now)
 }
 
 /// The pointers that are gone go up, the lowest id first.
 fn push_ups(
-    motions: &mut Vec<Motion>,
+    given: &mut Vec<Args>,
     device: DeviceId,
     moved: &Pointers,
     now: &[Pointer],
 ) -> Result<(), AllocError>
-    ensures { OnOk result (motions.new.items ≡ motions.old.items ++ ups device now.now [] moved.now) }
+    ensures { OnOk result (given.new.items ≡ given.old.items ++ as_args (ups device now.now [] moved.now)) }
 {
     let pointers = in_use(moved);
     let mut below = Pointers::empty();
@@ -44,7 +42,7 @@ fn push_ups(
             append(&mut below, p);
         } else {
             let all = joined(&below, pointers.split_at(i).1);
-            motions.push(up(device, below.len(), &all))?;
+            given.push(Args::Motion(up(device, below.len(), &all)))?;
         }
     }
     Ok(())
@@ -52,28 +50,28 @@ fn push_ups(
 
 /// Those that stay move, where one has another pixel.
 fn push_move(
-    motions: &mut Vec<Motion>,
+    given: &mut Vec<Args>,
     device: DeviceId,
     last: &[Pointer],
     now: &Pointers,
 ) -> Result<(), AllocError>
-    ensures { OnOk result (motions.new.items ≡ motions.old.items ++ moves device last.now now.now) }
+    ensures { OnOk result (given.new.items ≡ given.old.items ++ as_args (moves device last.now now.now)) }
 {
     if is_changed(last, now.as_slice()) {
         let kept = joined_kept(&Pointers::empty(), in_use(now), last);
-        motions.push(motion(device, MotionAction::Move, 0, &kept))?;
+        given.push(Args::Motion(motion(device, MotionAction::Move, 0, &kept)))?;
     }
     Ok(())
 }
 
 /// The new pointers go down, the lowest id first.
 fn push_downs(
-    motions: &mut Vec<Motion>,
+    given: &mut Vec<Args>,
     device: DeviceId,
     last: &[Pointer],
     now: &Pointers,
 ) -> Result<(), AllocError>
-    ensures { OnOk result (motions.new.items ≡ motions.old.items ++ downs device last.now [] now.now) }
+    ensures { OnOk result (given.new.items ≡ given.old.items ++ as_args (downs device last.now [] now.now)) }
 {
     let pointers = in_use(now);
     let mut below = Pointers::empty();
@@ -82,7 +80,7 @@ fn push_downs(
         append(&mut below, p);
         if !is_down(last, p.id) {
             let all = joined_kept(&below, pointers.split_at(i + 1).1, last);
-            motions.push(down(device, index, &all))?;
+            given.push(Args::Motion(down(device, index, &all)))?;
         }
     }
     Ok(())

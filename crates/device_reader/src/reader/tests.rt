@@ -1,11 +1,14 @@
 ghost use Rattle.std.specs.Prelude.{◌≡◌, IfSome, IfOk};
-ghost use Rattle.device_reader.specs.CookedList.{AreNumbered};
+ghost use Rattle.device_reader.specs.All.{AreNumbered};
 
 use super::*;
 use crate::recording::cook;
-use input_types::{Axis, Moment, MotionAction, Pixel, Pointer, PointerId, Pointers, Rotation};
+use input_types::{
+    Axis, KeyArgs, Moment, Motion, MotionAction, Pixel, Pointer, PointerId, Pointers, Rotation,
+};
 use raw_events::codes::{
-    ABS_MT_POSITION_X, ABS_MT_POSITION_Y, ABS_MT_SLOT, ABS_MT_TRACKING_ID, EV_ABS,
+    ABS_MT_POSITION_X, ABS_MT_POSITION_Y, ABS_MT_SLOT, ABS_MT_TRACKING_ID, EV_ABS, EV_SYN,
+    SYN_DROPPED, SYN_REPORT,
 };
 use std::test::Fail;
 
@@ -30,6 +33,7 @@ fn feed(
     ensures { reader.new.device ≡ reader.old.device }
 {
     let mut given = Vec::new(alloc);
+    let mut args = Vec::new(alloc);
     for (kind, code, value) in events {
         let event = RawEvent {
             device,
@@ -38,9 +42,9 @@ fn feed(
             code: *code,
             value: *value,
         };
-        let args = reader.take(alloc, event)?;
+        reader.take(event, &mut args)?;
         if !args.is_empty() {
-            given = args;
+            given = args.to_vec(alloc)?;
         }
     }
     Ok(given)
@@ -172,5 +176,36 @@ fn moments_never_fall(rt: HostRuntime) -> Result<(), Fail> {
         given[1].1,
         motion(device, MotionAction::Move, 0, &[(0, 0, 0)])
     );
+    Ok(())
+}
+
+fn key(device: DeviceId, scan: u16, code: u16, down: bool) -> Args {
+    Args::Key(KeyArgs {
+        device,
+        scan,
+        code,
+        meta: 0,
+        down,
+    })
+}
+
+#[test]
+fn keys_are_given_at_once_and_forgotten_at_a_drop(rt: HostRuntime) -> Result<(), Fail> {
+    let device = DeviceId::new(1).ok_or("a device")?;
+    let layout = Layout::read(rt.alloc(), "key 115 VOLUME_UP").ok();
+    let layout = layout.ok_or("a layout")?;
+    let mut reader = DeviceReader::keys(rt.alloc(), device, layout);
+    let given = feed(rt.alloc(), &mut reader, device, &[(EV_KEY, 115, 1)])?;
+    assert_eq!(rt; given.as_slice(), [key(device, 115, 24, true)].as_slice());
+    let given = feed(rt.alloc(), &mut reader, device, &[(EV_KEY, 115, 0)])?;
+    assert_eq!(rt; given.as_slice(), [key(device, 115, 24, false)].as_slice());
+    let given = feed(rt.alloc(), &mut reader, device, &[(EV_KEY, 999, 1)])?;
+    assert_eq!(rt; given.as_slice(), [key(device, 999, 0, true)].as_slice());
+    let lost = [(EV_SYN, SYN_DROPPED, 0), REPORT];
+    let given = feed(rt.alloc(), &mut reader, device, &lost)?;
+    assert_eq!(rt; given.as_slice(), [Args::Reset(device)].as_slice());
+    let nothing = [(EV_KEY, 999, 2), (EV_KEY, 999, 0)];
+    let given = feed(rt.alloc(), &mut reader, device, &nothing)?;
+    assert_eq!(rt; given.len(), 0);
     Ok(())
 }

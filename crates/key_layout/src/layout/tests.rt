@@ -36,6 +36,7 @@ fn a_layout_of_some_hundred_lines_is_read(rt: HostRuntime) -> Result<(), Fail> {
     assert_eq!(rt; layout.code_of(115), 24);
     assert_eq!(rt; layout.code_of(116), 0);
     assert_eq!(rt; layout.code_of(701), 29);
+    assert_eq!(rt; layout.clone()?.code_of(97), 114);
     Ok(())
 }
 

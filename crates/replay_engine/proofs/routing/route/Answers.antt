@@ -1,8 +1,9 @@
--- One step more, and some args more.
-use Rattle.std.proofs.Common.{◌≡◌, ◌<◌, ◌∙◌, ap, subst, List, take, take_all, reverse, length, vec_len, get_or, arith}
-use Rattle.window_snapshot.specs.declared.window.Window.{Window}
-use Rattle.replay_engine.specs.Following.{Follows}
-use Rattle.replay_engine.specs.Routing.{args_turns, shown_by, step_turns, stream_by, turn_of, windows_by, channels_to}
+-- One step more, and one event more.
+use Rattle.std.proofs.Common.{◌≡◌, ◌<◌, ◌∙◌, ap, take, take_all, reverse, length, get_or, arith}
+use Rattle.session_plan.specs.View.{plan_view}
+use Rattle.replay_engine.specs.Cooked.{added, cooked, plans_of}
+use Rattle.replay_engine.specs.Routing.{args_turns, channels_to, shown_by, step_turns, stream_by, turns_of}
+use Rattle.replay_engine.specs.Written.{written}
 use Rattle.replay_engine.proofs.Newest.{newest_of_take}
 use Rattle.replay_engine.proofs.routing.route.Goals as goal
 
@@ -18,26 +19,32 @@ loop-step-preserved c =
       follows = rw newest (c.in_ok-shown.ensures.follows _ c.loop-step.invariant.follows);
     }
 
-pub loop-moment-preserved : goal.loop-moment-preserved
-loop-moment-preserved c =
-    let steps = reverse c.args.plan.now.steps.items
-    in let past = args_turns (windows_by steps) (reverse (take c.loop-moment.moment-index c.args.cooked.now)) (step_turns steps)
-    in let item = c.loop-moment-item.result
-    in let newest = newest_of_take c.args.cooked.now c.loop-moment.moment-index item c.loop-moment-test.true c.loop-moment-item.is
-    in let Next : List Window → Type 0 = λ w. Follows c.all_channels-live.result (turn_of w item.0 item.1 past) c.take_args.new.router
-    c.take_args.new.streams.items (vec_len c.take_args.new.streams)
+pub loop-event-preserved : goal.loop-event-preserved
+loop-event-preserved c =
+    let before = c.loop-event.invariant
+    in let plans = plans_of (plan_view c.args.plan.now)
+    in let past = reverse (take c.loop-event.event-index c.args.events.now)
+    in let item = c.event-item.result
+    in let newest = newest_of_take c.args.events.now c.loop-event.event-index item c.loop-event-test.true c.event-item.is
+    in let given : c.deref.result.now ≡ added plans past item = c.deref.ensures.value ∙ c.in_ok-added.ensures.added plans past before.stand
+    in let after = c.in_ok-take_added.ensures.follows (cooked plans past) (step_turns (reverse c.args.plan.now.steps.items)) before.latest before.follows
     in record {
-      len = c.in_ok-take_args.ensures.len ∙ c.loop-moment.invariant.len;
-      shown = c.loop-moment.invariant.shown;
-      follows = rw newest (subst Next c.loop-moment.invariant.shown (c.in_ok-take_args.ensures.follows past c.loop-moment.invariant.follows));
+      len = c.in_ok-take_added.ensures.len ∙ before.len;
+      shown = before.shown;
+      stand = rw newest (c.in_ok-added.ensures.stand plans past before.stand);
+      numbered = c.in_ok-added.ensures.numbered;
+      latest = rw (newest, ← given) after.0;
+      follows = rw (newest, ← given) after.1;
     }
 
 pub returns-clause-streams : goal.returns-clause-streams
 returns-clause-streams c = λ ch low high.
-    let steps = reverse c.args.plan.now.steps.items
-    in let all : take c.loop-moment.moment-index c.args.cooked.now ≡ c.args.cooked.now = take_all c.loop-moment.moment-index c.args.cooked.now (omega (arith, c.loop-moment-test.false))
+    let plans = plans_of (plan_view c.args.plan.now)
+    in let steps = reverse c.args.plan.now.steps.items
+    in let all : take c.loop-event.event-index c.args.events.now ≡ c.args.events.now = take_all c.loop-event.event-index c.args.events.now (omega (arith, c.loop-event-test.false))
     in let live : c.all_channels-live.result ≡ channels_to (length c.args.plan.now.channels.items)
     = c.all_channels-live.ensures ∙ ap (λ xs. channels_to (length xs)) c.as_slice-count.ensures.value
-    in c.loop-moment.invariant.follows.told ch low (rw c.loop-moment.invariant.len high)
-    ∙ ap (λ xs. stream_by c.all_channels-live.result ch (args_turns (windows_by steps) (reverse xs) (step_turns steps))) all
-    ∙ ap (λ m. stream_by m ch (args_turns (windows_by steps) (reverse c.args.cooked.now) (step_turns steps))) live
+    in c.loop-event.invariant.follows.told ch low (rw c.loop-event.invariant.len high)
+    ∙ ap (λ xs. written (stream_by c.all_channels-live.result ch (args_turns c.loop-step.shown.now (cooked plans (reverse xs)) (step_turns steps)))) all
+    ∙ ap (λ w. written (stream_by c.all_channels-live.result ch (args_turns w (cooked plans (reverse c.args.events.now)) (step_turns steps)))) c.loop-event.invariant.shown
+    ∙ ap (λ m. written (stream_by m ch (turns_of steps (cooked plans (reverse c.args.events.now))))) live

@@ -1,4 +1,6 @@
 use Rattle.std.proofs.Common.{◌≡◌, take, reverse, length, vec_len}
+use Rattle.session_plan.specs.View.{plan_view}
+use Rattle.replay_engine.specs.Cooked.{AllStand, AreNumbered, cooked, latest, plans_of}
 use Rattle.replay_engine.specs.Following.{Follows}
 use Rattle.replay_engine.specs.Routing.{args_turns, step_turns, windows_by}
 use Rattle.replay_engine.proofs.routing.route.Given as goal
@@ -12,12 +14,15 @@ invariant-loop-step l =
       follows : Follows l.live (step_turns (reverse (take l.step-index l.plan.steps.items))) l.router l.streams.items (vec_len l.streams);
     }
 
--- the router and the streams are those after all steps and the args so far
-abbrev pub invariant-loop-moment : goal.invariant-loop-moment
-invariant-loop-moment l =
+-- the readers stand for the events so far, and the router and the streams are those after all steps and what these events gave
+abbrev pub invariant-loop-event : goal.invariant-loop-event
+invariant-loop-event l =
     record {
       len : vec_len l.streams ≡ length l.plan.channels.items;
       shown : l.shown ≡ windows_by (reverse l.plan.steps.items);
-      follows : Follows l.live (args_turns (windows_by (reverse l.plan.steps.items)) (reverse (take l.moment-index l.cooked)) (step_turns (reverse l.plan.steps.items)))
+      stand : AllStand (plans_of (plan_view l.plan)) (reverse (take l.event-index l.events)) l.readers.items;
+      numbered : AreNumbered l.readers.items;
+      latest : l.latest ≡ latest (cooked (plans_of (plan_view l.plan)) (reverse (take l.event-index l.events)));
+      follows : Follows l.live (args_turns l.shown (cooked (plans_of (plan_view l.plan)) (reverse (take l.event-index l.events))) (step_turns (reverse l.plan.steps.items)))
           l.router l.streams.items (vec_len l.streams);
     }

@@ -1,6 +1,7 @@
 use Rattle.std.specs.Prelude.{◌≡◌, ◌+◌, [], ◌∷◌, ◌++◌, length, drop}
 use Rattle.std.proofs.Common.{sym, ◌∙◌, ap}
-use Rattle.touch_mapper.specs.Gesture.{kept, down, downs}
+use Rattle.input_types.specs.declared.message.Args.TheVariants.{Motion as MotionArgs}
+use Rattle.touch_mapper.specs.Gesture.{as_args, kept, down, downs}
 use Rattle.touch_mapper.proofs.Rising.{ends_item, walk_push}
 use Rattle.touch_mapper.proofs.Walk.{downs_pass, downs_push}
 use Rattle.touch_mapper.proofs.gesture.push_downs.Goals.{then-not-is_down+in_ok-push, else-not-is_down}
@@ -21,18 +22,18 @@ loop-i-preserved c =
           (w.joined_kept-all.ensures
           ∙ ap (λ xs. xs ++ kept c.args.last.now w.split_at.result.1.now) c.append.ensures
           ∙ ap (λ ys. (c.loop-i.below ++ c.index-pointers-i.result ∷ []) ++ kept c.args.last.now ys) w.split_at.ensures.back) in
-          let pushed : c.if-not-is_down.motions.items ≡ c.loop-i.motions.items ++ w.down.result ∷ [] = ap (λ v. v.items) w.motions-is ∙ w.in_ok-push.ensures.items in
+          let pushed : c.if-not-is_down.given.items ≡ c.loop-i.given.items ++ MotionArgs w.down.result ∷ [] = ap (λ v. v.items) w.given-is ∙ w.in_ok-push.ensures.items in
           rw c.append.ensures
           (record {
-            all = ap (λ ms. ms ++ downs c.args.device c.args.last.now (c.loop-i.below ++ c.index-pointers-i.result ∷ []) (drop (c.loop-i.i + 1) c.in_use-pointers.result.now)) (pushed ∙ ap (λ m. c.loop-i.motions.items ++ m ∷ []) said)
-                ∙ downs_push c.loop-i.motions.items c.args.device c.args.last.now c.loop-i.below c.in_use-pointers.result.now c.loop-i.i c.index-pointers-i.result c.loop-i-test.true c.index-pointers-i.is (sym c.is_down.ensures ∙ w.if-not-is_down.true)
+            all = ap (λ ms. ms ++ as_args (downs c.args.device c.args.last.now (c.loop-i.below ++ c.index-pointers-i.result ∷ []) (drop (c.loop-i.i + 1) c.in_use-pointers.result.now))) (pushed ∙ ap (λ m. c.loop-i.given.items ++ MotionArgs m ∷ []) said)
+                ∙ downs_push c.loop-i.given.items c.args.device c.args.last.now c.loop-i.below c.in_use-pointers.result.now c.loop-i.i c.index-pointers-i.result c.loop-i-test.true c.index-pointers-i.is (sym c.is_down.ensures ∙ w.if-not-is_down.true)
                 ∙ c.loop-i.invariant.all;
             whole = walk_push c.loop-i.below c.in_use-pointers.result.now c.loop-i.i c.index-pointers-i.result c.loop-i-test.true c.index-pointers-i.is ∙ c.loop-i.invariant.whole;
           })
       | else-not-is_down w ↦
-          rw (w.motions-is, c.append.ensures)
+          rw (w.given-is, c.append.ensures)
           (record {
-            all = downs_pass c.loop-i.motions.items c.args.device c.args.last.now c.loop-i.below c.in_use-pointers.result.now c.loop-i.i c.index-pointers-i.result c.loop-i-test.true c.index-pointers-i.is (sym c.is_down.ensures ∙ w.if-not-is_down.false) ∙ c.loop-i.invariant.all;
+            all = downs_pass c.loop-i.given.items c.args.device c.args.last.now c.loop-i.below c.in_use-pointers.result.now c.loop-i.i c.index-pointers-i.result c.loop-i-test.true c.index-pointers-i.is (sym c.is_down.ensures ∙ w.if-not-is_down.false) ∙ c.loop-i.invariant.all;
             whole = walk_push c.loop-i.below c.in_use-pointers.result.now c.loop-i.i c.index-pointers-i.result c.loop-i-test.true c.index-pointers-i.is ∙ c.loop-i.invariant.whole;
           })
     ]

@@ -1,7 +1,7 @@
 -- The list has one reader, that of device 1.
 use Rattle.std.specs.Prelude.{[], ◌∷◌, ◌++◌}
 use Rattle.std.proofs.Common.{ap, subst, sym, ◌∙◌}
-use Rattle.device_reader.specs.CookedList.{AreNumbered}
+use Rattle.device_reader.specs.All.{AreNumbered}
 use Rattle.device_reader.proofs.All.{numbered_one}
 use Rattle.device_reader.proofs.reader.tests.alone.Goals as goal
 

@@ -1,0 +1,15 @@
+-- Without events no pointer is down.
+use Rattle.std.specs.Prelude.{[]}
+use Rattle.std.proofs.Common.{◌∙◌, ap}
+use Rattle.pointer_ids.specs.PointerIds.{assigned}
+use Rattle.touch_mapper.specs.GestureState.{GestureState}
+use Rattle.device_reader.proofs.touch.Touch.reset.Goals as goal
+
+pub returns : goal.returns
+unfolding assigned
+returns c = λ plan past h. record {
+  slots_stand = c.reset.ensures.state;
+  slots_are = c.reset.ensures.slots ∙ h.slots_are;
+  ids_are = c.reset-2.ensures;
+  gestures_are = c.reset-3.ensures ∙ ap (λ (g : GestureState). record { device = g.device; cook = g.cook; last = [] }) h.gestures_are;
+}

@@ -1,0 +1,62 @@
+//! What is known of a touch device.
+ghost use Rattle.std.specs.Prelude.{◌≡◌, ◌≤◌, List, [], ◌∷◌, ◌++◌, OnOk, OnErr};
+ghost use Rattle.raw_events.specs.declared.event.RawEvent.{RawEvent as Event};
+ghost use Rattle.device_reader.specs.Cooked.{TouchPlan, TouchStandsFor, touch_args};
+
+use crate::packets::is_report;
+use input_types::{Args, DeviceId};
+use pointer_ids::Ids;
+use raw_events::RawEvent;
+use slot_accumulator::Slots;
+use std::alloc::AllocError;
+use touch_mapper::{Cook, Gestures};
+
+/// The slots of a touch device, the contacts of its last packet with their pointer ids, and its gestures. It takes no memory.
+#[derive(Clone, Copy)]
+pub(crate) struct Touch {
+    slots: Slots,
+    ids: Ids,
+    gestures: Gestures,
+}
+
+impl Touch {
+    /// A touch device with so many slots that has had no event.
+    pub fn new(device: DeviceId, slots: u8, cook: Cook) -> Touch
+        requires { (1 ≤ slots) × (slots ≤ 16) }
+        ensures { TouchStandsFor (record { device = device; slots = slots; cook = cook }) [] result }
+    {
+        Touch {
+            slots: Slots::new(slots),
+            ids: Ids::new(),
+            gestures: Gestures::new(device, cook),
+        }
+    }
+
+    /// Takes the next event, and gives the motions of the packet that it ends.
+    pub fn take(&mut self, event: RawEvent, args: &mut Vec<Args>) -> Result<(), AllocError>
+        ensures ok { (plan : TouchPlan) (past : List Event) → TouchStandsFor plan past self.old → OnOk result (args.new.items ≡ args.old.items ++ touch_args plan past event) }
+        ensures after { (plan : TouchPlan) (past : List Event) → TouchStandsFor plan past self.old → OnOk result (TouchStandsFor plan (event ∷ past) self.new) }
+        ensures err { OnErr result (self.new ≡ self.old) }
+    {
+        if !is_report(&event) {
+            self.slots.take(event);
+            return Ok(());
+        }
+        // The ids are worked on in a copy until all memory was found.
+        let mut ids = self.ids;
+        let pointers = ids.assign(&self.slots.contacts());
+        self.gestures.next(args, &pointers)?;
+        self.slots.take(event);
+        self.ids = ids;
+        Ok(())
+    }
+
+    /// Begins anew, as after `new`.
+    pub fn reset(&mut self)
+        ensures { (plan : TouchPlan) (past : List Event) → TouchStandsFor plan past self.old → TouchStandsFor plan [] self.new }
+    {
+        self.slots.reset();
+        self.ids.reset();
+        self.gestures.reset();
+    }
+}

@@ -1,0 +1,160 @@
+//! The keys of a device.
+ghost use Rattle.std.specs.Prelude.{◌≡◌, List, [], ◌∷◌, IfOk, OnOk, OnErr, pos};
+ghost use Rattle.std.specs.List.Sorted.{IsStrictlySortedBy};
+ghost use Rattle.std.specs.Map.{keys_of};
+ghost use Rattle.std.specs.Ordering.{nat_cmp};
+ghost use Rattle.key_layout.specs.Layout.{code_at};
+ghost use Rattle.key_mapper.specs.Key.{KeyEvent, key_of};
+ghost use Rattle.key_mapper.specs.Held.{StandsFor, bits, counts};
+
+use crate::modifiers::Modifiers;
+use input_types::{DeviceId, KeyArgs};
+use key_layout::Layout;
+use std::alloc::{AllocError, Global};
+use std::collections::BTreeMap;
+use std::marker::Model;
+
+/// The keys of one device that are down, by scan code. What each event costs grows with the logarithm of how many are down.
+#[derive(Drop)]
+pub struct Keys {
+    device: DeviceId,
+    layout: Layout,
+    /// The keys that are down, with their key codes.
+    down: BTreeMap<u16, u16>,
+    modifiers: Modifiers,
+}
+
+impl Model for Keys {
+    ghost use Rattle.key_mapper.specs.Held.{Held, IsHeld};
+
+    ghost Value = { Held };
+
+    ghost view = { λ k. record { device = k.device; layout = k.layout; down = k.down.entries } };
+
+    ghost invariant = { λ k. IsHeld k.down.entries k.modifiers };
+}
+
+impl Keys {
+    /// The keys of a device, none of them down. Its layout says which key code each scan code has.
+    pub fn new(alloc: Global, device: DeviceId, layout: Layout) -> Keys
+        ensures state { StandsFor [] result }
+        ensures device { result.device ≡ device }
+        ensures layout { result.layout ≡ layout }
+    {
+        Keys {
+            device,
+            layout,
+            down: BTreeMap::new(alloc),
+            modifiers: Modifiers::none(),
+        }
+    }
+
+    /// Takes the next EV_KEY event and answers the key that it moved, with the meta bits of all keys that are down after it.
+    ///
+    /// Value 1 is a press, and 0 a release. None comes exactly where the value is another one (2 is the kernel's own repeat), for a press
+    /// of a key that is down, and for a release of one that is up.
+    pub fn take(&mut self, scan: u16, value: i32) -> Result<Option<KeyArgs>, AllocError>
+        ensures ok { (past : List KeyEvent) → StandsFor past self.old → IfOk result (λ key. key ≡ key_of self.old.device self.old.layout past (record { scan = scan; value = value })) }
+        ensures after { (past : List KeyEvent) → StandsFor past self.old → OnOk result (StandsFor (record { scan = scan; value = value } ∷ past) self.new) }
+        ensures device { self.new.device ≡ self.old.device }
+        ensures layout { self.new.layout ≡ self.old.layout }
+        ensures err { OnErr result (self.new ≡ self.old) }
+    {
+        match value {
+            1 => self.press(scan),
+            0 => Ok(self.release(scan)),
+            _ => Ok(None),
+        }
+    }
+
+    fn press(&mut self, scan: u16) -> Result<Option<KeyArgs>, AllocError>
+        ensures ok { (past : List KeyEvent) → StandsFor past self.old → IfOk result (λ key. key ≡ key_of self.old.device self.old.layout past (record { scan = scan; value = pos 1 })) }
+        ensures after { (past : List KeyEvent) → StandsFor past self.old → OnOk result (StandsFor (record { scan = scan; value = pos 1 } ∷ past) self.new) }
+        ensures device { self.new.device ≡ self.old.device }
+        ensures layout { self.new.layout ≡ self.old.layout }
+        ensures err { OnErr result (self.new ≡ self.old) }
+    {
+        if self.down.contains_key(&scan) {
+            return Ok(None);
+        }
+        let code = self.layout.code_of(scan);
+        // A map has fewer than 2^63 keys, so no count runs over.
+        let _others = self.down.len();
+        self.down.insert(scan, code)?;
+        self.modifiers.add(code);
+        Ok(Some(self.moved(scan, code, true)))
+    }
+
+    fn release(&mut self, scan: u16) -> Option<KeyArgs>
+        ensures ok { (past : List KeyEvent) → StandsFor past self.old → result ≡ key_of self.old.device self.old.layout past (record { scan = scan; value = pos 0 }) }
+        ensures after { (past : List KeyEvent) → StandsFor past self.old → StandsFor (record { scan = scan; value = pos 0 } ∷ past) self.new }
+        ensures device { self.new.device ≡ self.old.device }
+        ensures layout { self.new.layout ≡ self.old.layout }
+    {
+        let code = self.down.remove(&scan)?;
+        self.modifiers.remove(code);
+        Some(self.moved(scan, code, false))
+    }
+
+    /// A key that moved, with the meta bits of the keys that are down now.
+    fn moved(&self, scan: u16, code: u16, down: bool) -> KeyArgs
+        ensures { result ≡ record { device = self.now.device; scan = scan; code = code; meta = bits (counts self.now.down); down = down } }
+    {
+        KeyArgs {
+            device: self.device,
+            scan,
+            code,
+            meta: self.modifiers.bits(),
+            down,
+        }
+    }
+
+    /// No key is down any more.
+    pub fn reset(&mut self)
+        ensures state { StandsFor [] self.new }
+        ensures device { self.new.device ≡ self.old.device }
+        ensures layout { self.new.layout ≡ self.old.layout }
+    {
+        self.down.clear();
+        self.modifiers = Modifiers::none();
+    }
+}
+
+#[cfg(test)]
+mod tests {
+    use super::*;
+    use std::test::Fail;
+
+    fn moved(
+        device: DeviceId,
+        scan: u16,
+        code: u16,
+        meta: u32,
+        down: bool,
+    ) -> Result<Option<KeyArgs>, AllocError> {
+        Ok(Some(KeyArgs {
+            device,
+            scan,
+            code,
+            meta,
+            down,
+        }))
+    }
+
+    #[test]
+    fn shift_sets_the_meta_bits_of_what_comes_while_it_is_down(
+        rt: HostRuntime,
+    ) -> Result<(), Fail> {
+        let device = DeviceId::new(1).ok_or("a device")?;
+        let text = "key 42 SHIFT_LEFT\nkey 30 A\n";
+        let layout = Layout::read(rt.alloc(), text).ok().ok_or("a layout")?;
+        let mut keys = Keys::new(rt.alloc(), device, layout);
+        assert_eq!(rt; keys.take(42, 1), moved(device, 42, 59, 65, true));
+        assert_eq!(rt; keys.take(30, 1), moved(device, 30, 29, 65, true));
+        assert_eq!(rt; keys.take(30, 2), Ok(None));
+        assert_eq!(rt; keys.take(42, 0), moved(device, 42, 59, 0, false));
+        keys.reset();
+        assert_eq!(rt; keys.take(30, 0), Ok(None));
+        Ok(())
+    }
+}
