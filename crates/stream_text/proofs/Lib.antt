@@ -4,3 +4,5 @@ pub mod TextLines
 pub mod Numbers
 pub mod Pointers
 pub mod Streams
+pub mod MessageTexts
+pub mod LineTexts
