@@ -6,3 +6,4 @@ pub mod Pointers
 pub mod Streams
 pub mod MessageTexts
 pub mod LineTexts
+pub mod StreamExamples
