@@ -1,5 +1,5 @@
 //! Orders: which calls were made, one after another.
-ghost use Rattle.std.specs.Prelude.{◌≡◌, ℕ, List, [], ◌∷◌, ◌++◌, ◌==◌, length, slice_get, IfOk, IfSome, OnOk, OnErr};
+ghost use Rattle.std.specs.Prelude.{◌≡◌, ℕ, codes, List, [], ◌∷◌, ◌++◌, ◌==◌, length, slice_get, IfOk, IfSome, OnOk, OnErr};
 
 use crate::line::{add_labeled, add_word};
 use crate::order_error::OrderError;
@@ -29,7 +29,9 @@ impl Model for Order {
 
 impl Order {
     ghost use Rattle.stream_text.specs.Order.{HasLane};
-    ghost use Rattle.stream_text.specs.OrderText.{Answers, order_of};
+    ghost use Rattle.stream_text.specs.declared.order_line.OrderLine.{OrderLine};
+    ghost use Rattle.stream_text.specs.Order.{order_spelling};
+    ghost use Rattle.stream_text.specs.OrderText.{Answers, BeginsWith, IsOrder, order_of};
 
     /// An order without lines.
     pub fn new(alloc: Global) -> Order
@@ -75,8 +77,20 @@ impl Order {
     ///
     /// Numbers are decimal, without leading zeros: N and SEQ have 64 bits, CHANNEL 32, and LANE is 1 to 8. Whatever follows is passed over,
     /// and the last line may lack its newline. The refusal is that of the first line that has not its form or is missing.
-    #[tactic(auto, using(crate::proofs::OrderReading::behind_line, crate::proofs::OrderReading::behind_nothing, crate::proofs::OrderReading::no_lines), unfolding(crate::specs::OrderText::order_of))]
     pub fn read(alloc: Global, bytes: &[u8]) -> Result<Order, OrderError>
+        ensures exact { Answers (λ o. o) result (order_of bytes.now) }
+
+        // With a newline behind it, the text begins with the order.
+        ensures spelled { IfOk result (λ o. IsOrder o × BeginsWith (bytes.now ++ codes "\n") (order_spelling o)) }
+
+        // An order whose text stands in front is read, whatever follows.
+        ensures again { (o : List OrderLine) → IsOrder o → BeginsWith (bytes.now ++ codes "\n") (order_spelling o) → Answers (λ o. o) result (Ok o) }
+    {
+        Order::read_all(alloc, bytes)
+    }
+
+    #[tactic(auto, using(crate::proofs::OrderReading::behind_line, crate::proofs::OrderReading::behind_nothing, crate::proofs::OrderReading::no_lines), unfolding(crate::specs::OrderText::order_of))]
+    fn read_all(alloc: Global, bytes: &[u8]) -> Result<Order, OrderError>
         ensures { Answers (λ o. o) result (order_of bytes.now) }
     {
         if bytes.is_empty() {
@@ -108,6 +122,7 @@ impl Order {
 }
 
 ghost use Rattle.stream_text.specs.Order.{head_spelling, lines_spelling, order_spelling};
+ghost use Rattle.stream_text.specs.OrderText.{order_of};
 
 fn add_lines(text: &mut Vec<u8>, lines: &[OrderLine]) -> Result<(), AllocError>
     ensures { IfOk result (λ _. text.new.items ≡ text.old.items ++ lines_spelling lines.now) }
@@ -132,6 +147,9 @@ fn add_order(text: &mut Vec<u8>, lines: &[OrderLine]) -> Result<(), AllocError>
 pub fn order_text(order: &Order, out: &mut Vec<u8>) -> Result<(), AllocError>
     ensures ok { OnOk result (out.new.items ≡ out.old.items ++ order_spelling order.now) }
     ensures err { OnErr result (out.new.items ≡ out.old.items) }
+
+    // What is appended is read again as the order, whatever follows.
+    ensures again { (rest : List ℕ) → order_of (order_spelling order.now ++ rest) ≡ Ok order.now }
 {
     let mut text = Vec::new(*out.allocator());
     add_order(&mut text, order.lines.as_slice())?;
