@@ -155,3 +155,46 @@ pub fn order_text(order: &Order, out: &mut Vec<u8>) -> Result<(), AllocError>
     add_order(&mut text, order.lines.as_slice())?;
     out.extend_from_slice(&text)
 }
+
+#[cfg(test)]
+mod tests {
+    use super::*;
+    use std::test::Fail;
+
+    #[test]
+    fn an_order_is_written_line_by_line(rt: HostRuntime) -> Result<(), Fail> {
+        let mut order = Order::new(rt.alloc());
+        order.push(OrderLine::Script { lane: 8 })?;
+        order.push(OrderLine::Finish {
+            channel: 4294967295,
+            seq: 18446744073709551615,
+        })?;
+        order.push(OrderLine::Tick)?;
+        let mut out = Vec::from_slice(rt.alloc(), b"> ")?;
+        order_text(&order, &mut out)?;
+        assert_eq!(rt;
+            out.as_slice(),
+            b"> order 3\ns 8\nf 4294967295 18446744073709551615\nk\n".as_slice()
+        );
+        Ok(())
+    }
+
+    #[test]
+    fn what_follows_an_order_is_passed_over(rt: HostRuntime) -> Result<(), Fail> {
+        let order = Order::read(rt.alloc(), b"order 2\ng 3\np\nchannel 3 main\n".as_slice())
+            .ok()
+            .ok_or("an order")?;
+        assert_eq!(rt; order.len(), 2);
+        assert_eq!(rt; order.get(0), Some(OrderLine::Receive { channel: 3 }));
+        assert_eq!(rt; order.get(1), Some(OrderLine::Pump));
+        assert_eq!(rt; order.get(2), None);
+        Ok(())
+    }
+
+    #[test]
+    fn the_first_bad_line_is_told(rt: HostRuntime) -> Result<(), Fail> {
+        let refusal = Order::read(rt.alloc(), b"order 2\nr\ns 9\n".as_slice()).err();
+        assert_eq!(rt; refusal, Some(OrderError::BadLine { line: 3 }));
+        Ok(())
+    }
+}
