@@ -1,11 +1,11 @@
 -- The lines of a stream file: what is spelled is read again, and nothing else is read.
-use Rattle.std.proofs.Common.{◌≡◌, ℕ, suc, ◌+◌, ◌-◌, ◌^◌, ◌<◌, ◌≤◌, ◌==◌, ◌⊎◌, cond, List, [], ◌∷◌, ◌++◌, length, Option, Some, None, Bool, true, false, refl, sym, ap, ◌∙◌, subst, arith, inl, inr}
+use Rattle.std.proofs.Common.{◌≡◌, ℕ, ◌-◌, ◌^◌, ◌<◌, ◌≤◌, List, [], ◌∷◌, ◌++◌, length, Some, None, true, false, refl, sym, ap, ◌∙◌, subst, arith, inl, inr}
 use Rattle.std.specs.Prelude.{codes}
 use Rattle.std.specs.Fmt.{decimal}
 use Rattle.std.proofs.Math.Dec.{eqb}
 use Rattle.std.proofs.lemmas.Bool.Decides.{nat_tests}
 use Rattle.std.proofs.lemmas.List.{append_assoc, append-nil}
-use Rattle.std.proofs.lemmas.Option.{same_Some, none-some, cond_some}
+use Rattle.std.proofs.lemmas.Option.{same_Some, cond_some}
 use Rattle.std.proofs.lemmas.Fmt.{decimal_is_IsNumeral}
 use Rattle.std.proofs.lemmas.Str.{digit_value_digit}
 use Rattle.std.proofs.lemmas.Str.Parse.{digit_from_value}
@@ -13,11 +13,11 @@ use Rattle.std.specs.Str.Parse.{AllDigits}
 use Rattle.input_types.specs.declared.message.Message.{Message as Told}
 use Rattle.stream_text.specs.declared.stream_line.StreamLine.{StreamLine}
 use Rattle.stream_text.specs.declared.stream_line.StreamLine.TheVariants.{Channel, Message, End, Naming}
-use Rattle.stream_text.specs.Number.{◌>>=◌, after, number_at, whole, NoDigit}
+use Rattle.stream_text.specs.Number.{◌>>=◌, after, number_at, NoDigit}
 use Rattle.stream_text.specs.Spelling.{body, labeled, numbered}
 use Rattle.stream_text.specs.MessageLine.{labeled_at, message_of, message_words, HasSpelling}
 use Rattle.stream_text.specs.StreamLine.{channel_at, channel_of, channel_words, end_of, end_words, is_name, line_of, naming_of, naming_words, IsId, SpellsLine}
-use Rattle.stream_text.proofs.Numbers.{after_again, after_only, bind_some, number_again, number_only}
+use Rattle.stream_text.proofs.Numbers.{after_only, bind_some, number_again, number_only}
 use Rattle.stream_text.proofs.MessageTexts.{by_word, labeled_again, labeled_front, labeled_only, message_again, message_only, none_of, not_zero, regroup, whole_only}
 
 channel_again : (n : ℕ) (rest : List ℕ) → IsId n → NoDigit rest → channel_at (decimal n ++ rest) ≡ Some (n, rest)

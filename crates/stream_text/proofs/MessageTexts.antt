@@ -1,9 +1,9 @@
 -- The line of a message: what is spelled is read again, and nothing else is read.
-use Rattle.std.proofs.Common.{◌≡◌, ℕ, ℤ, zero, suc, ◌+◌, ◌-◌, ◌^◌, ◌<◌, ◌≤◌, ◌==◌, ◌⊎◌, cond, List, [], ◌∷◌, ◌++◌, length, get_or, Option, Some, None, Bool, true, false, refl, sym, ap, ◌∙◌, subst, arith, inl, inr}
-use Rattle.std.specs.Prelude.{codes, nat_lt, nat_le, if◌then◌else◌}
+use Rattle.std.proofs.Common.{◌≡◌, ℕ, ℤ, zero, suc, ◌+◌, ◌-◌, ◌^◌, ◌<◌, ◌≤◌, ◌==◌, ◌⊎◌, cond, List, [], ◌∷◌, ◌++◌, length, Option, Some, None, Bool, true, false, refl, sym, ap, ◌∙◌, subst, arith, inl, inr}
+use Rattle.std.specs.Prelude.{codes}
 use Rattle.std.specs.Fmt.{decimal, signed_decimal}
 use Rattle.std.proofs.Math.Dec.{eqb, leb, ltb}
-use Rattle.std.proofs.lemmas.Bool.{lt-ltb, ltb-true, le-leb, leb-true, eqb-false, eqb-true}
+use Rattle.std.proofs.lemmas.Bool.{lt-ltb, ltb-true, le-leb, leb-true}
 use Rattle.std.proofs.lemmas.Bool.Decides.{nat_tests}
 use Rattle.std.proofs.lemmas.List.{append_assoc, append-nil}
 use Rattle.std.proofs.lemmas.Option.{same_Some, none-some, cond_some}
@@ -11,7 +11,6 @@ use Rattle.std.proofs.lemmas.Fmt.{decimal_digit, decimal_is_IsNumeral}
 use Rattle.std.proofs.lemmas.Str.{digit_value_digit}
 use Rattle.std.proofs.lemmas.Str.Parse.{digit_from_value}
 use Rattle.std.specs.Str.Parse.{AllDigits}
-use Rattle.input_types.specs.declared.axis.Pixel.{Pixel}
 use Rattle.input_types.specs.declared.pointer.Pointer.{Pointer}
 use Rattle.input_types.specs.declared.motion.Motion.{Motion}
 use Rattle.input_types.specs.declared.motion.MotionAction.{MotionAction}
@@ -24,7 +23,7 @@ use Rattle.stream_text.specs.Number.{◌>>=◌, after, number_at, integer_at, wh
 use Rattle.stream_text.specs.Spelling.{action, body, canceled, indexed, key, key_end, labeled, motion, numbered, pointer, pointers}
 use Rattle.stream_text.specs.MessageLine.{action_at, body_of, chosen_by, codes_at, device_at, flags_at, flags_by, focus_of, indexed_at, key_of, labeled_at, message_of, message_words, motion_of, plain, pointer_at, pointers_at, way_at, way_by, with_pointer, HasFlag, HasIndex, HasKeyFlag, HasSpelling, HavePlaces, SpelledBody, SpelledKey, SpelledMotion}
 use Rattle.stream_text.proofs.Numbers.{after_again, after_only, bind_some, integer_again, integer_only, number_again, number_only}
-use Rattle.stream_text.proofs.Pointers.{at_end, no_room, pointers_step}
+use Rattle.stream_text.proofs.Pointers.{at_end, pointers_step}
 
 pub not_zero : (n : ℕ) → 1 ≤ n → eqb n 0 ≡ false
 not_zero n h = grind (arith, nat_tests)

@@ -4,7 +4,7 @@ use Rattle.std.specs.List.{list_all}
 use Rattle.input_types.specs.declared.motion.MotionAction.TheVariants.{Down}
 use Rattle.input_types.specs.declared.message.Body.TheVariants.{Motion, Focus}
 use Rattle.stream_text.specs.Number.{integer_at, negative_at, number_at, positive_at}
-use Rattle.stream_text.specs.Order.{finish_line, number_alone, receive_line, script_line}
+use Rattle.stream_text.specs.Order.{finish_line, number_alone}
 use Rattle.stream_text.specs.OrderText.{head_of}
 use Rattle.stream_text.specs.MessageLine.{action_at, body_of, codes_at, device_at, flags_at, focus_of, indexed_at, key_of, labeled_at, message_of, motion_of, pointer_at, pointers_at, way_at}
 use Rattle.stream_text.specs.StreamLine.{channel_at, channel_of, end_of, line_of, naming_of}

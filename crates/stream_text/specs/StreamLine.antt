@@ -1,5 +1,5 @@
 -- What a line of a stream file says. A line is given without its newline.
-use Rattle.std.specs.Prelude.{codes, ◌≡◌, ◌<◌, ◌≤◌, true, ℕ, ◌-◌, ◌^◌, ◌==◌, ◌&&◌, nat_le, nat_lt, Bool, if◌then◌else◌, List, [], ◌∷◌, ◌++◌, length, Option, Some, None}
+use Rattle.std.specs.Prelude.{codes, ◌≡◌, ◌<◌, ◌≤◌, true, ℕ, ◌-◌, ◌^◌, ◌==◌, ◌&&◌, nat_le, nat_lt, Bool, if◌then◌else◌, List, ◌++◌, length, Option, Some, None}
 use Rattle.std.specs.List.{list_all}
 use Rattle.std.specs.Fmt.{decimal}
 use Rattle.stream_text.specs.declared.stream_line.StreamLine.{StreamLine}
