@@ -1,6 +1,13 @@
 pub mod Examples
+pub mod OrderAnswers
+pub mod OrderExamples
+pub mod OrderLines
 pub mod OrderReading
+pub mod OrderTexts
 pub mod TextLines
 pub mod Numbers
 pub mod Pointers
 pub mod Streams
+pub mod MessageTexts
+pub mod LineTexts
+pub mod StreamExamples

@@ -1,5 +1,5 @@
 -- Pointers that were read, in front of those that are left.
-use Rattle.std.proofs.Common.{◌≡◌, ℕ, zero, suc, ◌+◌, ◌-◌, ◌<◌, ◌≤◌, List, [], ◌∷◌, ◌++◌, length, Option, Some, None, Result, Ok, Err, false, refl, sym, ap, ◌∙◌, arith}
+use Rattle.std.proofs.Common.{◌≡◌, ℕ, zero, suc, ◌+◌, ◌-◌, ◌<◌, List, [], ◌∷◌, ◌++◌, length, Option, Some, None, Result, Ok, Err, false, refl, sym, ap, ◌∙◌, arith}
 use Rattle.std.specs.Result.{OnOk, is_err}
 use Rattle.std.proofs.lemmas.List.{append_assoc}
 use Rattle.input_types.specs.declared.pointer.Pointer.{Pointer}

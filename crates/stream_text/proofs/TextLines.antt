@@ -1,7 +1,7 @@
 -- The first line of a text, and the lines behind it.
 use Rattle.std.proofs.Common.{◌≡◌, ℕ, suc, ◌+◌, ◌<◌, ◌≤◌, ◌==◌, cond, not, Bool, List, [], ◌∷◌, length, take, drop, refl, arith, true, false}
 use Rattle.std.specs.List.{prefix_len}
-use Rattle.stream_text.specs.TextLines.{Line, lines_of, with_front}
+use Rattle.stream_text.specs.TextLines.{lines_of, with_front}
 
 -- how many bytes stand before the first newline
 abbrev pub line_len : List ℕ → ℕ

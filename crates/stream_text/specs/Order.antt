@@ -1,6 +1,5 @@
 -- Orders: how one is spelled, and what one line says.
 use Rattle.std.specs.Prelude.{codes, ℕ, ◌-◌, ◌^◌, ◌<◌, ◌≤◌, ◌==◌, if◌then◌else◌, List, [], ◌∷◌, ◌++◌, length, Option, Some, None}
-use Rattle.std.specs.Fmt.{decimal}
 use Rattle.std.specs.Str.{byte}
 use Rattle.stream_text.specs.declared.order_line.OrderLine.{OrderLine}
 use Rattle.stream_text.specs.declared.order_line.OrderLine.TheVariants.{Reader, Script, Pump, Tick, Receive, Finish}

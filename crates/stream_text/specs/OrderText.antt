@@ -1,10 +1,11 @@
 -- What stands in an order's text.
-use Rattle.std.specs.Prelude.{codes, ℕ, ◌+◌, ◌-◌, ◌^◌, ◌==◌, ◌≡◌, ◌&&◌, if◌then◌else◌, List, [], ◌∷◌, Option, Some, None, is_some, Result, Ok, Err}
+use Rattle.std.specs.Prelude.{codes, ℕ, ◌+◌, ◌-◌, ◌^◌, ◌<◌, ◌==◌, ◌≡◌, ◌&&◌, if◌then◌else◌, List, [], ◌∷◌, ◌++◌, length, Option, Some, None, is_some, Result, Ok, Err}
+use Rattle.std.specs.List.{All}
 use Rattle.stream_text.specs.declared.order_error.OrderError.{OrderError}
 use Rattle.stream_text.specs.declared.order_error.OrderError.TheVariants as errors
 use Rattle.stream_text.specs.declared.order_line.OrderLine.{OrderLine}
 use Rattle.stream_text.specs.Number.{◌>>=◌, after}
-use Rattle.stream_text.specs.Order.{number_alone, order_line_of}
+use Rattle.stream_text.specs.Order.{IsLine, number_alone, order_line_of}
 use Rattle.stream_text.specs.TextLines.{Line, lines_of}
 
 -- how many lines follow a first line, given without its newline
@@ -36,6 +37,14 @@ order_in (line ∷ lines) = behind_head (head_of line.0) lines
 -- the order in front of a text, or the number of the first line that is bad or missing
 unfoldable pub order_of : List ℕ → Result (List OrderLine) ℕ
 order_of text = order_in (lines_of text)
+
+-- lines that an order may have, and as many as a number of 64 bits counts
+abbrev pub IsOrder : List OrderLine → Type 0
+IsOrder order = All IsLine order × (length order < 2 ^ 64)
+
+-- a text begins so
+abbrev pub BeginsWith : List ℕ → List ℕ → Type 0
+BeginsWith text front = (rest : List ℕ) × (text ≡ front ++ rest)
 
 -- What a call answered, seen by view, is what was read, unless memory ran out.
 abbrev pub Answers : {X Y : Type 0} → (X → Y) → Result X OrderError → Result Y ℕ → Type 0

@@ -1,10 +1,12 @@
 -- What a line of a stream file says. A line is given without its newline.
-use Rattle.std.specs.Prelude.{codes, ℕ, ◌-◌, ◌^◌, ◌==◌, ◌&&◌, nat_le, nat_lt, Bool, if◌then◌else◌, List, [], ◌∷◌, ◌++◌, length, Option, Some, None}
+use Rattle.std.specs.Prelude.{codes, ◌≡◌, ◌<◌, ◌≤◌, true, ℕ, ◌-◌, ◌^◌, ◌==◌, ◌&&◌, nat_le, nat_lt, Bool, if◌then◌else◌, List, ◌++◌, length, Option, Some, None}
 use Rattle.std.specs.List.{list_all}
+use Rattle.std.specs.Fmt.{decimal}
 use Rattle.stream_text.specs.declared.stream_line.StreamLine.{StreamLine}
 use Rattle.stream_text.specs.declared.stream_line.StreamLine.TheVariants.{Channel, Message, End, Naming}
 use Rattle.stream_text.specs.Number.{◌>>=◌, after, number_at, whole}
-use Rattle.stream_text.specs.MessageLine.{chosen_by, labeled_at, message_of}
+use Rattle.stream_text.specs.MessageLine.{chosen_by, labeled_at, message_of, message_words, HasSpelling}
+use Rattle.stream_text.specs.Spelling.{labeled}
 
 -- the number of a channel, 1 to 64
 unfoldable pub channel_at : List ℕ → Option (ℕ × List ℕ)
@@ -51,3 +53,26 @@ line_of bs =
     chosen_by (after (codes "channel ") bs) channel_of
     (chosen_by (after (codes "end ") bs) end_of
     (chosen_by (after (codes "anr ") bs) naming_of (message_of bs >>= λ m. Some (Message m))))
+
+-- lines without their newline: the first and the last one of a section, and a naming
+unfoldable pub channel_words : ℕ → List ℕ → List ℕ
+channel_words id name = codes "channel " ++ decimal id ++ codes " " ++ name
+
+unfoldable pub end_words : ℕ → ℕ → ℕ → ℕ → List ℕ
+end_words id sent received finished =
+    labeled (codes "end ") id ++ labeled (codes " sent ") sent ++ labeled (codes " received ") received ++ labeled (codes " finished ") finished
+
+unfoldable pub naming_words : ℕ → ℕ → ℕ → List ℕ
+naming_words clock id seq = labeled (codes "anr ") clock ++ labeled (codes " ") id ++ labeled (codes " ") seq
+
+-- the number of a channel
+abbrev pub IsId : ℕ → Type 0
+IsId id = (1 ≤ id) × (id ≤ 64)
+
+-- the bytes spell the line, whose numbers are within their types; the first line of a section with some name
+abbrev pub SpellsLine : List ℕ → StreamLine → Type 0
+SpellsLine bs (Channel id) = (name : List ℕ) × (bs ≡ channel_words id name) × IsId id × (is_name name ≡ true)
+SpellsLine bs (Message m) = (bs ≡ message_words m) × HasSpelling m
+SpellsLine bs (End id sent received finished) =
+    (bs ≡ end_words id sent received finished) × IsId id × (sent < 2 ^ 64) × (received < 2 ^ 64) × (finished < 2 ^ 64)
+SpellsLine bs (Naming clock id seq) = (bs ≡ naming_words clock id seq) × (clock ≤ 1000000000000000000) × IsId id × (seq < 2 ^ 64)

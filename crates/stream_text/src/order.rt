@@ -1,5 +1,5 @@
 //! Orders: which calls were made, one after another.
-ghost use Rattle.std.specs.Prelude.{◌≡◌, ℕ, List, [], ◌∷◌, ◌++◌, ◌==◌, length, slice_get, IfOk, IfSome, OnOk, OnErr};
+ghost use Rattle.std.specs.Prelude.{◌≡◌, ℕ, codes, List, [], ◌∷◌, ◌++◌, ◌==◌, length, slice_get, IfOk, IfSome, OnOk, OnErr};
 
 use crate::line::{add_labeled, add_word};
 use crate::order_error::OrderError;
@@ -29,7 +29,9 @@ impl Model for Order {
 
 impl Order {
     ghost use Rattle.stream_text.specs.Order.{HasLane};
-    ghost use Rattle.stream_text.specs.OrderText.{Answers, order_of};
+    ghost use Rattle.stream_text.specs.declared.order_line.OrderLine.{OrderLine};
+    ghost use Rattle.stream_text.specs.Order.{order_spelling};
+    ghost use Rattle.stream_text.specs.OrderText.{Answers, BeginsWith, IsOrder, order_of};
 
     /// An order without lines.
     pub fn new(alloc: Global) -> Order
@@ -75,8 +77,20 @@ impl Order {
     ///
     /// Numbers are decimal, without leading zeros: N and SEQ have 64 bits, CHANNEL 32, and LANE is 1 to 8. Whatever follows is passed over,
     /// and the last line may lack its newline. The refusal is that of the first line that has not its form or is missing.
-    #[tactic(auto, using(crate::proofs::OrderReading::behind_line, crate::proofs::OrderReading::behind_nothing, crate::proofs::OrderReading::no_lines), unfolding(crate::specs::OrderText::order_of))]
     pub fn read(alloc: Global, bytes: &[u8]) -> Result<Order, OrderError>
+        ensures exact { Answers (λ o. o) result (order_of bytes.now) }
+
+        // With a newline behind it, the text begins with the order.
+        ensures spelled { IfOk result (λ o. IsOrder o × BeginsWith (bytes.now ++ codes "\n") (order_spelling o)) }
+
+        // An order whose text stands in front is read, whatever follows.
+        ensures again { (o : List OrderLine) → IsOrder o → BeginsWith (bytes.now ++ codes "\n") (order_spelling o) → Answers (λ o. o) result (Ok o) }
+    {
+        Order::read_all(alloc, bytes)
+    }
+
+    #[tactic(auto, using(crate::proofs::OrderReading::behind_line, crate::proofs::OrderReading::behind_nothing, crate::proofs::OrderReading::no_lines), unfolding(crate::specs::OrderText::order_of))]
+    fn read_all(alloc: Global, bytes: &[u8]) -> Result<Order, OrderError>
         ensures { Answers (λ o. o) result (order_of bytes.now) }
     {
         if bytes.is_empty() {
@@ -108,6 +122,7 @@ impl Order {
 }
 
 ghost use Rattle.stream_text.specs.Order.{head_spelling, lines_spelling, order_spelling};
+ghost use Rattle.stream_text.specs.OrderText.{order_of};
 
 fn add_lines(text: &mut Vec<u8>, lines: &[OrderLine]) -> Result<(), AllocError>
     ensures { IfOk result (λ _. text.new.items ≡ text.old.items ++ lines_spelling lines.now) }
@@ -132,8 +147,54 @@ fn add_order(text: &mut Vec<u8>, lines: &[OrderLine]) -> Result<(), AllocError>
 pub fn order_text(order: &Order, out: &mut Vec<u8>) -> Result<(), AllocError>
     ensures ok { OnOk result (out.new.items ≡ out.old.items ++ order_spelling order.now) }
     ensures err { OnErr result (out.new.items ≡ out.old.items) }
+
+    // What is appended is read again as the order, whatever follows.
+    ensures again { (rest : List ℕ) → order_of (order_spelling order.now ++ rest) ≡ Ok order.now }
 {
     let mut text = Vec::new(*out.allocator());
     add_order(&mut text, order.lines.as_slice())?;
     out.extend_from_slice(&text)
+}
+
+#[cfg(test)]
+mod tests {
+    use super::*;
+    use std::test::Fail;
+
+    #[test]
+    fn an_order_is_written_line_by_line(rt: HostRuntime) -> Result<(), Fail> {
+        let mut order = Order::new(rt.alloc());
+        order.push(OrderLine::Script { lane: 8 })?;
+        order.push(OrderLine::Finish {
+            channel: 4294967295,
+            seq: 18446744073709551615,
+        })?;
+        order.push(OrderLine::Tick)?;
+        let mut out = Vec::from_slice(rt.alloc(), b"> ")?;
+        order_text(&order, &mut out)?;
+        assert_eq!(rt;
+            out.as_slice(),
+            b"> order 3\ns 8\nf 4294967295 18446744073709551615\nk\n".as_slice()
+        );
+        Ok(())
+    }
+
+    #[test]
+    fn what_follows_an_order_is_passed_over(rt: HostRuntime) -> Result<(), Fail> {
+        let order = Order::read(rt.alloc(), b"order 2\ng 3\np\nchannel 3 main\n".as_slice())
+            .ok()
+            .ok_or("an order")?;
+        assert_eq!(rt; order.len(), 2);
+        assert_eq!(rt; order.get(0), Some(OrderLine::Receive { channel: 3 }));
+        assert_eq!(rt; order.get(1), Some(OrderLine::Pump));
+        assert_eq!(rt; order.get(2), None);
+        Ok(())
+    }
+
+    #[test]
+    fn the_first_bad_line_is_told(rt: HostRuntime) -> Result<(), Fail> {
+        let refusal = Order::read(rt.alloc(), b"order 2\nr\ns 9\n".as_slice()).err();
+        assert_eq!(rt; refusal, Some(OrderError::BadLine { line: 3 }));
+        Ok(())
+    }
 }

@@ -1,6 +1,7 @@
 //! The lines of a stream file.
 ghost use Rattle.std.specs.Prelude.{◌≡◌, ℕ, option_map, IfSome, ◌≤◌};
-ghost use Rattle.stream_text.specs.StreamLine.{channel_at, channel_of, end_of, is_name, is_name_byte, line_of, naming_of};
+ghost use Rattle.stream_text.specs.StreamLine.{channel_at, channel_of, end_of, is_name, is_name_byte, line_of, naming_of, SpellsLine};
+ghost use Rattle.stream_text.specs.declared.stream_line.StreamLine.{StreamLine};
 ghost use Rattle.std.specs.List.{list_all};
 
 use crate::message_line::{labeled, message};
@@ -107,9 +108,22 @@ fn naming(bytes: &[u8]) -> Option<StreamLine>
     Some(StreamLine::Naming { clock, id, seq })
 }
 
-/// What a line says, given without its newline; None where it has none of the four forms.
+impl StreamLine {
+    /// What a line says, given without its newline; None where it has none of the four forms.
+    ///
+    /// Each line that spells something is read as that, and nothing else is read.
+    #[tactic(auto, using(crate::proofs::LineTexts::line_again, crate::proofs::LineTexts::line_only), unfolding(crate::specs::StreamLine::line_of))]
+    pub fn read(line: &[u8]) -> Option<StreamLine>
+        ensures value { result ≡ line_of line.now }
+        ensures again { (said : StreamLine) → SpellsLine line.now said → result ≡ Some said }
+        ensures only { IfSome result (λ said. SpellsLine line.now said) }
+    {
+        read_line(line)
+    }
+}
+
 #[tactic(auto, unfolding(crate::specs::StreamLine::line_of))]
-pub(crate) fn read_stream_line(line: &[u8]) -> Option<StreamLine>
+fn read_line(line: &[u8]) -> Option<StreamLine>
     ensures { result ≡ line_of line.now }
 {
     if let Some(rest) = past("channel ", line) {
@@ -123,4 +137,22 @@ pub(crate) fn read_stream_line(line: &[u8]) -> Option<StreamLine>
     }
     let message = message(line)?;
     Some(StreamLine::Message(message))
+}
+
+#[cfg(test)]
+mod tests {
+    use super::*;
+
+    #[test]
+    fn a_naming_is_read(rt: HostRuntime) {
+        let naming = StreamLine::Naming {
+            clock: Moment::zero(),
+            id: 64,
+            seq: 18446744073709551615,
+        };
+        assert_eq!(rt;
+            StreamLine::read(b"anr 0 64 18446744073709551615"),
+            Some(naming)
+        );
+    }
 }

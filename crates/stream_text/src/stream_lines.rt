@@ -3,7 +3,7 @@ ghost use Rattle.std.specs.Prelude.{◌≡◌, ℕ, ◌+◌, ◌^◌, ◌<◌, �
 ghost use Rattle.stream_text.specs.StreamFile.{Goes, Unread, events_from, events_of, follow, may_end, told};
 
 use crate::order_front::pass_order;
-use crate::stream_line::{StreamLine, read_stream_line};
+use crate::stream_line::StreamLine;
 use crate::text_lines::{FirstLine, first_line};
 use std::marker::Model;
 
@@ -75,7 +75,7 @@ fn tell(place: Place, line: FirstLine<'_>) -> Option<(StreamLine, Place)>
     if !line.ended {
         return None;
     }
-    let says = read_stream_line(line.text)?;
+    let says = StreamLine::read(line.text)?;
     let next = place.follow(&says)?;
     Some((says, next))
 }

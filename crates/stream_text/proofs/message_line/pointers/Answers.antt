@@ -1,9 +1,8 @@
-use Rattle.std.proofs.Common.{◌≡◌, ℕ, ◌+◌, ◌<◌, ◌++◌, ◌∷◌, [], length, arith, sym, ◌∙◌, ap}
+use Rattle.std.proofs.Common.{◌≡◌, ℕ, ◌<◌, ◌++◌, ◌∷◌, [], length, arith, sym, ◌∙◌, ap}
 use Rattle.std.proofs.lemmas.Bool.Decides.{nat_tests}
 use Rattle.std.proofs.lemmas.List.{length-append}
 use Rattle.input_types.specs.declared.pointer.Pointer.{Pointer}
-use Rattle.stream_text.specs.MessageLine.{pointers_at}
-use Rattle.stream_text.proofs.Pointers.{in_front, in_front_none, pushed, when_ok, EndsBelow-append}
+use Rattle.stream_text.proofs.Pointers.{in_front_none, pushed, when_ok, EndsBelow-append}
 use Rattle.stream_text.proofs.message_line.pointers.Goals as goal
 
 pub pointers-init : goal.pointers-init

@@ -1,6 +1,6 @@
-use Rattle.std.proofs.Common.{◌≡◌, ◌++◌, ◌∷◌, ◌≤◌, [], Some, arith, sym, ◌∙◌, ap}
+use Rattle.std.proofs.Common.{◌≡◌, Some, arith, sym, ◌∙◌, ap}
 use Rattle.std.proofs.lemmas.Result.{err_from_is_err_and}
-use Rattle.stream_text.specs.StreamAnswer.{behind, message_told, opened}
+use Rattle.stream_text.specs.StreamAnswer.{message_told, opened}
 use Rattle.stream_text.proofs.Streams.{begins_bad, opened_more}
 use Rattle.stream_text.proofs.stream_file.section.Goals as goal
 

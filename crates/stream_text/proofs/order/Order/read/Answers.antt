@@ -1,13 +1,8 @@
-use Rattle.std.proofs.Common.{◌≡◌, ◌∙◌, arith, Ok, Some, sym}
-use Rattle.stream_text.specs.OrderText.{behind_head, head_of, lines_from, order_of}
-use Rattle.stream_text.specs.TextLines.{lines_of}
-use Rattle.stream_text.proofs.OrderReading.{all_read}
+use Rattle.stream_text.proofs.OrderAnswers.{answers_again, answers_spelled}
 use Rattle.stream_text.proofs.order.Order.read.Goals as goal
 
-pub returns : goal.returns
-unfolding order_of
-returns c =
-    let none : c.lines.left ≡ 0 = omega arith in
-    rw c.first_line-head.ensures.lines
-    (rw (← c.in-Some.ensures)
-    (all_read c.lines.order c.lines.number c.lines.left (lines_of c.lines.rest.now) (lines_from 2 c.in-Some.count (lines_of c.first_line-head.result.rest.now)) none c.lines.invariant.read))
+pub returns-clause-spelled : goal.returns-clause-spelled
+returns-clause-spelled c = answers_spelled c.read_all.result c.args.bytes.now c.read_all.ensures
+
+pub returns-clause-again : goal.returns-clause-again
+returns-clause-again c = answers_again c.read_all.result c.args.bytes.now c.read_all.ensures

@@ -1,7 +1,7 @@
-use Rattle.std.proofs.Common.{◌≡◌, ◌++◌, ◌∷◌, ◌+◌, [], List, Some, map, arith, sym, ◌∙◌, ap}
+use Rattle.std.proofs.Common.{◌≡◌, ◌++◌, ◌∷◌, ◌+◌, [], List, Some, map, sym, ◌∙◌, ap}
 use Rattle.std.proofs.lemmas.List.{map-append}
-use Rattle.stream_text.specs.StreamFile.{Stream, streams_in, with_event}
-use Rattle.stream_text.specs.StreamAnswer.{behind, channel_told, stream_seen, with_stream}
+use Rattle.stream_text.specs.StreamFile.{Stream, streams_in}
+use Rattle.stream_text.specs.StreamAnswer.{behind, channel_told, stream_seen}
 use Rattle.stream_text.proofs.Streams.{before, before_more, channel_opens}
 use Rattle.stream_text.proofs.stream_file.StreamReader.read.Goals as goal
 

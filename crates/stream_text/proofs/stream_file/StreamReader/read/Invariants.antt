@@ -1,4 +1,4 @@
-use Rattle.std.proofs.Common.{◌≡◌, ℕ, ◌+◌, ◌^◌, ◌<◌, map}
+use Rattle.std.proofs.Common.{◌≡◌, ◌+◌, ◌^◌, ◌<◌, map}
 use Rattle.std.specs.Prelude.{IfSome}
 use Rattle.stream_text.specs.StreamFile.{events_of, streams_in}
 use Rattle.stream_text.specs.StreamAnswer.{behind, pending, stream_seen}

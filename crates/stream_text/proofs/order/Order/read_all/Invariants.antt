@@ -2,7 +2,7 @@ use Rattle.std.proofs.Common.{◌≡◌, ◌+◌, ◌≤◌, length}
 use Rattle.stream_text.specs.OrderText.{lines_from}
 use Rattle.stream_text.specs.TextLines.{lines_of}
 use Rattle.stream_text.proofs.OrderReading.{behind}
-use Rattle.stream_text.proofs.order.Order.read.Given as goal
+use Rattle.stream_text.proofs.order.Order.read_all.Given as goal
 
 abbrev pub invariant-lines : goal.invariant-lines
 invariant-lines l = record {
