@@ -11,3 +11,5 @@ pub mod Streams
 pub mod MessageTexts
 pub mod LineTexts
 pub mod StreamExamples
+pub mod NoNewlines
+pub mod StreamTexts

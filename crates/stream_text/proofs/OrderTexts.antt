@@ -21,19 +21,19 @@ abbrev pub NoNewline : List ℕ → Type 0
 NoNewline [] = Unit {0}
 NoNewline (b ∷ bs) = ((b == 10) ≡ false) × NoNewline bs
 
-no_newline_append : (cs bs : List ℕ) → NoNewline cs → NoNewline bs → NoNewline (cs ++ bs)
+pub no_newline_append : (cs bs : List ℕ) → NoNewline cs → NoNewline bs → NoNewline (cs ++ bs)
 no_newline_append [] bs h i = i
 no_newline_append (c ∷ cs) bs h i = (h.0, no_newline_append cs bs h.1 i)
 
 digit_no_newline : (n : ℕ) → (48 + n == 10) ≡ false
 digit_no_newline n = grind (arith, nat_tests)
 
-decimal_no_newline : (n : ℕ) → n < 2 ^ 64 → NoNewline (decimal n)
+pub decimal_no_newline : (n : ℕ) → n < 2 ^ 64 → NoNewline (decimal n)
 decimal_no_newline n h =
     let P : ℕ → List ℕ → Type 0 = λ _ ds. NoNewline ds in
     decimal_by_steps P (λ k l. (digit_no_newline k, tt)) (λ k ds l p. no_newline_append ds ((48 + k % 10) ∷ []) p (digit_no_newline (k % 10), tt)) n h
 
-line_no_newline : (line : OrderLine) → IsLine line → NoNewline (line_spelling line)
+pub line_no_newline : (line : OrderLine) → IsLine line → NoNewline (line_spelling line)
 unfolding labeled
 line_no_newline Reader h = (refl, tt)
 line_no_newline (Script lane) h = (refl, (refl, decimal_no_newline lane (omega arith)))
@@ -43,7 +43,7 @@ line_no_newline (Receive channel) h = (refl, (refl, decimal_no_newline channel (
 line_no_newline (Finish channel seq) h =
     (refl, (refl, no_newline_append (decimal channel) (32 ∷ decimal seq) (decimal_no_newline channel (omega arith)) (refl, decimal_no_newline seq (omega arith))))
 
-head_no_newline : (n : ℕ) → n < 2 ^ 64 → NoNewline (head_spelling n)
+pub head_no_newline : (n : ℕ) → n < 2 ^ 64 → NoNewline (head_spelling n)
 unfolding head_spelling labeled
 head_no_newline n h = (refl, (refl, (refl, (refl, (refl, (refl, decimal_no_newline n h))))))
 
@@ -52,7 +52,7 @@ pub lines_again : (text rest : List ℕ) → NoNewline text → lines_of (text +
 lines_again [] rest h = refl
 lines_again (b ∷ bs) rest h = rw (h.0, lines_again bs rest h.1) refl
 
-not_zero : (n : ℕ) → (suc n == 0) ≡ false
+pub not_zero : (n : ℕ) → (suc n == 0) ≡ false
 not_zero n = grind (arith, nat_tests)
 
 one_more : (k n : ℕ) (line : Line) (lines : List Line) → lines_from k (suc n) (line ∷ lines) ≡ with_line k (order_line_of line.0) (lines_from (k + 1) n lines)
