@@ -13,3 +13,4 @@ pub mod LineTexts
 pub mod StreamExamples
 pub mod NoNewlines
 pub mod StreamTexts
+pub mod StreamOnly

@@ -40,12 +40,12 @@ step place next n words rest says clean spells follows =
 same_true : (n : ℕ) → eqb n n ≡ true
 same_true n = eq-eqb n n refl
 
-end_text : (id sent received finished : ℕ) (rest : List ℕ) → end_line id sent received finished ++ rest ≡ end_words id sent received finished ++ 10 ∷ rest
+pub end_text : (id sent received finished : ℕ) (rest : List ℕ) → end_line id sent received finished ++ rest ≡ end_words id sent received finished ++ 10 ∷ rest
 unfolding end_line end_words
 end_text id sent received finished rest =
     append_assoc (labeled (codes "end ") id ++ labeled (codes " sent ") sent ++ labeled (codes " received ") received ++ labeled (codes " finished ") finished) (codes "\n") rest
 
-message_text : (m : Told) (ms : List Told) (rest : List ℕ) → message_lines (m ∷ ms) ++ rest ≡ message_words m ++ 10 ∷ (message_lines ms ++ rest)
+pub message_text : (m : Told) (ms : List Told) (rest : List ℕ) → message_lines (m ∷ ms) ++ rest ≡ message_words m ++ 10 ∷ (message_lines ms ++ rest)
 unfolding message_words
 message_text m ms rest =
     append_assoc (message_line m) (message_lines ms) rest ∙ append_assoc (numbered m.seq m.moment ++ body m.body) (codes "\n") (message_lines ms ++ rest)
@@ -82,7 +82,7 @@ section_rest id first told n sent received finished front (m ∷ ms) rest i k e 
     ∙ ap (λ (all : List Told). with_stream (record { id = id; first_line = first; messages = all }) (streams_in (events_from Between (n + 1 + length ms + 1) (lines_of rest)))) (append_assoc front (m ∷ []) ms)
     ∙ ap (λ (k : ℕ). with_stream (record { id = id; first_line = first; messages = front ++ m ∷ ms }) (streams_in (events_from Between k (lines_of rest)))) next
 
-first_text : (s : Section) (rest : List ℕ)
+pub first_text : (s : Section) (rest : List ℕ)
     → section_text s ++ rest ≡ channel_words s.id s.name ++ 10 ∷ (message_lines s.messages ++ (end_line s.id (length s.messages) s.received s.finished ++ rest))
 unfolding section_text channel_line channel_words
 first_text s rest =
@@ -103,7 +103,7 @@ section_again n s rest h =
     ∙ channel_opens s.id n (Channel s.id) left refl
     ∙ section_rest s.id (n + 1) 0 (n + 1) (length s.messages) s.received s.finished [] s.messages rest h.id h.messages (omega arith) h.sent h.received h.finished
 
-naming_text : (x : Naming) (rest : List ℕ) → naming_line x.clock x.id x.seq ++ rest ≡ naming_words x.clock x.id x.seq ++ 10 ∷ rest
+pub naming_text : (x : Naming) (rest : List ℕ) → naming_line x.clock x.id x.seq ++ rest ≡ naming_words x.clock x.id x.seq ++ 10 ∷ rest
 unfolding naming_line naming_words
 naming_text x rest = append_assoc (labeled (codes "anr ") x.clock ++ labeled (codes " ") x.id ++ labeled (codes " ") x.seq) (codes "\n") rest
 

@@ -76,3 +76,9 @@ streams_from n (s ∷ ss) = record { id = s.id; first_line = n + 1; messages = s
 abbrev pub line_behind : Option (List OrderLine) → ℕ
 line_behind None = 1
 line_behind (Some order) = 2 + length order
+
+-- the bytes are the text of a stream file
+abbrev pub IsStreamFile : List ℕ → Type 0
+IsStreamFile bytes =
+    (order : Option (List OrderLine)) × (sections : List Section) × (namings : List Naming)
+    × (MayBeOrder order × AreSections sections × AreNamings namings × (bytes ≡ stream_text order sections namings))

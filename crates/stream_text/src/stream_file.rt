@@ -4,7 +4,7 @@ ghost use Rattle.stream_text.specs.StreamFile.{events_of, streams_in};
 ghost use Rattle.stream_text.specs.StreamAnswer.{Answers, Begins, Finds, channel_told, message_told, pending};
 ghost use Rattle.std.specs.Prelude.{List, Option};
 ghost use Rattle.stream_text.specs.declared.order_line.OrderLine.{OrderLine};
-ghost use Rattle.stream_text.specs.StreamText.{AreNamings, AreSections, MayBeOrder, Naming, Section, line_behind, stream_text, streams_from};
+ghost use Rattle.stream_text.specs.StreamText.{AreNamings, AreSections, IsStreamFile, MayBeOrder, Naming, Section, line_behind, stream_text, streams_from};
 
 use crate::stream_error::StreamError;
 use crate::stream_line::StreamLine;
@@ -111,7 +111,7 @@ fn streams(alloc: Global, bytes: &[u8]) -> Result<StreamFile, StreamError>
 impl StreamReader {
     /// The streams of a stream file: an order text that may be absent and is passed over, sections of channels, and namings.
     ///
-    /// It accepts the texts that `order_text`, `channel_text` and `naming_text` append one after another, where the k-th message of a
+    /// It accepts just the texts that `order_text`, `channel_text` and `naming_text` append one after another, where the k-th message of a
     /// section has number k and the end of a section tells how many there are. The refusal is that of the first line that has not its form,
     /// does not fit there, or is missing. The last line has to end in a newline.
     pub fn read(alloc: Global, bytes: &[u8]) -> Result<StreamFile, StreamError>
@@ -119,6 +119,7 @@ impl StreamReader {
         ensures again { (order : Option (List OrderLine)) → (sections : List Section) → (namings : List Naming)
             → MayBeOrder order → AreSections sections → AreNamings namings → bytes.now ≡ stream_text order sections namings
             → Answers result (Ok (streams_from (line_behind order) sections)) }
+        ensures only { OnOk result (IsStreamFile bytes.now) }
     {
         streams(alloc, bytes)
     }
