@@ -2,6 +2,7 @@ pub mod Examples
 pub mod OrderAnswers
 pub mod OrderExamples
 pub mod OrderLines
+pub mod OrderPassed
 pub mod OrderReading
 pub mod OrderTexts
 pub mod TextLines

@@ -1,9 +1,12 @@
 -- Orders, worked out: their spelling, each form of a line, and texts that are refused.
 use Rattle.std.specs.Prelude.{codes, ◌≡◌, [], ◌∷◌, Ok, Err, None, refl, true, false}
 use Rattle.std.specs.Fmt.{digits}
+use Rattle.dispatch_calls.specs.declared.call.Call.TheVariants as calls
+use Rattle.dispatch_calls.specs.declared.reply.Reply.TheVariants as replies
 use Rattle.stream_text.specs.declared.order_line.OrderLine.TheVariants.{Reader, Script, Pump, Tick, Receive, Finish}
 use Rattle.stream_text.specs.Number.{number_at}
 use Rattle.stream_text.specs.Order.{finish_line, head_spelling, number_alone, order_line_of, order_spelling, receive_line, script_line}
+use Rattle.stream_text.specs.OrderHistory.{order_of_history}
 use Rattle.stream_text.specs.OrderText.{head_of, order_of, order_passed}
 use Rattle.stream_text.specs.Spelling.{labeled}
 use Rattle.stream_text.specs.TextLines.{lines_of}
@@ -124,3 +127,15 @@ not_ended = refl
 pub no_order : order_passed (lines_of (codes "order 0")) ≡ Ok (1, (codes "order 0", false) ∷ [])
 unfolding head_of number_alone number_at
 no_order = refl
+
+-- a channel is opened, and then a step of lane 1 is made by seat 7, args come in, and the dispatcher takes them
+pub told_in_order :
+    order_of_history (7 ∷ []) (
+    record { seat = 0; call = calls.Finish 0 1 2; reply = replies.Done }
+    ∷ record { seat = 0; call = calls.Pump 0; reply = replies.Dispatched }
+    ∷ record { seat = 7; call = calls.FocusOn 0 None; reply = replies.Done }
+    ∷ record { seat = 0; call = calls.Open 5000000; reply = replies.Opened 1 }
+    ∷ []
+    )
+    ≡ Script 1 ∷ Pump ∷ Finish 1 2 ∷ []
+told_in_order = refl

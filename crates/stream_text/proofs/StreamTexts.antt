@@ -1,12 +1,10 @@
 -- The text of a stream file is read again as its streams.
-use Rattle.std.proofs.Common.{◌≡◌, ℕ, suc, ◌+◌, ◌-◌, ◌^◌, ◌<◌, ◌≤◌, List, [], ◌∷◌, ◌++◌, length, Option, Some, None, Ok, true, refl, sym, ap, subst, ◌∙◌, arith}
+use Rattle.std.proofs.Common.{◌≡◌, ℕ, ◌+◌, ◌^◌, ◌<◌, ◌≤◌, List, [], ◌∷◌, ◌++◌, length, Option, Some, None, Ok, true, refl, sym, ap, subst, ◌∙◌, arith}
 use Rattle.std.specs.Prelude.{codes}
 use Rattle.std.specs.Fmt.{decimal}
-use Rattle.std.specs.List.{AllByRecursion}
 use Rattle.std.proofs.Math.Dec.{eqb}
 use Rattle.std.proofs.lemmas.Bool.{eq-eqb}
 use Rattle.std.proofs.lemmas.List.{append_assoc, append-nil}
-use Rattle.std.proofs.lemmas.List.Elements.{recursion_from_All}
 use Rattle.input_types.specs.declared.message.Message.{Message as Told}
 use Rattle.stream_text.specs.declared.order_line.OrderLine.{OrderLine}
 use Rattle.stream_text.specs.declared.stream_line.StreamLine.{StreamLine}
@@ -14,8 +12,7 @@ use Rattle.stream_text.specs.declared.stream_line.StreamLine.TheVariants.{Channe
 use Rattle.stream_text.specs.declared.stream_lines.Place.{Place}
 use Rattle.stream_text.specs.declared.stream_lines.Place.TheVariants.{Between, Section as InSection, Namings}
 use Rattle.stream_text.specs.Number.{◌>>=◌}
-use Rattle.stream_text.specs.Order.{IsLine, head_spelling, line_spelling, lines_spelling, order_spelling, order_line_of}
-use Rattle.stream_text.specs.OrderText.{IsOrder, head_of, lines_passed, order_passed, passed_behind}
+use Rattle.stream_text.specs.OrderText.{head_of, order_passed, passed_behind}
 use Rattle.stream_text.specs.TextLines.{Line, lines_of}
 use Rattle.stream_text.specs.Spelling.{channel_line, end_line, labeled, message_line, message_lines, naming_line, numbered, body}
 use Rattle.stream_text.specs.MessageLine.{message_words}
@@ -25,8 +22,8 @@ use Rattle.stream_text.specs.StreamAnswer.{opened, with_stream}
 use Rattle.stream_text.specs.StreamText.{AreNamings, AreNumbered, AreSections, IsSection, MayBeOrder, Naming, Section, line_behind, namings_text, section_text, sections_text, stream_text, streams_from}
 use Rattle.stream_text.proofs.LineTexts.{line_again}
 use Rattle.stream_text.proofs.NoNewlines.{first_ok, last_ok, message_ok, name_ok}
-use Rattle.stream_text.proofs.OrderLines.{head_again, line_again as order_line_again}
-use Rattle.stream_text.proofs.OrderTexts.{NoNewline, head_no_newline, line_no_newline, lines_again, not_zero}
+use Rattle.stream_text.proofs.OrderPassed.{order_over}
+use Rattle.stream_text.proofs.OrderTexts.{NoNewline, lines_again}
 use Rattle.stream_text.proofs.Streams.{channel_opens, opened_end, opened_more, others_add_none}
 
 -- a line that is spelled, in front of others
@@ -133,35 +130,7 @@ sections_again n (s ∷ ss) ns h i =
     ∙ section_again n s (sections_text ss ++ namings_text ns) h.0
     ∙ ap (with_stream stream) (sections_again (n + 1 + length s.messages + 1) ss ns h.1 i)
 
--- an order in front
-none_left : (k : ℕ) (lines : List Line) → lines_passed k 0 lines ≡ Ok (k, lines)
-none_left k [] = refl
-none_left k (line ∷ lines) = refl
-
-passed_more : (k n : ℕ) (text : List ℕ) (lines : List Line) (line : OrderLine) → order_line_of text ≡ Some line → lines_passed k (suc n) ((text, true) ∷ lines) ≡ lines_passed (k + 1) n lines
-passed_more k n text lines line e = let less : suc n - 1 ≡ n = omega arith in rw (not_zero n, e, less) refl
-
-all_passed : (k : ℕ) (order : List OrderLine) (rest : List ℕ) → AllByRecursion IsLine order
-    → lines_passed k (length order) (lines_of (lines_spelling order ++ rest)) ≡ Ok (k + length order, lines_of rest)
-all_passed k [] rest h = none_left k (lines_of rest) ∙ ap (λ (n : ℕ). Ok (n, lines_of rest)) (let e : k ≡ k + 0 = omega arith in e)
-all_passed k (line ∷ lines) rest h =
-    let text : lines_spelling (line ∷ lines) ++ rest ≡ line_spelling line ++ 10 ∷ (lines_spelling lines ++ rest) = simp append_assoc in
-    let next : k + 1 + length lines ≡ k + length (line ∷ lines) = omega arith in
-    ap (λ t. lines_passed k (length (line ∷ lines)) (lines_of t)) text
-    ∙ ap (lines_passed k (length (line ∷ lines))) (lines_again (line_spelling line) (lines_spelling lines ++ rest) (line_no_newline line h.0))
-    ∙ passed_more k (length lines) (line_spelling line) (lines_of (lines_spelling lines ++ rest)) line (order_line_again line h.0)
-    ∙ all_passed (k + 1) lines rest h.1
-    ∙ ap (λ (n : ℕ). Ok (n, lines_of rest)) next
-
-order_front : (order : List OrderLine) (rest : List ℕ) → IsOrder order → order_passed (lines_of (order_spelling order ++ rest)) ≡ Ok (2 + length order, lines_of rest)
-unfolding order_spelling
-order_front order rest h =
-    let text : head_spelling (length order) ++ codes "\n" ++ lines_spelling order ++ rest ≡ head_spelling (length order) ++ 10 ∷ (lines_spelling order ++ rest) = simp append_assoc in
-    ap (λ t. order_passed (lines_of t)) text
-    ∙ ap order_passed (lines_again (head_spelling (length order)) (lines_spelling order ++ rest) (head_no_newline (length order) h.1))
-    ∙ ap (λ o. passed_behind o (head_spelling (length order), true) (lines_of (lines_spelling order ++ rest))) (head_again (length order) h.1)
-    ∙ all_passed 2 order rest (recursion_from_All IsLine order h.0)
-
+-- no order in front
 other_front : (words rest : List ℕ) → NoNewline words → head_of words ≡ None → order_passed (lines_of (words ++ 10 ∷ rest)) ≡ Ok (1, lines_of (words ++ 10 ∷ rest))
 other_front words rest clean e =
     let parts = lines_again words rest clean in
@@ -196,4 +165,4 @@ pub stream_again : (order : Option (List OrderLine)) (ss : List Section) (ns : L
 unfolding events_of stream_text
 stream_again None ss ns o h i = ap (λ p. streams_in (events_behind p)) (no_order ss ns h i) ∙ sections_again 1 ss ns h i
 stream_again (Some order) ss ns o h i =
-    ap (λ p. streams_in (events_behind p)) (order_front order (sections_text ss ++ namings_text ns) o) ∙ sections_again (2 + length order) ss ns h i
+    ap (λ p. streams_in (events_behind p)) (order_over order (sections_text ss ++ namings_text ns) o) ∙ sections_again (length order + 2) ss ns h i

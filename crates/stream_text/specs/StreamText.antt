@@ -75,7 +75,7 @@ streams_from n (s ∷ ss) = record { id = s.id; first_line = n + 1; messages = s
 -- the number of the line behind an order
 abbrev pub line_behind : Option (List OrderLine) → ℕ
 line_behind None = 1
-line_behind (Some order) = 2 + length order
+line_behind (Some order) = length order + 2
 
 -- the bytes are the text of a stream file
 abbrev pub IsStreamFile : List ℕ → Type 0

@@ -9,6 +9,8 @@
 //! Numbers are decimal without leading zeros, words are separated by one space, and each line ends in a newline. Each message has one
 //! spelling: the definitions stand in `specs/Spelling.antt`.
 //!
+//! An order names the calls of a run, one a line, behind a line that says how many they are: `specs/Order.antt` and `specs/OrderText.antt`.
+//!
 //! A stream file has the streams of some channels, as any program may write it:
 //!
 //! ```text

@@ -1,5 +1,5 @@
 //! Orders: which calls were made, one after another.
-ghost use Rattle.std.specs.Prelude.{◌≡◌, ℕ, codes, List, [], ◌∷◌, ◌++◌, ◌==◌, length, slice_get, IfOk, IfSome, OnOk, OnErr};
+ghost use Rattle.std.specs.Prelude.{◌≡◌, ℕ, ◌+◌, codes, List, [], ◌∷◌, ◌++◌, ◌==◌, length, slice_get, IfOk, IfSome, OnOk, OnErr};
 
 use crate::line::{add_labeled, add_word};
 use crate::order_error::OrderError;
@@ -122,7 +122,8 @@ impl Order {
 }
 
 ghost use Rattle.stream_text.specs.Order.{head_spelling, lines_spelling, order_spelling};
-ghost use Rattle.stream_text.specs.OrderText.{order_of};
+ghost use Rattle.stream_text.specs.OrderText.{order_of, order_passed};
+ghost use Rattle.stream_text.specs.TextLines.{lines_of};
 
 fn add_lines(text: &mut Vec<u8>, lines: &[OrderLine]) -> Result<(), AllocError>
     ensures { IfOk result (λ _. text.new.items ≡ text.old.items ++ lines_spelling lines.now) }
@@ -150,6 +151,9 @@ pub fn order_text(order: &Order, out: &mut Vec<u8>) -> Result<(), AllocError>
 
     // What is appended is read again as the order, whatever follows.
     ensures again { (rest : List ℕ) → order_of (order_spelling order.now ++ rest) ≡ Ok order.now }
+
+    // In front of other lines it is passed over.
+    ensures passed { (rest : List ℕ) → order_passed (lines_of (order_spelling order.now ++ rest)) ≡ Ok (length order.now + 2, lines_of rest) }
 {
     let mut text = Vec::new(*out.allocator());
     add_order(&mut text, order.lines.as_slice())?;
