@@ -12,3 +12,6 @@ pub mod Streams
 pub mod MessageTexts
 pub mod LineTexts
 pub mod StreamExamples
+pub mod NoNewlines
+pub mod StreamTexts
+pub mod StreamOnly

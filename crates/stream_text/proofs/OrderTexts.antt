@@ -21,14 +21,14 @@ abbrev pub NoNewline : List ℕ → Type 0
 NoNewline [] = Unit {0}
 NoNewline (b ∷ bs) = ((b == 10) ≡ false) × NoNewline bs
 
-no_newline_append : (cs bs : List ℕ) → NoNewline cs → NoNewline bs → NoNewline (cs ++ bs)
+pub no_newline_append : (cs bs : List ℕ) → NoNewline cs → NoNewline bs → NoNewline (cs ++ bs)
 no_newline_append [] bs h i = i
 no_newline_append (c ∷ cs) bs h i = (h.0, no_newline_append cs bs h.1 i)
 
 digit_no_newline : (n : ℕ) → (48 + n == 10) ≡ false
 digit_no_newline n = grind (arith, nat_tests)
 
-decimal_no_newline : (n : ℕ) → n < 2 ^ 64 → NoNewline (decimal n)
+pub decimal_no_newline : (n : ℕ) → n < 2 ^ 64 → NoNewline (decimal n)
 decimal_no_newline n h =
     let P : ℕ → List ℕ → Type 0 = λ _ ds. NoNewline ds in
     decimal_by_steps P (λ k l. (digit_no_newline k, tt)) (λ k ds l p. no_newline_append ds ((48 + k % 10) ∷ []) p (digit_no_newline (k % 10), tt)) n h

@@ -8,3 +8,4 @@ pub mod MessageLine
 pub mod StreamLine
 pub mod StreamFile
 pub mod StreamAnswer
+pub mod StreamText

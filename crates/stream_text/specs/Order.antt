@@ -29,21 +29,14 @@ order_spelling lines = head_spelling (length lines) ++ codes "\n" ++ lines_spell
 
 -- script lanes have the numbers 1 to 8
 abbrev pub HasLane : OrderLine → Type 0
-HasLane Reader = Unit {0}
 HasLane (Script lane) = (1 ≤ lane) × (lane ≤ 8)
-HasLane Pump = Unit {0}
-HasLane Tick = Unit {0}
-HasLane (Receive channel) = Unit {0}
-HasLane (Finish channel seq) = Unit {0}
+HasLane _ = Unit {0}
 
 -- channels have numbers of 32 bits, and messages of 64
 abbrev pub HasNumbers : OrderLine → Type 0
-HasNumbers Reader = Unit {0}
-HasNumbers (Script lane) = Unit {0}
-HasNumbers Pump = Unit {0}
-HasNumbers Tick = Unit {0}
 HasNumbers (Receive channel) = channel < 2 ^ 32
 HasNumbers (Finish channel seq) = (channel < 2 ^ 32) × (seq < 2 ^ 64)
+HasNumbers _ = Unit {0}
 
 -- a line that an order may have
 abbrev pub IsLine : OrderLine → Type 0

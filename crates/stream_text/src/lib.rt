@@ -10,6 +10,18 @@
 //! spelling: the definitions stand in `specs/Spelling.antt`.
 //!
 //! An order names the calls of a run, one a line, behind a line that says how many they are: `specs/Order.antt` and `specs/OrderText.antt`.
+//!
+//! A stream file has the streams of some channels, as any program may write it:
+//!
+//! ```text
+//! channel 1 main
+//! 1 2000 motion 1 DOWN 0@110,200
+//! 2 4000 motion 1 UP 0@110,200
+//! end 1 sent 2 received 2 finished 2
+//! ```
+//!
+//! An order may stand in front, and namings may stand behind the sections. `StreamLines` goes through such a file line by line and takes no
+//! memory; `StreamReader` answers its streams.
 #![tactic(auto)]
 
 mod line;

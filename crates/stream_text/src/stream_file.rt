@@ -2,6 +2,9 @@
 ghost use Rattle.std.specs.Prelude.{◌≡◌, ℕ, ◌+◌, ◌^◌, ◌<◌, ◌≤◌, IfOk, IfSome, OnOk, Ok, Err};
 ghost use Rattle.stream_text.specs.StreamFile.{events_of, streams_in};
 ghost use Rattle.stream_text.specs.StreamAnswer.{Answers, Begins, Finds, channel_told, message_told, pending};
+ghost use Rattle.std.specs.Prelude.{List, Option};
+ghost use Rattle.stream_text.specs.declared.order_line.OrderLine.{OrderLine};
+ghost use Rattle.stream_text.specs.StreamText.{AreNamings, AreSections, IsStreamFile, MayBeOrder, Naming, Section, line_behind, stream_text, streams_from};
 
 use crate::stream_error::StreamError;
 use crate::stream_line::StreamLine;
@@ -79,35 +82,46 @@ fn section(
     }
 }
 
+/// The streams of a stream file.
+fn streams(alloc: Global, bytes: &[u8]) -> Result<StreamFile, StreamError>
+    ensures { Answers result (streams_in (events_of bytes.now)) }
+{
+    let mut lines = match StreamLines::new(bytes) {
+        Ok(lines) => lines,
+        Err(line) => return Err(StreamError::BadLine { line }),
+    };
+    let mut channels = Vec::new(alloc);
+    let mut line = next_line(&mut lines)?;
+    'lines: while let Some((number, says)) = line {
+        if let Some(id) = channel_of(&says) {
+            let (messages, behind) = section(alloc, &mut lines)?;
+            channels.push(StreamChannel {
+                id,
+                first_line: number + 1,
+                messages,
+            })?;
+            line = behind;
+        } else {
+            line = next_line(&mut lines)?;
+        }
+    }
+    Ok(StreamFile { channels })
+}
+
 impl StreamReader {
     /// The streams of a stream file: an order text that may be absent and is passed over, sections of channels, and namings.
     ///
-    /// It accepts the texts that `order_text`, `channel_text` and `naming_text` append one after another, where the k-th message of a
+    /// It accepts just the texts that `order_text`, `channel_text` and `naming_text` append one after another, where the k-th message of a
     /// section has number k and the end of a section tells how many there are. The refusal is that of the first line that has not its form,
     /// does not fit there, or is missing. The last line has to end in a newline.
     pub fn read(alloc: Global, bytes: &[u8]) -> Result<StreamFile, StreamError>
-        ensures { Answers result (streams_in (events_of bytes.now)) }
+        ensures exact { Answers result (streams_in (events_of bytes.now)) }
+        ensures again { (order : Option (List OrderLine)) → (sections : List Section) → (namings : List Naming)
+            → MayBeOrder order → AreSections sections → AreNamings namings → bytes.now ≡ stream_text order sections namings
+            → Answers result (Ok (streams_from (line_behind order) sections)) }
+        ensures only { OnOk result (IsStreamFile bytes.now) }
     {
-        let mut lines = match StreamLines::new(bytes) {
-            Ok(lines) => lines,
-            Err(line) => return Err(StreamError::BadLine { line }),
-        };
-        let mut channels = Vec::new(alloc);
-        let mut line = next_line(&mut lines)?;
-        'lines: while let Some((number, says)) = line {
-            if let Some(id) = channel_of(&says) {
-                let (messages, behind) = section(alloc, &mut lines)?;
-                channels.push(StreamChannel {
-                    id,
-                    first_line: number + 1,
-                    messages,
-                })?;
-                line = behind;
-            } else {
-                line = next_line(&mut lines)?;
-            }
-        }
-        Ok(StreamFile { channels })
+        streams(alloc, bytes)
     }
 }
 

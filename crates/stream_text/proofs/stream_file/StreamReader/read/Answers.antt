@@ -1,26 +1,26 @@
-use Rattle.std.proofs.Common.{◌≡◌, ◌++◌, ◌∷◌, ◌+◌, [], List, Some, map, sym, ◌∙◌, ap}
-use Rattle.std.proofs.lemmas.List.{map-append}
-use Rattle.stream_text.specs.StreamFile.{Stream, streams_in}
-use Rattle.stream_text.specs.StreamAnswer.{behind, channel_told, stream_seen}
-use Rattle.stream_text.proofs.Streams.{before, before_more, channel_opens}
+use Rattle.std.proofs.Common.{◌≡◌, ℕ, List, Result, Ok, Err, subst, ap, refl, ◌∙◌}
+use Rattle.std.specs.Result.{OnOk}
+use Rattle.stream_text.specs.declared.stream_error.StreamError.{StreamError}
+use Rattle.stream_text.specs.declared.stream_file.StreamFile.{StreamFile}
+use Rattle.stream_text.specs.StreamText.{IsStreamFile}
+use Rattle.stream_text.proofs.StreamOnly.{stream_only}
+use Rattle.stream_text.specs.StreamFile.{Event, Stream, events_of, streams_in}
+use Rattle.stream_text.specs.StreamAnswer.{Answers, seen}
+use Rattle.stream_text.proofs.StreamTexts.{stream_again}
 use Rattle.stream_text.proofs.stream_file.StreamReader.read.Goals as goal
 
-pub lines-preserved-in-Some-channel_of : goal.lines-preserved-in-Some-channel_of
-lines-preserved-in-Some-channel_of c =
-    let front : List Stream = map stream_seen c.lines.channels.items in
-    let rest = streams_in (behind c.in_ok-messages.behind c.section.new.lines.events) in
-    let stream : Stream = record { id = c.in-Some-channel_of.id; first_line = c.in-Some.number + 1; messages = c.in_ok-messages.messages.items } in
-    let told : channel_told c.in-Some.says ≡ Some c.in-Some-channel_of.id = sym c.channel_of.ensures ∙ c.in-Some-channel_of.is in
-    let opens = channel_opens c.in-Some-channel_of.id c.in-Some.number c.in-Some.says c.lines.lines.events told in
-    let read = c.in_ok-messages.ensures.section c.in-Some-channel_of.id (c.in-Some.number + 1) in
-    let more : map stream_seen c.push.new.self.items ≡ front ++ stream ∷ [] =
-    ap (map stream_seen) c.in_ok-push.ensures.items ∙ map-append stream_seen c.lines.channels.items _ in
-    record {
-      read =
-          ap (λ streams. before streams rest) more
-          ∙ sym (before_more front stream rest)
-          ∙ ap (before front) (sym (opens ∙ read))
-          ∙ ap (λ line. before front (streams_in (behind line c.lines.lines.events))) (sym c.in-Some.is)
-          ∙ c.lines.invariant.read;
-      range = c.in_ok-messages.ensures.range;
-    }
+pub returns-clause-again : goal.returns-clause-again
+returns-clause-again c = λ order sections namings o h i e.
+    subst (Answers c.streams.result) (ap (λ t. streams_in (events_of t)) e ∙ stream_again order sections namings o h i) c.streams.ensures
+
+some_events : (r : Result (List Event) ℕ) (streams : List Stream) → streams_in r ≡ Ok streams → (events : List Event) × (r ≡ Ok events)
+some_events (Ok events) streams h = (events, refl)
+some_events (Err bad) streams h = (cc)
+
+answers_only : (result : Result StreamFile StreamError) (bytes : List ℕ) → Answers result (streams_in (events_of bytes)) → OnOk result (IsStreamFile bytes)
+answers_only (Ok file) bytes h =
+    let (events, read) = some_events (events_of bytes) (seen file) h in stream_only bytes events read
+answers_only (Err error) bytes h = tt
+
+pub returns-clause-only : goal.returns-clause-only
+returns-clause-only c = answers_only c.streams.result c.args.bytes.now c.streams.ensures

@@ -3,7 +3,7 @@ use Rattle.std.specs.Prelude.{IfSome}
 use Rattle.stream_text.specs.StreamFile.{events_of, streams_in}
 use Rattle.stream_text.specs.StreamAnswer.{behind, pending, stream_seen}
 use Rattle.stream_text.proofs.Streams.{before}
-use Rattle.stream_text.proofs.stream_file.StreamReader.read.Given as goal
+use Rattle.stream_text.proofs.stream_file.streams.Given as goal
 
 abbrev pub invariant-lines : goal.invariant-lines
 invariant-lines l = record {
