@@ -5,7 +5,8 @@ use Rattle.dispatch_calls.specs.declared.counts.Counts.{Counts}
 use Rattle.input_types.specs.declared.message.Message.{Message}
 use Rattle.stream_text.specs.Spelling.{channel_section}
 use Rattle.session_plan.specs.Plan.{ChannelData, PlanData}
-use Rattle.replay_engine.specs.Cooked.{cooked, plans_of}
+use Rattle.device_reader.specs.CookedList.{cooked}
+use Rattle.replay_engine.specs.Cooked.{plans_of}
 use Rattle.replay_engine.specs.Routing.{channels_to, stream_by, turns_of}
 
 -- all that was sent was received and finished

@@ -6,12 +6,13 @@ ghost use Rattle.window_snapshot.specs.declared.window.Window.{Window as WindowV
 ghost use Rattle.route_plain.specs.State.{fresh};
 ghost use Rattle.session_plan.specs.Valid.{IsPlan};
 ghost use Rattle.session_plan.specs.View.{plan_view};
-ghost use Rattle.replay_engine.specs.Cooked.{cooked, latest as latest_of, plans_of, with_added};
+ghost use Rattle.device_reader.specs.CookedList.{cooked};
+ghost use Rattle.replay_engine.specs.Cooked.{plans_of};
 ghost use Rattle.replay_engine.specs.Routing.{Timed as TimedView, after_turn, args_turns, channels_to, corner_of, heard, said_by, state_by, stream_by, shown_by, turn_by, turn_of, turns_of};
 ghost use Rattle.replay_engine.specs.Following.{Follows};
 ghost use Rattle.replay_engine.specs.Written.{stream_at, written};
 
-use crate::cooking::{later, readers_of, take};
+use crate::cooking::readers_of;
 use crate::stream::Stream;
 use input_types::{Args, Moment, Pixel};
 use raw_events::RawEvent;
@@ -144,25 +145,22 @@ fn take_args(
     }
 }
 
-/// Takes the turns of the args that an event gives, at its moment raised to that of the args before.
+/// Takes the turns of the args that an event gives, at their moment.
 fn take_added(
     router: &mut Plain,
     streams: &mut Vec<Stream>,
-    latest: &mut Moment,
     moment: Moment,
     added: &[Args],
     shown: &Snapshot,
     live: u64,
 ) -> Result<(), AllocError>
     ensures len { vec_len streams.new ≡ vec_len streams.old }
-    ensures follows { (before : List (ℕ × ArgsView)) (past : List TimedView) → latest.old ≡ latest_of before
+    ensures follows { (before : List (ℕ × ArgsView)) (past : List TimedView)
         → Follows live (args_turns shown.now before past) router.old streams.old.items (vec_len streams.old)
-        → OnOk result ((latest.new ≡ latest_of (with_added moment added.now before))
-        × Follows live (args_turns shown.now (with_added moment added.now before) past) router.new streams.new.items (vec_len streams.new)) }
+        → OnOk result (Follows live (args_turns shown.now (reverse (map (λ a. (moment, a)) added.now) ++ before) past) router.new streams.new.items (vec_len streams.new)) }
 {
     for args in added {
-        *latest = later(moment, *latest);
-        take_args(router, streams, *latest, args, shown, live)?;
+        take_args(router, streams, moment, args, shown, live)?;
     }
     Ok(())
 }
@@ -196,18 +194,10 @@ pub fn route(alloc: Global, plan: &Plan, events: &[RawEvent]) -> Result<Vec<Stre
         shown = take_step(&mut router, &mut streams, step, shown, live)?;
     }
     let mut readers = readers_of(alloc, plan)?;
-    let mut latest = Moment::zero();
+    let mut added = Vec::new(alloc);
     for event in events {
-        let added = take(alloc, &mut readers, event)?;
-        take_added(
-            &mut router,
-            &mut streams,
-            &mut latest,
-            event.moment,
-            &added,
-            shown,
-            live,
-        )?;
+        let moment = readers.take(*event, &mut added)?;
+        take_added(&mut router, &mut streams, moment, &added, shown, live)?;
     }
     Ok(streams)
 }

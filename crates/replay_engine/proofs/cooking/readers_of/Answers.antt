@@ -1,5 +1,5 @@
 -- One device more.
-use Rattle.std.proofs.Common.{◌≡◌, ℕ, ◌<◌, get_or, length, subst, arith, IfSome}
+use Rattle.std.proofs.Common.{◌≡◌, ℕ, ◌<◌, ◌+◌, get_or, length, arith}
 use Rattle.replay_engine.proofs.Readers.{plans_next, readers_so_far, stand_push, numbered_push}
 use Rattle.replay_engine.proofs.cooking.readers_of.Goals as goal
 
@@ -9,11 +9,10 @@ loop-place-preserved c =
     in let within : c.loop-place.place < length ds = rw (← c.deref-device-items.ensures.value) c.loop-place-test.true
     in let is : c.device-item.result ≡ get_or ds c.loop-place.place c.device-item.result = rw (← c.deref-device-items.ensures.value) c.device-item.is
     in let count = readers_so_far c.args.plan.now.display ds c.loop-place.place c.loop-place.readers.items (omega (arith, within)) c.loop-place.invariant.stand
-    in let IsOf : ℕ → Type 0 = λ n. IfSome c.reader_of.result (λ r. r.device ≡ n)
     in record {
       stand = rw (c.in_ok-push.ensures.items, plans_next c.args.plan.now.display ds c.loop-place.place c.device-item.result within is, ← c.device_number.ensures)
-          (stand_push _ _ _ _ c.loop-place.invariant.stand c.reader_of.ensures.stands);
+          (stand_push _ _ _ _ c.loop-place.invariant.stand c.in_ok-reader.ensures.stands);
       numbered = rw c.in_ok-push.ensures.items
-          (numbered_push c.loop-place.readers.items c.reader_of.result c.loop-place.invariant.numbered
-          (subst IsOf (omega (arith, c.device_number.ensures, count)) c.reader_of.ensures.number));
+          (numbered_push c.loop-place.readers.items c.in_ok-reader.reader c.loop-place.invariant.numbered
+          (omega (arith, c.device_number.ensures, count, c.in_ok-reader.ensures.number)));
     }

@@ -1,7 +1,10 @@
 -- One step more, and one event more.
-use Rattle.std.proofs.Common.{◌≡◌, ◌<◌, ◌∙◌, ap, take, take_all, reverse, length, get_or, arith}
+use Rattle.std.proofs.Common.{◌≡◌, ◌<◌, ◌∙◌, ℕ, List, ◌∷◌, ◌++◌, ap, sym, subst, map, take, take_all, reverse, length, get_or, vec_len, arith}
 use Rattle.session_plan.specs.View.{plan_view}
-use Rattle.replay_engine.specs.Cooked.{added, cooked, plans_of}
+use Rattle.input_types.specs.declared.message.Args.{Args}
+use Rattle.device_reader.specs.CookedList.{cooked}
+use Rattle.replay_engine.specs.Cooked.{plans_of}
+use Rattle.replay_engine.specs.Following.{Follows}
 use Rattle.replay_engine.specs.Routing.{args_turns, channels_to, shown_by, step_turns, stream_by, turns_of}
 use Rattle.replay_engine.specs.Written.{written}
 use Rattle.replay_engine.proofs.Newest.{newest_of_take}
@@ -26,15 +29,16 @@ loop-event-preserved c =
     in let past = reverse (take c.loop-event.event-index c.args.events.now)
     in let item = c.event-item.result
     in let newest = newest_of_take c.args.events.now c.loop-event.event-index item c.loop-event-test.true c.event-item.is
-    in let given : c.deref.result.now ≡ added plans past item = c.deref.ensures.value ∙ c.in_ok-added.ensures.added plans past before.stand
-    in let after = c.in_ok-take_added.ensures.follows (cooked plans past) (step_turns (reverse c.args.plan.now.steps.items)) before.latest before.follows
+    in let given : cooked plans (item ∷ past) ≡ reverse (map (λ a. (c.in_ok-moment.moment, a)) c.deref.result.now) ++ cooked plans past
+    = c.in_ok-moment.ensures.cooked plans past before.stand
+    ∙ ap (λ (xs : List Args). reverse (map (λ a. (c.in_ok-moment.moment, a)) xs) ++ cooked plans past) (sym c.deref.ensures.value)
     in record {
       len = c.in_ok-take_added.ensures.len ∙ before.len;
       shown = before.shown;
-      stand = rw newest (c.in_ok-added.ensures.stand plans past before.stand);
-      numbered = c.in_ok-added.ensures.numbered;
-      latest = rw (newest, ← given) after.0;
-      follows = rw (newest, ← given) after.1;
+      stand = rw newest (c.in_ok-moment.ensures.after plans past before.stand);
+      follows = rw newest
+          (subst (λ (all : List (ℕ × Args)). Follows c.all_channels-live.result (args_turns c.loop-step.shown.now all (step_turns (reverse c.args.plan.now.steps.items))) c.take_added.new.router c.take_added.new.streams.items (vec_len c.take_added.new.streams)) (sym given)
+          (c.in_ok-take_added.ensures.follows (cooked plans past) (step_turns (reverse c.args.plan.now.steps.items)) before.follows));
     }
 
 pub returns-clause-streams : goal.returns-clause-streams

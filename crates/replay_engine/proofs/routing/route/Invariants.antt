@@ -1,6 +1,7 @@
 use Rattle.std.proofs.Common.{◌≡◌, take, reverse, length, vec_len}
 use Rattle.session_plan.specs.View.{plan_view}
-use Rattle.replay_engine.specs.Cooked.{AllStand, AreNumbered, cooked, latest, plans_of}
+use Rattle.device_reader.specs.CookedList.{ReadersStandFor, cooked}
+use Rattle.replay_engine.specs.Cooked.{plans_of}
 use Rattle.replay_engine.specs.Following.{Follows}
 use Rattle.replay_engine.specs.Routing.{args_turns, step_turns, windows_by}
 use Rattle.replay_engine.proofs.routing.route.Given as goal
@@ -20,9 +21,7 @@ invariant-loop-event l =
     record {
       len : vec_len l.streams ≡ length l.plan.channels.items;
       shown : l.shown ≡ windows_by (reverse l.plan.steps.items);
-      stand : AllStand (plans_of (plan_view l.plan)) (reverse (take l.event-index l.events)) l.readers.items;
-      numbered : AreNumbered l.readers.items;
-      latest : l.latest ≡ latest (cooked (plans_of (plan_view l.plan)) (reverse (take l.event-index l.events)));
+      stand : ReadersStandFor (plans_of (plan_view l.plan)) (reverse (take l.event-index l.events)) l.readers;
       follows : Follows l.live (args_turns l.shown (cooked (plans_of (plan_view l.plan)) (reverse (take l.event-index l.events))) (step_turns (reverse l.plan.steps.items)))
           l.router l.streams.items (vec_len l.streams);
     }

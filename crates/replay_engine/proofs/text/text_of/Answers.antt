@@ -2,7 +2,8 @@
 use Rattle.std.proofs.Common.{◌≡◌, ◌∙◌, ap, sym, length, reverse}
 use Rattle.std.proofs.lemmas.List.{length-map}
 use Rattle.session_plan.specs.View.{channel_view, plan_view}
-use Rattle.replay_engine.specs.Cooked.{cooked, plans_of}
+use Rattle.device_reader.specs.CookedList.{cooked}
+use Rattle.replay_engine.specs.Cooked.{plans_of}
 use Rattle.replay_engine.specs.Routing.{channels_to, stream_by, turns_of}
 use Rattle.replay_engine.specs.Text.{stream_of}
 use Rattle.replay_engine.specs.Written.{stream_at, written}
