@@ -192,3 +192,48 @@ fn a_read_that_fails_writes_nothing(rt: HostRuntime) -> Result<(), Fail> {
     assert_eq!(rt; ran.err.as_slice(), b"read failed\n".as_slice());
     Ok(())
 }
+
+/// Runs `verify` on a stream file.
+fn verified(rt: &impl Abort, alloc: Global, stream: &str) -> Result<Ran, Fail> {
+    let mut files = Vec::new(alloc);
+    files.push((
+        String::from_str(alloc, "stream")?,
+        Vec::from_slice(alloc, stream.as_bytes())?,
+    ))?;
+    assert!(rt; names_differ(&files));
+    let mut files = MemFiles::new(files, 64, Vec::new(alloc));
+    let mut out = MemSink::new(zeros(alloc, 4096)?, 8, Vec::new(alloc));
+    let mut err = MemSink::new(zeros(alloc, 4096)?, 8, Vec::new(alloc));
+    let mut words = Vec::new(alloc);
+    for word in ["verify", "--stream", "stream"] {
+        words.push(String::from_str(alloc, word)?)?;
+    }
+    let status = run(alloc, &words, &mut files, &mut out, &mut err);
+    Ok(Ran {
+        status,
+        out: Vec::from_slice(alloc, out.taken())?,
+        err: Vec::from_slice(alloc, err.taken())?,
+    })
+}
+
+#[test]
+fn streams_that_are_well_formed_are_counted(rt: HostRuntime) -> Result<(), Fail> {
+    let ran = verified(&rt, rt.alloc(), TOLD)?;
+    assert_eq!(rt; ran.status, 0);
+    assert_eq!(rt; ran.out.as_slice(), b"well formed 1 2\n".as_slice());
+    assert_eq!(rt; ran.err.len(), 0);
+    Ok(())
+}
+
+#[test]
+fn a_second_down_is_not_well_formed(rt: HostRuntime) -> Result<(), Fail> {
+    let ran = verified(
+        &rt,
+        rt.alloc(),
+        "channel 1 main\n1 0 motion 1 DOWN 0@1,1\n2 0 motion 1 DOWN 1@2,2\nend 1 sent 2 received 2 finished 2\n",
+    )?;
+    assert_eq!(rt; ran.status, 1);
+    assert_eq!(rt; ran.out.len(), 0);
+    assert_eq!(rt; ran.err.as_slice(), b"stream: NotWellFormed 3\n".as_slice());
+    Ok(())
+}

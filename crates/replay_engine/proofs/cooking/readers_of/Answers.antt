@@ -1,5 +1,5 @@
 -- One device more.
-use Rattle.std.proofs.Common.{◌≡◌, ℕ, ◌<◌, ◌+◌, get_or, length, arith}
+use Rattle.std.proofs.Common.{◌≡◌, ◌<◌, get_or, length, arith}
 use Rattle.replay_engine.proofs.Readers.{plans_next, readers_so_far, stand_push, numbered_push}
 use Rattle.replay_engine.proofs.cooking.readers_of.Goals as goal
 

@@ -1,5 +1,5 @@
 -- One of the args more: its turn comes after those of the args before.
-use Rattle.std.proofs.Common.{◌≡◌, ◌∙◌, ◌++◌, ap, map, reverse, take}
+use Rattle.std.proofs.Common.{◌∙◌, ◌++◌, ap, map, reverse, take}
 use Rattle.replay_engine.proofs.Added.{added_next}
 use Rattle.replay_engine.proofs.Newest.{next_of_take}
 use Rattle.replay_engine.proofs.routing.take_added.Goals as goal
