@@ -1,4 +1,4 @@
-//! The top call: from the bytes of a session and of a recording to the bytes of the streams text.
+//! The top call: `replay`, from the bytes of a session and of a recording to the bytes of the streams text, and `verify`, a judge of such texts.
 //!
 //! A recording in which tracking id 45 comes at (540, 1200) and goes again, on a display with the window `main` over it, gives
 //!
@@ -8,6 +8,8 @@
 //! 2 12345180000 motion 1 UP 0@540,1200
 //! end 1 sent 2 received 2 finished 2
 //! ```
+//!
+//! Given this text, `verify` says `well formed 1 2`.
 //!
 //! [`run`] reads the files, refuses what it does not accept with a status and a line, and writes the text. Its contract says for each
 //! status when it comes and what was written; `specs/Program.antt` says which text that is, as a function of the words and the files.
