@@ -1,4 +1,5 @@
 pub mod Examples
+pub mod HistoryExample
 pub mod OrderAnswers
 pub mod OrderExamples
 pub mod OrderLines

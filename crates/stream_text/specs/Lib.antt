@@ -8,4 +8,5 @@ pub mod MessageLine
 pub mod StreamLine
 pub mod StreamFile
 pub mod StreamAnswer
+pub mod StreamsHistory
 pub mod StreamText
