@@ -17,7 +17,8 @@ use Rattle.dispatch_history.specs.History.{History, clock, live, origin, snapsho
 use Rattle.dispatch_history.specs.Queue.{inbound, args_of}
 use Rattle.dispatch_history.specs.Effect.{Effect, past_of, stream, told_on, focus_after, told_focus}
 use Rattle.dispatch_history.specs.Effects.{effects, said_at}
-use Rattle.dispatch_history.specs.Focus.{focus_if, requested, is_at, has_focus, focus_told}
+use Rattle.focus_resolver.specs.Resolver.{focus_if}
+use Rattle.dispatch_history.specs.Focus.{may_focus, requested, is_at, has_focus, focus_told}
 use Rattle.dispatch_history.specs.Said.{motions_said, keys_said, motion_from}
 use Rattle.dispatch_history.specs.Step.{scene, step_of}
 use Rattle.dispatch_history.specs.Laws.{FocusLaw, FocusComesLaw}
@@ -61,7 +62,7 @@ moved_focus false true = refl
 moved_focus false false = refl
 
 -- the focus is only at a live channel
-focus_live : (h : History) (o : Option ℕ) (w : ℕ) → is_at (focus_if h o) w ≡ true → live h w ≡ true
+focus_live : (h : History) (o : Option ℕ) (w : ℕ) → is_at (focus_if (may_focus h) o) w ≡ true → live h w ≡ true
 focus_live h None w e = absurd (true≢false (sym e))
 focus_live h (Some c) w e = by_test (live h c && is_focusable_at (snapshot h) c) refl e
   where

@@ -1,8 +1,9 @@
 -- Which window has the focus.
-use Rattle.std.specs.Prelude.{ℕ, Bool, true, false, ◌==◌, ◌&&◌, List, [], ◌∷◌, Option, Some, None, if◌then◌else◌}
+use Rattle.std.specs.Prelude.{ℕ, Bool, true, false, ◌==◌, ◌&&◌, List, [], ◌∷◌, Option, Some, None}
 use Rattle.input_types.specs.declared.message.Body.{Body}
 use Rattle.input_types.specs.declared.message.Body.TheVariants.{Focus}
 use Rattle.window_snapshot.specs.Named.{is_focusable_at}
+use Rattle.focus_resolver.specs.Resolver.{focus_if}
 use Rattle.dispatch_calls.specs.declared.call.Call.{Call}
 use Rattle.dispatch_calls.specs.declared.call.Call.TheVariants.{FocusOn}
 use Rattle.dispatch_history.specs.History.{History, live, snapshot}
@@ -17,14 +18,13 @@ abbrev pub requested : History → Option ℕ
 requested [] = None
 requested (e ∷ h) = requested_after e.0 (requested h)
 
--- a requested channel has the focus where it is live, and the snapshot names it with a window that may have it
-abbrev pub focus_if : History → Option ℕ → Option ℕ
-focus_if h None = None
-focus_if h (Some c) = if live h c && is_focusable_at (snapshot h) c then Some c else None
+-- a channel may have the focus where it is live, and the snapshot names it with a window that may have it
+abbrev pub may_focus : History → ℕ → Bool
+may_focus h c = live h c && is_focusable_at (snapshot h) c
 
--- the window that has the focus, if there is one
+-- the window that has the focus, if there is one: the requested one, where it may
 abbrev pub focus : History → Option ℕ
-focus h = focus_if h (requested h)
+focus h = focus_if (may_focus h) (requested h)
 
 -- the focus is at this window
 abbrev pub is_at : Option ℕ → ℕ → Bool
