@@ -4,13 +4,14 @@ use Rattle.std.specs.Option.{option_map}
 use Rattle.input_types.specs.declared.pointer.Pointer.{Pointer}
 use Rattle.input_types.specs.declared.motion.Motion.{Motion}
 use Rattle.input_types.specs.declared.motion.MotionAction.{MotionAction}
-use Rattle.input_types.specs.declared.motion.MotionAction.TheVariants.{Down, Up, Move, Cancel, PointerDown, PointerUp}
+use Rattle.input_types.specs.declared.motion.MotionAction.TheVariants.{Down, Up, Move, Cancel, Outside, PointerDown, PointerUp}
 use Rattle.input_types.specs.declared.message.Args.TheVariants.{Motion as MotionArgs, Key as KeyArgs, Reset}
 use Rattle.input_types.specs.declared.message.Body.TheVariants.{Motion as MotionBody, Key as KeyBody, Focus}
 use Rattle.input_types.specs.declared.message.Message.{Message}
 use Rattle.input_types.specs.Gestures.{after_motion}
 use Rattle.input_types.specs.DeviceRule.{device_state}
 use Rattle.input_types.specs.StreamRule.{is_well_formed}
+use Rattle.input_types.specs.Displays.{display_of}
 
 -- a pointer that stands at (100, 200)
 abbrev at : ℕ → Pointer
@@ -36,9 +37,25 @@ reset_ends = refl
 pub reset_of_another : option_map (λ s. s.ids) (device_state 1 (Reset 2 ∷ MotionArgs (motion Down 0 0 (at 0 ∷ [])) ∷ [])) ≡ Some (0 ∷ [])
 reset_of_another = refl
 
--- a device never says that a gesture is cancelled
-pub no_cancel_of_a_device : option_map (λ s. s.ids) (device_state 1 (MotionArgs (motion Cancel 0 0 (at 0 ∷ [])) ∷ MotionArgs (motion Down 0 0 (at 0 ∷ [])) ∷ [])) ≡ None
-no_cancel_of_a_device = refl
+-- a device cancels its only finger, as where that became a palm
+pub palm_of_the_only_finger : option_map (λ s. s.ids) (device_state 1 (MotionArgs (motion Cancel 0 0 (at 0 ∷ [])) ∷ MotionArgs (motion Down 0 0 (at 0 ∷ [])) ∷ []))
+    ≡ Some []
+palm_of_the_only_finger = refl
+
+-- of two fingers it cancels one by an up with the flag
+pub palm_of_one_finger : option_map (λ s. s.ids) (device_state 1 (
+    MotionArgs (motion PointerUp 1 32 (at 0 ∷ at 1 ∷ [])) ∷ MotionArgs (motion PointerDown 1 0 (at 0 ∷ at 1 ∷ []))
+    ∷ MotionArgs (motion Down 0 0 (at 0 ∷ [])) ∷ [])) ≡ Some (0 ∷ [])
+palm_of_one_finger = refl
+
+-- two fingers at once are never cancelled by a device, nor does it tell of one outside
+pub no_cancel_of_two : option_map (λ s. s.ids) (device_state 1 (
+    MotionArgs (motion Cancel 0 0 (at 0 ∷ at 1 ∷ [])) ∷ MotionArgs (motion PointerDown 1 0 (at 0 ∷ at 1 ∷ []))
+    ∷ MotionArgs (motion Down 0 0 (at 0 ∷ [])) ∷ [])) ≡ None
+no_cancel_of_two = refl
+
+pub no_outside_of_a_device : option_map (λ s. s.ids) (device_state 1 (MotionArgs (motion Outside 0 0 (at 0 ∷ [])) ∷ [])) ≡ None
+no_outside_of_a_device = refl
 
 -- a window's second finger is no second Down
 pub second_down : after_motion (0 ∷ []) (motion Down 0 0 (at 1 ∷ [])) ≡ None
@@ -90,3 +107,7 @@ focus_lost_first = refl
 pub key_twice : option_map (λ s. s.ids) (device_state 1 (KeyArgs (record { device = 1; scan = 30; code = 29; meta = 0; down = true })
     ∷ KeyArgs (record { device = 1; scan = 30; code = 29; meta = 0; down = true }) ∷ [])) ≡ None
 key_twice = refl
+
+-- two devices on two displays
+pub each_device_its_display : display_of (0 ∷ 1 ∷ 0 ∷ 0 ∷ 0 ∷ 0 ∷ 0 ∷ 0 ∷ []) 2 ≡ 1
+each_device_its_display = refl

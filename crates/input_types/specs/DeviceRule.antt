@@ -1,5 +1,5 @@
 -- The rule that the args of one device keep.
-use Rattle.std.specs.Prelude.{ℕ, ◌&&◌, nat_eq, Bool, true, false, List, [], ◌∷◌, Option, Some, None, if◌then◌else◌}
+use Rattle.std.specs.Prelude.{ℕ, nat_eq, Bool, true, false, List, [], ◌∷◌, length, Option, Some, None, if◌then◌else◌}
 use Rattle.std.specs.Option.{option_map, option_and_then}
 use Rattle.input_types.specs.declared.motion.MotionAction.{MotionAction}
 use Rattle.input_types.specs.declared.motion.MotionAction.TheVariants.{Cancel, Outside}
@@ -16,21 +16,22 @@ pub record DeviceState : Type 0 where
 abbrev pub nothing_down : DeviceState
 nothing_down = record { ids = []; keys = λ _. false }
 
--- a device makes this action itself; Cancel and Outside are only told to windows
-abbrev pub is_of_device : MotionAction → Bool
-is_of_device Cancel = false
-is_of_device Outside = false
-is_of_device _ = true
+-- A device makes this action itself, listing so many pointers: a Cancel only of its last pointer, as where that became a palm, and
+-- an Outside never.
+abbrev pub is_of_device : MotionAction → ℕ → Bool
+is_of_device Cancel n = nat_eq n 1
+is_of_device Outside _ = false
+is_of_device _ _ = true
 
 -- the keys that are down once `scan` is
 abbrev pub with_key : (ℕ → Bool) → ℕ → Bool → ℕ → Bool
 with_key keys scan down s = if nat_eq s scan then down else keys s
 
--- What is down on a device after its next args, where they may come: a motion without flags by the table of motions, a key down
--- only when it is up and up only when it is down, and a reset at any time, after which nothing is down.
+-- What is down on a device after its next args, where they may come: a motion of a device by the table of motions, a key down only
+-- when it is up and up only when it is down, and a reset at any time, after which nothing is down.
 abbrev pub after_args : DeviceState → Args → Option DeviceState
 after_args s (MotionArgs m) =
-    if is_of_device m.action && nat_eq m.flags 0 then option_map (λ ids. record { ids = ids; keys = s.keys }) (after_motion s.ids m) else None
+    if is_of_device m.action (length m.pointers) then option_map (λ ids. record { ids = ids; keys = s.keys }) (after_motion s.ids m) else None
 after_args s (Key k) = allowed (differ k.down (s.keys k.scan)) (record { ids = s.ids; keys = with_key s.keys k.scan k.down })
 after_args s (Reset d) = Some nothing_down
 

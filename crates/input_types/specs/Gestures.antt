@@ -27,9 +27,13 @@ differ false b = b
 abbrev pub is_plain : ℕ → ℕ → Bool
 is_plain index flags = (index == 0) && (flags == 0)
 
+-- FLAG_CANCELED of MotionEvent and KeyEvent, 0x20
+abbrev pub flag_canceled : ℕ
+flag_canceled = 32
+
 -- no flag, or FLAG_CANCELED
 abbrev pub is_end_flag : ℕ → Bool
-is_end_flag flags = (flags == 0) || (flags == 32)
+is_end_flag flags = (flags == 0) || (flags == flag_canceled)
 
 -- What is down after an action that lists `ids`, where `down` was before it; both rise. None where the action may not come then:
 --   Down          from nothing, and lists one pointer

@@ -4,3 +4,4 @@ pub mod Inverse
 pub mod Gestures
 pub mod DeviceRule
 pub mod StreamRule
+pub mod Displays

@@ -11,6 +11,7 @@
 #![tactic(auto)]
 
 mod axis;
+mod display;
 mod key;
 mod message;
 mod motion;
@@ -18,8 +19,9 @@ mod number;
 mod pointer;
 
 pub use axis::{Axis, Pixel, Rotation};
+pub use display::Displays;
 pub use key::{KeyArgs, KeyMsg};
 pub use message::{Args, Body, Message};
 pub use motion::{FLAG_CANCELED, Motion, MotionAction};
-pub use number::{DeviceId, Limit, Moment, PointerId};
+pub use number::{DeviceId, DisplayId, Limit, Moment, PointerId};
 pub use pointer::{Pointer, Pointers, PushRefused};

@@ -1,4 +1,4 @@
-//! Numbers with a range: devices, pointer ids, moments and timeouts.
+//! Numbers with a range: devices, displays, pointer ids, moments and timeouts.
 ghost use Rattle.std.specs.Prelude.{◌≡◌, ℕ, ◌<◌, ◌≤◌, ◌↔◌, Some, IsSome, IfSome};
 
 use std::marker::Model;
@@ -38,6 +38,54 @@ impl DeviceId {
     pub fn get(self) -> u8
         ensures value { result ≡ self }
         ensures range { (1 ≤ result) × (result ≤ 8) }
+    {
+        self.number
+    }
+}
+
+/// The number of a display in its session, from 0 to 3. Display 0 is always there.
+#[derive(Clone, Copy, Debug, PartialEq, Eq)]
+pub struct DisplayId {
+    number: u8,
+}
+
+impl Model for DisplayId {
+    ghost Value = { ℕ };
+
+    ghost view = { λ d. d.number };
+
+    ghost invariant = { λ d. d.number ≤ 3 };
+
+    ghost inverse = { λ n. record { number = n } };
+}
+
+impl DisplayId {
+    /// The greatest number of a display.
+    pub const MAX: u8 = 3;
+
+    /// The display that is always there.
+    pub fn zero() -> DisplayId
+        ensures { result ≡ 0 }
+    {
+        DisplayId { number: 0 }
+    }
+
+    /// The display with this number, which has to be 0 to 3.
+    pub fn new(n: u8) -> Option<DisplayId>
+        ensures variant { IsSome result ↔ (n ≤ 3) }
+        ensures value { IfSome result (λ d. d ≡ n) }
+    {
+        if n <= Self::MAX {
+            Some(DisplayId { number: n })
+        } else {
+            None
+        }
+    }
+
+    /// Its number.
+    pub fn get(self) -> u8
+        ensures value { result ≡ self }
+        ensures range { result ≤ 3 }
     {
         self.number
     }

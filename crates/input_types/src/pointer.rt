@@ -91,9 +91,11 @@ impl Pointers {
         }
     }
 
-    /// The pointers in use as a slice.
+    /// The pointers in use as a slice: at most 16, with rising ids.
     pub fn as_slice(&self) -> &[Pointer]
-        ensures { result.now ≡ self.now }
+        ensures value { result.now ≡ self.now }
+        ensures range { length result.now ≤ 16 }
+        ensures rises { IsRising result.now }
     {
         &self.items[..usize::from(self.used)]
     }
