@@ -11,7 +11,7 @@ use Rattle.input_types.specs.declared.message.Message.{Message}
 use Rattle.input_types.specs.Gestures.{after_motion}
 use Rattle.input_types.specs.DeviceRule.{device_state}
 use Rattle.input_types.specs.StreamRule.{is_well_formed}
-use Rattle.input_types.specs.Displays.{display_of}
+use Rattle.input_types.specs.Displays.{device_display}
 
 -- a pointer that stands at (100, 200)
 abbrev at : ℕ → Pointer
@@ -109,5 +109,5 @@ pub key_twice : option_map (λ s. s.ids) (device_state 1 (KeyArgs (record { devi
 key_twice = refl
 
 -- two devices on two displays
-pub each_device_its_display : display_of (0 ∷ 1 ∷ 0 ∷ 0 ∷ 0 ∷ 0 ∷ 0 ∷ 0 ∷ []) 2 ≡ 1
+pub each_device_its_display : device_display (0 ∷ 1 ∷ 0 ∷ 0 ∷ 0 ∷ 0 ∷ 0 ∷ 0 ∷ []) 2 ≡ 1
 each_device_its_display = refl

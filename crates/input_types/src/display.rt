@@ -1,6 +1,6 @@
 //! Which display each device belongs to.
 ghost use Rattle.std.specs.Prelude.{◌≡◌, ◌-◌, replicate, slice_set};
-ghost use Rattle.input_types.specs.Displays.{display_of};
+ghost use Rattle.input_types.specs.Displays.{device_display};
 
 use crate::number::{DeviceId, DisplayId};
 use std::marker::Model;
@@ -42,7 +42,7 @@ impl Displays {
 
     /// The display of a device.
     pub fn of(&self, device: DeviceId) -> DisplayId
-        ensures { result ≡ display_of self.now device }
+        ensures { result ≡ device_display self.now device }
     {
         self.of_device[usize::from(device.get()) - 1]
     }

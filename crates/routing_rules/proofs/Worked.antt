@@ -12,7 +12,7 @@ use Rattle.routing_rules.specs.Scene.{Scene, scene_of}
 abbrev pub window : (channel flags left top right bottom : ℕ) → Window
 window c f l t r b =
     let frame : Rect = record { left = pos l; top = pos t; right = pos r; bottom = pos b } in
-    record { channel = c; frame = frame; region = frame ∷ []; flags = record { bits = f } }
+    record { channel = c; display = 0; frame = frame; region = frame ∷ []; flags = record { bits = f } }
 
 -- pointer i at a place
 abbrev pub at : ℕ → ℕ → ℕ → Pointer
@@ -24,7 +24,7 @@ motion action index ps = record { device = 1; action = action; index = index; fl
 
 -- the same with FLAG_CANCELED
 abbrev pub cancelled : MotionAction → ℕ → List Pointer → Motion
-cancelled action index ps = record { device = 1; action = action; index = index; flags = 0x20; pointers = ps }
+cancelled action index ps = record { device = 1; action = action; index = index; flags = 32; pointers = ps }
 
 abbrev pub pair : ℕ → ℕ → Pair
 pair w i = record { window = w; device = 1; id = i }
@@ -33,4 +33,4 @@ pair w i = record { window = w; device = 1; id = i }
 -- number began first
 abbrev pub scene : List Window → List Pair → List Pointer → Scene
 scene windows qs last =
-    scene_of windows (λ w. true) (λ w. true) qs (λ v w d. has_any qs v d && has_any qs w d && nat_lt v w) (λ w d. false) (λ d. last)
+    scene_of windows (λ d w. true) (λ w. true) qs (λ v w d. has_any qs v d && has_any qs w d && nat_lt v w) (λ w d. false) (λ d. last)

@@ -42,13 +42,13 @@ abbrev pub chosen : Scene → ℕ → Pixel → Option ℕ
 chosen s d at =
     let first = earliest s d (which s (is_holder s d)) in
     let whole = earliest s d (which s (λ v. is_holder s d v && prevents_splitting v)) in
-    let t = touched s.windows s.live at.x at.y in
+    let t = touched s.windows (s.reach d) at.x at.y in
     choose first whole t (is_alone s d t)
 
 -- a candidate is the chosen window, or a spy at the place
-abbrev pub is_candidate : Scene → Pixel → Option ℕ → ℕ → Bool
-is_candidate s at None w = is_spy_at s.windows s.live at.x at.y w
-is_candidate s at (Some c) w = w == c || is_spy_at s.windows s.live at.x at.y w
+abbrev pub is_candidate : Scene → ℕ → Pixel → Option ℕ → ℕ → Bool
+is_candidate s d at None w = is_spy_at s.windows (s.reach d) at.x at.y w
+is_candidate s d at (Some c) w = w == c || is_spy_at s.windows (s.reach d) at.x at.y w
 
 -- a target is a candidate that is pilfering the device, and where none is, every candidate
 abbrev pub is_target : Scene → ℕ → (ℕ → Bool) → ℕ → Bool
@@ -57,4 +57,4 @@ is_target s d candidate w =
 
 -- the windows that get a pointer of the device that goes down at this place, front to back: the targets that are able to
 abbrev pub takers : Scene → ℕ → Pixel → List ℕ
-takers s d at = let c = chosen s d at in which s (λ v. is_target s d (is_candidate s at c) v.channel && s.able v.channel)
+takers s d at = let c = chosen s d at in which s (λ v. is_target s d (is_candidate s d at c) v.channel && s.able v.channel)

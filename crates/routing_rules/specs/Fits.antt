@@ -1,5 +1,5 @@
 -- How what a window is told of a device fits what it was told before.
-use Rattle.std.specs.Prelude.{ℕ, Bool, true, false, ◌==◌, ◌&&◌, ◌≡◌, List, [], ◌∷◌, filter, Option, Some, None, if◌then◌else◌}
+use Rattle.std.specs.Prelude.{ℕ, Bool, true, false, ◌==◌, ◌≡◌, List, [], ◌∷◌, length, filter, Option, Some, None, if◌then◌else◌}
 use Rattle.std.specs.List.{list_any}
 use Rattle.std.specs.Option.{option_and_then}
 use Rattle.input_types.specs.declared.motion.Motion.{Motion}
@@ -17,7 +17,7 @@ told_ids ids (m ∷ ms) = option_and_then (λ next. told_ids next ms) (after_mot
 -- the ids that are down on a device after a step, where its motion may come then
 abbrev pub down_after : Step → ℕ → List ℕ → Option (List ℕ)
 down_after (Moves m) d down =
-    if m.device == d then (if is_of_device m.action && m.flags == 0 then after_motion down m else None) else Some down
+    if m.device == d then (if is_of_device m.action (length m.pointers) then after_motion down m else None) else Some down
 down_after (Resets e) d down = if e == d then Some [] else Some down
 down_after e d down = Some down
 

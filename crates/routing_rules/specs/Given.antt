@@ -2,7 +2,7 @@
 use Rattle.std.specs.Prelude.{ℕ, not, ◌==◌, List, [], ◌∷◌, map, Option, Some, None, slice_get}
 use Rattle.input_types.specs.declared.motion.Motion.{Motion}
 use Rattle.input_types.specs.declared.motion.MotionAction.{MotionAction}
-use Rattle.input_types.specs.declared.motion.MotionAction.TheVariants.{Down, Up, Move, PointerDown, PointerUp}
+use Rattle.input_types.specs.declared.motion.MotionAction.TheVariants.{Down, Up, Move, Cancel, PointerDown, PointerUp}
 use Rattle.input_types.specs.declared.pointer.Pointer.{Pointer}
 use Rattle.routing_rules.specs.Pairs.{Pair}
 use Rattle.routing_rules.specs.Taking.{Taking, Nothing, Lifted, Emptied, Slipped, Pilfered, Dropped}
@@ -36,10 +36,11 @@ given_by s m PointerDown (Some p) = pairs m.device p.id (takers s m.device p.at)
 given_by s m Move (Some p) = slips_in m.device p.id (slip s m)
 given_by s m _ _ = []
 
--- what it takes of it: an up takes it from all, and a move where it slips
+-- what it takes of it: an up takes it from all, also where a device cancels its last pointer, and a move where it slips
 abbrev pub taken_by : Scene → Motion → MotionAction → Option Pointer → Taking
 taken_by s m Up (Some p) = Lifted m.device p.id
 taken_by s m PointerUp (Some p) = Lifted m.device p.id
+taken_by s m Cancel (Some p) = Lifted m.device p.id
 taken_by s m Move (Some p) = slips_out m.device p.id (slip s m)
 taken_by s m _ _ = Nothing
 
@@ -49,12 +50,12 @@ given s (Moves m) = given_by s m m.action (changed m)
 given s _ = []
 
 -- what a step takes from windows: a reset all of its device; a pilfer what the spy holds from all others; a snapshot all
--- from windows that it does not name; what mutes or removes a window all from it
+-- from windows that do not stay; what mutes or removes a window all from it
 abbrev pub taken : Scene → Step → Taking
 taken s (Moves m) = taken_by s m m.action (changed m)
 taken s (Resets d) = Emptied d
 taken s (Pilfers w d) = Pilfered w d (s.holds w d)
-taken s (Shows names) = Dropped (λ w. not (names w))
+taken s (Shows stays) = Dropped (λ w. not (stays w))
 taken s (Mutes muted) = Dropped muted
 taken s (Removes w) = Dropped (λ v. v == w)
 taken s Rests = Nothing

@@ -6,12 +6,12 @@ use Rattle.input_types.specs.declared.pointer.Pointer.{Pointer}
 use Rattle.window_snapshot.specs.declared.window.Window.{Window}
 use Rattle.routing_rules.specs.Pairs.{Pair, has, has_any}
 
--- The moment before a step. A window goes by the number of its channel, and all places are display pixels.
+-- The moment before a step. A window goes by the number of its channel, and all places are pixels of the display of the device.
 pub record Scene : Type 0 where
   -- the windows of the current snapshot, front to back
   pub windows : List Window
-  -- the channel is live: opened, and not removed
-  pub live : ℕ → Bool
+  -- a motion of the device can reach the channel: it is live, and its window is on the display of the device
+  pub reach : (device channel : ℕ) → Bool
   -- the channel is able to take input: live, and not unresponsive
   pub able : ℕ → Bool
   -- the window holds the pointer of the device with this id
@@ -33,8 +33,8 @@ pub data Step : Type 0 where
   Resets : (device : ℕ) → Step
   -- a window that is a spy, and holds something of the device, pilfers it
   Pilfers : (window device : ℕ) → Step
-  -- a new snapshot, which names these windows
-  Shows : (ℕ → Bool) → Step
+  -- a new snapshot, in which these windows stay: it names them, and none of them on another display than before
+  Shows : (stays : ℕ → Bool) → Step
   -- these windows are found unresponsive
   Mutes : (ℕ → Bool) → Step
   -- a channel is removed
@@ -51,11 +51,11 @@ abbrev pub which : Scene → (Window → Bool) → List ℕ
 which s test = map (λ v. v.channel) (filter test s.windows)
 
 -- the scene of these windows and channels where windows hold just these pairs
-abbrev pub scene_of : List Window → (live able : ℕ → Bool) → List Pair → (ℕ → ℕ → ℕ → Bool) → (ℕ → ℕ → Bool) → (ℕ → List Pointer) → Scene
-scene_of windows live able qs earlier pilfering last =
+abbrev pub scene_of : List Window → (ℕ → ℕ → Bool) → (ℕ → Bool) → List Pair → (ℕ → ℕ → ℕ → Bool) → (ℕ → ℕ → Bool) → (ℕ → List Pointer) → Scene
+scene_of windows reach able qs earlier pilfering last =
     record {
       windows = windows;
-      live = live;
+      reach = reach;
       able = able;
       holds = has qs;
       any = has_any qs;

@@ -30,7 +30,7 @@ slips_to s _ _ = None
 
 -- a motion lets a pointer slip where it is a move that lists it alone
 abbrev pub slip_of : Scene → ℕ → MotionAction → Option Pointer → Option Slip
-slip_of s d Move (Some p) = slips_to s (only (holders_of s d p.id)) (touched s.windows s.live p.at.x p.at.y)
+slip_of s d Move (Some p) = slips_to s (only (holders_of s d p.id)) (touched s.windows (s.reach d) p.at.x p.at.y)
 slip_of s d _ _ = None
 
 -- what slips at a motion

@@ -4,6 +4,7 @@ use Rattle.input_types.specs.declared.motion.Motion.{Motion}
 use Rattle.input_types.specs.declared.motion.MotionAction.{MotionAction}
 use Rattle.input_types.specs.declared.motion.MotionAction.TheVariants.{Down, Up, Move, Cancel, Outside, PointerDown, PointerUp}
 use Rattle.input_types.specs.declared.pointer.Pointer.{Pointer}
+use Rattle.input_types.specs.Gestures.{flag_canceled}
 use Rattle.window_snapshot.specs.Hits.{is_watcher_at}
 use Rattle.routing_rules.specs.Pairs.{has}
 use Rattle.routing_rules.specs.Taking.{takes}
@@ -24,7 +25,7 @@ abbrev pub index_in : ℕ → List Pointer → ℕ
 index_in i [] = 0
 index_in i (p ∷ ps) = if p.id == i then 0 else suc (index_in i ps)
 
--- a motion of a device without flags, about no pointer of its own
+-- a motion of a device without flags and without an index
 abbrev pub plain : ℕ → MotionAction → List Pointer → Motion
 plain d action ps = record { device = d; action = action; index = 0; flags = 0; pointers = ps }
 
@@ -33,16 +34,18 @@ abbrev pub opening : ℕ → ℕ → List Pointer → Motion
 opening d i (p ∷ []) = plain d Down (p ∷ [])
 opening d i ps = record { device = d; action = PointerDown; index = index_in i ps; flags = 0; pointers = ps }
 
--- the pointer goes up in a window that had these: its last one, or one of several
-abbrev pub closing : ℕ → ℕ → List Pointer → Motion
-closing d i (p ∷ []) = plain d Up (p ∷ [])
-closing d i ps = record { device = d; action = PointerUp; index = index_in i ps; flags = 0; pointers = ps }
+-- the pointer goes up in a window that had these: its last one, or one of several; a cancelled up of the last one is a Cancel, and
+-- one of several has the flag
+abbrev pub closing : ℕ → ℕ → Bool → List Pointer → Motion
+closing d i cancelled (p ∷ []) = plain d (if cancelled then Cancel else Up) (p ∷ [])
+closing d i cancelled ps =
+    record { device = d; action = PointerUp; index = index_in i ps; flags = if cancelled then flag_canceled else 0; pointers = ps }
 
 -- lost pointers, one cancelled up after the other, each listing what is still held with it
 abbrev pub cancelled_ups : ℕ → List Pointer → List Pointer → List Motion
 cancelled_ups d ps [] = []
 cancelled_ups d ps (p ∷ lost) =
-    record { device = d; action = PointerUp; index = index_in p.id ps; flags = 0x20; pointers = ps }
+    record { device = d; action = PointerUp; index = index_in p.id ps; flags = flag_canceled; pointers = ps }
     ∷ cancelled_ups d (filter (λ q. not (q.id == p.id)) ps) lost
 
 -- pointers that are taken: of the ones that a window had, with what is lost of them and what it keeps,
@@ -62,11 +65,17 @@ abbrev pub moves : ℕ → List Pointer → List Motion
 moves d [] = []
 moves d (p ∷ ps) = plain d Move (p ∷ ps) ∷ []
 
--- the motion is one with which a pointer goes up
+-- the motion is one with which a pointer goes up, or is cancelled
 abbrev pub is_up : MotionAction → Bool
 is_up Up = true
 is_up PointerUp = true
+is_up Cancel = true
 is_up _ = false
+
+-- the motion cancels what goes up with it: it is a Cancel, or has FLAG_CANCELED
+abbrev pub is_cancelled : MotionAction → ℕ → Bool
+is_cancelled Cancel flags = true
+is_cancelled _ flags = flags == flag_canceled
 
 -- the motion is one with which a pointer goes down
 abbrev pub is_down : MotionAction → Bool
@@ -82,7 +91,7 @@ is_first _ = false
 -- what a window that watches for touches outside of it is told of a gesture that begins
 abbrev pub outside : Scene → Motion → Pointer → ℕ → List Motion
 outside s m p w =
-    if is_first m.action && s.able w && is_watcher_at s.windows s.live p.at.x p.at.y w then plain m.device Outside (p ∷ []) ∷ [] else []
+    if is_first m.action && s.able w && is_watcher_at s.windows (s.reach m.device) p.at.x p.at.y w then plain m.device Outside (p ∷ []) ∷ [] else []
 
 -- the first of two lists that has something
 abbrev pub or_else : List Motion → List Motion → List Motion
@@ -90,13 +99,13 @@ or_else [] ys = ys
 or_else (x ∷ xs) ys = x ∷ xs
 
 -- What window w is told of a motion of its device, with the ids that it holds before and later. The first row that fits:
--- the pointer is given to it: it goes down; an up is of a pointer that it held: it goes up; pointers are taken from it
--- otherwise: they are cancelled; it holds something: that moves; it watches: the touch was outside.
+-- the pointer is given to it: it goes down; an up is of a pointer that it held: it goes up, cancelled where that is; pointers are
+-- taken from it otherwise: they are cancelled; it holds something: that moves; it watches: the touch was outside.
 abbrev pub told_motion : Scene → Motion → Option Pointer → ℕ → (before later : ℕ → Bool) → List Motion
 told_motion s m None w before later = or_else (cancels m.device (s.last m.device) before later) (moves m.device (listing later m.pointers))
 told_motion s m (Some p) w before later =
     if later p.id && not (before p.id) then opening m.device p.id (listing later m.pointers) ∷ []
-    else if is_up m.action && before p.id then closing m.device p.id (listing before m.pointers) ∷ []
+    else if is_up m.action && before p.id then closing m.device p.id (is_cancelled m.action m.flags) (listing before m.pointers) ∷ []
     else or_else (cancels m.device (s.last m.device) before later)
     (or_else (moves m.device (listing later m.pointers)) (outside s m p w))
 

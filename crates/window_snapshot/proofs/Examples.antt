@@ -5,7 +5,7 @@ use Rattle.window_snapshot.specs.declared.snapshot.SnapshotError.TheVariants.{Tw
 use Rattle.window_snapshot.specs.declared.window.Window.{Window}
 use Rattle.window_snapshot.specs.Hits.{touched, spies, watchers, is_spy_at, is_watcher_at}
 use Rattle.window_snapshot.specs.Mask.{mask_has, mask_with}
-use Rattle.window_snapshot.specs.Named.{place_of, origin_of, is_focusable_at}
+use Rattle.window_snapshot.specs.Named.{place_of, origin_of, display_of, is_shown_on, is_focusable_on}
 use Rattle.window_snapshot.specs.Snapshot.{snapshot_of}
 
 abbrev pub rect : ℕ → ℕ → ℕ → ℕ → Rect
@@ -13,7 +13,7 @@ rect left top right bottom = record { left = pos left; top = pos top; right = po
 
 -- a window that can be touched all over its frame
 abbrev pub window : ℕ → Rect → ℕ → Window
-window channel frame flags = record { channel = channel; frame = frame; region = frame ∷ []; flags = record { bits = flags } }
+window channel frame flags = record { channel = channel; display = 0; frame = frame; region = frame ∷ []; flags = record { bits = flags } }
 
 abbrev pub all_live : ℕ → Bool
 all_live c = true
@@ -79,7 +79,7 @@ untouchable_spy_sees_nothing = refl
 pub untouchable_watcher_is_told : channels (watchers untouchable_front all_live (pos 5) (pos 5)) ≡ 2 ∷ []
 untouchable_watcher_is_told = refl
 
-pub unfocusable_is_left_out : is_focusable_at untouchable_front 3 ≡ false
+pub unfocusable_is_left_out : is_focusable_on untouchable_front 0 3 ≡ false
 unfocusable_is_left_out = refl
 
 pub places_count_from_the_front : place_of untouchable_front 3 ≡ Some 2
@@ -90,6 +90,19 @@ origin_is_left_top = refl
 
 pub unnamed_has_no_origin : origin_of watched_app 4 ≡ None
 unnamed_has_no_origin = refl
+
+-- two windows, the second one on another display
+abbrev pub two_displays : List Window
+two_displays = window 1 (rect 0 0 9 9) 0 ∷ record { channel = 2; display = 1; frame = rect 0 0 9 9; region = rect 0 0 9 9 ∷ []; flags = record { bits = 0 } } ∷ []
+
+pub display_of_the_second : display_of two_displays 2 ≡ Some 1
+display_of_the_second = refl
+
+pub second_is_not_on_the_first : is_shown_on two_displays 0 2 ≡ false
+second_is_not_on_the_first = refl
+
+pub second_has_focus_on_its_own : is_focusable_on two_displays 1 2 ≡ true
+second_has_focus_on_its_own = refl
 
 pub channel_twice : snapshot_of (window 1 (rect 0 0 9 9) 0 ∷ window 2 (rect 0 0 9 9) 0 ∷ window 1 (rect 5 5 6 6) 16 ∷ []) ≡ Err (Twice 1)
 channel_twice = refl

@@ -1,5 +1,5 @@
 -- What a snapshot says of a channel.
-use Rattle.std.specs.Prelude.{ℕ, Bool, ◌==◌, List, Option, option_map, filter}
+use Rattle.std.specs.Prelude.{ℕ, Bool, ◌==◌, ◌&&◌, List, Option, option_map, filter}
 use Rattle.std.specs.List.{list_any, find, position}
 use Rattle.input_types.specs.declared.axis.Pixel.{Pixel}
 use Rattle.window_snapshot.specs.declared.flags.WindowFlags.{WindowFlags}
@@ -30,6 +30,14 @@ origin w = record { x = w.frame.left; y = w.frame.top }
 abbrev pub origin_of : List Window → ℕ → Option Pixel
 origin_of windows c = option_map origin (window_of windows c)
 
--- the channel is that of a window that may have the focus
-abbrev pub is_focusable_at : List Window → ℕ → Bool
-is_focusable_at windows c = is_named (filter is_focusable windows) c
+-- the display of the channel's window
+abbrev pub display_of : List Window → ℕ → Option ℕ
+display_of windows c = option_map (λ w. w.display) (window_of windows c)
+
+-- the channel is that of a window on display y
+abbrev pub is_shown_on : List Window → ℕ → ℕ → Bool
+is_shown_on windows y c = is_named (filter (λ w. w.display == y) windows) c
+
+-- the channel is that of a window on display y that may have the focus
+abbrev pub is_focusable_on : List Window → ℕ → ℕ → Bool
+is_focusable_on windows y c = is_named (filter (λ w. w.display == y && is_focusable w) windows) c

@@ -1,5 +1,4 @@
-// What a window asks of the dispatcher, as a set of named bits.
-
+//! What a window asks of the dispatcher, as a set of named bits.
 ghost use Rattle.std.specs.Prelude.{⊤, [], ◌∷◌, codes};
 
 use bitflags::{Flag, Flags};

@@ -1,5 +1,4 @@
-// Whom a touch at a point concerns.
-
+//! Whom a touch at a point concerns.
 ghost use Rattle.std.specs.Prelude.{◌≡◌, ℕ, filter};
 ghost use Rattle.std.specs.List.{find, position};
 ghost use Rattle.std.specs.Option.{option_copied};
@@ -49,7 +48,7 @@ impl Snapshot {
     }
 }
 
-// The touched window.
+/// The touched window.
 fn touched_window(windows: &[Window], x: i32, y: i32, live: u64) -> Option<&Window>
     ensures { option_copied result ≡ touched_window windows.now (mask_has live) x y }
 {
@@ -58,7 +57,7 @@ fn touched_window(windows: &[Window], x: i32, y: i32, live: u64) -> Option<&Wind
         .find(|window| takes_touch(window, x, y, live))
 }
 
-// The place of the touched window.
+/// The place of the touched window.
 fn touched_place(windows: &[Window], x: i32, y: i32, live: u64) -> Option<usize>
     ensures { result ≡ position (takes_touch (mask_has live) x y) windows.now }
 {
@@ -67,28 +66,28 @@ fn touched_place(windows: &[Window], x: i32, y: i32, live: u64) -> Option<usize>
         .position(|window| takes_touch(window, x, y, live))
 }
 
-// Whether the window takes a touch there from those behind it.
+/// Whether the window takes a touch there from those behind it.
 fn takes_touch(window: &Window, x: i32, y: i32, live: u64) -> bool
     ensures { result ≡ takes_touch (mask_has live) x y window.now }
 {
     !window.is_spy() && window.is_hit(x, y, live)
 }
 
-// Whether the window is a spy that the point hits.
+/// Whether the window is a spy that the point hits.
 fn spies_touch(window: &Window, x: i32, y: i32, live: u64) -> bool
     ensures { result ≡ spies_touch (mask_has live) x y window.now }
 {
     window.is_spy() && window.is_hit(x, y, live)
 }
 
-// Whether the window is live and watches touches outside of it.
+/// Whether the window is live and watches touches outside of it.
 fn watches(window: &Window, live: u64) -> bool
     ensures { result ≡ watches (mask_has live) window.now }
 {
     window.watches_outside() && mask_has(live, window.channel)
 }
 
-// The mask of those of these windows that are spies which the point hits.
+/// The mask of those of these windows that are spies which the point hits.
 fn spy_mask(windows: &[Window], x: i32, y: i32, live: u64) -> u64
     ensures { result ≡ mask_of (filter (spies_touch (mask_has live) x y) windows.now) }
 {
@@ -98,7 +97,7 @@ fn spy_mask(windows: &[Window], x: i32, y: i32, live: u64) -> u64
         .fold(0, |mask, window| mask_with(mask, window.channel))
 }
 
-// The mask of those of these windows that are live and watch.
+/// The mask of those of these windows that are live and watch.
 fn watcher_mask(windows: &[Window], live: u64) -> u64
     ensures { result ≡ mask_of (filter (watches (mask_has live)) windows.now) }
 {

@@ -1,5 +1,4 @@
-// Sets of channels as the bits of a number.
-
+//! Sets of channels as the bits of a number.
 ghost use Rattle.std.specs.Prelude.{◌≡◌};
 ghost use Rattle.window_snapshot.specs.Mask.{is_channel, mask_has, mask_with};
 

@@ -1,12 +1,11 @@
-// The list of the windows on the display, and what it says of a channel.
-
+//! The list of the windows on the display, and what it says of a channel.
 ghost use Rattle.std.specs.Prelude.{◌≡◌, ℕ, ◌&&◌, ◌==◌, [], IfOk, Bool, filter, fold};
 ghost use Rattle.std.specs.List.{position};
 
 use crate::flags::WindowFlags;
 use crate::mask::mask_with;
 use crate::window::Window;
-use input_types::Pixel;
+use input_types::{DisplayId, Pixel};
 use std::alloc::{AllocError, Global};
 use std::marker::Model;
 
@@ -49,7 +48,7 @@ pub enum SnapshotError {
 
 impl Snapshot {
     ghost use Rattle.window_snapshot.specs.Mask.{is_channel, mask_has};
-    ghost use Rattle.window_snapshot.specs.Named.{is_named, is_focusable_at, place_of, flags_of, origin_of};
+    ghost use Rattle.window_snapshot.specs.Named.{is_named, is_shown_on, is_focusable_on, place_of, flags_of, origin_of, display_of};
     ghost use Rattle.window_snapshot.specs.Snapshot.{snapshot_of};
     ghost use Rattle.window_snapshot.specs.WindowList.{IsSnapshot};
 
@@ -107,11 +106,18 @@ impl Snapshot {
         names(&self.windows)
     }
 
-    /// The mask of the channels that it names with a window that may have the focus.
-    pub fn focusable(&self) -> u64
-        ensures { (c : ℕ) → mask_has result c ≡ (is_channel c && is_focusable_at self.now c) }
+    /// The mask of the channels that it names with a window on this display.
+    pub fn on(&self, display: DisplayId) -> u64
+        ensures { (c : ℕ) → mask_has result c ≡ (is_channel c && is_shown_on self.now display c) }
     {
-        focusable(&self.windows)
+        shown_on(&self.windows, display)
+    }
+
+    /// The mask of the channels that it names with a window on this display that may have the focus.
+    pub fn focusable(&self, display: DisplayId) -> u64
+        ensures { (c : ℕ) → mask_has result c ≡ (is_channel c && is_focusable_on self.now display c) }
+    {
+        focusable_on(&self.windows, display)
     }
 
     /// How many windows stand in front of that of the channel; `None` where it names no such channel.
@@ -130,6 +136,16 @@ impl Snapshot {
     {
         match window_in(&self.windows, channel) {
             Some(window) => Some(window.flags),
+            None => None,
+        }
+    }
+
+    /// The display of the channel's window; `None` where it names no such channel.
+    pub fn display_of(&self, channel: u32) -> Option<DisplayId>
+        ensures { result ≡ display_of self.now channel }
+    {
+        match window_in(&self.windows, channel) {
+            Some(window) => Some(window.display),
             None => None,
         }
     }
@@ -154,7 +170,7 @@ ghost use Rattle.window_snapshot.specs.WindowList.{first_twice};
 ghost use Rattle.window_snapshot.specs.MaskOf.{mask_of};
 ghost use Rattle.window_snapshot.specs.Window.{is_focusable};
 
-// The channel of the first window whose channel stands before.
+/// The channel of the first window whose channel stands before.
 fn first_twice(windows: &[Window]) -> Option<u32>
     ensures { result ≡ first_twice windows.now }
 {
@@ -166,28 +182,28 @@ fn first_twice(windows: &[Window]) -> Option<u32>
     None
 }
 
-// Whether a window is of the channel.
+/// Whether a window is of the channel.
 fn is_named(windows: &[Window], channel: u32) -> bool
     ensures { result ≡ is_named windows.now channel }
 {
     windows.iter().any(|window| window.channel == channel)
 }
 
-// The place of the channel's window.
+/// The place of the channel's window.
 fn place_in(windows: &[Window], channel: u32) -> Option<usize>
     ensures { result ≡ place_of windows.now channel }
 {
     windows.iter().position(|window| window.channel == channel)
 }
 
-// The channel's window.
+/// The channel's window.
 fn window_in(windows: &[Window], channel: u32) -> Option<&Window>
     ensures { option_copied result ≡ window_of windows.now channel }
 {
     windows.iter().find(|window| window.channel == channel)
 }
 
-// The mask of the windows' channels.
+/// The mask of the windows' channels.
 fn names(windows: &[Window]) -> u64
     ensures { result ≡ mask_of windows.now }
 {
@@ -196,17 +212,27 @@ fn names(windows: &[Window]) -> u64
         .fold(0, |mask, window| mask_with(mask, window.channel))
 }
 
-// The mask of the channels of the windows that may have the focus.
-fn focusable(windows: &[Window]) -> u64
-    ensures { result ≡ mask_of (filter is_focusable windows.now) }
+/// The mask of the channels of the windows on a display.
+fn shown_on(windows: &[Window], display: DisplayId) -> u64
+    ensures { result ≡ mask_of (filter (λ w. w.display == display) windows.now) }
 {
     windows
         .iter()
-        .filter(|window| window.is_focusable())
+        .filter(|window| window.display == display)
         .fold(0, |mask, window| mask_with(mask, window.channel))
 }
 
-// Equal windows, in the same order.
+/// The mask of the channels of the windows on a display that may have the focus.
+fn focusable_on(windows: &[Window], display: DisplayId) -> u64
+    ensures { result ≡ mask_of (filter (λ w. w.display == display && is_focusable w) windows.now) }
+{
+    windows
+        .iter()
+        .filter(|window| window.display == display && window.is_focusable())
+        .fold(0, |mask, window| mask_with(mask, window.channel))
+}
+
+/// Equal windows, in the same order.
 fn copies(alloc: Global, windows: &[Window]) -> Result<Vec<Window>, AllocError>
     ensures { IfOk result (λ copied. copied.items ≡ windows.now) }
 {

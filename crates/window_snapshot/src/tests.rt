@@ -1,10 +1,9 @@
-// Displays with a few windows, and what points on them concern.
-
+//! Displays with a few windows, and what points on them concern.
 use crate::flags::WindowFlags;
 use crate::snapshot::{Snapshot, SnapshotError};
 use crate::window::Window;
 use bitflags::Flags;
-use input_types::Pixel;
+use input_types::{DisplayId, Pixel};
 use std::alloc::Global;
 use std::test::Fail;
 use touch_region::{Rect, Region};
@@ -43,18 +42,19 @@ const WATCHER: u32 = 4;
 
 const SPY: u32 = 16;
 
-// A window that can be touched all over its frame.
+/// A window that can be touched all over its frame.
 fn window(alloc: Global, channel: u32, frame: Rect, bits: u32) -> Result<Window, Fail> {
     let region = Region::new(vec![in alloc; frame]?)?;
     Ok(Window {
         channel,
+        display: DisplayId::zero(),
         frame,
         region,
         flags: WindowFlags::from_bits_retain(bits),
     })
 }
 
-// A spy over the upper half of the display, as channel 1, and an app that has it all, as channel 2.
+/// A spy over the upper half of the display, as channel 1, and an app that has it all, as channel 2.
 fn spy_and_app(alloc: Global, spy_in_front: bool) -> Result<Snapshot, Fail> {
     let spy = window(alloc, 1, UPPER, SPY)?;
     let app = window(alloc, 2, DISPLAY, PLAIN)?;
@@ -66,7 +66,7 @@ fn spy_and_app(alloc: Global, spy_in_front: bool) -> Result<Snapshot, Fail> {
     Ok(Snapshot::new(windows)?)
 }
 
-// Watchers as channels 1 and 3, with an app between them, as channel 2, that has not all of the display.
+/// Watchers as channels 1 and 3, with an app between them, as channel 2, that has not all of the display.
 fn watched_app(alloc: Global) -> Result<Snapshot, Fail> {
     let front = window(alloc, 1, CORNER, WATCHER)?;
     let app = window(alloc, 2, BELOW, PLAIN)?;
@@ -74,7 +74,7 @@ fn watched_app(alloc: Global) -> Result<Snapshot, Fail> {
     Ok(Snapshot::new(vec![in alloc; front, app, behind]?)?)
 }
 
-// Windows of the channels from the first up to the last, each of them of the whole display.
+/// Windows of the channels from the first up to the last, each of them of the whole display.
 fn windows_of(alloc: Global, first: u32, last: u32) -> Result<Vec<Window>, Fail> {
     let mut windows = Vec::new(alloc);
     for channel in first..=last {
@@ -132,7 +132,7 @@ fn a_channel_that_stands_twice_is_refused(rt: HostRuntime) -> Result<(), Fail> {
 fn sixty_four_windows_are_accepted(rt: HostRuntime) -> Result<(), Fail> {
     let most = Snapshot::new(windows_of(rt.alloc(), 1, 64)?)?;
     assert_eq!(rt; most.names(), u64::MAX);
-    assert_eq!(rt; most.focusable(), u64::MAX);
+    assert_eq!(rt; most.focusable(DisplayId::zero()), u64::MAX);
     assert_eq!(rt; most.touched(0, 0, 1 << 63), Some(64));
     let more = Snapshot::new(windows_of(rt.alloc(), 0, 64)?);
     assert_eq!(rt; more.err(), Some(SnapshotError::TooMany));

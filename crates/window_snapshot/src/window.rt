@@ -1,10 +1,10 @@
-// One window of a snapshot.
-
+//! One window of a snapshot.
 ghost use Rattle.std.specs.Prelude.{◌≡◌, IfOk};
 
 use crate::flags::WindowFlags;
 use crate::mask::mask_has;
 use bitflags::Flags;
+use input_types::DisplayId;
 use std::alloc::AllocError;
 use touch_region::{Rect, Region};
 
@@ -13,6 +13,8 @@ use touch_region::{Rect, Region};
 pub struct Window {
     /// The channel that tells the window's owner what it gets.
     pub channel: u32,
+    /// The display that it is on. Its pixels are those of this display.
+    pub display: DisplayId,
     /// Where the window is, in display pixels. Its left and top edges alone matter: they are the origin of what the window is
     /// told.
     pub frame: Rect,
@@ -82,6 +84,7 @@ impl Window {
         let region = self.region.copy()?;
         Ok(Window {
             channel: self.channel,
+            display: self.display,
             frame: self.frame,
             region,
             flags: self.flags,
