@@ -172,7 +172,7 @@ noted_at : (s : Scene) (e : Step) (ps : List Pilferer) (w d : ℕ) → is_pilfer
 noted_at s (Pilfers v c) ps w d = noted v c ps w d (is_pilfering ps v c) refl
 noted_at s (Moves m) ps w d = ap (λ b. b || is_pilfering ps w d) (sym (no_motion_pilfers s m m.action (changed m) w d))
 noted_at s (Resets e) ps w d = refl
-noted_at s (Shows names) ps w d = refl
+noted_at s (Shows stays) ps w d = refl
 noted_at s (Mutes muted) ps w d = refl
 noted_at s (Removes v) ps w d = refl
 noted_at s Rests ps w d = refl
@@ -192,7 +192,7 @@ length-last_after : (e : Step) (last : List (List Pointer)) → length (last_aft
 length-last_after (Moves m) last = length-set last (m.device - 1) m.pointers
 length-last_after (Resets d) last = refl
 length-last_after (Pilfers w d) last = refl
-length-last_after (Shows names) last = refl
+length-last_after (Shows stays) last = refl
 length-last_after (Mutes muted) last = refl
 length-last_after (Removes w) last = refl
 length-last_after Rests last = refl
@@ -221,7 +221,7 @@ scene_law ms st windows live able x =
     let pilfer : is_pilfering st.pilferers ≡ pilfering ms = fun_ext (λ w. fun_ext (λ d. x.pilfers w d)) in
     λ i. record {
       windows = windows;
-      live = mask_has live;
+      reach = λ d. mask_has live;
       able = mask_has able;
       holds = has (x.holds i);
       any = has_any (x.holds i);

@@ -14,21 +14,21 @@ use Rattle.route_plain.specs.Holds.{pairs_of}
 use Rattle.route_plain.specs.Choosing.{is_candidate_of, is_pilfering_candidate, is_taker, takers_by}
 use Rattle.route_plain.specs.Route.{hold_from}
 
-same_candidate : (s : Scene) (at : Pixel) (spies : ℕ → Bool) → ((w : ℕ) → spies w ≡ is_spy_at s.windows s.live at.x at.y w)
-    → (c : Option ℕ) (w : ℕ) → is_candidate_of c spies w ≡ is_candidate s at c w
-same_candidate s at spies e None w = e w
-same_candidate s at spies e (Some v) w = ap (λ b. w == v || b) (e w)
+same_candidate : (s : Scene) (d : ℕ) (at : Pixel) (spies : ℕ → Bool) → ((w : ℕ) → spies w ≡ is_spy_at s.windows (s.reach d) at.x at.y w)
+    → (c : Option ℕ) (w : ℕ) → is_candidate_of c spies w ≡ is_candidate s d at c w
+same_candidate s d at spies e None w = e w
+same_candidate s d at spies e (Some v) w = ap (λ b. w == v || b) (e w)
 
-takers_are : (s : Scene) (d : ℕ) (at : Pixel) (spies : ℕ → Bool) → ((w : ℕ) → spies w ≡ is_spy_at s.windows s.live at.x at.y w)
+takers_are : (s : Scene) (d : ℕ) (at : Pixel) (spies : ℕ → Bool) → ((w : ℕ) → spies w ≡ is_spy_at s.windows (s.reach d) at.x at.y w)
     → takers_by s d (is_candidate_of (chosen s d at) spies) ≡ takers s d at
-takers_are s d at spies e = ap (takers_by s d) (fun_ext (same_candidate s at spies e (chosen s d at)))
+takers_are s d at spies e = ap (takers_by s d) (fun_ext (same_candidate s d at spies e (chosen s d at)))
 
 map-map : {A B C : Type 0} (g : B → C) (f : A → B) (xs : List A) → map g (map f xs) ≡ map (λ x. g (f x)) xs
 map-map g f [] = refl
 map-map g f (x ∷ xs) = ap (λ ys. g (f x) ∷ ys) (map-map g f xs)
 
 -- the holds of the takers, found window by window
-pub gains_are : (s : Scene) (d i n : ℕ) (hs : List Hold) (at : Pixel) (spies : ℕ → Bool) → ((w : ℕ) → spies w ≡ is_spy_at s.windows s.live at.x at.y w)
+pub gains_are : (s : Scene) (d i n : ℕ) (hs : List Hold) (at : Pixel) (spies : ℕ → Bool) → ((w : ℕ) → spies w ≡ is_spy_at s.windows (s.reach d) at.x at.y w)
     → (c : Option ℕ) → c ≡ chosen s d at
     → (some : Bool) → some ≡ list_any (λ v. is_pilfering_candidate s d (is_candidate_of c spies) v.channel) s.windows
     → map (λ w. hold_from n hs (record { window = w.channel; device = d; id = i })) (filter (λ w. is_taker s d (is_candidate_of c spies) some w.channel) s.windows)

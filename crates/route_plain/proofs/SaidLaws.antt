@@ -13,7 +13,7 @@ use Rattle.routing_rules.specs.Taking.{Taking, takes}
 use Rattle.routing_rules.specs.Marks.{Mark}
 use Rattle.routing_rules.specs.Scene.{Scene, Step, Moves, Resets, Pilfers, Shows, Mutes, Removes, Rests}
 use Rattle.routing_rules.specs.Given.{given, taken, mark, changed}
-use Rattle.routing_rules.specs.Told.{devices, listing, plain, opening, closing, cancels, moves, is_up, is_first, or_else, told_motion, told_with, told_all, after}
+use Rattle.routing_rules.specs.Told.{devices, listing, plain, opening, closing, cancels, moves, is_up, is_cancelled, is_first, or_else, told_motion, told_with, told_all, after}
 use Rattle.route_plain.specs.declared.hold.Hold.{Hold}
 use Rattle.route_plain.specs.declared.loss.Loss.{Loss}
 use Rattle.route_plain.specs.declared.turn.Said.{Said}
@@ -92,9 +92,9 @@ told_motion_is s m (Some p) w b l =
     ap
     (λ ys.
     if l p.id && not (b p.id) then opening m.device p.id (listing l m.pointers) ∷ []
-    else if is_up m.action && b p.id then closing m.device p.id (listing b m.pointers) ∷ []
+    else if is_up m.action && b p.id then closing m.device p.id (is_cancelled m.action m.flags) (listing b m.pointers) ∷ []
     else or_else (cancels m.device (s.last m.device) b l) (or_else (moves m.device (listing l m.pointers)) ys))
-    (sym (outside_by (is_first m.action && s.able w && is_watcher_at s.windows s.live p.at.x p.at.y w) m.device p))
+    (sym (outside_by (is_first m.action && s.able w && is_watcher_at s.windows (s.reach m.device) p.at.x p.at.y w) m.device p))
 
 -- what is held after a turn is what the rules say is
 held_after_is : (s : Scene) (e : Step) (n : ℕ) (hs gained : List Hold) (loss : Loss) → s.holds ≡ has (pairs_of hs) → IsChange s e n hs gained loss
@@ -132,7 +132,7 @@ cancelled s (Removes v) i k c d = absurd i
 cancelled s Rests i k c d = absurd i
 cancelled s (Resets e) i k c d = refl
 cancelled s (Pilfers w e) i k c d = refl
-cancelled s (Shows names) i k c d = refl
+cancelled s (Shows stays) i k c d = refl
 cancelled s (Mutes muted) i k c d = refl
 
 none_given : (s : Scene) (e : Step) → IsLoss e → given s e ≡ []
@@ -141,7 +141,7 @@ none_given s (Removes v) i = absurd i
 none_given s Rests i = absurd i
 none_given s (Resets e) i = refl
 none_given s (Pilfers w e) i = refl
-none_given s (Shows names) i = refl
+none_given s (Shows stays) i = refl
 none_given s (Mutes muted) i = refl
 
 -- what is said of a loss is what the rules say

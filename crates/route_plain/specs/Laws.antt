@@ -45,7 +45,7 @@ SceneLaw =
     (ms : List Mark) (st : State) (windows : List Window) (live able : ℕ)
     → Follows ms st
     → scene_before st windows live able
-    ≡ scene_of windows (mask_has live) (mask_has able) (held ms)
+    ≡ scene_of windows (λ d. mask_has live) (mask_has able) (held ms)
     (λ v w d. has_any (held ms) v d && has_any (held ms) w d && nat_lt (since ms v d) (since ms w d)) (pilfering ms) (last_of st.last)
 
 -- each window that holds something passes the test
@@ -59,7 +59,7 @@ drops t w = false
 
 -- the windows that are named after a step
 abbrev pub named_after : Scene → Step → ℕ → Bool
-named_after s (Shows names) w = names w
+named_after s (Shows stays) w = stays w
 named_after s e w = is_named s.windows w
 
 -- Who holds something after a turn is able to take input, where all were before, and is none of those from which the turn takes all.

@@ -8,5 +8,5 @@ use Rattle.route_plain.specs.State.{last_of}
 -- the scene of the moment
 abbrev pub scene_at : Moment → Scene
 scene_at m =
-    scene_of m.snapshot.now (mask_has m.live) (mask_has m.able) (pairs_of m.holds.now) (is_earlier m.holds.now)
+    scene_of m.snapshot.now (λ d. mask_has m.live) (mask_has m.able) (pairs_of m.holds.now) (is_earlier m.holds.now)
     (is_pilfering m.pilferers.now) (last_of m.last.now)

@@ -23,7 +23,7 @@ last_of last d = slice_index_or last (d - 1) []
 -- the moment before a turn, with these windows and masks of live and able channels
 abbrev pub scene_before : State → List Window → ℕ → ℕ → Scene
 scene_before s windows live able =
-    scene_of windows (mask_has live) (mask_has able) (pairs_of s.holds) (is_earlier s.holds) (is_pilfering s.pilferers) (last_of s.last)
+    scene_of windows (λ d. mask_has live) (mask_has able) (pairs_of s.holds) (is_earlier s.holds) (is_pilfering s.pilferers) (last_of s.last)
 
 -- before the first turn
 abbrev pub fresh : State

@@ -8,7 +8,7 @@ use Rattle.routing_rules.specs.Pairs.{has}
 use Rattle.routing_rules.specs.Taking.{Taking, takes}
 use Rattle.routing_rules.specs.Scene.{Scene}
 use Rattle.routing_rules.specs.Given.{changed}
-use Rattle.routing_rules.specs.Told.{listing, plain, opening, closing, cancels, moves, is_up, is_first, or_else, devices}
+use Rattle.routing_rules.specs.Told.{listing, plain, opening, closing, cancels, moves, is_up, is_cancelled, is_first, or_else, devices}
 use Rattle.route_plain.specs.declared.hold.Hold.{Hold}
 use Rattle.route_plain.specs.Holds.{pairs_of}
 
@@ -27,7 +27,7 @@ abbrev pub told_here : Motion → Option Pointer → List Pointer → (before la
 told_here m None last before later watching = told_others m last before later None
 told_here m (Some p) last before later watching =
     if later p.id && not (before p.id) then opening m.device p.id (listing later m.pointers) ∷ []
-    else if is_up m.action && before p.id then closing m.device p.id (listing before m.pointers) ∷ []
+    else if is_up m.action && before p.id then closing m.device p.id (is_cancelled m.action m.flags) (listing before m.pointers) ∷ []
     else told_others m last before later (if watching then Some p else None)
 
 -- a window that holds nothing before and later, and does not watch, is told nothing
@@ -37,7 +37,7 @@ is_silent before later watching = before == 0 && later == 0 && not watching
 -- the window watches for touches outside of it, where this pointer begins a gesture
 abbrev pub is_watching : Scene → Motion → Option Pointer → ℕ → Bool
 is_watching s m None w = false
-is_watching s m (Some p) w = is_first m.action && s.able w && is_watcher_at s.windows s.live p.at.x p.at.y w
+is_watching s m (Some p) w = is_first m.action && s.able w && is_watcher_at s.windows (s.reach m.device) p.at.x p.at.y w
 
 -- what a window holds of a device after a step that gives these holds and takes this
 abbrev pub held_after : List Hold → Taking → List Hold → ℕ → ℕ → ℕ → Bool

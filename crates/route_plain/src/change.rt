@@ -72,8 +72,8 @@ fn taken_by(
 }
 
 // The spies of the snapshot at a point.
-fn spies(moment: &Moment, at: Pixel) -> u64
-    ensures { let s = scene_at moment.now in (c : ℕ) → mask_has result c ≡ is_spy_at s.windows s.live at.x at.y c }
+fn spies(moment: &Moment, device: DeviceId, at: Pixel) -> u64
+    ensures { let s = scene_at moment.now in (c : ℕ) → mask_has result c ≡ is_spy_at s.windows (s.reach device) at.x at.y c }
 {
     moment.snapshot.spies(at.x, at.y, moment.live)
 }
@@ -90,7 +90,7 @@ fn gained_down(
         IfOk result (λ v. v.items ≡ map (hold_from turn moment.now.holds.now) (pairs device pointer.id (takers s device pointer.at))) }
 {
     let chosen = chosen(moment, device, pointer.at);
-    let spies = spies(moment, pointer.at);
+    let spies = spies(moment, device, pointer.at);
     let some = some_pilfering(moment, device, chosen, spies);
     taken_by(alloc, moment, turn, device, pointer.id, chosen, spies, some)
 }
@@ -156,7 +156,7 @@ fn lost(moment: &Moment, motion: &Motion, slipped: Option<Slip>) -> Loss
         return Loss::None;
     };
     match motion.action {
-        MotionAction::Up | MotionAction::PointerUp => Loss::Lift {
+        MotionAction::Up | MotionAction::PointerUp | MotionAction::Cancel => Loss::Lift {
             device: motion.device,
             id: pointer.id,
         },

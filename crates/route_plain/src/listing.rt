@@ -1,11 +1,14 @@
 //! Lists of pointers, and motions that list them.
-ghost use Rattle.std.specs.Prelude.{◌≡◌, ◌<◌, ◌==◌, ◌++◌, [], ◌∷◌, bit_and, bit_xor, length};
+ghost use Rattle.std.specs.Prelude.{◌≡◌, ◌<◌, ◌==◌, ◌++◌, [], ◌∷◌, if◌then◌else◌, bit_and, bit_xor, length};
+ghost use Rattle.input_types.specs.Gestures.{flag_canceled};
 ghost use Rattle.input_types.specs.Pointers.{EndsBelow};
-ghost use Rattle.routing_rules.specs.Told.{listing, index_in, plain, opening, closing, is_up};
+ghost use Rattle.routing_rules.specs.Told.{listing, index_in, plain, opening, closing, is_up, is_cancelled};
 ghost use Rattle.route_plain.specs.IdSet.{set_has};
 
 use crate::hold::{set_has, set_with};
-use input_types::{DeviceId, Motion, MotionAction, Pointer, PointerId, Pointers, PushRefused};
+use input_types::{
+    DeviceId, FLAG_CANCELED, Motion, MotionAction, Pointer, PointerId, Pointers, PushRefused,
+};
 
 // The ids of one set that another has not.
 pub(crate) fn set_without(set: u32, other: u32) -> u32
@@ -41,7 +44,6 @@ pub(crate) fn listing(set: u32, pointers: &Pointers) -> Pointers
     ensures { result ≡ listing (set_has set) pointers.now }
 {
     let mut listed = Pointers::empty();
-    let _count = pointers.len();
     for pointer in pointers.as_slice() {
         if set_has(set, pointer.id) {
             put(&mut listed, *pointer);
@@ -106,13 +108,42 @@ pub(crate) fn opening(device: DeviceId, id: PointerId, pointers: &Pointers) -> M
 }
 
 // A pointer goes up in a window that had these.
-pub(crate) fn closing(device: DeviceId, id: PointerId, pointers: &Pointers) -> Motion
-    ensures { result ≡ closing device id pointers.now }
+pub(crate) fn closing(
+    device: DeviceId,
+    id: PointerId,
+    cancelled: bool,
+    pointers: &Pointers,
+) -> Motion
+    ensures { result ≡ closing device id cancelled pointers.now }
 {
     match pointers.as_slice() {
-        [_] => plain(device, MotionAction::Up, pointers),
-        _ => about(device, MotionAction::PointerUp, id, 0, pointers),
+        [_] => plain(device, last_up(cancelled), pointers),
+        _ => about(
+            device,
+            MotionAction::PointerUp,
+            id,
+            up_flags(cancelled),
+            pointers,
+        ),
     }
+}
+
+// The action with which the last pointer of a window goes up.
+fn last_up(cancelled: bool) -> MotionAction
+    ensures { result ≡ (if cancelled then MotionAction.Cancel else MotionAction.Up) }
+{
+    if cancelled {
+        MotionAction::Cancel
+    } else {
+        MotionAction::Up
+    }
+}
+
+// The flags with which one of several pointers goes up.
+fn up_flags(cancelled: bool) -> u32
+    ensures { result ≡ (if cancelled then flag_canceled else 0) }
+{
+    if cancelled { FLAG_CANCELED } else { 0 }
 }
 
 // Whether it is an action with which a pointer goes up.
@@ -120,7 +151,17 @@ pub(crate) fn is_up(action: MotionAction) -> bool
     ensures { result ≡ is_up action }
 {
     match action {
-        MotionAction::Up | MotionAction::PointerUp => true,
+        MotionAction::Up | MotionAction::PointerUp | MotionAction::Cancel => true,
         _ => false,
+    }
+}
+
+// Whether a motion with this action and these flags cancels what goes up with it.
+pub(crate) fn is_cancelled(action: MotionAction, flags: u32) -> bool
+    ensures { result ≡ is_cancelled action flags }
+{
+    match action {
+        MotionAction::Cancel => true,
+        _ => flags == FLAG_CANCELED,
     }
 }

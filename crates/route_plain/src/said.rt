@@ -68,8 +68,8 @@ fn ids_after(
 }
 
 // The watchers of the snapshot at a point.
-fn watchers(moment: &Moment, at: Pixel) -> u64
-    ensures { let s = scene_at moment.now in (c : ℕ) → mask_has result c ≡ is_watcher_at s.windows s.live at.x at.y c }
+fn watchers(moment: &Moment, device: DeviceId, at: Pixel) -> u64
+    ensures { let s = scene_at moment.now in (c : ℕ) → mask_has result c ≡ is_watcher_at s.windows (s.reach device) at.x at.y c }
 {
     moment.snapshot.watchers(at.x, at.y, moment.live)
 }
@@ -79,7 +79,8 @@ fn watching(moment: &Moment, motion: &Motion, pointer: Option<Pointer>) -> u64
     ensures { (c : ℕ) → mask_has result c ≡ is_watching (scene_at moment.now) motion.now pointer c }
 {
     match (motion.action, pointer) {
-        (MotionAction::Down, Some(pointer)) => moment.able & watchers(moment, pointer.at),
+        (MotionAction::Down, Some(pointer)) => moment.able
+            & watchers(moment, motion.device, pointer.at),
         _ => 0,
     }
 }

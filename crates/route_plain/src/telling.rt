@@ -8,7 +8,9 @@ ghost use Rattle.route_plain.specs.Telling.{outside_of, told_others, told_here, 
 
 use crate::change::changed;
 use crate::hold::{set_has, set_with};
-use crate::listing::{about, closing, is_up, listing, opening, plain, set_without, single};
+use crate::listing::{
+    about, closing, is_cancelled, is_up, listing, opening, plain, set_without, single,
+};
 use crate::turn::Said;
 use input_types::{DeviceId, FLAG_CANCELED, Motion, MotionAction, Pointer, Pointers};
 use std::alloc::AllocError;
@@ -154,7 +156,12 @@ pub(crate) fn tell_motion(
     }
     if is_up(motion.action) && set_has(before, pointer.id) {
         let had = listing(before, &motion.pointers);
-        return say(out, channel, closing(motion.device, pointer.id, &had));
+        let cancelled = is_cancelled(motion.action, motion.flags);
+        return say(
+            out,
+            channel,
+            closing(motion.device, pointer.id, cancelled, &had),
+        );
     }
     let outside = if watching { Some(pointer) } else { None };
     tell_others(out, channel, motion, last, before, later, outside)

@@ -4,7 +4,7 @@ use crate::plain::Plain;
 use crate::turn::{Said, Turn};
 use bitflags::Flags;
 use input_types::{
-    DeviceId, FLAG_CANCELED, Motion, MotionAction, Pixel, Pointer, PointerId, Pointers,
+    DeviceId, DisplayId, FLAG_CANCELED, Motion, MotionAction, Pixel, Pointer, PointerId, Pointers,
 };
 use std::alloc::Global;
 use std::test::Fail;
@@ -45,6 +45,7 @@ fn window(alloc: Global, channel: u32, frame: Rect, flags: WindowFlags) -> Resul
     let region = Region::new(vec![in alloc; frame]?)?;
     Ok(Window {
         channel,
+        display: DisplayId::zero(),
         frame,
         region,
         flags,
