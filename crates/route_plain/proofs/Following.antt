@@ -1,10 +1,10 @@
 -- What the router keeps follows the marks of its turns.
-use Rattle.std.proofs.Common.{◌≡◌, ℕ, suc, ◌-◌, ◌^◌, ◌<◌, Bool, true, false, not, ◌&&◌, ◌||◌, ◌==◌, cond, nat_lt, List, [], ◌∷◌, ◌++◌, map, length, Option, Some, None, refl, ap, ap₂, sym, ◌∙◌, inl, inr, add-one}
+use Rattle.std.proofs.Common.{◌≡◌, ℕ, suc, ◌-◌, ◌^◌, ◌<◌, Bool, true, false, not, ◌&&◌, ◌||◌, ◌==◌, cond, nat_lt, List, [], ◌∷◌, ◌++◌, map, length, Option, Some, None, refl, ap, ap₂, sym, ◌∙◌, add-one}
 use Rattle.std.specs.Prelude.{unwrap_or}
 use Rattle.std.proofs.lemmas.List.{map-append, length-set}
 use Rattle.std.proofs.lemmas.List.Folds.{list_any-append}
 use Rattle.std.proofs.lemmas.Map.Views.{any-filter_same}
-use Rattle.std.proofs.lemmas.Bool.{cases_eq, eqb-true, eq-eqb, ne_eqb, and_parts, and_from, and_right, or_left, or_right, lt-ltb}
+use Rattle.std.proofs.lemmas.Bool.{eqb-true, eq-eqb, and_parts, and_from, and_right, or_left, or_right, lt-ltb}
 use Rattle.std.proofs.Math.Path.{fun_ext}
 use Rattle.input_types.specs.declared.motion.Motion.{Motion}
 use Rattle.input_types.specs.declared.motion.MotionAction.{MotionAction}
@@ -24,6 +24,7 @@ use Rattle.route_plain.specs.State.{State, last_of}
 use Rattle.route_plain.specs.Route.{holds_left, holds_after, hold_from, with_pilferer, pilferers_after, last_after, next_turn}
 use Rattle.route_plain.specs.Laws.{BeganBy, Follows, StartLaw, TurnLaw, SceneLaw}
 use Rattle.route_plain.proofs.Gains.{pairs_of-gained}
+use Rattle.route_plain.proofs.IdSets.{either_way}
 use Rattle.route_plain.proofs.Left.{pairs_of-left}
 
 -- the number with which a window began, where each hold has that of a function
@@ -140,13 +141,6 @@ no_motion_pilfers s m Down None w d = refl
 no_motion_pilfers s m PointerDown None w d = refl
 no_motion_pilfers s m Cancel None w d = refl
 no_motion_pilfers s m Outside None w d = refl
-
-either_way : (a b : ℕ) → (a == b) ≡ (b == a)
-either_way a b =
-    elim (cases_eq a b) [
-      | inl e ↦ eq-eqb a b e ∙ sym (eq-eqb b a (sym e))
-      | inr ne ↦ ne_eqb a b ne ∙ sym (ne_eqb b a (λ h. ne (sym h)))
-    ]
 
 swap : (x t : Bool) → (x || (t || false)) ≡ (t || x)
 swap true true = refl
