@@ -56,7 +56,7 @@ taken_apart s m PointerDown p w e j n = refl
 taken_apart s m Move p w e j n = slips_out_apart m.device p.id w e j n (slip s m)
 taken_apart s m Up p w e j n = lift_test m.device p.id e j n
 taken_apart s m PointerUp p w e j n = lift_test m.device p.id e j n
-taken_apart s m Cancel p w e j n = refl
+taken_apart s m Cancel p w e j n = lift_test m.device p.id e j n
 taken_apart s m Outside p w e j n = refl
 
 -- without a changed pointer a motion gives and takes nothing
@@ -102,10 +102,10 @@ up_taken : (s : Scene) (m : Motion) (a : MotionAction) (p : Pointer) (w : ℕ) �
     → (has (given_by s m a (Some p)) w m.device p.id ≡ false) × (takes (taken_by s m a (Some p)) w m.device p.id ≡ true)
 up_taken s m Up p w u = (refl, and_from _ _ (eq-eqb m.device m.device refl) (eq-eqb p.id p.id refl))
 up_taken s m PointerUp p w u = (refl, and_from _ _ (eq-eqb m.device m.device refl) (eq-eqb p.id p.id refl))
+up_taken s m Cancel p w u = (refl, and_from _ _ (eq-eqb m.device m.device refl) (eq-eqb p.id p.id refl))
 up_taken s m Down p w u = cc
 up_taken s m PointerDown p w u = cc
 up_taken s m Move p w u = cc
-up_taken s m Cancel p w u = cc
 up_taken s m Outside p w u = cc
 
 gone : (g b t : Bool) → g ≡ false → t ≡ true → (g || b && not t) ≡ false

@@ -1,12 +1,14 @@
 -- Worked examples, each one step of a gesture. They compute.
-use Rattle.std.specs.Prelude.{ℕ, not, ◌==◌, ◌≡◌, List, [], ◌∷◌, refl}
+use Rattle.std.specs.Prelude.{ℕ, false, not, ◌==◌, ◌≡◌, List, [], ◌∷◌, filter, refl}
 use Rattle.input_types.specs.declared.motion.MotionAction.TheVariants.{Down, Move, Cancel, Outside, PointerDown, PointerUp}
 use Rattle.input_types.specs.declared.motion.Motion.{Motion}
 use Rattle.input_types.specs.declared.pointer.Pointer.{Pointer}
-use Rattle.routing_rules.specs.Scene.{Scene, Moves, Pilfers, Shows, Removes}
+use Rattle.routing_rules.specs.Pairs.{Pair}
+use Rattle.routing_rules.specs.Scene.{Scene, Step, Moves, Pilfers, Shows, Removes, stays}
 use Rattle.routing_rules.specs.Choice.{takers}
-use Rattle.routing_rules.specs.Told.{told}
-use Rattle.routing_rules.proofs.Worked.{window, at, motion, cancelled, pair, scene}
+use Rattle.routing_rules.specs.Given.{mark}
+use Rattle.routing_rules.specs.Told.{told, after}
+use Rattle.routing_rules.proofs.Worked.{window, at, motion, cancelled, pair, scene, on, on_two_displays}
 
 -- Two windows side by side, 1 on the left and 2 on the right. A finger is down on the left one; a second goes down on the right.
 abbrev side_by_side : ℕ → Scene
@@ -97,3 +99,91 @@ what_a_new_snapshot_does_not_name_is_cancelled = refl
 
 a_removed_channel_is_told_nothing : told spied (Removes 2) 2 1 ≡ []
 a_removed_channel_is_told_nothing = refl
+
+-- A palm. Two fingers are down in one window; the second becomes a palm, and then the first.
+abbrev two_fingers : List Pair → List Pointer → Scene
+two_fingers = scene (window 1 0 0 0 1080 2400 ∷ [])
+
+abbrev palm_of_two : Motion
+palm_of_two = cancelled PointerUp 1 (at 0 100 200 ∷ at 1 300 400 ∷ [])
+
+one_of_several_is_cancelled_as_an_up_with_the_flag :
+    told (two_fingers (pair 1 0 ∷ pair 1 1 ∷ []) (at 0 100 200 ∷ at 1 300 400 ∷ [])) (Moves palm_of_two) 1 1 ≡ palm_of_two ∷ []
+one_of_several_is_cancelled_as_an_up_with_the_flag = refl
+
+abbrev last_palm : Motion
+last_palm = motion Cancel 0 (at 0 100 200 ∷ [])
+
+the_last_one_is_cancelled_by_a_cancel : told (two_fingers (pair 1 0 ∷ []) (at 0 100 200 ∷ [])) (Moves last_palm) 1 1 ≡ last_palm ∷ []
+the_last_one_is_cancelled_by_a_cancel = refl
+
+a_cancelled_pointer_is_held_no_more :
+    let s = two_fingers (pair 1 0 ∷ []) (at 0 100 200 ∷ []) in after s (mark s (Moves last_palm)) 1 1 0 ≡ false
+a_cancelled_pointer_is_held_no_more = refl
+
+-- The same where each finger is in a window of its own.
+abbrev one_each : Scene
+one_each =
+    scene (window 1 0 0 0 540 2400 ∷ window 2 0 540 0 1080 2400 ∷ []) (pair 1 0 ∷ pair 2 1 ∷ []) (at 0 100 200 ∷ at 1 700 400 ∷ [])
+
+abbrev palm_on_the_right : Motion
+palm_on_the_right = cancelled PointerUp 1 (at 0 100 200 ∷ at 1 700 400 ∷ [])
+
+its_window_is_told_a_cancel : told one_each (Moves palm_on_the_right) 2 1 ≡ motion Cancel 0 (at 1 700 400 ∷ []) ∷ []
+its_window_is_told_a_cancel = refl
+
+another_window_is_told_a_move : told one_each (Moves palm_on_the_right) 1 1 ≡ motion Move 0 (at 0 100 200 ∷ []) ∷ []
+another_window_is_told_a_move = refl
+
+-- Two displays of one size. Window 4 is on the second one, and stands in front of window 2 of the first one.
+abbrev two_displays : ℕ → List Pair → List Pointer → Scene
+two_displays flags qs last =
+    on_two_displays (scene (on 1 (window 4 flags 0 0 100 2400) ∷ window 2 0 0 0 1080 2400 ∷ []) qs last)
+
+abbrev finger : Motion
+finger = motion Down 0 (at 0 50 500 ∷ [])
+
+a_touch_goes_through_a_window_of_another_display : told (two_displays 0 [] []) (Moves finger) 2 1 ≡ finger ∷ []
+a_touch_goes_through_a_window_of_another_display = refl
+
+a_window_of_another_display_is_not_touched : told (two_displays 0 [] []) (Moves finger) 4 1 ≡ []
+a_window_of_another_display_is_not_touched = refl
+
+the_device_of_that_display_touches_it :
+    told (two_displays 0 [] []) (Moves (record finger { device = 2 })) 4 2 ≡ record finger { device = 2 } ∷ []
+the_device_of_that_display_touches_it = refl
+
+a_spy_of_another_display_is_not_told : told (two_displays 16 [] []) (Moves finger) 4 1 ≡ []
+a_spy_of_another_display_is_not_told = refl
+
+a_watcher_of_another_display_is_not_told : told (two_displays 4 [] []) (Moves (motion Down 0 (at 0 500 500 ∷ []))) 4 1 ≡ []
+a_watcher_of_another_display_is_not_told = refl
+
+nothing_slips_to_a_window_of_another_display :
+    told
+    (on_two_displays (scene (window 1 8 0 0 1080 200 ∷ on 1 (window 2 0 0 200 1080 2400) ∷ []) (pair 1 0 ∷ []) (at 0 500 100 ∷ [])))
+    (Moves slide) 1 1
+    ≡ slide ∷ []
+nothing_slips_to_a_window_of_another_display = refl
+
+-- the ids of device 1, of 0 and 1, that a window holds after a step
+abbrev held_after : Scene → Step → ℕ → List ℕ
+held_after s e w = filter (after s (mark s e) w 1) (0 ∷ 1 ∷ [])
+
+-- In the middle of a gesture a snapshot shows window 2 on the second display.
+abbrev held_on_the_first : Scene
+held_on_the_first = two_displays 0 (pair 2 0 ∷ pair 2 1 ∷ []) (at 0 500 500 ∷ at 1 600 500 ∷ [])
+
+abbrev moved_away : Step
+moved_away = Shows (stays held_on_the_first.windows (on 1 (window 2 0 0 0 1080 2400) ∷ []))
+
+a_window_that_changes_its_display_is_told_a_cancel :
+    told held_on_the_first moved_away 2 1 ≡ motion Cancel 0 (at 0 500 500 ∷ at 1 600 500 ∷ []) ∷ []
+a_window_that_changes_its_display_is_told_a_cancel = refl
+
+it_holds_nothing_then : held_after held_on_the_first moved_away 2 ≡ []
+it_holds_nothing_then = refl
+
+what_stays_on_its_display_keeps_its_pointers :
+    held_after held_on_the_first (Shows (stays held_on_the_first.windows (window 2 0 0 0 1080 2400 ∷ []))) 2 ≡ 0 ∷ 1 ∷ []
+what_stays_on_its_display_keeps_its_pointers = refl

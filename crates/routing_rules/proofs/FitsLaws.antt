@@ -1,5 +1,5 @@
 -- A scene that fits what is down is followed by one that does.
-use Rattle.std.proofs.Common.{ℕ, zero, suc, Bool, true, false, not, cond, ◌&&◌, ◌==◌, ◌≡◌, List, [], ◌∷◌, filter, remove, if◌then◌else◌, Option, Some, None, slice_get, refl, sym, ap, ◌∙◌, subst, inl, inr}
+use Rattle.std.proofs.Common.{ℕ, zero, suc, Bool, true, false, not, cond, ◌&&◌, ◌==◌, ◌≡◌, List, [], ◌∷◌, filter, length, remove, if◌then◌else◌, Option, Some, None, slice_get, refl, sym, ap, ◌∙◌, subst, inl, inr}
 use Rattle.std.specs.List.{list_any}
 use Rattle.std.proofs.lemmas.Bool.{eqb-true, eq-eqb, cases_Bool, both_ways, and_parts, and_right, or_cases, or_left, or_right}
 use Rattle.std.proofs.lemmas.List.Elements.{filter_agree}
@@ -117,17 +117,17 @@ motion_fits s t m down next f r None c (moves e g u v) same q =
 
 -- a motion of any device
 motion_step : (s t : Scene) (m : Motion) (d : ℕ) (down next : List ℕ) → Fits s d down → IsRising m.pointers → (c : Bool) → (m.device == d) ≡ c
-    → (if c then (if is_of_device m.action && m.flags == 0 then after_motion down m else None) else Some down) ≡ Some next
+    → (if c then (if is_of_device m.action (length m.pointers) then after_motion down m else None) else Some down) ≡ Some next
     → ((w i : ℕ) → t.holds w d i ≡ after s (mark s (Moves m)) w d i) → t.last d ≡ (if c then m.pointers else s.last d) → Fits t d next
 motion_step s t m d down next f r true q n same e =
     let z : m.device ≡ d = eqb-true m.device d q in
     let P : ℕ → Type 0 =
     λ x. Fits s x down → ((w i : ℕ) → t.holds w x i ≡ after s (mark s (Moves m)) w x i) → t.last x ≡ m.pointers → Fits t x next in
-    let own : P m.device = λ g h k. motion_fits s t m down next g r (changed m) refl (came (is_of_device m.action && m.flags == 0) refl n) h k in
+    let own : P m.device = λ g h k. motion_fits s t m down next g r (changed m) refl (came (is_of_device m.action (length m.pointers)) refl n) h k in
     subst P z own f same e
   where
-    came : (c : Bool) → (is_of_device m.action && m.flags == 0) ≡ c → cond c (after_motion down m) None ≡ Some next → Kind m down next
-    came true p e = kind_at m down next m.action refl (and_parts (is_of_device m.action) (m.flags == 0) p).0 e
+    came : (c : Bool) → is_of_device m.action (length m.pointers) ≡ c → cond c (after_motion down m) None ≡ Some next → Kind m down next
+    came true p e = kind_at m down next m.action refl p e
     came false p e = cc
 motion_step s t m d down next f r false q n same e =
     let z : down ≡ next = cc in

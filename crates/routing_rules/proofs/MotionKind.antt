@@ -9,7 +9,7 @@ use Rattle.input_types.specs.DeviceRule.{is_of_device}
 use Rattle.input_types.specs.Gestures.{ids_of, same_ids, after_action, allowed}
 use Rattle.routing_rules.specs.Given.{changed}
 use Rattle.routing_rules.specs.Told.{is_up, is_down}
-use Rattle.routing_rules.proofs.Listings.{some_at, same_ids_is}
+use Rattle.routing_rules.proofs.Listings.{some_at, same_ids_is, length-ids_of}
 
 -- what is allowed comes only where it is
 pub allowed_parts : {X : Type 0} (b : Bool) (x y : X) → allowed b x ≡ Some y → (b ≡ true) × (x ≡ y)
@@ -31,7 +31,7 @@ empty_of : (xs : List ℕ) → length xs ≡ 0 → [] ≡ xs
 empty_of [] e = refl
 empty_of (x ∷ xs) e = absurd (omega (arith, e))
 
-pub kind_at : (m : Motion) (down next : List ℕ) (a : MotionAction) → m.action ≡ a → is_of_device a ≡ true
+pub kind_at : (m : Motion) (down next : List ℕ) (a : MotionAction) → m.action ≡ a → is_of_device a (length m.pointers) ≡ true
     → after_action a down (ids_of m.pointers) m.index m.flags ≡ Some next → Kind m down next
 kind_at m down next Down q o e =
     let ids = ids_of m.pointers in
@@ -70,5 +70,13 @@ kind_at m down next Up q o e =
     let index = eqb-true m.index 0 (and_parts (m.index == 0) (m.flags == 0) z.1).0 in
     let p = some_at m.pointers m.index (omega (arith, one, index)) in
     closes p.0 p.1 (same_ids_is ids down y.0) (remove_only ids m.index one index ∙ x.1) (ap is_up q)
-kind_at m down next Cancel q o e = cc
+kind_at m down next Cancel q o e =
+    let ids = ids_of m.pointers in
+    let x = allowed_parts _ [] next e in
+    let y = and_parts (same_ids ids down) _ x.0 in
+    let z = and_parts (nat_lt 0 (length ids)) _ y.1 in
+    let one = length-ids_of m.pointers ∙ eqb-true (length m.pointers) 1 o in
+    let index = eqb-true m.index 0 (and_parts (m.index == 0) (m.flags == 0) z.1).0 in
+    let p = some_at m.pointers m.index (omega (arith, one, index)) in
+    closes p.0 p.1 (same_ids_is ids down y.0) (remove_only ids m.index one index ∙ x.1) (ap is_up q)
 kind_at m down next Outside q o e = cc

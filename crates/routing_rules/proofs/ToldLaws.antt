@@ -1,5 +1,5 @@
 -- What a window is told at a step fits what it was told before.
-use Rattle.std.proofs.Common.{ℕ, Bool, true, false, not, cond, ◌&&◌, ◌==◌, ◌≡◌, List, [], ◌∷◌, filter, remove, Option, Some, None, if◌then◌else◌, refl, sym, ap, ◌∙◌, subst, inl, inr}
+use Rattle.std.proofs.Common.{ℕ, Bool, true, false, not, cond, ◌&&◌, ◌==◌, ◌≡◌, List, [], ◌∷◌, filter, length, remove, Option, Some, None, if◌then◌else◌, refl, sym, ap, ◌∙◌, subst, inl, inr}
 use Rattle.std.specs.List.{list_any}
 use Rattle.std.proofs.lemmas.Bool.{eqb-true, eq-eqb, cases_Bool, both_ways, and_parts, and_right}
 use Rattle.std.proofs.lemmas.List.Elements.{filter_agree}
@@ -129,12 +129,12 @@ by_changed s m w down next f a kind (Some p) c =
     told_motion_fits s m p w (s.holds w m.device) (after s (mark s (Moves m)) w m.device) down next (shape_of s m p w down next f a c kind)
 
 own_motion : (s : Scene) (m : Motion) (w : ℕ) (down next : List ℕ) → Fits s m.device down → IsRising m.pointers
-    → (if is_of_device m.action && m.flags == 0 then after_motion down m else None) ≡ Some next
+    → (if is_of_device m.action (length m.pointers) then after_motion down m else None) ≡ Some next
     → told_ids (filter (s.holds w m.device) down) (told_motion s m (changed m) w (s.holds w m.device) (after s (mark s (Moves m)) w m.device))
     ≡ Some (filter (after s (mark s (Moves m)) w m.device) next)
 own_motion s m w down next f r e =
-    let p = came (is_of_device m.action && m.flags == 0) e in
-    by_changed s m w down next f (apart_rising m.pointers r) (kind_at m down next m.action refl (and_parts (is_of_device m.action) (m.flags == 0) p.0).0 p.1) (changed m) refl
+    let p = came (is_of_device m.action (length m.pointers)) e in
+    by_changed s m w down next f (apart_rising m.pointers r) (kind_at m down next m.action refl p.0 p.1) (changed m) refl
   where
     came : (c : Bool) → cond c (after_motion down m) None ≡ Some next → (c ≡ true) × (after_motion down m ≡ Some next)
     came true e = (refl, e)
@@ -153,7 +153,7 @@ other_motion s m w d n None c j = after_none s m c w d j
 other_motion s m w d n (Some p) c j = after_apart s m p c w d j (inl n)
 
 any_motion : (s : Scene) (m : Motion) (w d : ℕ) (down next : List ℕ) → Fits s d down → IsRising m.pointers → (c : Bool) → (m.device == d) ≡ c
-    → (if c then (if is_of_device m.action && m.flags == 0 then after_motion down m else None) else Some down) ≡ Some next
+    → (if c then (if is_of_device m.action (length m.pointers) then after_motion down m else None) else Some down) ≡ Some next
     → told_ids (filter (s.holds w d) down) (if c then told_motion s m (changed m) w (s.holds w d) (after s (mark s (Moves m)) w d) else [])
     ≡ Some (filter (after s (mark s (Moves m)) w d) next)
 any_motion s m w d down next f r false n e =

@@ -8,7 +8,7 @@ use Rattle.window_snapshot.specs.Hits.{is_watcher_at}
 use Rattle.input_types.specs.declared.pointer.Pointer.{Pointer}
 use Rattle.input_types.specs.Gestures.{ids_of, after_motion}
 use Rattle.routing_rules.specs.Scene.{Scene}
-use Rattle.routing_rules.specs.Told.{listing, opening, closing, moves, or_else, cancels, outside, is_up, is_first, plain, told_motion}
+use Rattle.routing_rules.specs.Told.{listing, opening, closing, moves, or_else, cancels, outside, is_up, is_cancelled, is_first, plain, told_motion}
 use Rattle.routing_rules.specs.Fits.{told_ids}
 use Rattle.routing_rules.proofs.Listings.{has_id, Apart, Removes_one, index-listing, ids_of-listing, filter-filter_sub}
 use Rattle.routing_rules.proofs.ToldRows.{opening_fits, closing_fits, moves_fit, cancels_fit, or_else_fits}
@@ -44,7 +44,7 @@ outside_if d p ids true = refl
 outside_if d p ids false = refl
 
 outside_fits : (s : Scene) (m : Motion) (p : Pointer) (w : ℕ) (ids : List ℕ) → told_ids ids (outside s m p w) ≡ Some ids
-outside_fits s m p w ids = outside_if m.device p ids (is_first m.action && s.able w && is_watcher_at s.windows s.live p.at.x p.at.y w)
+outside_fits s m p w ids = outside_if m.device p ids (is_first m.action && s.able w && is_watcher_at s.windows (s.reach m.device) p.at.x p.at.y w)
 
 -- neither given nor upped
 otherwise_fits : (s : Scene) (m : Motion) (p : Pointer) (w : ℕ) (b l : ℕ → Bool) (down next : List ℕ) → Shape s m p b l down next
@@ -76,7 +76,7 @@ rows_fit : (s : Scene) (m : Motion) (p : Pointer) (w : ℕ) (b l : ℕ → Bool)
     → (gained upped : Bool) → (l p.id && not (b p.id)) ≡ gained → (is_up m.action && b p.id) ≡ upped
     → told_ids (filter b down)
     (cond gained (opening m.device p.id (listing l m.pointers) ∷ [])
-    (cond upped (closing m.device p.id (listing b m.pointers) ∷ [])
+    (cond upped (closing m.device p.id (is_cancelled m.action m.flags) (listing b m.pointers) ∷ [])
     (or_else (cancels m.device (s.last m.device) b l) (or_else (moves m.device (listing l m.pointers)) (outside s m p w)))))
     ≡ Some (filter l next)
 rows_fit s m p w b l down next x true upped g u =
@@ -92,10 +92,10 @@ rows_fit s m p w b l down next x false true g u =
     let parts = and_parts (is_up m.action) (b p.id) u in
     let r : Removes_one b l p.id m.pointers =
     index-listing b l p.id m.pointers x.apart x.in_motion parts.1 (x.up_takes parts.0) (λ j n. sym (x.others j n)) in
-    let told : Motion = closing m.device p.id (listing b m.pointers) in
+    let told : Motion = closing m.device p.id (is_cancelled m.action m.flags) (listing b m.pointers) in
     ap (option_and_then (λ ids. told_ids ids []))
     (subst (λ ids. after_motion ids told ≡ Some (ids_of (listing l m.pointers))) (sym x.before_is)
-    (closing_fits m.device p.id (ids_of (listing l m.pointers)) (listing b m.pointers) r.0 r.1))
+    (closing_fits m.device p.id (is_cancelled m.action m.flags) (ids_of (listing l m.pointers)) (listing b m.pointers) r.0 r.1))
     ∙ ap Some (sym x.later_is)
 rows_fit s m p w b l down next x false false g u = otherwise_fits s m p w b l down next x g
 

@@ -5,7 +5,7 @@ use Rattle.std.proofs.lemmas.Bool.{eqb-true, eq-eqb, true≢false, or_left, or_r
 use Rattle.input_types.specs.declared.motion.Motion.{Motion}
 use Rattle.input_types.specs.declared.motion.MotionAction.TheVariants.{PointerDown, PointerUp}
 use Rattle.input_types.specs.declared.pointer.Pointer.{Pointer}
-use Rattle.input_types.specs.Gestures.{ids_of, same_ids, after_motion, after_action, allowed, is_end_flag}
+use Rattle.input_types.specs.Gestures.{ids_of, same_ids, after_motion, after_action, allowed, is_end_flag, flag_canceled}
 use Rattle.routing_rules.specs.Told.{listing, index_in, opening, closing, moves, or_else, cancelled_ups, cancels_of, cancels}
 use Rattle.routing_rules.specs.Fits.{told_ids}
 use Rattle.routing_rules.proofs.Listings.{has_id, Apart, Removes_one, index-listing, listing_same, listing-less, length-listing_le, length-ids_of, has_id-listing, apart-listing, same_ids_refl}
@@ -44,13 +44,16 @@ opening_fits d i had (p ∷ []) e lt =
     subst (λ xs. after_motion xs (opening d i (p ∷ [])) ≡ Some (p.id ∷ [])) (sym (without_only p.id (index_in i (p ∷ [])) lt) ∙ e) refl
 opening_fits d i had (p ∷ q ∷ ps) e lt = down_more had (ids_of (p ∷ q ∷ ps)) (index_in i (p ∷ q ∷ ps)) e lt (omega arith)
 
--- a pointer that goes up in a window
-pub closing_fits : (d i : ℕ) (has : List ℕ) (ps : List Pointer) → remove (ids_of ps) (index_in i ps) ≡ has → index_in i ps < length (ids_of ps)
-    → after_motion (ids_of ps) (closing d i ps) ≡ Some has
-closing_fits d i has [] e lt = absurd (omega (arith, lt))
-closing_fits d i has (p ∷ []) e lt =
+-- a pointer that goes up in a window, or is cancelled there
+pub closing_fits : (d i : ℕ) (cancelled : Bool) (has : List ℕ) (ps : List Pointer) → remove (ids_of ps) (index_in i ps) ≡ has → index_in i ps < length (ids_of ps)
+    → after_motion (ids_of ps) (closing d i cancelled ps) ≡ Some has
+closing_fits d i cancelled has [] e lt = absurd (omega (arith, lt))
+closing_fits d i true has (p ∷ []) e lt =
     comes _ [] (and_from _ _ (same_ids_refl (p.id ∷ [])) refl) ∙ ap Some (sym (without_only p.id (index_in i (p ∷ [])) lt) ∙ e)
-closing_fits d i has (p ∷ q ∷ ps) e lt = up_more (ids_of (p ∷ q ∷ ps)) has (index_in i (p ∷ q ∷ ps)) 0 e lt (omega arith) refl
+closing_fits d i false has (p ∷ []) e lt =
+    comes _ [] (and_from _ _ (same_ids_refl (p.id ∷ [])) refl) ∙ ap Some (sym (without_only p.id (index_in i (p ∷ [])) lt) ∙ e)
+closing_fits d i true has (p ∷ q ∷ ps) e lt = up_more (ids_of (p ∷ q ∷ ps)) has (index_in i (p ∷ q ∷ ps)) flag_canceled e lt (omega arith) refl
+closing_fits d i false has (p ∷ q ∷ ps) e lt = up_more (ids_of (p ∷ q ∷ ps)) has (index_in i (p ∷ q ∷ ps)) 0 e lt (omega arith) refl
 
 -- what a window holds moves
 pub moves_fit : (d : ℕ) (ps : List Pointer) → told_ids (ids_of ps) (moves d ps) ≡ Some (ids_of ps)
@@ -137,7 +140,7 @@ ups_fit d ps (p ∷ lost) h l a x kept =
       kept,
     ) in
     ap (option_and_then (λ next. told_ids next (cancelled_ups d (filter (λ q. not (q.id == p.id)) (listing h ps)) lost)))
-    (up_more (ids_of (listing h ps)) (ids_of (listing (less h p.id) ps)) (index_in p.id (listing h ps)) 0x20 one.0 one.1 two refl)
+    (up_more (ids_of (listing h ps)) (ids_of (listing (less h p.id) ps)) (index_in p.id (listing h ps)) flag_canceled one.0 one.1 two refl)
     ∙ ap (λ qs. told_ids (ids_of (listing (less h p.id) ps)) (cancelled_ups d qs lost)) (listing-less h p.id ps)
     ∙ ups_fit d ps lost (less h p.id) l a y kept
 

@@ -1,10 +1,11 @@
 -- Windows, pointers, motions and scenes for the worked examples.
-use Rattle.std.specs.Prelude.{ℕ, pos, true, false, ◌&&◌, List, [], ◌∷◌, nat_lt}
+use Rattle.std.specs.Prelude.{◌-◌, ℕ, pos, true, false, ◌&&◌, List, [], ◌∷◌, nat_lt}
 use Rattle.input_types.specs.declared.motion.Motion.{Motion}
 use Rattle.input_types.specs.declared.motion.MotionAction.{MotionAction}
 use Rattle.input_types.specs.declared.pointer.Pointer.{Pointer}
 use Rattle.touch_region.specs.declared.rectangle.Rect.{Rect}
 use Rattle.window_snapshot.specs.declared.window.Window.{Window}
+use Rattle.window_snapshot.specs.Named.{is_shown_on}
 use Rattle.routing_rules.specs.Pairs.{Pair, has_any}
 use Rattle.routing_rules.specs.Scene.{Scene, scene_of}
 
@@ -34,3 +35,11 @@ pair w i = record { window = w; device = 1; id = i }
 abbrev pub scene : List Window → List Pair → List Pointer → Scene
 scene windows qs last =
     scene_of windows (λ d w. true) (λ w. true) qs (λ v w d. has_any qs v d && has_any qs w d && nat_lt v w) (λ w d. false) (λ d. last)
+
+-- the window on another display
+abbrev pub on : ℕ → Window → Window
+on y v = record v { display = y }
+
+-- the same scene where device 1 is on display 0 and device 2 on display 1
+abbrev pub on_two_displays : Scene → Scene
+on_two_displays s = record s { reach = λ d w. is_shown_on s.windows (d - 1) w }

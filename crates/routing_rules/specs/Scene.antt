@@ -1,9 +1,10 @@
 -- What the rules of routing see of the moment before a step, and what a step is to them.
-use Rattle.std.specs.Prelude.{ℕ, Bool, ◌==◌, ◌&&◌, List, map, filter}
+use Rattle.std.specs.Prelude.{ℕ, Bool, true, false, ◌==◌, ◌&&◌, List, map, filter, Option, Some, None}
 use Rattle.std.specs.List.{list_any}
 use Rattle.input_types.specs.declared.motion.Motion.{Motion}
 use Rattle.input_types.specs.declared.pointer.Pointer.{Pointer}
 use Rattle.window_snapshot.specs.declared.window.Window.{Window}
+use Rattle.window_snapshot.specs.Named.{display_of}
 use Rattle.routing_rules.specs.Pairs.{Pair, has, has_any}
 
 -- The moment before a step. A window goes by the number of its channel, and all places are pixels of the display of the device.
@@ -41,6 +42,16 @@ pub data Step : Type 0 where
   Removes : (window : ℕ) → Step
   -- anything else
   Rests : Step
+
+-- the display of a window before and in the next snapshot: the next one has it, and not another one than before
+abbrev pub keeps_display : (before next : Option ℕ) → Bool
+keeps_display before None = false
+keeps_display None (Some y) = true
+keeps_display (Some x) (Some y) = x == y
+
+-- from one snapshot to the next a window stays where the next one names it, and not on another display than before
+abbrev pub stays : (before next : List Window) → ℕ → Bool
+stays before next w = keeps_display (display_of before w) (display_of next w)
 
 -- the current snapshot has a window of this channel that passes the test
 abbrev pub shows : Scene → (Window → Bool) → ℕ → Bool
