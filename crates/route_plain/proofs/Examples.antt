@@ -83,8 +83,9 @@ a_new_finger_goes_to_the_app :
 unfolding said_up_to
 a_new_finger_goes_to_the_app = refl
 
--- Two windows side by side with nothing below them. Window 1 gets fingers 0 and 2 and window 2 finger 1; then finger 0 lifts, and a
--- finger goes down where nothing is. Window 1 began first, although finger 1 is older than what window 1 still has.
+-- Two windows side by side with nothing below them. Window 1 gets fingers 0 and 2 and window 2 finger 1; then finger 0
+-- lifts, and a finger goes down where nothing is. Window 1 began first, although finger 1 is older than what window 1
+-- still has.
 abbrev side_by_side : List Window
 side_by_side = window 1 0 0 0 540 2000 ∷ window 2 0 540 0 1080 2000 ∷ []
 
@@ -125,7 +126,8 @@ nothing_moves_after_the_last_palm :
 unfolding said_up_to
 nothing_moves_after_the_last_palm = refl
 
--- a finger on each of two windows, of which that on the right one becomes a palm: its window is told a Cancel, the other one a Move
+-- a finger on each of two windows, of which that on the right one becomes a palm: its window is told a Cancel, the
+-- other one a Move
 a_palm_is_its_windows_last :
     said_after side_by_side 3
     (Pointers (motion PointerDown 1 (at 0 100 200 ∷ at 1 700 400 ∷ [])) ∷ Pointers (motion Down 0 (at 0 100 200 ∷ [])) ∷ [])

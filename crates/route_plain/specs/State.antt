@@ -8,8 +8,8 @@ use Rattle.route_plain.specs.declared.hold.Hold.{Hold}
 use Rattle.route_plain.specs.declared.hold.Pilferer.{Pilferer}
 use Rattle.route_plain.specs.Holds.{pairs_of, is_earlier, is_pilfering}
 
--- how many turns there were; who holds what; who is pilfering; and for each device, 1 first, its pointers at the places where its
--- last motion listed them
+-- how many turns there were; who holds what; who is pilfering; and for each device, 1 first, its pointers at the places
+-- where its last motion listed them
 pub record State : Type 0 where
   pub turns : ℕ
   pub holds : List Hold
@@ -20,7 +20,8 @@ pub record State : Type 0 where
 abbrev pub last_of : List (List Pointer) → ℕ → List Pointer
 last_of last d = slice_index_or last (d - 1) []
 
--- the scene of these windows, of masks of live and able channels, and of what the router keeps: each device reaches each live channel
+-- the scene of these windows, of masks of live and able channels, and of what the router keeps: each device reaches
+-- each live channel
 abbrev pub scene_with : List Window → (live able : ℕ) → List Hold → List Pilferer → List (List Pointer) → Scene
 scene_with windows live able holds pilferers last =
     scene_of windows (λ d. mask_has live) (mask_has able) (pairs_of holds) (is_earlier holds) (is_pilfering pilferers) (last_of last)

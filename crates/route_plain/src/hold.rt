@@ -9,14 +9,16 @@ use bits32::Bits32;
 use input_types::{DeviceId, PointerId};
 use window_snapshot::mask_with;
 
-/// A window that holds a pointer of a device: it was given the pointer's down, and is told of it until it goes up or is taken.
+/// A window that holds a pointer of a device: it was given the pointer's down, and is told of it until it goes up or is
+/// taken.
 #[derive(Clone, Copy, Debug, PartialEq, Eq)]
 pub struct Hold {
     /// The window, by the number of its channel.
     pub window: u32,
     pub device: DeviceId,
     pub id: PointerId,
-    /// The number of the turn at which the window began to hold something of the device; it has held something of it since.
+    /// The number of the turn at which the window began to hold something of the device; it has held something of it
+    /// since.
     pub since: u64,
 }
 

@@ -22,8 +22,8 @@ use window_snapshot::{Snapshot, Window};
 
 /// The plain router: who holds what, as a list.
 ///
-/// A clause sees how many turns there were, the holds in the order in which they were given, the windows that are pilfering a device,
-/// and for each of the eight devices its pointers at the places where its last motion listed them.
+/// A clause sees how many turns there were, the holds in the order in which they were given, the windows that are
+/// pilfering a device, and for each of the eight devices its pointers at the places where its last motion listed them.
 #[derive(Drop)]
 pub struct Plain {
     turns: u64,
@@ -56,17 +56,18 @@ impl Plain {
         }
     }
 
-    /// Takes a turn, and answers what is said: in rising channel, and to one channel in the order in which it is told it. Places are
-    /// display pixels; whoever sends the motions takes off the origins of the windows. There is one display: each device reaches each
-    /// live window.
+    /// Takes a turn, and answers what is said: in rising channel, and to one channel in the order in which it is told
+    /// it. Places are display pixels; whoever sends the motions takes off the origins of the windows. There is one
+    /// display: each device reaches each live window.
     ///
     /// `snapshot` is the current one, in a `Windows` turn the new one. `live` is the mask of the live channels and `able` that of those
     /// that are responsive besides.
     ///
-    /// The clauses hold of every turn. That nothing is said to a channel that is not live, and that each channel's motions are a stream,
-    /// rests on three conditions, which the layer above keeps: a motion may come after those of its device before it, by the rule of
-    /// devices; `able` lies within `live`; and each window that holds something is in `able` and, but in a `Windows` turn, is named by
-    /// the snapshot. [`crate::laws::holders`] says that a turn leaves them as they were.
+    /// The clauses hold of every turn. That nothing is said to a channel that is not live, and that each channel's
+    /// motions are a stream, rests on three conditions, which the layer above keeps: a motion may come after those of
+    /// its device before it, by the rule of devices; `able` lies within `live`; and each window that holds something is
+    /// in `able` and, but in a `Windows` turn, is named by the snapshot. [`crate::laws::holders`] says that a turn
+    /// leaves them as they were.
     ///
     /// For want of memory the router is as it was before.
     pub fn turn(
