@@ -3,7 +3,7 @@ use Rattle.std.specs.List.{list_all}
 use Rattle.std.specs.Option.{is_some}
 use Rattle.toml.specs.Data.{as_str}
 use Rattle.toml.specs.View.{view}
-use Rattle.session_plan.proofs.window.are_texts.Given as goal
+use Rattle.session_plan.proofs.flags.are_texts.Given as goal
 
 -- the answer is that of the values that are left
 abbrev pub invariant-loop-value : goal.invariant-loop-value

@@ -2,8 +2,8 @@ use Rattle.std.proofs.Common.{◌≡◌, map, drop}
 use Rattle.std.specs.List.{list_all}
 use Rattle.std.specs.Option.{is_some}
 use Rattle.toml.specs.View.{view}
-use Rattle.session_plan.specs.Windows.{rectangle}
-use Rattle.session_plan.proofs.window.are_rectangles.Given as goal
+use Rattle.session_plan.specs.Rectangles.{rectangle}
+use Rattle.session_plan.proofs.rectangle.are_rectangles.Given as goal
 
 -- the answer is that of the values that are left
 abbrev pub invariant-loop-value : goal.invariant-loop-value

@@ -3,8 +3,8 @@ use Rattle.toml.specs.View.{view}
 use Rattle.touch_region.specs.RectList.{first_bad}
 use Rattle.session_plan.specs.Keys.{key_of}
 use Rattle.session_plan.specs.Reading.{each}
-use Rattle.session_plan.specs.Windows.{rect_of}
-use Rattle.session_plan.proofs.window.each_rect.Given as goal
+use Rattle.session_plan.specs.Rectangles.{rect_of}
+use Rattle.session_plan.proofs.rectangle.each_rect.Given as goal
 
 -- the rectangles so far, and then those that are left, are all
 abbrev pub invariant-loop-value : goal.invariant-loop-value
