@@ -10,7 +10,8 @@ before_itself : (m c : ℕ) → is_before (m, c) (m, c) ≡ false
 before_itself m c = grind (arith, nat_tests)
 
 -- what does not come before a pair comes before no pair that does
-before_less : (n k m c o j : ℕ) → is_before (m, c) (o, j) ≡ true → is_before (n, k) (o, j) ≡ false → is_before (n, k) (m, c) ≡ false
+before_less : (n k m c o j : ℕ) → is_before (m, c) (o, j) ≡ true → is_before (n, k) (o, j) ≡ false
+    → is_before (n, k) (m, c) ≡ false
 before_less n k m c o j a b = grind (arith, nat_tests)
 
 -- a channel's moment that is not above that of the first pair, which does not come before that pair, is its moment
@@ -107,13 +108,15 @@ due-none n (suc k) = within n k (cases n k)
     within n k (inr le) = get_or_past (replicate n None) k None (rw length-replicate le)
 
 -- in a table with one place written
-pub due-set_same : (dues : List (Option ℕ)) (c : ℕ) (x : Option ℕ) → 1 ≤ c → c ≤ length dues → due_of (set dues (c - 1) x) c ≡ x
+pub due-set_same : (dues : List (Option ℕ)) (c : ℕ) (x : Option ℕ) → 1 ≤ c → c ≤ length dues
+    → due_of (set dues (c - 1) x) c ≡ x
 due-set_same dues zero x low high = absurd (omega arith)
 due-set_same dues (suc k) x low high =
     let at : suc k - 1 ≡ k = omega arith in
     rw at (get_or-set_same dues k x None (omega arith))
 
-pub due-set_other : (dues : List (Option ℕ)) (c : ℕ) (x : Option ℕ) → 1 ≤ c → (k : ℕ) → k ≢ c → due_of (set dues (c - 1) x) k ≡ due_of dues k
+pub due-set_other : (dues : List (Option ℕ)) (c : ℕ) (x : Option ℕ) → 1 ≤ c → (k : ℕ) → k ≢ c
+    → due_of (set dues (c - 1) x) k ≡ due_of dues k
 due-set_other dues c x low zero other = refl
 due-set_other dues c x low (suc k) other =
     get_or-set_other dues (c - 1) k x None (λ same. other (omega arith))

@@ -10,8 +10,8 @@ due_of dues (suc k) = slice_index_or dues k None
 abbrev pub is_before : ℕ × ℕ → ℕ × ℕ → Bool
 is_before p q = nat_lt p.0 q.0 || (nat_eq p.0 q.0 && nat_lt p.1 q.1)
 
--- what comes first of all that is due: a pair of the map before which no other pair of it comes, and nothing exactly where no channel
--- is due
+-- what comes first of all that is due: a pair of the map before which no other pair of it comes, and nothing exactly
+-- where no channel is due
 abbrev pub IsFirst : (ℕ → Option ℕ) → Option (ℕ × ℕ) → Type 0
 IsFirst due None = (c : ℕ) → due c ≡ None
 IsFirst due (Some p) = (due p.1 ≡ Some p.0) × ((q : ℕ × ℕ) → due q.1 ≡ Some q.0 → is_before q p ≡ false)

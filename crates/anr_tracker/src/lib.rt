@@ -1,6 +1,7 @@
 //! When each channel is due to be named unresponsive, and which one is due first.
 //!
-//! A channel is due where its oldest message that was delivered and not finished has waited as long as it may. Channels 2 and 3 are due:
+//! A channel is due where its oldest message that was delivered and not finished has waited as long as it may.
+//! Channels 2 and 3 are due:
 //!
 //! ```text
 //! set 3 at 6000000       first: 6000000, channel 3
@@ -10,8 +11,8 @@
 //! clear 2                nobody is due
 //! ```
 //!
-//! Of one moment the least channel comes first. The map is a fixed table; the first pair stands beside it, and is looked for again only
-//! where it was that of the channel that changes.
+//! Of one moment the least channel comes first. The map is a fixed table; the first pair stands beside it, and is
+//! looked for again only where it was that of the channel that changes.
 #![tactic(auto)]
 
 mod tracker;

@@ -68,7 +68,8 @@ impl Tracker {
         self.dues[channel as usize - 1]
     }
 
-    /// The least due moment, and its channel, the least one where several are due at it; None exactly where no channel is due.
+    /// The least due moment, and its channel, the least one where several are due at it; None exactly where no channel
+    /// is due.
     pub fn first_due(&self) -> Option<(u64, u32)>
         ensures { IsFirst (due_of self.now) result }
     {

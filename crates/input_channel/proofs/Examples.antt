@@ -6,9 +6,14 @@ use Rattle.input_channel.specs.State.{ChannelState, opened_with, sent, enqueued,
 
 -- Two messages with the clock at 0 and at 1000000, both received
 abbrev pub told : ChannelState
-told = received_next (published_at 1000000 (enqueued (Focus false) 1000000 (received_next (published_at 0 (enqueued (Focus true) 0 (opened_with 5000000))))))
+told =
+    received_next
+    (published_at 1000000
+    (enqueued (Focus false) 1000000
+    (received_next (published_at 0 (enqueued (Focus true) 0 (opened_with 5000000))))))
 
-pub first_message : next_of (published_at 0 (enqueued (Focus true) 7 (opened_with 5000000))) ≡ Some (record { seq = 1; moment = 7; body = Focus true })
+pub first_message : next_of (published_at 0 (enqueued (Focus true) 7 (opened_with 5000000)))
+    ≡ Some (record { seq = 1; moment = 7; body = Focus true })
 first_message = refl
 
 pub nothing_is_published : next_of (enqueued (Focus true) 7 (opened_with 5000000)) ≡ None

@@ -29,25 +29,30 @@ or_true : (b : Bool) → (b || true) ≡ true
 or_true true = refl
 or_true false = refl
 
-has_seq-at : (seq : ℕ) (us : List Unfinished) (i : ℕ) (d : Unfinished) → i < length us → ((get_or us i d).seq == seq) ≡ true
+has_seq-at : (seq : ℕ) (us : List Unfinished) (i : ℕ) (d : Unfinished) → i < length us
+    → ((get_or us i d).seq == seq) ≡ true
     → has_seq seq us ≡ true
 has_seq-at seq [] i d lt h = absurd (omega arith)
 has_seq-at seq (u ∷ us) zero d lt h = ap (λ b. b || has_seq seq us) h
-has_seq-at seq (u ∷ us) (suc i) d lt h = ap (λ b. (u.seq == seq) || b) (has_seq-at seq us i d (omega arith) h) ∙ or_true (u.seq == seq)
+has_seq-at seq (u ∷ us) (suc i) d lt h =
+    ap (λ b. (u.seq == seq) || b) (has_seq-at seq us i d (omega arith) h) ∙ or_true (u.seq == seq)
 
 -- a number that has a place is among them
-pub present : (seq : ℕ) (us : List Unfinished) (i : ℕ) (d : Unfinished) → position (λ u. u.seq == seq) us ≡ Some i → has_seq seq us ≡ true
+pub present : (seq : ℕ) (us : List Unfinished) (i : ℕ) (d : Unfinished) → position (λ u. u.seq == seq) us ≡ Some i
+    → has_seq seq us ≡ true
 present seq us i d h =
     let here = position-Some (λ (u : Unfinished). u.seq == seq) us i d h in
     has_seq-at seq us i d here.0 here.1
 
-follow_at : (u : Unfinished) (us : List Unfinished) (i : ℕ) (d : Unfinished) → Follow u us → i < length us → u.seq < (get_or us i d).seq
+follow_at : (u : Unfinished) (us : List Unfinished) (i : ℕ) (d : Unfinished) → Follow u us → i < length us
+    → u.seq < (get_or us i d).seq
 follow_at u [] i d h lt = absurd (omega arith)
 follow_at u (v ∷ vs) zero d h lt = h.0
 follow_at u (v ∷ vs) (suc i) d h lt = follow_at u vs i d h.2 (omega arith)
 
 -- those with greater numbers are all others
-without-follow : (seq : ℕ) (u : Unfinished) (us : List Unfinished) → (u.seq == seq) ≡ true → Follow u us → without seq us ≡ us
+without-follow : (seq : ℕ) (u : Unfinished) (us : List Unfinished) → (u.seq == seq) ≡ true → Follow u us
+    → without seq us ≡ us
 without-follow seq u [] same h = refl
 without-follow seq u (v ∷ vs) same h =
     let other : (v.seq == seq) ≡ false = grind (arith, nat_tests, h.0) in
@@ -57,7 +62,8 @@ without-other : (seq : ℕ) (u : Unfinished) (us ws : List Unfinished) → (u.se
     → u ∷ ws ≡ without seq (u ∷ us)
 without-other seq u us ws other h = rw other (ap (λ vs. u ∷ vs) h)
 
-without-same : (seq : ℕ) (u : Unfinished) (us : List Unfinished) → (u.seq == seq) ≡ true → us ≡ without seq us → us ≡ without seq (u ∷ us)
+without-same : (seq : ℕ) (u : Unfinished) (us : List Unfinished) → (u.seq == seq) ≡ true → us ≡ without seq us
+    → us ≡ without seq (u ∷ us)
 without-same seq u us same h = rw same h
 
 remove-without : (seq : ℕ) (us : List Unfinished) (i : ℕ) (d : Unfinished) → IsInOrder us → i < length us
@@ -71,30 +77,36 @@ remove-without seq (u ∷ us) (suc i) d order lt h =
     without-other seq u us (remove us i) other (remove-without seq us i d order.1 within h)
 
 -- at its place stands the only message with this number
-pub removed : (seq : ℕ) (us : List Unfinished) (i : ℕ) (d : Unfinished) → IsInOrder us → position (λ u. u.seq == seq) us ≡ Some i
+pub removed : (seq : ℕ) (us : List Unfinished) (i : ℕ) (d : Unfinished) → IsInOrder us
+    → position (λ u. u.seq == seq) us ≡ Some i
     → remove us i ≡ without seq us
 removed seq us i d order h =
     let here = position-Some (λ (u : Unfinished). u.seq == seq) us i d h in
     remove-without seq us i d order here.0 here.1
 
-within-if : (n : ℕ) (b : Bool) (u : Unfinished) (us : List Unfinished) → 1 ≤ u.seq → u.seq ≤ n → Within n us → Within n (cond b (u ∷ us) us)
+within-if : (n : ℕ) (b : Bool) (u : Unfinished) (us : List Unfinished) → 1 ≤ u.seq → u.seq ≤ n → Within n us
+    → Within n (cond b (u ∷ us) us)
 within-if n true u us low high h = (low, high, h)
 within-if n false u us low high h = h
 
 within-without : (n seq : ℕ) (us : List Unfinished) → Within n us → Within n (without seq us)
 within-without n seq [] h = tt
-within-without n seq (u ∷ us) h = within-if n (not (u.seq == seq)) u (without seq us) h.0 h.1 (within-without n seq us h.2)
+within-without n seq (u ∷ us) h =
+    within-if n (not (u.seq == seq)) u (without seq us) h.0 h.1 (within-without n seq us h.2)
 
-follow-if : (u : Unfinished) (b : Bool) (v : Unfinished) (vs : List Unfinished) → u.seq < v.seq → u.delivery ≤ v.delivery → Follow u vs
+follow-if : (u : Unfinished) (b : Bool) (v : Unfinished) (vs : List Unfinished) → u.seq < v.seq
+    → u.delivery ≤ v.delivery → Follow u vs
     → Follow u (cond b (v ∷ vs) vs)
 follow-if u true v vs lt le h = (lt, le, h)
 follow-if u false v vs lt le h = h
 
 follow-without : (seq : ℕ) (u : Unfinished) (us : List Unfinished) → Follow u us → Follow u (without seq us)
 follow-without seq u [] h = tt
-follow-without seq u (v ∷ vs) h = follow-if u (not (v.seq == seq)) v (without seq vs) h.0 h.1 (follow-without seq u vs h.2)
+follow-without seq u (v ∷ vs) h =
+    follow-if u (not (v.seq == seq)) v (without seq vs) h.0 h.1 (follow-without seq u vs h.2)
 
-in_order-if : (b : Bool) (u : Unfinished) (us : List Unfinished) → Follow u us → IsInOrder us → IsInOrder (cond b (u ∷ us) us)
+in_order-if : (b : Bool) (u : Unfinished) (us : List Unfinished) → Follow u us → IsInOrder us
+    → IsInOrder (cond b (u ∷ us) us)
 in_order-if true u us first h = (first, h)
 in_order-if false u us first h = h
 

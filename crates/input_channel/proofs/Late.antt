@@ -6,14 +6,16 @@ use Rattle.std.proofs.lemmas.Bool.Decides.{nat_tests}
 use Rattle.input_channel.specs.declared.unfinished.Unfinished.{Unfinished}
 use Rattle.input_channel.specs.Order.{Follow, IsInOrder}
 
-none_late : (limit clock : ℕ) (u : Unfinished) (us : List Unfinished) → Follow u us → nat_le (u.delivery + limit) clock ≡ false
+none_late : (limit clock : ℕ) (u : Unfinished) (us : List Unfinished) → Follow u us
+    → nat_le (u.delivery + limit) clock ≡ false
     → list_any (λ v. nat_le (v.delivery + limit) clock) us ≡ false
 none_late limit clock u [] h in_time = refl
 none_late limit clock u (v ∷ vs) h in_time =
     let other : nat_le (v.delivery + limit) clock ≡ false = grind (arith, nat_tests, h.1) in
     rw other (none_late limit clock u vs h.2 in_time)
 
-first_tells : (limit clock : ℕ) (u : Unfinished) (us : List Unfinished) → Follow u us → (b : Bool) → nat_le (u.delivery + limit) clock ≡ b
+first_tells : (limit clock : ℕ) (u : Unfinished) (us : List Unfinished) → Follow u us → (b : Bool)
+    → nat_le (u.delivery + limit) clock ≡ b
     → b ≡ (b || list_any (λ v. nat_le (v.delivery + limit) clock) us)
 first_tells limit clock u us h true is = refl
 first_tells limit clock u us h false is = sym (none_late limit clock u us h is)

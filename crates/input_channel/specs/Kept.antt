@@ -16,7 +16,11 @@ sent_in k = k.gone + length k.messages
 -- a message more, which has the next number and takes one of the places that are sure
 abbrev pub kept_with : Body → ℕ → KeptState → KeptState
 kept_with body moment k =
-    record { gone = k.gone; messages = k.messages ++ record { seq = sent_in k + 1; moment = moment; body = body } ∷ []; spare = k.spare - 1 }
+    record {
+      gone = k.gone;
+      messages = k.messages ++ record { seq = sent_in k + 1; moment = moment; body = body } ∷ [];
+      spare = k.spare - 1;
+    }
 
 -- the first ones are let go
 abbrev pub kept_after : ℕ → KeptState → KeptState
@@ -26,8 +30,8 @@ kept_after count k = record { gone = k.gone + count; messages = drop count k.mes
 abbrev pub kept_with_spare : ℕ → KeptState → KeptState
 kept_with_spare n k = record { gone = k.gone; messages = k.messages; spare = max n k.spare }
 
--- a list of this length in a block of this capacity, of which the first `dropped` places are those of messages that were let go: at most
--- half of it, so a list is never longer than twice what is kept
+-- a list of this length in a block of this capacity, of which the first `dropped` places are those of messages that
+-- were let go: at most half of it, so a list is never longer than twice what is kept
 pub record HasRoom (len capacity dropped gone spare : ℕ) : Type 0 where
   pub half : dropped + dropped ≤ len
   pub room : len + spare ≤ capacity

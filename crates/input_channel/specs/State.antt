@@ -28,7 +28,16 @@ pub record ChannelState : Type 0 where
 -- a channel without messages
 abbrev pub opened_with : ℕ → ChannelState
 opened_with limit =
-    record { limit = limit; gone = 0; messages = []; published = 0; received = 0; finished = 0; unfinished = []; spare = 0 }
+    record {
+      limit = limit;
+      gone = 0;
+      messages = [];
+      published = 0;
+      received = 0;
+      finished = 0;
+      unfinished = [];
+      spare = 0;
+    }
 
 -- how many messages it has in all; they have the numbers from 1 to this
 abbrev pub sent : ChannelState → ℕ
@@ -37,7 +46,10 @@ sent s = s.gone + length s.messages
 -- one message more, with the next number
 abbrev pub enqueued : Body → ℕ → ChannelState → ChannelState
 enqueued body moment s =
-    record s { messages = s.messages ++ record { seq = sent s + 1; moment = moment; body = body } ∷ []; spare = s.spare - 1 }
+    record s {
+      messages = s.messages ++ record { seq = sent s + 1; moment = moment; body = body } ∷ [];
+      spare = s.spare - 1;
+    }
 
 -- room for at least so many messages more
 abbrev pub with_spare : ℕ → ChannelState → ChannelState
@@ -50,7 +62,10 @@ publishable s = min (sent s) (s.finished + 64)
 -- those that were not published before are delivered now
 abbrev pub published_at : ℕ → ChannelState → ChannelState
 published_at clock s =
-    record s { published = publishable s; unfinished = s.unfinished ++ delivered clock s.published (publishable s - s.published) }
+    record s {
+      published = publishable s;
+      unfinished = s.unfinished ++ delivered clock s.published (publishable s - s.published);
+    }
 
 -- the next message for the owner: the first one that is published and not received
 abbrev pub next_of : ChannelState → Option Message

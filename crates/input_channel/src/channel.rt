@@ -1,8 +1,10 @@
 //! The channel.
-ghost use Rattle.std.specs.Prelude.{◌≡◌, ◌+◌, ◌≤◌, ◌<◌, ◌↔◌, IsOk, IfOk, OnErr, OnOk, IsNone, Some, None, is_ok, slice_get};
+ghost use Rattle.std.specs.Prelude.{◌≡◌, ◌+◌, ◌≤◌, ◌<◌, ◌↔◌, IsOk, IfOk, OnErr, OnOk, IsNone, is_ok};
 ghost use Rattle.std.specs.Option.{option_copied};
 ghost use Rattle.input_channel.specs.Order.{NoneAfter};
-ghost use Rattle.input_channel.specs.State.{IsChannel, opened_with, sent, enqueued, with_spare, published_at, next_of, received_one, received_next, may_finish, finished_with, let_go_of, oldest_of, has_late};
+ghost use Rattle.input_channel.specs.State.{IsChannel, opened_with, sent, enqueued, with_spare, published_at};
+ghost use Rattle.input_channel.specs.State.{next_of, received_one, received_next, may_finish, finished_with};
+ghost use Rattle.input_channel.specs.State.{let_go_of, oldest_of, has_late};
 
 use crate::kept::Kept;
 use crate::unfinished::{MOST, Unfinished, deliver, place_of};
@@ -96,7 +98,8 @@ impl Channel {
         self.finished
     }
 
-    /// Makes room, so that the next `n` calls of `enqueue` cannot answer want of memory. Without memory nothing changes.
+    /// Makes room, so that the next `n` calls of `enqueue` cannot answer want of memory. Without memory nothing
+    /// changes.
     pub fn reserve(&mut self, n: u32) -> Result<(), AllocError>
         ensures ok { OnOk result (self.new ≡ with_spare n self.old) }
         ensures err { OnErr result (self.new ≡ self.old) }
@@ -105,8 +108,8 @@ impl Channel {
         self.kept.reserve(n)
     }
 
-    /// Puts a message behind the others, and answers its number. Without memory nothing changes; a channel whose numbers stand at the
-    /// end of their type answers this too.
+    /// Puts a message behind the others, and answers its number. Without memory nothing changes; a channel whose
+    /// numbers stand at the end of their type answers this too.
     pub fn enqueue(&mut self, body: Body, moment: Moment) -> Result<u64, AllocError>
         ensures ok { IfOk result (λ n. (n ≡ sent self.old + 1) × (self.new ≡ enqueued body moment self.old)) }
         ensures err { OnErr result (self.new ≡ self.old) }
@@ -138,7 +141,8 @@ impl Channel {
         self.published += count;
     }
 
-    /// The next message for the owner, which stays the next one; None exactly where all published messages are received.
+    /// The next message for the owner, which stays the next one; None exactly where all published messages are
+    /// received.
     pub fn next(&self) -> Option<&Message>
         ensures value { option_copied result ≡ next_of self.now }
         ensures none { IsNone result ↔ (self.now.received ≡ self.now.published) }
@@ -171,8 +175,8 @@ impl Channel {
         Some(message)
     }
 
-    /// The owner is done with a message. `UnknownSeq` comes exactly where the message is not received, or is finished, and then nothing
-    /// changes. Takes no memory.
+    /// The owner is done with a message. `UnknownSeq` comes exactly where the message is not received, or is finished,
+    /// and then nothing changes. Takes no memory.
     pub fn finish(&mut self, seq: u64) -> Result<(), UnknownSeq>
         ensures variant { is_ok result ≡ may_finish seq self.old }
         ensures ok { OnOk result (self.new ≡ finished_with seq self.old) }
@@ -189,8 +193,8 @@ impl Channel {
         Ok(())
     }
 
-    /// The number and the delivery of the oldest message that is published and not finished, which is the one with the least delivery;
-    /// None exactly where every published message is finished.
+    /// The number and the delivery of the oldest message that is published and not finished, which is the one with the
+    /// least delivery; None exactly where every published message is finished.
     pub fn oldest_unfinished(&self) -> Option<(u64, Moment)>
         ensures value { result ≡ oldest_of self.now }
         ensures order { IsChannel self.now }
@@ -199,7 +203,8 @@ impl Channel {
         Some((oldest.seq, oldest.delivery))
     }
 
-    /// Whether at this clock a message that is published and not finished has waited as long as the owner may leave it unfinished.
+    /// Whether at this clock a message that is published and not finished has waited as long as the owner may leave it
+    /// unfinished.
     pub fn has_late(&self, clock: Moment) -> bool
         ensures { result ≡ has_late clock self.now }
     {

@@ -6,8 +6,8 @@ use input_types::{Body, Message, Moment};
 use std::alloc::{AllocError, Global};
 use std::marker::Model;
 
-/// The messages, in a list whose first ones may be let go already. These go from the list once they are at least half of it, so each
-/// message is moved at most once for one that is let go.
+/// The messages, in a list whose first ones may be let go already. These go from the list once they are at least half
+/// of it, so each message is moved at most once for one that is let go.
 #[derive(Drop)]
 pub(crate) struct Kept {
     list: Vec<Message>,

@@ -1,7 +1,7 @@
 //! The channel of a window: what it was told, and how far its owner has come with it.
 //!
-//! A message is enqueued, then published to the owner, received by it and finished. At most 64 are published and not finished. Their
-//! owner may finish those that it received in any order. With the clock at 0 and then at 1000000:
+//! A message is enqueued, then published to the owner, received by it and finished. At most 64 are published and not
+//! finished. Their owner may finish those that it received in any order. With the clock at 0 and then at 1000000:
 //!
 //! ```text
 //! enqueue DOWN            message 1
@@ -15,7 +15,8 @@
 //! finish 1                every message is finished
 //! ```
 //!
-//! A message is kept until it is let go; of one that was received only its number and its delivery are needed then, until it is finished.
+//! A message is kept until it is let go; of one that was received only its number and its delivery are needed then,
+//! until it is finished.
 #![tactic(auto)]
 
 mod channel;

@@ -1,7 +1,7 @@
 //! The messages that are published and not finished.
-ghost use Rattle.std.specs.Prelude.{◌≡◌, ◌+◌, ◌^◌, ◌<◌, ◌≤◌, ◌==◌, ◌++◌, IfSome, IfNone, Some, None, length, not, filter};
-ghost use Rattle.std.specs.List.{list_any, position};
-ghost use Rattle.input_channel.specs.Order.{IsInOrder, delivered, has_seq, without};
+ghost use Rattle.std.specs.Prelude.{◌≡◌, ◌+◌, ◌^◌, ◌<◌, ◌≤◌, ◌==◌, ◌++◌, length};
+ghost use Rattle.std.specs.List.{position};
+ghost use Rattle.input_channel.specs.Order.{delivered};
 
 use arrayvec::ArrayVec;
 use input_types::Moment;
