@@ -1,9 +1,8 @@
 -- What a call answers, from what its steps told.
-use Rattle.std.proofs.Common.{◌≡◌, ℕ, ◌+◌, arith, Bool, false, true, List, [], ◌∷◌, length, sym, refl, ap, subst, ◌∙◌}
-use Rattle.std.specs.Prelude.{Option, Some, None, Result, Ok, Err}
-use Rattle.std.specs.declared.alloc.AllocError.{AllocError}
+use Rattle.std.proofs.Common.{◌≡◌, ℕ, List, [], ◌∷◌, length, sym, ap, subst, ◌∙◌}
+use Rattle.std.specs.Prelude.{Option, Some, None, Ok}
 use Rattle.atomic_table.specs.Table.{Me, rest}
-use Rattle.turnstile.specs.History.{Entry, of_zero}
+use Rattle.turnstile.specs.History.{Entry}
 use Rattle.turnstile.specs.Views.{hit, waited, recorded, freed, placed, failed}
 use Rattle.turnstile.specs.Told.{LegalFor, Finds}
 use Rattle.turnstile.specs.Answers.{Follows, Closes}

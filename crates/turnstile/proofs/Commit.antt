@@ -1,18 +1,18 @@
 -- The commit of an entry, and the free of the lock.
-use Rattle.std.proofs.Common.{◌≡◌, ◌≢◌, ℕ, zero, suc, ◌+◌, ◌<◌, ◌≤◌, Bool, true, false, List, [], ◌∷◌, length, get_or, set, sym, refl, ap, subst, ◌∙◌, arith}
-use mathlib.Core.Option.{Option as Maybe, some, none}
+use Rattle.std.proofs.Common.{◌≡◌, ℕ, ◌+◌, ◌≤◌, false, List, [], ◌∷◌, length, set, sym, refl, ap, subst, ◌∙◌, arith}
+use mathlib.Core.Option.{some}
 use lib.ListN.{get_elem?}
 use Rattle.std.specs.Prelude.{Option, Some, None}
-use Rattle.atomic_table.specs.Table.{State, Me, Act, keeps, gives, Allows, rest, homes_after, carried_after}
-use Rattle.turnstile.specs.History.{Entry, calls_by}
+use Rattle.atomic_table.specs.Table.{State, Me, keeps, gives, Allows}
+use Rattle.turnstile.specs.History.{Entry}
 use Rattle.turnstile.specs.Views.{recorded, freed}
-use Rattle.turnstile.specs.Rule.{Turn, nobody, seat, total, once_to, bears, borne, turn_of, FitsAt, IsLive, Phased, Holds}
+use Rattle.turnstile.specs.Rule.{nobody, seat, total, bears, borne, turn_of, Phased, Holds}
 use Rattle.turnstile.specs.Told.{in_hand, Commits, Frees}
 use Rattle.turnstile.specs.declared.view.View.{View}
 use Rattle.turnstile.proofs.Lists.{total_one, total_two, start_whole, longer_start, calls_mine, calls_other, turn_mine, turn_other, turn_some}
 use Rattle.turnstile.proofs.Records.{bears_own, bears_not, fits_other, each_other, borne_top, once_most}
 use Rattle.turnstile.proofs.Moved.{moved}
-use Rattle.turnstile.proofs.Steps.{St, H, Goes}
+use Rattle.turnstile.proofs.Steps.{Goes}
 
 some_same : {A : Type 0} (a b : A) → Some a ≡ Some b → a ≡ b
 some_same a b e = cc

@@ -1,18 +1,16 @@
 -- The first seat, a new seat, and a seat joined into another.
-use Rattle.std.proofs.Common.{◌≡◌, ◌≢◌, ◌⊎◌, ℕ, zero, suc, ◌+◌, ◌<◌, ◌≤◌, ◌==◌, max, leb, cond, Bool, true, false, true≢false, List, [], ◌∷◌, ◌++◌, length, set, map, inl, inr, sym, refl, ap, subst, ◌∙◌, ⊎_elim, arith, length-set, length-append, leb-true, leb-false, eq-eqb, ne_eqb}
-use mathlib.Core.Option.{Option as Maybe, some, none, some-injective, some-ne-none}
-use mathlib.Core.Logic.{dite}
-use native.Mathlib.Decide.{ℕ_discrete}
+use Rattle.std.proofs.Common.{◌≡◌, ◌≢◌, ◌⊎◌, ℕ, zero, suc, ◌+◌, ◌≤◌, ◌==◌, max, leb, cond, Bool, true, false, true≢false, List, [], ◌∷◌, ◌++◌, length, set, inl, inr, sym, refl, ap, subst, ◌∙◌, ⊎_elim, arith, length-set, length-append, leb-true, leb-false}
+use mathlib.Core.Option.{Option as Maybe, some, some-injective, some-ne-none}
 use lib.ListN.{get_elem?}
-use Rattle.std.specs.Prelude.{Option, Some, None, nat_le}
+use Rattle.std.specs.Prelude.{Option, Some, None}
 use Rattle.std.proofs.lemmas.Bool.Decides.{nat_tests}
-use Rattle.atomic_table.specs.Table.{State, Splits, Joins, opening}
+use Rattle.atomic_table.specs.Table.{Splits, Joins, opening}
 use Rattle.atomic_table.proofs.Lists.{at_set, set_else}
-use Rattle.turnstile.specs.History.{Entry, calls_by, IsStart}
+use Rattle.turnstile.specs.History.{Entry, IsStart}
 use Rattle.turnstile.specs.Views.{newcomer, drew, handed, fresh, together, gone}
-use Rattle.turnstile.specs.Rule.{Turn, nobody, seat, total, once_to, bears, borne, drawn_of, turn_of, Fits, EachFits, FitsAt, IsLive, Phased, Holds}
+use Rattle.turnstile.specs.Rule.{Turn, nobody, seat, total, once_to, bears, borne, drawn_of, turn_of, Fits, FitsAt, IsLive, Phased, Holds}
 use Rattle.turnstile.specs.declared.view.View.{View}
-use Rattle.turnstile.proofs.Lists.{total_set, total_one, total_two, total_more, total_append, inside, start_whole, turn_other}
+use Rattle.turnstile.proofs.Lists.{total_set, total_one, total_two, total_more, total_append, start_whole, turn_other}
 use Rattle.turnstile.proofs.Records.{bears_own, bears_not, fits_made, each_made, each_append, once_most}
 
 -- the last of a list stands behind the others

@@ -1,5 +1,5 @@
 -- Totals over views, and the calls of a number in a history.
-use Rattle.std.proofs.Common.{◌≡◌, ◌≢◌, ℕ, zero, suc, ◌+◌, ◌-◌, ◌<◌, ◌≤◌, ◌==◌, eqb, leb, Bool, true, false, List, [], ◌∷◌, ◌++◌, length, map, set, sym, refl, ap, subst, ◌∙◌, arith, Option, Some, None, eq-eqb, ne_eqb, length-append, nat_le}
+use Rattle.std.proofs.Common.{◌≡◌, ◌≢◌, ℕ, zero, suc, ◌+◌, ◌<◌, ◌≤◌, List, [], ◌∷◌, ◌++◌, length, set, sym, refl, ap, subst, ◌∙◌, arith, Some, None, eq-eqb, ne_eqb, length-append}
 use mathlib.Core.Option.{some, some-injective, some-ne-none}
 use mathlib.Core.Logic.{dite}
 use native.Mathlib.Decide.{ℕ_discrete}

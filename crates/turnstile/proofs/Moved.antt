@@ -1,12 +1,12 @@
 -- The rule after a change of one view.
-use Rattle.std.proofs.Common.{◌≡◌, ◌≢◌, ◌⊎◌, ℕ, zero, suc, ◌+◌, ◌<◌, ◌≤◌, ◌==◌, Bool, true, false, List, [], ◌∷◌, ◌++◌, length, set, sym, refl, ap, subst, ◌∙◌, ⊎_elim, arith, length-set}
+use Rattle.std.proofs.Common.{◌≡◌, ◌≢◌, ℕ, ◌<◌, List, [], ◌∷◌, length, set, sym, refl, subst, ⊎_elim, arith, length-set}
 use mathlib.Core.Option.{Option as Maybe, some}
 use lib.ListN.{get_elem?}
-use Rattle.std.specs.Prelude.{Option, Some, None}
+use Rattle.std.specs.Prelude.{Option}
 use Rattle.atomic_table.specs.Table.{State}
 use Rattle.atomic_table.proofs.Lists.{at_set}
 use Rattle.turnstile.specs.History.{Entry, calls_by}
-use Rattle.turnstile.specs.Rule.{Turn, nobody, seat, total, once_to, borne, FitsAt, IsLive, Phased, Holds}
+use Rattle.turnstile.specs.Rule.{Turn, borne, FitsAt, Phased, Holds}
 use Rattle.turnstile.specs.declared.view.View.{View}
 use Rattle.turnstile.proofs.Lists.{total_set}
 

@@ -1,14 +1,12 @@
 -- Records of a history, and which numbers they bear.
-use Rattle.std.proofs.Common.{◌≡◌, ◌≢◌, ℕ, zero, suc, ◌+◌, ◌-◌, ◌<◌, ◌≤◌, ◌==◌, cond, Bool, true, false, List, [], ◌∷◌, ◌++◌, length, sym, refl, ap, subst, ◌∙◌, arith, eq-eqb, ne_eqb, leb, le-leb, leb-false, leb-true, nat_le}
+use Rattle.std.proofs.Common.{◌≡◌, ◌≢◌, ℕ, ◌<◌, ◌≤◌, true, false, List, [], ◌∷◌, ◌++◌, sym, refl, ap, subst, ◌∙◌, arith, eq-eqb, ne_eqb, leb, leb-false, leb-true}
 use mathlib.Core.Logic.{dite}
 use native.Mathlib.Decide.{ℕ_discrete}
-use Rattle.std.specs.Prelude.{Option, Some, None}
-use Rattle.turnstile.specs.History.{Entry, calls_by, IsStart, of_zero}
-use Rattle.turnstile.specs.Rule.{total, once_to, bears, Fits, EachFits, borne, drawn_of}
+use Rattle.turnstile.specs.History.{Entry, calls_by, of_zero}
+use Rattle.turnstile.specs.Rule.{total, once_to, bears, Fits, EachFits}
 use Rattle.turnstile.specs.Told.{Owns, EachOwns}
 use Rattle.turnstile.specs.Answers.{has, made_by_zero}
 use Rattle.turnstile.specs.declared.view.Record.{Record}
-use Rattle.turnstile.specs.declared.view.View.{View}
 use Rattle.turnstile.proofs.Lists.{calls_other, only_zero}
 
 module _ {C R : Type 0} where

@@ -1,17 +1,17 @@
 -- Each kind of step keeps the rule, and tells what it is to tell.
-use Rattle.std.proofs.Common.{◌≡◌, ◌≢◌, ◌⊎◌, ℕ, zero, suc, ◌+◌, ◌<◌, ◌≤◌, ◌==◌, eqb, Bool, true, false, true≢false, List, [], ◌∷◌, ◌++◌, length, get_or, set, sym, refl, ap, subst, ◌∙◌, ⊎_elim, arith}
-use mathlib.Core.Option.{Option as Maybe, some, none}
+use Rattle.std.proofs.Common.{◌≡◌, ℕ, ◌+◌, ◌==◌, eqb, false, List, [], ◌∷◌, length, get_or, set, sym, refl, ap, subst, ◌∙◌, arith}
+use mathlib.Core.Option.{some, none}
 use lib.ListN.{get_elem?}
 use prog.Atomic.{either}
-use Rattle.std.specs.Prelude.{Option, Some, None, nat_le}
-use Rattle.atomic_table.specs.Table.{State, Me, Act, keeps, takes, gives, Valid, Allows, Splits, Joins, opening, rest, homes_after, carried_after}
-use Rattle.turnstile.specs.History.{Entry, calls_by}
-use Rattle.turnstile.specs.Views.{newcomer, hit, missed, recorded, freed, looked, drew, handed, fresh, together, gone}
-use Rattle.turnstile.specs.Rule.{Turn, nobody, seat, total, once_to, bears, borne, drawn_of, turn_of, Fits, EachFits, FitsAt, IsLive, Phased, Holds}
-use Rattle.turnstile.specs.Told.{Finds, Takes, Looks, in_hand, Commits, Frees, Draws, EachOwns}
+use Rattle.std.specs.Prelude.{Option, Some}
+use Rattle.atomic_table.specs.Table.{State, Me, Act, keeps, takes, Valid, Allows, homes_after, carried_after}
+use Rattle.turnstile.specs.History.{Entry}
+use Rattle.turnstile.specs.Views.{hit, missed, looked, drew}
+use Rattle.turnstile.specs.Rule.{Turn, nobody, seat, drawn_of, turn_of, Fits, Phased, Holds}
+use Rattle.turnstile.specs.Told.{Finds, Takes, Looks, Draws}
 use Rattle.turnstile.specs.declared.view.View.{View}
-use Rattle.turnstile.proofs.Lists.{total_set, total_one, total_two, inside, start_whole, start_length, longer_start, calls_mine, calls_other, turn_mine, turn_other, turn_some}
-use Rattle.turnstile.proofs.Records.{bears_own, bears_not, fits_other, each_other, each_owns, borne_top, once_most}
+use Rattle.turnstile.proofs.Lists.{inside, start_whole, start_length, turn_mine, turn_other}
+use Rattle.turnstile.proofs.Records.{each_owns}
 use Rattle.turnstile.proofs.Moved.{moved}
 
 module _ {M T C R : Type 0} (legal : T → List (Entry C R) → Type 0) (setup : M → T) (history : M → List (Entry C R)) where

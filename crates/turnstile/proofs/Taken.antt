@@ -1,10 +1,10 @@
 -- A seat that has the turn.
-use Rattle.std.proofs.Common.{◌≡◌, ℕ, ◌+◌, arith, Bool, false, List, [], ◌∷◌, length, sym, refl, ap, subst, ◌∙◌}
+use Rattle.std.proofs.Common.{◌≡◌, ℕ, ◌+◌, arith, List, [], ◌∷◌, length, sym, refl, ap, subst, ◌∙◌}
 use Rattle.std.specs.Prelude.{Option, Some, None}
 use Rattle.atomic_table.specs.Table.{Me, Allows, rest}
 use Rattle.turnstile.specs.History.{Entry}
 use Rattle.turnstile.specs.Rule as rule
-use Rattle.turnstile.specs.Told.{in_hand, Finds, Commits, Frees}
+use Rattle.turnstile.specs.Told.{Finds, Commits, Frees}
 use Rattle.turnstile.specs.Views.{missed, waited}
 use Rattle.turnstile.specs.Idle.{IsIdle}
 use Rattle.turnstile.specs.Taken.{Holds, Taken, Waited}

@@ -1,5 +1,5 @@
 -- A seat between two calls.
-use Rattle.std.specs.Prelude.{◌≡◌, Bool, false, [], Option, None}
+use Rattle.std.specs.Prelude.{◌≡◌, false, [], None}
 use Rattle.atomic_table.specs.Table.{Me}
 use Rattle.turnstile.specs.declared.view.View.{View}
 

@@ -1,6 +1,6 @@
 -- What holds between any two atomic steps: of the length of the history (word 0), of the lock (word 1), of the slot with the machine and of
 -- the views of all seats.
-use Rattle.std.specs.Prelude.{◌≡◌, ℕ, suc, ◌+◌, ◌<◌, ◌==◌, nat_le, Bool, true, false, List, [], ◌∷◌, length, Option, Some, None, if◌then◌else◌}
+use Rattle.std.specs.Prelude.{◌≡◌, ℕ, ◌+◌, ◌<◌, ◌==◌, nat_le, false, List, [], ◌∷◌, length, Option, Some, None, if◌then◌else◌}
 use mathlib.Core.Option.{Option as Maybe, none, some}
 use lib.ListN.{get_elem?}
 use Rattle.atomic_table.specs.Table.{State}

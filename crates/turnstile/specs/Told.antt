@@ -1,7 +1,5 @@
 -- What the seats are told at each kind of step.
-use Rattle.std.specs.Prelude.{◌≡◌, ◌≢◌, ℕ, ◌<◌, ◌≤◌, ◌==◌, Bool, true, false, List, [], ◌∷◌, length, Option, Some, None}
-use Rattle.std.specs.List.{list_any}
-use mathlib.Core.Option.{none}
+use Rattle.std.specs.Prelude.{◌≡◌, ◌≢◌, ℕ, ◌<◌, ◌≤◌, List, [], ◌∷◌, length, Option, Some}
 use Rattle.atomic_table.specs.Table.{Me, rest}
 use Rattle.turnstile.specs.History.{Entry, calls_by, IsStart}
 use Rattle.turnstile.specs.Views.{hit, missed, recorded, freed, looked, drew}

@@ -1,7 +1,6 @@
 -- What each kind of step does to the view of the seat that makes it.
-use Rattle.std.specs.Prelude.{ℕ, ◌+◌, max, nat_le, Bool, true, false, List, [], ◌∷◌, ◌++◌, length, Option, Some, None, if◌then◌else◌}
+use Rattle.std.specs.Prelude.{ℕ, ◌+◌, max, nat_le, true, false, List, [], ◌∷◌, ◌++◌, length, Option, Some, None, if◌then◌else◌}
 use Rattle.turnstile.specs.History.{Entry}
-use Rattle.turnstile.specs.declared.view.Record.{Record}
 use Rattle.turnstile.specs.declared.view.View.{View}
 
 module _ {T C R : Type 0} where

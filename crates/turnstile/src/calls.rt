@@ -15,6 +15,7 @@ use atomic_table::{Refused, Table};
 use std::alloc::{AllocError, Global};
 use std::snapshot::Snapshot;
 use std::sync::Wait;
+use std::sync::atomic::{AtomicU64, Ordering};
 
 // The words and the slot of the table.
 const PLACES: usize = 0;
@@ -67,7 +68,9 @@ impl<M: Machine> Turnstile<M> {
         ensures freed { token.new.me ≡ (freed token.old.me.0, []) }
     {
         self.table.shared.store::<Free>(token, LOCK, 0);
-        self.table.shared.wake_one(LOCK);
+        if self.sleepers.load(Ordering::SeqCst) != 0 {
+            self.table.shared.wake_one(LOCK);
+        }
     }
 
     // What one who has the turn does: takes the machine out, steps it, puts it back, commits the entry and frees the lock.
@@ -116,7 +119,9 @@ impl<M: Machine> Turnstile<M> {
             if self.take(token) {
                 return;
             }
+            self.sleepers.fetch_add(1, Ordering::SeqCst);
             self.table.shared.park(rt, LOCK, 1);
+            self.sleepers.fetch_sub(1, Ordering::SeqCst);
         }
         unreachable!()
     }
@@ -226,7 +231,8 @@ impl<M: Machine + Drop> Turnstile<M> {
             seen: 0,
             made: 0,
         };
-        Ok((Turnstile { table }, seat))
+        let sleepers = AtomicU64::new(0);
+        Ok((Turnstile { table, sleepers }, seat))
     }
 
     /// Waits for the turn, and gives the machine.
@@ -240,7 +246,7 @@ impl<M: Machine + Drop> Turnstile<M> {
         let Some(machine) = self.table.shared.exchange(&mut token, MACHINE, None) else {
             unreachable!()
         };
-        let Turnstile { table } = self;
+        let Turnstile { table, .. } = self;
         let mut closed = table.close();
         drop(closed.take(MACHINE));
         closed.free();

@@ -8,6 +8,7 @@ use crate::view::View;
 use atomic_table::Table;
 use std::alloc::Global;
 use std::snapshot::Snapshot;
+use std::sync::atomic::AtomicU64;
 
 /// What a seat steps with.
 pub(crate) type Token<M: Machine> = atomic_table::Seat<
@@ -25,6 +26,8 @@ pub struct Turnstile<M: Machine> {
         Order,
         Global,
     >,
+    // How many threads sleep, or are about to. Nothing is proved of it: it only spares a wake where nobody sleeps.
+    pub(crate) sleepers: AtomicU64,
     ghost sized: { (table.shared.table_id.words ≡ 2) × (table.shared.table_id.slots ≡ 1) },
 }
 

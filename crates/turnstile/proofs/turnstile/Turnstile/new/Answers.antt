@@ -1,8 +1,4 @@
 use Rattle.std.proofs.Common.{rules}
-use Rattle.std.specs.Prelude.{Some}
-use Rattle.atomic_table.specs.Table.{opening}
-use Rattle.turnstile.specs.Rule.{Holds}
-use Rattle.turnstile.specs.Views.{newcomer}
 use Rattle.turnstile.proofs.Dealing.{opens_as}
 use Rattle.turnstile.proofs.turnstile.Turnstile.new.Goals as goal
 
