@@ -3,7 +3,7 @@ use Rattle.std.proofs.Common.{◌≡◌, ℕ, List, [], ◌∷◌, length, sym, 
 use Rattle.std.specs.Prelude.{Option, Some, None, Ok}
 use Rattle.atomic_table.specs.Table.{Me, rest}
 use Rattle.turnstile.specs.History.{Entry}
-use Rattle.turnstile.specs.Views.{hit, waited, recorded, freed, placed, failed}
+use Rattle.turnstile.specs.Views.{hit, waited, recorded, freed, placed}
 use Rattle.turnstile.specs.Told.{LegalFor, Finds}
 use Rattle.turnstile.specs.Answers.{Follows, Closes}
 use Rattle.turnstile.specs.Idle.{IsIdle}
@@ -24,34 +24,24 @@ module _ {M T C R : Type 0} (legal : T → List (Entry C R) → Type 0) (setup :
       let same : freed (recorded ((u.mine.number, call, p.reply) ∷ h) (hit h u)) ≡ placed h call p.reply u = ap (λ (t : Option (List (Entry C R))). record (placed h call p.reply u) { turn = t }) (sym idle) in
       (at.0, at.1, after ∙ same)
 
-  -- a call for which there was no memory
-  failed_is : (u : View T C R) (m : M) (one two : Me (Option M) (View T C R)) → u.turn ≡ None → one ≡ (hit (history m) u, (0, Some m) ∷ []) → two ≡ (freed one.0, []) → two.0 ≡ failed u
-  failed_is u m one two idle is after =
-      let end : two.0 ≡ freed (hit (history m) u) = ap (λ (x : Me (Option M) (View T C R)). x.0) after ∙ ap (λ (x : Me (Option M) (View T C R)). freed x.0) is in
-      end ∙ ap (λ (t : Option (List (Entry C R))). record (failed u) { turn = t }) (sym idle)
-
   follows : (v : View T C R) (call : C) (p : Placed R) (h : List (Entry C R)) → Finds legal v h → p.place ≡ length h → LegalFor legal v ((v.mine.number, call, p.reply) ∷ h) → Follows legal v call p h
   follows v call p h f place reply = record { finds = f; place = place; reply = reply; alone = alone h v.mine f.own.0 }
 
+  -- a try that was answered
   pub try_placed : (me one two : Me (Option M) (View T C R)) (call : C) (p : Placed R) → IsIdle me → Taken legal setup history me one → Served legal history one call (Ok p) two
       → (h : List (Entry C R)) × Follows legal me.0 call p h × (two.0 ≡ placed h call p.reply me.0)
   try_placed me one two call p idle t served =
       let s = served_is me.0 t.0 one two call p idle.1 t.3 served in
       (history t.0, follows me.0 call p (history t.0) t.2 s.0 s.1, s.2)
 
-  pub try_failed : (me one two : Me (Option M) (View T C R)) → IsIdle me → Taken legal setup history me one → two ≡ (freed one.0, []) → two.0 ≡ failed me.0
-  try_failed me one two idle t after = failed_is me.0 t.0 one two idle.1 t.3 after
-
+  -- a step that was answered, after some misses
   pub placed_after : (me one two : Me (Option M) (View T C R)) (call : C) (p : Placed R) (n : ℕ) → IsIdle me → Waited legal setup history n me one → Served legal history one call (Ok p) two
       → (k : ℕ) × (h : List (Entry C R)) × Follows legal me.0 call p h × (two.0 ≡ placed h call p.reply (waited k me.0))
   placed_after me one two call p n idle t served =
       let s = served_is (waited n me.0) t.0 one two call p idle.1 t.3 served in
       (n, history t.0, follows me.0 call p (history t.0) t.2 s.0 s.1, s.2)
 
-  pub failed_after : (me one two : Me (Option M) (View T C R)) (n : ℕ) → IsIdle me → Waited legal setup history n me one → two ≡ (freed one.0, []) → (k : ℕ) × (two.0 ≡ failed (waited k me.0))
-  failed_after me one two n idle t after = (n, failed_is (waited n me.0) t.0 one two idle.1 t.3 after)
-
-  pub closes : (v : View T C R) (h : List (Entry C R)) → Finds legal v h → Closes legal v h
+  closes : (v : View T C R) (h : List (Entry C R)) → Finds legal v h → Closes legal v h
   closes v h f = record { finds = f; whole = whole h (v.mine ∷ v.joined) f.own }
 
   -- the machine that is taken out is the one with the history that was found

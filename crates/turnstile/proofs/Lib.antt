@@ -6,3 +6,4 @@ pub mod Commit
 pub mod Dealing
 pub mod Taken
 pub mod Answered
+pub mod Worked

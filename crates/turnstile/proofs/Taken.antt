@@ -1,13 +1,13 @@
 -- A seat that has the turn.
-use Rattle.std.proofs.Common.{◌≡◌, ℕ, ◌+◌, arith, List, [], ◌∷◌, length, sym, refl, ap, subst, ◌∙◌}
+use Rattle.std.proofs.Common.{◌≡◌, ℕ, ◌+◌, arith, List, [], ◌∷◌, length, sym, ap, subst, ◌∙◌}
 use Rattle.std.specs.Prelude.{Option, Some, None}
+use Rattle.atomic_table.specs.Seated.{TableId}
 use Rattle.atomic_table.specs.Table.{Me, Allows, rest}
 use Rattle.turnstile.specs.History.{Entry}
 use Rattle.turnstile.specs.Rule as rule
-use Rattle.turnstile.specs.Told.{Finds, Commits, Frees}
+use Rattle.turnstile.specs.Told.{Commits, Frees}
 use Rattle.turnstile.specs.Views.{missed, waited}
-use Rattle.turnstile.specs.Idle.{IsIdle}
-use Rattle.turnstile.specs.Taken.{Holds, Taken, Waited}
+use Rattle.turnstile.specs.Taken.{Holds}
 use Rattle.turnstile.specs.declared.view.View.{View}
 use Rattle.turnstile.proofs.Commit.{commit, free}
 
@@ -28,6 +28,18 @@ held_again {A = A} {V = V} me one two x y z hand first second =
     let a : one.0 ≡ me.0 = ap (λ (m : Me A V). m.0) first in
     let b : rest one.1 ≡ [] = ap (λ (m : Me A V). rest m.1) first ∙ ap rest hand in
     second ∙ (λ i. (a i, (0, z) ∷ b i))
+
+-- one miss more
+pub waited_more : {M T C R : Type 0} (n : ℕ) (me before after : Me (Option M) (View T C R)) → before ≡ (waited n me.0, []) → after ≡ (missed before.0, []) → after ≡ (waited (n + 1) me.0, [])
+waited_more {M = M} {T = T} {C = C} {R = R} n me before after is miss =
+    let sum : me.0.misses + n + 1 ≡ me.0.misses + (n + 1) = omega arith in
+    let here : missed before.0 ≡ missed (waited n me.0) = ap (λ (x : Me (Option M) (View T C R)). missed x.0) is in
+    let more : missed (waited n me.0) ≡ waited (n + 1) me.0 = ap (λ (k : ℕ). record (me.0) { misses = k }) sum in
+    miss ∙ ap (λ (x : View T C R). let y : Me (Option M) (View T C R) = (x, []) in y) (here ∙ more)
+
+-- three seats of one table
+pub same_table : (a b c d : TableId) → a ≡ b → b ≡ c → c ≡ d → a ≡ d
+same_table a b c d p q r = p ∙ q ∙ r
 
 module _ {M T C R : Type 0} (legal : T → List (Entry C R) → Type 0) (setup : M → T) (history : M → List (Entry C R)) where
   -- who holds a machine may free the lock
@@ -53,31 +65,3 @@ module _ {M T C R : Type 0} (legal : T → List (Entry C R) → Type 0) (setup :
       (h.setup_is ∙ ap (λ x. Some (setup x)) same ∙ ap (λ x. Some x) (sym fixed))
       (subst (λ x. legal (setup next) x) longer lawful)
       (long ∙ ap length longer))
-
-  -- some misses change nothing of what a seat may find
-  finds_waited : (n : ℕ) (v : View T C R) (h : List (Entry C R)) → Finds legal (waited n v) h → Finds legal v h
-  finds_waited n v h f = record { legal_then = f.legal_then; start = f.start; seen = f.seen; own = f.own }
-
-  -- a take after some misses
-  pub waited_taken : (n : ℕ) (me before after : Me (Option M) (View T C R)) → before ≡ (waited n me.0, []) → Taken legal setup history before after → Waited legal setup history n me after
-  waited_taken n me before after is t =
-      let u : Taken legal setup history (waited n me.0, []) after = subst (λ (x : Me (Option M) (View T C R)). Taken legal setup history x after) is t in
-      (u.0, u.1, finds_waited n me.0 (history u.0) u.2, u.3)
-
-  -- one miss more
-  pub waited_more : (n : ℕ) (me before after : Me (Option M) (View T C R)) → before ≡ (waited n me.0, []) → after ≡ (missed before.0, []) → after ≡ (waited (n + 1) me.0, [])
-  waited_more n me before after is miss =
-      let sum : me.0.misses + n + 1 ≡ me.0.misses + (n + 1) = omega arith in
-      let e : missed before.0 ≡ missed (waited n me.0) = ap (λ (x : Me (Option M) (View T C R)). missed x.0) is in
-      let f : missed (waited n me.0) ≡ waited (n + 1) me.0 = ap (λ (k : ℕ). record (me.0) { misses = k }) sum in
-      miss ∙ ap (λ (x : View T C R). let y : Me (Option M) (View T C R) = (x, []) in y) (e ∙ f)
-
-  pub waited_idle : (n : ℕ) (me before : Me (Option M) (View T C R)) → IsIdle me → before ≡ (waited n me.0, []) → IsIdle before
-  waited_idle n me before idle is = subst (λ (x : Me (Option M) (View T C R)). IsIdle x) (sym is) (refl, idle.1, idle.2, idle.3)
-
-  pub waited_none : (me : Me (Option M) (View T C R)) → IsIdle me → me ≡ (waited 0 me.0, [])
-  waited_none me idle =
-      let sum : me.0.misses ≡ me.0.misses + 0 = omega arith in
-      let e : me.0 ≡ waited 0 me.0 = ap (λ (k : ℕ). record (me.0) { misses = k }) sum in
-      let f : me.1 ≡ [] = idle.0 in
-      λ i. (e i, f i)

@@ -17,6 +17,10 @@ module _ {M T C R : Type 0} (legal : T → List (Entry C R) → Type 0) (setup :
     pub live : me.0.spent ≡ false
     pub legal_then : legal (setup m) (history m)
 
+  -- a seat holds the machine
+  abbrev pub Holding : Me (Option M) (View T C R) → Type 0
+  Holding me = (m : M) × Holds me m
+
   -- a seat took the turn: it holds the machine, with a history that it may find
   abbrev pub Taken : Me (Option M) (View T C R) → Me (Option M) (View T C R) → Type 0
   Taken me after = (m : M) × (me.0.setup ≡ Some (setup m)) × Finds legal me.0 (history m) × (after ≡ (hit (history m) me.0, (0, Some m) ∷ []))

@@ -59,6 +59,7 @@ module _ {T C R : Type 0} where
   abbrev pub handed : View T C R → View T C R
   handed v = record v { drawn = false }
 
+  -- the view of that new seat
   abbrev pub fresh : View T C R → View T C R
   fresh v = newcomer v.setup v.mine.made v.seen v.known
 
@@ -99,6 +100,10 @@ module _ {T C R : Type 0} where
   -- a call for which the machine found no memory
   abbrev pub failed : View T C R → View T C R
   failed v = record v { hits = v.hits + 1 }
+
+  -- a new seat, split off from number 0: it has the next number, has seen what that one has and has made no call
+  abbrev pub next_seat : View T C R → View T C R
+  next_seat v = newcomer v.setup (v.mine.made + 1) v.seen v.known
 
   -- number 0 with one number more split off from it
   abbrev pub split_off : View T C R → View T C R

@@ -1,12 +1,10 @@
 //! The calls of a turnstile.
-ghost use Rattle.std.specs.Prelude.{◌≡◌, ℕ, ◌+◌, ◌^◌, ◌<◌, false, true, IsTrue, List, [], ◌∷◌, length, Some, None, IfOk, IsOk, MatchResult};
-ghost use Rattle.turnstile.specs.History.{Entry};
-ghost use Rattle.turnstile.specs.Views.{newcomer, hit, waited, missed, recorded, freed, split_off, together};
-ghost use Rattle.turnstile.specs.Told.{Finds, in_hand};
+ghost use Rattle.std.specs.Prelude.{◌≡◌, ℕ, ◌+◌, ◌^◌, ◌<◌, false, true, [], Some, IfOk, IsOk};
+ghost use Rattle.turnstile.specs.Views.{newcomer, missed, freed, next_seat, split_off, together};
 ghost use Rattle.turnstile.specs.Answers.{TryAnswers, Answers, LookAnswers, Closes};
 ghost use Rattle.turnstile.specs.Idle.{IsIdle};
 ghost use Rattle.turnstile.specs.Seats.{view, IsOf};
-ghost use Rattle.turnstile.specs.Taken.{Holds, Taken, Waited, Served};
+ghost use Rattle.turnstile.specs.Taken.{Holding, Taken, Waited, Served};
 
 use crate::machine::{Machine, Placed, TryRefused};
 use crate::rule::{Commit, Draw, Free, HandOut, Look, Take, TakeIn};
@@ -63,7 +61,7 @@ impl<M: Machine> Turnstile<M> {
 
     // Frees the lock, with which the slot goes home, and wakes one who waits.
     fn free(&self, token: &mut Token<M>)
-        requires { (token.old.table_id ≡ self.now.table.shared.table_id) × ((m : M) × Holds M.legal M.setup M.history token.old.me m) }
+        requires { (token.old.table_id ≡ self.now.table.shared.table_id) × Holding M.legal M.setup M.history token.old.me }
         ensures same { token.new.table_id ≡ token.old.table_id }
         ensures freed { token.new.me ≡ (freed token.old.me.0, []) }
     {
@@ -73,14 +71,15 @@ impl<M: Machine> Turnstile<M> {
         }
     }
 
-    // What one who has the turn does: takes the machine out, steps it, puts it back, commits the entry and frees the lock.
+    // What a seat does with the turn: takes the machine out, steps it, puts it back, commits the entry and frees the
+    // lock. The entry is committed after the machine is back, since only a held machine shows a step its history.
     fn serve(
         &self,
         token: &mut Token<M>,
         number: u64,
         call: M::Call,
     ) -> Result<Placed<M::Reply>, AllocError>
-        requires turn { (token.old.table_id ≡ self.now.table.shared.table_id) × ((m : M) × Holds M.legal M.setup M.history token.old.me m) }
+        requires turn { (token.old.table_id ≡ self.now.table.shared.table_id) × Holding M.legal M.setup M.history token.old.me }
         requires number { number ≡ token.old.me.0.mine.number }
         ensures same { token.new.table_id ≡ token.old.table_id }
         ensures served { Served M.legal M.history token.old.me call result token.new.me }
@@ -126,8 +125,10 @@ impl<M: Machine> Turnstile<M> {
         unreachable!()
     }
 
-    /// Answers a call, where no other seat has the turn. `Busy` comes exactly where the compare-exchange of this call found the lock
-    /// taken, and hands the call back; `Memory` where the machine found none. It never waits.
+    /// Answers a call, where no other seat has the turn, and never waits. The call is then one entry of the history,
+    /// at the place that is answered. `Busy` comes exactly where the one compare-exchange of this call found the lock
+    /// taken, and hands the call back. `Memory` comes where the machine found none: the call is dropped, and there is
+    /// no entry.
     pub fn try_step(
         &self,
         seat: &mut Seat<M>,
@@ -148,7 +149,7 @@ impl<M: Machine> Turnstile<M> {
         Ok(placed)
     }
 
-    /// Answers a call, and waits for the turn.
+    /// The same, but it tries again until it has the turn, and sleeps between two tries.
     pub fn step<R: Wait>(
         &self,
         rt: &R,
@@ -166,7 +167,7 @@ impl<M: Machine> Turnstile<M> {
         Ok(placed)
     }
 
-    /// The length of the history, which the seat has then seen. It does not take the lock.
+    /// The length of the history, all of which the seat has then seen. It does not take the lock.
     pub fn look(&self, seat: &mut Seat<M>) -> u64
         requires { IsOf self.now seat.old }
         ensures same { IsOf self.now seat.new }
@@ -176,14 +177,15 @@ impl<M: Machine> Turnstile<M> {
         seat.seen
     }
 
-    /// A new seat, split off from that of number 0. Its number is the next one, and it has seen what seat 0 has. It does not take the lock.
+    /// A new seat, split off from that of number 0: its number is the next one, and it has seen what seat 0 has. It
+    /// does not take the lock, and today it needs no memory.
     pub fn try_split(&self, seat: &mut Seat<M>) -> Result<Seat<M>, AllocError>
         requires seat { IsOf self.now seat.old }
         requires zero { (view seat.old).mine.number ≡ 0 }
         requires room { (view seat.old).mine.made < 4294967295 }
         ensures same { IsOf self.now seat.new }
         ensures answers { IsOk result }
-        ensures new { IfOk result (λ s. IsOf self.now s × (view s ≡ newcomer (view seat.old).setup ((view seat.old).mine.made + 1) (view seat.old).seen (view seat.old).known)) }
+        ensures new { IfOk result (λ s. IsOf self.now s × (view s ≡ next_seat (view seat.old))) }
         ensures rest { view seat.new ≡ split_off (view seat.old) }
     {
         let shared = &self.table.shared;
@@ -214,7 +216,8 @@ impl<M: Machine> Turnstile<M> {
 }
 
 impl<M: Machine + Drop> Turnstile<M> {
-    /// A turnstile over a machine that has answered no call, and its first seat, which has the number 0. Without memory the machine is dropped.
+    /// A turnstile over a machine that has answered no call, and its first seat, which has the number 0. Without memory
+    /// the machine is dropped.
     pub fn new(alloc: Global, machine: M) -> Result<(Turnstile<M>, Seat<M>), AllocError>
         requires { M.history machine ≡ [] }
         ensures { IfOk result (λ r. IsOf r.0 r.1 × (view r.1 ≡ newcomer (Some (M.setup machine)) 0 0 [])) }
@@ -235,7 +238,7 @@ impl<M: Machine + Drop> Turnstile<M> {
         Ok((Turnstile { table, sleepers }, seat))
     }
 
-    /// Waits for the turn, and gives the machine.
+    /// Waits for the turn, and gives the machine with its history.
     pub fn close<R: Wait>(self, rt: &R, seat: Seat<M>) -> M
         requires { IsOf self seat }
         ensures setup { (view seat).setup ≡ Some (M.setup result) }

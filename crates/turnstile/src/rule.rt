@@ -6,7 +6,8 @@ use crate::view::View;
 use atomic_table::{Join, Play, Split, TableRule};
 use std::snapshot::Snapshot;
 
-/// What holds between any two steps: word 0 is the length of the history, word 1 the lock, and the slot has the machine.
+/// What holds between any two steps: word 0 is the length of the history, word 1 the lock, and the slot has the
+/// machine.
 pub struct Order;
 
 impl<M: Machine> TableRule<Option<M>, View<M::Setup, M::Call, M::Reply>, Snapshot<M>> for Order {

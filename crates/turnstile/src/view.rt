@@ -28,7 +28,7 @@ pub struct View<T, C, R> {
     pub looks: u64,
     /// What the last look found.
     pub last: u64,
-    /// The records of the seats that were joined into it, newest first, each followed by those that were joined into that one.
+    /// The records of the seats that were joined into it, newest first, each followed by those joined into that one.
     pub joined: LinkedList<Record<C, R>>,
     /// The whole history, where the seat has the turn.
     pub turn: Option<LinkedList<(u64, C, R)>>,

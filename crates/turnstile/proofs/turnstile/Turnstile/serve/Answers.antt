@@ -1,5 +1,5 @@
-use Rattle.std.proofs.Common.{◌≡◌, ◌∙◌, arith}
-use Rattle.turnstile.proofs.Taken.{held_first, holder_commits}
+use Rattle.std.proofs.Common.{arith}
+use Rattle.turnstile.proofs.Taken.{held_first, same_table, holder_commits}
 use Rattle.turnstile.proofs.turnstile.Turnstile.serve.Goals as goal
 
 pub exchange-requires : goal.exchange-requires
@@ -9,9 +9,8 @@ pub store-requires : goal.store-requires
 store-requires g c =
     let one = c.exchange.ensures in
     let two = c.exchange-2.ensures in
-    let here : c.exchange-2.new.seat.table_id ≡ c.args.self.now.table.shared.table_id = two.0 ∙ one.0 ∙ c.requires.turn.0 in
     let step = c.in-Ok.ensures in (
-      here,
+      same_table c.exchange-2.new.seat.table_id c.exchange.new.seat.table_id c.args.token.now.table_id c.args.self.now.table.shared.table_id two.0 one.0 c.requires.turn.0,
       omega (arith, c.args.self.now.sized.0),
       holder_commits g.M.Machine.legal g.M.Machine.setup g.M.Machine.history _ _ c.args.token.now.me c.exchange.new.seat.me c.exchange-2.new.seat.me
           c.requires.turn.1.0 c.in-Some.machine c.step-answer.new.self c.exchange.result c.args.number c.args.call c.in-Ok.reply c.places-places.result

@@ -9,5 +9,5 @@ loop-preserved g c =
       tt,
       tt,
       c.take.ensures.same ∙ past.2,
-      (n + 1, waited_more g.M.Machine.legal g.M.Machine.setup g.M.Machine.history n c.args.token.now.me c.loop.token.me c.take.new.token.me past.3.1 (c.if-take.ensures.missed refl)),
+      (n + 1, waited_more n c.args.token.now.me c.loop.token.me c.take.new.token.me past.3.1 (c.if-take.ensures.missed refl)),
     )
