@@ -1,8 +1,10 @@
 pub mod Worked
 pub mod Gestures
 pub mod Losses
+pub mod Palms
 pub mod Timeouts
 pub mod Held
+pub mod TwoDisplays
 pub mod Runs
 pub mod LegalLaws
 pub mod OrderedLaws

@@ -6,7 +6,7 @@ use Rattle.input_types.specs.declared.message.Args.{Args}
 use Rattle.input_types.specs.declared.message.Args.TheVariants.{Motion as MotionArgs, Key, Reset}
 use Rattle.input_types.specs.declared.motion.Motion.{Motion}
 use Rattle.input_types.specs.declared.motion.MotionAction.{MotionAction}
-use Rattle.input_types.specs.declared.motion.MotionAction.TheVariants.{Up, PointerUp}
+use Rattle.input_types.specs.declared.motion.MotionAction.TheVariants.{Up, PointerUp, Cancel}
 use Rattle.input_types.specs.declared.pointer.Pointer.{Pointer}
 use Rattle.input_types.specs.DeviceRule.{DeviceState, after_args, device_of, device_state, is_of_device, with_key}
 use Rattle.input_types.specs.Gestures.{after_motion, ids_of, allowed, differ}
@@ -73,21 +73,22 @@ moment_of d a before s t e = split (device_state d before) refl (subst (λ c. co
 
 -- a motion that came is of some kind
 kind_of : (m : Motion) (s t : DeviceState) → after_args s (MotionArgs m) ≡ Some t → Kind m s.ids t.ids
-kind_of m s t e = by_test (is_of_device m.action && m.flags == 0) refl e
+kind_of m s t e = by_test (is_of_device m.action (length m.pointers)) refl e
   where
     ids_after : (o : Option (List ℕ)) → option_map (λ ids. record { ids = ids; keys = s.keys }) o ≡ Some t → o ≡ Some t.ids
     ids_after None e = cc
     ids_after (Some ids) e = let q : Some (record { ids = ids; keys = s.keys }) ≡ Some t = e in ap (option_map (λ x. x.ids)) q
 
-    by_test : (c : Bool) → (is_of_device m.action && m.flags == 0) ≡ c
+    by_test : (c : Bool) → (is_of_device m.action (length m.pointers)) ≡ c
         → cond c (option_map (λ ids. record { ids = ids; keys = s.keys }) (after_motion s.ids m)) None ≡ Some t → Kind m s.ids t.ids
-    by_test true q e = kind_at m s.ids t.ids m.action refl (and_parts (is_of_device m.action) (m.flags == 0) q).0 (ids_after (after_motion s.ids m) e)
+    by_test true q e = kind_at m s.ids t.ids m.action refl q (ids_after (after_motion s.ids m) e)
     by_test false q e = cc
 
 -- no motion is both a down and an up
 down_not_up : (a : MotionAction) → is_down a ≡ true → is_up a ≡ true → ⊥
 down_not_up Up d u = true≢false (sym d)
 down_not_up PointerUp d u = true≢false (sym d)
+down_not_up Cancel d u = true≢false (sym d)
 down_not_up _ d u = true≢false (sym u)
 
 -- after its down an id is down
@@ -225,7 +226,7 @@ all_rise ((Notify now a, answer) ∷ h) r = rise_accepted now a answer (accepted
 all_rise ((Pump now, answer) ∷ h) r = all_rise h r.1
 all_rise ((Open limit, answer) ∷ h) r = all_rise h r.1
 all_rise ((Windows now shown, answer) ∷ h) r = all_rise h r.1
-all_rise ((FocusOn now channel, answer) ∷ h) r = all_rise h r.1
+all_rise ((FocusOn now y channel, answer) ∷ h) r = all_rise h r.1
 all_rise ((Tick now, answer) ∷ h) r = all_rise h r.1
 all_rise ((Receive channel, answer) ∷ h) r = all_rise h r.1
 all_rise ((Finish now channel seq, answer) ∷ h) r = all_rise h r.1
@@ -239,10 +240,10 @@ rise_older (Key k ∷ xs) ys r = rise_older xs ys r
 rise_older (Reset d ∷ xs) ys r = rise_older xs ys r
 
 pub one_pointer : OnePointer
-one_pointer h p q l r x y same_device same_id =
-    let es = effects h in
-    let k : is_some (device_state p.device (dispatched es)) ≡ true = (device_law h p.device l).1 in
-    let rise : RiseAll (dispatched es) = rise_older (reverse (inbound h)) (dispatched es) (subst RiseAll (queue_law h l) (all_rise h r)) in
+one_pointer ds h p q l r x y same_device same_id =
+    let es = effects ds h in
+    let k : is_some (device_state p.device (dispatched es)) ≡ true = (device_law ds h p.device l).1 in
+    let rise : RiseAll (dispatched es) = rise_older (reverse (inbound h)) (dispatched es) (subst RiseAll (queue_law ds h l) (all_rise h r)) in
     let places : length x.0.before ≡ length y.0.before =
     one_place p.device p.id x.0.later x.0.effect x.0.before y.0.later y.0.effect y.0.before (sym x.0.whole ∙ y.0.whole)
     (subst (λ fs. is_some (device_state p.device (dispatched fs)) ≡ true) x.0.whole k) (subst (λ fs. RiseAll (dispatched fs)) x.0.whole rise)

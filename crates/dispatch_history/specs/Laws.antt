@@ -1,7 +1,8 @@
 -- What is proved of histories. Each law is the clause of a function of its own.
 use Rattle.std.specs.Prelude.{ℕ, ◌==◌, filter, Some, ◌≡◌, ◌≤◌, IsTrue, is_some, reverse, ◌++◌, true, false, not, ◌&&◌, ◌||◌, List, ◌∷◌, None}
 use Rattle.std.specs.List.{list_any}
-use Rattle.window_snapshot.specs.Named.{is_named}
+use Rattle.input_types.specs.Displays.{device_display}
+use Rattle.window_snapshot.specs.Named.{is_shown_on}
 use Rattle.dispatch_calls.specs.declared.call.Call.{Call}
 use Rattle.dispatch_calls.specs.declared.reply.Reply.{Reply}
 use Rattle.input_types.specs.DeviceRule.{device_state}
@@ -21,27 +22,27 @@ use Rattle.dispatch_history.specs.Ordered.{Ordered, ordered, chosen}
 
 -- The last reply of a legal history is that of the history before it, which is legal.
 abbrev pub LegalLast : Type 0
-LegalLast = (call : Call) (answer : Reply) (h : History) → Legal ((call, answer) ∷ h) → (answer ≡ reply h call) × Legal h
+LegalLast = (displays : List ℕ) (call : Call) (answer : Reply) (h : History) → Legal displays ((call, answer) ∷ h) → (answer ≡ reply displays h call) × Legal displays h
 
 -- One more call, answered as it is to be, leaves a history legal.
 abbrev pub LegalMore : Type 0
-LegalMore = (call : Call) (h : History) → Legal h → Legal ((call, reply h call) ∷ h)
+LegalMore = (displays : List ℕ) (call : Call) (h : History) → Legal displays h → Legal displays ((call, reply displays h call) ∷ h)
 
 -- Two legal histories of the same calls are equal.
 abbrev pub LegalUnique : Type 0
-LegalUnique = (h k : History) → Legal h → Legal k → calls_of h ≡ calls_of k → h ≡ k
+LegalUnique = (displays : List ℕ) (h k : History) → Legal displays h → Legal displays k → calls_of h ≡ calls_of k → h ≡ k
 
 -- The replay of calls is a legal history of these calls, and its effects are those of their run.
 abbrev pub ReplayLaw : Type 0
-ReplayLaw = (calls : List Call) → Legal (replay calls) × (calls_of (replay calls) ≡ calls) × (effects (replay calls) ≡ run calls)
+ReplayLaw = (displays : List ℕ) (calls : List Call) → Legal displays (replay displays calls) × (calls_of (replay displays calls) ≡ calls) × (effects displays (replay displays calls) ≡ run displays calls)
 
 -- A legal history is the replay of its calls.
 abbrev pub LegalReplay : Type 0
-LegalReplay = (h : History) → Legal h → replay (calls_of h) ≡ h
+LegalReplay = (displays : List ℕ) (h : History) → Legal displays h → replay displays (calls_of h) ≡ h
 
 -- The effects of a history are of that history.
 abbrev pub EffectsLaw : Type 0
-EffectsLaw = (h : History) → past_of (effects h) ≡ h
+EffectsLaw = (displays : List ℕ) (h : History) → past_of (effects displays h) ≡ h
 
 -- After a step a channel is unresponsive where a tick of this step names it, or where it was unresponsive before and the step is not
 -- a finish of a message of it after which none is late.
@@ -73,63 +74,63 @@ OrderedUnique = (plan : Plan) (es fs : List Effect) → Ordered plan es → Orde
 
 -- In a legal history what was accepted is what waits and what was dispatched.
 abbrev pub QueueLaw : Type 0
-QueueLaw = (h : History) → Legal h → accepted h ≡ reverse (inbound h) ++ dispatched (effects h)
+QueueLaw = (displays : List ℕ) (h : History) → Legal displays h → accepted h ≡ reverse (inbound h) ++ dispatched (effects displays h)
 
 -- What was accepted, and what was dispatched of it, keeps the rule of each device.
 abbrev pub DeviceLaw : Type 0
 DeviceLaw =
-    (h : History) (d : ℕ) → Legal h → IsTrue (is_some (device_state d (accepted h))) × IsTrue (is_some (device_state d (dispatched (effects h))))
+    (displays : List ℕ) (h : History) (d : ℕ) → Legal displays h → IsTrue (is_some (device_state d (accepted h))) × IsTrue (is_some (device_state d (dispatched (effects displays h))))
 
 -- A live channel has one of the numbers that were given.
 abbrev pub LiveLaw : Type 0
-LiveLaw = (h : History) (c : ℕ) → Legal h → live h c ≡ true → (1 ≤ c) × (c ≤ opened h)
+LiveLaw = (displays : List ℕ) (h : History) (c : ℕ) → Legal displays h → live h c ≡ true → (1 ≤ c) × (c ≤ opened h)
 
 -- A step adds to the stream of a channel what it says to it.
 abbrev pub StreamStep : Type 0
 StreamStep =
-    (call : Call) (answer : Reply) (h : History) (c : ℕ)
-    → Legal ((call, answer) ∷ h)
-    → stream (effects ((call, answer) ∷ h)) c
-    ≡ told_on (clock ((call, answer) ∷ h)) (said_at call answer (effects h) c) (stream (effects h) c)
+    (displays : List ℕ) (call : Call) (answer : Reply) (h : History) (c : ℕ)
+    → Legal displays ((call, answer) ∷ h)
+    → stream (effects displays ((call, answer) ∷ h)) c
+    ≡ told_on (clock ((call, answer) ∷ h)) (said_at displays call answer (effects displays h) c) (stream (effects displays h) c)
 
 -- A channel that is not live after a step is told nothing at it: nothing follows a removal.
 abbrev pub SilentLaw : Type 0
 SilentLaw =
-    (call : Call) (answer : Reply) (h : History) (c : ℕ)
-    → live ((call, answer) ∷ h) c ≡ false → stream (effects ((call, answer) ∷ h)) c ≡ stream (effects h) c
+    (displays : List ℕ) (call : Call) (answer : Reply) (h : History) (c : ℕ)
+    → live ((call, answer) ∷ h) c ≡ false → stream (effects displays ((call, answer) ∷ h)) c ≡ stream (effects displays h) c
 
 -- At each moment an id that is down is one pointer.
 abbrev pub OnePointer : Type 0
 OnePointer =
-    (h : History) (p q : PointerOf)
-    → Legal h → AllRise h → IsDown (effects h) p → IsDown (effects h) q → p.device ≡ q.device → p.id ≡ q.id → p ≡ q
+    (displays : List ℕ) (h : History) (p q : PointerOf)
+    → Legal displays h → AllRise h → IsDown (effects displays h) p → IsDown (effects displays h) q → p.device ≡ q.device → p.id ≡ q.id → p ≡ q
 
--- Every window that holds a pointer is able, and so live, and the snapshot names it.
+-- Every window that holds a pointer is able, and so live, and the snapshot names it on the display of the device.
 abbrev pub HolderLaw : Type 0
 HolderLaw =
-    (h : History) (w d i : ℕ) → (scene (effects h)).holds w d i ≡ true → (able (effects h) w ≡ true) × (is_named (snapshot h) w ≡ true)
+    (displays : List ℕ) (h : History) (w d i : ℕ) → (scene displays (effects displays h)).holds w d i ≡ true → (able (effects displays h) w ≡ true) × (is_shown_on (snapshot h) (device_display displays d) w ≡ true)
 
 -- In a legal history whose motions have rising ids, each moment fits the ids that are down: windows hold only ids that are down, and
 -- the last motion of a device lists all that are held.
 abbrev pub FitLaw : Type 0
-FitLaw = (h : History) (d : ℕ) → Legal h → AllRise h → Fits (scene (effects h)) d (down_ids (effects h) d)
+FitLaw = (displays : List ℕ) (h : History) (d : ℕ) → Legal displays h → AllRise h → Fits (scene displays (effects displays h)) d (down_ids (effects displays h) d)
 
 -- The motions of each device in the stream of a live channel come one after the other as the rule of streams says, and leave down just
 -- the ids that its window holds.
 abbrev pub MotionsLaw : Type 0
 MotionsLaw =
-    (h : History) (w d : ℕ)
-    → Legal h → AllRise h → live h w ≡ true → list_any (λ e. e == d) devices ≡ true
-    → told_down d (stream (effects h) w) ≡ Some (filter ((scene (effects h)).holds w d) (down_ids (effects h) d))
+    (displays : List ℕ) (h : History) (w d : ℕ)
+    → Legal displays h → AllRise h → live h w ≡ true → list_any (λ e. e == d) devices ≡ true
+    → told_down d (stream (effects displays h) w) ≡ Some (filter ((scene displays (effects displays h)).holds w d) (down_ids (effects displays h) d))
 
 -- So do those of a channel that is not live any more.
 abbrev pub MotionsComeLaw : Type 0
-MotionsComeLaw = (h : History) (w d : ℕ) → Legal h → AllRise h → IsTrue (is_some (told_down d (stream (effects h) w)))
+MotionsComeLaw = (displays : List ℕ) (h : History) (w d : ℕ) → Legal displays h → AllRise h → IsTrue (is_some (told_down d (stream (effects displays h) w)))
 
 -- The owner of a live channel knows from its stream whether its window has the focus, each change of which comes as it may.
 abbrev pub FocusLaw : Type 0
-FocusLaw = (h : History) (w : ℕ) → Legal h → live h w ≡ true → told_focus (stream (effects h) w) ≡ Some (has_focus h w)
+FocusLaw = (displays : List ℕ) (h : History) (w : ℕ) → Legal displays h → live h w ≡ true → told_focus (stream (effects displays h) w) ≡ Some (has_focus h w)
 
 -- So do those of a channel that is not live any more.
 abbrev pub FocusComesLaw : Type 0
-FocusComesLaw = (h : History) (w : ℕ) → Legal h → IsTrue (is_some (told_focus (stream (effects h) w)))
+FocusComesLaw = (displays : List ℕ) (h : History) (w : ℕ) → Legal displays h → IsTrue (is_some (told_focus (stream (effects displays h) w)))

@@ -29,7 +29,8 @@ pub fn pointing()
     ensures { OnePointer }
 {}
 
-/// Windows that hold something are able and shown; and at each moment what they hold is down, and listed by the last motion.
+/// Windows that hold something are able, and shown on the display of its device; and at each moment what they hold is down, and listed
+/// by the last motion.
 pub fn holding()
     ensures holders { HolderLaw }
     ensures fits { FitLaw }
