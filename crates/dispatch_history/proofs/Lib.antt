@@ -16,3 +16,6 @@ pub mod FitLaws
 pub mod HolderLaws
 pub mod MotionLaws
 pub mod FocusLaws
+pub mod KeysDown
+pub mod KeyTells
+pub mod KeyLaws

@@ -16,6 +16,11 @@ use Rattle.dispatch_history.specs.Step.{scene}
 use Rattle.routing_rules.specs.Fits.{Fits}
 use Rattle.routing_rules.specs.Told.{devices}
 use Rattle.dispatch_history.specs.Focus.{has_focus}
+use Rattle.input_types.specs.declared.key.KeyArgs.{KeyArgs}
+use Rattle.key_repeat.specs.Due.{Sent}
+use Rattle.dispatch_history.specs.Keys.{keys}
+use Rattle.dispatch_history.specs.KeyTold.{last_key}
+use Rattle.dispatch_history.specs.Known.{told_repeat, last_message, held_key, next_repeat, newest_key}
 use Rattle.dispatch_history.specs.Legal.{Legal, reply, calls_of, run, replay}
 use Rattle.dispatch_history.specs.Plan.{Plan}
 use Rattle.dispatch_history.specs.Ordered.{Ordered, ordered, chosen}
@@ -134,3 +139,29 @@ FocusLaw = (displays : List ℕ) (h : History) (w : ℕ) → Legal displays h �
 -- So do those of a channel that is not live any more.
 abbrev pub FocusComesLaw : Type 0
 FocusComesLaw = (displays : List ℕ) (h : History) (w : ℕ) → Legal displays h → IsTrue (is_some (told_focus (stream (effects displays h) w)))
+
+-- The messages of each key in the stream of a live channel come one after the other as the rule of streams says, and the keys that are
+-- down after them are just those that its window holds, each with the next repeat number.
+abbrev pub KeysLaw : Type 0
+KeysLaw =
+    (displays : List ℕ) (h : History) (w d s : ℕ)
+    → Legal displays h → live h w ≡ true
+    → told_repeat d s (stream (effects displays h) w)
+    ≡ Some (next_repeat (held_key (keys (effects displays h) w) d s) (last_message d s (stream (effects displays h) w)))
+
+-- So do those of a channel that is not live any more.
+abbrev pub KeysComeLaw : Type 0
+KeysComeLaw = (displays : List ℕ) (h : History) (w d s : ℕ) → Legal displays h → IsTrue (is_some (told_repeat d s (stream (effects displays h) w)))
+
+-- The last message of a key that a window holds is a down or a repeat with the same code and meta bits, from which its cancel is made.
+abbrev pub HeldKeyLaw : Type 0
+HeldKeyLaw =
+    (displays : List ℕ) (h : History) (w d s : ℕ) (k : KeyArgs)
+    → Legal displays h → live h w ≡ true → held_key (keys (effects displays h) w) d s ≡ Some k
+    → (k.down ≡ true) × (n : ℕ) × (last_message d s (stream (effects displays h) w) ≡ Some (record { key = k; flags = 0; repeat = n }))
+
+-- The last key message that was told to any window, from which a repeat is made, is the newest one in the stream of its channel.
+abbrev pub LastKeyLaw : Type 0
+LastKeyLaw =
+    (displays : List ℕ) (h : History) (last : Sent)
+    → last_key (effects displays h) ≡ Some last → newest_key (stream (effects displays h) last.channel) ≡ Some last.key
