@@ -5,6 +5,7 @@ pub mod Palms
 pub mod Timeouts
 pub mod Held
 pub mod TwoDisplays
+pub mod WholeStream
 pub mod Runs
 pub mod LegalLaws
 pub mod OrderedLaws
@@ -19,3 +20,5 @@ pub mod FocusLaws
 pub mod KeysDown
 pub mod KeyTells
 pub mod KeyLaws
+pub mod Agreeing
+pub mod WholeLaws
