@@ -4,7 +4,10 @@ use Rattle.std.specs.List.{list_any}
 use Rattle.input_types.specs.Displays.{device_display}
 use Rattle.window_snapshot.specs.Named.{is_shown_on}
 use Rattle.dispatch_calls.specs.declared.call.Call.{Call}
+use Rattle.dispatch_calls.specs.declared.call.Call.TheVariants.{Receive, Finish, Pilfer, Remove}
 use Rattle.dispatch_calls.specs.declared.reply.Reply.{Reply}
+use Rattle.dispatch_calls.specs.declared.reply.Reply.TheVariants.{Done, Gone}
+use Rattle.input_types.specs.StreamRule.{stream_state, is_well_formed}
 use Rattle.input_types.specs.DeviceRule.{device_state}
 use Rattle.dispatch_history.specs.History.{History, clock, live, opened, snapshot}
 use Rattle.dispatch_history.specs.Queue.{accepted, inbound}
@@ -16,6 +19,11 @@ use Rattle.dispatch_history.specs.Step.{scene}
 use Rattle.routing_rules.specs.Fits.{Fits}
 use Rattle.routing_rules.specs.Told.{devices}
 use Rattle.dispatch_history.specs.Focus.{has_focus}
+use Rattle.input_types.specs.declared.key.KeyArgs.{KeyArgs}
+use Rattle.key_repeat.specs.Due.{Sent}
+use Rattle.dispatch_history.specs.Keys.{keys}
+use Rattle.dispatch_history.specs.KeyTold.{last_key}
+use Rattle.dispatch_history.specs.Known.{told_repeat, last_message, held_key, next_repeat, newest_key, known_state, IsNumbered, NeverFalls}
 use Rattle.dispatch_history.specs.Legal.{Legal, reply, calls_of, run, replay}
 use Rattle.dispatch_history.specs.Plan.{Plan}
 use Rattle.dispatch_history.specs.Ordered.{Ordered, ordered, chosen}
@@ -134,3 +142,65 @@ FocusLaw = (displays : List ℕ) (h : History) (w : ℕ) → Legal displays h �
 -- So do those of a channel that is not live any more.
 abbrev pub FocusComesLaw : Type 0
 FocusComesLaw = (displays : List ℕ) (h : History) (w : ℕ) → Legal displays h → IsTrue (is_some (told_focus (stream (effects displays h) w)))
+
+-- The messages of each key in the stream of a live channel come one after the other as the rule of streams says, and the keys that are
+-- down after them are just those that its window holds, each with the next repeat number.
+abbrev pub KeysLaw : Type 0
+KeysLaw =
+    (displays : List ℕ) (h : History) (w d s : ℕ)
+    → Legal displays h → live h w ≡ true
+    → told_repeat d s (stream (effects displays h) w)
+    ≡ Some (next_repeat (held_key (keys (effects displays h) w) d s) (last_message d s (stream (effects displays h) w)))
+
+-- So do those of a channel that is not live any more.
+abbrev pub KeysComeLaw : Type 0
+KeysComeLaw = (displays : List ℕ) (h : History) (w d s : ℕ) → Legal displays h → IsTrue (is_some (told_repeat d s (stream (effects displays h) w)))
+
+-- The last message of a key that a window holds is a down or a repeat with the same code and meta bits, from which its cancel is made.
+abbrev pub HeldKeyLaw : Type 0
+HeldKeyLaw =
+    (displays : List ℕ) (h : History) (w d s : ℕ) (k : KeyArgs)
+    → Legal displays h → live h w ≡ true → held_key (keys (effects displays h) w) d s ≡ Some k
+    → (k.down ≡ true) × (n : ℕ) × (last_message d s (stream (effects displays h) w) ≡ Some (record { key = k; flags = 0; repeat = n }))
+
+-- The last key message that was told to any window, from which a repeat is made, is the newest one in the stream of its channel.
+abbrev pub LastKeyLaw : Type 0
+LastKeyLaw =
+    (displays : List ℕ) (h : History) (last : Sent)
+    → last_key (effects displays h) ≡ Some last → newest_key (stream (effects displays h) last.channel) ≡ Some last.key
+
+-- The stream of a live channel is well-formed, and leaves its owner knowing what its window holds: the ids and the keys that are down are
+-- just those, and it knows whether it is focused.
+abbrev pub WholeLaw : Type 0
+WholeLaw =
+    (displays : List ℕ) (h : History) (w : ℕ)
+    → Legal displays h → AllRise h → live h w ≡ true
+    → stream_state (stream (effects displays h) w) ≡ Some (known_state (effects displays h) w)
+
+-- The stream of each channel is well-formed.
+abbrev pub WellFormedLaw : Type 0
+WellFormedLaw = (displays : List ℕ) (h : History) (w : ℕ) → Legal displays h → AllRise h → IsTrue (is_well_formed (stream (effects displays h) w))
+
+-- A removed channel stays removed, and its stream is that of just before its removal.
+abbrev pub RemovedLaw : Type 0
+RemovedLaw =
+    (displays : List ℕ) (later h : History) (now c : ℕ)
+    → Legal displays (later ++ (Remove now c, Done) ∷ h)
+    → (live (later ++ (Remove now c, Done) ∷ h) c ≡ false)
+    × (stream (effects displays (later ++ (Remove now c, Done) ∷ h)) c ≡ stream (effects displays h) c)
+
+-- What is asked of a channel that is not live is answered with Gone.
+abbrev pub GoneLaw : Type 0
+GoneLaw =
+    (displays : List ℕ) (h : History) (c : ℕ)
+    → live h c ≡ false
+    → (reply displays h (Receive c) ≡ Gone)
+    × ((now seq : ℕ) → reply displays h (Finish now c seq) ≡ Gone)
+    × ((now device : ℕ) → reply displays h (Pilfer now c device) ≡ Gone)
+    × ((now : ℕ) → reply displays h (Remove now c) ≡ Gone)
+
+-- The messages of a stream are numbered from 1, their moments do not fall, and none is above the clock.
+abbrev pub NumbersLaw : Type 0
+NumbersLaw =
+    (displays : List ℕ) (h : History) (w : ℕ)
+    → IsNumbered (stream (effects displays h) w) × NeverFalls (clock h) (stream (effects displays h) w)
