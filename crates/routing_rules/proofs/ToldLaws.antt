@@ -219,7 +219,7 @@ nothing_lost : (b : Bool) → (b && not b) ≡ false
 nothing_lost true = refl
 nothing_lost false = refl
 
-quiet_cancels : (d : ℕ) (last : List Pointer) (b l : ℕ → Bool) → ((j : ℕ) → l j ≡ b j) → cancels d last b l ≡ []
+pub quiet_cancels : (d : ℕ) (last : List Pointer) (b l : ℕ → Bool) → ((j : ℕ) → l j ≡ b j) → cancels d last b l ≡ []
 quiet_cancels d last b l same =
     ap (cancels_of d (listing b last) (listing l last))
     (listing_none (λ j. b j && not (l j)) last (λ j. ap (λ c. b j && not c) (same j) ∙ nothing_lost (b j)))

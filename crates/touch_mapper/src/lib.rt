@@ -5,13 +5,15 @@
 //!
 //! `Gestures` tells what happened between two packets, as a MotionEvent says it. After finger 0, a packet with the fingers 0
 //! and 1 gives a `PointerDown` of finger 1 that lists both. After them, a packet with finger 1 alone gives a `PointerUp` of
-//! finger 0 that lists both.
+//! finger 0 that lists both; where finger 0 became a palm, that motion has `FLAG_CANCELED`.
 #![tactic(auto)]
 
 mod cook;
 mod gesture;
 mod gestures;
 mod lists;
+mod motions;
 
 pub use cook::{BadRange, Cook};
 pub use gestures::Gestures;
+pub use motions::FromMotion;

@@ -52,12 +52,12 @@ pub fn in_use(pointers: &Pointers) -> &[Pointer]
     ensures range { length result.now ≤ 16 }
     ensures rises { Rises result.now }
 {
-    pointers.as_slice().split_at(pointers.len()).0
+    pointers.as_slice()
 }
 
 /// The pointers of a packet at their pixels.
 pub fn at_pixels(cook: &Cook, held: &Assigned) -> Pointers
-    ensures { result ≡ placed_all cook.now held.now }
+    ensures { result ≡ placed_all cook.now held.now.pointers }
 {
     let mut pointers = Pointers::empty();
     for h in held.as_slice() {
@@ -66,6 +66,7 @@ pub fn at_pixels(cook: &Cook, held: &Assigned) -> Pointers
     pointers
 }
 
+/// A pointer at its pixel.
 fn at_pixel(cook: &Cook, held: &Held) -> Pointer
     ensures { result ≡ placed cook.now held.now }
 {
@@ -133,12 +134,14 @@ pub fn is_changed(last: &[Pointer], now: &[Pointer]) -> bool
     last.iter().any(|p| is_moved(now, p))
 }
 
+/// Whether a pointer has another pixel in a list.
 fn is_moved(now: &[Pointer], pointer: &Pointer) -> bool
     ensures { result ≡ has_moved now.now pointer.now }
 {
     !same_pixel(&moved(now, pointer).at, &pointer.at)
 }
 
+/// Whether two pixels are the same.
 fn same_pixel(a: &Pixel, b: &Pixel) -> bool
     ensures { result ≡ (int_eq a.now.x b.now.x && int_eq a.now.y b.now.y) }
 {

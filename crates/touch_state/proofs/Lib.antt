@@ -1,0 +1,5 @@
+pub mod Passes
+pub mod Sets
+pub mod Steps
+pub mod Least
+pub mod Examples

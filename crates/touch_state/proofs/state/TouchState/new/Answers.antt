@@ -1,0 +1,13 @@
+use Rattle.std.proofs.Common.{ap}
+use Rattle.touch_state.specs.declared.row.Row.{Row}
+use Rattle.touch_state.proofs.Steps.{nobody_kept, new_row}
+use Rattle.touch_state.proofs.state.TouchState.new.Goals as goal
+
+pub invariant_of-result : goal.invariant_of-result
+invariant_of-result c = nobody_kept _ (λ w. ap (λ (r : Row). r.ids) (new_row c.no_row.result c.no_row.ensures 64 w))
+
+pub returns-clause-held : goal.returns-clause-held
+returns-clause-held c w = ap (λ (r : Row). r.ids) (new_row c.no_row.result c.no_row.ensures 64 w)
+
+pub returns-clause-since : goal.returns-clause-since
+returns-clause-since c w = ap (λ (r : Row). r.since) (new_row c.no_row.result c.no_row.ensures 64 w)

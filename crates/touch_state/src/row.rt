@@ -1,0 +1,231 @@
+//! What each window has of the device.
+ghost use Rattle.std.specs.Prelude.{◌≡◌, ℕ, ◌<◌, true, ◌==◌, not, ◌&&◌, ◌||◌, if◌then◌else◌};
+ghost use Rattle.bits32.specs.Set.{is_in};
+ghost use Rattle.window_snapshot.specs.Mask.{is_channel, mask_has};
+ghost use Rattle.touch_state.specs.Rows.{no_row, row_of, given, left_with, IsTaken, IsSlipped, IsLeastSince, sooner};
+
+use bits32::Bits32;
+use input_types::PointerId;
+use window_snapshot::{mask_has, mask_with};
+
+/// What a window has of the device.
+#[derive(Clone, Copy, Debug)]
+pub(crate) struct Row {
+    /// The ids of the pointers that it holds.
+    pub(crate) ids: Bits32,
+    /// The place at which it last went from holding nothing to holding something.
+    pub(crate) since: u64,
+}
+
+/// The row of a window that holds nothing, and never did.
+pub(crate) fn no_row() -> Row
+    ensures { result ≡ no_row }
+{
+    Row {
+        ids: Bits32::empty(),
+        since: 0,
+    }
+}
+
+/// The row, where the window is given an id at a place.
+fn given(row: Row, hit: bool, id: PointerId, place: u64) -> Row
+    ensures { result ≡ given hit id place row }
+{
+    if !hit {
+        return row;
+    }
+    let since = if row.ids.bits() == 0 {
+        place
+    } else {
+        row.since
+    };
+    let mut ids = row.ids;
+    ids.mark(id.get());
+    Row { ids, since }
+}
+
+/// The row without an id.
+fn lifted(row: Row, id: PointerId) -> Row
+    ensures { IsTaken (λ i. i == id) row result }
+{
+    let mut ids = row.ids;
+    ids.clear(id.get());
+    Row {
+        ids,
+        since: row.since,
+    }
+}
+
+/// The set without a number, where another set has that.
+fn without_one(set: Bits32, ids: Bits32, id: u8) -> Bits32
+    requires { id < 32 }
+    ensures { (i : ℕ) → is_in i result ≡ (if is_in id ids then not (i == id) && is_in i set else is_in i set) }
+{
+    let mut rest = set;
+    if ids.has(id) {
+        rest.clear(id);
+    }
+    rest
+}
+
+/// The numbers of a set that are not in the other.
+fn without(set: Bits32, ids: Bits32) -> Bits32
+    ensures { (i : ℕ) → is_in i result ≡ (is_in i set && not (is_in i ids)) }
+{
+    let mut rest = set;
+    for id in 0..32 {
+        rest = without_one(rest, ids, id);
+    }
+    rest
+}
+
+/// The row of a window.
+pub(crate) fn row_at(rows: &[Row; 64], channel: u32) -> Row
+    requires { is_channel channel ≡ true }
+    ensures { result ≡ row_of rows.now channel }
+{
+    rows[channel as usize - 1]
+}
+
+/// Sets the row of a window.
+fn put(rows: &mut [Row; 64], channel: u32, row: Row)
+    requires { is_channel channel ≡ true }
+    ensures { (w : ℕ) → row_of rows.new w ≡ (if w == channel then row else row_of rows.old w) }
+{
+    rows[channel as usize - 1] = row;
+}
+
+/// Gives an id to one window at a place, and takes it from another.
+pub(crate) fn slip(rows: &mut [Row; 64], from: u32, to: u32, id: PointerId, place: u64)
+    requires from_is { is_channel from ≡ true }
+    requires to_is { is_channel to ≡ true }
+    ensures { (w : ℕ) → IsSlipped (w == from) (w == to) id place (row_of rows.old w) (row_of rows.new w) }
+{
+    let row = given(row_at(rows, to), true, id, place);
+    if from != to {
+        let left = lifted(row_at(rows, from), id);
+        put(rows, from, left);
+    }
+    put(rows, to, row);
+}
+
+/// Takes a set of ids from one window.
+pub(crate) fn take(rows: &mut [Row; 64], channel: u32, ids: Bits32)
+    requires { is_channel channel ≡ true }
+    ensures { (w : ℕ) → IsTaken (λ i. w == channel && is_in i ids) (row_of rows.old w) (row_of rows.new w) }
+{
+    let row = row_at(rows, channel);
+    let left = without(row.ids, ids);
+    put(
+        rows,
+        channel,
+        Row {
+            ids: left,
+            since: row.since,
+        },
+    );
+}
+
+/// Takes everything from every window.
+pub(crate) fn empty_all(rows: &mut [Row; 64])
+    ensures { (w : ℕ) → row_of rows.new w ≡ left_with 0 (row_of rows.old w) }
+{
+    for row in rows.iter_mut() {
+        row.ids = Bits32::empty();
+    }
+}
+
+/// Gives an id to each window of a mask, at a place.
+pub(crate) fn give_all(rows: &mut [Row; 64], to: u64, id: PointerId, place: u64)
+    ensures { (w : ℕ) → row_of rows.new w ≡ given (mask_has to w) id place (row_of rows.old w) }
+{
+    for (k, row) in rows.iter_mut().enumerate() {
+        *row = given(*row, mask_has(to, k as u32 + 1), id, place);
+    }
+}
+
+/// Takes an id from every window.
+pub(crate) fn lift_all(rows: &mut [Row; 64], id: PointerId)
+    ensures { (w : ℕ) → IsTaken (λ i. i == id) (row_of rows.old w) (row_of rows.new w) }
+{
+    for row in rows.iter_mut() {
+        *row = lifted(*row, id);
+    }
+}
+
+/// The mask with the window of this channel besides, where it holds something.
+fn noted(holders: u64, channel: u32, row: Row) -> u64
+    requires { is_channel channel ≡ true }
+    ensures { (w : ℕ) → mask_has result w ≡ (mask_has holders w || (w == channel && not (row.ids == 0))) }
+{
+    if row.ids.bits() == 0 {
+        holders
+    } else {
+        mask_with(holders, channel)
+    }
+}
+
+/// The mask of the windows that hold something.
+pub(crate) fn holders_of(rows: &[Row; 64]) -> u64
+    ensures { (w : ℕ) → mask_has result w ≡ not ((row_of rows.now w).ids == 0) }
+{
+    let mut holders = 0;
+    for (k, row) in rows.iter().enumerate() {
+        holders = noted(holders, k as u32 + 1, *row);
+    }
+    holders
+}
+
+/// The least place at which one of the windows of a mask began; None exactly where it has none.
+pub(crate) fn least_since(rows: &[Row; 64], hits: u64) -> Option<u64>
+    ensures { IsLeastSince rows.now hits 64 result }
+{
+    let mut least = None;
+    for (k, row) in rows.iter().enumerate() {
+        least = sooner(least, mask_has(hits, k as u32 + 1), *row);
+    }
+    least
+}
+
+/// The lesser of a place and that of a row, where the window of the row counts.
+fn sooner(least: Option<u64>, hit: bool, row: Row) -> Option<u64>
+    ensures { result ≡ sooner hit row.since least }
+{
+    if !hit {
+        return least;
+    }
+    match least {
+        Some(place) => {
+            if row.since < place {
+                Some(row.since)
+            } else {
+                Some(place)
+            }
+        }
+        None => Some(row.since),
+    }
+}
+
+/// The mask of those windows of a mask that began at a place.
+pub(crate) fn began_at(rows: &[Row; 64], hits: u64, place: u64) -> u64
+    ensures { (w : ℕ) → mask_has result w ≡ (mask_has hits w && (row_of rows.now w).since == place) }
+{
+    let mut began = 0;
+    for (k, row) in rows.iter().enumerate() {
+        let channel = k as u32 + 1;
+        began = with_one(began, channel, mask_has(hits, channel), row.since == place);
+    }
+    began
+}
+
+/// The mask with a window besides, where both conditions hold.
+fn with_one(mask: u64, channel: u32, hit: bool, began: bool) -> u64
+    requires { is_channel channel ≡ true }
+    ensures { (w : ℕ) → mask_has result w ≡ (mask_has mask w || (w == channel && (hit && began))) }
+{
+    if hit && began {
+        mask_with(mask, channel)
+    } else {
+        mask
+    }
+}
