@@ -23,7 +23,7 @@ use Rattle.input_types.specs.declared.key.KeyArgs.{KeyArgs}
 use Rattle.key_repeat.specs.Due.{Sent}
 use Rattle.dispatch_history.specs.Keys.{keys}
 use Rattle.dispatch_history.specs.KeyTold.{last_key}
-use Rattle.dispatch_history.specs.Known.{told_repeat, last_message, held_key, next_repeat, newest_key, known_state, IsNumbered, NeverFalls}
+use Rattle.dispatch_history.specs.Known.{told_repeat, last_message, held_key, next_repeat, newest_key, known_state, IsNumbered, NeverFalls, told_pointer}
 use Rattle.dispatch_history.specs.Legal.{Legal, reply, calls_of, run, replay}
 use Rattle.dispatch_history.specs.Plan.{Plan}
 use Rattle.dispatch_history.specs.Ordered.{Ordered, ordered, chosen}
@@ -204,3 +204,17 @@ abbrev pub NumbersLaw : Type 0
 NumbersLaw =
     (displays : List ℕ) (h : History) (w : ℕ)
     → IsNumbered (stream (effects displays h) w) × NeverFalls (clock h) (stream (effects displays h) w)
+
+-- In the stream of a live channel each pointer of a device goes down and ends by turns, and after it is down just where its window holds it:
+-- a pointer that went down goes up or is cancelled once, unless it is still down.
+abbrev pub TurnsLaw : Type 0
+TurnsLaw =
+    (displays : List ℕ) (h : History) (w d i : ℕ)
+    → Legal displays h → AllRise h → live h w ≡ true → list_any (λ e. e == d) devices ≡ true
+    → told_pointer d i (stream (effects displays h) w) ≡ Some ((scene displays (effects displays h)).holds w d i)
+
+-- So it does in that of a channel that is not live any more.
+abbrev pub TurnsComeLaw : Type 0
+TurnsComeLaw =
+    (displays : List ℕ) (h : History) (w d i : ℕ)
+    → Legal displays h → AllRise h → IsTrue (is_some (told_pointer d i (stream (effects displays h) w)))

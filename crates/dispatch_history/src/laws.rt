@@ -1,5 +1,5 @@
 //! What is proved of histories. Each function has the laws as its clauses, and does nothing.
-ghost use Rattle.dispatch_history.specs.Laws.{LegalLast, LegalMore, LegalUnique, ReplayLaw, LegalReplay, EffectsLaw, UnresponsiveStep, AbleStep, OrderedSound, OrderedComplete, OrderedUnique, QueueLaw, DeviceLaw, LiveLaw, StreamStep, SilentLaw, OnePointer, HolderLaw, FitLaw, MotionsLaw, MotionsComeLaw, FocusLaw, FocusComesLaw, KeysLaw, KeysComeLaw, HeldKeyLaw, LastKeyLaw, WholeLaw, WellFormedLaw, RemovedLaw, GoneLaw, NumbersLaw};
+ghost use Rattle.dispatch_history.specs.Laws.{LegalLast, LegalMore, LegalUnique, ReplayLaw, LegalReplay, EffectsLaw, UnresponsiveStep, AbleStep, OrderedSound, OrderedComplete, OrderedUnique, QueueLaw, DeviceLaw, LiveLaw, StreamStep, SilentLaw, OnePointer, HolderLaw, FitLaw, MotionsLaw, MotionsComeLaw, FocusLaw, FocusComesLaw, KeysLaw, KeysComeLaw, HeldKeyLaw, LastKeyLaw, WholeLaw, WellFormedLaw, RemovedLaw, GoneLaw, NumbersLaw, TurnsLaw, TurnsComeLaw};
 
 /// A list of calls has exactly one legal history, its replay, and each step of it was answered as the history before it says.
 pub fn legality()
@@ -64,6 +64,12 @@ pub fn whole()
     ensures live { WholeLaw }
     ensures each { WellFormedLaw }
     ensures numbers { NumbersLaw }
+{}
+
+/// A pointer that went down in a stream goes up or is cancelled once, unless it is still down or its channel was removed.
+pub fn turns()
+    ensures live { TurnsLaw }
+    ensures each { TurnsComeLaw }
 {}
 
 /// Nothing follows a removal: the channel stays removed, its stream stays as it was just before, and what is asked of it is answered with
