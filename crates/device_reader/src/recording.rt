@@ -27,12 +27,14 @@ pub fn cook(
     let mut given = Vec::new(alloc);
     let mut args = Vec::new(alloc);
     for event in events {
+        args.clear();
         let moment = readers.take(*event, &mut args)?;
         push_all(&mut given, moment, &args)?;
     }
     Ok(given)
 }
 
+/// Puts some args with their moment behind the others.
 fn push_all(
     given: &mut Vec<(Moment, Args)>,
     moment: Moment,

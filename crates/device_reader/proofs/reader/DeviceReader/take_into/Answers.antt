@@ -6,7 +6,7 @@ use Rattle.device_reader.specs.Packets.{is_drop, is_void, since_drop}
 use Rattle.device_reader.specs.Cooked.{KindStandsFor}
 use Rattle.device_reader.specs.Reading.{Reading}
 use Rattle.device_reader.proofs.Drops.{void_after, none_after}
-use Rattle.device_reader.proofs.reader.DeviceReader.take.Goals as goal
+use Rattle.device_reader.proofs.reader.DeviceReader.take_into.Goals as goal
 
 pub returns-then-is_drop-clause-after : goal.returns-then-is_drop-clause-after
 returns-then-is_drop-clause-after c = λ plan past h.
