@@ -125,9 +125,10 @@ impl TouchState {
         row_at(&self.rows, channel).ids
     }
 
-    /// The mask of the windows that hold something.
+    /// The mask of the windows that hold something. The others do not pilfer.
     pub fn holders(&self) -> u64
-        ensures { (w : ℕ) → mask_has result w ≡ any self.now w }
+        ensures mask { (w : ℕ) → mask_has result w ≡ any self.now w }
+        ensures pilferers { (w : ℕ) → pilfering self.now w ≡ true → any self.now w ≡ true }
     {
         self.holders
     }
