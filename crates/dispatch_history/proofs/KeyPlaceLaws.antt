@@ -13,11 +13,11 @@ use Rattle.dispatch_history.specs.Legal.{Legal}
 use Rattle.dispatch_history.specs.Focus.{is_target}
 use Rattle.dispatch_history.specs.Delivery.{able}
 use Rattle.dispatch_history.specs.Keys.{goes_down, ends, loses_all, key_given, keys}
-use Rattle.dispatch_history.specs.Known.{is_key, held_key}
+use Rattle.dispatch_history.specs.Known.{is_key, held_key, AllDiffer}
 use Rattle.dispatch_history.specs.KeyPlaces.{GivesKey, takes_key, NoneTakesKey, HoldsKey}
-use Rattle.dispatch_history.specs.Laws.{KeyPlacesLaw}
+use Rattle.dispatch_history.specs.Laws.{KeyPlacesLaw, KeysDownLaw}
 use Rattle.dispatch_history.proofs.FitLaws.{dispatched_keep}
-use Rattle.dispatch_history.proofs.KeysDown.{AllHeld, down_keys, all_held, goes_down_new, held_with, is_key-parts, held_filter}
+use Rattle.dispatch_history.proofs.KeysDown.{AllHeld, held_is, down_keys, all_held, goes_down_new, held_with, is_key-parts, held_filter}
 
 -- a key that is left was held, and passes
 left_was : (down : ℕ → ℕ → Bool) (p : KeyArgs → Bool) (ks : List KeyArgs) (d s : ℕ) (k : KeyArgs) → AllHeld down ks → held_key (filter p ks) d s ≡ Some k
@@ -198,3 +198,13 @@ from_places ds ((call, answer) ∷ h) w k l (z ∷ later) y before e g n =
 
 pub key_places : KeyPlacesLaw
 key_places ds h w k l = (λ e. to_places ds h w k l e, λ x. from_places ds h w k l x.0.later x.0.effect x.0.before x.0.whole x.1 x.2)
+
+-- keys that are held differ
+differ : (down : ℕ → ℕ → Bool) (ks : List KeyArgs) → AllHeld down ks → AllDiffer ks
+differ down [] a = tt
+differ down (k ∷ ks) a = (a.2, differ down ks a.3)
+
+pub keys_down : KeysDownLaw
+keys_down ds h w l =
+    let down = down_keys (dispatched (effects ds h)) in
+    (differ down (keys (effects ds h) w) (all_held ds h w l), λ d s k e. (held_is down (keys (effects ds h) w) d s k (all_held ds h w l) e).1)

@@ -12,7 +12,7 @@ use Rattle.input_types.specs.DeviceRule.{device_state}
 use Rattle.dispatch_history.specs.History.{History, clock, live, opened, snapshot}
 use Rattle.dispatch_history.specs.Queue.{accepted, inbound}
 use Rattle.dispatch_history.specs.PointerOf.{PointerOf, IsDown, AllRise}
-use Rattle.dispatch_history.specs.Effect.{Effect, past_of, stream, dispatched, told_on, told_down, told_focus, down_ids}
+use Rattle.dispatch_history.specs.Effect.{Effect, past_of, stream, dispatched, told_on, told_down, told_focus, down_ids, is_key_down}
 use Rattle.dispatch_history.specs.Effects.{effects, said_at}
 use Rattle.dispatch_history.specs.Delivery.{able, unresponsive, names, finishes, has_late}
 use Rattle.dispatch_history.specs.Step.{scene}
@@ -24,7 +24,7 @@ use Rattle.key_repeat.specs.Due.{Sent}
 use Rattle.dispatch_history.specs.Keys.{keys}
 use Rattle.dispatch_history.specs.KeyTold.{last_key}
 use Rattle.dispatch_history.specs.KeyPlaces.{HoldsKey}
-use Rattle.dispatch_history.specs.Known.{told_repeat, last_message, held_key, next_repeat, newest_key, known_state, IsNumbered, NeverFalls, told_pointer}
+use Rattle.dispatch_history.specs.Known.{told_repeat, last_message, held_key, AllDiffer, next_repeat, newest_key, known_state, IsNumbered, NeverFalls, told_pointer}
 use Rattle.dispatch_history.specs.Legal.{Legal, reply, calls_of, run, replay}
 use Rattle.dispatch_history.specs.Plan.{Plan}
 use Rattle.dispatch_history.specs.Ordered.{Ordered, ordered, chosen}
@@ -226,3 +226,11 @@ KeyPlacesLaw =
     (displays : List ℕ) (h : History) (w : ℕ) (k : KeyArgs)
     → Legal displays h
     → (held_key (keys (effects displays h) w) k.device k.scan ≡ Some k) ↔ HoldsKey (effects displays h) w k
+
+-- In a legal history a window holds each key once, and the keys that it holds are down on their devices.
+abbrev pub KeysDownLaw : Type 0
+KeysDownLaw =
+    (displays : List ℕ) (h : History) (w : ℕ)
+    → Legal displays h
+    → AllDiffer (keys (effects displays h) w)
+    × ((d s : ℕ) (k : KeyArgs) → held_key (keys (effects displays h) w) d s ≡ Some k → is_key_down (effects displays h) d s ≡ true)
