@@ -24,3 +24,4 @@ pub mod Agreeing
 pub mod WholeLaws
 pub mod Turns
 pub mod TurnLaws
+pub mod KeyPlaceLaws

@@ -50,6 +50,11 @@ told_repeat d s (m ∷ past) = repeat_after d s m.body (told_repeat d s past)
 abbrev pub held_key : List KeyArgs → ℕ → ℕ → Option KeyArgs
 held_key ks d s = find (is_key d s) ks
 
+-- no two of these keys are the same
+abbrev pub AllDiffer : List KeyArgs → Type 0
+AllDiffer [] = Unit {0}
+AllDiffer (k ∷ ks) = (held_key ks k.device k.scan ≡ None) × AllDiffer ks
+
 -- the next repeat number of a key that is held: one more than that of its last message
 abbrev pub next_repeat : Option KeyArgs → Option KeyMsg → Option ℕ
 next_repeat (Some k) (Some m) = Some (m.repeat + 1)

@@ -1,5 +1,5 @@
 //! What is proved of histories. Each function has the laws as its clauses, and does nothing.
-ghost use Rattle.dispatch_history.specs.Laws.{LegalLast, LegalMore, LegalUnique, ReplayLaw, LegalReplay, EffectsLaw, UnresponsiveStep, AbleStep, OrderedSound, OrderedComplete, OrderedUnique, QueueLaw, DeviceLaw, LiveLaw, StreamStep, SilentLaw, OnePointer, HolderLaw, FitLaw, MotionsLaw, MotionsComeLaw, FocusLaw, FocusComesLaw, KeysLaw, KeysComeLaw, HeldKeyLaw, LastKeyLaw, WholeLaw, WellFormedLaw, RemovedLaw, GoneLaw, NumbersLaw, TurnsLaw, TurnsComeLaw};
+ghost use Rattle.dispatch_history.specs.Laws.{LegalLast, LegalMore, LegalUnique, ReplayLaw, LegalReplay, EffectsLaw, UnresponsiveStep, AbleStep, OrderedSound, OrderedComplete, OrderedUnique, QueueLaw, DeviceLaw, LiveLaw, StreamStep, SilentLaw, OnePointer, HolderLaw, FitLaw, MotionsLaw, MotionsComeLaw, FocusLaw, FocusComesLaw, KeysLaw, KeysComeLaw, HeldKeyLaw, LastKeyLaw, WholeLaw, WellFormedLaw, RemovedLaw, GoneLaw, NumbersLaw, TurnsLaw, TurnsComeLaw, KeyPlacesLaw, KeysDownLaw};
 
 /// A list of calls has exactly one legal history, its replay, and each step of it was answered as the history before it says.
 pub fn legality()
@@ -56,6 +56,13 @@ pub fn keys()
     ensures each { KeysComeLaw }
     ensures held { HeldKeyLaw }
     ensures last { LastKeyLaw }
+{}
+
+/// Who holds a key: some step gave it, and no later one took it. The list that is computed step by step tells exactly this. It has each
+/// key once, and its keys are down on their devices.
+pub fn held_keys()
+    ensures places { KeyPlacesLaw }
+    ensures down { KeysDownLaw }
 {}
 
 /// Every stream is well-formed by the rule of streams, and that of a live channel says what its window holds. Its messages are numbered
