@@ -1,4 +1,6 @@
 pub mod Reading
-pub mod Lines
 pub mod Numbers
 pub mod Examples
+pub mod Parts
+pub mod Telling
+pub mod Steps

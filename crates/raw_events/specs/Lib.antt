@@ -1,3 +1,5 @@
 pub mod Text
 pub mod Line
 pub mod Recording
+pub mod Pieces
+pub mod Kept

@@ -14,8 +14,11 @@
 pub mod codes;
 mod event;
 mod line;
+mod piece;
+mod reader;
 mod recording;
 mod text;
 
 pub use event::{LineError, RawEvent};
+pub use reader::LineReader;
 pub use recording::events_of;

@@ -9,7 +9,7 @@ use crate::text::{
 use input_types::{DeviceId, Moment};
 
 /// The greatest length of a line, a carriage return at its end counted.
-const MAX_LINE: usize = 4096;
+pub(crate) const MAX_LINE: usize = 4096;
 
 /// Type, code and value of an event.
 #[derive(Clone, Copy)]

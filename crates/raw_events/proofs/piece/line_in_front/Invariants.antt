@@ -1,6 +1,6 @@
 use Rattle.std.proofs.Common.{◌≡◌, ◌+◌, drop}
 use Rattle.raw_events.specs.Recording.{line_len}
-use Rattle.raw_events.proofs.recording.line_in_front.Given as goal
+use Rattle.raw_events.proofs.piece.line_in_front.Given as goal
 
 abbrev pub invariant-loop-b : goal.invariant-loop-b
 invariant-loop-b l = record {
