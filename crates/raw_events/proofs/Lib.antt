@@ -4,3 +4,4 @@ pub mod Examples
 pub mod Parts
 pub mod Telling
 pub mod Steps
+pub mod Cuts

@@ -1,8 +1,8 @@
 -- Bytes by their newlines.
-use Rattle.std.proofs.Common.{◌≡◌, ℕ, suc, ◌+◌, ◌<◌, ◌≤◌, ◌==◌, cond, not, List, [], ◌∷◌, ◌++◌, length, take, drop, refl, ap, sym, ◌∙◌, arith, Bool, true, false}
+use Rattle.std.proofs.Common.{◌≡◌, ℕ, suc, ◌+◌, ◌<◌, ◌≤◌, ◌==◌, cond, not, List, [], ◌∷◌, ◌++◌, length, take, drop, refl, ap, ◌∙◌, arith, true, false}
 use Rattle.std.proofs.lemmas.List.{length-append}
 use Rattle.raw_events.specs.Recording.{line_len, lines_of, with_front}
-use Rattle.raw_events.specs.Pieces.{Parts, parts, with_byte}
+use Rattle.raw_events.specs.Pieces.{Parts, parts, with_byte, last_line}
 
 abbrev pub with_line : List ℕ → Parts → Parts
 with_line line p = record { ended = line ∷ p.ended; begun = p.begun }
@@ -88,11 +88,6 @@ both_unended (b ∷ kept) more h k =
     (elim (b == 10) as (λ v. cond (not v) (1 + line_len kept) 0 ≡ suc (length kept) → cond (not v) (1 + line_len (kept ++ more)) 0 ≡ suc (length (kept ++ more)))
     [ true ↦ λ e. absurd (omega arith) | false ↦ λ e. omega (arith, both_unended kept more (omega arith) k) ]) h
 
--- the rest behind the last newline, as a line
-abbrev pub last_line : List ℕ → List (List ℕ)
-last_line [] = []
-last_line (b ∷ bs) = (b ∷ bs) ∷ []
-
 byte_in_front : (b : ℕ) (lines : List (List ℕ)) (begun : List ℕ) → with_front b (lines ++ last_line begun) ≡ (with_byte b lines begun).ended ++ last_line (with_byte b lines begun).begun
 byte_in_front b [] [] = refl
 byte_in_front b [] (c ∷ begun) = refl
@@ -105,3 +100,30 @@ lines_are (b ∷ bs) =
     ≡ (cond v (record { ended = [] ∷ (parts bs).ended; begun = (parts bs).begun }) (with_byte b (parts bs).ended (parts bs).begun)).ended
     ++ last_line (cond v (record { ended = [] ∷ (parts bs).ended; begun = (parts bs).begun }) (with_byte b (parts bs).ended (parts bs).begun)).begun)
     [ true ↦ ap (λ ls. [] ∷ ls) (lines_are bs) | false ↦ rw (lines_are bs) (byte_in_front b (parts bs).ended (parts bs).begun) ]
+
+-- lines of bytes with more behind them
+split_front : (b : ℕ) (lines : List (List ℕ)) (begun rest : List ℕ) → (b == 10) ≡ false → with_front b (lines ++ lines_of (begun ++ rest)) ≡ (with_byte b lines begun).ended ++ lines_of ((with_byte b lines begun).begun ++ rest)
+split_front b [] begun rest k = rw k refl
+split_front b (line ∷ lines) begun rest k = refl
+
+pub lines_split : (bs rest : List ℕ) → lines_of (bs ++ rest) ≡ (parts bs).ended ++ lines_of ((parts bs).begun ++ rest)
+lines_split [] rest = refl
+lines_split (b ∷ bs) rest =
+    (elim (b == 10) as (λ v. (b == 10) ≡ v → cond v ([] ∷ lines_of (bs ++ rest)) (with_front b (lines_of (bs ++ rest)))
+    ≡ (cond v (record { ended = [] ∷ (parts bs).ended; begun = (parts bs).begun }) (with_byte b (parts bs).ended (parts bs).begun)).ended
+    ++ lines_of ((cond v (record { ended = [] ∷ (parts bs).ended; begun = (parts bs).begun }) (with_byte b (parts bs).ended (parts bs).begun)).begun ++ rest)) [
+      | true ↦ λ k. ap (λ ls. [] ∷ ls) (lines_split bs rest)
+      | false ↦ λ k. rw (lines_split bs rest) (split_front b (parts bs).ended (parts bs).begun rest k)
+    ]) refl
+
+first_of : (b : ℕ) (bs : List ℕ) (lines : List (List ℕ)) (begun : List ℕ) (all : List (List ℕ)) → all ≡ (in_front (b ∷ bs) lines begun).ended ++ last_line (in_front (b ∷ bs) lines begun).begun
+    → (line : List ℕ) × (more : List (List ℕ)) × (all ≡ line ∷ more) × (length (b ∷ bs) ≤ length line)
+first_of b bs [] begun all h = ((b ∷ bs) ++ begun, [], h, omega (arith, length-append (b ∷ bs) begun))
+first_of b bs (line ∷ lines) begun all h = ((b ∷ bs) ++ line, lines ++ last_line begun, h, omega (arith, length-append (b ∷ bs) line))
+
+-- the first line of what has begun, with more behind it, is no shorter
+pub begun_line : (bs rest : List ℕ) → line_len bs ≡ length bs → 0 < length bs → (line : List ℕ) × (lines : List (List ℕ)) × (lines_of (bs ++ rest) ≡ line ∷ lines) × (length bs ≤ length line)
+begun_line [] rest h k = absurd (omega arith)
+begun_line (b ∷ bs) rest h k =
+    first_of b bs (parts rest).ended (parts rest).begun (lines_of ((b ∷ bs) ++ rest))
+    (lines_are ((b ∷ bs) ++ rest) ∙ ap (λ p. p.ended ++ last_line p.begun) (parts_kept (b ∷ bs) rest h))

@@ -1,16 +1,15 @@
 -- What a piece gives, from what its lines tell.
-use Rattle.std.proofs.Common.{◌≡◌, ℕ, ◌+◌, ◌<◌, ◌≤◌, List, [], ◌∷◌, ◌++◌, length, take, Result, Ok, Err, refl, ap, sym, ◌∙◌, cond, true, false, arith, lt-ltb, le-ltb}
+use Rattle.std.proofs.Common.{◌≡◌, ℕ, ◌<◌, ◌≤◌, List, ◌∷◌, ◌++◌, length, Result, Ok, Err, refl, ap, sym, ◌∙◌, lt-ltb, le-ltb}
 use Rattle.std.proofs.Math.Seq.{take-length, take-append_seam}
-use Rattle.std.proofs.lemmas.List.{append_assoc, append-nil}
+use Rattle.std.proofs.lemmas.List.{append-nil}
 use Rattle.raw_events.specs.declared.event.RawEvent.{RawEvent}
 use Rattle.raw_events.specs.declared.event.LineError.{LineError}
 use Rattle.raw_events.specs.declared.event.LineError.TheVariants as errors
 use Rattle.raw_events.specs.declared.line.Cause.TheVariants.{TooLong}
-use Rattle.raw_events.specs.declared.line.Line.{Line}
 use Rattle.raw_events.specs.declared.line.Line.TheVariants.{Refused}
 use Rattle.raw_events.specs.Line.{Known, judged}
 use Rattle.raw_events.specs.Recording.{next_number}
-use Rattle.raw_events.specs.Pieces.{Parts, Told, with_told, tell, going_on, Step, from_parts, Place}
+use Rattle.raw_events.specs.Pieces.{Told, tell, going_on, Step, from_parts, Place}
 use Rattle.raw_events.specs.Kept.{behind, TellsLine, TellsLines, ReadsPiece}
 use Rattle.raw_events.proofs.Telling.{begins_both, line_begins}
 

@@ -1,16 +1,15 @@
 -- What lines tell, line by line and piece by piece.
-use Rattle.std.proofs.Common.{◌≡◌, ℕ, ◌+◌, ◌<◌, ◌≤◌, List, [], ◌∷◌, ◌++◌, length, take, drop, Result, Ok, Err, refl, ap, sym, ◌∙◌, arith, true, false}
+use Rattle.std.proofs.Common.{◌≡◌, ℕ, ◌≤◌, List, [], ◌∷◌, ◌++◌, length, take, drop, Ok, Err, ap, sym, ◌∙◌, arith}
 use Rattle.std.proofs.lemmas.List.{append_assoc, append-nil, take-append-le, take-append-drop, length-take}
 use Rattle.raw_events.specs.declared.event.RawEvent.{RawEvent}
 use Rattle.raw_events.specs.declared.event.LineError.{LineError}
 use Rattle.raw_events.specs.declared.event.LineError.TheVariants as errors
 use Rattle.raw_events.specs.declared.line.Line.{Line}
-use Rattle.raw_events.specs.declared.line.Line.TheVariants.{PassedOver, Event, Refused}
+use Rattle.raw_events.specs.declared.line.Line.TheVariants.{Event}
 use Rattle.raw_events.specs.Line.{Known, judged}
-use Rattle.raw_events.specs.Recording.{next_number, refusal}
-use Rattle.raw_events.specs.Pieces.{Parts, Told, with_told, tell, going_on, Step, from_parts, Place}
-use Rattle.raw_events.specs.Kept.{behind, TellsLine, TellsLines, ReadsPiece}
-use Rattle.raw_events.proofs.Parts.{with_line}
+use Rattle.raw_events.specs.Recording.{next_number}
+use Rattle.raw_events.specs.Pieces.{Told, with_told, tell}
+use Rattle.raw_events.specs.Kept.{behind, TellsLine, TellsLines}
 
 -- an event more
 pub told_event : (before : List RawEvent) (event : RawEvent) (n : ℕ) (told : Told) → behind (before ++ event ∷ []) told ≡ behind before (with_told (Event event) n told)

@@ -1,12 +1,11 @@
 -- What a reader keeps between two pieces, and what its parts read.
-use Rattle.std.specs.Prelude.{ℕ, ◌≡◌, ◌<◌, ◌≤◌, List, [], ◌++◌, length, take, Option, Some, None, Result, Ok, Err}
+use Rattle.std.specs.Prelude.{ℕ, ◌≡◌, ◌<◌, ◌≤◌, List, ◌++◌, length, take, Option, Some, None, Result, Ok, Err}
 use Rattle.raw_events.specs.declared.event.RawEvent.{RawEvent}
 use Rattle.raw_events.specs.declared.event.LineError.{LineError}
 use Rattle.raw_events.specs.declared.event.LineError.TheVariants as errors
 use Rattle.raw_events.specs.declared.line.Line.{Line}
-use Rattle.raw_events.specs.Line.{Known}
 use Rattle.raw_events.specs.Recording.{line_len, next_number}
-use Rattle.raw_events.specs.Pieces.{Parts, Told, Place, Step, with_told}
+use Rattle.raw_events.specs.Pieces.{Told, Place, Step, with_told}
 
 -- the bytes of a line that has begun, with room for the longest line
 pub record IsKept (kept : List ℕ) (capacity : ℕ) : Type 0 where

@@ -1,12 +1,12 @@
 -- A recording that comes in pieces: what a piece tells, and what a reader knows between two pieces.
-use Rattle.std.specs.Prelude.{ℕ, ◌==◌, ◌≡◌, nat_lt, if◌then◌else◌, List, [], ◌∷◌, ◌++◌, length, take, Option, Some, None, Result, Ok, Err}
+use Rattle.std.specs.Prelude.{ℕ, ◌==◌, ◌≡◌, nat_lt, if◌then◌else◌, List, [], ◌∷◌, ◌++◌, length, Result, Ok, Err}
 use Rattle.raw_events.specs.declared.event.RawEvent.{RawEvent}
 use Rattle.raw_events.specs.declared.event.LineError.{LineError}
 use Rattle.raw_events.specs.declared.event.LineError.TheVariants as errors
 use Rattle.raw_events.specs.declared.line.Line.{Line}
 use Rattle.raw_events.specs.declared.line.Line.TheVariants.{PassedOver, Event, Refused}
 use Rattle.raw_events.specs.Line.{Known, judged}
-use Rattle.raw_events.specs.Recording.{next_number, refusal}
+use Rattle.raw_events.specs.Recording.{next_number, refusal, lines_of, events_from}
 
 -- bytes by their newlines: the lines that a newline ended, and the line that has begun behind the last newline
 pub record Parts : Type 0 where
@@ -21,6 +21,11 @@ with_byte b (line ∷ lines) begun = record { ended = (b ∷ line) ∷ lines; be
 abbrev pub parts : List ℕ → Parts
 parts [] = record { ended = []; begun = [] }
 parts (b ∷ bs) = if b == 10 then record { ended = [] ∷ (parts bs).ended; begun = (parts bs).begun } else with_byte b (parts bs).ended (parts bs).begun
+
+-- what stands behind the last newline, as a line, where anything does
+abbrev pub last_line : List ℕ → List (List ℕ)
+last_line [] = []
+last_line (b ∷ bs) = (b ∷ bs) ∷ []
 
 -- what lines tell: the events up to the first refused line, and its refusal, or the number of the line behind them
 pub record Told : Type 0 where
@@ -90,3 +95,16 @@ answered (Ok at) = Ok tt
 abbrev pub Does : Result (Unit {0}) LineError → Step → Reader → Reader → List RawEvent → List RawEvent → Type 0
 Does (Err errors.Memory) step old new before after = (new ≡ old) × (after ≡ before)
 Does answer step old new before after = (answer ≡ answered step.place) × (new ≡ record { devices = old.devices; place = step.place }) × (after ≡ before ++ step.events)
+
+-- events in front of those of a recording, where no line of it is refused
+abbrev pub with_events : List RawEvent → Result (List RawEvent) LineError → Result (List RawEvent) LineError
+with_events front (Ok events) = Ok (front ++ events)
+with_events front (Err error) = Err error
+
+-- what a reader still gives where these bytes come, and then the end
+abbrev pub still_at : Known → Place → List ℕ → Result (List RawEvent) LineError
+still_at devices (Err error) bytes = Err error
+still_at devices (Ok at) bytes = events_from devices at.0 (lines_of (at.1 ++ bytes))
+
+abbrev pub still : Reader → List ℕ → Result (List RawEvent) LineError
+still reader bytes = still_at reader.devices reader.place bytes

@@ -3,7 +3,7 @@ ghost use Rattle.std.specs.Prelude.{◌≡◌, ℕ, ◌<◌, ◌≤◌, length, 
 ghost use Rattle.std.specs.Result.{result_map_both};
 ghost use Rattle.raw_events.specs.Line.{known, judged};
 ghost use Rattle.raw_events.specs.Recording.{line_len, refusal};
-ghost use Rattle.raw_events.specs.Pieces.{parts, tell, from_parts};
+ghost use Rattle.raw_events.specs.Pieces.{parts, last_line, tell, from_parts};
 ghost use Rattle.raw_events.specs.Kept.{IsKept, TellsLine, TellsLines, ReadsPiece, Keeps};
 
 use crate::event::{LineError, RawEvent};
@@ -86,6 +86,22 @@ pub(crate) fn read_lines<'a>(
         rest = after;
     }
     Ok((number, rest))
+}
+
+/// Appends the event of what stands behind the last newline, where anything does.
+pub(crate) fn tell_last(
+    devices: &[(String, DeviceId)],
+    number: u64,
+    last: &[u8],
+    events: &mut Vec<RawEvent>,
+) -> Result<u64, LineError>
+    ensures { TellsLines result (tell (known devices.now) number (last_line last.now)) events.old.items events.new.items }
+{
+    if last.is_empty() {
+        return Ok(number);
+    }
+    let line = judge(devices, last);
+    tell_line(&line, number, events)
 }
 
 /// Reads a piece behind the line that has begun, of which `kept` has the bytes, and answers the number of the line that

@@ -1,10 +1,11 @@
 //! The events of a whole recording.
+ghost use Rattle.std.specs.List.{flat_map};
 ghost use Rattle.raw_events.specs.Line.{known};
 ghost use Rattle.raw_events.specs.Recording.{recorded, Answers};
 
 use crate::event::{LineError, RawEvent};
-use crate::line::judge;
-use crate::piece::{read_lines, tell_line};
+use crate::piece::{read_lines, tell_last};
+use crate::reader::LineReader;
 use input_types::DeviceId;
 use std::alloc::Global;
 
@@ -23,9 +24,25 @@ pub fn events_of(
 {
     let mut events = Vec::new(alloc);
     let (number, last) = read_lines(devices, 1, bytes, &mut events)?;
-    if !last.is_empty() {
-        tell_line(&judge(devices, last), number, &mut events)?;
+    tell_last(devices, number, last, &mut events)?;
+    Ok(events)
+}
+
+/// The events of a recording that comes in these pieces, of the devices of a session with their paths.
+///
+/// How it was cut makes no difference: the answer is that of all bytes in one piece.
+pub fn read_pieces(
+    paths: Vec<(String, DeviceId)>,
+    pieces: &[Vec<u8>],
+) -> Result<Vec<RawEvent>, LineError>
+    ensures { Answers result (recorded (known paths.items) (flat_map (λ piece. piece.items) pieces.now)) }
+{
+    let mut events = Vec::new(*paths.allocator());
+    let mut reader = LineReader::new(paths)?;
+    for piece in pieces {
+        reader.feed(piece, &mut events)?;
     }
+    reader.finish(&mut events)?;
     Ok(events)
 }
 

@@ -1,4 +1,4 @@
-use Rattle.std.proofs.Common.{◌≡◌, arith}
+use Rattle.std.proofs.Common.{arith}
 use Rattle.raw_events.proofs.Parts.{both_unended}
 use Rattle.raw_events.proofs.piece.keep.Goals as goal
 

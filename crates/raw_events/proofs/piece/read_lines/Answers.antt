@@ -1,10 +1,9 @@
-use Rattle.std.proofs.Common.{◌≡◌, ◌∷◌, ◌∙◌, refl, sym, ap, Ok}
+use Rattle.std.proofs.Common.{◌∙◌, refl, sym, ap, Ok}
 use Rattle.std.proofs.lemmas.Result.{err_from_is_err_and}
 use Rattle.std.proofs.Math.Seq.{take-length}
 use Rattle.std.proofs.lemmas.List.{append-nil}
 use Rattle.raw_events.specs.Line.{known}
-use Rattle.raw_events.specs.Pieces.{parts, tell}
-use Rattle.raw_events.specs.Kept.{behind}
+use Rattle.raw_events.specs.Pieces.{parts}
 use Rattle.raw_events.proofs.Telling.{line_told, line_stopped, line_begins}
 use Rattle.raw_events.proofs.piece.read_lines.Goals as goal
 

@@ -1,4 +1,4 @@
-use Rattle.std.proofs.Common.{◌≡◌, map, length, string_bytes, take}
+use Rattle.std.proofs.Common.{◌≡◌, length, take}
 use Rattle.raw_events.specs.Line.{known}
 use Rattle.raw_events.specs.Pieces.{parts, tell}
 use Rattle.raw_events.specs.Kept.{behind}

@@ -1,8 +1,8 @@
-use Rattle.std.proofs.Common.{◌≡◌, ◌∷◌, ◌++◌, [], ◌<◌, ◌≤◌, length, ap, sym, ◌∙◌, arith, Ok, Err}
+use Rattle.std.proofs.Common.{◌≡◌, ◌++◌, sym}
 use Rattle.std.proofs.lemmas.List.{append-nil}
 use Rattle.std.proofs.lemmas.Result.{err_from_is_err_and}
 use Rattle.raw_events.specs.Line.{known, judged}
-use Rattle.raw_events.specs.Pieces.{parts, tell}
+use Rattle.raw_events.specs.Pieces.{parts}
 use Rattle.raw_events.proofs.Parts.{kept_line, kept_begun}
 use Rattle.raw_events.proofs.Steps.{ended_too_long, ended_stopped, behind_line, going_on_long, going_on_short}
 use Rattle.raw_events.proofs.piece.read_piece.Goals as goal
