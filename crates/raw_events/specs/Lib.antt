@@ -3,3 +3,4 @@ pub mod Line
 pub mod Recording
 pub mod Pieces
 pub mod Kept
+pub mod Front

@@ -12,12 +12,15 @@
 #![tactic(auto)]
 
 pub mod codes;
+mod digits;
 mod event;
+mod front;
 mod line;
 mod piece;
 mod reader;
 mod recording;
 mod text;
+mod usual;
 
 pub use event::{LineError, RawEvent};
 pub use reader::LineReader;

@@ -9,6 +9,7 @@ ghost use Rattle.raw_events.specs.Kept.{IsKept, TellsLine, TellsLines, ReadsPiec
 use crate::event::{LineError, RawEvent};
 use crate::line::{Cause, Line, MAX_LINE, judge};
 use input_types::DeviceId;
+use memchr::memchr;
 
 /// How many bytes stand before the first newline.
 #[inline(always)]
@@ -16,14 +17,10 @@ fn line_in_front(bytes: &[u8]) -> usize
     ensures value { result ≡ line_len bytes.now }
     ensures within { result ≤ length bytes.now }
 {
-    let mut count = 0;
-    for b in bytes {
-        if *b == b'\n' {
-            return count;
-        }
-        count += 1;
+    match memchr(b'\n', bytes) {
+        Some(place) => place,
+        None => bytes.len(),
     }
-    count
 }
 
 /// The bytes up to the first newline, and those behind it; None where there is no newline.

@@ -1,0 +1,11 @@
+use Rattle.std.proofs.Common.{◌≡◌, ℕ, ◌<◌, ◌≤◌, ◌==◌, not, length, get_or, sym, true, false, arith}
+use Rattle.std.proofs.lemmas.List.Sums.{prefix_len_is}
+use Rattle.std.proofs.lemmas.List.{get_or_default}
+use Rattle.raw_events.proofs.Newlines.{before_newline, no_newline}
+use Rattle.raw_events.proofs.piece.line_in_front.Goals as goal
+
+pub returns-in-Some-clause-value : goal.returns-in-Some-clause-value
+returns-in-Some-clause-value c = before_newline c.args.bytes.now c.in-Some.place c.in-Some.ensures
+
+pub returns-in-None-clause-value : goal.returns-in-None-clause-value
+returns-in-None-clause-value c = no_newline c.args.bytes.now c.in-None.ensures
