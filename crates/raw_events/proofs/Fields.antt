@@ -1,5 +1,5 @@
 -- Type, code and value, written as usual.
-use Rattle.std.proofs.Common.{◌≡◌, ℕ, ◌+◌, ◌*◌, ◌<◌, ◌==◌, ◌||◌, ◌&&◌, cond, not, List, [], ◌∷◌, ◌++◌, length, Option, Some, None, refl, ap, sym, ◌∙◌, arith, Bool, true, false, eqb-true, inl, inr}
+use Rattle.std.proofs.Common.{◌≡◌, ℕ, ◌+◌, ◌*◌, ◌==◌, cond, List, [], ◌∷◌, length, Some, None, refl, sym, ◌∙◌, arith, true, false, eqb-true, inl, inr}
 use Rattle.std.specs.Prelude.{slice_index}
 use Rattle.std.specs.Char.{is_digit}
 use Rattle.std.specs.Int.{cast_signed, w32}
@@ -7,8 +7,7 @@ use Rattle.std.specs.List.{list_all}
 use Rattle.std.specs.Str.Parse.{digits_value}
 use Rattle.std.proofs.lemmas.Bool.{and_parts, or_cases}
 use Rattle.std.proofs.lemmas.List.Folds.{list_all-append}
-use Rattle.raw_events.specs.declared.line.Fields.{Fields}
-use Rattle.raw_events.specs.Text.{◌>>=◌, is_blank, number, number_at}
+use Rattle.raw_events.specs.Text.{is_blank, number, number_at}
 use Rattle.raw_events.specs.Line.{fields_of}
 use Rattle.raw_events.specs.Front.{plain}
 

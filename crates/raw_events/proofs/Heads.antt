@@ -1,13 +1,10 @@
 -- What was read stays read, whatever stands behind it.
-use Rattle.std.proofs.Common.{◌≡◌, ℕ, ◌+◌, ◌-◌, ◌*◌, ◌<◌, ◌≤◌, ◌==◌, ◌||◌, ◌&&◌, cond, not, suc, List, [], ◌∷◌, ◌++◌, length, take, drop, Option, Some, None, refl, ap, sym, ◌∙◌, arith, Bool, true, false, ltb, ltb-true, ltb-false, le-ltb, eqb-true, add-zero}
+use Rattle.std.proofs.Common.{◌≡◌, ℕ, ◌+◌, ◌-◌, ◌<◌, ◌≤◌, ◌==◌, ◌||◌, cond, not, suc, List, [], ◌∷◌, ◌++◌, length, take, drop, Option, Some, None, refl, ap, ◌∙◌, arith, Bool, true, false, ltb, ltb-false, le-ltb, eqb-true}
 use Rattle.std.specs.Prelude.{option_map, is_some}
 use Rattle.std.specs.Char.{is_digit}
-use Rattle.std.specs.List.{prefix_len, list_all}
+use Rattle.std.specs.List.{prefix_len}
 use Rattle.std.specs.Str.{byte}
-use Rattle.std.specs.Str.Parse.{digits_value}
-use Rattle.std.proofs.lemmas.Bool.{and_parts}
 use Rattle.std.proofs.lemmas.List.{take-append-le, drop-append-le, length-append, length-drop}
-use Rattle.std.proofs.lemmas.List.Folds.{list_all-append}
 use Rattle.input_types.specs.declared.number.DeviceId.{DeviceId}
 use Rattle.raw_events.specs.declared.line.Fields.{Fields}
 use Rattle.raw_events.specs.Text.{◌>>=◌, is_blank, skip_blanks, after_blanks, after_byte, ends_in, number, number_at, word_len}

@@ -1,5 +1,5 @@
 -- The front of a line, from its first bracket up to its type, and what it says whatever stands behind it.
-use Rattle.std.specs.Prelude.{ℕ, ◌≡◌, Bool, true, not, List, [], ◌∷◌, ◌++◌, Option, Some, None}
+use Rattle.std.specs.Prelude.{ℕ, ◌≡◌, Bool, true, not, List, [], ◌∷◌, ◌++◌, Option, Some}
 use Rattle.std.specs.Str.{byte}
 use Rattle.input_types.specs.declared.number.DeviceId.{DeviceId}
 use Rattle.raw_events.specs.Text.{is_blank, after_blanks}

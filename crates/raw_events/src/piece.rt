@@ -7,7 +7,8 @@ ghost use Rattle.raw_events.specs.Pieces.{parts, last_line, tell, from_parts};
 ghost use Rattle.raw_events.specs.Kept.{IsKept, TellsLine, TellsLines, ReadsPiece, Keeps};
 
 use crate::event::{LineError, RawEvent};
-use crate::line::{Cause, Line, MAX_LINE, judge};
+use crate::front::Front;
+use crate::line::{Cause, Line, MAX_LINE, judge, judge_next};
 use input_types::DeviceId;
 use memchr::memchr;
 
@@ -78,8 +79,11 @@ pub(crate) fn read_lines<'a>(
 {
     let mut number = number;
     let mut rest = bytes;
+    let mut front: Option<Front> = None;
     'lines: while let Some((line, after)) = next_line(rest) {
-        number = tell_line(&judge(devices, line), number, events)?;
+        let (said, next) = judge_next(devices, &front, line);
+        number = tell_line(&said, number, events)?;
+        front = next;
         rest = after;
     }
     Ok((number, rest))

@@ -1,4 +1,4 @@
-use Rattle.std.proofs.Common.{◌≡◌, [], List, ℕ, Option, Some, None, length, sym, ◌∙◌, refl, true, eqb-true}
+use Rattle.std.proofs.Common.{◌≡◌, [], Option, Some, None, length, sym, ◌∙◌, refl, eqb-true}
 use Rattle.std.specs.Prelude.{option_map, is_some}
 use Rattle.std.proofs.lemmas.List.{nil_from_length}
 use Rattle.raw_events.specs.Line.{known}

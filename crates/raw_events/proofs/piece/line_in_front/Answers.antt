@@ -1,6 +1,3 @@
-use Rattle.std.proofs.Common.{◌≡◌, ℕ, ◌<◌, ◌≤◌, ◌==◌, not, length, get_or, sym, true, false, arith}
-use Rattle.std.proofs.lemmas.List.Sums.{prefix_len_is}
-use Rattle.std.proofs.lemmas.List.{get_or_default}
 use Rattle.raw_events.proofs.Newlines.{before_newline, no_newline}
 use Rattle.raw_events.proofs.piece.line_in_front.Goals as goal
 

@@ -1,4 +1,4 @@
-use Rattle.std.proofs.Common.{◌≡◌, sym, ◌∙◌, ap, Some}
+use Rattle.std.proofs.Common.{sym, ◌∙◌, ap, Some}
 use Rattle.raw_events.proofs.Fields.{usual_says, usual_plain}
 use Rattle.raw_events.proofs.usual.usual_fields.Goals as goal
 
