@@ -111,11 +111,7 @@ fn read_fields(bytes: &[u8]) -> Option<Fields>
     if !trim_blanks(rest).is_empty() {
         return None;
     }
-    Some(Fields {
-        kind: kind as u16,
-        code: code as u16,
-        value: value.cast_signed(),
-    })
+    Some(fields_from(kind, code, value))
 }
 
 /// The device at a path, the first one where two have it.

@@ -28,8 +28,10 @@ fn line_in_front(bytes: &[u8]) -> usize
 #[inline(always)]
 fn next_line(bytes: &[u8]) -> Option<(&[u8], &[u8])>
     ensures parts { MatchOption result (parts bytes.now ≡ record { ended = []; begun = bytes.now })
-        (λ cut. parts bytes.now ≡ record { ended = cut.0.now ∷ (parts cut.1.now).ended; begun = (parts cut.1.now).begun }) }
-    ensures unended { MatchOption result (line_len bytes.now ≡ length bytes.now) (λ cut. line_len cut.0.now ≡ length cut.0.now) }
+        (λ cut. parts bytes.now
+        ≡ record { ended = cut.0.now ∷ (parts cut.1.now).ended; begun = (parts cut.1.now).begun }) }
+    ensures unended { MatchOption result (line_len bytes.now ≡ length bytes.now)
+        (λ cut. line_len cut.0.now ≡ length cut.0.now) }
     ensures shorter { IfSome result (λ cut. length cut.1.now < length bytes.now) }
 {
     let (line, rest) = bytes.split_at(line_in_front(bytes));
@@ -67,14 +69,16 @@ pub(crate) fn tell_line(
     Ok(number.saturating_add(1))
 }
 
-/// Appends the events of the lines that end in these bytes, and answers the number of the line behind them with its bytes.
+/// Appends the events of the lines that end in these bytes, and answers the number of the line behind them with its
+/// bytes.
 pub(crate) fn read_lines<'a>(
     devices: &[(String, DeviceId)],
     number: u64,
     bytes: &'a [u8],
     events: &mut Vec<RawEvent>,
 ) -> Result<(u64, &'a [u8]), LineError>
-    ensures told { TellsLines (result_map_both (λ r. r.0) (λ e. e) result) (tell (known devices.now) number (parts bytes.now).ended) events.old.items events.new.items }
+    ensures told { TellsLines (result_map_both (λ r. r.0) (λ e. e) result)
+        (tell (known devices.now) number (parts bytes.now).ended) events.old.items events.new.items }
     ensures begun { IfOk result (λ r. r.1.now ≡ (parts bytes.now).begun) }
 {
     let mut number = number;
@@ -96,7 +100,8 @@ pub(crate) fn tell_last(
     last: &[u8],
     events: &mut Vec<RawEvent>,
 ) -> Result<u64, LineError>
-    ensures { TellsLines result (tell (known devices.now) number (last_line last.now)) events.old.items events.new.items }
+    ensures { TellsLines result (tell (known devices.now) number (last_line last.now))
+        events.old.items events.new.items }
 {
     if last.is_empty() {
         return Ok(number);
@@ -116,7 +121,8 @@ pub(crate) fn read_piece(
 ) -> Result<u64, LineError>
     requires { IsKept kept.old.items (vec_capacity kept.old) }
     ensures kept { IsKept kept.new.items (vec_capacity kept.new) }
-    ensures read { ReadsPiece result (from_parts (known devices.now) number (parts (kept.old.items ++ piece.now))) events.old.items events.new.items kept.old.items kept.new.items }
+    ensures read { ReadsPiece result (from_parts (known devices.now) number (parts (kept.old.items ++ piece.now)))
+        events.old.items events.new.items kept.old.items kept.new.items }
 {
     if kept.is_empty() {
         return read_fresh(devices, kept, number, piece, events);
@@ -145,7 +151,8 @@ fn read_fresh(
 ) -> Result<u64, LineError>
     requires { IsKept kept.old.items (vec_capacity kept.old) }
     ensures kept { IsKept kept.new.items (vec_capacity kept.new) }
-    ensures read { ReadsPiece result (from_parts (known devices.now) number (parts bytes.now)) events.old.items events.new.items kept.old.items kept.new.items }
+    ensures read { ReadsPiece result (from_parts (known devices.now) number (parts bytes.now))
+        events.old.items events.new.items kept.old.items kept.new.items }
 {
     let (number, begun) = read_lines(devices, number, bytes, events)?;
     kept.clear();

@@ -12,8 +12,8 @@ use std::marker::Model;
 
 /// Reads a recording in pieces of any length, for the devices of a session with their paths.
 ///
-/// A clause sees the devices, and where the reader stands: at the number of the line that has begun with the bytes of it,
-/// or at the refusal of a line. How the bytes were cut makes no difference.
+/// A clause sees the devices, and where the reader stands: at the number of the line that has begun with the bytes of
+/// it, or at the refusal of a line. How the bytes were cut makes no difference.
 #[derive(Drop)]
 pub struct LineReader {
     devices: Vec<(String, DeviceId)>,
@@ -51,9 +51,9 @@ impl LineReader {
         })
     }
 
-    /// Appends the events of the lines that end in this piece. A line is refused at its newline, or at its 4,097th byte;
-    /// events of the lines before it stand in `out`, and each later call answers the same refusal. After want of memory
-    /// the reader and `out` are as before.
+    /// Appends the events of the lines that end in this piece. A line is refused at its newline, or at its 4,097th
+    /// byte; events of the lines before it stand in `out`, and each later call answers the same refusal. After want of
+    /// memory the reader and `out` are as before.
     pub fn feed(&mut self, piece: &[u8], out: &mut Vec<RawEvent>) -> Result<(), LineError>
         ensures { Does result (fed self.old piece.now) self.old self.new out.old.items out.new.items }
     {
