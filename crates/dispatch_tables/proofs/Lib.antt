@@ -1,2 +1,4 @@
 pub mod Numbering
 pub mod Waiting
+pub mod Parts
+pub mod Stepping

@@ -40,7 +40,7 @@ waiting-same done f g n p (m ∷ ms) h le same =
     first false e r = r
 
 -- one more is done
-waiting-without : (done : ℕ → Bool) (at : ℕ → ℕ) (seq : ℕ) (ms : List Message)
+pub waiting-without : (done : ℕ → Bool) (at : ℕ → ℕ) (seq : ℕ) (ms : List Message)
     → waiting (λ k. (seq == k) || done k) at ms ≡ without seq (waiting done at ms)
 waiting-without done at seq [] = refl
 waiting-without done at seq (m ∷ ms) =
