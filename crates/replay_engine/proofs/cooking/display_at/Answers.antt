@@ -1,0 +1,7 @@
+-- A display of a plan is one of its list.
+use Rattle.std.proofs.lemmas.List.Elements.{All-get_or}
+use Rattle.session_plan.specs.Valid.{IsDisplay}
+use Rattle.replay_engine.proofs.cooking.display_at.Goals as goal
+
+pub returns-clause-valid : goal.returns-clause-valid
+returns-clause-valid c = ?
