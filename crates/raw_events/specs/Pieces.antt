@@ -18,6 +18,7 @@ abbrev pub with_byte : ℕ → List (List ℕ) → List ℕ → Parts
 with_byte b [] begun = record { ended = []; begun = b ∷ begun }
 with_byte b (line ∷ lines) begun = record { ended = (b ∷ line) ∷ lines; begun = begun }
 
+-- these bytes by their newlines
 abbrev pub parts : List ℕ → Parts
 parts [] = record { ended = []; begun = [] }
 parts (b ∷ bs) = if b == 10 then record { ended = [] ∷ (parts bs).ended; begun = (parts bs).begun } else with_byte b (parts bs).ended (parts bs).begun
@@ -62,9 +63,11 @@ pub record Step : Type 0 where
   pub events : List RawEvent
   pub place : Place
 
+-- what the line n gives, which has begun, and the lines behind it, where their bytes have these parts
 abbrev pub from_parts : Known → ℕ → Parts → Step
 from_parts devices n p = record { events = (tell devices n p.ended).events; place = going_on (tell devices n p.ended).next p.begun }
 
+-- what a piece gives behind the bytes of the line that has begun, and nothing where a line was refused
 abbrev pub fed_at : Known → Place → List ℕ → Step
 fed_at devices (Err error) piece = record { events = []; place = Err error }
 fed_at devices (Ok at) piece = from_parts devices at.0 (parts (at.1 ++ piece))

@@ -1,6 +1,6 @@
 //! The front of a line, from its first bracket up to its type. Lines that follow one another mostly have the same one,
 //! so that it is read once for many lines.
-ghost use Rattle.std.specs.Prelude.{◌≡◌, ◌<◌, Option, IfSome, IsTrue};
+ghost use Rattle.std.specs.Prelude.{◌≡◌, IfSome, IsTrue};
 ghost use Rattle.raw_events.specs.Line.{known, sent, judged_text};
 ghost use Rattle.raw_events.specs.Front.{TimeSays, PathSays, FrontSays};
 

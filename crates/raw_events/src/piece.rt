@@ -1,5 +1,5 @@
 //! What a piece of a recording tells.
-ghost use Rattle.std.specs.Prelude.{◌≡◌, ℕ, ◌<◌, ◌≤◌, length, ◌∷◌, ◌++◌, [], IfOk, IfSome, MatchOption, take, vec_capacity};
+ghost use Rattle.std.specs.Prelude.{◌≡◌, ◌<◌, ◌≤◌, length, ◌∷◌, ◌++◌, [], IfOk, IfSome, MatchOption, vec_capacity};
 ghost use Rattle.std.specs.Result.{result_map_both};
 ghost use Rattle.raw_events.specs.Line.{known, judged};
 ghost use Rattle.raw_events.specs.Recording.{line_len, refusal};

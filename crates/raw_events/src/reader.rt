@@ -1,5 +1,5 @@
 //! A recording that comes in pieces.
-ghost use Rattle.std.specs.Prelude.{◌≡◌, ◌≤◌, length, IfOk, IfSome, Ok, []};
+ghost use Rattle.std.specs.Prelude.{◌≡◌, IfOk, []};
 ghost use Rattle.raw_events.specs.Line.{known};
 ghost use Rattle.raw_events.specs.Pieces.{fed, finished, Does};
 
@@ -7,7 +7,7 @@ use crate::event::{LineError, RawEvent};
 use crate::line::MAX_LINE;
 use crate::piece::read_piece;
 use input_types::DeviceId;
-use std::alloc::{AllocError, Global};
+use std::alloc::AllocError;
 use std::marker::Model;
 
 /// Reads a recording in pieces of any length, for the devices of a session with their paths.

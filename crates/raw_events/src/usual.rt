@@ -1,5 +1,5 @@
 //! Type, code and value as every recorder writes them: 18 bytes, with one space between them.
-ghost use Rattle.std.specs.Prelude.{◌≡◌, ◌∷◌, [], true, ◌<◌, ◌^◌, IfSome, option_map};
+ghost use Rattle.std.specs.Prelude.{◌≡◌, ◌∷◌, [], true, ◌<◌, ◌^◌, IfSome};
 ghost use Rattle.raw_events.specs.Text.{number};
 ghost use Rattle.raw_events.specs.Line.{fields_of};
 ghost use Rattle.raw_events.specs.Front.{plain};

@@ -1,6 +1,6 @@
 //! A list of rectangles, and the points that lie in some of them.
 
-ghost use Rattle.std.specs.Prelude.{◌≡◌, ◌≤◌, length, IfOk, Ok, None};
+ghost use Rattle.std.specs.Prelude.{◌≡◌, ◌≤◌, length, IfOk};
 ghost use Rattle.touch_region.specs.declared.region.RegionError.TheVariants.{Memory};
 
 use crate::band::{Band, bands_hold, bands_of, copy_bands};
