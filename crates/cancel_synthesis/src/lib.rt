@@ -11,7 +11,7 @@
 //! flag, with the code and the meta bits of its last message.
 //!
 //! An [`InputState`] tracks what one window is told. The cancels are made from it alone and change nothing; once they are tracked too,
-//! what they end is gone ([`laws`]).
+//! what they end is gone ([`laws`]). What the rules of routing tell a window at a step, tracked, leaves just what it holds then.
 #![tactic(auto)]
 
 mod keys;
