@@ -4,3 +4,4 @@ pub mod Parts
 pub mod Stepping
 pub mod Lawfuls
 pub mod Channels
+pub mod Kept
