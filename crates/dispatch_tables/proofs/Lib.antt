@@ -5,3 +5,5 @@ pub mod Stepping
 pub mod Lawfuls
 pub mod Channels
 pub mod Kept
+pub mod Unopened
+pub mod Answering

@@ -1,18 +1,21 @@
 -- What is proved of what is kept. Each law is the clause of a function of its own.
-use Rattle.std.specs.Prelude.{◌≡◌, ℕ, ◌-◌, ◌<◌, ◌≤◌, max, List, [], length, reverse}
+use Rattle.std.specs.Prelude.{◌≡◌, ℕ, ◌-◌, ◌<◌, ◌≤◌, max, false, not, ◌&&◌, nat_le, List, [], length, reverse, Option, Some, None, option_map, if◌then◌else◌}
 use Rattle.input_types.specs.declared.message.Body.{Body}
 use Rattle.dispatch_calls.specs.declared.call.Call.{Call}
 use Rattle.dispatch_calls.specs.declared.reply.Reply.{Reply}
+use Rattle.dispatch_calls.specs.declared.reply.Reply.TheVariants.{Done, Gone, UnknownSeq}
 use Rattle.input_channel.specs.Order.{NoneAfter}
-use Rattle.input_channel.specs.State.{IsChannel, sent, publishable, published_at, let_go_of, with_spare, opened_with}
-use Rattle.dispatch_history.specs.History.{History, clock, opened, received}
+use Rattle.input_channel.specs.State.{IsChannel, sent, publishable, published_at, next_of, may_finish, oldest_of, let_go_of, with_spare, opened_with}
+use Rattle.input_channel.specs.State.{has_late as late_at}
+use Rattle.dispatch_history.specs.History.{History, clock, live, opened, received}
 use Rattle.dispatch_history.specs.Effect.{Effect, past_of, stream}
 use Rattle.dispatch_history.specs.Effects.{effects, step, said_at}
-use Rattle.dispatch_history.specs.Delivery.{published}
+use Rattle.dispatch_history.specs.Delivery.{published, delivery, has_late, oldest}
+use Rattle.dispatch_history.specs.Due.{counts}
 use Rattle.dispatch_history.specs.Legal.{Legal}
-use Rattle.dispatch_history.specs.Reply.{reply_to}
+use Rattle.dispatch_history.specs.Reply.{reply_to, receive_reply, finish_reply, got_reply}
 use Rattle.dispatch_tables.specs.Lawful.{Lawful}
-use Rattle.dispatch_tables.specs.Channel.{channel_at, part_of, Untouched, with_part, enqueued_all, NumberedFrom}
+use Rattle.dispatch_tables.specs.Channel.{channel_at, part_of, Untouched, with_part, enqueued_all, NumberedFrom, counts_of}
 
 -- The effects of a legal history are lawful, and so are none.
 abbrev pub LawfulEffects : Type 0
@@ -76,6 +79,15 @@ QuietLaw =
     → part_of call answer c ≡ Untouched
     → channel_at (step displays call answer es) c gone spare ≡ channel_at es c gone spare
 
+-- So is a channel that is not live after a step.
+abbrev pub NotLiveLaw : Type 0
+NotLiveLaw =
+    (displays : List ℕ) (call : Call) (answer : Reply) (es : List Effect) (c gone spare : ℕ)
+    → Lawful displays (step displays call answer es)
+    → gone ≤ received (past_of es) c
+    → live (past_of (step displays call answer es)) c ≡ false
+    → channel_at (step displays call answer es) c gone spare ≡ channel_at es c gone spare
+
 -- Messages that were received may be let go, and a channel may have more room.
 abbrev pub LetGoLaw : Type 0
 LetGoLaw =
@@ -85,8 +97,42 @@ LetGoLaw =
     → (let_go_of (channel_at es c gone spare) ≡ channel_at es c (received (past_of es) c) spare)
     × ((n : ℕ) → with_spare n (channel_at es c gone spare) ≡ channel_at es c gone (max n spare))
 
--- A channel that was never opened is told nothing, and would be kept as one without messages.
+-- Of a channel that was never opened nothing is known: a step that opens it begins with one without messages.
 abbrev pub UnopenedLaw : Type 0
 UnopenedLaw =
     (displays : List ℕ) (es : List Effect) (c : ℕ)
     → Lawful displays es → opened (past_of es) < c → channel_at es c 0 0 ≡ opened_with 0
+
+-- The owner of a live channel gets the next message of what is kept, where there is one.
+abbrev pub ReceiveLaw : Type 0
+ReceiveLaw =
+    (displays : List ℕ) (es : List Effect) (c gone spare : ℕ)
+    → Lawful displays es
+    → gone ≤ received (past_of es) c
+    → receive_reply es c ≡ (if not (live (past_of es) c) then Gone else got_reply (next_of (channel_at es c gone spare)))
+
+-- A message of a live channel can be finished where what is kept says so.
+abbrev pub FinishLaw : Type 0
+FinishLaw =
+    (displays : List ℕ) (es : List Effect) (c gone spare seq : ℕ)
+    → Lawful displays es
+    → finish_reply es c seq ≡ (if not (live (past_of es) c) then Gone else if may_finish seq (channel_at es c gone spare) then Done else UnknownSeq)
+
+-- The oldest unfinished message of what is kept is that of the history, with its delivery.
+abbrev pub OldestLaw : Type 0
+OldestLaw =
+    (es : List Effect) (c gone spare : ℕ)
+    → oldest_of (channel_at es c gone spare) ≡ option_map (λ m. (m.seq, delivery es c m.seq)) (oldest es c)
+
+-- At the clock of a history some message is late by what is kept where one is by the history.
+abbrev pub LateLaw : Type 0
+LateLaw = (es : List Effect) (c gone spare : ℕ) → late_at (clock (past_of es)) (channel_at es c gone spare) ≡ has_late es c
+
+-- The counts of a channel that was opened are those of what is kept.
+abbrev pub CountsLaw : Type 0
+CountsLaw =
+    (displays : List ℕ) (es : List Effect) (c gone spare : ℕ)
+    → Lawful displays es
+    → gone ≤ received (past_of es) c
+    → counts es c
+    ≡ (if nat_le 1 c && nat_le c (opened (past_of es)) then Some (counts_of (live (past_of es) c) (channel_at es c gone spare)) else None)
