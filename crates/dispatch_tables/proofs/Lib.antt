@@ -7,3 +7,4 @@ pub mod Channels
 pub mod Kept
 pub mod Unopened
 pub mod Answering
+pub mod Masking
