@@ -1,0 +1,4 @@
+pub mod KeyPlaces
+pub mod PointerEnds
+pub mod KeyEnds
+pub mod Examples
