@@ -1,0 +1,2 @@
+pub mod Focused
+pub mod Laws
