@@ -1,5 +1,5 @@
 -- What is proved of what is kept of the focus, of keys and of repeats. Each law is the clause of a function of its own.
-use Rattle.std.specs.Prelude.{◌≡◌, ◌<◌, ℕ, true, false, List, Option, ◌&&◌, bit_and, slice_set}
+use Rattle.std.specs.Prelude.{◌≡◌, ◌<◌, ℕ, true, false, List, [], Option, ◌&&◌, bit_and, slice_set}
 use Rattle.window_snapshot.specs.Mask.{is_channel, mask_has}
 use Rattle.window_snapshot.specs.Named.{is_focusable_on}
 use Rattle.focus_resolver.specs.Resolver.{FocusState, focus_of, target_of, is_focused}
@@ -11,6 +11,11 @@ use Rattle.dispatch_history.specs.History.{History, live, snapshot}
 use Rattle.dispatch_history.specs.Focus.{focus, has_focus, key_target, may_focus, focus_told}
 use Rattle.dispatch_history.specs.Effect.{Effect, past_of}
 use Rattle.dispatch_history.specs.Effects.{step}
+use Rattle.dispatch_history.specs.Focus.{is_target}
+use Rattle.dispatch_history.specs.Delivery.{able}
+use Rattle.dispatch_history.specs.Keys.{keys}
+use Rattle.dispatch_tables.specs.Lawful.{Lawful}
+use Rattle.key_tables.specs.Held.{Rising, KeysAre}
 use Rattle.key_tables.specs.Focused.{FocusIs, MasksAre, is_request, leaves_focus, change_told}
 
 -- What is kept of the focus says which channel has the focus of each display, which channels are focused, and where keys go.
@@ -66,3 +71,12 @@ FocusTold =
     → IsOnlyIn lost (is_focused (focus_of f)) (is_focused (focus_of g))
     → IsOnlyIn gained (is_focused (focus_of g)) (is_focused (focus_of f))
     → focus_told (has_focus (past_of es) w) (has_focus (past_of fs) w) ≡ change_told lost gained w
+
+-- Only the key target holds keys, and only while it is able.
+abbrev pub KeysOfTarget : Type 0
+KeysOfTarget =
+    (displays : List ℕ) (es : List Effect) (w : ℕ) → Lawful displays es → (is_target (past_of es) w && able es w) ≡ false → keys es w ≡ []
+
+-- The keys that a window holds stand in rising order, each once.
+abbrev pub KeysRise : Type 0
+KeysRise = (displays : List ℕ) (es : List Effect) (w : ℕ) → Lawful displays es → Rising (keys es w)
