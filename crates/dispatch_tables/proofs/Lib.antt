@@ -8,3 +8,4 @@ pub mod Kept
 pub mod Unopened
 pub mod Answering
 pub mod Masking
+pub mod Ables
