@@ -9,3 +9,4 @@ pub mod Unopened
 pub mod Answering
 pub mod Masking
 pub mod Ables
+pub mod Duties
