@@ -8,3 +8,5 @@ pub mod Kept
 pub mod Unopened
 pub mod Answering
 pub mod Masking
+pub mod Ables
+pub mod Duties

@@ -24,7 +24,7 @@ got_live : (a b : Bool) (o : Option Message) (m : Message) → Got m ≡ cond (n
 got_live true b o m e = refl
 got_live false b o m e = absurd (cc e)
 
-done_live : (a b : Bool) → Done ≡ cond (not a) Gone (cond b Done UnknownSeq) → a ≡ true
+pub done_live : (a b : Bool) → Done ≡ cond (not a) Gone (cond b Done UnknownSeq) → a ≡ true
 done_live true b e = refl
 done_live false b e = absurd (cc e)
 
