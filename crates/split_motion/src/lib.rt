@@ -13,5 +13,5 @@ pub mod laws;
 mod listed;
 mod window;
 
-pub use listed::{about, part, plain};
+pub use listed::{about, part, plain, rest};
 pub use window::split;

@@ -14,9 +14,11 @@
 //! holding nothing to holding something.
 //!
 //! Each change is said in one form, `Changes` of specs/Touches: what it gives, what it takes, its place, and who pilfers with it. A
-//! window that comes to hold nothing pilfers no longer.
+//! window that comes to hold nothing pilfers no longer. By the rules of routing a step leaves a mark of what it gives and takes; a
+//! state that changes so at each step says what the marks say ([`laws`]).
 #![tactic(auto)]
 
+pub mod laws;
 mod row;
 mod state;
 
