@@ -12,16 +12,16 @@ abbrev pub if_some : Option Motion → List Motion
 if_some None = []
 if_some (Some m) = m ∷ []
 
--- What a window holds before and after a motion about pointer p, where nothing slips: a down is of a pointer that it did not hold, an
--- up is of one that it does not hold afterwards, and all else that it holds stays.
+-- What a window holds before and after a motion about pointer p, where nothing slips: a down is of a pointer that it
+-- did not hold, an up is of one that it does not hold afterwards, and all else that it holds stays.
 pub record Keeps (m : Motion) (p : Pointer) (before later : ℕ → Bool) : Type 0 where
   pub others : (i : ℕ) → (i == p.id) ≡ false → later i ≡ before i
   pub fresh : is_down m.action ≡ true → before p.id ≡ false
   pub gone : is_up m.action ≡ true → later p.id ≡ false
   pub still : is_down m.action ≡ false → is_up m.action ≡ false → later p.id ≡ before p.id
 
--- A window is told the motion split to what it holds, before an up and after all else; where that is nothing, it may be told that the
--- touch was outside of it.
+-- A window is told the motion split to what it holds, before an up and after all else; where that is nothing, it may
+-- be told that the touch was outside of it.
 abbrev pub SplitLaw : Type 0
 SplitLaw =
     (s : Scene) (m : Motion) (p : Pointer) (w : ℕ) (before later : ℕ → Bool)

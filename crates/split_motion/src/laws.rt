@@ -1,4 +1,5 @@
-//! What is proved of motions that are split, by the rules of routing. The function has the laws as its clauses, and does nothing.
+//! What is proved of motions that are split, by the rules of routing. The function has the laws as its clauses, and
+//! does nothing.
 ghost use Rattle.split_motion.specs.Laws.{SplitLaw, GivenLaw, NoneLaw};
 
 /// What a window is told of a motion of its device is the motion, split to what it holds.
