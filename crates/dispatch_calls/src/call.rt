@@ -1,6 +1,6 @@
 //! Calls of the dispatcher, and the entries that they make.
 use crate::reply::Reply;
-use input_types::{Args, DeviceId, Limit, Moment};
+use input_types::{Args, DeviceId, DisplayId, Limit, Moment};
 use window_snapshot::Snapshot;
 
 /// One call of the dispatcher. `now` is the moment of the call, and raises the clock where it is later.
@@ -15,9 +15,11 @@ pub enum Call {
         now: Moment,
         snapshot: Snapshot,
     },
-    /// The focus is requested for a channel, or for none. Any number may be requested.
+    /// The focus of a display is requested for a channel, or for none. Any number may be requested. Keys go to the focused window
+    /// of the display of the last request.
     FocusOn {
         now: Moment,
+        display: DisplayId,
         channel: Option<u32>,
     },
     /// Args of a device, put behind those that wait.

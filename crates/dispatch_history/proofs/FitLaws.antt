@@ -1,11 +1,12 @@
 -- Each moment of a legal history fits the ids that are down.
-use Rattle.std.proofs.Common.{◌≡◌, ℕ, ◌==◌, ◌&&◌, ◌||◌, Bool, true, false, not, cond, is_some, List, [], ◌∷◌, reverse, option_and_then, option_map, unwrap_or, Option, Some, None, refl, sym, ◌∙◌, subst}
+use Rattle.std.proofs.Common.{◌≡◌, ℕ, ◌==◌, ◌&&◌, ◌||◌, Bool, true, false, not, cond, is_some, List, [], ◌∷◌, length, reverse, option_and_then, option_map, unwrap_or, Option, Some, None, refl, sym, ◌∙◌, subst}
 use Rattle.std.proofs.lemmas.Bool.{true≢false}
 use Rattle.input_types.specs.declared.message.Args.{Args}
 use Rattle.input_types.specs.declared.message.Args.TheVariants.{Motion as MotionArgs, Key, Reset}
 use Rattle.input_types.specs.declared.key.KeyArgs.{KeyArgs}
 use Rattle.input_types.specs.declared.motion.Motion.{Motion}
 use Rattle.input_types.specs.declared.pointer.Pointer.{Pointer}
+use Rattle.window_snapshot.specs.declared.window.Window.{Window}
 use Rattle.input_types.specs.DeviceRule.{DeviceState, after_args, device_state, nothing_down, is_of_device, with_key}
 use Rattle.input_types.specs.Gestures.{after_motion, allowed, differ}
 use Rattle.dispatch_calls.specs.declared.call.Call.{Call}
@@ -20,7 +21,7 @@ use Rattle.routing_rules.specs.Given.{mark}
 use Rattle.routing_rules.specs.Fits.{Fits, Rises, down_after, last_then}
 use Rattle.routing_rules.proofs.HoldingLaws.{held_step}
 use Rattle.routing_rules.proofs.FitsLaws.{fits_step}
-use Rattle.dispatch_history.specs.History.{History}
+use Rattle.dispatch_history.specs.History.{History, snapshot}
 use Rattle.dispatch_history.specs.Queue.{inbound, args_of}
 use Rattle.dispatch_history.specs.Effect.{Effect, past_of, dispatched, with_args, last, last_after, down_ids}
 use Rattle.dispatch_history.specs.Effects.{effects, effect_of}
@@ -51,30 +52,30 @@ record Still (e : Step) : Type 0 where
   down : (d : ℕ) (ids : List ℕ) → down_after e d ids ≡ Some ids
   last_is : (d : ℕ) (ps : List Pointer) → ps ≡ last_then e d ps
 
-still_tick : (now : ℕ) (answer : Reply) → Still (step_of (Tick now) answer None)
-still_tick now (Named mask) = record { rises = tt; down = λ d ids. refl; last_is = λ d ps. refl }
-still_tick now _ = record { rises = tt; down = λ d ids. refl; last_is = λ d ps. refl }
+still_tick : (ws : List Window) (now : ℕ) (answer : Reply) → Still (step_of ws (Tick now) answer None)
+still_tick ws now (Named mask) = record { rises = tt; down = λ d ids. refl; last_is = λ d ps. refl }
+still_tick ws now _ = record { rises = tt; down = λ d ids. refl; last_is = λ d ps. refl }
 
-still_pilfer : (now c d : ℕ) (answer : Reply) → Still (step_of (Pilfer now c d) answer None)
-still_pilfer now c d Done = record { rises = tt; down = λ d ids. refl; last_is = λ d ps. refl }
-still_pilfer now c d _ = record { rises = tt; down = λ d ids. refl; last_is = λ d ps. refl }
+still_pilfer : (ws : List Window) (now c d : ℕ) (answer : Reply) → Still (step_of ws (Pilfer now c d) answer None)
+still_pilfer ws now c d Done = record { rises = tt; down = λ d ids. refl; last_is = λ d ps. refl }
+still_pilfer ws now c d _ = record { rises = tt; down = λ d ids. refl; last_is = λ d ps. refl }
 
-still_remove : (now c : ℕ) (answer : Reply) → Still (step_of (Remove now c) answer None)
-still_remove now c Done = record { rises = tt; down = λ d ids. refl; last_is = λ d ps. refl }
-still_remove now c _ = record { rises = tt; down = λ d ids. refl; last_is = λ d ps. refl }
+still_remove : (ws : List Window) (now c : ℕ) (answer : Reply) → Still (step_of ws (Remove now c) answer None)
+still_remove ws now c Done = record { rises = tt; down = λ d ids. refl; last_is = λ d ps. refl }
+still_remove ws now c _ = record { rises = tt; down = λ d ids. refl; last_is = λ d ps. refl }
 
 -- a pump, by what it dispatches
-pump_rises : (now : ℕ) (answer : Reply) (o : Option Args) (past : List Args) → RiseAll (with_args o past) → Rises (step_of (Pump now) answer o)
-pump_rises now answer (Some (MotionArgs m)) past r = r.0
-pump_rises now answer (Some (Key k)) past r = tt
-pump_rises now answer (Some (Reset e)) past r = tt
-pump_rises now answer None past r = tt
+pump_rises : (ws : List Window) (now : ℕ) (answer : Reply) (o : Option Args) (past : List Args) → RiseAll (with_args o past) → Rises (step_of ws (Pump now) answer o)
+pump_rises ws now answer (Some (MotionArgs m)) past r = r.0
+pump_rises ws now answer (Some (Key k)) past r = tt
+pump_rises ws now answer (Some (Reset e)) past r = tt
+pump_rises ws now answer None past r = tt
 
-pump_last : (now : ℕ) (answer : Reply) (o : Option Args) (d : ℕ) (ps : List Pointer) → last_after o d ps ≡ last_then (step_of (Pump now) answer o) d ps
-pump_last now answer (Some (MotionArgs m)) d ps = refl
-pump_last now answer (Some (Key k)) d ps = refl
-pump_last now answer (Some (Reset e)) d ps = refl
-pump_last now answer None d ps = refl
+pump_last : (ws : List Window) (now : ℕ) (answer : Reply) (o : Option Args) (d : ℕ) (ps : List Pointer) → last_after o d ps ≡ last_then (step_of ws (Pump now) answer o) d ps
+pump_last ws now answer (Some (MotionArgs m)) d ps = refl
+pump_last ws now answer (Some (Key k)) d ps = refl
+pump_last ws now answer (Some (Reset e)) d ps = refl
+pump_last ws now answer None d ps = refl
 
 abbrev ids_in : Option DeviceState → List ℕ
 ids_in o = (unwrap_or o nothing_down).ids
@@ -110,66 +111,66 @@ reset_down false s r e = refl
 reset_down true None r e = absurd (true≢false (sym e))
 reset_down true (Some x) r e = refl
 
-pump_down : (now : ℕ) (answer : Reply) (o : Option Args) (past : List Args) (d : ℕ) → is_some (device_state d (with_args o past)) ≡ true
-    → down_after (step_of (Pump now) answer o) d (ids_in (device_state d past)) ≡ Some (ids_in (device_state d (with_args o past)))
-pump_down now answer None past d k = refl
-pump_down now answer (Some (MotionArgs m)) past d k = motion_down (m.device == d) (is_of_device m.action && m.flags == 0) (device_state d past) m k
-pump_down now answer (Some (Key key)) past d k = key_down (key.device == d) (device_state d past) key k
-pump_down now answer (Some (Reset r)) past d k = reset_down (r == d) (device_state d past) r k
+pump_down : (ws : List Window) (now : ℕ) (answer : Reply) (o : Option Args) (past : List Args) (d : ℕ) → is_some (device_state d (with_args o past)) ≡ true
+    → down_after (step_of ws (Pump now) answer o) d (ids_in (device_state d past)) ≡ Some (ids_in (device_state d (with_args o past)))
+pump_down ws now answer None past d k = refl
+pump_down ws now answer (Some (MotionArgs m)) past d k = motion_down (m.device == d) (is_of_device m.action (length m.pointers)) (device_state d past) m k
+pump_down ws now answer (Some (Key key)) past d k = key_down (key.device == d) (device_state d past) key k
+pump_down ws now answer (Some (Reset r)) past d k = reset_down (r == d) (device_state d past) r k
 
 -- what was dispatched keeps the rule, and its motions rise
-pub dispatched_keep : (h : History) (d : ℕ) → Legal h → is_some (device_state d (dispatched (effects h))) ≡ true
-dispatched_keep h d l = (device_law h d l).1
+pub dispatched_keep : (ds : List ℕ) (h : History) (d : ℕ) → Legal ds h → is_some (device_state d (dispatched (effects ds h))) ≡ true
+dispatched_keep ds h d l = (device_law ds h d l).1
 
-pub dispatched_rise : (h : History) → Legal h → AllRise h → RiseAll (dispatched (effects h))
-dispatched_rise h l r = rise_older (reverse (inbound h)) (dispatched (effects h)) (subst RiseAll (queue_law h l) (all_rise h r))
+pub dispatched_rise : (ds : List ℕ) (h : History) → Legal ds h → AllRise h → RiseAll (dispatched (effects ds h))
+dispatched_rise ds h l r = rise_older (reverse (inbound h)) (dispatched (effects ds h)) (subst RiseAll (queue_law ds h l) (all_rise h r))
 
-nothing_fits : (d : ℕ) → Fits (scene []) d (down_ids [] d)
-nothing_fits d = record { rises = tt; held_is_down = λ w i h. absurd (true≢false (sym h)); held_is_listed = λ w. refl }
+nothing_fits : (ds : List ℕ) (d : ℕ) → Fits (scene ds []) d (down_ids [] d)
+nothing_fits ds d = record { rises = tt; held_is_down = λ w i h. absurd (true≢false (sym h)); held_is_listed = λ w. refl }
 
 -- what a step does to a device: its motion rises and may come, and it says the last places
-pub record StepFacts (call : Call) (answer : Reply) (args : Option Args) (es : List Effect) (d : ℕ) (next : List ℕ) : Type 0 where
-  pub rises : Rises (step_of call answer args)
-  pub down : down_after (step_of call answer args) d (down_ids es d) ≡ Some next
-  pub last_is : last_after args d (last es d) ≡ last_then (step_of call answer args) d (last es d)
+pub record StepFacts (ds : List ℕ) (call : Call) (answer : Reply) (args : Option Args) (es : List Effect) (d : ℕ) (next : List ℕ) : Type 0 where
+  pub rises : Rises (step_of (snapshot (past_of es)) call answer args)
+  pub down : down_after (step_of (snapshot (past_of es)) call answer args) d (down_ids es d) ≡ Some next
+  pub last_is : last_after args d (last es d) ≡ last_then (step_of (snapshot (past_of es)) call answer args) d (last es d)
 
-still_facts : (call : Call) (answer : Reply) (es : List Effect) (d : ℕ) → Still (step_of call answer None) → StepFacts call answer None es d (down_ids es d)
-still_facts call answer es d s = record { rises = s.rises; down = s.down d (down_ids es d); last_is = s.last_is d (last es d) }
+still_facts : (ds : List ℕ) (call : Call) (answer : Reply) (es : List Effect) (d : ℕ) → Still (step_of (snapshot (past_of es)) call answer None) → StepFacts ds call answer None es d (down_ids es d)
+still_facts ds call answer es d s = record { rises = s.rises; down = s.down d (down_ids es d); last_is = s.last_is d (last es d) }
 
 still_rests : Still Rests
 still_rests = record { rises = tt; down = λ d ids. refl; last_is = λ d ps. refl }
 
-pub step_facts : (call : Call) (answer : Reply) (h : History) (d : ℕ) → Legal ((call, answer) ∷ h) → AllRise ((call, answer) ∷ h)
-    → StepFacts call answer (args_of call answer (inbound (past_of (effects h)))) (effects h) d (down_ids (effects ((call, answer) ∷ h)) d)
-step_facts (Pump now) answer h d l r =
-    let args = args_of (Pump now) answer (inbound (past_of (effects h))) in
+pub step_facts : (ds : List ℕ) (call : Call) (answer : Reply) (h : History) (d : ℕ) → Legal ds ((call, answer) ∷ h) → AllRise ((call, answer) ∷ h)
+    → StepFacts ds call answer (args_of call answer (inbound (past_of (effects ds h)))) (effects ds h) d (down_ids (effects ds ((call, answer) ∷ h)) d)
+step_facts ds (Pump now) answer h d l r =
+    let args = args_of (Pump now) answer (inbound (past_of (effects ds h))) in
     record {
-      rises = pump_rises now answer args (dispatched (effects h)) (dispatched_rise ((Pump now, answer) ∷ h) l r);
-      down = pump_down now answer args (dispatched (effects h)) d (dispatched_keep ((Pump now, answer) ∷ h) d l);
-      last_is = pump_last now answer args d (last (effects h) d);
+      rises = pump_rises (snapshot (past_of (effects ds h))) now answer args (dispatched (effects ds h)) (dispatched_rise ds ((Pump now, answer) ∷ h) l r);
+      down = pump_down (snapshot (past_of (effects ds h))) now answer args (dispatched (effects ds h)) d (dispatched_keep ds ((Pump now, answer) ∷ h) d l);
+      last_is = pump_last (snapshot (past_of (effects ds h))) now answer args d (last (effects ds h) d);
     }
-step_facts (Tick now) answer h d l r = still_facts (Tick now) answer (effects h) d (still_tick now answer)
-step_facts (Pilfer now c e) answer h d l r = still_facts (Pilfer now c e) answer (effects h) d (still_pilfer now c e answer)
-step_facts (Remove now c) answer h d l r = still_facts (Remove now c) answer (effects h) d (still_remove now c answer)
-step_facts (Windows now shown) answer h d l r =
-    still_facts (Windows now shown) answer (effects h) d (record { rises = tt; down = λ e ids. refl; last_is = λ e ps. refl })
-step_facts (Open limit) answer h d l r = still_facts (Open limit) answer (effects h) d still_rests
-step_facts (FocusOn now c) answer h d l r = still_facts (FocusOn now c) answer (effects h) d still_rests
-step_facts (Notify now a) answer h d l r = still_facts (Notify now a) answer (effects h) d still_rests
-step_facts (Receive c) answer h d l r = still_facts (Receive c) answer (effects h) d still_rests
-step_facts (Finish now c n) answer h d l r = still_facts (Finish now c n) answer (effects h) d still_rests
+step_facts ds (Tick now) answer h d l r = still_facts ds (Tick now) answer (effects ds h) d (still_tick (snapshot (past_of (effects ds h))) now answer)
+step_facts ds (Pilfer now c e) answer h d l r = still_facts ds (Pilfer now c e) answer (effects ds h) d (still_pilfer (snapshot (past_of (effects ds h))) now c e answer)
+step_facts ds (Remove now c) answer h d l r = still_facts ds (Remove now c) answer (effects ds h) d (still_remove (snapshot (past_of (effects ds h))) now c answer)
+step_facts ds (Windows now shown) answer h d l r =
+    still_facts ds (Windows now shown) answer (effects ds h) d (record { rises = tt; down = λ e ids. refl; last_is = λ e ps. refl })
+step_facts ds (Open limit) answer h d l r = still_facts ds (Open limit) answer (effects ds h) d still_rests
+step_facts ds (FocusOn now y c) answer h d l r = still_facts ds (FocusOn now y c) answer (effects ds h) d still_rests
+step_facts ds (Notify now a) answer h d l r = still_facts ds (Notify now a) answer (effects ds h) d still_rests
+step_facts ds (Receive c) answer h d l r = still_facts ds (Receive c) answer (effects ds h) d still_rests
+step_facts ds (Finish now c n) answer h d l r = still_facts ds (Finish now c n) answer (effects ds h) d still_rests
 
-next_fits : (call : Call) (answer : Reply) (args : Option Args) (es : List Effect) (d : ℕ) (next : List ℕ) → Fits (scene es) d (down_ids es d)
-    → Rises (step_of call answer args) → down_after (step_of call answer args) d (down_ids es d) ≡ Some next
-    → last_after args d (last es d) ≡ last_then (step_of call answer args) d (last es d)
-    → Fits (scene (effect_of call answer args es ∷ es)) d next
-next_fits call answer args es d next f r n e =
-    fits_step (scene es) (scene (effect_of call answer args es ∷ es)) (step_of call answer args) d (down_ids es d) next f r n
-    (λ w i. held_then (mark (scene es) (step_of call answer args)) (marks es) w d i) e
+next_fits : (ds : List ℕ) (call : Call) (answer : Reply) (args : Option Args) (es : List Effect) (d : ℕ) (next : List ℕ) → Fits (scene ds es) d (down_ids es d)
+    → Rises (step_of (snapshot (past_of es)) call answer args) → down_after (step_of (snapshot (past_of es)) call answer args) d (down_ids es d) ≡ Some next
+    → last_after args d (last es d) ≡ last_then (step_of (snapshot (past_of es)) call answer args) d (last es d)
+    → Fits (scene ds (effect_of ds call answer args es ∷ es)) d next
+next_fits ds call answer args es d next f r n e =
+    fits_step (scene ds es) (scene ds (effect_of ds call answer args es ∷ es)) (step_of (snapshot (past_of es)) call answer args) d (down_ids es d) next f r n
+    (λ w i. held_then (mark (scene ds es) (step_of (snapshot (past_of es)) call answer args)) (marks es) w d i) e
 
 pub fit_law : FitLaw
-fit_law [] d l r = nothing_fits d
-fit_law ((call, answer) ∷ h) d l r =
-    let x = step_facts call answer h d l r in
-    next_fits call answer (args_of call answer (inbound (past_of (effects h)))) (effects h) d (down_ids (effects ((call, answer) ∷ h)) d)
-    (fit_law h d l.1 r.1) x.rises x.down x.last_is
+fit_law ds [] d l r = nothing_fits ds d
+fit_law ds ((call, answer) ∷ h) d l r =
+    let x = step_facts ds call answer h d l r in
+    next_fits ds call answer (args_of call answer (inbound (past_of (effects ds h)))) (effects ds h) d (down_ids (effects ds ((call, answer) ∷ h)) d)
+    (fit_law ds h d l.1 r.1) x.rises x.down x.last_is

@@ -1,6 +1,7 @@
 -- The focus in the stream of a channel.
-use Rattle.std.proofs.Common.{◌≡◌, ℕ, ◌&&◌, Bool, true, false, cond, is_some, List, [], ◌∷◌, ◌++◌, map, flat_map, length, Option, Some, None, refl, sym, ap, ◌∙◌, subst, inl, inr, ◌+◌}
-use Rattle.std.proofs.lemmas.Bool.{cases_Bool, both_ways, true≢false, and_parts, eqb-true}
+use Rattle.std.proofs.Common.{◌≡◌, ℕ, Bool, true, false, cond, is_some, List, [], ◌∷◌, ◌++◌, map, flat_map, length, Option, Some, None, refl, sym, ap, ◌∙◌, subst, inl, inr, ◌+◌}
+use Rattle.std.proofs.lemmas.Bool.{cases_Bool, both_ways, true≢false, and_parts, or_cases, eqb-true}
+use Rattle.std.specs.List.{list_any}
 use Rattle.input_types.specs.declared.key.KeyMsg.{KeyMsg}
 use Rattle.input_types.specs.declared.message.Args.{Args}
 use Rattle.input_types.specs.declared.message.Body.{Body}
@@ -10,15 +11,15 @@ use Rattle.input_types.specs.declared.motion.Motion.{Motion}
 use Rattle.input_types.specs.declared.axis.Pixel.{Pixel}
 use Rattle.dispatch_calls.specs.declared.call.Call.{Call}
 use Rattle.dispatch_calls.specs.declared.reply.Reply.{Reply}
-use Rattle.window_snapshot.specs.Named.{is_focusable_at}
+use Rattle.window_snapshot.specs.Named.{is_focusable_on}
 use Rattle.routing_rules.specs.Given.{mark}
 use Rattle.routing_rules.specs.Told.{told_with, devices}
 use Rattle.dispatch_history.specs.History.{History, clock, live, origin, snapshot}
 use Rattle.dispatch_history.specs.Queue.{inbound, args_of}
 use Rattle.dispatch_history.specs.Effect.{Effect, past_of, stream, told_on, focus_after, told_focus}
 use Rattle.dispatch_history.specs.Effects.{effects, said_at}
-use Rattle.focus_resolver.specs.Resolver.{focus_if}
-use Rattle.dispatch_history.specs.Focus.{may_focus, requested, is_at, has_focus, focus_told}
+use Rattle.focus_resolver.specs.Resolver.{all_displays, focus_if, is_at}
+use Rattle.dispatch_history.specs.Focus.{focus, may_focus, requested, has_focus, focus_told}
 use Rattle.dispatch_history.specs.Said.{motions_said, keys_said, motion_from}
 use Rattle.dispatch_history.specs.Step.{scene, step_of}
 use Rattle.dispatch_history.specs.Laws.{FocusLaw, FocusComesLaw}
@@ -61,31 +62,37 @@ moved_focus true false = refl
 moved_focus false true = refl
 moved_focus false false = refl
 
--- the focus is only at a live channel
-focus_live : (h : History) (o : Option ℕ) (w : ℕ) → is_at (focus_if (may_focus h) o) w ≡ true → live h w ≡ true
-focus_live h None w e = absurd (true≢false (sym e))
-focus_live h (Some c) w e = by_test (live h c && is_focusable_at (snapshot h) c) refl e
+-- a focused channel is live
+focus_live : (h : History) (y : ℕ) (o : Option ℕ) (w : ℕ) → is_at (focus_if (may_focus h y) o) w ≡ true → live h w ≡ true
+focus_live h y None w e = absurd (true≢false (sym e))
+focus_live h y (Some c) w e = by_test (may_focus h y c) refl e
   where
-    by_test : (b : Bool) → (live h c && is_focusable_at (snapshot h) c) ≡ b → is_at (cond b (Some c) None) w ≡ true → live h w ≡ true
-    by_test true q e = subst (λ x. live h x ≡ true) (sym (eqb-true w c e)) (and_parts (live h c) (is_focusable_at (snapshot h) c) q).0
+    by_test : (b : Bool) → may_focus h y c ≡ b → is_at (cond b (Some c) None) w ≡ true → live h w ≡ true
+    by_test true q e = subst (λ x. live h x ≡ true) (sym (eqb-true w c e)) (and_parts (live h c) (is_focusable_on (snapshot h) y c) q).0
     by_test false q e = absurd (true≢false (sym e))
 
-no_focus : (h : History) (w : ℕ) → live h w ≡ false → has_focus h w ≡ false
-no_focus h w n = elim (cases_Bool (has_focus h w)) [ inl y ↦ absurd (both_ways (live h w) n (focus_live h (requested h) w y)) | inr f ↦ f ]
+focused_live : (h : History) (w : ℕ) (ys : List ℕ) → list_any (λ y. is_at (focus h y) w) ys ≡ true → live h w ≡ true
+focused_live h w [] e = absurd (true≢false (sym e))
+focused_live h w (y ∷ ys) e =
+    elim (or_cases (is_at (focus h y) w) (list_any (λ z. is_at (focus h z) w) ys) e)
+    [ inl t ↦ focus_live h y (requested h y) w t | inr k ↦ focused_live h w ys k ]
 
-step_focus : (call : Call) (answer : Reply) (es : List Effect) (w : ℕ) → live ((call, answer) ∷ past_of es) w ≡ true
-    → bodies_after focus_after (said_at call answer es w) (Some (has_focus (past_of es) w)) ≡ Some (has_focus ((call, answer) ∷ past_of es) w)
-step_focus call answer es w n =
+no_focus : (h : History) (w : ℕ) → live h w ≡ false → has_focus h w ≡ false
+no_focus h w n = elim (cases_Bool (has_focus h w)) [ inl y ↦ absurd (both_ways (live h w) n (focused_live h w all_displays y)) | inr f ↦ f ]
+
+step_focus : (ds : List ℕ) (call : Call) (answer : Reply) (es : List Effect) (w : ℕ) → live ((call, answer) ∷ past_of es) w ≡ true
+    → bodies_after focus_after (said_at ds call answer es w) (Some (has_focus (past_of es) w)) ≡ Some (has_focus ((call, answer) ∷ past_of es) w)
+step_focus ds call answer es w n =
     let after_it : History = (call, answer) ∷ past_of es in
     let args = args_of call answer (inbound (past_of es)) in
-    let s = scene es in
-    let e = step_of call answer args in
+    let s = scene ds es in
+    let e = step_of (snapshot (past_of es)) call answer args in
     let o = origin (past_of es) w in
     let x : Option Bool = Some (has_focus (past_of es) w) in
     let m = motions_said s e (mark s e) o w in
     let k = keys_said after_it args es w in
     let f = focus_told (has_focus (past_of es) w) (has_focus after_it w) in
-    ap (λ bs. bodies_after focus_after bs x) (live_said call answer es w n)
+    ap (λ bs. bodies_after focus_after bs x) (live_said ds call answer es w n)
     ∙ bodies_after-append focus_after (m ++ k) f x
     ∙ ap (bodies_after focus_after f) (bodies_after-append focus_after m k x)
     ∙ ap (λ y. bodies_after focus_after f (bodies_after focus_after k y)) (motions_after focus_after (λ v y. refl) o (flat_map (told_with s e (mark s e) w) devices) x)
@@ -97,26 +104,26 @@ step_focus call answer es w n =
     keys_said_focus after_it answer args es w x = keys_focus _ x
 
 pub focus_law : FocusLaw
-focus_law [] w l e = absurd (true≢false (sym e))
-focus_law ((call, answer) ∷ h) w l e =
-    let es = effects h in
-    let p = effects_law h in
+focus_law ds [] w l e = absurd (true≢false (sym e))
+focus_law ds ((call, answer) ∷ h) w l e =
+    let es = effects ds h in
+    let p = effects_law ds h in
     let now_live : live ((call, answer) ∷ past_of es) w ≡ true = subst (λ past. live ((call, answer) ∷ past) w ≡ true) (sym p) e in
     let before : told_focus (stream es w) ≡ Some (has_focus h w) =
     elim (cases_Bool (live h w)) [
-      | inl y ↦ focus_law h w l.1 y
-      | inr n ↦ ap told_focus (unopened h w l.1 (new_channel call answer h w l n e)) ∙ ap Some (sym (no_focus h w n))
+      | inl y ↦ focus_law ds h w l.1 y
+      | inr n ↦ ap told_focus (unopened ds h w l.1 (new_channel ds call answer h w l n e)) ∙ ap Some (sym (no_focus h w n))
     ] in
-    ap told_focus (stream_step call answer h w l)
-    ∙ told_focus_on (clock ((call, answer) ∷ h)) (said_at call answer es w) (stream es w)
-    ∙ ap (bodies_after focus_after (said_at call answer es w)) (before ∙ ap (λ past. Some (has_focus past w)) (sym p))
-    ∙ step_focus call answer es w now_live
+    ap told_focus (stream_step ds call answer h w l)
+    ∙ told_focus_on (clock ((call, answer) ∷ h)) (said_at ds call answer es w) (stream es w)
+    ∙ ap (bodies_after focus_after (said_at ds call answer es w)) (before ∙ ap (λ past. Some (has_focus past w)) (sym p))
+    ∙ step_focus ds call answer es w now_live
     ∙ ap (λ past. Some (has_focus ((call, answer) ∷ past) w)) p
 
 pub focus_comes : FocusComesLaw
-focus_comes [] w l = refl
-focus_comes ((call, answer) ∷ h) w l =
+focus_comes ds [] w l = refl
+focus_comes ds ((call, answer) ∷ h) w l =
     elim (cases_Bool (live ((call, answer) ∷ h) w)) [
-      | inl y ↦ ap is_some (focus_law ((call, answer) ∷ h) w l y)
-      | inr f ↦ ap (λ ms. is_some (told_focus ms)) (silent_law call answer h w f) ∙ focus_comes h w l.1
+      | inl y ↦ ap is_some (focus_law ds ((call, answer) ∷ h) w l y)
+      | inr f ↦ ap (λ ms. is_some (told_focus ms)) (silent_law ds call answer h w f) ∙ focus_comes ds h w l.1
     ]

@@ -9,7 +9,7 @@ use Rattle.dispatch_history.proofs.Worked.{window, key, focused, keyed, open_two
 -- A key goes down in the focused window and stays down.
 abbrev held_down : List Call
 held_down =
-    Open 5000000 ∷ Windows 0 (window 1 0 0 0 1080 2400 ∷ []) ∷ FocusOn 0 (Some 1) ∷ Notify 1000000 (KeyOfDevice (key 115 24 true)) ∷ []
+    Open 5000000 ∷ Windows 0 (window 1 0 0 0 1080 2400 ∷ []) ∷ FocusOn 0 0 (Some 1) ∷ Notify 1000000 (KeyOfDevice (key 115 24 true)) ∷ []
     ++ Pump 1000000 ∷ Pump 1499999 ∷ Pump 1500000 ∷ Pump 1549999 ∷ Pump 1550000 ∷ []
 
 a_held_key_is_repeated_at_its_moments :
@@ -25,8 +25,8 @@ each_repeat_has_the_next_number = refl
 -- place in the layout goes to the window that has the focus now.
 abbrev focus_moves : List Call
 focus_moves =
-    open_two ++ Windows 0 (window 1 0 0 0 540 2400 ∷ window 2 0 540 0 1080 2400 ∷ []) ∷ FocusOn 0 (Some 1) ∷ []
-    ++ Notify 1000000 (KeyOfDevice (key 115 24 true)) ∷ Pump 1000000 ∷ FocusOn 1200000 (Some 2) ∷ []
+    open_two ++ Windows 0 (window 1 0 0 0 540 2400 ∷ window 2 0 540 0 1080 2400 ∷ []) ∷ FocusOn 0 0 (Some 1) ∷ []
+    ++ Notify 1000000 (KeyOfDevice (key 115 24 true)) ∷ Pump 1000000 ∷ FocusOn 1200000 0 (Some 2) ∷ []
     ++ Notify 1300000 (KeyOfDevice (key 115 24 false)) ∷ Pump 1300000 ∷ Notify 1400000 (KeyOfDevice (key 999 0 true)) ∷ Pump 1400000 ∷ []
 
 the_window_that_loses_the_focus_loses_its_keys_first :

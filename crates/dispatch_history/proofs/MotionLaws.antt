@@ -10,6 +10,7 @@ use Rattle.input_types.specs.declared.message.Message.{Message}
 use Rattle.input_types.specs.declared.motion.Motion.{Motion}
 use Rattle.input_types.specs.declared.motion.MotionAction.TheVariants.{Outside}
 use Rattle.window_snapshot.specs.Hits.{is_watcher_at}
+use Rattle.window_snapshot.specs.declared.window.Window.{Window}
 use Rattle.input_types.specs.declared.axis.Pixel.{Pixel}
 use Rattle.input_types.specs.declared.pointer.Pointer.{Pointer}
 use Rattle.input_types.specs.Gestures.{ids_of, after_motion, after_action}
@@ -19,7 +20,7 @@ use Rattle.dispatch_calls.specs.declared.call.Call.{Call}
 use Rattle.dispatch_calls.specs.declared.call.Call.TheVariants.{Open, Windows, FocusOn, Notify, Pump, Tick, Receive, Finish, Pilfer, Remove}
 use Rattle.dispatch_calls.specs.declared.reply.Reply.{Reply}
 use Rattle.dispatch_calls.specs.declared.reply.Reply.TheVariants.{Opened, Full, Named, Done}
-use Rattle.dispatch_history.specs.History.{History, clock, live, live_after, opened, opened_after, origin}
+use Rattle.dispatch_history.specs.History.{History, clock, live, live_after, opened, opened_after, origin, snapshot}
 use Rattle.dispatch_history.specs.Queue.{inbound, args_of}
 use Rattle.dispatch_history.specs.Step.{scene, step_of, marks}
 use Rattle.dispatch_history.specs.Effects.{effects, said_at}
@@ -34,10 +35,10 @@ use Rattle.dispatch_history.proofs.HolderLaws.{holder_law}
 use Rattle.routing_rules.specs.Marks.{Mark}
 use Rattle.routing_rules.specs.Scene.{Scene, Step, Moves, Resets, Pilfers, Shows, Mutes, Removes, Rests}
 use Rattle.routing_rules.specs.Given.{changed, mark}
-use Rattle.routing_rules.specs.Told.{plain, opening, closing, cancels, cancels_of, cancelled_ups, moves, outside, or_else, is_up, is_first, listing, told_motion, told_with, told, after, devices}
+use Rattle.routing_rules.specs.Told.{plain, opening, closing, cancels, cancels_of, cancelled_ups, moves, outside, or_else, is_up, is_cancelled, is_first, listing, told_motion, told_with, told, after, devices}
 use Rattle.routing_rules.specs.Fits.{told_ids, Leaves}
 use Rattle.dispatch_history.specs.Effect.{Effect, past_of, stream, told_on, ids_after, told_down, down_ids}
-use Rattle.dispatch_history.specs.Focus.{has_focus, focus_told}
+use Rattle.dispatch_history.specs.Focus.{has_focus, is_target, focus_told}
 use Rattle.dispatch_history.specs.Delivery.{able, unresponsive}
 use Rattle.dispatch_history.specs.Keys.{keys, loses_all}
 use Rattle.dispatch_history.specs.KeyTold.{keys_told, repeat_by, last_key}
@@ -66,10 +67,10 @@ opening_of d i [] = refl
 opening_of d i (p ∷ []) = refl
 opening_of d i (p ∷ q ∷ ps) = refl
 
-closing_of : (d i : ℕ) (ps : List Pointer) → (closing d i ps).device ≡ d
-closing_of d i [] = refl
-closing_of d i (p ∷ []) = refl
-closing_of d i (p ∷ q ∷ ps) = refl
+closing_of : (d i : ℕ) (c : Bool) (ps : List Pointer) → (closing d i c ps).device ≡ d
+closing_of d i c [] = refl
+closing_of d i c (p ∷ []) = refl
+closing_of d i c (p ∷ q ∷ ps) = refl
 
 either_of : (d : ℕ) (xs ys : List Motion) → AllOf d xs → AllOf d ys → AllOf d (or_else xs ys)
 either_of d [] ys a b = b
@@ -89,17 +90,17 @@ told_motion_of s m (Some p) w b l =
     let cs = cancels d (s.last d) b l in
     let os = outside s m p w in
     let ms = moves d (listing l m.pointers) in
-    if_of d (l p.id && not (b p.id)) (opening d p.id (listing l m.pointers) ∷ []) (cond (is_up m.action && b p.id) (closing d p.id (listing b m.pointers) ∷ []) (or_else cs (or_else ms os)))
+    if_of d (l p.id && not (b p.id)) (opening d p.id (listing l m.pointers) ∷ []) (cond (is_up m.action && b p.id) (closing d p.id (is_cancelled m.action m.flags) (listing b m.pointers) ∷ []) (or_else cs (or_else ms os)))
     (opening_of d p.id (listing l m.pointers), tt)
-    (if_of d (is_up m.action && b p.id) (closing d p.id (listing b m.pointers) ∷ []) (or_else cs (or_else ms os))
-    (closing_of d p.id (listing b m.pointers), tt)
+    (if_of d (is_up m.action && b p.id) (closing d p.id (is_cancelled m.action m.flags) (listing b m.pointers) ∷ []) (or_else cs (or_else ms os))
+    (closing_of d p.id (is_cancelled m.action m.flags) (listing b m.pointers), tt)
     (either_of d cs (or_else ms os)
     (cancels_are_of d (listing b (s.last d)) (listing l (s.last d)) (listing (λ i. b i && not (l i)) (s.last d)))
     (either_of d ms os (moves_of d (listing l m.pointers)) (outside_of s m p w))))
   where
     outside_of : (s : Scene) (m : Motion) (p : Pointer) (w : ℕ) → AllOf m.device (outside s m p w)
     outside_of s m p w =
-        if_of m.device (is_first m.action && s.able w && is_watcher_at s.windows s.live p.at.x p.at.y w) (plain m.device Outside (p ∷ []) ∷ []) [] (refl, tt) tt
+        if_of m.device (is_first m.action && s.able w && is_watcher_at s.windows (s.reach m.device) p.at.x p.at.y w) (plain m.device Outside (p ∷ []) ∷ []) [] (refl, tt) tt
 
 told_of : (s : Scene) (e : Step) (k : Mark) (w d : ℕ) → AllOf d (told_with s e k w d)
 told_of s (Moves m) k w d = by_device (m.device == d) refl
@@ -219,54 +220,54 @@ devices_differ : Differ devices
 devices_differ = (refl, (refl, (refl, (refl, (refl, (refl, (refl, (refl, tt))))))))
 
 -- a step that removes a window leaves it not live
-removes_other : (call : Call) (answer : Reply) (args : Option Args) (w : ℕ) (before : Bool) → live_after call answer w before ≡ true → Leaves (step_of call answer args) w
-removes_other (Remove now k) Done args w before e = not-true (w == k) (and_parts (not (w == k)) before e).0
-removes_other (Remove now k) _ args w before e = tt
-removes_other (Pump now) answer (Some (MotionArgs m)) w before e = tt
-removes_other (Pump now) answer (Some (KeyOfDevice k)) w before e = tt
-removes_other (Pump now) answer (Some (Reset d)) w before e = tt
-removes_other (Pump now) answer None w before e = tt
-removes_other (Tick now) (Named mask) args w before e = tt
-removes_other (Tick now) _ args w before e = tt
-removes_other (Pilfer now c d) Done args w before e = tt
-removes_other (Pilfer now c d) _ args w before e = tt
-removes_other (Windows now shown) answer args w before e = tt
-removes_other (Open limit) answer args w before e = tt
-removes_other (FocusOn now c) answer args w before e = tt
-removes_other (Notify now a) answer args w before e = tt
-removes_other (Receive c) answer args w before e = tt
-removes_other (Finish now c n) answer args w before e = tt
+removes_other : (ws : List Window) (call : Call) (answer : Reply) (args : Option Args) (w : ℕ) (before : Bool) → live_after call answer w before ≡ true → Leaves (step_of ws call answer args) w
+removes_other ws (Remove now k) Done args w before e = not-true (w == k) (and_parts (not (w == k)) before e).0
+removes_other ws (Remove now k) _ args w before e = tt
+removes_other ws (Pump now) answer (Some (MotionArgs m)) w before e = tt
+removes_other ws (Pump now) answer (Some (KeyOfDevice k)) w before e = tt
+removes_other ws (Pump now) answer (Some (Reset d)) w before e = tt
+removes_other ws (Pump now) answer None w before e = tt
+removes_other ws (Tick now) (Named mask) args w before e = tt
+removes_other ws (Tick now) _ args w before e = tt
+removes_other ws (Pilfer now c d) Done args w before e = tt
+removes_other ws (Pilfer now c d) _ args w before e = tt
+removes_other ws (Windows now shown) answer args w before e = tt
+removes_other ws (Open limit) answer args w before e = tt
+removes_other ws (FocusOn now y c) answer args w before e = tt
+removes_other ws (Notify now a) answer args w before e = tt
+removes_other ws (Receive c) answer args w before e = tt
+removes_other ws (Finish now c n) answer args w before e = tt
 
 -- what a live channel is said, by its three parts
-pub live_said : (call : Call) (answer : Reply) (es : List Effect) (w : ℕ) → live ((call, answer) ∷ past_of es) w ≡ true
-    → said_at call answer es w
+pub live_said : (ds : List ℕ) (call : Call) (answer : Reply) (es : List Effect) (w : ℕ) → live ((call, answer) ∷ past_of es) w ≡ true
+    → said_at ds call answer es w
     ≡ (let after_it = (call, answer) ∷ past_of es in
     let args = args_of call answer (inbound (past_of es)) in
-    let s = scene es in
-    let e = step_of call answer args in
+    let s = scene ds es in
+    let e = step_of (snapshot (past_of es)) call answer args in
     motions_said s e (mark s e) (origin (past_of es) w) w ++ keys_said after_it args es w ++ focus_told (has_focus (past_of es) w) (has_focus after_it w))
-live_said call answer es w n = rw n refl
+live_said ds call answer es w n = rw n refl
 
 keys_said_down : (d : ℕ) (after_it : History) (answer : Reply) (args : Option Args) (es : List Effect) (w : ℕ) (x : Option (List ℕ))
     → bodies_down d (keys_said after_it args es w) x ≡ x
 keys_said_down d after_it answer args es w x =
     keys_down d
-    (keys_told args (has_focus (past_of es) w && able es w) (loses_all after_it (past_of es) w) (keys es w) ++ repeat_by after_it (last_key es) w) x
+    (keys_told args (is_target (past_of es) w && able es w) (loses_all after_it (past_of es) w) (keys es w) ++ repeat_by after_it (last_key es) w) x
 
 -- a step does to the ids that a window knows of a device what it is told of that device
-step_down : (call : Call) (answer : Reply) (es : List Effect) (w d : ℕ) (ids next : List ℕ) → live ((call, answer) ∷ past_of es) w ≡ true → list_any (λ e. e == d) devices ≡ true
-    → told_ids ids (told (scene es) (step_of call answer (args_of call answer (inbound (past_of es)))) w d) ≡ Some next
-    → bodies_down d (said_at call answer es w) (Some ids) ≡ Some next
-step_down call answer es w d ids next n h t =
+step_down : (ds : List ℕ) (call : Call) (answer : Reply) (es : List Effect) (w d : ℕ) (ids next : List ℕ) → live ((call, answer) ∷ past_of es) w ≡ true → list_any (λ e. e == d) devices ≡ true
+    → told_ids ids (told (scene ds es) (step_of (snapshot (past_of es)) call answer (args_of call answer (inbound (past_of es)))) w d) ≡ Some next
+    → bodies_down d (said_at ds call answer es w) (Some ids) ≡ Some next
+step_down ds call answer es w d ids next n h t =
     let after_it : History = (call, answer) ∷ past_of es in
     let args = args_of call answer (inbound (past_of es)) in
-    let s = scene es in
-    let e = step_of call answer args in
+    let s = scene ds es in
+    let e = step_of (snapshot (past_of es)) call answer args in
     let o = origin (past_of es) w in
     let m = motions_said s e (mark s e) o w in
     let k = keys_said after_it args es w in
     let f = focus_told (has_focus (past_of es) w) (has_focus after_it w) in
-    ap (λ bs. bodies_down d bs (Some ids)) (live_said call answer es w n)
+    ap (λ bs. bodies_down d bs (Some ids)) (live_said ds call answer es w n)
     ∙ bodies_down-append d (m ++ k) f (Some ids)
     ∙ focus_down d (has_focus (past_of es) w) (has_focus after_it w) (bodies_down d (m ++ k) (Some ids))
     ∙ bodies_down-append d m k (Some ids)
@@ -274,18 +275,18 @@ step_down call answer es w d ids next n h t =
     ∙ one_of_devices (told_with s e (mark s e) w) d o devices ids next (λ v. told_of s e (mark s e) w v) devices_differ h t
 
 -- of a device that has none of the numbers nothing is said
-step_skips : (call : Call) (answer : Reply) (es : List Effect) (w d : ℕ) (x : Option (List ℕ)) → live ((call, answer) ∷ past_of es) w ≡ true → list_any (λ e. e == d) devices ≡ false
-    → bodies_down d (said_at call answer es w) x ≡ x
-step_skips call answer es w d x n h =
+step_skips : (ds : List ℕ) (call : Call) (answer : Reply) (es : List Effect) (w d : ℕ) (x : Option (List ℕ)) → live ((call, answer) ∷ past_of es) w ≡ true → list_any (λ e. e == d) devices ≡ false
+    → bodies_down d (said_at ds call answer es w) x ≡ x
+step_skips ds call answer es w d x n h =
     let after_it : History = (call, answer) ∷ past_of es in
     let args = args_of call answer (inbound (past_of es)) in
-    let s = scene es in
-    let e = step_of call answer args in
+    let s = scene ds es in
+    let e = step_of (snapshot (past_of es)) call answer args in
     let o = origin (past_of es) w in
     let m = motions_said s e (mark s e) o w in
     let k = keys_said after_it args es w in
     let f = focus_told (has_focus (past_of es) w) (has_focus after_it w) in
-    ap (λ bs. bodies_down d bs x) (live_said call answer es w n)
+    ap (λ bs. bodies_down d bs x) (live_said ds call answer es w n)
     ∙ bodies_down-append d (m ++ k) f x
     ∙ focus_down d (has_focus (past_of es) w) (has_focus after_it w) (bodies_down d (m ++ k) x)
     ∙ bodies_down-append d m k x
@@ -293,18 +294,18 @@ step_skips call answer es w d x n h =
     ∙ none_of_devices (told_with s e (mark s e) w) d o devices x (λ v. told_of s e (mark s e) w v) h
 
 -- a channel that was not opened yet has told nothing
-opened_mono : (call : Call) (answer : Reply) (n : ℕ) → n ≤ opened_after call answer n
+pub opened_mono : (call : Call) (answer : Reply) (n : ℕ) → n ≤ opened_after call answer n
 opened_mono (Open limit) (Opened k) n = omega arith
 opened_mono (Open limit) _ n = omega arith
 opened_mono _ answer n = omega arith
 
-pub unopened : (h : History) (w : ℕ) → Legal h → opened h < w → stream (effects h) w ≡ []
-unopened [] w l lt = refl
-unopened ((call, answer) ∷ h) w l lt =
+pub unopened : (ds : List ℕ) (h : History) (w : ℕ) → Legal ds h → opened h < w → stream (effects ds h) w ≡ []
+unopened ds [] w l lt = refl
+unopened ds ((call, answer) ∷ h) w l lt =
     let n : live ((call, answer) ∷ h) w ≡ false =
     elim (cases_Bool (live ((call, answer) ∷ h) w))
-    [ inl y ↦ absurd (omega (arith, (live_law ((call, answer) ∷ h) w l y).1, lt)) | inr f ↦ f ] in
-    silent_law call answer h w n ∙ unopened h w l.1 (omega (arith, opened_mono call answer (opened h), lt))
+    [ inl y ↦ absurd (omega (arith, (live_law ds ((call, answer) ∷ h) w l y).1, lt)) | inr f ↦ f ] in
+    silent_law ds call answer h w n ∙ unopened ds h w l.1 (omega (arith, opened_mono call answer (opened h), lt))
 
 -- a channel that a step makes live is the next one
 opens_next : (n w : ℕ) (limit : ℕ) (answer : Reply) (before : Bool) → before ≡ false → answer ≡ cond (nat_lt n 64) (Opened (n + 1)) Full
@@ -317,86 +318,86 @@ opens_next n w limit answer before b r e =
       | inr q ↦ absurd (both_ways before b (subst (λ a. live_after (Open limit) a w before ≡ true) q e))
     ]
 
-pub new_channel : (call : Call) (answer : Reply) (h : History) (w : ℕ) → Legal ((call, answer) ∷ h) → live h w ≡ false → live ((call, answer) ∷ h) w ≡ true → opened h < w
-new_channel (Open limit) answer h w l n e =
+pub new_channel : (ds : List ℕ) (call : Call) (answer : Reply) (h : History) (w : ℕ) → Legal ds ((call, answer) ∷ h) → live h w ≡ false → live ((call, answer) ∷ h) w ≡ true → opened h < w
+new_channel ds (Open limit) answer h w l n e =
     opens_next (opened h) w limit answer (live h w) n
-    (subst (λ past. answer ≡ cond (nat_lt (opened past) 64) (Opened (opened past + 1)) Full) (effects_law h) l.0) e
-new_channel (Remove now k) answer h w l n e = absurd (both_ways (live h w) n (removed_live now k w answer (live h w) e))
-new_channel (Windows now shown) answer h w l n e = absurd (both_ways (live h w) n e)
-new_channel (FocusOn now c) answer h w l n e = absurd (both_ways (live h w) n e)
-new_channel (Notify now a) answer h w l n e = absurd (both_ways (live h w) n e)
-new_channel (Pump now) answer h w l n e = absurd (both_ways (live h w) n e)
-new_channel (Tick now) answer h w l n e = absurd (both_ways (live h w) n e)
-new_channel (Receive c) answer h w l n e = absurd (both_ways (live h w) n e)
-new_channel (Finish now c k) answer h w l n e = absurd (both_ways (live h w) n e)
-new_channel (Pilfer now c d) answer h w l n e = absurd (both_ways (live h w) n e)
+    (subst (λ past. answer ≡ cond (nat_lt (opened past) 64) (Opened (opened past + 1)) Full) (effects_law ds h) l.0) e
+new_channel ds (Remove now k) answer h w l n e = absurd (both_ways (live h w) n (removed_live now k w answer (live h w) e))
+new_channel ds (Windows now shown) answer h w l n e = absurd (both_ways (live h w) n e)
+new_channel ds (FocusOn now y c) answer h w l n e = absurd (both_ways (live h w) n e)
+new_channel ds (Notify now a) answer h w l n e = absurd (both_ways (live h w) n e)
+new_channel ds (Pump now) answer h w l n e = absurd (both_ways (live h w) n e)
+new_channel ds (Tick now) answer h w l n e = absurd (both_ways (live h w) n e)
+new_channel ds (Receive c) answer h w l n e = absurd (both_ways (live h w) n e)
+new_channel ds (Finish now c k) answer h w l n e = absurd (both_ways (live h w) n e)
+new_channel ds (Pilfer now c d) answer h w l n e = absurd (both_ways (live h w) n e)
 
 -- a channel that is not live holds nothing
-holds_none : (h : History) (w d : ℕ) → live h w ≡ false → (i : ℕ) → (scene (effects h)).holds w d i ≡ false
-holds_none h w d n i =
-    elim (cases_Bool ((scene (effects h)).holds w d i)) [
+holds_none : (ds : List ℕ) (h : History) (w d : ℕ) → live h w ≡ false → (i : ℕ) → (scene ds (effects ds h)).holds w d i ≡ false
+holds_none ds h w d n i =
+    elim (cases_Bool ((scene ds (effects ds h)).holds w d i)) [
       | inl y ↦
           absurd
           (both_ways (live h w) n
-          (subst (λ past. live past w ≡ true) (effects_law h)
-          (and_parts (live (past_of (effects h)) w) (not (unresponsive (effects h) w)) (holder_law h w d i y).0).0))
+          (subst (λ past. live past w ≡ true) (effects_law ds h)
+          (and_parts (live (past_of (effects ds h)) w) (not (unresponsive (effects ds h) w)) (holder_law ds h w d i y).0).0))
       | inr f ↦ f
     ]
 
-abbrev Known : History → ℕ → ℕ → Type 0
-Known h w d = told_down d (stream (effects h) w) ≡ Some (filter ((scene (effects h)).holds w d) (down_ids (effects h) d))
+abbrev Known : List ℕ → History → ℕ → ℕ → Type 0
+Known ds h w d = told_down d (stream (effects ds h) w) ≡ Some (filter ((scene ds (effects ds h)).holds w d) (down_ids (effects ds h) d))
 
 -- before a step after which the channel is live, its window knows what it holds
-known_before : (call : Call) (answer : Reply) (h : History) (w d : ℕ) → Legal ((call, answer) ∷ h) → live ((call, answer) ∷ h) w ≡ true → (live h w ≡ true → Known h w d) → Known h w d
-known_before call answer h w d l e known =
+known_before : (ds : List ℕ) (call : Call) (answer : Reply) (h : History) (w d : ℕ) → Legal ds ((call, answer) ∷ h) → live ((call, answer) ∷ h) w ≡ true → (live h w ≡ true → Known ds h w d) → Known ds h w d
+known_before ds call answer h w d l e known =
     elim (cases_Bool (live h w)) [
       | inl y ↦ known y
       | inr n ↦
-          ap (told_down d) (unopened h w l.1 (new_channel call answer h w l n e))
-          ∙ ap Some (sym (filter_none ((scene (effects h)).holds w d) (down_ids (effects h) d) (holds_none h w d n)))
+          ap (told_down d) (unopened ds h w l.1 (new_channel ds call answer h w l n e))
+          ∙ ap Some (sym (filter_none ((scene ds (effects ds h)).holds w d) (down_ids (effects ds h) d) (holds_none ds h w d n)))
     ]
 
 pub motions_law : MotionsLaw
-motions_law [] w d l r e k = absurd (true≢false (sym e))
-motions_law ((call, answer) ∷ h) w d l r e k =
-    let es = effects h in
+motions_law ds [] w d l r e k = absurd (true≢false (sym e))
+motions_law ds ((call, answer) ∷ h) w d l r e k =
+    let es = effects ds h in
     let args = args_of call answer (inbound (past_of es)) in
-    let x = step_facts call answer h d l r in
-    let s = scene es in
-    let step = step_of call answer args in
-    let now_live : live ((call, answer) ∷ past_of es) w ≡ true = subst (λ past. live ((call, answer) ∷ past) w ≡ true) (sym (effects_law h)) e in
-    let before : Known h w d = known_before call answer h w d l e (λ y. motions_law h w d l.1 r.1 y k) in
-    let next = down_ids (effects ((call, answer) ∷ h)) d in
-    let told_it = told_law s step w d (down_ids es d) next (fit_law h d l.1 r.1) x.rises (removes_other call answer args w (live (past_of es) w) now_live) x.down in
-    ap (told_down d) (stream_step call answer h w l)
-    ∙ told_down_on d (clock ((call, answer) ∷ h)) (said_at call answer es w) (stream es w)
-    ∙ ap (bodies_down d (said_at call answer es w)) before
-    ∙ step_down call answer es w d (filter (s.holds w d) (down_ids es d)) (filter (after s (mark s step) w d) next) now_live k told_it
-    ∙ ap Some (sym (filter_agree ((scene (effects ((call, answer) ∷ h))).holds w d) (after s (mark s step) w d) (λ i. held_then (mark s step) (marks es) w d i) next))
+    let x = step_facts ds call answer h d l r in
+    let s = scene ds es in
+    let step = step_of (snapshot (past_of es)) call answer args in
+    let now_live : live ((call, answer) ∷ past_of es) w ≡ true = subst (λ past. live ((call, answer) ∷ past) w ≡ true) (sym (effects_law ds h)) e in
+    let before : Known ds h w d = known_before ds call answer h w d l e (λ y. motions_law ds h w d l.1 r.1 y k) in
+    let next = down_ids (effects ds ((call, answer) ∷ h)) d in
+    let told_it = told_law s step w d (down_ids es d) next (fit_law ds h d l.1 r.1) x.rises (removes_other (snapshot (past_of es)) call answer args w (live (past_of es) w) now_live) x.down in
+    ap (told_down d) (stream_step ds call answer h w l)
+    ∙ told_down_on d (clock ((call, answer) ∷ h)) (said_at ds call answer es w) (stream es w)
+    ∙ ap (bodies_down d (said_at ds call answer es w)) before
+    ∙ step_down ds call answer es w d (filter (s.holds w d) (down_ids es d)) (filter (after s (mark s step) w d) next) now_live k told_it
+    ∙ ap Some (sym (filter_agree ((scene ds (effects ds ((call, answer) ∷ h))).holds w d) (after s (mark s step) w d) (λ i. held_then (mark s step) (marks es) w d i) next))
 
 -- of a device without a number nothing is known
-none_known : (h : History) (w d : ℕ) → Legal h → list_any (λ e. e == d) devices ≡ false → told_down d (stream (effects h) w) ≡ Some []
-none_known [] w d l n = refl
-none_known ((call, answer) ∷ h) w d l n =
+pub none_known : (ds : List ℕ) (h : History) (w d : ℕ) → Legal ds h → list_any (λ e. e == d) devices ≡ false → told_down d (stream (effects ds h) w) ≡ Some []
+none_known ds [] w d l n = refl
+none_known ds ((call, answer) ∷ h) w d l n =
     elim (cases_Bool (live ((call, answer) ∷ h) w)) [
       | inl y ↦
-          ap (told_down d) (stream_step call answer h w l)
-          ∙ told_down_on d (clock ((call, answer) ∷ h)) (said_at call answer (effects h) w) (stream (effects h) w)
-          ∙ step_skips call answer (effects h) w d (told_down d (stream (effects h) w))
-          (subst (λ past. live ((call, answer) ∷ past) w ≡ true) (sym (effects_law h)) y) n
-          ∙ none_known h w d l.1 n
-      | inr f ↦ ap (told_down d) (silent_law call answer h w f) ∙ none_known h w d l.1 n
+          ap (told_down d) (stream_step ds call answer h w l)
+          ∙ told_down_on d (clock ((call, answer) ∷ h)) (said_at ds call answer (effects ds h) w) (stream (effects ds h) w)
+          ∙ step_skips ds call answer (effects ds h) w d (told_down d (stream (effects ds h) w))
+          (subst (λ past. live ((call, answer) ∷ past) w ≡ true) (sym (effects_law ds h)) y) n
+          ∙ none_known ds h w d l.1 n
+      | inr f ↦ ap (told_down d) (silent_law ds call answer h w f) ∙ none_known ds h w d l.1 n
     ]
 
-some_known : (h : History) (w d : ℕ) → Legal h → AllRise h → list_any (λ e. e == d) devices ≡ true → is_some (told_down d (stream (effects h) w)) ≡ true
-some_known [] w d l r k = refl
-some_known ((call, answer) ∷ h) w d l r k =
+some_known : (ds : List ℕ) (h : History) (w d : ℕ) → Legal ds h → AllRise h → list_any (λ e. e == d) devices ≡ true → is_some (told_down d (stream (effects ds h) w)) ≡ true
+some_known ds [] w d l r k = refl
+some_known ds ((call, answer) ∷ h) w d l r k =
     elim (cases_Bool (live ((call, answer) ∷ h) w)) [
-      | inl y ↦ ap is_some (motions_law ((call, answer) ∷ h) w d l r y k)
-      | inr f ↦ ap (λ ms. is_some (told_down d ms)) (silent_law call answer h w f) ∙ some_known h w d l.1 r.1 k
+      | inl y ↦ ap is_some (motions_law ds ((call, answer) ∷ h) w d l r y k)
+      | inr f ↦ ap (λ ms. is_some (told_down d ms)) (silent_law ds call answer h w f) ∙ some_known ds h w d l.1 r.1 k
     ]
 
 pub motions_come : MotionsComeLaw
-motions_come h w d l r =
+motions_come ds h w d l r =
     elim (cases_Bool (list_any (λ e. e == d) devices))
-    [ inl y ↦ some_known h w d l r y | inr n ↦ ap is_some (none_known h w d l n) ]
+    [ inl y ↦ some_known ds h w d l r y | inr n ↦ ap is_some (none_known ds h w d l n) ]

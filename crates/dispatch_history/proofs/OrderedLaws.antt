@@ -6,9 +6,9 @@ use Rattle.dispatch_history.specs.Ordered.{Candidate, chosen, round, Rounds, sta
 use Rattle.dispatch_history.specs.Laws.{OrderedSound, OrderedComplete, OrderedUnique}
 
 rounds_by : (n : ℕ) (plan : Plan) (es : List Effect) → Rounds plan es → ((fs : List Effect) → Rounds plan fs → Rounds plan (rounds n plan fs))
-    → (o : Option Candidate) → chosen plan es ≡ o → Rounds plan (rounds_with (λ later. rounds n plan later) es o)
+    → (o : Option Candidate) → chosen plan es ≡ o → Rounds plan (rounds_with plan (λ later. rounds n plan later) es o)
 rounds_by n plan es r more None e = r
-rounds_by n plan es r more (Some c) e = more (round es c) (next r e)
+rounds_by n plan es r more (Some c) e = more (round plan es c) (next r e)
 
 rounds_are : (n : ℕ) (plan : Plan) (es : List Effect) → Rounds plan es → Rounds plan (rounds n plan es)
 rounds_are zero plan es r = r
@@ -23,7 +23,7 @@ reached plan es start = (0, λ m. ap (λ k. ordered k plan) (omega arith))
 reached plan es (next {es = before} {c = c} r e) =
     let k = reached plan before r in (
       k.0 + 1,
-      λ m. ap (λ j. ordered j plan) (omega arith) ∙ k.1 (suc m) ∙ ap (rounds_with (λ later. rounds m plan later) before) e,
+      λ m. ap (λ j. ordered j plan) (omega arith) ∙ k.1 (suc m) ∙ ap (rounds_with plan (λ later. rounds m plan later) before) e,
     )
 
 pub ordered_complete : OrderedComplete
@@ -34,7 +34,7 @@ ordered_complete plan es o =
 -- where nothing is chosen, more rounds change nothing
 stays : (m : ℕ) (plan : Plan) (es : List Effect) → chosen plan es ≡ None → rounds m plan es ≡ es
 stays zero plan es e = refl
-stays (suc m) plan es e = ap (rounds_with (λ later. rounds m plan later) es) e
+stays (suc m) plan es e = ap (rounds_with plan (λ later. rounds m plan later) es) e
 
 pub ordered_unique : OrderedUnique
 ordered_unique plan es fs o p =

@@ -1,12 +1,11 @@
 -- At each moment an id that is down is one pointer.
-use Rattle.std.proofs.Common.{◌≡◌, ℕ, zero, suc, ◌==◌, ◌&&◌, Bool, true, false, cond, is_some, List, [], ◌∷◌, ◌++◌, length, remove, reverse, slice_get, option_and_then, option_map, Option, Some, None, refl, sym, ap, ◌∙◌, subst, subst₂, inl, inr}
-use Rattle.std.specs.List.{list_any}
-use Rattle.std.proofs.lemmas.Bool.{and_parts, and_from, cases_Bool, both_ways, true≢false, eqb-true, or_cases, or_left, or_right}
+use Rattle.std.proofs.Common.{◌≡◌, ℕ, ◌==◌, ◌&&◌, Bool, true, false, cond, is_some, List, [], ◌∷◌, ◌++◌, length, remove, reverse, option_and_then, option_map, Option, Some, None, refl, sym, ap, ◌∙◌, subst, subst₂, inl, inr}
+use Rattle.std.proofs.lemmas.Bool.{and_parts, and_from, cases_Bool, both_ways, true≢false, eqb-true}
 use Rattle.input_types.specs.declared.message.Args.{Args}
 use Rattle.input_types.specs.declared.message.Args.TheVariants.{Motion as MotionArgs, Key, Reset}
 use Rattle.input_types.specs.declared.motion.Motion.{Motion}
 use Rattle.input_types.specs.declared.motion.MotionAction.{MotionAction}
-use Rattle.input_types.specs.declared.motion.MotionAction.TheVariants.{Up, PointerUp}
+use Rattle.input_types.specs.declared.motion.MotionAction.TheVariants.{Up, PointerUp, Cancel}
 use Rattle.input_types.specs.declared.pointer.Pointer.{Pointer}
 use Rattle.input_types.specs.DeviceRule.{DeviceState, after_args, device_of, device_state, is_of_device, with_key}
 use Rattle.input_types.specs.Gestures.{after_motion, ids_of, allowed, differ}
@@ -17,6 +16,7 @@ use Rattle.dispatch_calls.specs.declared.reply.Reply.TheVariants.{Taken}
 use Rattle.routing_rules.specs.Given.{changed}
 use Rattle.routing_rules.specs.Told.{is_up, is_down}
 use Rattle.routing_rules.proofs.Listings.{apart_rising, has_id, id_at, any-ids_of, not_in_remove}
+use Rattle.routing_rules.proofs.FitsLaws.{among, in_remove, stays_in}
 use Rattle.routing_rules.proofs.MotionKind.{Kind, opens, moves, closes, kind_at}
 use Rattle.dispatch_history.specs.History.{History}
 use Rattle.dispatch_history.specs.Queue.{accepted, accepted_after, inbound}
@@ -25,32 +25,6 @@ use Rattle.dispatch_history.specs.Effects.{effects}
 use Rattle.dispatch_history.specs.PointerOf.{downs, ups, is_of, NoneUps, RisesIn, AllRise}
 use Rattle.dispatch_history.specs.Laws.{OnePointer}
 use Rattle.dispatch_history.proofs.QueueLaws.{queue_law, device_law, older_kept}
-
--- an id among others
-abbrev among : ℕ → List ℕ → Bool
-among i xs = list_any (λ j. j == i) xs
-
--- an id of another place stays where one goes
-in_remove : (ps : List Pointer) (k i : ℕ) → among i (remove (ids_of ps) k) ≡ true → among i (ids_of ps) ≡ true
-in_remove [] zero i e = e
-in_remove [] (suc k) i e = e
-in_remove (p ∷ ps) zero i e = or_right (p.id == i) (among i (ids_of ps)) e
-in_remove (p ∷ ps) (suc k) i e =
-    elim (or_cases (p.id == i) (among i (remove (ids_of ps) k)) e)
-    [ inl t ↦ or_left (p.id == i) (among i (ids_of ps)) t | inr t ↦ or_right (p.id == i) (among i (ids_of ps)) (in_remove ps k i t) ]
-
-stays_in : (ps : List Pointer) (k i : ℕ) (p : Pointer) → slice_get ps k ≡ Some p → (p.id == i) ≡ false → among i (ids_of ps) ≡ true
-    → among i (remove (ids_of ps) k) ≡ true
-stays_in [] k i p e n h = absurd (cc e)
-stays_in (q ∷ ps) zero i p e n h =
-    let s : q ≡ p = cc in
-    elim (or_cases (q.id == i) (among i (ids_of ps)) h)
-    [ inl t ↦ absurd (both_ways (p.id == i) n (subst (λ x. (x.id == i) ≡ true) s t)) | inr t ↦ t ]
-stays_in (q ∷ ps) (suc k) i p e n h =
-    elim (or_cases (q.id == i) (among i (ids_of ps)) h) [
-      | inl t ↦ or_left (q.id == i) (among i (remove (ids_of ps) k)) t
-      | inr t ↦ or_right (q.id == i) (among i (remove (ids_of ps) k)) (stays_in ps k i p e n t)
-    ]
 
 -- the pointers of each of these motions have rising ids
 abbrev pub RiseAll : List Args → Type 0
@@ -73,21 +47,22 @@ moment_of d a before s t e = split (device_state d before) refl (subst (λ c. co
 
 -- a motion that came is of some kind
 kind_of : (m : Motion) (s t : DeviceState) → after_args s (MotionArgs m) ≡ Some t → Kind m s.ids t.ids
-kind_of m s t e = by_test (is_of_device m.action && m.flags == 0) refl e
+kind_of m s t e = by_test (is_of_device m.action (length m.pointers)) refl e
   where
     ids_after : (o : Option (List ℕ)) → option_map (λ ids. record { ids = ids; keys = s.keys }) o ≡ Some t → o ≡ Some t.ids
     ids_after None e = cc
     ids_after (Some ids) e = let q : Some (record { ids = ids; keys = s.keys }) ≡ Some t = e in ap (option_map (λ x. x.ids)) q
 
-    by_test : (c : Bool) → (is_of_device m.action && m.flags == 0) ≡ c
+    by_test : (c : Bool) → (is_of_device m.action (length m.pointers)) ≡ c
         → cond c (option_map (λ ids. record { ids = ids; keys = s.keys }) (after_motion s.ids m)) None ≡ Some t → Kind m s.ids t.ids
-    by_test true q e = kind_at m s.ids t.ids m.action refl (and_parts (is_of_device m.action) (m.flags == 0) q).0 (ids_after (after_motion s.ids m) e)
+    by_test true q e = kind_at m s.ids t.ids m.action refl q (ids_after (after_motion s.ids m) e)
     by_test false q e = cc
 
 -- no motion is both a down and an up
 down_not_up : (a : MotionAction) → is_down a ≡ true → is_up a ≡ true → ⊥
 down_not_up Up d u = true≢false (sym d)
 down_not_up PointerUp d u = true≢false (sym d)
+down_not_up Cancel d u = true≢false (sym d)
 down_not_up _ d u = true≢false (sym u)
 
 -- after its down an id is down
@@ -225,7 +200,7 @@ all_rise ((Notify now a, answer) ∷ h) r = rise_accepted now a answer (accepted
 all_rise ((Pump now, answer) ∷ h) r = all_rise h r.1
 all_rise ((Open limit, answer) ∷ h) r = all_rise h r.1
 all_rise ((Windows now shown, answer) ∷ h) r = all_rise h r.1
-all_rise ((FocusOn now channel, answer) ∷ h) r = all_rise h r.1
+all_rise ((FocusOn now y channel, answer) ∷ h) r = all_rise h r.1
 all_rise ((Tick now, answer) ∷ h) r = all_rise h r.1
 all_rise ((Receive channel, answer) ∷ h) r = all_rise h r.1
 all_rise ((Finish now channel seq, answer) ∷ h) r = all_rise h r.1
@@ -239,10 +214,10 @@ rise_older (Key k ∷ xs) ys r = rise_older xs ys r
 rise_older (Reset d ∷ xs) ys r = rise_older xs ys r
 
 pub one_pointer : OnePointer
-one_pointer h p q l r x y same_device same_id =
-    let es = effects h in
-    let k : is_some (device_state p.device (dispatched es)) ≡ true = (device_law h p.device l).1 in
-    let rise : RiseAll (dispatched es) = rise_older (reverse (inbound h)) (dispatched es) (subst RiseAll (queue_law h l) (all_rise h r)) in
+one_pointer ds h p q l r x y same_device same_id =
+    let es = effects ds h in
+    let k : is_some (device_state p.device (dispatched es)) ≡ true = (device_law ds h p.device l).1 in
+    let rise : RiseAll (dispatched es) = rise_older (reverse (inbound h)) (dispatched es) (subst RiseAll (queue_law ds h l) (all_rise h r)) in
     let places : length x.0.before ≡ length y.0.before =
     one_place p.device p.id x.0.later x.0.effect x.0.before y.0.later y.0.effect y.0.before (sym x.0.whole ∙ y.0.whole)
     (subst (λ fs. is_some (device_state p.device (dispatched fs)) ≡ true) x.0.whole k) (subst (λ fs. RiseAll (dispatched fs)) x.0.whole rise)

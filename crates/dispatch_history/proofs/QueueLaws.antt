@@ -67,26 +67,26 @@ notified : (acc : List Args) (n now : ℕ) (c : Bool) (x : ℕ) (y : Bool) (out 
 notified acc n now true x y out a answer s r = rw r (put a acc n out s)
 notified acc n now false x y out a answer s r = rw r s
 
-stands : (h : History) → Legal h → Stands (accepted h) (dispatches h) (dispatched (effects h))
-stands [] l = record { few = omega arith; splits = refl }
-stands ((Pump now, answer) ∷ h) l =
-    pumped (accepted h) (dispatches h) now (max now (clock (past_of (effects h)))) (repeat_due (effects h)) (dispatched (effects h)) answer
-    (inbound (past_of (effects h))) (stands h l.1) (ap inbound (sym (effects_law h))) l.0
-stands ((Notify now a, answer) ∷ h) l =
-    let state = down_on (past_of (effects h)) (device_of a) in
-    notified (accepted h) (dispatches h) now (is_some (after_args state a)) (id_bits state.ids) (is_down state a) (dispatched (effects h)) a answer
-    (stands h l.1) l.0
-stands ((Open limit, answer) ∷ h) l = stands h l.1
-stands ((Windows now shown, answer) ∷ h) l = stands h l.1
-stands ((FocusOn now channel, answer) ∷ h) l = stands h l.1
-stands ((Tick now, answer) ∷ h) l = stands h l.1
-stands ((Receive channel, answer) ∷ h) l = stands h l.1
-stands ((Finish now channel seq, answer) ∷ h) l = stands h l.1
-stands ((Pilfer now channel device, answer) ∷ h) l = stands h l.1
-stands ((Remove now channel, answer) ∷ h) l = stands h l.1
+stands : (ds : List ℕ) (h : History) → Legal ds h → Stands (accepted h) (dispatches h) (dispatched (effects ds h))
+stands ds [] l = record { few = omega arith; splits = refl }
+stands ds ((Pump now, answer) ∷ h) l =
+    pumped (accepted h) (dispatches h) now (max now (clock (past_of (effects ds h)))) (repeat_due (effects ds h)) (dispatched (effects ds h)) answer
+    (inbound (past_of (effects ds h))) (stands ds h l.1) (ap inbound (sym (effects_law ds h))) l.0
+stands ds ((Notify now a, answer) ∷ h) l =
+    let state = down_on (past_of (effects ds h)) (device_of a) in
+    notified (accepted h) (dispatches h) now (is_some (after_args state a)) (id_bits state.ids) (is_down state a) (dispatched (effects ds h)) a answer
+    (stands ds h l.1) l.0
+stands ds ((Open limit, answer) ∷ h) l = stands ds h l.1
+stands ds ((Windows now shown, answer) ∷ h) l = stands ds h l.1
+stands ds ((FocusOn now y channel, answer) ∷ h) l = stands ds h l.1
+stands ds ((Tick now, answer) ∷ h) l = stands ds h l.1
+stands ds ((Receive channel, answer) ∷ h) l = stands ds h l.1
+stands ds ((Finish now channel seq, answer) ∷ h) l = stands ds h l.1
+stands ds ((Pilfer now channel device, answer) ∷ h) l = stands ds h l.1
+stands ds ((Remove now channel, answer) ∷ h) l = stands ds h l.1
 
 pub queue_law : QueueLaw
-queue_law h l = (stands h l).splits
+queue_law ds h l = (stands ds h l).splits
 
 -- what keeps the rule of a device kept it before
 pub older_kept : (d : ℕ) (xs ys : List Args) → is_some (device_state d (xs ++ ys)) ≡ true → is_some (device_state d ys) ≡ true
@@ -117,27 +117,27 @@ accepted_keep : (c : Bool) (x : ℕ) (y : Bool) (now : ℕ) (a : Args) (answer :
 accepted_keep true x y now a answer acc r old new e = rw r (new refl e)
 accepted_keep false x y now a answer acc r old new e = rw r (old e)
 
-pub keeps : (h : History) → Legal h → (d : ℕ) → is_some (device_state d (accepted h)) ≡ true
-keeps [] l d = refl
-keeps ((Notify now a, answer) ∷ h) l d =
-    let state = down_on (past_of (effects h)) (device_of a) in
-    accepted_keep (is_some (after_args state a)) (id_bits state.ids) (is_down state a) now a answer (accepted h) l.0 (λ e. keeps h l.1 e)
+pub keeps : (ds : List ℕ) (h : History) → Legal ds h → (d : ℕ) → is_some (device_state d (accepted h)) ≡ true
+keeps ds [] l d = refl
+keeps ds ((Notify now a, answer) ∷ h) l d =
+    let state = down_on (past_of (effects ds h)) (device_of a) in
+    accepted_keep (is_some (after_args state a)) (id_bits state.ids) (is_down state a) now a answer (accepted h) l.0 (λ e. keeps ds h l.1 e)
     (λ c e.
-    taken_keep e (accepted h) a (λ x. keeps h l.1 x)
-    (subst (λ past. is_some (after_args (down_on past (device_of a)) a) ≡ true) (effects_law h) c))
+    taken_keep e (accepted h) a (λ x. keeps ds h l.1 x)
+    (subst (λ past. is_some (after_args (down_on past (device_of a)) a) ≡ true) (effects_law ds h) c))
     d
-keeps ((Pump now, answer) ∷ h) l d = keeps h l.1 d
-keeps ((Open limit, answer) ∷ h) l d = keeps h l.1 d
-keeps ((Windows now shown, answer) ∷ h) l d = keeps h l.1 d
-keeps ((FocusOn now channel, answer) ∷ h) l d = keeps h l.1 d
-keeps ((Tick now, answer) ∷ h) l d = keeps h l.1 d
-keeps ((Receive channel, answer) ∷ h) l d = keeps h l.1 d
-keeps ((Finish now channel seq, answer) ∷ h) l d = keeps h l.1 d
-keeps ((Pilfer now channel device, answer) ∷ h) l d = keeps h l.1 d
-keeps ((Remove now channel, answer) ∷ h) l d = keeps h l.1 d
+keeps ds ((Pump now, answer) ∷ h) l d = keeps ds h l.1 d
+keeps ds ((Open limit, answer) ∷ h) l d = keeps ds h l.1 d
+keeps ds ((Windows now shown, answer) ∷ h) l d = keeps ds h l.1 d
+keeps ds ((FocusOn now y channel, answer) ∷ h) l d = keeps ds h l.1 d
+keeps ds ((Tick now, answer) ∷ h) l d = keeps ds h l.1 d
+keeps ds ((Receive channel, answer) ∷ h) l d = keeps ds h l.1 d
+keeps ds ((Finish now channel seq, answer) ∷ h) l d = keeps ds h l.1 d
+keeps ds ((Pilfer now channel device, answer) ∷ h) l d = keeps ds h l.1 d
+keeps ds ((Remove now channel, answer) ∷ h) l d = keeps ds h l.1 d
 
 pub device_law : DeviceLaw
-device_law h d l = (
-  keeps h l d,
-  older_kept d (reverse (inbound h)) (dispatched (effects h)) (subst (λ xs. is_some (device_state d xs) ≡ true) (queue_law h l) (keeps h l d)),
+device_law ds h d l = (
+  keeps ds h l d,
+  older_kept d (reverse (inbound h)) (dispatched (effects ds h)) (subst (λ xs. is_some (device_state d xs) ≡ true) (queue_law ds h l) (keeps ds h l d)),
 )

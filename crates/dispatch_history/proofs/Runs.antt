@@ -13,7 +13,7 @@ use Rattle.dispatch_history.specs.Due.{namings, counts}
 use Rattle.dispatch_history.specs.Plan.{Plan, ChannelOf, ScriptStep, Cooked, Line, ReaderLine, ScriptLine, PumpLine, ReceiveLine, FinishLine}
 use Rattle.dispatch_history.specs.Given.{given}
 use Rattle.dispatch_history.specs.Ordered.{ordered, chosen, extend}
-use Rattle.dispatch_history.proofs.Worked.{window, at, motion, key, focused, keyed, says}
+use Rattle.dispatch_history.proofs.Worked.{one_display, window, at, motion, key, focused, keyed, says}
 
 -- a channel with the defaults of a session, and one that never finishes
 abbrev by_default : ChannelOf
@@ -38,6 +38,7 @@ in_order es c = reverse (stream es c)
 abbrev windows_go : Plan
 windows_go =
     record {
+      displays = one_display;
       channels = by_default ∷ [];
       steps =
           scripted (Windows 0 (window 1 0 0 0 1080 2400 ∷ [])) ∷ scripted (Windows 1100000 [])
@@ -61,10 +62,11 @@ it_has_at_most_twenty_rounds = refl
 abbrev focus_moves : Plan
 focus_moves =
     record {
+      displays = one_display;
       channels = by_default ∷ by_default ∷ [];
       steps =
-          scripted (Windows 0 (window 1 0 0 0 540 2400 ∷ window 2 0 540 0 1080 2400 ∷ [])) ∷ scripted (FocusOn 0 (Some 1))
-          ∷ scripted (FocusOn 1200000 (Some 2)) ∷ [];
+          scripted (Windows 0 (window 1 0 0 0 540 2400 ∷ window 2 0 540 0 1080 2400 ∷ [])) ∷ scripted (FocusOn 0 0 (Some 1))
+          ∷ scripted (FocusOn 1200000 0 (Some 2)) ∷ [];
       cooked = pressed 1000000 115 24 true ∷ pressed 1300000 115 24 false ∷ pressed 1400000 999 0 true ∷ [];
       until = 0;
     }
@@ -81,6 +83,7 @@ and_the_window_that_gains_it = refl
 abbrev unresponsive : Plan
 unresponsive =
     record {
+      displays = one_display;
       channels = never_finishes ∷ [];
       steps = scripted (Windows 0 (window 1 0 0 0 1080 2400 ∷ [])) ∷ [];
       cooked = cooked 1000000 Down 0 (at 0 540 1200 ∷ []) ∷ [];
@@ -106,6 +109,7 @@ nothing_is_left = refl
 abbrev over_two : Plan
 over_two =
     record {
+      displays = one_display;
       channels = by_default ∷ by_default ∷ [];
       steps = scripted (Windows 0 (window 1 0 0 0 540 2400 ∷ window 2 0 540 0 1080 2400 ∷ [])) ∷ [];
       cooked =
@@ -120,7 +124,7 @@ eight_lines =
 
 -- the effects of a given run, where each of its steps exists
 abbrev followed : Result (List Call) ℕ → List Effect
-followed (Ok calls) = extend [] calls
+followed (Ok calls) = extend one_display [] calls
 followed (Err n) = []
 
 a_given_order_of_two_windows :

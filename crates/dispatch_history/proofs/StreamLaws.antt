@@ -98,44 +98,44 @@ removed_live now k c Done before e = (and_parts (not (c == k)) before e).1
 removed_live now k c _ before e = e
 
 pub live_law : LiveLaw
-live_law [] c l e = absurd (true≢false (sym e))
-live_law ((Open limit, answer) ∷ h) c l e =
+live_law ds [] c l e = absurd (true≢false (sym e))
+live_law ds ((Open limit, answer) ∷ h) c l e =
     opened_live (opened h) 0 c answer limit (live h c)
-    (subst (λ past. answer ≡ cond (nat_lt (opened past) 64) (Opened (opened past + 1)) Full) (effects_law h) l.0)
-    (λ b. live_law h c l.1 b) e
-live_law ((Remove now k, answer) ∷ h) c l e = live_law h c l.1 (removed_live now k c answer (live h c) e)
-live_law ((Windows now shown, answer) ∷ h) c l e = live_law h c l.1 e
-live_law ((FocusOn now channel, answer) ∷ h) c l e = live_law h c l.1 e
-live_law ((Notify now a, answer) ∷ h) c l e = live_law h c l.1 e
-live_law ((Pump now, answer) ∷ h) c l e = live_law h c l.1 e
-live_law ((Tick now, answer) ∷ h) c l e = live_law h c l.1 e
-live_law ((Receive channel, answer) ∷ h) c l e = live_law h c l.1 e
-live_law ((Finish now channel seq, answer) ∷ h) c l e = live_law h c l.1 e
-live_law ((Pilfer now channel device, answer) ∷ h) c l e = live_law h c l.1 e
+    (subst (λ past. answer ≡ cond (nat_lt (opened past) 64) (Opened (opened past + 1)) Full) (effects_law ds h) l.0)
+    (λ b. live_law ds h c l.1 b) e
+live_law ds ((Remove now k, answer) ∷ h) c l e = live_law ds h c l.1 (removed_live now k c answer (live h c) e)
+live_law ds ((Windows now shown, answer) ∷ h) c l e = live_law ds h c l.1 e
+live_law ds ((FocusOn now y channel, answer) ∷ h) c l e = live_law ds h c l.1 e
+live_law ds ((Notify now a, answer) ∷ h) c l e = live_law ds h c l.1 e
+live_law ds ((Pump now, answer) ∷ h) c l e = live_law ds h c l.1 e
+live_law ds ((Tick now, answer) ∷ h) c l e = live_law ds h c l.1 e
+live_law ds ((Receive channel, answer) ∷ h) c l e = live_law ds h c l.1 e
+live_law ds ((Finish now channel seq, answer) ∷ h) c l e = live_law ds h c l.1 e
+live_law ds ((Pilfer now channel device, answer) ∷ h) c l e = live_law ds h c l.1 e
 
 -- a channel that is not live after a step is said nothing
-not_live_said : (call : Call) (answer : Reply) (es : List Effect) (c : ℕ) → live ((call, answer) ∷ past_of es) c ≡ false → said_at call answer es c ≡ []
-not_live_said call answer es c n = rw n refl
+not_live_said : (ds : List ℕ) (call : Call) (answer : Reply) (es : List Effect) (c : ℕ) → live ((call, answer) ∷ past_of es) c ≡ false → said_at ds call answer es c ≡ []
+not_live_said ds call answer es c n = rw n refl
 
-told_at : (call : Call) (answer : Reply) (h : History) (c : ℕ) → Legal ((call, answer) ∷ h)
-    → told_to (told_by (said_at call answer (effects h)) (opened ((call, answer) ∷ past_of (effects h)))) c ≡ said_at call answer (effects h) c
-told_at call answer h c l =
+told_at : (ds : List ℕ) (call : Call) (answer : Reply) (h : History) (c : ℕ) → Legal ds ((call, answer) ∷ h)
+    → told_to (told_by (said_at ds call answer (effects ds h)) (opened ((call, answer) ∷ past_of (effects ds h)))) c ≡ said_at ds call answer (effects ds h) c
+told_at ds call answer h c l =
     let P : History → History = λ k. (call, answer) ∷ k in
-    elim (cases_Bool (live (P (past_of (effects h))) c)) [
+    elim (cases_Bool (live (P (past_of (effects ds h))) c)) [
       | inl y ↦
-          let r = live_law (P h) c l (subst (λ k. live (P k) c ≡ true) (effects_law h) y) in
-          told_within (said_at call answer (effects h)) (opened (P (past_of (effects h)))) c r.0 (subst (λ k. c ≤ opened (P k)) (sym (effects_law h)) r.1)
+          let r = live_law ds (P h) c l (subst (λ k. live (P k) c ≡ true) (effects_law ds h) y) in
+          told_within (said_at ds call answer (effects ds h)) (opened (P (past_of (effects ds h)))) c r.0 (subst (λ k. c ≤ opened (P k)) (sym (effects_law ds h)) r.1)
       | inr n ↦
-          let e = not_live_said call answer (effects h) c n in
-          told_none (said_at call answer (effects h)) c e (channels (opened (P (past_of (effects h))))) ∙ sym e
+          let e = not_live_said ds call answer (effects ds h) c n in
+          told_none (said_at ds call answer (effects ds h)) c e (channels (opened (P (past_of (effects ds h))))) ∙ sym e
     ]
 
 pub stream_step : StreamStep
-stream_step call answer h c l =
-    ap₂ (λ now bs. told_on now bs (stream (effects h) c)) (ap (λ k. clock ((call, answer) ∷ k)) (effects_law h)) (told_at call answer h c l)
+stream_step ds call answer h c l =
+    ap₂ (λ now bs. told_on now bs (stream (effects ds h) c)) (ap (λ k. clock ((call, answer) ∷ k)) (effects_law ds h)) (told_at ds call answer h c l)
 
 pub silent_law : SilentLaw
-silent_law call answer h c n =
-    let e = not_live_said call answer (effects h) c (subst (λ k. live ((call, answer) ∷ k) c ≡ false) (sym (effects_law h)) n) in
-    ap (λ bs. told_on (clock ((call, answer) ∷ past_of (effects h))) bs (stream (effects h) c))
-    (told_none (said_at call answer (effects h)) c e (channels (opened ((call, answer) ∷ past_of (effects h)))))
+silent_law ds call answer h c n =
+    let e = not_live_said ds call answer (effects ds h) c (subst (λ k. live ((call, answer) ∷ k) c ≡ false) (sym (effects_law ds h)) n) in
+    ap (λ bs. told_on (clock ((call, answer) ∷ past_of (effects ds h))) bs (stream (effects ds h) c))
+    (told_none (said_at ds call answer (effects ds h)) c e (channels (opened ((call, answer) ∷ past_of (effects ds h)))))

@@ -10,7 +10,7 @@ use Rattle.dispatch_calls.specs.declared.reply.Reply.TheVariants.{Opened, Done, 
 use Rattle.dispatch_history.specs.History.{clock}
 use Rattle.dispatch_history.specs.Delivery.{able, delivery}
 use Rattle.dispatch_history.specs.Legal.{run, replay}
-use Rattle.dispatch_history.proofs.Worked.{window, at, motion, moved, says, stream_of, replies_of}
+use Rattle.dispatch_history.proofs.Worked.{one_display, window, at, motion, moved, says, stream_of, replies_of}
 
 abbrev whole : List Call
 whole = Open 5000000 ∷ Windows 0 (window 1 0 0 0 1080 2400 ∷ []) ∷ []
@@ -34,7 +34,7 @@ a_named_window_loses_its_pointers :
     stream_of left_unfinished 1 ≡ finger 1 0 540 ∷ says 2 5000000 (motion Cancel 0 (at 0 540 1200 ∷ [])) ∷ []
 a_named_window_loses_its_pointers = refl
 
-a_finish_that_leaves_nothing_late_makes_it_able : able (run (reverse left_unfinished)) 1 ≡ true
+a_finish_that_leaves_nothing_late_makes_it_able : able (run one_display (reverse left_unfinished)) 1 ≡ true
 a_finish_that_leaves_nothing_late_makes_it_able = refl
 
 -- 64 messages may be published and unfinished; the next one is published, and so delivered, where one is finished.
@@ -58,7 +58,7 @@ the_65th_message_waits_for_a_finish :
     ≡ many_got 64 ++ Empty ∷ Done ∷ Got (many_moves 65) ∷ []
 the_65th_message_waits_for_a_finish = refl
 
-its_delivery_is_the_clock_of_the_finish : delivery (run (reverse (many ++ replicate 65 (Receive 1) ++ Finish 2000 1 40 ∷ []))) 1 65 ≡ 2000
+its_delivery_is_the_clock_of_the_finish : delivery (run one_display (reverse (many ++ replicate 65 (Receive 1) ++ Finish 2000 1 40 ∷ []))) 1 65 ≡ 2000
 its_delivery_is_the_clock_of_the_finish = refl
 
 -- Messages are finished out of order, and a window answers again.
@@ -81,10 +81,10 @@ only_what_was_received_can_be_finished :
     ∷ Got (says 2 1000000 (motion Move 0 (at 0 550 1200 ∷ []))) ∷ UnknownSeq ∷ UnknownSeq ∷ Named 1 ∷ Done ∷ []
 only_what_was_received_can_be_finished = refl
 
-it_is_unresponsive_while_its_oldest_message_is_late : able (run (reverse (take 12 out_of_order))) 1 ≡ false
+it_is_unresponsive_while_its_oldest_message_is_late : able (run one_display (reverse (take 12 out_of_order))) 1 ≡ false
 it_is_unresponsive_while_its_oldest_message_is_late = refl
 
-it_is_able_once_nothing_is_late : able (run (reverse (take 17 out_of_order))) 1 ≡ true
+it_is_able_once_nothing_is_late : able (run one_display (reverse (take 17 out_of_order))) 1 ≡ true
 it_is_able_once_nothing_is_late = refl
 
 -- The channel is removed after n of these calls: its stream is that of the calls before, whatever comes after.
@@ -115,7 +115,7 @@ a_named_spy_has_nothing_to_pilfer = refl
 
 -- Two channels and no window. A motion of a finger that is not down is refused, and raises the clock all the same.
 a_refused_call_raises_the_clock :
-    clock (replay (reverse (Open 5000000 ∷ Open 5000000 ∷ Notify 9000000 (MotionArgs (motion Move 0 (at 0 1 1 ∷ []))) ∷ []))) ≡ 9000000
+    clock (replay one_display (reverse (Open 5000000 ∷ Open 5000000 ∷ Notify 9000000 (MotionArgs (motion Move 0 (at 0 1 1 ∷ []))) ∷ []))) ≡ 9000000
 a_refused_call_raises_the_clock = refl
 
 a_move_of_nothing_is_refused :

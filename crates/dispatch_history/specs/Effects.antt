@@ -7,7 +7,7 @@ use Rattle.dispatch_calls.specs.declared.reply.Reply.{Reply}
 use Rattle.routing_rules.specs.Marks.{Mark}
 use Rattle.routing_rules.specs.Scene.{Scene, Step}
 use Rattle.routing_rules.specs.Given.{mark}
-use Rattle.dispatch_history.specs.History.{History, opened}
+use Rattle.dispatch_history.specs.History.{History, opened, snapshot}
 use Rattle.dispatch_history.specs.Queue.{inbound, args_of}
 use Rattle.dispatch_history.specs.Effect.{Effect, Told, past_of}
 use Rattle.dispatch_history.specs.Step.{scene, step_of}
@@ -35,24 +35,24 @@ effect_with after args before s e k =
 abbrev pub effect_in : History → Option Args → List Effect → Scene → Step → Effect
 effect_in after args before s e = effect_with after args before s e (mark s e)
 
--- the effect of the step with this call and reply, which dispatches these args
-abbrev pub effect_of : Call → Reply → Option Args → List Effect → Effect
-effect_of call reply args before =
-    effect_in ((call, reply) ∷ past_of before) args before (scene before) (step_of call reply args)
+-- the effect of the step with this call and reply, which dispatches these args, where the devices are on these displays
+abbrev pub effect_of : List ℕ → Call → Reply → Option Args → List Effect → Effect
+effect_of displays call reply args before =
+    effect_in ((call, reply) ∷ past_of before) args before (scene displays before) (step_of (snapshot (past_of before)) call reply args)
 
 -- one step more
-abbrev pub step : Call → Reply → List Effect → List Effect
-step call reply before = effect_of call reply (args_of call reply (inbound (past_of before))) before ∷ before
+abbrev pub step : List ℕ → Call → Reply → List Effect → List Effect
+step displays call reply before = effect_of displays call reply (args_of call reply (inbound (past_of before))) before ∷ before
 
--- the effects of a history, newest first
-abbrev pub effects : History → List Effect
-effects [] = []
-effects (e ∷ h) = step e.0 e.1 (effects h)
+-- the effects of a history, newest first, where the devices are on these displays
+abbrev pub effects : List ℕ → History → List Effect
+effects displays [] = []
+effects displays (e ∷ h) = step displays e.0 e.1 (effects displays h)
 
 -- what the step with this call and reply says to a channel
-abbrev pub said_at : Call → Reply → List Effect → ℕ → List Body
-said_at call reply before c =
+abbrev pub said_at : List ℕ → Call → Reply → List Effect → ℕ → List Body
+said_at displays call reply before c =
     let args = args_of call reply (inbound (past_of before)) in
-    let s = scene before in
-    let e = step_of call reply args in
+    let s = scene displays before in
+    let e = step_of (snapshot (past_of before)) call reply args in
     said_with ((call, reply) ∷ past_of before) args before s e (mark s e) c

@@ -1,41 +1,54 @@
--- Which window has the focus.
-use Rattle.std.specs.Prelude.{ℕ, Bool, true, false, ◌==◌, ◌&&◌, List, [], ◌∷◌, Option, Some, None}
+-- Which windows have the focus, and to which of them keys go.
+use Rattle.std.specs.Prelude.{ℕ, Bool, true, false, ◌==◌, ◌&&◌, if◌then◌else◌, List, [], ◌∷◌, Option, None}
 use Rattle.input_types.specs.declared.message.Body.{Body}
 use Rattle.input_types.specs.declared.message.Body.TheVariants.{Focus}
-use Rattle.window_snapshot.specs.Named.{is_focusable_at}
-use Rattle.focus_resolver.specs.Resolver.{focus_if}
+use Rattle.window_snapshot.specs.Named.{is_focusable_on}
+use Rattle.focus_resolver.specs.Resolver.{focus_at, is_at, is_focused}
 use Rattle.dispatch_calls.specs.declared.call.Call.{Call}
 use Rattle.dispatch_calls.specs.declared.call.Call.TheVariants.{FocusOn}
 use Rattle.dispatch_history.specs.History.{History, live, snapshot}
 
--- a step may request the focus for another channel, or for none
-abbrev pub requested_after : Call → Option ℕ → Option ℕ
-requested_after (FocusOn now channel) before = channel
-requested_after call before = before
+-- a step may request the focus of a display for another channel, or for none
+abbrev pub requested_after : Call → ℕ → Option ℕ → Option ℕ
+requested_after (FocusOn now display channel) y before = if y == display then channel else before
+requested_after call y before = before
 
--- the channel for which the focus was requested last
-abbrev pub requested : History → Option ℕ
-requested [] = None
-requested (e ∷ h) = requested_after e.0 (requested h)
+-- the channel for which the focus of display y was requested last
+abbrev pub requested : History → ℕ → Option ℕ
+requested [] y = None
+requested (e ∷ h) y = requested_after e.0 y (requested h y)
 
--- a channel may have the focus where it is live, and the snapshot names it with a window that may have it
-abbrev pub may_focus : History → ℕ → Bool
-may_focus h c = live h c && is_focusable_at (snapshot h) c
+-- with each request its display is the one that was asked for last
+abbrev pub asked_after : Call → ℕ → ℕ
+asked_after (FocusOn now display channel) before = display
+asked_after call before = before
 
--- the window that has the focus, if there is one: the requested one, where it may
-abbrev pub focus : History → Option ℕ
-focus h = focus_if (may_focus h) (requested h)
+-- the display for which the focus was requested last, 0 before any request
+abbrev pub asked : History → ℕ
+asked [] = 0
+asked (e ∷ h) = asked_after e.0 (asked h)
 
--- the focus is at this window
-abbrev pub is_at : Option ℕ → ℕ → Bool
-is_at None w = false
-is_at (Some c) w = w == c
+-- a channel may have the focus of display y where it is live, and the snapshot names it there with a window that may have it
+abbrev pub may_focus : History → ℕ → ℕ → Bool
+may_focus h y c = live h c && is_focusable_on (snapshot h) y c
 
--- the window has the focus
+-- the window that has the focus of display y, if there is one: the one requested last for it, where that may
+abbrev pub focus : History → ℕ → Option ℕ
+focus h y = focus_at (may_focus h) (requested h) y
+
+-- the window is focused: it has the focus of some display
 abbrev pub has_focus : History → ℕ → Bool
-has_focus h w = is_at (focus h) w
+has_focus h w = is_focused (focus h) w
 
--- what a window is told where the focus moves: that it has lost it, or that it has it now
+-- the key target, if there is one: the window that has the focus of the display that was asked for last
+abbrev pub key_target : History → Option ℕ
+key_target h = focus h (asked h)
+
+-- the window is the key target
+abbrev pub is_target : History → ℕ → Bool
+is_target h w = is_at (key_target h) w
+
+-- what a window is told where its focus changes: that it has lost it, or that it has it now
 abbrev pub focus_told : Bool → Bool → List Body
 focus_told true false = Focus false ∷ []
 focus_told false true = Focus true ∷ []

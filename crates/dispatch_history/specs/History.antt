@@ -2,7 +2,7 @@
 use Rattle.std.specs.Prelude.{ℕ, suc, max, Bool, false, not, ◌==◌, ◌&&◌, ◌||◌, List, [], ◌∷◌, if◌then◌else◌}
 use Rattle.input_types.specs.declared.axis.Pixel.{Pixel}
 use Rattle.window_snapshot.specs.declared.window.Window.{Window}
-use Rattle.window_snapshot.specs.Named.{origin_of}
+use Rattle.window_snapshot.specs.Named.{origin_of, is_shown_on}
 use Rattle.dispatch_calls.specs.declared.call.Call.{Call}
 use Rattle.dispatch_calls.specs.declared.call.Call.TheVariants.{Open, Windows, FocusOn, Notify, Pump, Tick, Receive, Finish, Pilfer, Remove}
 use Rattle.dispatch_calls.specs.declared.reply.Reply.{Reply}
@@ -17,7 +17,7 @@ History = List (Call × Reply)
 abbrev pub moment_of : Call → ℕ
 moment_of (Open limit) = 0
 moment_of (Windows now snapshot) = now
-moment_of (FocusOn now channel) = now
+moment_of (FocusOn now display channel) = now
 moment_of (Notify now args) = now
 moment_of (Pump now) = now
 moment_of (Tick now) = now
@@ -71,6 +71,10 @@ windows_after call before = before
 abbrev pub snapshot : History → List Window
 snapshot [] = []
 snapshot (e ∷ h) = windows_after e.0 (snapshot h)
+
+-- a channel is on display y where it is live, and the snapshot names it there
+abbrev pub is_on : History → ℕ → ℕ → Bool
+is_on h y c = live h c && is_shown_on (snapshot h) y c
 
 -- a snapshot that names a window says its origin
 abbrev pub origin_after : Call → ℕ → Pixel → Pixel

@@ -4,7 +4,7 @@ use Rattle.input_types.specs.declared.key.KeyArgs.{KeyArgs}
 use Rattle.input_types.specs.declared.message.Args.{Args}
 use Rattle.input_types.specs.declared.message.Args.TheVariants.{Key as KeyOfDevice, Reset}
 use Rattle.dispatch_history.specs.History.{History, live}
-use Rattle.dispatch_history.specs.Focus.{has_focus}
+use Rattle.dispatch_history.specs.Focus.{is_target}
 use Rattle.dispatch_history.specs.Effect.{Effect, past_of}
 use Rattle.dispatch_history.specs.Delivery.{able, names}
 
@@ -32,20 +32,20 @@ ends (Some (KeyOfDevice k)) l = not k.down && same_key k l
 ends (Some (Reset d)) l = d == l.device
 ends args l = false
 
--- a window loses all its keys at a step, which is the last one of `after`, that moves the focus away from it, that names it,
--- or after which it is not live
+-- a window loses all its keys at a step, which is the last one of `after`, after which it is not the key target any more, that
+-- names it, or after which it is not live
 abbrev pub loses_all : (after before : History) → ℕ → Bool
-loses_all after before w = has_focus before w && not (has_focus after w) || names after w || not (live after w)
+loses_all after before w = is_target before w && not (is_target after w) || names after w || not (live after w)
 
--- the keys that a window is given at a step: a key that goes down, where the window has the focus and is able
+-- the keys that a window is given at a step: a key that goes down, where the window is the key target and able
 abbrev pub key_given : Option KeyArgs → Bool → List KeyArgs → List KeyArgs
 key_given (Some k) true held = with_key k held
 key_given given hears held = held
 
--- The keys that a window holds, in rising order, as they went down: given while it had the focus and was able, and not ended
+-- The keys that a window holds, in rising order, as they went down: given while it was the key target and able, and not ended
 -- or lost since.
 abbrev pub keys : List Effect → ℕ → List KeyArgs
 keys [] w = []
 keys (x ∷ before) w =
-    key_given (goes_down x.args) (has_focus (past_of before) w && able before w)
+    key_given (goes_down x.args) (is_target (past_of before) w && able before w)
     (if loses_all x.past (past_of before) w then [] else filter (λ k. not (ends x.args k)) (keys before w))

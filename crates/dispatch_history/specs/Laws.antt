@@ -1,47 +1,57 @@
 -- What is proved of histories. Each law is the clause of a function of its own.
-use Rattle.std.specs.Prelude.{ℕ, ◌==◌, filter, Some, ◌≡◌, ◌≤◌, IsTrue, is_some, reverse, ◌++◌, true, false, not, ◌&&◌, ◌||◌, List, ◌∷◌, None}
+use Rattle.std.specs.Prelude.{ℕ, ◌==◌, filter, Some, ◌≡◌, ◌≤◌, ◌↔◌, IsTrue, is_some, reverse, ◌++◌, true, false, not, ◌&&◌, ◌||◌, List, ◌∷◌, None}
 use Rattle.std.specs.List.{list_any}
-use Rattle.window_snapshot.specs.Named.{is_named}
+use Rattle.input_types.specs.Displays.{device_display}
+use Rattle.window_snapshot.specs.Named.{is_shown_on}
 use Rattle.dispatch_calls.specs.declared.call.Call.{Call}
+use Rattle.dispatch_calls.specs.declared.call.Call.TheVariants.{Receive, Finish, Pilfer, Remove}
 use Rattle.dispatch_calls.specs.declared.reply.Reply.{Reply}
+use Rattle.dispatch_calls.specs.declared.reply.Reply.TheVariants.{Done, Gone}
+use Rattle.input_types.specs.StreamRule.{stream_state, is_well_formed}
 use Rattle.input_types.specs.DeviceRule.{device_state}
 use Rattle.dispatch_history.specs.History.{History, clock, live, opened, snapshot}
 use Rattle.dispatch_history.specs.Queue.{accepted, inbound}
 use Rattle.dispatch_history.specs.PointerOf.{PointerOf, IsDown, AllRise}
-use Rattle.dispatch_history.specs.Effect.{Effect, past_of, stream, dispatched, told_on, told_down, told_focus, down_ids}
+use Rattle.dispatch_history.specs.Effect.{Effect, past_of, stream, dispatched, told_on, told_down, told_focus, down_ids, is_key_down}
 use Rattle.dispatch_history.specs.Effects.{effects, said_at}
 use Rattle.dispatch_history.specs.Delivery.{able, unresponsive, names, finishes, has_late}
 use Rattle.dispatch_history.specs.Step.{scene}
 use Rattle.routing_rules.specs.Fits.{Fits}
 use Rattle.routing_rules.specs.Told.{devices}
 use Rattle.dispatch_history.specs.Focus.{has_focus}
+use Rattle.input_types.specs.declared.key.KeyArgs.{KeyArgs}
+use Rattle.key_repeat.specs.Due.{Sent}
+use Rattle.dispatch_history.specs.Keys.{keys}
+use Rattle.dispatch_history.specs.KeyTold.{last_key}
+use Rattle.dispatch_history.specs.KeyPlaces.{HoldsKey}
+use Rattle.dispatch_history.specs.Known.{told_repeat, last_message, held_key, AllDiffer, next_repeat, newest_key, known_state, IsNumbered, NeverFalls, told_pointer}
 use Rattle.dispatch_history.specs.Legal.{Legal, reply, calls_of, run, replay}
 use Rattle.dispatch_history.specs.Plan.{Plan}
 use Rattle.dispatch_history.specs.Ordered.{Ordered, ordered, chosen}
 
 -- The last reply of a legal history is that of the history before it, which is legal.
 abbrev pub LegalLast : Type 0
-LegalLast = (call : Call) (answer : Reply) (h : History) → Legal ((call, answer) ∷ h) → (answer ≡ reply h call) × Legal h
+LegalLast = (displays : List ℕ) (call : Call) (answer : Reply) (h : History) → Legal displays ((call, answer) ∷ h) → (answer ≡ reply displays h call) × Legal displays h
 
 -- One more call, answered as it is to be, leaves a history legal.
 abbrev pub LegalMore : Type 0
-LegalMore = (call : Call) (h : History) → Legal h → Legal ((call, reply h call) ∷ h)
+LegalMore = (displays : List ℕ) (call : Call) (h : History) → Legal displays h → Legal displays ((call, reply displays h call) ∷ h)
 
 -- Two legal histories of the same calls are equal.
 abbrev pub LegalUnique : Type 0
-LegalUnique = (h k : History) → Legal h → Legal k → calls_of h ≡ calls_of k → h ≡ k
+LegalUnique = (displays : List ℕ) (h k : History) → Legal displays h → Legal displays k → calls_of h ≡ calls_of k → h ≡ k
 
 -- The replay of calls is a legal history of these calls, and its effects are those of their run.
 abbrev pub ReplayLaw : Type 0
-ReplayLaw = (calls : List Call) → Legal (replay calls) × (calls_of (replay calls) ≡ calls) × (effects (replay calls) ≡ run calls)
+ReplayLaw = (displays : List ℕ) (calls : List Call) → Legal displays (replay displays calls) × (calls_of (replay displays calls) ≡ calls) × (effects displays (replay displays calls) ≡ run displays calls)
 
 -- A legal history is the replay of its calls.
 abbrev pub LegalReplay : Type 0
-LegalReplay = (h : History) → Legal h → replay (calls_of h) ≡ h
+LegalReplay = (displays : List ℕ) (h : History) → Legal displays h → replay displays (calls_of h) ≡ h
 
 -- The effects of a history are of that history.
 abbrev pub EffectsLaw : Type 0
-EffectsLaw = (h : History) → past_of (effects h) ≡ h
+EffectsLaw = (displays : List ℕ) (h : History) → past_of (effects displays h) ≡ h
 
 -- After a step a channel is unresponsive where a tick of this step names it, or where it was unresponsive before and the step is not
 -- a finish of a message of it after which none is late.
@@ -73,63 +83,154 @@ OrderedUnique = (plan : Plan) (es fs : List Effect) → Ordered plan es → Orde
 
 -- In a legal history what was accepted is what waits and what was dispatched.
 abbrev pub QueueLaw : Type 0
-QueueLaw = (h : History) → Legal h → accepted h ≡ reverse (inbound h) ++ dispatched (effects h)
+QueueLaw = (displays : List ℕ) (h : History) → Legal displays h → accepted h ≡ reverse (inbound h) ++ dispatched (effects displays h)
 
 -- What was accepted, and what was dispatched of it, keeps the rule of each device.
 abbrev pub DeviceLaw : Type 0
 DeviceLaw =
-    (h : History) (d : ℕ) → Legal h → IsTrue (is_some (device_state d (accepted h))) × IsTrue (is_some (device_state d (dispatched (effects h))))
+    (displays : List ℕ) (h : History) (d : ℕ) → Legal displays h → IsTrue (is_some (device_state d (accepted h))) × IsTrue (is_some (device_state d (dispatched (effects displays h))))
 
 -- A live channel has one of the numbers that were given.
 abbrev pub LiveLaw : Type 0
-LiveLaw = (h : History) (c : ℕ) → Legal h → live h c ≡ true → (1 ≤ c) × (c ≤ opened h)
+LiveLaw = (displays : List ℕ) (h : History) (c : ℕ) → Legal displays h → live h c ≡ true → (1 ≤ c) × (c ≤ opened h)
 
 -- A step adds to the stream of a channel what it says to it.
 abbrev pub StreamStep : Type 0
 StreamStep =
-    (call : Call) (answer : Reply) (h : History) (c : ℕ)
-    → Legal ((call, answer) ∷ h)
-    → stream (effects ((call, answer) ∷ h)) c
-    ≡ told_on (clock ((call, answer) ∷ h)) (said_at call answer (effects h) c) (stream (effects h) c)
+    (displays : List ℕ) (call : Call) (answer : Reply) (h : History) (c : ℕ)
+    → Legal displays ((call, answer) ∷ h)
+    → stream (effects displays ((call, answer) ∷ h)) c
+    ≡ told_on (clock ((call, answer) ∷ h)) (said_at displays call answer (effects displays h) c) (stream (effects displays h) c)
 
 -- A channel that is not live after a step is told nothing at it: nothing follows a removal.
 abbrev pub SilentLaw : Type 0
 SilentLaw =
-    (call : Call) (answer : Reply) (h : History) (c : ℕ)
-    → live ((call, answer) ∷ h) c ≡ false → stream (effects ((call, answer) ∷ h)) c ≡ stream (effects h) c
+    (displays : List ℕ) (call : Call) (answer : Reply) (h : History) (c : ℕ)
+    → live ((call, answer) ∷ h) c ≡ false → stream (effects displays ((call, answer) ∷ h)) c ≡ stream (effects displays h) c
 
 -- At each moment an id that is down is one pointer.
 abbrev pub OnePointer : Type 0
 OnePointer =
-    (h : History) (p q : PointerOf)
-    → Legal h → AllRise h → IsDown (effects h) p → IsDown (effects h) q → p.device ≡ q.device → p.id ≡ q.id → p ≡ q
+    (displays : List ℕ) (h : History) (p q : PointerOf)
+    → Legal displays h → AllRise h → IsDown (effects displays h) p → IsDown (effects displays h) q → p.device ≡ q.device → p.id ≡ q.id → p ≡ q
 
--- Every window that holds a pointer is able, and so live, and the snapshot names it.
+-- Every window that holds a pointer is able, and so live, and the snapshot names it on the display of the device.
 abbrev pub HolderLaw : Type 0
 HolderLaw =
-    (h : History) (w d i : ℕ) → (scene (effects h)).holds w d i ≡ true → (able (effects h) w ≡ true) × (is_named (snapshot h) w ≡ true)
+    (displays : List ℕ) (h : History) (w d i : ℕ) → (scene displays (effects displays h)).holds w d i ≡ true → (able (effects displays h) w ≡ true) × (is_shown_on (snapshot h) (device_display displays d) w ≡ true)
 
 -- In a legal history whose motions have rising ids, each moment fits the ids that are down: windows hold only ids that are down, and
 -- the last motion of a device lists all that are held.
 abbrev pub FitLaw : Type 0
-FitLaw = (h : History) (d : ℕ) → Legal h → AllRise h → Fits (scene (effects h)) d (down_ids (effects h) d)
+FitLaw = (displays : List ℕ) (h : History) (d : ℕ) → Legal displays h → AllRise h → Fits (scene displays (effects displays h)) d (down_ids (effects displays h) d)
 
 -- The motions of each device in the stream of a live channel come one after the other as the rule of streams says, and leave down just
 -- the ids that its window holds.
 abbrev pub MotionsLaw : Type 0
 MotionsLaw =
-    (h : History) (w d : ℕ)
-    → Legal h → AllRise h → live h w ≡ true → list_any (λ e. e == d) devices ≡ true
-    → told_down d (stream (effects h) w) ≡ Some (filter ((scene (effects h)).holds w d) (down_ids (effects h) d))
+    (displays : List ℕ) (h : History) (w d : ℕ)
+    → Legal displays h → AllRise h → live h w ≡ true → list_any (λ e. e == d) devices ≡ true
+    → told_down d (stream (effects displays h) w) ≡ Some (filter ((scene displays (effects displays h)).holds w d) (down_ids (effects displays h) d))
 
 -- So do those of a channel that is not live any more.
 abbrev pub MotionsComeLaw : Type 0
-MotionsComeLaw = (h : History) (w d : ℕ) → Legal h → AllRise h → IsTrue (is_some (told_down d (stream (effects h) w)))
+MotionsComeLaw = (displays : List ℕ) (h : History) (w d : ℕ) → Legal displays h → AllRise h → IsTrue (is_some (told_down d (stream (effects displays h) w)))
 
 -- The owner of a live channel knows from its stream whether its window has the focus, each change of which comes as it may.
 abbrev pub FocusLaw : Type 0
-FocusLaw = (h : History) (w : ℕ) → Legal h → live h w ≡ true → told_focus (stream (effects h) w) ≡ Some (has_focus h w)
+FocusLaw = (displays : List ℕ) (h : History) (w : ℕ) → Legal displays h → live h w ≡ true → told_focus (stream (effects displays h) w) ≡ Some (has_focus h w)
 
 -- So do those of a channel that is not live any more.
 abbrev pub FocusComesLaw : Type 0
-FocusComesLaw = (h : History) (w : ℕ) → Legal h → IsTrue (is_some (told_focus (stream (effects h) w)))
+FocusComesLaw = (displays : List ℕ) (h : History) (w : ℕ) → Legal displays h → IsTrue (is_some (told_focus (stream (effects displays h) w)))
+
+-- The messages of each key in the stream of a live channel come one after the other as the rule of streams says, and the keys that are
+-- down after them are just those that its window holds, each with the next repeat number.
+abbrev pub KeysLaw : Type 0
+KeysLaw =
+    (displays : List ℕ) (h : History) (w d s : ℕ)
+    → Legal displays h → live h w ≡ true
+    → told_repeat d s (stream (effects displays h) w)
+    ≡ Some (next_repeat (held_key (keys (effects displays h) w) d s) (last_message d s (stream (effects displays h) w)))
+
+-- So do those of a channel that is not live any more.
+abbrev pub KeysComeLaw : Type 0
+KeysComeLaw = (displays : List ℕ) (h : History) (w d s : ℕ) → Legal displays h → IsTrue (is_some (told_repeat d s (stream (effects displays h) w)))
+
+-- The last message of a key that a window holds is a down or a repeat with the same code and meta bits, from which its cancel is made.
+abbrev pub HeldKeyLaw : Type 0
+HeldKeyLaw =
+    (displays : List ℕ) (h : History) (w d s : ℕ) (k : KeyArgs)
+    → Legal displays h → live h w ≡ true → held_key (keys (effects displays h) w) d s ≡ Some k
+    → (k.down ≡ true) × (n : ℕ) × (last_message d s (stream (effects displays h) w) ≡ Some (record { key = k; flags = 0; repeat = n }))
+
+-- The last key message that was told to any window, from which a repeat is made, is the newest one in the stream of its channel.
+abbrev pub LastKeyLaw : Type 0
+LastKeyLaw =
+    (displays : List ℕ) (h : History) (last : Sent)
+    → last_key (effects displays h) ≡ Some last → newest_key (stream (effects displays h) last.channel) ≡ Some last.key
+
+-- The stream of a live channel is well-formed, and leaves its owner knowing what its window holds: the ids and the keys that are down are
+-- just those, and it knows whether it is focused.
+abbrev pub WholeLaw : Type 0
+WholeLaw =
+    (displays : List ℕ) (h : History) (w : ℕ)
+    → Legal displays h → AllRise h → live h w ≡ true
+    → stream_state (stream (effects displays h) w) ≡ Some (known_state (effects displays h) w)
+
+-- The stream of each channel is well-formed.
+abbrev pub WellFormedLaw : Type 0
+WellFormedLaw = (displays : List ℕ) (h : History) (w : ℕ) → Legal displays h → AllRise h → IsTrue (is_well_formed (stream (effects displays h) w))
+
+-- A removed channel stays removed, and its stream is that of just before its removal.
+abbrev pub RemovedLaw : Type 0
+RemovedLaw =
+    (displays : List ℕ) (later h : History) (now c : ℕ)
+    → Legal displays (later ++ (Remove now c, Done) ∷ h)
+    → (live (later ++ (Remove now c, Done) ∷ h) c ≡ false)
+    × (stream (effects displays (later ++ (Remove now c, Done) ∷ h)) c ≡ stream (effects displays h) c)
+
+-- What is asked of a channel that is not live is answered with Gone.
+abbrev pub GoneLaw : Type 0
+GoneLaw =
+    (displays : List ℕ) (h : History) (c : ℕ)
+    → live h c ≡ false
+    → (reply displays h (Receive c) ≡ Gone)
+    × ((now seq : ℕ) → reply displays h (Finish now c seq) ≡ Gone)
+    × ((now device : ℕ) → reply displays h (Pilfer now c device) ≡ Gone)
+    × ((now : ℕ) → reply displays h (Remove now c) ≡ Gone)
+
+-- The messages of a stream are numbered from 1, their moments do not fall, and none is above the clock.
+abbrev pub NumbersLaw : Type 0
+NumbersLaw =
+    (displays : List ℕ) (h : History) (w : ℕ)
+    → IsNumbered (stream (effects displays h) w) × NeverFalls (clock h) (stream (effects displays h) w)
+
+-- In the stream of a live channel each pointer of a device goes down and ends by turns, and after it is down just where its window holds it:
+-- a pointer that went down goes up or is cancelled once, unless it is still down.
+abbrev pub TurnsLaw : Type 0
+TurnsLaw =
+    (displays : List ℕ) (h : History) (w d i : ℕ)
+    → Legal displays h → AllRise h → live h w ≡ true → list_any (λ e. e == d) devices ≡ true
+    → told_pointer d i (stream (effects displays h) w) ≡ Some ((scene displays (effects displays h)).holds w d i)
+
+-- So it does in that of a channel that is not live any more.
+abbrev pub TurnsComeLaw : Type 0
+TurnsComeLaw =
+    (displays : List ℕ) (h : History) (w d i : ℕ)
+    → Legal displays h → AllRise h → IsTrue (is_some (told_pointer d i (stream (effects displays h) w)))
+
+-- In a legal history the keys that are computed for a window are those that it holds by places.
+abbrev pub KeyPlacesLaw : Type 0
+KeyPlacesLaw =
+    (displays : List ℕ) (h : History) (w : ℕ) (k : KeyArgs)
+    → Legal displays h
+    → (held_key (keys (effects displays h) w) k.device k.scan ≡ Some k) ↔ HoldsKey (effects displays h) w k
+
+-- In a legal history a window holds each key once, and the keys that it holds are down on their devices.
+abbrev pub KeysDownLaw : Type 0
+KeysDownLaw =
+    (displays : List ℕ) (h : History) (w : ℕ)
+    → Legal displays h
+    → AllDiffer (keys (effects displays h) w)
+    × ((d s : ℕ) (k : KeyArgs) → held_key (keys (effects displays h) w) d s ≡ Some k → is_key_down (effects displays h) d s ≡ true)

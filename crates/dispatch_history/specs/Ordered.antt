@@ -23,7 +23,7 @@ pub record Candidate : Type 0 where
 -- a call that a script makes
 abbrev pub is_scripted : Call → ℕ
 is_scripted (Windows now snapshot) = 1
-is_scripted (FocusOn now channel) = 1
+is_scripted (FocusOn now display channel) = 1
 is_scripted (Pilfer now channel device) = 1
 is_scripted (Remove now channel) = 1
 is_scripted call = 0
@@ -114,9 +114,9 @@ abbrev pub chosen : Plan → List Effect → Option Candidate
 chosen plan es = soonest (filter (λ c. nat_le c.moment (end_of plan)) (candidates plan es))
 
 -- calls in order behind those before, each answered as it is to be
-abbrev pub extend : List Effect → List Call → List Effect
-extend es [] = es
-extend es (call ∷ calls) = extend (answered call es) calls
+abbrev pub extend : List ℕ → List Effect → List Call → List Effect
+extend displays es [] = es
+extend displays es (call ∷ calls) = extend displays (answered displays call es) calls
 
 -- the receives of all that is published on live channels, by rising channel
 abbrev pub receives : List Effect → List Call
@@ -126,35 +126,35 @@ receives es =
     (channels (opened (past_of es)))
 
 -- the effects after these receives
-abbrev pub received_all : List Effect → List Effect
-received_all es = extend es (receives es)
+abbrev pub received_all : List ℕ → List Effect → List Effect
+received_all displays es = extend displays es (receives es)
 
 -- one round: what is chosen is done, and then all that is published is received
-abbrev pub round : List Effect → Candidate → List Effect
-round es c = received_all (extend es c.calls)
+abbrev pub round : Plan → List Effect → Candidate → List Effect
+round plan es c = received_all plan.displays (extend plan.displays es c.calls)
 
 -- the beginning of the ordered run: its channels are opened
 abbrev pub begun : Plan → List Effect
-begun plan = extend [] (opens plan.channels)
+begun plan = extend plan.displays [] (opens plan.channels)
 
 -- the effects that rounds of the ordered run can have: each does what is chosen after the ones before
 pub data Rounds (plan : Plan) : List Effect → Type 0 where
   start : Rounds plan (begun plan)
-  next : {es : List Effect} {c : Candidate} → Rounds plan es → chosen plan es ≡ Some c → Rounds plan (round es c)
+  next : {es : List Effect} {c : Candidate} → Rounds plan es → chosen plan es ≡ Some c → Rounds plan (round plan es c)
 
 -- the ordered run: some rounds, after which nothing is chosen
 abbrev pub Ordered : Plan → List Effect → Type 0
 Ordered plan es = Rounds plan es × (chosen plan es ≡ None)
 
 -- no more rounds where nothing is chosen, and else one round and then more
-abbrev pub rounds_with : (List Effect → List Effect) → List Effect → Option Candidate → List Effect
-rounds_with more es None = es
-rounds_with more es (Some c) = more (round es c)
+abbrev pub rounds_with : Plan → (List Effect → List Effect) → List Effect → Option Candidate → List Effect
+rounds_with plan more es None = es
+rounds_with plan more es (Some c) = more (round plan es c)
 
 -- at most n rounds
 abbrev pub rounds : ℕ → Plan → List Effect → List Effect
 rounds zero plan es = es
-rounds (suc n) plan es = rounds_with (λ later. rounds n plan later) es (chosen plan es)
+rounds (suc n) plan es = rounds_with plan (λ later. rounds n plan later) es (chosen plan es)
 
 -- the ordered run, where it has at most n rounds
 abbrev pub ordered : ℕ → Plan → List Effect

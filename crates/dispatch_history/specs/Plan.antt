@@ -19,9 +19,10 @@ pub record Cooked : Type 0 where
   pub moment : ℕ
   pub args : Args
 
--- the channels in the order of their opening, the steps and the args in the order of their moments, and the moment at which the
--- run ends unless something of it comes later
+-- the displays of the devices 1 to 8, the channels in the order of their opening, the steps and the args in the order of their
+-- moments, and the moment at which the run ends unless something of it comes later
 pub record Plan : Type 0 where
+  pub displays : List ℕ
   pub channels : List ChannelOf
   pub steps : List ScriptStep
   pub cooked : List Cooked

@@ -12,7 +12,7 @@ use Rattle.routing_rules.specs.Told.{told_with, devices}
 use Rattle.dispatch_history.specs.History.{History, live, origin}
 use Rattle.dispatch_history.specs.Effect.{Effect, past_of}
 use Rattle.dispatch_history.specs.Delivery.{able}
-use Rattle.dispatch_history.specs.Focus.{has_focus, focus_told}
+use Rattle.dispatch_history.specs.Focus.{has_focus, is_target, focus_told}
 use Rattle.dispatch_history.specs.Keys.{keys, loses_all}
 use Rattle.dispatch_history.specs.KeyTold.{keys_told, repeat_by, last_key}
 
@@ -39,7 +39,7 @@ motions_said s e k o w = map (λ m. MotionBody (motion_from o m)) (flat_map (tol
 abbrev pub keys_said : History → Option Args → List Effect → ℕ → List Body
 keys_said after args before w =
     map Key
-    (keys_told args (has_focus (past_of before) w && able before w) (loses_all after (past_of before) w) (keys before w)
+    (keys_told args (is_target (past_of before) w && able before w) (loses_all after (past_of before) w) (keys before w)
     ++ repeat_by after (last_key before) w)
 
 -- what a channel is told that is live after the step: motions, then keys, then the focus

@@ -1,5 +1,5 @@
 -- A history in which nothing is left to do.
-use Rattle.std.specs.Prelude.{ℕ, ◌≡◌, ◌<◌, Bool, true, false, IsTrue, IfSome, [], ◌∷◌, length}
+use Rattle.std.specs.Prelude.{ℕ, ◌≡◌, ◌<◌, Bool, true, false, IsTrue, IfSome, List, [], ◌∷◌, length}
 use Rattle.dispatch_calls.specs.declared.call.Call.{Call}
 use Rattle.dispatch_calls.specs.declared.call.Call.TheVariants.{Pump, Tick}
 use Rattle.dispatch_history.specs.History.{History, clock, live, received, finished}
@@ -21,9 +21,9 @@ ticked (e ∷ h) = ticked_after e.0 (ticked h)
 
 -- no args wait, no repeat is due, a tick came after the last pump, each live channel has received all that is published, and each
 -- live channel of the set has finished all that it received
-pub record Settled (h : History) (finishing : ℕ → Bool) : Type 0 where
+pub record Settled (displays : List ℕ) (h : History) (finishing : ℕ → Bool) : Type 0 where
   pub idle : inbound h ≡ []
-  pub no_repeat : IfSome (repeat_due (effects h)) (λ t. clock h < t)
+  pub no_repeat : IfSome (repeat_due (effects displays h)) (λ t. clock h < t)
   pub looked : IsTrue (ticked h)
-  pub taken : (c : ℕ) → live h c ≡ true → received h c ≡ published (effects h) c
+  pub taken : (c : ℕ) → live h c ≡ true → received h c ≡ published (effects displays h) c
   pub done : (c : ℕ) → live h c ≡ true → finishing c ≡ true → length (finished h c) ≡ received h c

@@ -2,16 +2,17 @@
 use Rattle.std.specs.Prelude.{ℕ, Bool, ◌&&◌, nat_lt, List, map, Option, Some}
 use Rattle.input_types.specs.declared.message.Args.{Args}
 use Rattle.input_types.specs.declared.message.Args.TheVariants.{Motion as MotionArgs, Reset}
+use Rattle.input_types.specs.Displays.{device_display}
+use Rattle.window_snapshot.specs.declared.window.Window.{Window}
 use Rattle.window_snapshot.specs.Mask.{mask_has}
-use Rattle.window_snapshot.specs.Named.{is_named}
 use Rattle.dispatch_calls.specs.declared.call.Call.{Call}
 use Rattle.dispatch_calls.specs.declared.call.Call.TheVariants.{Windows, Pump, Tick, Pilfer, Remove}
 use Rattle.dispatch_calls.specs.declared.reply.Reply.{Reply}
 use Rattle.dispatch_calls.specs.declared.reply.Reply.TheVariants.{Done, Named}
 use Rattle.routing_rules.specs.Pairs.{Pair, has_any}
 use Rattle.routing_rules.specs.Marks.{Mark, held, since, pilfering}
-use Rattle.routing_rules.specs.Scene.{Scene, Step, Moves, Resets, Pilfers, Shows, Mutes, Removes, Rests, scene_of}
-use Rattle.dispatch_history.specs.History.{live, snapshot}
+use Rattle.routing_rules.specs.Scene.{Scene, Step, Moves, Resets, Pilfers, Shows, Mutes, Removes, Rests, scene_of, stays}
+use Rattle.dispatch_history.specs.History.{snapshot, is_on}
 use Rattle.dispatch_history.specs.Effect.{Effect, past_of, last}
 use Rattle.dispatch_history.specs.Delivery.{able}
 
@@ -23,21 +24,25 @@ marks es = map (λ x. x.mark) es
 abbrev pub is_earlier : List Pair → List Mark → (v w device : ℕ) → Bool
 is_earlier qs ms v w d = has_any qs v d && has_any qs w d && nat_lt (since ms v d) (since ms w d)
 
+-- a motion of a device can reach a channel that is on the display of the device; these are the displays of the devices
+abbrev pub reach : List ℕ → List Effect → ℕ → ℕ → Bool
+reach displays es d c = is_on (past_of es) (device_display displays d) c
+
 -- the moment after these steps, with their marks and the pairs that these leave
-abbrev pub scene_with : List Effect → List Mark → List Pair → Scene
-scene_with es ms qs =
-    scene_of (snapshot (past_of es)) (live (past_of es)) (able es) qs (is_earlier qs ms) (pilfering ms) (last es)
+abbrev pub scene_with : List ℕ → List Effect → List Mark → List Pair → Scene
+scene_with displays es ms qs =
+    scene_of (snapshot (past_of es)) (reach displays es) (able es) qs (is_earlier qs ms) (pilfering ms) (last es)
 
 -- the moment after these steps, as the rules see it
-abbrev pub scene : List Effect → Scene
-scene es = let ms = marks es in scene_with es ms (held ms)
+abbrev pub scene : List ℕ → List Effect → Scene
+scene displays es = let ms = marks es in scene_with displays es ms (held ms)
 
--- what a step is to the rules, with the args that it dispatches
-abbrev pub step_of : Call → Reply → Option Args → Step
-step_of (Pump now) reply (Some (MotionArgs m)) = Moves m
-step_of (Pump now) reply (Some (Reset d)) = Resets d
-step_of (Windows now snapshot) reply args = Shows (is_named snapshot)
-step_of (Tick now) (Named mask) args = Mutes (mask_has mask)
-step_of (Pilfer now channel device) Done args = Pilfers channel device
-step_of (Remove now channel) Done args = Removes channel
-step_of call reply args = Rests
+-- what a step is to the rules, with the windows before it and the args that it dispatches
+abbrev pub step_of : List Window → Call → Reply → Option Args → Step
+step_of before (Pump now) reply (Some (MotionArgs m)) = Moves m
+step_of before (Pump now) reply (Some (Reset d)) = Resets d
+step_of before (Windows now next) reply args = Shows (stays before next)
+step_of before (Tick now) (Named mask) args = Mutes (mask_has mask)
+step_of before (Pilfer now channel device) Done args = Pilfers channel device
+step_of before (Remove now channel) Done args = Removes channel
+step_of before call reply args = Rests

@@ -18,7 +18,7 @@
 //!
 //! A history is a list of calls with their replies, newest first; what is before a step is the tail. The effects of a history stand
 //! beside its steps: what each dispatched, gave, took and told. All definitions look back over these two lists, read replies and never
-//! work one out again, and no definition reads who made a call.
+//! work one out again, and no definition reads who made a call. Which display each device is on is handed to those that need it.
 #![tactic(auto)]
 
 pub mod laws;

@@ -1,23 +1,33 @@
 -- Who has the focus, computed.
-use Rattle.std.specs.Prelude.{◌≡◌, ℕ, Option, Some, None, refl}
-use Rattle.focus_resolver.specs.Resolver.{FocusState, focus_of}
-use Rattle.focus_resolver.specs.Changes.{change}
+use Rattle.std.specs.Prelude.{◌≡◌, ℕ, true, false, [], ◌∷◌, Option, Some, None, refl}
+use Rattle.focus_resolver.specs.Resolver.{FocusState, focus_of, is_focused, target_of}
 
-abbrev state : Option ℕ → ℕ → FocusState
-state requested focusable = record { requested = requested; focusable = focusable }
+-- what was requested on the displays 0 and 1, the display of the last request, and who may have the focus of the two
+abbrev state : Option ℕ → Option ℕ → ℕ → ℕ → ℕ → FocusState
+state a b last here there = record { requested = a ∷ b ∷ None ∷ None ∷ []; last = last; focusable = here ∷ there ∷ 0 ∷ 0 ∷ [] }
 
-pub requested_and_named : focus_of (state (Some 2) 2) ≡ Some 2
+pub requested_and_named : focus_of (state (Some 2) None 0 2 0) 0 ≡ Some 2
 requested_and_named = refl
 
-pub requested_and_not_named : focus_of (state (Some 2) 1) ≡ None
+pub requested_and_not_named : focus_of (state (Some 2) None 0 1 0) 0 ≡ None
 requested_and_not_named = refl
 
 -- a number beyond the channels is in no mask
-pub requested_beyond : focus_of (state (Some 65) 18446744073709551615) ≡ None
+pub requested_beyond : focus_of (state (Some 65) None 0 18446744073709551615 0) 0 ≡ None
 requested_beyond = refl
 
-pub moved_on : change (Some 1) (Some 2) ≡ record { lost = Some 1; gained = Some 2 }
-moved_on = refl
+-- a channel that is requested on display 0 and shown on display 1
+pub requested_elsewhere : is_focused (focus_of (state (Some 2) None 0 0 2)) 2 ≡ false
+requested_elsewhere = refl
 
-pub stayed : change (Some 1) (Some 1) ≡ record { lost = None; gained = None }
-stayed = refl
+-- requested on both displays, it stays focused where its window moves from one to the other
+pub requested_on_both : is_focused (focus_of (state (Some 2) (Some 2) 0 0 2)) 2 ≡ true
+requested_on_both = refl
+
+-- two displays have their focus each, and keys go to that of the last request
+pub two_are_focused : target_of (state (Some 1) (Some 2) 1 1 2) ≡ Some 2
+two_are_focused = refl
+
+-- where nobody is focused on the display of the last request, keys go to nobody
+pub keys_to_nobody : target_of (state (Some 1) None 1 1 2) ≡ None
+keys_to_nobody = refl

@@ -1,8 +1,7 @@
 -- A change of the focus.
-use Rattle.std.specs.Prelude.{ℕ, Option, None, if◌then◌else◌}
-use Rattle.focus_resolver.specs.declared.resolver.Change.{Change}
-use Rattle.focus_resolver.specs.Resolver.{is_same}
+use Rattle.std.specs.Prelude.{ℕ, ◌≡◌, Bool, not, ◌&&◌}
+use Rattle.window_snapshot.specs.Mask.{mask_has}
 
--- who lost the focus and who gained it, where it was here before and is there after
-abbrev pub change : Option ℕ → Option ℕ → Change
-change before after = if is_same before after then record { lost = None; gained = None } else record { lost = before; gained = after }
+-- the mask has exactly the channels that are in the first set and not in the second
+abbrev pub IsOnlyIn : ℕ → (first second : ℕ → Bool) → Type 0
+IsOnlyIn mask first second = (c : ℕ) → mask_has mask c ≡ (first c && not (second c))

@@ -1,17 +1,20 @@
-//! Which window has the focus: the one that was requested last, where it may have it.
+//! Which window has the focus of each display, and to which of them keys go.
 //!
-//! Channel 2 is requested while the windows are those of channels 1 and 2, and then the window of channel 2 goes away:
+//! On a display the window has the focus that was requested last for it, where it may have it there. Keys go to the focused window
+//! of the display of the last request. Channel 2 is requested on display 0 while the windows there are those of channels 1 and 2,
+//! then channel 3 on display 1, and then the window of channel 2 goes away and comes back:
 //!
 //! ```text
-//! windows 0b11            nobody has the focus
-//! request Some(2)         gained: 2
-//! windows 0b01            lost: 2
-//! windows 0b11            gained: 2
+//! windows [0b011, 0b100, 0, 0]      nobody is focused
+//! request 0 Some(2)                 gained: 2          keys go to 2
+//! request 1 Some(3)                 gained: 3          keys go to 3
+//! windows [0b001, 0b100, 0, 0]      lost: 2            keys go to 3
+//! windows [0b011, 0b100, 0, 0]      gained: 2          keys go to 3
 //! ```
 //!
-//! The request stays, so the window has the focus again when it comes back.
+//! A request stays, so a window is focused again when it comes back.
 #![tactic(auto)]
 
 mod resolver;
 
-pub use resolver::{Change, Focus};
+pub use resolver::{Change, Focus, Focusable};

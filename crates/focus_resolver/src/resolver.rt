@@ -1,154 +1,153 @@
-//! The focus, and how it changes.
-ghost use Rattle.std.specs.Prelude.{◌≡◌, None, Some};
-ghost use Rattle.focus_resolver.specs.Resolver.{focus_if, focus_of, is_same};
-ghost use Rattle.focus_resolver.specs.Changes.{change};
+//! The focus of each display, and how it changes.
+ghost use Rattle.std.specs.Prelude.{◌≡◌, ◌<◌, ℕ, None, replicate, slice_set};
+ghost use Rattle.focus_resolver.specs.Resolver.{focus_if, focus_of, is_at, is_focused, target_of};
+ghost use Rattle.focus_resolver.specs.Changes.{IsOnlyIn};
+ghost use Rattle.window_snapshot.specs.Mask.{mask_has};
 
+use input_types::DisplayId;
 use std::marker::Model;
-use window_snapshot::mask_has;
+use window_snapshot::{mask_has, mask_with};
 
-/// Who lost the focus, and who gained it. Where it stays, both are None.
+/// The channels that may have the focus of each display: those that are live, and that the windows name on it with one that may
+/// have it. Bit `id - 1` of a mask stands for the channel `id`.
 #[derive(Clone, Copy, Debug, PartialEq, Eq)]
-pub struct Change {
-    pub lost: Option<u32>,
-    pub gained: Option<u32>,
+pub struct Focusable {
+    /// The masks of the displays 0 to 3.
+    pub masks: [u64; 4],
 }
 
-/// Which channel has the focus. It is the one that was requested last, where the last mask has it; nobody at first.
+/// What a step did to the focus.
+#[derive(Clone, Copy, Debug, PartialEq, Eq)]
+pub struct Change {
+    /// The mask of the channels that were focused on some display, and now are on none.
+    pub lost: u64,
+    /// The mask of those that were focused on none, and now are on some.
+    pub gained: u64,
+    /// The channel that keys go to after the step.
+    pub target: Option<u32>,
+}
+
+/// Which channel has the focus of each display, and to which of them keys go. The focus of a display is at the channel that was
+/// requested last for it, where that may have it; keys go to the focus of the display of the last request, or of display 0 before
+/// there was one.
 #[derive(Clone, Copy, Debug)]
 pub struct Focus {
-    requested: Option<u32>,
-    focusable: u64,
+    requested: [Option<u32>; 4],
+    last: DisplayId,
+    focusable: Focusable,
 }
 
 impl Model for Focus {
+    ghost use Rattle.std.specs.Prelude.{◌≡◌, length};
     ghost use Rattle.focus_resolver.specs.Resolver.{FocusState};
 
     ghost Value = { FocusState };
 
-    ghost view = { λ f. record { requested = f.requested; focusable = f.focusable } };
+    ghost view = { λ f. record { requested = f.requested; last = f.last; focusable = f.focusable.masks } };
 
-    ghost inverse = { λ s. record { requested = s.requested; focusable = s.focusable } };
+    ghost inverse = { λ s. record { requested = s.requested; last = s.last; focusable = record { masks = s.focusable } } };
 }
 
-fn is_same_channel(before: Option<u32>, after: Option<u32>) -> bool
-    ensures { result ≡ is_same before after }
+/// The requested channel, where the mask of those that may have the focus has it.
+fn focus_if(requested: Option<u32>, focusable: u64) -> Option<u32>
+    ensures { result ≡ focus_if (mask_has focusable) requested }
 {
-    match (before, after) {
-        (None, None) => true,
-        (Some(c), Some(d)) => c == d,
-        _ => false,
+    match requested {
+        Some(channel) if mask_has(focusable, channel) => Some(channel),
+        _ => None,
     }
 }
 
-fn change_of(before: Option<u32>, after: Option<u32>) -> Change
-    ensures { result ≡ change before after }
+/// The focus of one display as a mask.
+fn focus_mask(requested: Option<u32>, focusable: u64) -> u64
+    ensures { (c : ℕ) → mask_has result c ≡ is_at (focus_if (mask_has focusable) requested) c }
 {
-    if is_same_channel(before, after) {
-        Change {
-            lost: None,
-            gained: None,
-        }
-    } else {
-        Change {
-            lost: before,
-            gained: after,
-        }
+    match focus_if(requested, focusable) {
+        Some(channel) => mask_with(0, channel),
+        None => 0,
     }
 }
 
 impl Focus {
     /// Nothing was requested, and no channel may have the focus.
     pub fn new() -> Focus
-        ensures { result ≡ record { requested = None; focusable = 0 } }
+        ensures { result ≡ record { requested = replicate 4 None; last = 0; focusable = replicate 4 0 } }
     {
         Focus {
-            requested: None,
-            focusable: 0,
+            requested: [None; 4],
+            last: DisplayId::zero(),
+            focusable: Focusable { masks: [0; 4] },
         }
     }
 
-    /// The channel that has the focus.
-    pub fn current(&self) -> Option<u32>
-        ensures { result ≡ focus_of self.now }
+    /// The channel that has the focus of a display.
+    pub fn current(&self, display: DisplayId) -> Option<u32>
+        ensures { result ≡ focus_of self.now display }
     {
-        match self.requested {
-            Some(channel) if mask_has(self.focusable, channel) => Some(channel),
-            _ => None,
-        }
+        let place = usize::from(display.get());
+        focus_if(self.requested[place], self.focusable.masks[place])
     }
 
-    /// The focus is requested for a channel, or for none. Any number may be requested.
-    pub fn request(&mut self, channel: Option<u32>) -> Change
-        ensures state { self.new ≡ record { requested = channel; focusable = self.old.focusable } }
-        ensures change { result ≡ change (focus_of self.old) (focus_of self.new) }
+    /// The channel that keys go to.
+    pub fn target(&self) -> Option<u32>
+        ensures { result ≡ target_of self.now }
     {
-        let before = self.current();
-        self.requested = channel;
-        change_of(before, self.current())
+        let place = usize::from(self.last.get());
+        focus_if(self.requested[place], self.focusable.masks[place])
     }
 
-    /// The channels that may have the focus: those that are live, and that the windows name with one that may have it. Bit `id - 1` of
-    /// the mask stands for the channel `id`.
-    pub fn windows(&mut self, focusable: u64) -> Change
-        ensures state { self.new ≡ record { requested = self.old.requested; focusable = focusable } }
-        ensures change { result ≡ change (focus_of self.old) (focus_of self.new) }
+    /// The focus of a display is requested for a channel, or for none. Any number may be requested.
+    pub fn request(&mut self, display: DisplayId, channel: Option<u32>) -> Change
+        ensures state { self.new
+            ≡ record { requested = slice_set self.old.requested display channel; last = display; focusable = self.old.focusable } }
+        ensures lost { IsOnlyIn result.lost (is_focused (focus_of self.old)) (is_focused (focus_of self.new)) }
+        ensures gained { IsOnlyIn result.gained (is_focused (focus_of self.new)) (is_focused (focus_of self.old)) }
+        ensures target { result.target ≡ target_of self.new }
     {
-        let before = self.current();
+        let before = self.focused();
+        self.requested[usize::from(display.get())] = channel;
+        self.last = display;
+        self.since(before)
+    }
+
+    /// The channels that may have the focus are these from now on.
+    pub fn windows(&mut self, focusable: Focusable) -> Change
+        ensures state { self.new ≡ record { requested = self.old.requested; last = self.old.last; focusable = focusable.masks } }
+        ensures lost { IsOnlyIn result.lost (is_focused (focus_of self.old)) (is_focused (focus_of self.new)) }
+        ensures gained { IsOnlyIn result.gained (is_focused (focus_of self.new)) (is_focused (focus_of self.old)) }
+        ensures target { result.target ≡ target_of self.new }
+    {
+        let before = self.focused();
         self.focusable = focusable;
-        change_of(before, self.current())
+        self.since(before)
     }
-}
 
-#[cfg(test)]
-mod tests {
-    use super::*;
+    /// The mask of the channels that are focused on some display.
+    fn focused(&self) -> u64
+        ensures { (c : ℕ) → mask_has result c ≡ is_focused (focus_of self.now) c }
+    {
+        self.mask_on(0) | self.mask_on(1) | self.mask_on(2) | self.mask_on(3)
+    }
 
-    // A requested window has the focus once it may, loses it when it goes, and has it again when it comes back.
-    #[test]
-    fn the_request_stays(rt: HostRuntime) {
-        let mut focus = Focus::new();
-        assert_eq!(rt;
-            focus.request(Some(2)),
-            Change {
-                lost: None,
-                gained: None
-            }
-        );
-        assert_eq!(rt;
-            focus.windows(0b11),
-            Change {
-                lost: None,
-                gained: Some(2)
-            }
-        );
-        assert_eq!(rt;
-            focus.windows(0b01),
-            Change {
-                lost: Some(2),
-                gained: None
-            }
-        );
-        assert_eq!(rt;
-            focus.windows(0b11),
-            Change {
-                lost: None,
-                gained: Some(2)
-            }
-        );
-        assert_eq!(rt;
-            focus.request(Some(1)),
-            Change {
-                lost: Some(2),
-                gained: Some(1)
-            }
-        );
-        assert_eq!(rt;
-            focus.request(Some(65)),
-            Change {
-                lost: Some(1),
-                gained: None
-            }
-        );
-        assert_eq!(rt; focus.current(), None);
+    /// The focus of one display as a mask.
+    fn mask_on(&self, display: usize) -> u64
+        requires { display < 4 }
+        ensures { (c : ℕ) → mask_has result c ≡ is_at (focus_of self.now display) c }
+    {
+        focus_mask(self.requested[display], self.focusable.masks[display])
+    }
+
+    /// What changed since the channels of this mask were focused.
+    fn since(&self, before: u64) -> Change
+        ensures lost { IsOnlyIn result.lost (mask_has before) (is_focused (focus_of self.now)) }
+        ensures gained { IsOnlyIn result.gained (is_focused (focus_of self.now)) (mask_has before) }
+        ensures target { result.target ≡ target_of self.now }
+    {
+        let after = self.focused();
+        Change {
+            lost: before & !after,
+            gained: after & !before,
+            target: self.target(),
+        }
     }
 }

@@ -1,13 +1,13 @@
 -- Worked packets, computed. The newest packet stands first.
-use Rattle.std.specs.Prelude.{◌≡◌, ℕ, pos, List, [], ◌∷◌, map, refl}
+use Rattle.std.specs.Prelude.{◌≡◌, ℕ, pos, Bool, true, false, List, [], ◌∷◌, map, refl}
 use Rattle.slot_accumulator.specs.declared.contacts.Contact.{Contact}
 use Rattle.pointer_ids.specs.declared.named.Named.{Named}
 use Rattle.pointer_ids.specs.declared.assigned.Held.{Held}
-use Rattle.pointer_ids.specs.PointerIds.{named_after, assigned, least_free}
+use Rattle.pointer_ids.specs.PointerIds.{named_after, is_cancelled, assigned, least_free}
 
 -- a contact of this slot and tracking id, at (slot, 0)
 abbrev touch : ℕ → ℕ → Contact
-touch slot tracking = record { slot = slot; tracking = pos tracking; x = pos slot; y = pos 0 }
+touch slot tracking = record { slot = slot; tracking = pos tracking; x = pos slot; y = pos 0; palm = false }
 
 abbrev ids : List (List Contact) → List ℕ
 ids past = map (λ (n : Named). n.id) (named_after past)
@@ -48,3 +48,53 @@ rising_ids = refl
 pub all_gone : ids ((touch 1 46 ∷ []) ∷ [] ∷ (touch 0 45 ∷ touch 1 46 ∷ []) ∷ []) ≡ 0 ∷ []
 unfolding least_free
 all_gone = refl
+
+-- ---- palms
+
+abbrev palm : ℕ → ℕ → Contact
+palm slot tracking = record { slot = slot; tracking = pos tracking; x = pos slot; y = pos 0; palm = true }
+
+-- the ids below four that are cancelled in the newest of some packets
+abbrev cancelled : List (List Contact) → List Bool
+cancelled [] = []
+cancelled (cs ∷ past) = map (λ i. is_cancelled (named_after past) cs i) (0 ∷ 1 ∷ 2 ∷ 3 ∷ [])
+
+-- the second finger becomes a palm: it is no pointer, and its id is cancelled
+abbrev second_is_a_palm : List (List Contact)
+second_is_a_palm = (touch 0 45 ∷ palm 1 46 ∷ []) ∷ (touch 0 45 ∷ touch 1 46 ∷ []) ∷ []
+
+pub one_palm : (ids second_is_a_palm ≡ 0 ∷ []) × (cancelled second_is_a_palm ≡ false ∷ true ∷ false ∷ false ∷ [])
+unfolding least_free
+one_palm = (refl, refl)
+
+-- in that packet alone
+pub cancelled_once : cancelled ((touch 0 45 ∷ palm 1 46 ∷ []) ∷ second_is_a_palm) ≡ false ∷ false ∷ false ∷ false ∷ []
+unfolding least_free
+cancelled_once = refl
+
+-- a new finger does not get the cancelled id in the packet that cancels it, but may in the next one
+pub cancelled_id_waits : ids ((touch 0 45 ∷ palm 1 46 ∷ touch 2 47 ∷ []) ∷ (touch 0 45 ∷ touch 1 46 ∷ []) ∷ []) ≡ 0 ∷ 2 ∷ []
+unfolding least_free
+cancelled_id_waits = refl
+
+pub cancelled_id_is_free : ids ((touch 0 45 ∷ palm 1 46 ∷ touch 2 47 ∷ []) ∷ second_is_a_palm) ≡ 0 ∷ 1 ∷ []
+unfolding least_free
+cancelled_id_is_free = refl
+
+-- a contact that is a palm from its first packet on never has an id, and cancels none
+pub palm_at_once : (ids ((touch 0 45 ∷ palm 1 46 ∷ []) ∷ (touch 0 45 ∷ []) ∷ []) ≡ 0 ∷ [])
+    × (cancelled ((touch 0 45 ∷ palm 1 46 ∷ []) ∷ (touch 0 45 ∷ []) ∷ []) ≡ false ∷ false ∷ false ∷ false ∷ [])
+unfolding least_free
+palm_at_once = (refl, refl)
+
+-- two palms in one packet of three fingers
+pub two_palms : (ids ((palm 0 45 ∷ touch 1 46 ∷ palm 2 47 ∷ []) ∷ (touch 0 45 ∷ touch 1 46 ∷ touch 2 47 ∷ []) ∷ []) ≡ 1 ∷ [])
+    × (cancelled ((palm 0 45 ∷ touch 1 46 ∷ palm 2 47 ∷ []) ∷ (touch 0 45 ∷ touch 1 46 ∷ touch 2 47 ∷ []) ∷ []) ≡ true ∷ false ∷ true ∷ false ∷ [])
+unfolding least_free
+two_palms = (refl, refl)
+
+-- a finger that lifts beside one that becomes a palm is gone, and not cancelled
+pub one_lifts : (ids ((palm 1 46 ∷ []) ∷ (touch 0 45 ∷ touch 1 46 ∷ []) ∷ []) ≡ [])
+    × (cancelled ((palm 1 46 ∷ []) ∷ (touch 0 45 ∷ touch 1 46 ∷ []) ∷ []) ≡ false ∷ true ∷ false ∷ false ∷ [])
+unfolding least_free
+one_lifts = (refl, refl)

@@ -1,4 +1,4 @@
--- Ids of a packet, contact by contact.
+-- Ids of a packet, finger by finger.
 use Rattle.std.specs.Prelude.{◌≡◌, ℕ, suc, ◌+◌, ◌<◌, Bool, true, false, ◌||◌, nat_eq, List, [], ◌∷◌, ◌++◌, length, drop, get_or}
 use Rattle.std.proofs.Common.{sym, ◌∙◌, ap, refl, arith, drop-cons, append_assoc, add-one}
 use Rattle.std.specs.Prelude.{◌-◌, ◌≢◌, ℤ, Option, None, is_some, if◌then◌else◌, ◌⊎◌, take, replicate}
@@ -10,7 +10,7 @@ use Rattle.std.proofs.lemmas.Bool.{cases_eq}
 use Rattle.slot_accumulator.specs.declared.contacts.Contact.{Contact}
 use Rattle.bits32.specs.Set.{is_in}
 use Rattle.pointer_ids.specs.declared.named.Named.{Named}
-use Rattle.pointer_ids.specs.PointerIds.{has_id, id_in, least_free, id_of, taken_after, named_contact, named_from}
+use Rattle.pointer_ids.specs.PointerIds.{fingers, has_id, id_in, least_free, id_of, taken_after, named_contact, named_from}
 
 pub or_false : (a : Bool) → (a || false) ≡ a
 or_false true = refl
@@ -78,3 +78,9 @@ pub one_named : (before : List Named) (done : List Named) (a b : ℕ) (c : Conta
 one_named before done a b c rest h =
     append_assoc done (named_contact c (id_of before (λ i. is_in i a) c.tracking) ∷ []) (named_from before (λ k. is_in k b) rest)
     ∙ ap (λ t. done ++ named_contact c (id_of before (λ i. is_in i a) c.tracking) ∷ named_from before t rest) (fun_ext h)
+
+pub finger_first : (c : Contact) (cs : List Contact) → c.palm ≡ false → fingers (c ∷ cs) ≡ c ∷ fingers cs
+finger_first c cs h = rw h refl
+
+pub palm_first : (c : Contact) (cs : List Contact) → c.palm ≡ true → fingers (c ∷ cs) ≡ fingers cs
+palm_first c cs h = rw h refl

@@ -127,3 +127,27 @@ few_below (suc i) ns = joined_few (by_id i ns) i ns (find (λ (x : Named). nat_e
 -- there is room for the next pointer
 pub room_next : (i : ℕ) (ns : List Named) (n : Named) → length ns ≤ 16 → find (λ (x : Named). nat_eq x.id i) ns ≡ Some n → length (by_id i ns) < 16
 room_next i ns n few e = omega (arith, few, few_below i ns, lower_found ns i n e, lower_le (suc i) ns)
+
+-- ---- all fingers are listed
+
+none_left : (hs : List Held) (o : Option Named) → ((n : Named) → o ≡ Some n → ⊥) → joined hs o ≡ hs
+none_left hs None h = refl
+none_left hs (Some n) h = absurd (h n refl)
+
+lower_rises : (k i j : ℕ) (ns : List Named) → j ≡ i + k → lower i ns ≤ lower j ns
+lower_rises zero i j ns e = let same : i ≡ j = omega (arith, e) in subst (λ n. lower i ns ≤ lower n ns) same (omega arith)
+lower_rises (suc k) i zero ns e = absurd (omega (arith, e))
+lower_rises (suc k) i (suc j) ns e = omega (arith, lower_rises k i j ns (omega (arith, e)), lower_more j ns)
+
+more_ids : (k i j : ℕ) (ns : List Named) → j ≡ i + k → length ns ≤ length (by_id i ns) → by_id j ns ≡ by_id i ns
+more_ids zero i j ns e h = let same : j ≡ i = omega (arith, e) in ap (λ n. by_id n ns) same
+more_ids (suc k) i zero ns e h = absurd (omega (arith, e))
+more_ids (suc k) i (suc j) ns e h =
+    let before : j ≡ i + k = omega (arith, e) in
+    none_left (by_id j ns) (find (λ (x : Named). nat_eq x.id j) ns)
+    (λ n f. omega (arith, h, few_below i ns, lower_rises k i j ns before, lower_found ns j n f, lower_le (suc j) ns))
+    ∙ more_ids k i j ns before h
+
+-- where as many are listed as there are, greater ids list no more
+pub all_listed : (i : ℕ) (ns : List Named) → i ≤ 32 → length (by_id i ns) ≡ length ns → by_id i ns ≡ by_id 32 ns
+all_listed i ns le e = sym (more_ids (32 - i) i 32 ns (omega (arith, le)) (omega (arith, e)))

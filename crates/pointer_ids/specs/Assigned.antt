@@ -1,6 +1,11 @@
--- Lists of pointers with rising ids, and the table that keeps one.
+-- What contracts see of the pointers of a packet, and the table that keeps them.
 use Rattle.std.specs.Prelude.{◌≡◌, ℕ, ◌-◌, ◌<◌, ◌≤◌, pos, List, [], ◌∷◌, length, take, drop, replicate}
 use Rattle.pointer_ids.specs.declared.assigned.Held.{Held}
+
+-- the pointers of a packet in rising id, and the set of the ids that are cancelled in it
+pub record Assignment : Type 0 where
+  pub pointers : List Held
+  pub cancelled : ℕ
 
 -- each id is below that of the next pointer
 abbrev pub IsRising : List Held → Type 0

@@ -14,5 +14,9 @@ items-again p h =
     ∙ take-append-drop p.used p.items
 
 pub fields_again : (p : Inside) (h : IsTable p.items p.used)
-    → record { items = take p.used p.items ++ replicate (16 - length (take p.used p.items)) unused; used = length (take p.used p.items) } ≡ p
-fields_again p h i = record { items = items-again p h i; used = length-used p h i }
+    → record {
+      items = take p.used p.items ++ replicate (16 - length (take p.used p.items)) unused;
+      used = length (take p.used p.items);
+      cancelled = p.cancelled;
+    } ≡ p
+fields_again p h i = record { items = items-again p h i; used = length-used p h i; cancelled = p.cancelled }

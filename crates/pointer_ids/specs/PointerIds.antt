@@ -1,12 +1,17 @@
--- Which pointer id each contact of a packet has.
-use Rattle.std.specs.Prelude.{ℕ, zero, suc, ◌+◌, Bool, ◌||◌, nat_eq, ℤ, List, [], ◌∷◌, ◌++◌, Option, Some, None, is_some, unwrap_or, find, if◌then◌else◌}
+-- Which pointer id each finger of a packet has, and which ids are cancelled: fingers that became palms. A finger is a
+-- contact that is no palm.
+use Rattle.std.specs.Prelude.{ℕ, zero, suc, ◌+◌, Bool, not, ◌||◌, ◌&&◌, nat_eq, ℤ, List, [], ◌∷◌, ◌++◌, Option, Some, None, is_some, unwrap_or, filter, find, if◌then◌else◌}
 use Rattle.std.specs.List.{list_any}
 use Rattle.std.specs.Ordering.{int_eq}
 use Rattle.slot_accumulator.specs.declared.contacts.Contact.{Contact}
 use Rattle.pointer_ids.specs.declared.named.Named.{Named}
 use Rattle.pointer_ids.specs.declared.assigned.Held.{Held}
 
--- a contact of the packet has this id
+-- the contacts of a packet that are no palms
+abbrev pub fingers : List Contact → List Contact
+fingers cs = filter (λ c. not c.palm) cs
+
+-- a finger of the packet has this id
 abbrev pub has_id : ℕ → List Named → Bool
 has_id i packet = list_any (λ n. nat_eq n.id i) packet
 
@@ -20,43 +25,52 @@ abbrev pub least_from : (ℕ → Bool) → ℕ → ℕ → ℕ
 least_from taken n zero = n
 least_from taken n (suc left) = if taken n then least_from taken (n + 1) left else n
 
--- the least id that is not taken; of the 32 ids at most 31 are, by the 16 contacts of one packet and 15 of the next
+-- the least id that is not taken; of the 32 ids at most 31 are, by the 16 fingers of one packet and 15 of the next
 unfoldable pub least_free : (ℕ → Bool) → ℕ
 least_free taken = least_from taken 0 32
 
--- The id of a contact: the one that its tracking id had in the packet before, else the least that is not taken. Taken are the ids
--- of all contacts of the packet before and those that new contacts of lower slots got.
+-- The id of a finger: the one that its tracking id had in the packet before, else the least that is not taken. Taken
+-- are the ids of all fingers of the packet before and those that new fingers of lower slots got.
 abbrev pub id_of : List Named → (ℕ → Bool) → ℤ → ℕ
 id_of before taken tracking = unwrap_or (id_in tracking before) (least_free taken)
 
--- the ids that are taken after a contact got its id
+-- the ids that are taken after a finger got its id
 abbrev pub taken_after : List Named → (ℕ → Bool) → ℤ → ℕ → Bool
 taken_after before taken tracking =
     if is_some (id_in tracking before) then taken else (λ k. nat_eq k (least_free taken) || taken k)
 
--- a contact with its id
+-- a finger with its id
 abbrev pub named_contact : Contact → ℕ → Named
 named_contact c i = record { tracking = c.tracking; id = i; x = c.x; y = c.y }
 
--- contacts in rising slot with their ids
+-- fingers in rising slot with their ids
 abbrev pub named_from : List Named → (ℕ → Bool) → List Contact → List Named
 named_from before taken [] = []
 named_from before taken (c ∷ cs) =
     named_contact c (id_of before taken c.tracking) ∷ named_from before (taken_after before taken c.tracking) cs
 
--- the contacts of a packet with their ids, given those of the packet before
+-- the fingers of a packet with their ids, given those of the packet before
 abbrev pub named : List Named → List Contact → List Named
-named before cs = named_from before (λ i. has_id i before) cs
+named before cs = named_from before (λ i. has_id i before) (fingers cs)
 
--- the contacts of the last packet with their ids, after a list of packets, the newest first
+-- the contact of this tracking id is a palm
+abbrev pub has_palm : List Contact → ℤ → Bool
+has_palm cs tracking = list_any (λ c. int_eq c.tracking tracking && c.palm) cs
+
+-- an id of the packet before is cancelled: its tracking id is that of a palm now
+abbrev pub is_cancelled : List Named → List Contact → ℕ → Bool
+is_cancelled before cs i = list_any (λ n. nat_eq n.id i && has_palm cs n.tracking) before
+
+-- the fingers of the last packet with their ids, after a list of packets, the newest first
 abbrev pub named_after : List (List Contact) → List Named
 named_after [] = []
 named_after (cs ∷ past) = named (named_after past) cs
 
--- a contact as a pointer
+-- a finger as a pointer
 abbrev pub held : Named → Held
 held n = record { id = n.id; x = n.x; y = n.y }
 
+-- pointers, and the finger behind them that there may be
 abbrev pub joined : List Held → Option Named → List Held
 joined hs None = hs
 joined hs (Some n) = hs ++ held n ∷ []

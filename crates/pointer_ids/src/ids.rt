@@ -2,7 +2,9 @@
 ghost use Rattle.std.specs.Prelude.{◌≡◌, ℕ, ◌+◌, ◌<◌, ◌≤◌, List, [], ◌∷◌, length, option_map, find, nat_eq};
 ghost use Rattle.bits32.specs.Set.{is_in, members};
 ghost use Rattle.slot_accumulator.specs.declared.contacts.Contact.{Contact as Touch};
-ghost use Rattle.pointer_ids.specs.PointerIds.{id_in, id_of, taken_after, least_free, has_id, named_contact, named_from, named as named_in, named_after, held, by_id, assigned};
+ghost use Rattle.pointer_ids.specs.PointerIds.{id_in, id_of, taken_after, least_free, has_id, named_contact};
+ghost use Rattle.pointer_ids.specs.PointerIds.{named_from, named as named_in, named_after, has_palm, is_cancelled};
+ghost use Rattle.pointer_ids.specs.PointerIds.{held, by_id, assigned};
 
 use crate::assigned::{Assigned, Held};
 use crate::named::{Named, NamedList};
@@ -13,7 +15,7 @@ use std::marker::Model;
 
 /// The pointer ids of one device. It is `Copy` and takes no memory.
 ///
-/// Contracts see the contacts of the last packet with their ids, in slot order.
+/// Contracts see the fingers of the last packet with their ids, in slot order.
 #[derive(Clone, Copy, Debug, PartialEq, Eq)]
 pub struct Ids {
     last: NamedList,
@@ -40,18 +42,23 @@ impl Ids {
         }
     }
 
-    /// The pointers of the next packet, in rising id.
+    /// The pointers of the next packet, in rising id, and the ids that are cancelled in it.
     ///
-    /// A contact keeps its id while its tracking id is present in successive packets. Each new contact, in slot order, gets the
-    /// least id that no contact of the packet before has and that no new contact of a lower slot got. AOSP's touch mapper
-    /// gives its ids in this way.
+    /// A finger is a contact that is no palm, and only fingers are pointers. A finger keeps its id while its tracking
+    /// id is that of a finger in successive packets. Each new finger, in slot order, gets the least id that no finger
+    /// of the packet before has and that no new finger of a lower slot got. AOSP's touch mapper gives its ids in this
+    /// way. An id of the packet before is cancelled where its tracking id is that of a palm now; no finger gets it in
+    /// this packet.
     pub fn assign(&mut self, now: &Contacts) -> Assigned
-        ensures pointers { result ≡ assigned (named_in self.old now.now) }
+        ensures pointers { result.pointers ≡ assigned (named_in self.old now.now) }
+        ensures cancelled { (i : ℕ) → is_in i result.cancelled ≡ is_cancelled self.old now.now i }
         ensures last { self.new ≡ named_in self.old now.now }
-        ensures packets { (past : List (List Touch)) → self.old ≡ named_after past → self.new ≡ named_after (now.now ∷ past) }
+        ensures packets { (past : List (List Touch)) → self.old ≡ named_after past → self.new
+            ≡ named_after (now.now ∷ past) }
     {
+        let cancelled = cancelled(self.last.as_slice(), now.as_slice());
         self.last = named(self.last.as_slice(), now.as_slice());
-        in_rising_id(self.last.as_slice())
+        in_rising_id(self.last.as_slice(), cancelled)
     }
 
     /// Begins anew, as `new` does.
@@ -62,7 +69,7 @@ impl Ids {
     }
 }
 
-/// The contacts of a packet with their ids, given those of the packet before.
+/// The fingers of a packet with their ids, given those of the packet before.
 fn named(before: &[Named], now: &[Contact]) -> NamedList
     requires before { length before.now ≤ 16 }
     requires now { length now.now ≤ 16 }
@@ -71,13 +78,35 @@ fn named(before: &[Named], now: &[Contact]) -> NamedList
     let mut taken = ids_of(before);
     let mut named = NamedList::empty();
     for contact in now {
-        let id = id_for(before, &mut taken, contact);
-        named.push(name(contact, id));
+        if !contact.palm {
+            let id = id_for(before, &mut taken, contact);
+            named.push(name(contact, id));
+        }
     }
     named
 }
 
-/// The ids of some contacts.
+/// The ids of the packet before whose fingers are palms now.
+fn cancelled(before: &[Named], now: &[Contact]) -> Bits32
+    ensures { (k : ℕ) → is_in k result ≡ is_cancelled before.now now.now k }
+{
+    let mut ids = Bits32::empty();
+    for earlier in before {
+        if is_palm(now, earlier) {
+            ids.mark(earlier.id.get());
+        }
+    }
+    ids
+}
+
+/// Whether a finger of the packet before is a palm now.
+fn is_palm(now: &[Contact], earlier: &Named) -> bool
+    ensures { result ≡ has_palm now.now earlier.now.tracking }
+{
+    now.iter().any(|c| c.tracking == earlier.tracking && c.palm)
+}
+
+/// The ids of some fingers.
 fn ids_of(contacts: &[Named]) -> Bits32
     ensures ids { (k : ℕ) → is_in k result ≡ has_id k contacts.now }
     ensures few { length (members result) ≤ length contacts.now }
@@ -89,11 +118,12 @@ fn ids_of(contacts: &[Named]) -> Bits32
     ids
 }
 
-/// The id of a contact, which is taken from then on.
+/// The id of a finger, which is taken from then on.
 fn id_for(before: &[Named], taken: &mut Bits32, contact: &Contact) -> PointerId
     requires { length (members taken.old) < 32 }
     ensures id { result ≡ id_of before.now (λ k. is_in k taken.old) contact.now.tracking }
-    ensures taken { (k : ℕ) → is_in k taken.new ≡ taken_after before.now (λ i. is_in i taken.old) contact.now.tracking k }
+    ensures taken { (k : ℕ) → is_in k taken.new ≡ taken_after before.now
+        (λ i. is_in i taken.old) contact.now.tracking k }
     ensures few { length (members taken.new) ≤ length (members taken.old) + 1 }
 {
     match kept_id(before, contact) {
@@ -106,7 +136,7 @@ fn id_for(before: &[Named], taken: &mut Bits32, contact: &Contact) -> PointerId
     }
 }
 
-/// The id that a contact had in the packet before.
+/// The id that a finger had in the packet before.
 fn kept_id(before: &[Named], contact: &Contact) -> Option<PointerId>
     ensures { result ≡ id_in contact.now.tracking before.now }
 {
@@ -132,6 +162,7 @@ fn free_id(taken: Bits32) -> PointerId
     }
 }
 
+/// A finger with its id.
 fn name(contact: &Contact, id: PointerId) -> Named
     ensures { result ≡ named_contact contact.now id }
 {
@@ -143,27 +174,32 @@ fn name(contact: &Contact, id: PointerId) -> Named
     }
 }
 
-/// The contacts as pointers in rising id.
-fn in_rising_id(named: &[Named]) -> Assigned
+/// The fingers as pointers in rising id, beside the ids that are cancelled.
+fn in_rising_id(named: &[Named], cancelled: Bits32) -> Assigned
     requires { length named.now ≤ 16 }
-    ensures { result ≡ assigned named.now }
+    ensures pointers { result.pointers ≡ assigned named.now }
+    ensures cancelled { result.cancelled ≡ cancelled }
 {
-    let mut pointers = Assigned::empty();
+    let mut pointers = Assigned::cancelling(cancelled);
     for id in 0..32 {
-        if let Some(contact) = with_id(named, id) {
-            pointers.push(pointer(&contact));
+        if pointers.len() == named.len() {
+            return pointers;
+        }
+        if let Some(finger) = with_id(named, id) {
+            pointers.push(pointer(&finger));
         }
     }
     pointers
 }
 
-/// The first contact with this id.
+/// The first finger with this id.
 fn with_id(named: &[Named], id: u8) -> Option<Named>
     ensures { result ≡ find (λ n. nat_eq n.id id) named.now }
 {
     named.iter().copied().find(|n| n.id.get() == id)
 }
 
+/// A finger as a pointer.
 fn pointer(contact: &Named) -> Held
     ensures { result ≡ held contact.now }
 {
@@ -171,39 +207,5 @@ fn pointer(contact: &Named) -> Held
         id: contact.id,
         x: contact.x,
         y: contact.y,
-    }
-}
-
-#[cfg(test)]
-mod tests {
-    use super::*;
-    use input_types::{DeviceId, Moment};
-    use raw_events::RawEvent;
-    use raw_events::codes::{ABS_MT_TRACKING_ID, EV_ABS};
-    use slot_accumulator::Slots;
-
-    /// The pointer id after slot 0 got this tracking id.
-    fn next_id(slots: &mut Slots, ids: &mut Ids, tracking: i32) -> Option<u8> {
-        let device = DeviceId::new(1)?;
-        slots.take(RawEvent {
-            device,
-            moment: Moment::zero(),
-            kind: EV_ABS,
-            code: ABS_MT_TRACKING_ID,
-            value: tracking,
-        });
-        let held = ids.assign(&slots.contacts()).get(0)?;
-        Some(held.id.get())
-    }
-
-    #[test]
-    fn a_freed_id_is_given_in_the_next_packet(rt: HostRuntime) {
-        let mut slots = Slots::new(10);
-        let mut ids = Ids::new();
-        assert_eq!(rt; next_id(&mut slots, &mut ids, 45), Some(0));
-        assert_eq!(rt; next_id(&mut slots, &mut ids, 46), Some(1));
-        assert_eq!(rt; next_id(&mut slots, &mut ids, 46), Some(1));
-        assert_eq!(rt; next_id(&mut slots, &mut ids, 47), Some(0));
-        assert_eq!(rt; next_id(&mut slots, &mut ids, -1), None);
     }
 }

@@ -1,10 +1,10 @@
-//! Contacts with their pointer ids, in the order of their slots.
+//! Fingers with their pointer ids, in the order of their slots.
 ghost use Rattle.std.specs.Prelude.{◌≡◌, ℕ, ◌+◌, ◌<◌, ◌≤◌, List, [], ◌∷◌, ◌++◌, length};
 
 use input_types::PointerId;
 use std::marker::Model;
 
-/// A contact of a packet: its tracking id, its pointer id, and where it is in the device's units.
+/// A finger of a packet: its tracking id, its pointer id, and where it is in the device's units.
 #[derive(Clone, Copy, Debug, PartialEq, Eq)]
 pub struct Named {
     pub tracking: i32,
@@ -13,7 +13,7 @@ pub struct Named {
     pub y: i32,
 }
 
-/// At most 16 named contacts. Contracts see it as a list.
+/// At most 16 named fingers. Contracts see it as a list.
 #[derive(Clone, Copy, Debug, PartialEq, Eq)]
 pub struct NamedList {
     items: [Named; 16],
@@ -39,6 +39,7 @@ impl Model for NamedList {
 }
 
 impl NamedList {
+    /// The list without fingers.
     pub fn empty() -> NamedList
         ensures { result ≡ [] }
     {
@@ -54,6 +55,7 @@ impl NamedList {
         }
     }
 
+    /// The fingers as a slice.
     pub fn as_slice(&self) -> &[Named]
         ensures value { result.now ≡ self.now }
         ensures range { length result.now ≤ 16 }
@@ -61,7 +63,7 @@ impl NamedList {
         &self.items[..usize::from(self.used)]
     }
 
-    /// Puts a contact behind the list.
+    /// Puts a finger behind the list.
     pub fn push(&mut self, named: Named)
         requires { length self.old < 16 }
         ensures { self.new ≡ self.old ++ named ∷ [] }

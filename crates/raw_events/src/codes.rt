@@ -27,6 +27,9 @@ pub const ABS_MT_POSITION_Y: u16 = 0x36;
 /// What touches: a finger, a pen or a palm.
 pub const ABS_MT_TOOL_TYPE: u16 = 0x37;
 
+/// The value of ABS_MT_TOOL_TYPE that says a palm.
+pub const MT_TOOL_PALM: i32 = 2;
+
 /// The number of a contact while it lasts; a negative one ends it.
 pub const ABS_MT_TRACKING_ID: u16 = 0x39;
 

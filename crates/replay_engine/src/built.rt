@@ -6,6 +6,7 @@ ghost use Rattle.replay_engine.specs.Built.{has_defaults, is_built, is_first_win
 
 use session_plan::{Act, ChannelPlan, DeviceKind, DevicePlan, Plan, Step};
 
+/// Whether a device is a touch device.
 fn is_touch_device(device: &DevicePlan) -> bool
     ensures { result ≡ is_touch (device_view device.now).kind }
 {
@@ -15,6 +16,7 @@ fn is_touch_device(device: &DevicePlan) -> bool
     }
 }
 
+/// Whether all devices are touch devices.
 fn are_touch_devices(devices: &[DevicePlan]) -> bool
     ensures { result ≡ list_all (λ d. is_touch d.kind) (map device_view devices.now) }
 {
@@ -26,12 +28,14 @@ fn are_touch_devices(devices: &[DevicePlan]) -> bool
     true
 }
 
+/// Whether a channel is as one whose table has its name alone.
 fn is_default(channel: &ChannelPlan) -> bool
     ensures { result ≡ has_defaults (channel_view channel.now) }
 {
     channel.limit.get() == 5_000_000 && channel.finish_after == 0 && channel.finishes
 }
 
+/// Whether all channels are so.
 fn are_default(channels: &[ChannelPlan]) -> bool
     ensures { result ≡ list_all has_defaults (map channel_view channels.now) }
 {
@@ -43,6 +47,7 @@ fn are_default(channels: &[ChannelPlan]) -> bool
     true
 }
 
+/// Whether a step sets the windows.
 fn sets(act: &Act) -> bool
     ensures { result ≡ sets_windows act.now }
 {
@@ -52,12 +57,14 @@ fn sets(act: &Act) -> bool
     }
 }
 
+/// Whether a step sets the windows at the start.
 fn sets_at_start(step: &Step) -> bool
     ensures { result ≡ is_first_windows step.now }
 {
     step.at.get() == 0 && sets(&step.act)
 }
 
+/// Whether all steps do.
 fn all_set_at_start(steps: &[Step]) -> bool
     ensures { result ≡ list_all is_first_windows steps.now }
 {
@@ -73,7 +80,8 @@ fn all_set_at_start(steps: &[Step]) -> bool
 pub fn can_run(plan: &Plan) -> bool
     ensures { result ≡ is_built (plan_view plan.now) }
 {
-    are_touch_devices(&plan.devices)
+    plan.displays.len() == 1
+        && are_touch_devices(&plan.devices)
         && are_default(&plan.channels)
         && all_set_at_start(&plan.steps)
         && plan.end.get() == 0

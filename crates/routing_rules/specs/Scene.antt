@@ -1,10 +1,10 @@
 -- What the rules of routing see of the moment before a step, and what a step is to them.
-use Rattle.std.specs.Prelude.{ℕ, Bool, true, false, ◌==◌, ◌&&◌, List, map, filter, Option, Some, None}
+use Rattle.std.specs.Prelude.{ℕ, Bool, not, ◌==◌, ◌&&◌, List, map, filter}
 use Rattle.std.specs.List.{list_any}
 use Rattle.input_types.specs.declared.motion.Motion.{Motion}
 use Rattle.input_types.specs.declared.pointer.Pointer.{Pointer}
 use Rattle.window_snapshot.specs.declared.window.Window.{Window}
-use Rattle.window_snapshot.specs.Named.{display_of}
+use Rattle.window_snapshot.specs.Named.{is_named, is_shown_on}
 use Rattle.routing_rules.specs.Pairs.{Pair, has, has_any}
 
 -- The moment before a step. A window goes by the number of its channel, and all places are pixels of the display of the device.
@@ -43,15 +43,13 @@ pub data Step : Type 0 where
   -- anything else
   Rests : Step
 
--- the display of a window before and in the next snapshot: the next one has it, and not another one than before
-abbrev pub keeps_display : (before next : Option ℕ) → Bool
-keeps_display before None = false
-keeps_display None (Some y) = true
-keeps_display (Some x) (Some y) = x == y
+-- a window is missed at the next snapshot where that does not have it on the display on which the one before has it
+abbrev pub is_missed : (before next : List Window) → ℕ → Bool
+is_missed before next w = list_any (λ v. v.channel == w && not (is_shown_on next v.display w)) before
 
 -- from one snapshot to the next a window stays where the next one names it, and not on another display than before
 abbrev pub stays : (before next : List Window) → ℕ → Bool
-stays before next w = keeps_display (display_of before w) (display_of next w)
+stays before next w = is_named next w && not (is_missed before next w)
 
 -- the current snapshot has a window of this channel that passes the test
 abbrev pub shows : Scene → (Window → Bool) → ℕ → Bool

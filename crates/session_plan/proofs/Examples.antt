@@ -1,36 +1,91 @@
 -- Parts of sessions, worked out from their tables.
-use Rattle.std.specs.Prelude.{ℕ, ◌≡◌, codes, pos, List, [], ◌∷◌, None, Err, refl}
+use Rattle.std.specs.Prelude.{ℕ, ◌≡◌, codes, pos, List, [], ◌∷◌, None, Ok, Err, refl}
 use Rattle.std.specs.Fmt.{digits}
-use Rattle.toml.specs.Data.{Data, string, integer, array, table, no_items, item, no_members, member}
+use Rattle.toml.specs.Data.{Data, string, integer, array, table, no_members, member}
 use Rattle.toml.specs.View.{items_of}
+use Rattle.input_types.specs.declared.axis.Rotation.TheVariants.{R0, R90}
+use Rattle.session_plan.specs.declared.key.Place.TheVariants.{Device, Step as AtStep}
 use Rattle.session_plan.specs.declared.plan.Act.TheVariants.{FocusOn}
+use Rattle.session_plan.specs.declared.plan.DeviceKind.TheVariants.{Touch, Keys}
 use Rattle.session_plan.specs.declared.plan.Step.{Step}
-use Rattle.session_plan.specs.Devices.{axis_at}
-use Rattle.session_plan.specs.Display.{display_at, display_of}
+use Rattle.session_plan.specs.DeviceDisplays.{device_displays}
+use Rattle.session_plan.specs.Devices.{axis_at, touch_of}
+use Rattle.session_plan.specs.Display.{display_at, display_number, display_of, displays_of, extra_displays_of}
 use Rattle.session_plan.specs.ErrorLine.{line_of}
 use Rattle.session_plan.specs.Fault.{missing, wrong, unknown_name, out_of_range}
 use Rattle.session_plan.specs.Keys.{key_of}
 use Rattle.session_plan.specs.Order.{in_order}
 use Rattle.session_plan.specs.Reading.{number, number_at, number_or, tables, tables_at, text_at}
 use Rattle.session_plan.specs.Session.{plan_of}
-use Rattle.session_plan.specs.Steps.{act_of, step_of, steps_of}
+use Rattle.session_plan.specs.Steps.{act_of, focus_of, step_of, steps_of}
 
--- width = .. and height = 2400
-abbrev pub display : ℕ → Data
-display width =
-    table (member (codes "display") (table (member (codes "height") (integer (pos 2400)) (member (codes "width") (integer (pos width)) no_members))) no_members)
+-- width = .. and height = ..
+abbrev pub extent : ℕ → ℕ → Data
+extent width height = table (member (codes "height") (integer (pos height)) (member (codes "width") (integer (pos width)) no_members))
+
+-- a session with this display and these others
+abbrev pub displays : Data → List Data → Data
+displays first others = table (member (codes "display") first (member (codes "extra_display") (array (items_of others)) no_members))
 
 pub no_display : plan_of (table no_members) ≡ Err (missing (codes "display"))
-unfolding plan_of display_at key_of
+unfolding plan_of displays_of display_at key_of
 no_display = refl
 
-pub no_width : display_at (display 0) ≡ Err (out_of_range (codes "display.width") (pos 0))
-unfolding display_at display_of number_at number key_of
+pub no_width : displays_of (displays (extent 0 2400) []) ≡ Err (out_of_range (codes "display.width") (pos 0))
+unfolding displays_of display_at display_of number_at number key_of
 no_width = refl
 
 pub no_width_line : line_of (out_of_range (codes "display.width") (pos 0)) ≡ codes "session: OutOfRange display.width 0"
 unfolding digits
 no_width_line = refl
+
+-- the first display beside display 0 is display 1
+pub two_displays
+    : displays_of (displays (extent 1080 2400) (table (member (codes "width") (integer (pos 1920)) (member (codes "height") (integer (pos 1080)) (member (codes "rotation") (integer (pos 90)) no_members))) ∷ []))
+    ≡ Ok (record { width = 1080; height = 2400; rotation = R0 } ∷ record { width = 1920; height = 1080; rotation = R90 } ∷ [])
+unfolding displays_of display_at extra_displays_of display_of tables_at tables number_at number key_of
+two_displays = refl
+
+pub flat_display : displays_of (displays (extent 1080 2400) (extent 1920 1080 ∷ extent 1920 0 ∷ [])) ≡ Err (out_of_range (codes "extra_display[2].height") (pos 0))
+unfolding displays_of display_at extra_displays_of display_of tables_at tables number_at number key_of digits
+flat_display = refl
+
+-- five displays are one too many
+pub four_extra_displays : displays_of (displays (extent 1080 2400) (extent 0 0 ∷ extent 0 0 ∷ extent 0 0 ∷ extent 0 0 ∷ [])) ≡ Err (out_of_range (codes "extra_display") (pos 4))
+unfolding displays_of display_at extra_displays_of display_of tables_at tables number_at number key_of
+four_extra_displays = refl
+
+-- display = ..
+abbrev pub on : ℕ → Data
+on display = table (member (codes "display") (integer (pos display)) no_members)
+
+-- of one display there is no display 1; of two there is
+pub no_such_display : touch_of 1 1 (on 1) ≡ Err (out_of_range (codes "device[1].display") (pos 1))
+unfolding touch_of display_number number_or number key_of digits
+no_such_display = refl
+
+pub no_such_display_line : line_of (out_of_range (codes "device[1].display") (pos 1)) ≡ codes "session: OutOfRange device[1].display 1"
+unfolding digits
+no_such_display_line = refl
+
+pub display_1_of_2 : display_number 2 (AtStep 3) (on 1) ≡ Ok 1
+unfolding display_number number_or number
+display_1_of_2 = refl
+
+-- a table that names no display is on display 0
+pub display_0_of_2 : display_number 2 (Device 1) (table no_members) ≡ Ok 0
+unfolding display_number number_or
+display_0_of_2 = refl
+
+-- device 1 is on display 1, device 2 has keys, device 3 is on display 2
+pub three_devices
+    : device_displays
+    (record { path = codes "/a"; kind = Touch 10 (record { min = pos 0; max = pos 9 }) (record { min = pos 0; max = pos 9 }) 1 }
+    ∷ record { path = codes "/b"; kind = Keys [] }
+    ∷ record { path = codes "/c"; kind = Touch 10 (record { min = pos 0; max = pos 9 }) (record { min = pos 0; max = pos 9 }) 2 }
+    ∷ [])
+    ≡ 1 ∷ 0 ∷ 2 ∷ 0 ∷ 0 ∷ 0 ∷ 0 ∷ 0 ∷ []
+three_devices = refl
 
 abbrev pub integers : List Data → Data
 integers ds = array (items_of ds)
@@ -46,15 +101,15 @@ long_axis = refl
 
 -- the first step asks for the focus on a channel that no channel is
 pub unknown_channel
-    : steps_of [] 0
-    (table (member (codes "step") (array (item (table (member (codes "at_us") (integer (pos 0)) (member (codes "channel") (string (codes "main")) (member (codes "do") (string (codes "focus")) no_members)))) no_items)) no_members))
+    : steps_of [] 0 1
+    (table (member (codes "step") (array (items_of (table (member (codes "at_us") (integer (pos 0)) (member (codes "channel") (string (codes "main")) (member (codes "do") (string (codes "focus")) no_members))) ∷ []))) no_members))
     ≡ Err (unknown_name (codes "step[1].channel"))
-unfolding steps_of step_of act_of tables_at tables number_at number_or number text_at key_of digits
+unfolding steps_of step_of act_of focus_of display_number tables_at tables number_at number_or number text_at key_of digits
 unknown_channel = refl
 
 -- steps by moment and lane
 abbrev pub step : ℕ → ℕ → Step
-step at lane = record { at = at; lane = lane; act = FocusOn None }
+step at lane = record { at = at; lane = lane; act = FocusOn 0 None }
 
 pub agreeing_moments_keep_their_order : in_order (step 5 1 ∷ step 3 2 ∷ step 5 3 ∷ step 3 4 ∷ []) ≡ step 3 2 ∷ step 3 4 ∷ step 5 1 ∷ step 5 3 ∷ []
 agreeing_moments_keep_their_order = refl

@@ -1,3 +1,4 @@
+pub mod DeviceDisplays
 pub mod Elements
 pub mod ErrorLines
 pub mod Examples

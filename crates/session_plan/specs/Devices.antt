@@ -10,6 +10,7 @@ use Rattle.session_plan.specs.declared.key.Place.TheVariants as place
 use Rattle.session_plan.specs.declared.device.Span.{Span}
 use Rattle.session_plan.specs.declared.plan.DeviceKind.{DeviceKind}
 use Rattle.session_plan.specs.declared.plan.DeviceKind.TheVariants.{Touch, Keys}
+use Rattle.session_plan.specs.Display.{display_number}
 use Rattle.session_plan.specs.Fault.{Fault, ◌>>=◌, bad_layout}
 use Rattle.session_plan.specs.Keys.{key_of}
 use Rattle.session_plan.specs.Plan.{DeviceData}
@@ -28,15 +29,17 @@ is_new devices path = not (list_any (λ d. bytes_eq d.path path) devices)
 abbrev pub ordered : ℤ → ℤ → Option Span
 ordered low high = if int_le low high then Some (record { min = low; max = high }) else None
 
--- two integers, the least and the greatest raw position of an axis
+-- both numbers where they are integers
 abbrev pub both : Option ℤ → Option ℤ → Option Span
 both (Some low) (Some high) = ordered low high
 both _ _ = None
 
+-- two integers, the least and the greatest raw position of an axis
 abbrev pub span_of : List Data → Option Span
 span_of (a ∷ b ∷ []) = both (as_integer a) (as_integer b)
 span_of _ = None
 
+-- the ends of an axis, where a value is an array
 abbrev pub span_in : Option (List Data) → Option Span
 span_in None = None
 span_in (Some ds) = span_of ds
@@ -50,13 +53,14 @@ axis_at k key d = do
   max ← coordinate (key_of (place.Device k) key) span.max
   Ok (record { min = min; max = max })
 
--- the keys of a touch device
-unfoldable pub touch_of : ℕ → Data → Result DeviceKind Fault
-touch_of k d = do
+-- what touch device k is, of a session with so many displays
+unfoldable pub touch_of : ℕ → ℕ → Data → Result DeviceKind Fault
+touch_of displays k d = do
+  display ← display_number displays (place.Device k) d
   slots ← number_or 10 (place.Device k) (codes "slots") (pos 1) (pos 16) d
   x ← axis_at k (codes "x") d
   y ← axis_at k (codes "y") d
-  Ok (Touch slots x y)
+  Ok (Touch slots x y display)
 
 -- a device's keys by its layout, or why the layout is refused
 abbrev pub with_layout : ℕ → Result Codes LayoutError → Result DeviceKind Fault
@@ -67,23 +71,23 @@ with_layout k (Err error) = Err (bad_layout k error)
 abbrev pub layout_text : ℕ → Data → Result (List ℕ) Fault
 layout_text k d = or_default [] (get (codes "layout") d) (λ found. of_kind (key_of (place.Device k) (codes "layout")) (as_str found))
 
--- the keys of a device with keys
+-- what device k with keys is
 unfoldable pub keys_of : ℕ → Data → Result DeviceKind Fault
 keys_of k d = layout_text k d >>= λ text. with_layout k (layout_of text)
 
--- device k, behind these
-unfoldable pub device_of : ℕ → List DeviceData → Data → Result DeviceData Fault
-device_of k found d = do
+-- device k, behind these, of a session with so many displays
+unfoldable pub device_of : ℕ → ℕ → List DeviceData → Data → Result DeviceData Fault
+device_of displays k found d = do
   kind ← text_at (place.Device k) (codes "kind") d
   known ← needs (key_of (place.Device k) (codes "kind")) (bytes_eq kind (codes "touch") || bytes_eq kind (codes "keys"))
   path ← text_at (place.Device k) (codes "path") d
   fits ← needs (key_of (place.Device k) (codes "path")) (is_path path && is_new found path)
-  told ← (if bytes_eq kind (codes "touch") then touch_of k d else keys_of k d)
+  told ← (if bytes_eq kind (codes "touch") then touch_of displays k d else keys_of k d)
   Ok (record { path = path; kind = told })
 
--- the devices of a document
-unfoldable pub devices_of : Data → Result (List DeviceData) Fault
-devices_of d = do
+-- the devices of a document with so many displays
+unfoldable pub devices_of : ℕ → Data → Result (List DeviceData) Fault
+devices_of displays d = do
   ds ← tables_at place.Document (codes "device") d
   few ← at_most (key_of place.Document (codes "device")) 8 ds
-  each device_of 1 [] ds
+  each (device_of displays) 1 [] ds

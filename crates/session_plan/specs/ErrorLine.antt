@@ -14,6 +14,7 @@ refused_line (layout.BadName line) = line
 refused_line (layout.Twice line scan) = line
 refused_line layout.Memory = 0
 
+-- the line of a device whose layout is refused
 abbrev pub layout_line : ℕ → LayoutError → List ℕ
 layout_line device error = codes "session: BadLayout " ++ (decimal device ++ (codes " " ++ decimal (refused_line error)))
 
@@ -36,6 +37,7 @@ error_line (OutOfRange key value) = codes "session: OutOfRange " ++ (string_byte
 error_line (BadLayout device error) = layout_line device error
 error_line Memory = []
 
+-- whether memory ran out
 abbrev pub is_memory : PlanError → Bool
 is_memory Memory = true
 is_memory _ = false

@@ -1,13 +1,16 @@
 pub mod Channels
+pub mod DeviceDisplays
 pub mod Devices
 pub mod Display
 pub mod ErrorLine
 pub mod Fault
+pub mod Flags
 pub mod Gives
 pub mod Keys
 pub mod Order
 pub mod Plan
 pub mod Reading
+pub mod Rectangles
 pub mod Session
 pub mod Steps
 pub mod Valid

@@ -16,9 +16,10 @@ pub record ChannelData : Type 0 where
   pub finish_after : ℕ
   pub finishes : Bool
 
--- a plan: device and channel k are the k-th of their lists, from 1; end is a moment in microseconds
+-- a plan: display k is the k-th of its list, from 0, device and channel k are the k-th of theirs, from 1; end is a moment in
+-- microseconds
 pub record PlanData : Type 0 where
-  pub display : Display
+  pub displays : List Display
   pub devices : List DeviceData
   pub channels : List ChannelData
   pub steps : List Step

@@ -13,18 +13,21 @@ use Rattle.session_plan.specs.Keys.{key_of}
 abbrev pub parsed : List ℕ → Option Data
 parsed bytes = cond (is_utf8 bytes) (option_map table (parse_document bytes)) None
 
+-- the table, where there is one
 abbrev pub document_of : Option Data → Result Data Fault
 document_of None = Err not_toml
 document_of (Some d) = Ok d
 
+-- whether a value is a table
 abbrev pub is_table : Data → Bool
 is_table d = is_some (as_table d)
 
--- the elements of an array
+-- the elements one after another
 abbrev pub list_of : Items → List Data
 list_of no_items = []
 list_of (item d ds) = d ∷ list_of ds
 
+-- the elements of a value that is an array
 abbrev pub as_list : Data → Option (List Data)
 as_list (array ds) = Some (list_of ds)
 as_list d = None

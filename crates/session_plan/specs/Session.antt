@@ -4,7 +4,7 @@ use Rattle.toml.specs.Data.{Data}
 use Rattle.session_plan.specs.declared.key.Place.TheVariants as place
 use Rattle.session_plan.specs.Channels.{channels_of}
 use Rattle.session_plan.specs.Devices.{devices_of}
-use Rattle.session_plan.specs.Display.{display_at}
+use Rattle.session_plan.specs.Display.{displays_of}
 use Rattle.session_plan.specs.Fault.{Fault, ◌>>=◌}
 use Rattle.session_plan.specs.Plan.{PlanData}
 use Rattle.session_plan.specs.Reading.{parsed, document_of, number_or}
@@ -13,12 +13,12 @@ use Rattle.session_plan.specs.Steps.{steps_of}
 -- the plan of a document
 unfoldable pub plan_of : Data → Result PlanData Fault
 plan_of d = do
-  display ← display_at d
+  displays ← displays_of d
   end ← number_or 0 place.Document (codes "end_us") (pos 0) (pos 1000000000000000000) d
-  devices ← devices_of d
+  devices ← devices_of (length displays) d
   channels ← channels_of d
-  steps ← steps_of channels (length devices) d
-  Ok (record { display = display; devices = devices; channels = channels; steps = steps; end = end })
+  steps ← steps_of channels (length devices) (length displays) d
+  Ok (record { displays = displays; devices = devices; channels = channels; steps = steps; end = end })
 
 -- the plan of the bytes of a session file, or the first refusal
 unfoldable pub session_of : List ℕ → Result PlanData Fault

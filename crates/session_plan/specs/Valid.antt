@@ -1,5 +1,5 @@
 -- What holds of every plan.
-use Rattle.std.specs.Prelude.{◌≡◌, ◌≤◌, ◌≤ℤ◌, true, length, string_bytes}
+use Rattle.std.specs.Prelude.{◌≡◌, ◌≤◌, ◌<◌, ◌≤ℤ◌, ℕ, true, length, string_bytes}
 use Rattle.std.specs.List.{All}
 use Rattle.std.specs.List.Sorted.{IsNonDecreasingBy}
 use Rattle.input_types.specs.declared.axis.Axis.{Axis}
@@ -17,17 +17,20 @@ pub record IsDisplay (d : Display) : Type 0 where
   pub width : (1 ≤ d.width) × (d.width ≤ 16384)
   pub height : (1 ≤ d.height) × (d.height ≤ 16384)
 
+-- the ends of an axis in order
 abbrev pub IsAxis : Axis → Type 0
 IsAxis a = a.min ≤ℤ a.max
 
--- 1 to 16 slots, and axes with their ends in order
-abbrev pub IsKind : DeviceKind → Type 0
-IsKind (Touch slots x y) = (1 ≤ slots) × (slots ≤ 16) × IsAxis x × IsAxis y
-IsKind (Keys layout) = Unit {0}
+-- 1 to 16 slots, axes with their ends in order, and one of so many displays
+abbrev pub IsKind : ℕ → DeviceKind → Type 0
+IsKind displays (Touch slots x y display) = (1 ≤ slots) × (slots ≤ 16) × IsAxis x × IsAxis y × (display < displays)
+IsKind displays (Keys layout) = Unit {0}
 
-abbrev pub IsDevice : DevicePlan → Type 0
-IsDevice d = IsKind d.kind
+-- a device of a session with so many displays
+abbrev pub IsDevice : ℕ → DevicePlan → Type 0
+IsDevice displays d = IsKind displays d.kind
 
+-- a channel with a name of its form
 abbrev pub IsChannel : ChannelPlan → Type 0
 IsChannel c = is_name (string_bytes c.name) ≡ true
 
@@ -35,11 +38,13 @@ IsChannel c = is_name (string_bytes c.name) ≡ true
 abbrev pub IsStep : Step → Type 0
 IsStep s = (1 ≤ s.lane) × (s.lane ≤ 8)
 
--- at most 8 devices and 64 channels, and steps in rising moment
+-- 1 to 4 displays, at most 8 devices, each on one of the displays, at most 64 channels, and steps in rising moment
 pub record IsPlan (p : Plan) : Type 0 where
-  pub display : IsDisplay p.display
+  pub some_display : 1 ≤ length p.displays.items
+  pub few_displays : length p.displays.items ≤ 4
+  pub displays : All IsDisplay p.displays.items
   pub few_devices : length p.devices.items ≤ 8
-  pub devices : All IsDevice p.devices.items
+  pub devices : All (IsDevice (length p.displays.items)) p.devices.items
   pub few_channels : length p.channels.items ≤ 64
   pub channels : All IsChannel p.channels.items
   pub steps : All IsStep p.steps.items

@@ -20,12 +20,14 @@ use toml::Value;
 /// The most channels of a session.
 const MAX_CHANNELS: usize = 64;
 
+/// Whether all bytes are from `!` to `~`.
 fn is_printable(bytes: &[u8]) -> bool
     ensures { result ≡ list_all (λ c. nat_le 33 c && nat_le c 126) bytes.now }
 {
     bytes.iter().all(|c| b'!' <= *c && *c <= b'~')
 }
 
+/// Whether a text is a name of a channel.
 fn is_name(name: &str) -> bool
     ensures { result ≡ is_name name.now }
 {
@@ -33,6 +35,7 @@ fn is_name(name: &str) -> bool
     0 < bytes.len() && bytes.len() <= 64 && is_printable(bytes)
 }
 
+/// Whether no channel has the name.
 fn is_new(channels: &[ChannelPlan], name: &str) -> bool
     ensures { result ≡ is_new (map channel_view channels.now) name.now }
 {
@@ -44,6 +47,7 @@ fn is_new(channels: &[ChannelPlan], name: &str) -> bool
     true
 }
 
+/// The number of the channel with a name.
 fn number_of(channels: &[ChannelPlan], name: &str) -> Option<u32>
     requires { length channels.now ≤ 64 }
     ensures { result ≡ named_from 1 (map channel_view channels.now) name.now }
@@ -75,6 +79,7 @@ pub(crate) fn channel_named(
     }
 }
 
+/// Whether a channel finishes messages.
 #[tactic(auto, unfolding(crate::specs::Channels::finishes_at))]
 fn finishes(alloc: Global, place: Place, table: &Value) -> Result<bool, PlanError>
     ensures { Gives (λ b. b) result (finishes_at place (view table.now)) }
@@ -90,6 +95,7 @@ fn finishes(alloc: Global, place: Place, table: &Value) -> Result<bool, PlanErro
     }
 }
 
+/// Channel k, behind those that were found.
 #[tactic(auto, unfolding(crate::specs::Channels::channel_of))]
 fn channel(
     alloc: Global,
@@ -127,6 +133,7 @@ fn channel(
     })
 }
 
+/// The channels that these tables tell of.
 fn each_channel(alloc: Global, tables: &[Value]) -> Result<Vec<ChannelPlan>, PlanError>
     ensures value { Gives (λ v. map channel_view v.items) result (each channel_of 1 [] (map view tables.now)) }
     ensures len { IfOk result (λ v. length v.items ≡ length tables.now) }

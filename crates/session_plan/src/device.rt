@@ -1,5 +1,5 @@
 //! The devices of a session.
-ghost use Rattle.std.specs.Prelude.{[], ◌≡◌, ◌≤◌, ◌==◌, ◌||◌, not, ℤ, map, option_map, bytes_eq, length, IfOk, IfSome, ◌≤ℤ◌};
+ghost use Rattle.std.specs.Prelude.{[], ◌≡◌, ◌≤◌, ◌==◌, ◌||◌, not, ℕ, ℤ, map, option_map, bytes_eq, length, IfOk, IfSome, ◌≤ℤ◌};
 ghost use Rattle.std.specs.List.{All, list_all, list_any};
 ghost use Rattle.toml.specs.View.{view};
 ghost use Rattle.session_plan.specs.Devices.{axis_at, both, device_of, devices_of, is_new, is_path, keys_of, layout_text, ordered, span_in, span_of, touch_of};
@@ -9,6 +9,7 @@ ghost use Rattle.session_plan.specs.Reading.{as_list, each};
 ghost use Rattle.session_plan.specs.Valid.{IsAxis, IsDevice, IsKind};
 ghost use Rattle.session_plan.specs.View.{device_view};
 
+use crate::display::display_number;
 use crate::error::PlanError;
 use crate::key::{Place, key_text};
 use crate::plan::{DeviceKind, DevicePlan};
@@ -28,12 +29,14 @@ pub(crate) struct Span {
     max: i64,
 }
 
+/// Whether no byte is a space or a tab.
 fn has_no_blank(bytes: &[u8]) -> bool
     ensures { result ≡ list_all (λ c. not (c == 32 || c == 9)) bytes.now }
 {
     bytes.iter().all(|c| !(*c == b' ' || *c == b'\t'))
 }
 
+/// Whether a text begins with a slash and has no blank.
 fn is_path(path: &str) -> bool
     ensures { result ≡ is_path path.now }
 {
@@ -43,6 +46,7 @@ fn is_path(path: &str) -> bool
     }
 }
 
+/// Whether no device has the path.
 fn is_new(devices: &[DevicePlan], path: &str) -> bool
     ensures { result ≡ is_new (map device_view devices.now) path.now }
 {
@@ -54,6 +58,7 @@ fn is_new(devices: &[DevicePlan], path: &str) -> bool
     true
 }
 
+/// The ends of an axis, where they are in order.
 fn ordered(min: i64, max: i64) -> Option<Span>
     ensures value { result ≡ ordered min max }
     ensures ordered { IfSome result (λ s. s.min ≤ℤ s.max) }
@@ -65,6 +70,7 @@ fn ordered(min: i64, max: i64) -> Option<Span>
     }
 }
 
+/// The ends of an axis, where both are there and in order.
 fn both(min: Option<i64>, max: Option<i64>) -> Option<Span>
     ensures value { result ≡ both min max }
     ensures ordered { IfSome result (λ s. s.min ≤ℤ s.max) }
@@ -74,6 +80,7 @@ fn both(min: Option<i64>, max: Option<i64>) -> Option<Span>
     ordered(min, max)
 }
 
+/// The ends of an axis that these values are.
 fn span_of(values: &[Value]) -> Option<Span>
     ensures value { result ≡ span_of (map view values.now) }
     ensures ordered { IfSome result (λ s. s.min ≤ℤ s.max) }
@@ -84,6 +91,7 @@ fn span_of(values: &[Value]) -> Option<Span>
     }
 }
 
+/// The ends of an axis that an array has.
 fn span_in(value: &Value) -> Option<Span>
     ensures value { result ≡ span_in (as_list (view value.now)) }
     ensures ordered { IfSome result (λ s. s.min ≤ℤ s.max) }
@@ -92,6 +100,7 @@ fn span_in(value: &Value) -> Option<Span>
     span_of(values)
 }
 
+/// The axis at a key of device k.
 #[tactic(auto, unfolding(crate::specs::Devices::axis_at))]
 fn axis(alloc: Global, k: usize, key: &str, table: &Value) -> Result<Axis, PlanError>
     ensures value { Gives (λ a. a) result (axis_at k key.now (view table.now)) }
@@ -109,11 +118,15 @@ fn axis(alloc: Global, k: usize, key: &str, table: &Value) -> Result<Axis, PlanE
     Ok(Axis { min, max })
 }
 
+/// What touch device k is, of a session with so many displays.
 #[tactic(auto, unfolding(crate::specs::Devices::touch_of))]
-fn touch(alloc: Global, k: usize, table: &Value) -> Result<DeviceKind, PlanError>
-    ensures value { Gives (λ d. d) result (touch_of k (view table.now)) }
-    ensures valid { IfOk result IsKind }
+fn touch(alloc: Global, displays: usize, k: usize, table: &Value) -> Result<DeviceKind, PlanError>
+    requires some { 1 ≤ displays }
+    requires few { displays ≤ 4 }
+    ensures value { Gives (λ d. d) result (touch_of displays k (view table.now)) }
+    ensures valid { IfOk result (IsKind displays) }
 {
+    let display = display_number(alloc, displays, Place::Device(k), table)?;
     let slots = number_or(alloc, 10, Place::Device(k), "slots", 1, 16, table)?;
     let x = axis(alloc, k, "x", table)?;
     let y = axis(alloc, k, "y", table)?;
@@ -121,9 +134,11 @@ fn touch(alloc: Global, k: usize, table: &Value) -> Result<DeviceKind, PlanError
         slots: slots as u8,
         x,
         y,
+        display,
     })
 }
 
+/// The text of the layout of device k.
 fn layout_text(alloc: Global, k: usize, table: &Value) -> Result<&str, PlanError>
     ensures { Gives (λ text. text.now) result (layout_text k (view table.now)) }
 {
@@ -138,11 +153,12 @@ fn layout_text(alloc: Global, k: usize, table: &Value) -> Result<&str, PlanError
     }
 }
 
+/// What device k with keys is.
 #[tactic(auto, unfolding(crate::specs::Devices::keys_of))]
 fn keys(alloc: Global, k: usize, table: &Value) -> Result<DeviceKind, PlanError>
     requires { k ≤ 8 }
     ensures value { Gives (λ d. d) result (keys_of k (view table.now)) }
-    ensures valid { IfOk result IsKind }
+    ensures touchless { IfOk result (λ d. (displays : ℕ) → IsKind displays d) }
 {
     let text = layout_text(alloc, k, table)?;
     match Layout::read(alloc, text) {
@@ -155,16 +171,20 @@ fn keys(alloc: Global, k: usize, table: &Value) -> Result<DeviceKind, PlanError>
     }
 }
 
+/// Device k, behind those that were found, of a session with so many displays.
 #[tactic(auto, unfolding(crate::specs::Devices::device_of))]
 fn device(
     alloc: Global,
+    displays: usize,
     k: usize,
     found: &[DevicePlan],
     table: &Value,
 ) -> Result<DevicePlan, PlanError>
-    requires { k ≤ 8 }
-    ensures value { Gives device_view result (device_of k (map device_view found.now) (view table.now)) }
-    ensures valid { IfOk result IsDevice }
+    requires some { 1 ≤ displays }
+    requires few { displays ≤ 4 }
+    requires number { k ≤ 8 }
+    ensures value { Gives device_view result (device_of displays k (map device_view found.now) (view table.now)) }
+    ensures valid { IfOk result (IsDevice displays) }
 {
     let place = Place::Device(k);
     let word = text_at(alloc, place, "kind", table)?;
@@ -180,7 +200,7 @@ fn device(
         });
     }
     let kind = if word == "touch" {
-        touch(alloc, k, table)?
+        touch(alloc, displays, k, table)?
     } else {
         keys(alloc, k, table)?
     };
@@ -188,27 +208,40 @@ fn device(
     Ok(DevicePlan { path, kind })
 }
 
-fn each_device(alloc: Global, tables: &[Value]) -> Result<Vec<DevicePlan>, PlanError>
-    requires { length tables.now ≤ 8 }
-    ensures value { Gives (λ v. map device_view v.items) result (each device_of 1 [] (map view tables.now)) }
+/// The devices that these tables tell of.
+fn each_device(
+    alloc: Global,
+    displays: usize,
+    tables: &[Value],
+) -> Result<Vec<DevicePlan>, PlanError>
+    requires some { 1 ≤ displays }
+    requires few { displays ≤ 4 }
+    requires few_devices { length tables.now ≤ 8 }
+    ensures value { Gives (λ v. map device_view v.items) result (each (device_of displays) 1 [] (map view tables.now)) }
     ensures len { IfOk result (λ v. length v.items ≡ length tables.now) }
-    ensures valid { IfOk result (λ v. All IsDevice v.items) }
+    ensures valid { IfOk result (λ v. All (IsDevice displays) v.items) }
 {
     let mut devices = Vec::new(alloc);
     for (i, table) in tables.iter().enumerate() {
-        devices.push(device(alloc, i + 1, &devices, table)?)?;
+        devices.push(device(alloc, displays, i + 1, &devices, table)?)?;
     }
     Ok(devices)
 }
 
-/// The devices of a session.
+/// The devices of a session with so many displays.
 #[tactic(auto, unfolding(crate::specs::Devices::devices_of))]
-pub(crate) fn devices(alloc: Global, document: &Value) -> Result<Vec<DevicePlan>, PlanError>
-    ensures value { Gives (λ v. map device_view v.items) result (devices_of (view document.now)) }
+pub(crate) fn devices(
+    alloc: Global,
+    displays: usize,
+    document: &Value,
+) -> Result<Vec<DevicePlan>, PlanError>
+    requires some { 1 ≤ displays }
+    requires few { displays ≤ 4 }
+    ensures value { Gives (λ v. map device_view v.items) result (devices_of displays (view document.now)) }
     ensures few { IfOk result (λ v. length v.items ≤ 8) }
-    ensures valid { IfOk result (λ v. All IsDevice v.items) }
+    ensures valid { IfOk result (λ v. All (IsDevice displays) v.items) }
 {
     let tables = tables_at(alloc, Place::Document, "device", document)?;
     at_most(alloc, Place::Document, "device", MAX_DEVICES, tables)?;
-    each_device(alloc, tables)
+    each_device(alloc, displays, tables)
 }

@@ -55,6 +55,7 @@ impl PlanError {
 
 ghost use Rattle.session_plan.specs.ErrorLine.{layout_line, refused_line};
 
+/// The number of the line that a layout is refused for.
 fn refused_line(error: LayoutError) -> u64
     ensures { result ≡ refused_line error }
 {
@@ -66,6 +67,7 @@ fn refused_line(error: LayoutError) -> u64
     }
 }
 
+/// The line of a device whose layout is refused.
 fn layout_line(alloc: Global, device: u8, error: LayoutError) -> Result<String, AllocError>
     ensures { IfOk result (λ line. string_bytes line ≡ layout_line device error) }
 {

@@ -1,4 +1,4 @@
-//! The session file: the display, the devices, the channels and what is done with windows and focus, and when.
+//! The session file: the displays, the devices, the channels and what is done with windows and focus, and when.
 //!
 //! A session is a TOML file. The file
 //!
@@ -24,19 +24,22 @@
 //!
 //! is a plan with one touch device of ten slots, channel 1 named `main`, and one step at moment 0 that shows its window
 //! over the whole display. `Plan::read` gives the plan of the bytes of a file, or the first refusal with its key, such as
-//! `step[1].windows[1].frame`. Keys are read in this order: the display, `end_us`, all devices, all channels, all steps. For
-//! each key, one that has to be there and is not is `Missing`; a value of another kind, or a malformed one, is `Wrong`; a
-//! number or a count outside its range is `OutOfRange`; a name that is not known is `UnknownName`. Other keys are not looked
-//! at.
+//! `step[1].windows[1].frame`. Keys are read in this order: `display`, `extra_display`, `end_us`, all devices, all channels,
+//! all steps. For each key, one that has to be there and is not is `Missing`; a value of another kind, or a malformed one, is
+//! `Wrong`; a number or a count outside its range is `OutOfRange`; a name that is not known is `UnknownName`. Other keys are
+//! not looked at.
 //!
 //! | key | kind, and its default where it may be absent | range |
 //! |---|---|---|
 //! | `display.width`, `display.height` | integer | 1 to 16384 pixels |
 //! | `display.rotation` | integer, 0 | 0, 90, 180 or 270 degrees |
+//! | `extra_display` | array of tables, none; entry k is display k, beside display 0 | at most 3 |
+//! | `extra_display[k].width`, `.height`, `.rotation` | as for `display` | as for `display` |
 //! | `end_us` | integer, 0 | 0 to 10^18 microseconds |
 //! | `device` | array of tables, none | at most 8 |
 //! | `device[k].kind` | text | `touch` or `keys` |
 //! | `device[k].path` | text | begins with `/`, has no space or tab, and no earlier device has it |
+//! | `device[k].display` (touch) | integer, 0 | 0 to the greatest display |
 //! | `device[k].slots` (touch) | integer, 10 | 1 to 16 |
 //! | `device[k].x`, `device[k].y` (touch) | array of two integers, the least and the greatest raw position | 32 bits each |
 //! | `device[k].layout` (keys) | text, empty | a key layout |
@@ -51,9 +54,11 @@
 //! | `step[k].do` | text | `windows`, `focus`, `pilfer` or `remove` |
 //! | `step[k].windows` (windows) | array of tables, front to back | at most 64 |
 //! | `step[k].windows[j].channel` | text | the name of a channel that no earlier window of the step has |
+//! | `step[k].windows[j].display` | integer, 0 | 0 to the greatest display |
 //! | `step[k].windows[j].frame` | array of four integers: left, top, right, bottom | 32 bits each, in order |
 //! | `step[k].windows[j].region` | array of such arrays, the frame alone | at most 64 |
 //! | `step[k].windows[j].flags` | array of texts, none | names of `WindowFlags` |
+//! | `step[k].display` (focus) | integer, 0 | 0 to the greatest display |
 //! | `step[k].channel` (focus) | text, no channel | the name of a channel |
 //! | `step[k].channel` (pilfer, remove) | text | the name of a channel |
 //! | `step[k].device` (pilfer) | integer | 1 to the number of devices |
@@ -66,9 +71,11 @@ mod channel;
 mod device;
 mod display;
 mod error;
+mod flags;
 mod key;
 mod plan;
 mod reading;
+mod rectangle;
 mod session;
 mod step;
 mod window;

@@ -1,12 +1,17 @@
 //! What a session file says.
-use input_types::{Axis, DeviceId, Limit, Moment, Rotation};
+ghost use Rattle.std.specs.Prelude.{◌≡◌, ◌≤◌, length, map};
+ghost use Rattle.session_plan.specs.DeviceDisplays.{device_displays, kind_display};
+ghost use Rattle.session_plan.specs.View.{device_view};
+
+use input_types::{Axis, DeviceId, DisplayId, Displays, Limit, Moment, Rotation};
 use key_layout::Layout;
 use window_snapshot::Snapshot;
 
-/// A session: its display, devices, channels and steps, and a moment up to which it lasts at least.
+/// A session: its displays, devices, channels and steps, and a moment up to which it lasts at least.
 #[derive(Drop)]
 pub struct Plan {
-    pub display: Display,
+    /// Display k is the k-th of these, from 0. There are 1 to 4.
+    pub displays: Vec<Display>,
 
     /// Device k is the k-th of these, from 1.
     pub devices: Vec<DevicePlan>,
@@ -20,7 +25,7 @@ pub struct Plan {
     pub end: Moment,
 }
 
-/// The display: its natural extent in pixels, each 1 to 16384, and how far it is turned.
+/// A display: its natural extent in pixels, each 1 to 16384, and how far it is turned.
 #[derive(Clone, Copy, Debug, PartialEq, Eq)]
 pub struct Display {
     pub width: u16,
@@ -39,11 +44,18 @@ pub struct DevicePlan {
 /// What a device is.
 #[derive(Drop)]
 pub enum DeviceKind {
-    /// A touch device with 1 to 16 slots, and the ranges of its raw positions.
-    Touch { slots: u8, x: Axis, y: Axis },
+    /// A touch device with 1 to 16 slots, the ranges of its raw positions, and the display that it is on.
+    Touch {
+        slots: u8,
+        x: Axis,
+        y: Axis,
+        display: DisplayId,
+    },
 
     /// A device with keys.
-    Keys { layout: Layout },
+    Keys {
+        layout: Layout,
+    },
 }
 
 /// A channel to a window's owner.
@@ -76,12 +88,47 @@ pub enum Act {
     /// These are the windows from now on.
     Windows(Snapshot),
 
-    /// This channel is to have the focus, or none.
-    FocusOn(Option<u32>),
+    /// This channel is to have the focus of a display, or none.
+    FocusOn {
+        display: DisplayId,
+        channel: Option<u32>,
+    },
 
     /// The channel takes the pointers of a device for itself.
-    Pilfer { channel: u32, device: DeviceId },
+    Pilfer {
+        channel: u32,
+        device: DeviceId,
+    },
 
     /// The channel goes away.
-    Remove { channel: u32 },
+    Remove {
+        channel: u32,
+    },
+}
+
+impl DeviceKind {
+    /// The display that the device is on; display 0 for one with keys.
+    fn display(&self) -> DisplayId
+        ensures { result ≡ kind_display self.now }
+    {
+        match self {
+            DeviceKind::Touch { display, .. } => *display,
+            DeviceKind::Keys { .. } => DisplayId::zero(),
+        }
+    }
+}
+
+impl Plan {
+    /// The display of each device: for a touch device the one that it is on, and display 0 for every other.
+    pub fn device_displays(&self) -> Displays
+        requires { length self.now.devices.items ≤ 8 }
+        ensures { result ≡ device_displays (map device_view self.now.devices.items) }
+    {
+        let mut displays = Displays::new();
+        for (i, device) in self.devices.iter().enumerate() {
+            let number = DeviceId::new(i as u8 + 1).unwrap();
+            displays.set(number, device.kind.display());
+        }
+        displays
+    }
 }

@@ -144,6 +144,7 @@ pub(crate) fn elements(value: &Value) -> Option<&[Value]>
     }
 }
 
+/// Whether all values are tables.
 fn are_tables(values: &[Value]) -> bool
     ensures { result ≡ list_all is_table (map view values.now) }
 {

@@ -9,7 +9,7 @@ ghost use Rattle.session_plan.specs.View.{plan_view};
 
 use crate::channel::channels;
 use crate::device::devices;
-use crate::display::display;
+use crate::display::displays;
 use crate::error::PlanError;
 use crate::key::Place;
 use crate::plan::Plan;
@@ -20,6 +20,7 @@ use std::alloc::Global;
 use std::str;
 use toml::Value;
 
+/// The table that the bytes are.
 #[tactic(auto, using(crate::proofs::Text::parsed_text, crate::proofs::Text::parsed_no_text))]
 fn document(alloc: Global, bytes: &[u8]) -> Result<Value, PlanError>
     ensures { Gives view result (document_of (parsed bytes.now)) }
@@ -39,18 +40,19 @@ fn document(alloc: Global, bytes: &[u8]) -> Result<Value, PlanError>
     }
 }
 
+/// The plan of a document.
 #[tactic(auto, unfolding(crate::specs::Session::plan_of))]
 fn plan(alloc: Global, document: &Value) -> Result<Plan, PlanError>
     ensures value { Gives plan_view result (plan_of (view document.now)) }
     ensures valid { IfOk result IsPlan }
 {
-    let display = display(alloc, document)?;
+    let displays = displays(alloc, document)?;
     let end = number_or(alloc, 0, Place::Document, "end_us", 0, MAX_US, document)?;
-    let devices = devices(alloc, document)?;
+    let devices = devices(alloc, displays.len(), document)?;
     let channels = channels(alloc, document)?;
-    let steps = steps(alloc, &channels, devices.len(), document)?;
+    let steps = steps(alloc, &channels, devices.len(), displays.len(), document)?;
     Ok(Plan {
-        display,
+        displays,
         devices,
         channels,
         steps,

@@ -5,13 +5,14 @@
 //! or a refusal for each prefix of the session. A case that is answered otherwise is printed, and at the end how many were not.
 #![tactic(auto)]
 
-use input_types::Rotation;
-use session_plan::{Act, ChannelPlan, DeviceKind, DevicePlan, Plan, PlanError, Step};
+use input_types::{DeviceId, DisplayId, Rotation};
+use session_plan::{Act, ChannelPlan, DeviceKind, DevicePlan, Display, Plan, PlanError, Step};
 use std::alloc::{AllocError, Global};
 use std::io;
 use std::io::Read;
 use window_snapshot::Window;
 
+/// How far a display is turned, in degrees.
 fn degrees(rotation: Rotation) -> u16 {
     match rotation {
         Rotation::R0 => 0,
@@ -21,13 +22,27 @@ fn degrees(rotation: Rotation) -> u16 {
     }
 }
 
+/// A display that is not display 0, which is never named.
+fn display_text(alloc: Global, display: DisplayId) -> Result<String, AllocError> {
+    match display.get() {
+        0 => Ok(String::new(alloc)),
+        number => format!(in alloc; " on {number}"),
+    }
+}
+
 /// A device; one with keys by the key code of scan code 30.
 fn device_text(alloc: Global, device: &DevicePlan) -> Result<String, AllocError> {
     let path = device.path.as_str();
     match &device.kind {
-        DeviceKind::Touch { slots, x, y } => {
+        DeviceKind::Touch {
+            slots,
+            x,
+            y,
+            display,
+        } => {
+            let shown = display_text(alloc, *display)?;
             format!(in alloc;
-                " touch {path} {slots} {} {} {} {}",
+                " touch {path} {slots} {} {} {} {}{shown}",
                 x.min, x.max, y.min, y.max
             )
         }
@@ -38,6 +53,7 @@ fn device_text(alloc: Global, device: &DevicePlan) -> Result<String, AllocError>
     }
 }
 
+/// A channel: its name, its limit and its delay in microseconds, and whether it finishes messages.
 fn channel_text(alloc: Global, channel: &ChannelPlan) -> Result<String, AllocError> {
     let name = channel.name.as_str();
     let limit = channel.limit.get();
@@ -50,12 +66,13 @@ fn channel_text(alloc: Global, channel: &ChannelPlan) -> Result<String, AllocErr
     format!(in alloc; " channel {name} {limit} {after} {finishes}")
 }
 
-/// A window: its channel, its frame, its flags, and its rectangles.
+/// A window: its channel, its display, its frame, its flags, and its rectangles.
 fn window_text(alloc: Global, window: &Window) -> Result<String, AllocError> {
     let frame = window.frame;
     let bits = bitflags::Flags::bits(&window.flags);
+    let shown = display_text(alloc, window.display)?;
     let mut text = format!(in alloc;
-        " {}@{},{},{},{}/{bits}",
+        " {}{shown}@{},{},{},{}/{bits}",
         window.channel, frame.left, frame.top, frame.right, frame.bottom
     )?;
     for rect in window.region.rects() {
@@ -68,6 +85,20 @@ fn window_text(alloc: Global, window: &Window) -> Result<String, AllocError> {
     Ok(text)
 }
 
+/// A request of the focus: its display, and its channel where it has one.
+fn focus_text(
+    alloc: Global,
+    display: DisplayId,
+    channel: Option<u32>,
+) -> Result<String, AllocError> {
+    let shown = display_text(alloc, display)?;
+    match channel {
+        Some(channel) => format!(in alloc; " focus{shown} {channel}"),
+        None => format!(in alloc; " focus{shown}"),
+    }
+}
+
+/// What a step does.
 fn act_text(alloc: Global, act: &Act) -> Result<String, AllocError> {
     match act {
         Act::Windows(snapshot) => {
@@ -77,8 +108,7 @@ fn act_text(alloc: Global, act: &Act) -> Result<String, AllocError> {
             }
             Ok(text)
         }
-        Act::FocusOn(Some(channel)) => format!(in alloc; " focus {channel}"),
-        Act::FocusOn(None) => String::from_str(alloc, " focus"),
+        Act::FocusOn { display, channel } => focus_text(alloc, *display, *channel),
         Act::Pilfer { channel, device } => {
             let device = device.get();
             format!(in alloc; " pilfer {channel} {device}")
@@ -87,20 +117,45 @@ fn act_text(alloc: Global, act: &Act) -> Result<String, AllocError> {
     }
 }
 
+/// A step: its moment, its lane, and what it does.
 fn step_text(alloc: Global, step: &Step) -> Result<String, AllocError> {
     let at = step.at.get();
     let act = act_text(alloc, &step.act)?;
     format!(in alloc; " {at}:{}{act}", step.lane)
 }
 
-/// The whole plan on one line.
+/// A display: its extent in pixels, and how far it is turned.
+fn extent_text(alloc: Global, display: &Display) -> Result<String, AllocError> {
+    let turn = degrees(display.rotation);
+    format!(in alloc; " {}x{} {turn}", display.width, display.height)
+}
+
+/// The displays of devices 1 to 8, as eight digits.
+fn devices_text(alloc: Global, plan: &Plan) -> Result<String, AllocError> {
+    let mut text = String::from_str(alloc, " devices on ")?;
+    if plan.devices.len() <= 8 {
+        let displays = plan.device_displays();
+        for number in 1..=8u8 {
+            if let Some(device) = DeviceId::new(number) {
+                let display = displays.of(device).get();
+                text.push_str(format!(in alloc; "{display}")?.as_str())?;
+            }
+        }
+    }
+    Ok(text)
+}
+
+/// The whole plan on one line. The displays of the devices are told where there is more than one display.
 fn plan_text(alloc: Global, plan: &Plan) -> Result<String, AllocError> {
-    let turn = degrees(plan.display.rotation);
     let end = plan.end.get();
-    let mut text = format!(in alloc;
-        "plan {}x{} {turn} {end}",
-        plan.display.width, plan.display.height
-    )?;
+    let mut text = String::from_str(alloc, "plan")?;
+    for display in &plan.displays {
+        text.push_str(extent_text(alloc, display)?.as_str())?;
+    }
+    text.push_str(format!(in alloc; " {end}")?.as_str())?;
+    if plan.displays.len() > 1 {
+        text.push_str(devices_text(alloc, plan)?.as_str())?;
+    }
     for device in &plan.devices {
         text.push_str(device_text(alloc, device)?.as_str())?;
     }
@@ -113,6 +168,7 @@ fn plan_text(alloc: Global, plan: &Plan) -> Result<String, AllocError> {
     Ok(text)
 }
 
+/// What a session says, or why it is refused.
 fn answer(alloc: Global, session: &[u8]) -> Result<String, AllocError> {
     match Plan::read(alloc, session) {
         Ok(plan) => plan_text(alloc, &plan),
@@ -130,6 +186,7 @@ fn cuts_are_read(alloc: Global, session: &[u8]) -> bool {
     true
 }
 
+/// The answer to a case.
 fn given(alloc: Global, session: &[u8], wanted: &[u8]) -> Result<String, AllocError> {
     if wanted == b"cuts".as_slice() {
         let text = if cuts_are_read(alloc, session) {

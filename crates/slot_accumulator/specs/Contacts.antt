@@ -1,5 +1,5 @@
 -- Lists of contacts, and the table that keeps one.
-use Rattle.std.specs.Prelude.{◌≡◌, ℕ, ◌-◌, ◌<◌, ◌≤◌, ◌≢◌, Bool, ℤ, pos, List, [], ◌∷◌, length, take, drop, replicate, ◌≤ℤ◌}
+use Rattle.std.specs.Prelude.{◌≡◌, ℕ, ◌-◌, ◌<◌, ◌≤◌, ◌≢◌, Bool, false, ℤ, pos, List, [], ◌∷◌, length, take, drop, replicate, ◌≤ℤ◌}
 use Rattle.std.specs.List.{list_any}
 use Rattle.std.specs.Ordering.{int_eq}
 use Rattle.slot_accumulator.specs.declared.contacts.Contact.{Contact}
@@ -12,6 +12,7 @@ has_tracking tracking cs = list_any (λ c. int_eq c.tracking tracking) cs
 abbrev pub IsBefore : Contact → Contact → Type 0
 IsBefore c d = (c.slot < d.slot) × (c.tracking ≢ d.tracking)
 
+-- one contact is before each of a list
 abbrev pub IsBeforeAll : Contact → List Contact → Type 0
 IsBeforeAll c [] = Unit {0}
 IsBeforeAll c (d ∷ ds) = IsBefore c d × IsBeforeAll c ds
@@ -21,14 +22,15 @@ abbrev pub AreContacts : List Contact → Type 0
 AreContacts [] = Unit {0}
 AreContacts (c ∷ cs) = (pos 0 ≤ℤ c.tracking) × IsBeforeAll c cs × AreContacts cs
 
--- the contact may come behind the list: its slot is above those of the list, and its tracking id is new and not negative
+-- the contact may come behind the list: its slot is above those of the list, and its tracking id is new and not
+-- negative
 abbrev pub Joins : List Contact → Contact → Type 0
 Joins [] d = pos 0 ≤ℤ d.tracking
 Joins (c ∷ cs) d = IsBefore c d × Joins cs d
 
 -- what stands in the places of a table that are not in use
 abbrev pub unused : Contact
-unused = record { slot = 0; tracking = pos 0; x = pos 0; y = pos 0 }
+unused = record { slot = 0; tracking = pos 0; x = pos 0; y = pos 0; palm = false }
 
 -- a table of 16 places whose first `used` are a list of contacts, and whose others are all `unused`
 pub record IsTable (items : List Contact) (used : ℕ) : Type 0 where

@@ -4,13 +4,15 @@ ghost use Rattle.slot_accumulator.specs.Contacts.{AreContacts, Joins, has_tracki
 
 use std::marker::Model;
 
-/// What touches a device: the slot that holds it, its tracking id, and where it is in the device's units.
+/// What touches a device: the slot that holds it, its tracking id, where it is in the device's units, and whether it is
+/// a palm.
 #[derive(Clone, Copy, Debug, PartialEq, Eq)]
 pub struct Contact {
     pub slot: u8,
     pub tracking: i32,
     pub x: i32,
     pub y: i32,
+    pub palm: bool,
 }
 
 /// At most 16 contacts in rising slot, whose tracking ids are not negative and differ. Contracts see it as a list.
@@ -51,6 +53,7 @@ impl Contacts {
             tracking: 0,
             x: 0,
             y: 0,
+            palm: false,
         };
         Contacts {
             items: [unused; 16],

@@ -1,14 +1,22 @@
 //! The slots of a device.
-ghost use Rattle.std.specs.Prelude.{◌≡◌, ℕ, ◌<◌, ◌≤◌, List, [], ◌∷◌, MatchOption, pos, false, not, ◌&&◌, int_le};
+ghost use Rattle.std.specs.Prelude.{◌≡◌, ℕ, ◌+◌, ◌<◌, ◌≤◌, List, [], ◌∷◌, MatchOption, ℤ, Bool, pos, false, not, ◌&&◌};
+ghost use Rattle.std.specs.Prelude.{◌||◌, int_le, length};
+ghost use Rattle.std.specs.List.{list_any};
+ghost use Rattle.std.specs.Ordering.{int_eq};
 ghost use Rattle.raw_events.specs.declared.event.RawEvent.{RawEvent as Event};
 ghost use Rattle.slot_accumulator.specs.SlotValues.{row_after, is_slot};
 ghost use Rattle.slot_accumulator.specs.Contacts.{has_tracking};
-ghost use Rattle.slot_accumulator.specs.SlotContacts.{contact as contact_of, contacts_at, contacts_of, row_in, StandsFor};
+ghost use Rattle.slot_accumulator.specs.Table.{is_kept};
+ghost use Rattle.slot_accumulator.specs.SlotContacts.{contact as contact_of, contacts_at, contacts_of, has_palm_tool};
+ghost use Rattle.slot_accumulator.specs.SlotContacts.{palm_below, row_in, StandsFor};
 
 use crate::contacts::{Contact, Contacts, tracked};
+use crate::palms::Palms;
+use crate::report::is_report;
 use raw_events::RawEvent;
 use raw_events::codes::{
-    ABS_MT_POSITION_X, ABS_MT_POSITION_Y, ABS_MT_SLOT, ABS_MT_TRACKING_ID, EV_ABS,
+    ABS_MT_POSITION_X, ABS_MT_POSITION_Y, ABS_MT_SLOT, ABS_MT_TOOL_TYPE, ABS_MT_TRACKING_ID,
+    EV_ABS, MT_TOOL_PALM,
 };
 use std::marker::Model;
 
@@ -18,14 +26,17 @@ pub struct Row {
     pub tracking: i32,
     pub x: i32,
     pub y: i32,
+    pub tool: i32,
 }
 
 /// The slots of one device, as its events leave them. It is `Copy` and takes no memory.
 ///
-/// Contracts see the number of slots, the current slot, and the rows of 16 slots, of which those of the device count.
+/// Contracts see the number of slots, the current slot, the rows of 16 slots, of which those of the device count, and
+/// the tracking ids that were those of palms at the end of the last packet.
 #[derive(Clone, Copy, Debug, PartialEq, Eq)]
 pub struct Slots {
     rows: [Row; 16],
+    palms: Palms,
     current: i32,
     slots: u8,
 }
@@ -35,18 +46,19 @@ impl Model for Slots {
 
     ghost Value = { Table };
 
-    ghost view = { λ s. record { slots = s.slots; current = s.current; rows = s.rows } };
+    ghost view = { λ s. record { slots = s.slots; current = s.current; rows = s.rows; palms = s.palms } };
 
-    ghost invariant = { λ s. IsTable s.slots s.rows };
+    ghost invariant = { λ s. IsTable s.slots s.rows s.palms };
 
-    ghost inverse = { λ t. record { rows = t.rows; current = t.current; slots = t.slots } };
+    ghost inverse = { λ t. record { rows = t.rows; palms = t.palms; current = t.current; slots = t.slots } };
 }
 
 impl Slots {
     /// The most slots of a device.
     pub const MAX: u8 = 16;
 
-    /// The slots 0 to `slots - 1`, without a contact, at position (0, 0), and with slot 0 as the current one.
+    /// The slots 0 to `slots - 1`, without a contact, at position (0, 0) and with tool type 0, and with slot 0 as the
+    /// current one.
     pub fn new(slots: u8) -> Slots
         requires { (1 ≤ slots) × (slots ≤ 16) }
         ensures state { StandsFor [] result }
@@ -56,22 +68,30 @@ impl Slots {
             tracking: -1,
             x: 0,
             y: 0,
+            tool: 0,
         };
         Slots {
             rows: [row; 16],
+            palms: Palms::none(),
             current: 0,
             slots,
         }
     }
 
-    /// Takes the next event of the device. Events that are not about slots change nothing.
+    /// Takes the next event of the device. Events that are neither about slots nor the end of a packet change nothing.
     ///
     /// As the kernel's multi-touch document says, ABS_MT_SLOT sets the current slot, and the attributes that follow are
-    /// written to it. Those written while the current slot is none of the device's are never seen.
+    /// written to it. Those written while the current slot is none of the device's are never seen. A SYN_REPORT notes
+    /// which contacts are palms: those whose tool type is MT_TOOL_PALM, and those that were palms at the end of the
+    /// packet before.
     pub fn take(&mut self, event: RawEvent)
         ensures state { (past : List Event) → StandsFor past self.old → StandsFor (event ∷ past) self.new }
         ensures slots { self.new.slots ≡ self.old.slots }
     {
+        if is_report(&event) {
+            self.palms = palms(self.rows.split_at(usize::from(self.slots)).0, &self.palms);
+            return;
+        }
         if event.kind != EV_ABS {
             return;
         }
@@ -84,16 +104,17 @@ impl Slots {
         }
     }
 
-    /// The contacts now: the slots of the device whose tracking id is not negative and is that of no lower slot.
+    /// The contacts now: the slots of the device whose tracking id is not negative and is that of no lower slot, each
+    /// with whether it was noted as a palm. After a SYN_REPORT they are the contacts at the end of its packet.
     pub fn contacts(&self) -> Contacts
-        ensures now { result ≡ contacts_of (row_in self.now.rows) self.now.slots }
+        ensures now { result ≡ contacts_of (row_in self.now.rows) (λ t. is_kept self.now.palms t) self.now.slots }
         ensures events { (past : List Event) → StandsFor past self.now → result ≡ contacts_at self.now.slots past }
     {
         let mut contacts = Contacts::empty();
         for slot in 0..self.slots {
             let row = &self.rows[usize::from(slot)];
             if is_contact(row, contacts.as_slice()) {
-                contacts.push(contact(slot, row));
+                contacts.push(contact(slot, row, &self.palms));
             }
         }
         contacts
@@ -129,9 +150,55 @@ fn written(row: &Row, event: &RawEvent) -> Row
         ABS_MT_TRACKING_ID => after.tracking = event.value,
         ABS_MT_POSITION_X => after.x = event.value,
         ABS_MT_POSITION_Y => after.y = event.value,
+        ABS_MT_TOOL_TYPE => after.tool = event.value,
         _ => {}
     }
     after
+}
+
+/// The tracking ids of the palms among the contacts of some slots, given those of the packet before.
+fn palms(rows: &[Row], before: &Palms) -> Palms
+    requires rows { length rows.now ≤ 16 }
+    requires before { (before.now.used ≤ 16) × (length before.now.items ≡ 16) }
+    ensures kept { (tracking : ℤ) → is_kept result tracking ≡ palm_below (row_in rows.now)
+        (λ t. is_kept before.now t) (length rows.now) tracking }
+    ensures places { length result.items ≡ 16 }
+    ensures used { result.used ≤ 16 }
+{
+    let mut palms = Palms::none();
+    for (slot, row) in rows.iter().enumerate() {
+        if is_palm(row, rows.split_at(slot).0, before) {
+            note(&mut palms, row);
+        }
+    }
+    palms
+}
+
+/// Keeps the tracking id of a slot.
+fn note(palms: &mut Palms, row: &Row)
+    requires { (palms.old.used < 16) × (length palms.old.items ≡ 16) }
+    ensures kept { (other : ℤ) → is_kept palms.new other ≡ (is_kept palms.old other || int_eq row.now.tracking other) }
+    ensures places { length palms.new.items ≡ 16 }
+    ensures used { palms.new.used ≡ palms.old.used + 1 }
+{
+    palms.push(row.tracking);
+}
+
+/// Whether a slot holds a contact that is a palm, given the lower slots and the palms of the packet before.
+fn is_palm(row: &Row, lower: &[Row], before: &Palms) -> bool
+    requires { (before.now.used ≤ 16) × (length before.now.items ≡ 16) }
+    ensures { result ≡ ((has_palm_tool row.now || is_kept before.now row.now.tracking)
+        && (int_le (pos 0) row.now.tracking && not (list_any (λ r. int_eq r.tracking row.now.tracking) lower.now))) }
+{
+    (row.tool == MT_TOOL_PALM || before.has(row.tracking))
+        && (row.tracking >= 0 && !any_has(lower, row.tracking))
+}
+
+/// Whether a slot of some has this tracking id.
+fn any_has(rows: &[Row], tracking: i32) -> bool
+    ensures { result ≡ list_any (λ r. int_eq r.tracking tracking) rows.now }
+{
+    rows.iter().any(|r| r.tracking == tracking)
 }
 
 /// Whether a slot holds a contact, given the contacts of the lower slots.
@@ -144,50 +211,16 @@ fn is_contact(row: &Row, lower: &[Contact]) -> bool
     !tracked(lower, row.tracking)
 }
 
-fn contact(slot: u8, row: &Row) -> Contact
-    ensures { result ≡ contact_of slot row.now }
+/// The contact that a slot holds.
+fn contact(slot: u8, row: &Row, palms: &Palms) -> Contact
+    requires { (palms.now.used ≤ 16) × (length palms.now.items ≡ 16) }
+    ensures { result ≡ contact_of (λ t. is_kept palms.now t) slot row.now }
 {
     Contact {
         slot,
         tracking: row.tracking,
         x: row.x,
         y: row.y,
-    }
-}
-
-#[cfg(test)]
-mod tests {
-    use super::*;
-    use input_types::{DeviceId, Moment};
-
-    fn write(slots: &mut Slots, code: u16, value: i32) {
-        if let Some(device) = DeviceId::new(1) {
-            slots.take(RawEvent {
-                device,
-                moment: Moment::zero(),
-                kind: EV_ABS,
-                code,
-                value,
-            });
-        }
-    }
-
-    #[test]
-    fn a_slot_keeps_its_positions_after_its_contact_ended(rt: HostRuntime) {
-        let mut slots = Slots::new(10);
-        write(&mut slots, ABS_MT_TRACKING_ID, 45);
-        write(&mut slots, ABS_MT_POSITION_X, 540);
-        write(&mut slots, ABS_MT_POSITION_Y, 1200);
-        write(&mut slots, ABS_MT_TRACKING_ID, -1);
-        assert_eq!(rt; slots.contacts().len(), 0);
-        write(&mut slots, ABS_MT_TRACKING_ID, 47);
-        let contact = Contact {
-            slot: 0,
-            tracking: 47,
-            x: 540,
-            y: 1200,
-        };
-        assert_eq!(rt; slots.contacts().get(0), Some(contact));
-        assert_eq!(rt; slots.contacts().get(1), None);
+        palm: palms.has(row.tracking),
     }
 }

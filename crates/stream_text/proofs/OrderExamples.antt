@@ -133,7 +133,7 @@ pub told_in_order :
     order_of_history (7 ∷ []) (
     record { seat = 0; call = calls.Finish 0 1 2; reply = replies.Done }
     ∷ record { seat = 0; call = calls.Pump 0; reply = replies.Dispatched }
-    ∷ record { seat = 7; call = calls.FocusOn 0 None; reply = replies.Done }
+    ∷ record { seat = 7; call = calls.FocusOn 0 0 None; reply = replies.Done }
     ∷ record { seat = 0; call = calls.Open 5000000; reply = replies.Opened 1 }
     ∷ []
     )

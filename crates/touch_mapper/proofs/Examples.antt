@@ -1,5 +1,6 @@
 -- Worked positions and packets, computed.
-use Rattle.std.specs.Prelude.{◌≡◌, ℕ, ℤ, pos, negsuc, false, List, [], ◌∷◌, refl}
+use Rattle.std.specs.Prelude.{◌≡◌, ℕ, ℤ, pos, negsuc, Bool, false, nat_eq, List, [], ◌∷◌, refl}
+use Rattle.std.specs.List.{list_any}
 use Rattle.input_types.specs.declared.axis.Axis.{Axis}
 use Rattle.input_types.specs.declared.axis.Pixel.{Pixel}
 use Rattle.input_types.specs.declared.axis.Rotation.{Rotation}
@@ -7,7 +8,7 @@ use Rattle.input_types.specs.declared.axis.Rotation.TheVariants.{R0, R90, R180, 
 use Rattle.input_types.specs.declared.pointer.Pointer.{Pointer}
 use Rattle.input_types.specs.declared.motion.Motion.{Motion}
 use Rattle.input_types.specs.declared.motion.MotionAction.{MotionAction}
-use Rattle.input_types.specs.declared.motion.MotionAction.TheVariants.{Down, Up, Move, PointerDown, PointerUp}
+use Rattle.input_types.specs.declared.motion.MotionAction.TheVariants.{Down, Up, Move, Cancel, PointerDown, PointerUp}
 use Rattle.touch_mapper.specs.Cooking.{Cooking, pixel, can_cook, natural}
 use Rattle.touch_mapper.specs.Gesture.{gesture}
 
@@ -58,35 +59,46 @@ finger i x = record { id = i; at = at x 0 }
 abbrev motion : MotionAction → ℕ → List Pointer → Motion
 motion action index ps = record { device = 1; action = action; index = index; flags = 0; pointers = ps }
 
-pub two_at_once : gesture 1 [] (finger 0 100 ∷ finger 1 300 ∷ [])
+-- no id is cancelled, and these are
+abbrev none : ℕ → Bool
+none i = false
+
+abbrev these : List ℕ → ℕ → Bool
+these is i = list_any (λ j. nat_eq i j) is
+
+-- a motion with FLAG_CANCELED
+abbrev flagged : MotionAction → ℕ → List Pointer → Motion
+flagged action index ps = record { device = 1; action = action; index = index; flags = 32; pointers = ps }
+
+pub two_at_once : gesture 1 none [] (finger 0 100 ∷ finger 1 300 ∷ [])
     ≡ motion Down 0 (finger 0 100 ∷ []) ∷ motion PointerDown 1 (finger 0 100 ∷ finger 1 300 ∷ []) ∷ []
 two_at_once = refl
 
-pub one_between : gesture 1 (finger 0 0 ∷ finger 2 20 ∷ []) (finger 0 0 ∷ finger 1 10 ∷ finger 2 20 ∷ [])
+pub one_between : gesture 1 none (finger 0 0 ∷ finger 2 20 ∷ []) (finger 0 0 ∷ finger 1 10 ∷ finger 2 20 ∷ [])
     ≡ motion PointerDown 1 (finger 0 0 ∷ finger 1 10 ∷ finger 2 20 ∷ []) ∷ []
 one_between = refl
 
 -- the same fingers make one Move, also where nothing moved
-pub nothing_moved : gesture 1 (finger 0 100 ∷ []) (finger 0 100 ∷ []) ≡ motion Move 0 (finger 0 100 ∷ []) ∷ []
+pub nothing_moved : gesture 1 none (finger 0 100 ∷ []) (finger 0 100 ∷ []) ≡ motion Move 0 (finger 0 100 ∷ []) ∷ []
 nothing_moved = refl
 
-pub nothing_down : gesture 1 [] [] ≡ []
+pub nothing_down : gesture 1 none [] [] ≡ []
 nothing_down = refl
 
 -- a finger that goes up is at its last place beside the others at their new ones, and these move
-pub up_and_move : gesture 1 (finger 0 100 ∷ finger 1 300 ∷ []) (finger 1 310 ∷ [])
+pub up_and_move : gesture 1 none (finger 0 100 ∷ finger 1 300 ∷ []) (finger 1 310 ∷ [])
     ≡ motion PointerUp 0 (finger 0 100 ∷ finger 1 310 ∷ []) ∷ motion Move 0 (finger 1 310 ∷ []) ∷ []
 up_and_move = refl
 
 -- they don't where none has another pixel
-pub up_alone : gesture 1 (finger 0 100 ∷ finger 1 300 ∷ []) (finger 1 300 ∷ []) ≡ motion PointerUp 0 (finger 0 100 ∷ finger 1 300 ∷ []) ∷ []
+pub up_alone : gesture 1 none (finger 0 100 ∷ finger 1 300 ∷ []) (finger 1 300 ∷ []) ≡ motion PointerUp 0 (finger 0 100 ∷ finger 1 300 ∷ []) ∷ []
 up_alone = refl
 
 -- ups come first, and a gesture ends where no finger is left
-pub another_finger : gesture 1 (finger 0 100 ∷ []) (finger 1 100 ∷ []) ≡ motion Up 0 (finger 0 100 ∷ []) ∷ motion Down 0 (finger 1 100 ∷ []) ∷ []
+pub another_finger : gesture 1 none (finger 0 100 ∷ []) (finger 1 100 ∷ []) ≡ motion Up 0 (finger 0 100 ∷ []) ∷ motion Down 0 (finger 1 100 ∷ []) ∷ []
 another_finger = refl
 
-pub ups_move_downs : gesture 1 (finger 0 0 ∷ finger 1 10 ∷ finger 3 30 ∷ []) (finger 1 11 ∷ finger 2 20 ∷ finger 4 40 ∷ [])
+pub ups_move_downs : gesture 1 none (finger 0 0 ∷ finger 1 10 ∷ finger 3 30 ∷ []) (finger 1 11 ∷ finger 2 20 ∷ finger 4 40 ∷ [])
     ≡ motion PointerUp 0 (finger 0 0 ∷ finger 1 11 ∷ finger 3 30 ∷ [])
     ∷ motion PointerUp 1 (finger 1 11 ∷ finger 3 30 ∷ [])
     ∷ motion Move 0 (finger 1 11 ∷ [])
@@ -94,3 +106,33 @@ pub ups_move_downs : gesture 1 (finger 0 0 ∷ finger 1 10 ∷ finger 3 30 ∷ [
     ∷ motion PointerDown 2 (finger 1 11 ∷ finger 2 20 ∷ finger 4 40 ∷ [])
     ∷ []
 ups_move_downs = refl
+
+-- ---- pointers that are cancelled
+
+-- one of two becomes a palm, and the other moves
+pub one_cancelled : gesture 1 (these (1 ∷ [])) (finger 0 100 ∷ finger 1 300 ∷ []) (finger 0 110 ∷ [])
+    ≡ flagged PointerUp 1 (finger 0 110 ∷ finger 1 300 ∷ []) ∷ motion Move 0 (finger 0 110 ∷ []) ∷ []
+one_cancelled = refl
+
+-- the last one becomes a palm
+pub last_cancelled : gesture 1 (these (0 ∷ [])) (finger 0 100 ∷ []) [] ≡ motion Cancel 0 (finger 0 100 ∷ []) ∷ []
+last_cancelled = refl
+
+-- two of three do, in one packet
+pub two_cancelled : gesture 1 (these (0 ∷ 2 ∷ [])) (finger 0 0 ∷ finger 1 10 ∷ finger 2 20 ∷ []) (finger 1 10 ∷ [])
+    ≡ flagged PointerUp 0 (finger 0 0 ∷ finger 1 10 ∷ finger 2 20 ∷ []) ∷ flagged PointerUp 1 (finger 1 10 ∷ finger 2 20 ∷ []) ∷ []
+two_cancelled = refl
+
+-- one does while another lifts: only what was cancelled says so
+pub cancelled_beside_an_up : gesture 1 (these (0 ∷ [])) (finger 0 0 ∷ finger 1 10 ∷ []) []
+    ≡ flagged PointerUp 0 (finger 0 0 ∷ finger 1 10 ∷ []) ∷ motion Up 0 (finger 1 10 ∷ []) ∷ []
+cancelled_beside_an_up = refl
+
+pub up_beside_a_cancelled : gesture 1 (these (1 ∷ [])) (finger 0 0 ∷ finger 1 10 ∷ []) []
+    ≡ motion PointerUp 0 (finger 0 0 ∷ finger 1 10 ∷ []) ∷ motion Cancel 0 (finger 1 10 ∷ []) ∷ []
+up_beside_a_cancelled = refl
+
+-- the last one becomes a palm, and a new finger comes down in the same packet
+pub cancel_before_a_down : gesture 1 (these (0 ∷ [])) (finger 0 100 ∷ []) (finger 1 300 ∷ [])
+    ≡ motion Cancel 0 (finger 0 100 ∷ []) ∷ motion Down 0 (finger 1 300 ∷ []) ∷ []
+cancel_before_a_down = refl

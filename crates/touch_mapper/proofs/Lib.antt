@@ -1,3 +1,5 @@
 pub mod Rising
 pub mod Walk
+pub mod Common
+pub mod Fits
 pub mod Examples

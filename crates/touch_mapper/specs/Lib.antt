@@ -2,5 +2,3 @@ pub mod Cooking
 pub mod Rising
 pub mod Gesture
 pub mod GestureState
-pub mod Common
-pub mod Fits

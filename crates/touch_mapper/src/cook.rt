@@ -41,8 +41,8 @@ impl Cook {
 
     /// The axes of a device, the width and height of its display in its natural position, and how far that is turned.
     ///
-    /// `BadRange` comes exactly where an axis has its greatest position below its least, or where the width or the height is not
-    /// 1 to 16,384.
+    /// `BadRange` comes exactly where an axis has its greatest position below its least, or where the width or the
+    /// height is not 1 to 16,384.
     pub fn new(
         x: Axis,
         y: Axis,
@@ -51,7 +51,8 @@ impl Cook {
         rotation: Rotation,
     ) -> Result<Cook, BadRange>
         ensures variant { IsOk result ↔ IsTrue (can_cook x y width height) }
-        ensures value { IfOk result (λ c. c ≡ record { x = x; y = y; width = width; height = height; rotation = rotation }) }
+        ensures value { IfOk result (λ c. c
+            ≡ record { x = x; y = y; width = width; height = height; rotation = rotation }) }
     {
         if is_axis(&x) && is_axis(&y) && is_extent(width) && is_extent(height) {
             Ok(Cook {
@@ -68,8 +69,8 @@ impl Cook {
 
     /// The display pixel of a raw position, which counts as the nearest one of the device's axes.
     ///
-    /// The formula is this project's own choice: each axis is cut into as many equal parts as the display has pixels there. It
-    /// holds for all axes of 32-bit numbers.
+    /// The formula is this project's own choice: each axis is cut into as many equal parts as the display has pixels
+    /// there. It holds for all axes of 32-bit numbers.
     pub fn pixel(&self, x: i32, y: i32) -> Pixel
         ensures { result ≡ pixel self.now x y }
     {
@@ -84,12 +85,14 @@ impl Cook {
     }
 }
 
+/// Whether an axis has a position.
 fn is_axis(axis: &Axis) -> bool
     ensures { result ≡ int_le axis.now.min axis.now.max }
 {
     axis.min <= axis.max
 }
 
+/// Whether a display may be so wide or high.
 fn is_extent(extent: u16) -> bool
     ensures { result ≡ (nat_le 1 extent && nat_le extent 16384) }
 {
@@ -108,40 +111,12 @@ fn place(axis: &Axis, extent: u16, raw: i32) -> u16
     (above * u64::from(extent) / positions) as u16
 }
 
+/// The pixel at a place of the display.
 fn at(x: u16, y: u16) -> Pixel
     ensures { result ≡ record { x = pos x; y = pos y } }
 {
     Pixel {
         x: i32::from(x),
         y: i32::from(y),
-    }
-}
-
-#[cfg(test)]
-mod tests {
-    use super::*;
-
-    /// The pixel of (2048, 1024) with both axes 0 to 4095, on a display of 1080 by 2400.
-    fn pixel(rotation: Rotation) -> Option<Pixel> {
-        let axis = Axis { min: 0, max: 4095 };
-        let cook = Cook::new(axis, axis, 1080, 2400, rotation).ok()?;
-        Some(cook.pixel(2048, 1024))
-    }
-
-    #[test]
-    fn a_position_turns_with_the_display(rt: HostRuntime) {
-        assert_eq!(rt; pixel(Rotation::R0), Some(Pixel { x: 540, y: 600 }));
-        assert_eq!(rt; pixel(Rotation::R90), Some(Pixel { x: 600, y: 539 }));
-        assert_eq!(rt; pixel(Rotation::R180), Some(Pixel { x: 539, y: 1799 }));
-        assert_eq!(rt; pixel(Rotation::R270), Some(Pixel { x: 1799, y: 540 }));
-    }
-
-    #[test]
-    fn an_axis_has_a_position(rt: HostRuntime) {
-        let axis = Axis { min: 5, max: 4 };
-        assert_eq!(rt;
-            Cook::new(axis, axis, 1080, 2400, Rotation::R0),
-            Err(BadRange)
-        );
     }
 }

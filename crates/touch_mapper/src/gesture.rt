@@ -1,39 +1,57 @@
 //! The motions between two packets.
-ghost use Rattle.std.specs.Prelude.{◌≡◌, ℕ, ◌<◌, ◌≤◌, [], ◌++◌, length, OnOk};
-ghost use Rattle.touch_mapper.specs.Gesture.{as_args, gesture as motions_between, motion as motion_of, up as up_of, down as down_of, ups, downs, moves};
+ghost use Rattle.std.specs.Prelude.{◌≡◌, ℕ, ◌+◌, ◌<◌, ◌≤◌, [], ◌∷◌, ◌++◌, length, map, vec_len, vec_capacity};
+ghost use Rattle.bits32.specs.Set.{is_in};
+ghost use Rattle.touch_mapper.specs.Gesture.{gesture as motions_between, motion as motion_of, up as up_of};
+ghost use Rattle.touch_mapper.specs.Gesture.{down as down_of, ups, downs, moves};
 
 use crate::lists::{all_moved, append, in_use, is_changed, is_down, joined, joined_kept, same_ids};
-use input_types::{Args, DeviceId, Motion, MotionAction, Pointer, Pointers};
-use std::alloc::AllocError;
+use crate::motions::FromMotion;
+use bits32::Bits32;
+use input_types::{DeviceId, FLAG_CANCELED, Motion, MotionAction, Pointer, Pointers};
 
-/// Adds the motions between two packets, from the pointers that were down and those that are.
-pub fn gesture(
-    given: &mut Vec<Args>,
+/// Adds the motions between two packets, from the pointers that were down and those that are, where some of the ids
+/// that are gone are cancelled.
+pub fn gesture<T: FromMotion>(
+    given: &mut Vec<T>,
     device: DeviceId,
+    cancelled: Bits32,
     last: &Pointers,
     now: &Pointers,
-) -> Result<(), AllocError>
-    ensures { OnOk result (given.new.items ≡ given.old.items ++ as_args (motions_between device last.now now.now)) }
+)
+    requires { vec_len given.old + (length last.now + length now.now + 1) ≤ vec_capacity given.old }
+    ensures { given.new.items ≡ given.old.items ++ map T.of_motion (motions_between device
+        (λ i. is_in i cancelled) last.now now.now) }
 {
     if same_ids(last.as_slice(), now.as_slice()) {
         if !now.is_empty() {
-            given.push(Args::Motion(motion(device, MotionAction::Move, 0, now)))?;
+            put(given, motion(device, MotionAction::Move, 0, 0, now));
         }
-        return Ok(());
+        return;
     }
-    push_ups(given, device, &all_moved(last, now), now.as_slice())?;
-    push_move(given, device, last.as_slice(), now)?;
-    push_downs(given, device, last.as_slice(), now)
+    push_ups(
+        given,
+        device,
+        cancelled,
+        &all_moved(last, now),
+        now.as_slice(),
+    );
+    push_move(given, device, last.as_slice(), now);
+    push_downs(given, device, last.as_slice(), now);
 }
 
 /// The pointers that are gone go up, the lowest id first.
-fn push_ups(
-    given: &mut Vec<Args>,
+fn push_ups<T: FromMotion>(
+    given: &mut Vec<T>,
     device: DeviceId,
+    cancelled: Bits32,
     moved: &Pointers,
     now: &[Pointer],
-) -> Result<(), AllocError>
-    ensures { OnOk result (given.new.items ≡ given.old.items ++ as_args (ups device now.now [] moved.now)) }
+)
+    requires { vec_len given.old + length moved.now ≤ vec_capacity given.old }
+    ensures items { given.new.items ≡ given.old.items ++ map T.of_motion (ups device
+        (λ i. is_in i cancelled) now.now [] moved.now) }
+    ensures few { vec_len given.new ≤ vec_len given.old + length moved.now }
+    ensures room { vec_capacity given.old ≤ vec_capacity given.new }
 {
     let pointers = in_use(moved);
     let mut below = Pointers::empty();
@@ -42,36 +60,31 @@ fn push_ups(
             append(&mut below, p);
         } else {
             let all = joined(&below, pointers.split_at(i).1);
-            given.push(Args::Motion(up(device, below.len(), &all)))?;
+            put(
+                given,
+                up(device, is_cancelled(cancelled, p), below.len(), &all),
+            );
         }
     }
-    Ok(())
 }
 
 /// Those that stay move, where one has another pixel.
-fn push_move(
-    given: &mut Vec<Args>,
-    device: DeviceId,
-    last: &[Pointer],
-    now: &Pointers,
-) -> Result<(), AllocError>
-    ensures { OnOk result (given.new.items ≡ given.old.items ++ as_args (moves device last.now now.now)) }
+fn push_move<T: FromMotion>(given: &mut Vec<T>, device: DeviceId, last: &[Pointer], now: &Pointers)
+    requires { vec_len given.old < vec_capacity given.old }
+    ensures items { given.new.items ≡ given.old.items ++ map T.of_motion (moves device last.now now.now) }
+    ensures few { vec_len given.new ≤ vec_len given.old + 1 }
+    ensures room { vec_capacity given.old ≤ vec_capacity given.new }
 {
     if is_changed(last, now.as_slice()) {
         let kept = joined_kept(&Pointers::empty(), in_use(now), last);
-        given.push(Args::Motion(motion(device, MotionAction::Move, 0, &kept)))?;
+        put(given, motion(device, MotionAction::Move, 0, 0, &kept));
     }
-    Ok(())
 }
 
 /// The new pointers go down, the lowest id first.
-fn push_downs(
-    given: &mut Vec<Args>,
-    device: DeviceId,
-    last: &[Pointer],
-    now: &Pointers,
-) -> Result<(), AllocError>
-    ensures { OnOk result (given.new.items ≡ given.old.items ++ as_args (downs device last.now [] now.now)) }
+fn push_downs<T: FromMotion>(given: &mut Vec<T>, device: DeviceId, last: &[Pointer], now: &Pointers)
+    requires { vec_len given.old + length now.now ≤ vec_capacity given.old }
+    ensures { given.new.items ≡ given.old.items ++ map T.of_motion (downs device last.now [] now.now) }
 {
     let pointers = in_use(now);
     let mut below = Pointers::empty();
@@ -80,23 +93,48 @@ fn push_downs(
         append(&mut below, p);
         if !is_down(last, p.id) {
             let all = joined_kept(&below, pointers.split_at(i + 1).1, last);
-            given.push(Args::Motion(down(device, index, &all)))?;
+            put(given, down(device, index, &all));
         }
     }
-    Ok(())
+}
+
+/// Puts a motion behind the others, for which there is room.
+fn put<T: FromMotion>(given: &mut Vec<T>, motion: Motion)
+    requires { vec_len given.old < vec_capacity given.old }
+    ensures items { given.new.items ≡ given.old.items ++ T.of_motion motion ∷ [] }
+    ensures len { vec_len given.new ≡ vec_len given.old + 1 }
+    ensures room { vec_capacity given.old ≤ vec_capacity given.new }
+{
+    match given.push(T::from_motion(motion)) {
+        Ok(()) => {}
+        Err(_) => unreachable!(),
+    }
+}
+
+/// Whether a pointer that goes up is cancelled.
+fn is_cancelled(cancelled: Bits32, pointer: &Pointer) -> bool
+    ensures { result ≡ is_in pointer.now.id cancelled }
+{
+    cancelled.has(pointer.id.get())
 }
 
 /// A pointer goes up.
-fn up(device: DeviceId, index: usize, pointers: &Pointers) -> Motion
+fn up(device: DeviceId, cancelled: bool, index: usize, pointers: &Pointers) -> Motion
     requires { index ≤ 16 }
-    ensures { result ≡ up_of device index pointers.now }
+    ensures { result ≡ up_of device cancelled index pointers.now }
 {
-    let action = if pointers.len() == 1 {
-        MotionAction::Up
+    let index = index as u8;
+    if pointers.len() == 1 {
+        let action = if cancelled {
+            MotionAction::Cancel
+        } else {
+            MotionAction::Up
+        };
+        motion(device, action, index, 0, pointers)
     } else {
-        MotionAction::PointerUp
-    };
-    motion(device, action, index as u8, pointers)
+        let flags = if cancelled { FLAG_CANCELED } else { 0 };
+        motion(device, MotionAction::PointerUp, index, flags, pointers)
+    }
 }
 
 /// A pointer has gone down.
@@ -109,17 +147,24 @@ fn down(device: DeviceId, index: usize, pointers: &Pointers) -> Motion
     } else {
         MotionAction::PointerDown
     };
-    motion(device, action, index as u8, pointers)
+    motion(device, action, index as u8, 0, pointers)
 }
 
-fn motion(device: DeviceId, action: MotionAction, index: u8, pointers: &Pointers) -> Motion
-    ensures { result ≡ motion_of device action index pointers.now }
+/// A motion of the pointers of a list.
+fn motion(
+    device: DeviceId,
+    action: MotionAction,
+    index: u8,
+    flags: u32,
+    pointers: &Pointers,
+) -> Motion
+    ensures { result ≡ motion_of device action index flags pointers.now }
 {
     Motion {
         device,
         action,
         index,
-        flags: 0,
+        flags,
         pointers: *pointers,
     }
 }

@@ -1,17 +1,18 @@
 //! Gestures of one device.
-ghost use Rattle.std.specs.Prelude.{◌≡◌, ℕ, [], ◌++◌, Some, OnErr, OnOk};
-ghost use Rattle.input_types.specs.Gestures.{ids_of};
-ghost use Rattle.touch_mapper.specs.Gesture.{as_args, gesture as motions_between, placed_all, after_motions};
+ghost use Rattle.std.specs.Prelude.{◌≡◌, ℕ, ◌+◌, ◌≤◌, [], ◌++◌, map, vec_len, vec_capacity, IsOk, IfOk, OnErr, OnOk};
+ghost use Rattle.touch_mapper.specs.Gesture.{after_packet, packet_motions};
 
 use crate::cook::Cook;
 use crate::gesture::gesture;
 use crate::lists::at_pixels;
-use input_types::{Args, DeviceId, Pointers};
+use crate::motions::FromMotion;
+use input_types::{DeviceId, Motion, Pointers};
 use pointer_ids::Assigned;
-use std::alloc::AllocError;
+use std::alloc::{AllocError, Global};
 use std::marker::Model;
 
-/// The gestures of one device: which pointers were down at the last packet, and at which pixels. It is `Copy` and takes no memory.
+/// The gestures of one device: which pointers were down at the last packet, and at which pixels. It is `Copy` and takes
+/// no memory.
 #[derive(Clone, Copy, Debug, PartialEq, Eq)]
 pub struct Gestures {
     device: DeviceId,
@@ -30,6 +31,9 @@ impl Model for Gestures {
 }
 
 impl Gestures {
+    /// The most motions that a packet makes: 16 pointers go up, the others move, and 16 go down.
+    pub const MOST: usize = 33;
+
     /// No pointer is down.
     pub fn new(device: DeviceId, cook: Cook) -> Gestures
         ensures { result ≡ record { device = device; cook = cook; last = [] } }
@@ -41,22 +45,43 @@ impl Gestures {
         }
     }
 
-    /// Adds the motions that the next packet of the device makes to those that are given, in their order. They are this project's own choice after Android's:
+    /// The motions that the next packet of the device makes, in their order. They are this project's own choice after
+    /// Android's:
     ///
     /// * Where the same pointers are down as before, one `Move`, also if nothing moved; nothing where none is down.
-    /// * Else the pointers that are gone go up by `PointerUp`, lowest id first, at their last places, beside the others at their new
-    ///   ones; then one `Move` comes where a pointer that stays changed its pixel; then the new ones go down by `PointerDown`, lowest
-    ///   id first. The first pointer down is a `Down`, the last one up is an `Up`.
+    /// * Else the pointers that are gone go up by `PointerUp`, lowest id first, at their last places, beside the others
+    ///   at their new ones; then one `Move` comes where a pointer that stays changed its pixel; then the new ones go
+    ///   down by `PointerDown`, lowest id first. The first pointer down is a `Down`, the last one up is an `Up`.
+    /// * A pointer that is cancelled goes up by a `PointerUp` with `FLAG_CANCELED`; the last one by a `Cancel`.
     ///
-    /// Each motion lists all pointers that are down, the one that goes up or down included. After want of memory some of them may stand there.
-    pub fn next(&mut self, given: &mut Vec<Args>, now: &Assigned) -> Result<(), AllocError>
-        ensures ok { OnOk result (given.new.items ≡ given.old.items ++ as_args (motions_between self.old.device self.old.last (placed_all self.old.cook now.now))) }
-        ensures after { OnOk result (self.new ≡ record { device = self.old.device; cook = self.old.cook; last = placed_all self.old.cook now.now }) }
+    /// Each motion lists all pointers that are down, the one that goes up or down included.
+    pub fn next(&mut self, alloc: Global, now: &Assigned) -> Result<Vec<Motion>, AllocError>
+        ensures ok { IfOk result (λ v. v.items ≡ packet_motions self.old now.now) }
+        ensures after { OnOk result (self.new ≡ after_packet self.old now.now) }
         ensures err { OnErr result (self.new ≡ self.old) }
     {
-        let now = at_pixels(&self.cook, now);
-        gesture(given, self.device, &self.last, &now)?;
-        self.last = now;
+        let mut motions = Vec::new(alloc);
+        self.next_into(&mut motions, now)?;
+        Ok(motions)
+    }
+
+    /// Adds the motions of `next` to those that are given. After want of memory the list is as it was, and with room
+    /// for `MOST` more there is none.
+    pub fn next_into<T: FromMotion>(
+        &mut self,
+        given: &mut Vec<T>,
+        now: &Assigned,
+    ) -> Result<(), AllocError>
+        ensures ok { OnOk result (given.new.items ≡ given.old.items ++ map T.of_motion (packet_motions self.old now.now)) }
+        ensures after { OnOk result (self.new ≡ after_packet self.old now.now) }
+        ensures err { OnErr result (self.new ≡ self.old) }
+        ensures given { OnErr result (given.new.items ≡ given.old.items) }
+        ensures room { vec_len given.old + 33 ≤ vec_capacity given.old → IsOk result }
+    {
+        let now_at = at_pixels(&self.cook, now);
+        given.reserve(self.last.len() + now_at.len() + 1)?;
+        gesture(given, self.device, now.cancelled(), &self.last, &now_at);
+        self.last = now_at;
         Ok(())
     }
 
@@ -65,5 +90,38 @@ impl Gestures {
         ensures { self.new ≡ record { device = self.old.device; cook = self.old.cook; last = [] } }
     {
         self.last = Pointers::empty();
+    }
+}
+
+#[cfg(test)]
+mod tests {
+    use super::*;
+    use input_types::{Axis, Moment, MotionAction, Rotation};
+    use pointer_ids::Ids;
+    use raw_events::RawEvent;
+    use raw_events::codes::{ABS_MT_TRACKING_ID, EV_ABS};
+    use slot_accumulator::Slots;
+    use std::test::Fail;
+
+    #[test]
+    fn a_finger_goes_down(rt: HostRuntime) -> Result<(), Fail> {
+        let device = DeviceId::new(1).ok_or("a device")?;
+        let axis = Axis { min: 0, max: 4095 };
+        let cook = Cook::new(axis, axis, 1080, 2400, Rotation::R0).ok();
+        let mut slots = Slots::new(2);
+        slots.take(RawEvent {
+            device,
+            moment: Moment::zero(),
+            kind: EV_ABS,
+            code: ABS_MT_TRACKING_ID,
+            value: 45,
+        });
+        let pointers = Ids::new().assign(&slots.contacts());
+        let mut gestures = Gestures::new(device, cook.ok_or("a display")?);
+        let motions = gestures.next(rt.alloc(), &pointers)?;
+        assert_eq!(rt; motions.len(), 1);
+        assert_eq!(rt; motions[0].action, MotionAction::Down);
+        assert_eq!(rt; motions[0].pointers.len(), 1);
+        Ok(())
     }
 }

@@ -5,7 +5,8 @@ ghost use Rattle.input_types.specs.Gestures.{ids_of, same_ids as ids_agree};
 ghost use Rattle.input_types.specs.Pointers.{EndsBelow};
 ghost use Rattle.touch_mapper.specs.Cooking.{Cooking};
 ghost use Rattle.touch_mapper.specs.Rising.{Rises};
-ghost use Rattle.touch_mapper.specs.Gesture.{is_down as is_in, moved as moved_in, moved_all, kept, is_moved as has_moved, is_changed as have_changed, placed, placed_all};
+ghost use Rattle.touch_mapper.specs.Gesture.{is_down as is_in, moved as moved_in, moved_all, kept};
+ghost use Rattle.touch_mapper.specs.Gesture.{is_moved as has_moved, is_changed as have_changed, placed, placed_all};
 
 use crate::cook::Cook;
 use input_types::{Pixel, Pointer, PointerId, Pointers, PushRefused};
@@ -52,12 +53,12 @@ pub fn in_use(pointers: &Pointers) -> &[Pointer]
     ensures range { length result.now ≤ 16 }
     ensures rises { Rises result.now }
 {
-    pointers.as_slice().split_at(pointers.len()).0
+    pointers.as_slice()
 }
 
 /// The pointers of a packet at their pixels.
 pub fn at_pixels(cook: &Cook, held: &Assigned) -> Pointers
-    ensures { result ≡ placed_all cook.now held.now }
+    ensures { result ≡ placed_all cook.now held.now.pointers }
 {
     let mut pointers = Pointers::empty();
     for h in held.as_slice() {
@@ -66,6 +67,7 @@ pub fn at_pixels(cook: &Cook, held: &Assigned) -> Pointers
     pointers
 }
 
+/// A pointer at its pixel.
 fn at_pixel(cook: &Cook, held: &Held) -> Pointer
     ensures { result ≡ placed cook.now held.now }
 {
@@ -133,12 +135,14 @@ pub fn is_changed(last: &[Pointer], now: &[Pointer]) -> bool
     last.iter().any(|p| is_moved(now, p))
 }
 
+/// Whether a pointer has another pixel in a list.
 fn is_moved(now: &[Pointer], pointer: &Pointer) -> bool
     ensures { result ≡ has_moved now.now pointer.now }
 {
     !same_pixel(&moved(now, pointer).at, &pointer.at)
 }
 
+/// Whether two pixels are the same.
 fn same_pixel(a: &Pixel, b: &Pixel) -> bool
     ensures { result ≡ (int_eq a.now.x b.now.x && int_eq a.now.y b.now.y) }
 {

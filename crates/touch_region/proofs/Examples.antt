@@ -1,8 +1,10 @@
 -- Worked examples: what the definitions say of rectangles that are written out.
-use Rattle.std.specs.Prelude.{◌≡◌, true, false, pos, negsuc, [], ◌∷◌, replicate, Ok, Err, refl}
+use Rattle.std.specs.Prelude.{◌≡◌, true, false, pos, negsuc, List, ℕ, [], ◌∷◌, replicate, Ok, Err, refl}
 use Rattle.touch_region.specs.declared.rectangle.Rect.{Rect}
 use Rattle.touch_region.specs.declared.region.RegionError.TheVariants.{TooMany, BadRect}
+use Rattle.touch_region.specs.declared.span.Span.{Span}
 use Rattle.touch_region.specs.RectList.{region_holds}
+use Rattle.touch_region.specs.Bands.{Row, bands_hold}
 use Rattle.touch_region.specs.Region.{region_of}
 
 -- from (10, 10) to (20, 20)
@@ -72,3 +74,31 @@ negative_places_count = refl
 
 pub nothing_has_no_point : region_holds [] (pos 0) (pos 0) ≡ false
 nothing_has_no_point = refl
+
+abbrev pub span : ℕ → ℕ → Span
+span from until = record { from = pos from; until = pos until }
+
+-- the three bands of `upper` and `lower`
+abbrev pub bands : List Row
+bands =
+    record { top = pos 0; bottom = pos 5; spans = span 0 10 ∷ [] }
+    ∷ record { top = pos 5; bottom = pos 10; spans = span 0 20 ∷ [] }
+    ∷ record { top = pos 10; bottom = pos 20; spans = span 5 20 ∷ [] } ∷ []
+
+pub first_band_has_it : bands_hold bands (pos 0) (pos 4) ≡ true
+first_band_has_it = refl
+
+pub second_band_has_it : bands_hold bands (pos 0) (pos 9) ≡ true
+second_band_has_it = refl
+
+pub third_band_has_it : bands_hold bands (pos 15) (pos 15) ≡ true
+third_band_has_it = refl
+
+pub beside_the_first_band : bands_hold bands (pos 15) (pos 2) ≡ false
+beside_the_first_band = refl
+
+pub beside_the_third_band : bands_hold bands (pos 4) (pos 10) ≡ false
+beside_the_third_band = refl
+
+pub below_all_bands : bands_hold bands (pos 20) (pos 20) ≡ false
+below_all_bands = refl

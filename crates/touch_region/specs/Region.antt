@@ -1,8 +1,8 @@
 -- Which lists of rectangles are regions, and why the others are not.
-use Rattle.std.specs.Prelude.{ℕ, nat_lt, List, length, Option, Some, None, Result, Ok, Err, if◌then◌else◌}
+use Rattle.std.specs.Prelude.{◌≡◌, ℕ, nat_lt, List, length, Option, Some, None, Result, Ok, Err, if◌then◌else◌}
 use Rattle.touch_region.specs.declared.rectangle.Rect.{Rect}
 use Rattle.touch_region.specs.declared.region.RegionError.{RegionError}
-use Rattle.touch_region.specs.declared.region.RegionError.TheVariants.{TooMany, BadRect}
+use Rattle.touch_region.specs.declared.region.RegionError.TheVariants.{TooMany, BadRect, Memory}
 use Rattle.touch_region.specs.RectList.{first_bad}
 
 -- the list itself, unless a rectangle of it is bad
@@ -13,3 +13,8 @@ region_unless rects (Some i) = Err (BadRect i)
 -- the region of these rectangles: more than 64 are too many, and then the first bad one is named
 abbrev pub region_of : List Rect → Result (List Rect) RegionError
 region_of rects = if nat_lt 64 (length rects) then Err TooMany else region_unless rects (first_bad rects)
+
+-- a call answers this, unless memory ran out
+abbrev pub Gives : Result (List Rect) RegionError → Result (List Rect) RegionError → Type 0
+Gives (Err Memory) due = Unit {0}
+Gives answer due = answer ≡ due

@@ -1,6 +1,8 @@
-// A rectangle of display pixels.
+//! A rectangle of display pixels.
 
 ghost use Rattle.std.specs.Prelude.{◌≡◌};
+
+use crate::span::{Span, is_between};
 
 /// A rectangle in display pixels, half-open: it has the points with `left <= x < right` and `top <= y < bottom`.
 ///
@@ -19,6 +21,7 @@ pub struct Rect {
 
 impl Rect {
     ghost use Rattle.touch_region.specs.Rectangle.{rect_holds, is_ordered};
+    ghost use Rattle.touch_region.specs.Bands.{columns_of, rows_of};
 
     /// Whether the point lies in the rectangle.
     pub fn contains(&self, x: i32, y: i32) -> bool
@@ -34,13 +37,24 @@ impl Rect {
     {
         self.left <= self.right && self.top <= self.bottom
     }
-}
 
-ghost use Rattle.touch_region.specs.Between.{is_between};
+    /// The columns of pixels that it has.
+    pub(crate) fn columns(&self) -> Span
+        ensures { result ≡ columns_of self.now }
+    {
+        Span {
+            from: self.left,
+            until: self.right,
+        }
+    }
 
-// Whether `from <= x < until`.
-fn is_between(from: i32, x: i32, until: i32) -> bool
-    ensures { result ≡ is_between from x until }
-{
-    from <= x && x < until
+    /// The rows of pixels that it has.
+    pub(crate) fn rows(&self) -> Span
+        ensures { result ≡ rows_of self.now }
+    {
+        Span {
+            from: self.top,
+            until: self.bottom,
+        }
+    }
 }

@@ -1,7 +1,9 @@
-// A list of rectangles, and the points that lie in some of them.
+//! A list of rectangles, and the points that lie in some of them.
 
-ghost use Rattle.std.specs.Prelude.{◌≡◌, IfOk};
+ghost use Rattle.std.specs.Prelude.{◌≡◌, ◌≤◌, length, IfOk};
+ghost use Rattle.touch_region.specs.declared.region.RegionError.TheVariants.{Memory};
 
+use crate::band::{Band, bands_hold, bands_of, copy_bands};
 use crate::rectangle::Rect;
 use std::alloc::AllocError;
 use std::marker::Model;
@@ -11,23 +13,29 @@ pub const MAX_RECTS: usize = 64;
 
 /// The part of the display on which a window can be touched: every point that lies in one of its rectangles.
 ///
-/// A clause sees a region as the list of its rectangles, in display pixels, in the order in which they were given. There
-/// are at most 64, each with its edges in order. A region without rectangles, or with empty ones alone, has no point.
+/// A clause sees a region as the list of its rectangles, in display pixels, in the order in which they were given.
+/// There are at most 64, each with its edges in order. A region without rectangles, or with empty ones alone, has no
+/// point.
+///
+/// Two or more rectangles have bands beside them, in which two binary searches find a point: one for the band, one in
+/// it for the span. One rectangle, as nearly every window has, is looked at itself.
 #[derive(Drop)]
 pub struct Region {
     rects: Vec<Rect>,
+    bands: Vec<Band>,
 }
 
 impl Model for Region {
     ghost use Rattle.std.specs.Prelude.{List};
     ghost use Rattle.touch_region.specs.declared.rectangle.Rect.{Rect};
     ghost use Rattle.touch_region.specs.RectList.{IsRegion};
+    ghost use Rattle.touch_region.specs.Bands.{HasBands};
 
     ghost Value = { List Rect };
 
     ghost view = { λ r. r.rects.items };
 
-    ghost invariant = { λ r. IsRegion r.rects.items };
+    ghost invariant = { λ r. IsRegion r.rects.items × HasBands r.rects.items r.bands.items };
 }
 
 /// Why a list of rectangles is no region.
@@ -35,39 +43,57 @@ impl Model for Region {
 pub enum RegionError {
     /// More than 64 rectangles.
     TooMany,
-    /// The rectangle at the place `i`, counted from 0, has its left edge right of its right one, or its top edge below its
-    /// bottom one; no rectangle before it has.
+    /// The rectangle at the place `i`, counted from 0, has its left edge right of its right one, or its top edge below
+    /// its bottom one; no rectangle before it has.
     BadRect {
         /// The place of that rectangle.
         i: u32,
     },
-    /// No memory. A region that is nothing but the list it was made from asks for none.
+    /// No memory for the bands. One rectangle asks for none.
     Memory,
 }
 
+impl From<AllocError> for RegionError {
+    ghost from_gives = { λ _ e. e ≡ Memory };
+
+    fn from(_error: AllocError) -> RegionError {
+        RegionError::Memory
+    }
+}
+
 impl Region {
-    ghost use Rattle.touch_region.specs.Region.{region_of};
+    ghost use Rattle.touch_region.specs.Region.{region_of, Gives};
     ghost use Rattle.touch_region.specs.RectList.{region_holds, IsRegion};
 
     /// The region of these rectangles. More than 64 are refused before any of them is looked at; then the first whose
-    /// edges are not in order is refused.
+    /// edges are not in order is refused. Two or more rectangles take memory, one or none do not.
     pub fn new(rects: Vec<Rect>) -> Result<Region, RegionError>
-        ensures { result ≡ region_of rects.items }
+        ensures region { Gives result (region_of rects.items) }
+        ensures no_memory { length rects.items ≤ 1 → result ≡ region_of rects.items }
     {
         if rects.len() > MAX_RECTS {
             return Err(RegionError::TooMany);
         }
-        match first_bad(&rects) {
-            Some(i) => Err(RegionError::BadRect { i: i as u32 }),
-            None => Ok(Region { rects }),
+        if let Some(i) = first_bad(&rects) {
+            return Err(RegionError::BadRect { i: i as u32 });
         }
+        if rects.len() <= 1 {
+            let bands = Vec::new(*rects.allocator());
+            return Ok(Region { rects, bands });
+        }
+        let bands = bands_of(*rects.allocator(), &rects)?;
+        Ok(Region { rects, bands })
     }
 
     /// Whether the point lies in one of the rectangles.
     pub fn contains(&self, x: i32, y: i32) -> bool
         ensures { result ≡ region_holds self.now x y }
     {
-        self.rects.iter().any(|rect| rect.contains(x, y))
+        match self.rects.as_slice() {
+            [] => false,
+            [rect] => rect.contains(x, y),
+            _ => bands_hold(&self.bands, x, y),
+        }
     }
 
     /// An equal region.
@@ -75,7 +101,8 @@ impl Region {
         ensures { IfOk result (λ copied. copied ≡ self.now) }
     {
         let rects = Vec::from_slice(*self.rects.allocator(), &self.rects)?;
-        Ok(Region { rects })
+        let bands = copy_bands(*self.rects.allocator(), &self.bands)?;
+        Ok(Region { rects, bands })
     }
 
     /// The rectangles, in the order in which they were given.
@@ -90,7 +117,7 @@ impl Region {
     pub fn into_rects(self) -> Vec<Rect>
         ensures { result.items ≡ self }
     {
-        let Region { rects } = self;
+        let Region { rects, bands: _ } = self;
         rects
     }
 }
@@ -123,6 +150,20 @@ mod tests {
         bottom: 9,
     };
 
+    const UPPER: Rect = Rect {
+        left: 0,
+        top: 0,
+        right: 10,
+        bottom: 10,
+    };
+
+    const LOWER: Rect = Rect {
+        left: 5,
+        top: 5,
+        right: 20,
+        bottom: 20,
+    };
+
     const REVERSED: Rect = Rect {
         left: 9,
         top: 0,
@@ -140,6 +181,19 @@ mod tests {
         let copied = region.copy()?;
         assert_eq!(rt; copied.rects(), [EMPTY, SQUARE].as_slice());
         assert_eq!(rt; copied.into_rects(), region.into_rects());
+        Ok(())
+    }
+
+    #[test]
+    fn two_rectangles_that_overlap(rt: HostRuntime) -> Result<(), Fail> {
+        let region = Region::new(vec![in rt.alloc(); UPPER, LOWER]?)?;
+        let copied = region.copy()?;
+        for (x, y) in [(7, 7), (15, 15), (0, 9)] {
+            assert!(rt; region.contains(x, y) && copied.contains(x, y));
+        }
+        for (x, y) in [(15, 2), (20, 20), (2, 15), (0, 10), (19, 4)] {
+            assert!(rt; !region.contains(x, y) && !copied.contains(x, y));
+        }
         Ok(())
     }
 

@@ -4,4 +4,7 @@ use Rattle.pointer_ids.proofs.ids.in_rising_id.Given as goal
 
 -- the pointers with the ids so far
 abbrev pub invariant-loop-id : goal.invariant-loop-id
-invariant-loop-id l = l.pointers ≡ by_id l.id l.named
+invariant-loop-id l = record {
+  listed : l.pointers.pointers ≡ by_id l.id l.named;
+  stay : l.pointers.cancelled ≡ l.fn.cancelled;
+}

@@ -10,7 +10,7 @@ use Rattle.session_plan.proofs.device.each_device.Given as goal
 -- the devices so far, and then those that are left, are all
 abbrev pub invariant-loop-i : goal.invariant-loop-i
 invariant-loop-i l = record {
-  rest : each device_of (l.i + 1) (map device_view l.devices.items) (map view (drop l.i l.tables)) ≡ each device_of 1 [] (map view l.tables);
+  rest : each (device_of l.displays) (l.i + 1) (map device_view l.devices.items) (map view (drop l.i l.tables)) ≡ each (device_of l.displays) 1 [] (map view l.tables);
   len : length l.devices.items ≡ l.i;
-  valid : All IsDevice l.devices.items;
+  valid : All (IsDevice l.displays) l.devices.items;
 }

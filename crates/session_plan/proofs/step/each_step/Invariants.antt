@@ -11,7 +11,7 @@ use Rattle.session_plan.proofs.step.each_step.Given as goal
 abbrev pub invariant-loop-i : goal.invariant-loop-i
 invariant-loop-i l = record {
   rest :
-      each (λ k found d. step_of (map channel_view l.channels) l.devices k d) (l.i + 1) l.steps.items (map view (drop l.i l.tables))
-      ≡ each (λ k found d. step_of (map channel_view l.channels) l.devices k d) 1 [] (map view l.tables);
+      each (λ k found d. step_of (map channel_view l.channels) l.devices l.displays k d) (l.i + 1) l.steps.items (map view (drop l.i l.tables))
+      ≡ each (λ k found d. step_of (map channel_view l.channels) l.devices l.displays k d) 1 [] (map view l.tables);
   valid : All IsStep l.steps.items;
 }

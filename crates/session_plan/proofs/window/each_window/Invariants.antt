@@ -11,8 +11,8 @@ use Rattle.session_plan.proofs.window.each_window.Given as goal
 abbrev pub invariant-loop-i : goal.invariant-loop-i
 invariant-loop-i l = record {
   rest :
-      each (λ j found d. window_of (map channel_view l.channels) (Window l.k j) found d) (l.i + 1) l.windows.items (map view (drop l.i l.tables))
-      ≡ each (λ j found d. window_of (map channel_view l.channels) (Window l.k j) found d) 1 [] (map view l.tables);
+      each (λ j found d. window_of (map channel_view l.channels) l.displays (Window l.k j) found d) (l.i + 1) l.windows.items (map view (drop l.i l.tables))
+      ≡ each (λ j found d. window_of (map channel_view l.channels) l.displays (Window l.k j) found d) 1 [] (map view l.tables);
   len : length l.windows.items ≡ l.i;
   distinct : first_twice l.windows.items ≡ None;
 }

@@ -4,4 +4,4 @@ use Rattle.touch_mapper.proofs.lists.at_pixels.Given as goal
 
 -- the pointers so far, with those that are left, are all
 abbrev pub invariant-loop-h : goal.invariant-loop-h
-invariant-loop-h l = l.pointers ++ placed_all l.cook (drop l.h-index l.held) ≡ placed_all l.cook l.held
+invariant-loop-h l = l.pointers ++ placed_all l.cook (drop l.h-index l.held.pointers) ≡ placed_all l.cook l.held.pointers

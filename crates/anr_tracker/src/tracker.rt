@@ -1,0 +1,125 @@
+//! The map from channels to due moments.
+ghost use Rattle.std.specs.Prelude.{◌≡◌, ◌-◌, ◌≤◌, None, Some, replicate, slice_set};
+ghost use Rattle.anr_tracker.specs.Due.{due_of, IsFirst, is_before, is_put_off, sooner_of};
+
+use std::marker::Model;
+
+/// A map from channels, which have the numbers 1 to 64, to the moments at which they are due. It takes no memory.
+///
+/// Contracts see the table: at place `c - 1` stands the due moment of channel `c`, where it has one.
+#[derive(Debug, Drop)]
+pub struct Tracker {
+    dues: [Option<u64>; 64],
+    first: Option<(u64, u32)>,
+}
+
+impl Model for Tracker {
+    ghost use Rattle.std.specs.Prelude.{ℕ, List, Option};
+    ghost use Rattle.anr_tracker.specs.Due.{IsTable};
+
+    ghost Value = { List (Option ℕ) };
+
+    ghost view = { λ t. t.dues };
+
+    ghost invariant = { λ t. IsTable t.dues t.first };
+}
+
+impl Tracker {
+    /// No channel is due.
+    pub fn new() -> Tracker
+        ensures { result ≡ replicate 64 None }
+    {
+        Tracker {
+            dues: none_due(),
+            first: None,
+        }
+    }
+
+    /// The channel is due at a moment, instead of any other.
+    pub fn set(&mut self, channel: u32, due: u64)
+        requires { (1 ≤ channel) × (channel ≤ 64) }
+        ensures { self.new ≡ slice_set self.old (channel - 1) (Some due) }
+    {
+        self.dues[channel as usize - 1] = Some(due);
+        if is_put_off(self.first, (due, channel)) {
+            self.first = first_of(&self.dues);
+        } else {
+            self.first = Some(sooner(self.first, (due, channel)));
+        }
+    }
+
+    /// The channel is not due.
+    pub fn clear(&mut self, channel: u32)
+        requires { (1 ≤ channel) × (channel ≤ 64) }
+        ensures { self.new ≡ slice_set self.old (channel - 1) None }
+    {
+        self.dues[channel as usize - 1] = None;
+        self.first = match self.first {
+            Some(first) if first.1 == channel => first_of(&self.dues),
+            first => first,
+        };
+    }
+
+    /// When the channel is due.
+    pub fn due(&self, channel: u32) -> Option<u64>
+        requires { (1 ≤ channel) × (channel ≤ 64) }
+        ensures { result ≡ due_of self.now channel }
+    {
+        self.dues[channel as usize - 1]
+    }
+
+    /// The least due moment, and its channel, the least one where several are due at it; None exactly where no channel
+    /// is due.
+    pub fn first_due(&self) -> Option<(u64, u32)>
+        ensures { IsFirst (due_of self.now) result }
+    {
+        self.first
+    }
+}
+
+/// The table in which no channel is due.
+fn none_due() -> [Option<u64>; 64]
+    ensures { result ≡ replicate 64 None }
+{
+    [None; 64]
+}
+
+/// Whether the channel that came first is now due later.
+fn is_put_off(first: Option<(u64, u32)>, pair: (u64, u32)) -> bool
+    ensures { result ≡ is_put_off first pair }
+{
+    match first {
+        Some(first) => first.1 == pair.1 && first.0 < pair.0,
+        None => false,
+    }
+}
+
+/// The pair that comes first, of one that came first so far and a further one.
+fn sooner(first: Option<(u64, u32)>, pair: (u64, u32)) -> (u64, u32)
+    ensures { result ≡ sooner_of first pair }
+{
+    match first {
+        Some(first) if !precedes(pair, first) => first,
+        _ => pair,
+    }
+}
+
+/// Whether a pair of moment and channel comes before another.
+fn precedes(pair: (u64, u32), other: (u64, u32)) -> bool
+    ensures { result ≡ is_before pair other }
+{
+    pair.0 < other.0 || (pair.0 == other.0 && pair.1 < other.1)
+}
+
+/// The pair that comes first, looked for in the whole table.
+fn first_of(dues: &[Option<u64>; 64]) -> Option<(u64, u32)>
+    ensures { IsFirst (due_of dues.now) result }
+{
+    let mut first = None;
+    for i in 0..64 {
+        if let Some(due) = dues[i] {
+            first = Some(sooner(first, (due, i as u32 + 1)));
+        }
+    }
+    first
+}

@@ -1,0 +1,78 @@
+-- What a channel is after some calls.
+use Rattle.std.specs.Prelude.{◌≡◌, true, false, [], None, Some, replicate, length}
+use Rattle.std.proofs.Common.{refl}
+use Rattle.input_types.specs.declared.message.Body.TheVariants.{Focus}
+use Rattle.input_channel.specs.State.{ChannelState, opened_with, sent, enqueued, published_at, next_of, received_next, may_finish, finished_with, let_go_of, oldest_of, has_late}
+
+-- Two messages with the clock at 0 and at 1000000, both received
+abbrev pub told : ChannelState
+told =
+    received_next
+    (published_at 1000000
+    (enqueued (Focus false) 1000000
+    (received_next (published_at 0 (enqueued (Focus true) 0 (opened_with 5000000))))))
+
+pub first_message : next_of (published_at 0 (enqueued (Focus true) 7 (opened_with 5000000)))
+    ≡ Some (record { seq = 1; moment = 7; body = Focus true })
+first_message = refl
+
+pub nothing_is_published : next_of (enqueued (Focus true) 7 (opened_with 5000000)) ≡ None
+nothing_is_published = refl
+
+pub all_is_received : next_of told ≡ None
+all_is_received = refl
+
+-- there is no message 0 or 3
+pub no_such_message : may_finish 0 told ≡ false
+no_such_message = refl
+
+pub not_yet_such_message : may_finish 3 told ≡ false
+not_yet_such_message = refl
+
+-- the second is finished first, and not twice
+pub out_of_order : may_finish 2 told ≡ true
+out_of_order = refl
+
+pub not_twice : may_finish 2 (finished_with 2 told) ≡ false
+not_twice = refl
+
+pub oldest_stays : oldest_of (finished_with 2 told) ≡ Some (1, 0)
+oldest_stays = refl
+
+pub oldest_goes : oldest_of (finished_with 1 told) ≡ Some (2, 1000000)
+oldest_goes = refl
+
+-- the first has waited long enough at 5000000, the second at 6000000
+pub in_time : has_late 4999999 told ≡ false
+in_time = refl
+
+pub late : has_late 5000000 told ≡ true
+late = refl
+
+pub in_time_again : has_late 5000000 (finished_with 1 told) ≡ false
+in_time_again = refl
+
+-- what was let go keeps its number, and its delivery until it is finished
+pub next_number : sent (let_go_of told) ≡ 2
+next_number = refl
+
+pub nothing_is_kept : (let_go_of told).messages ≡ []
+nothing_is_kept = refl
+
+pub delivery_is_kept : oldest_of (let_go_of told) ≡ Some (1, 0)
+delivery_is_kept = refl
+
+-- of 65 messages 64 are published, and the last one once one of them is finished
+abbrev pub many : ChannelState
+many =
+    published_at 0
+    (record (opened_with 5000000) { messages = replicate 65 (record { seq = 1; moment = 0; body = Focus true }) })
+
+pub at_most_64 : many.published ≡ 64
+at_most_64 = refl
+
+pub one_more : (published_at 9 (finished_with 30 many)).published ≡ 65
+one_more = refl
+
+pub delivered_later : length (published_at 9 (finished_with 30 many)).unfinished ≡ 64
+delivered_later = refl

@@ -1,0 +1,4 @@
+pub mod Delivering
+pub mod Examples
+pub mod Finishing
+pub mod Late

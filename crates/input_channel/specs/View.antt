@@ -1,0 +1,15 @@
+-- The fields of a channel as contracts see them.
+use Rattle.input_channel.specs.declared.channel.Channel.TheInside.{Inside}
+use Rattle.input_channel.specs.State.{ChannelState}
+
+abbrev pub state_of : Inside → ChannelState
+state_of c = record {
+  limit = c.limit;
+  gone = c.kept.gone;
+  messages = c.kept.messages;
+  published = c.published;
+  received = c.received;
+  finished = c.finished;
+  unfinished = c.unfinished.items;
+  spare = c.kept.spare;
+}

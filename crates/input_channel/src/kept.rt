@@ -1,0 +1,122 @@
+//! The messages of a channel that were not let go.
+ghost use Rattle.std.specs.Prelude.{◌≡◌, ◌+◌, ◌≤◌, [], IsOk, IfOk, OnErr, OnOk, drop, length, vec_len, vec_capacity};
+ghost use Rattle.input_channel.specs.Kept.{sent_in, kept_with, kept_after, kept_with_spare};
+
+use input_types::{Body, Message, Moment};
+use std::alloc::{AllocError, Global};
+use std::marker::Model;
+
+/// The messages, in a list whose first ones may be let go already. These go from the list once they are at least half
+/// of it, so each message is moved at most once for one that is let go.
+#[derive(Drop)]
+pub(crate) struct Kept {
+    list: Vec<Message>,
+    // How many places at the front of the list are those of messages that were let go.
+    dropped: usize,
+    // How many messages were let go in all.
+    gone: u64,
+    // For how many messages more the list has room.
+    spare: u32,
+}
+
+impl Model for Kept {
+    ghost use Rattle.std.specs.Prelude.{drop, vec_len, vec_capacity};
+    ghost use Rattle.input_channel.specs.Kept.{KeptState, HasRoom};
+
+    ghost Value = { KeptState };
+
+    ghost view = { λ k. record { gone = k.gone; messages = drop k.dropped k.list.items; spare = k.spare } };
+
+    ghost invariant = { λ k. HasRoom (vec_len k.list) (vec_capacity k.list) k.dropped k.gone k.spare };
+}
+
+impl Kept {
+    /// No messages.
+    pub(crate) fn new(alloc: Global) -> Kept
+        ensures { result ≡ record { gone = 0; messages = []; spare = 0 } }
+    {
+        Kept {
+            list: Vec::new(alloc),
+            dropped: 0,
+            gone: 0,
+            spare: 0,
+        }
+    }
+
+    /// How many messages there were, the ones that were let go included.
+    pub(crate) fn sent(&self) -> u64
+        ensures { result ≡ sent_in self.now }
+    {
+        self.gone + (self.list.len() - self.dropped) as u64
+    }
+
+    /// How many messages were let go.
+    pub(crate) fn gone(&self) -> u64
+        ensures { result ≡ self.now.gone }
+    {
+        self.gone
+    }
+
+    /// The messages.
+    pub(crate) fn messages(&self) -> &[Message]
+        ensures { result.now ≡ self.now.messages }
+    {
+        self.list.split_at(self.dropped).1
+    }
+
+    /// Makes room for at least `n` messages more.
+    pub(crate) fn reserve(&mut self, n: u32) -> Result<(), AllocError>
+        ensures ok { OnOk result (self.new ≡ kept_with_spare n self.old) }
+        ensures err { OnErr result (self.new ≡ self.old) }
+        ensures reserved { n ≤ self.old.spare → IsOk result }
+    {
+        if n <= self.spare {
+            return Ok(());
+        }
+        // The numbers of the messages must not end before the room does.
+        let sent = self.gone + (self.list.len() - self.dropped) as u64;
+        if u64::MAX - sent < u64::from(n) {
+            return Err(AllocError);
+        }
+        self.list.reserve(n as usize)?;
+        self.spare = n;
+        Ok(())
+    }
+
+    /// Puts a message with the next number behind the others, and answers the number.
+    pub(crate) fn push(&mut self, body: Body, moment: Moment) -> u64
+        requires { 1 ≤ self.old.spare }
+        ensures number { result ≡ sent_in self.old + 1 }
+        ensures state { self.new ≡ kept_with body moment self.old }
+    {
+        let seq = self.gone + (self.list.len() - self.dropped) as u64 + 1;
+        self.list.push_reserved(Message { seq, moment, body });
+        self.spare -= 1;
+        seq
+    }
+
+    /// Lets the first `count` messages go.
+    pub(crate) fn let_go(&mut self, count: usize)
+        requires { count ≤ length self.old.messages }
+        ensures { self.new ≡ kept_after count self.old }
+    {
+        self.dropped += count;
+        self.gone += count as u64;
+        if self.list.len() - self.dropped <= self.dropped {
+            cut_front(&mut self.list, self.dropped);
+            self.dropped = 0;
+        }
+    }
+}
+
+/// Takes the first `n` messages from a list.
+fn cut_front(list: &mut Vec<Message>, n: usize)
+    requires { n ≤ vec_len list.old }
+    ensures items { list.new.items ≡ drop n list.old.items }
+    ensures len { vec_len list.new + n ≡ vec_len list.old }
+    ensures capacity { vec_capacity list.new ≡ vec_capacity list.old }
+{
+    let len = list.len();
+    list.copy_within(n..len, 0);
+    list.truncate(len - n);
+}

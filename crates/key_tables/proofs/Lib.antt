@@ -1,0 +1,3 @@
+pub mod Focusing
+pub mod Holders
+pub mod Rising

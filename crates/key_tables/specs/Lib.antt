@@ -1,0 +1,3 @@
+pub mod Focused
+pub mod Held
+pub mod Laws

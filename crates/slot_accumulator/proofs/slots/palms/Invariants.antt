@@ -1,0 +1,12 @@
+use Rattle.std.specs.Prelude.{◌≡◌, ℤ, ◌≤◌, length}
+use Rattle.slot_accumulator.specs.Table.{is_kept}
+use Rattle.slot_accumulator.specs.SlotContacts.{palm_below, row_in}
+use Rattle.slot_accumulator.proofs.slots.palms.Given as goal
+
+-- the palms of the slots so far
+abbrev pub invariant-loop-slot : goal.invariant-loop-slot
+invariant-loop-slot l = record {
+  kept : (t : ℤ) → is_kept l.palms t ≡ palm_below (row_in l.rows) (λ i. is_kept l.before i) l.slot t;
+  places : length l.palms.items ≡ 16;
+  few : l.palms.used ≤ l.slot;
+}

@@ -1,0 +1,47 @@
+-- Bands: the points of a list of rectangles, row by row.
+use Rattle.std.specs.Prelude.{Bool, ◌&&◌, ◌≡◌, ◌<◌, ◌≤◌, ℤ, ◌≤ℤ◌, ◌<ℤ◌, List, length}
+use Rattle.std.specs.List.{list_any, All}
+use Rattle.touch_region.specs.declared.rectangle.Rect.{Rect}
+use Rattle.touch_region.specs.declared.span.Span.{Span}
+use Rattle.touch_region.specs.Between.{is_between}
+use Rattle.touch_region.specs.Spans.{spans_hold, AreApart}
+use Rattle.touch_region.specs.RectList.{region_holds}
+
+-- the rows of pixels from `top` until `bottom`, in which the same spans belong to the region
+pub record Row : Type 0 where
+  pub top : ℤ
+  pub bottom : ℤ
+  pub spans : List Span
+
+-- the point lies in a span of one of the bands
+abbrev pub bands_hold : List Row → ℤ → ℤ → Bool
+bands_hold rows x y = list_any (λ r. is_between r.top y r.bottom && spans_hold r.spans x) rows
+
+-- the columns and the rows that a rectangle has
+abbrev pub columns_of : Rect → Span
+columns_of rect = record { from = rect.left; until = rect.right }
+
+abbrev pub rows_of : Rect → Span
+rows_of rect = record { from = rect.top; until = rect.bottom }
+
+-- the bands of a list of rectangles: at most 127, one below the other, with the points of the rectangles and no others
+pub record AreBands (rects : List Rect) (rows : List Row) : Type 0 where
+  pub few : length rows ≤ 127
+  pub apart : AreApart (λ r. r.top) (λ r. r.bottom) rows
+  pub same : (x y : ℤ) → bands_hold rows x y ≡ region_holds rects x y
+
+-- two or more rectangles have bands beside them
+abbrev pub HasBands : List Rect → List Row → Type 0
+HasBands rects rows = 1 < length rects → AreBands rects rows
+
+-- the bands above y = limit have the points of the rectangles there, and no band reaches below it
+pub record BandsAbove (limit : ℤ) (rects : List Rect) (rows : List Row) : Type 0 where
+  pub apart : AreApart (λ r. r.top) (λ r. r.bottom) rows
+  pub ended : All (λ r. r.bottom ≤ℤ limit) rows
+  pub same : (x y : ℤ) → y <ℤ limit → bands_hold rows x y ≡ region_holds rects x y
+
+-- the spans left of x = limit have the points of the rectangles there in row y, and no span reaches right of it
+pub record SpansLeft (limit : ℤ) (rects : List Rect) (y : ℤ) (spans : List Span) : Type 0 where
+  pub apart : AreApart (λ s. s.from) (λ s. s.until) spans
+  pub ended : All (λ s. s.until ≤ℤ limit) spans
+  pub same : (x : ℤ) → x <ℤ limit → spans_hold spans x ≡ region_holds rects x y
