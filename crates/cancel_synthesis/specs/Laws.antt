@@ -32,16 +32,16 @@ KeysEnd = (ls : List KeyMsg) → keys_told (keys_cancelled ls) ls ≡ []
 abbrev pub DeviceKeysEnd : Type 0
 DeviceKeysEnd = (d : ℕ) (ls : List KeyMsg) → keys_told (keys_cancelled (of_device d ls)) ls ≡ filter (λ l. not (l.key.device == d)) ls
 
--- Where the pointers of a window are those of the last motion of the device that it holds, its cancels are what the rules of routing
--- tell it where these are lost.
+-- Where the pointers of a window are those of the last motion of the device that it holds, its cancels are what the
+-- rules of routing tell it where these are lost.
 abbrev pub CancelsLaw : Type 0
 CancelsLaw =
     (d : ℕ) (last : List Pointer) (before later lost : ℕ → Bool)
     → ((i : ℕ) → later i ≡ (before i && not (lost i)))
     → pointers_cancelled d lost (listing before last) ≡ cancels d last before later
 
--- Where the pointers of a window are those of the last motion of the device that it holds, and what it is told at a step is tracked, they
--- are again so after the step.
+-- Where the pointers of a window are those of the last motion of the device that it holds, and what it is told at a
+-- step is tracked, they are again so after the step.
 abbrev pub TracksLaw : Type 0
 TracksLaw =
     (s : Scene) (e : Step) (w d : ℕ) (down next : List ℕ)

@@ -2,7 +2,8 @@
 ghost use Rattle.std.specs.Prelude.{◌≡◌, ℕ, [], Bool, true, false, ◌==◌, IsTrue, ◌↔◌};
 ghost use Rattle.window_snapshot.specs.Mask.{is_channel, mask_has};
 ghost use Rattle.touch_state.specs.Laws.{Agrees};
-ghost use Rattle.touch_state.specs.Touches.{held, since, pilfering, holds, any, Changes, none, one, of_mask, of_all, of_set, everything, nobody, IsEarliest};
+ghost use Rattle.touch_state.specs.Touches.{held, since, pilfering, holds, any, Changes, none};
+ghost use Rattle.touch_state.specs.Touches.{one, of_mask, of_all, of_set, everything, nobody, IsEarliest};
 
 use crate::row::{
     Row, began_at, empty_all, give_all, holders_of, least_since, lift_all, no_row, row_at, slip,
