@@ -1,23 +1,21 @@
 -- Who is able to take input after a step, as a function and as a mask.
-use Rattle.std.proofs.Common.{◌≡◌, ℕ, zero, suc, ◌+◌, ◌^◌, ◌≤◌, ◌<◌, ◌==◌, nat_lt, nat_le, max, Bool, true, false, not, ◌&&◌, ◌||◌, cond, List, [], ◌∷◌, filter, Option, Some, None, refl, sym, ap, ap₂, ◌∙◌, subst, inl, inr, arith}
-use Rattle.std.specs.Prelude.{bit_and}
+use Rattle.std.proofs.Common.{◌≡◌, ℕ, ◌+◌, ◌^◌, ◌≤◌, ◌<◌, ◌==◌, nat_lt, nat_le, max, Bool, true, false, not, ◌&&◌, ◌||◌, cond, List, refl, sym, ap, ◌∙◌, subst, inl, inr, arith}
 use Rattle.std.proofs.Math.Path.{fun_ext}
-use Rattle.std.proofs.lemmas.Bool.{cases_Bool, cases_cond, cases_eq, eq-eqb, ne_eqb, eqb-true, and_parts, and_from, and_left, le-leb, lt-ltb, ltb-true, true≢false}
-use Rattle.input_types.specs.declared.message.Message.{Message}
+use Rattle.std.proofs.lemmas.Bool.{cases_Bool, cases_cond, cases_eq, eq-eqb, ne_eqb, eqb-true, and_from, le-leb, lt-ltb, ltb-true}
 use Rattle.window_snapshot.specs.Mask.{is_channel, mask_has, mask_with}
 use Rattle.window_snapshot.proofs.Masks.{mask_has-with, mask_has-zero}
 use Rattle.focus_resolver.proofs.Masks.{mask_has-without}
 use Rattle.dispatch_calls.specs.declared.call.Call.{Call}
 use Rattle.dispatch_calls.specs.declared.call.Call.TheVariants.{Open, Tick, Finish, Remove}
 use Rattle.dispatch_calls.specs.declared.reply.Reply.{Reply}
-use Rattle.dispatch_calls.specs.declared.reply.Reply.TheVariants.{Opened, Full, Done, Gone, Named, UnknownSeq}
+use Rattle.dispatch_calls.specs.declared.reply.Reply.TheVariants.{Opened, Full, Done, Gone, Named}
 use Rattle.dispatch_history.specs.History.{clock, live, live_after, opened, opened_after}
 use Rattle.dispatch_history.specs.Effect.{Effect, past_of}
-use Rattle.dispatch_history.specs.Effects.{effect_of, step, channels}
+use Rattle.dispatch_history.specs.Effects.{effect_of, step}
 use Rattle.dispatch_history.specs.Queue.{args_of, inbound}
 use Rattle.dispatch_history.specs.Delivery.{able, unresponsive, is_named_by, is_finish_of, has_late, oldest}
 use Rattle.dispatch_history.specs.Due.{is_late_at, named, mask_of}
-use Rattle.dispatch_history.specs.Reply.{reply_to, finish_reply, open_reply}
+use Rattle.dispatch_history.specs.Reply.{reply_to}
 use Rattle.dispatch_history.proofs.AbleLaws.{unresponsive_step}
 use Rattle.dispatch_history.proofs.MotionLaws.{opened_mono}
 use Rattle.dispatch_history.proofs.StreamLaws.{live_law}

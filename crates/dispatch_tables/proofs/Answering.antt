@@ -1,22 +1,21 @@
 -- What is kept of a channel gives the answers.
-use Rattle.std.proofs.Common.{◌≡◌, ℕ, zero, suc, ◌+◌, ◌-◌, ◌≤◌, ◌<◌, ◌==◌, nat_lt, nat_le, Bool, true, false, not, ◌&&◌, ◌||◌, cond, List, [], ◌∷◌, length, reverse, take, drop, map, Option, Some, None, refl, sym, ap, ap₂, ◌∙◌, subst, inl, inr, arith}
-use Rattle.std.specs.Prelude.{slice_get, option_map}
+use Rattle.std.proofs.Common.{◌≡◌, ℕ, zero, suc, ◌+◌, ◌-◌, ◌≤◌, nat_lt, nat_le, Bool, true, false, not, ◌&&◌, ◌||◌, cond, List, [], ◌∷◌, length, reverse, drop, map, Option, Some, None, refl, sym, ap, ◌∙◌, inl, inr, arith}
+use Rattle.std.specs.Prelude.{slice_get, option_map, if◌then◌else◌}
 use Rattle.std.specs.List.{list_any}
 use Rattle.std.proofs.lemmas.Bool.{cases_Bool, leb-true, le-leb}
 use Rattle.std.proofs.lemmas.Option.{slice_get-map}
 use Rattle.input_types.specs.declared.message.Message.{Message}
-use Rattle.input_channel.specs.declared.unfinished.Unfinished.{Unfinished}
-use Rattle.input_channel.specs.Order.{has_seq}
-use Rattle.dispatch_calls.specs.declared.reply.Reply.{Reply}
 use Rattle.dispatch_calls.specs.declared.reply.Reply.TheVariants.{Done, Gone, Empty, UnknownSeq}
 use Rattle.dispatch_history.specs.History.{clock, limit_of, live, opened, received, finished}
 use Rattle.dispatch_history.specs.Effect.{Effect, past_of, stream}
-use Rattle.dispatch_history.specs.Delivery.{published, delivery, is_finished, unfinished}
-use Rattle.dispatch_history.specs.Reply.{got_reply}
+use Rattle.dispatch_history.specs.Delivery.{published, delivery, is_finished, unfinished, oldest, has_late}
+use Rattle.dispatch_history.specs.Reply.{got_reply, receive_reply, finish_reply}
+use Rattle.dispatch_history.specs.Due.{counts}
+use Rattle.input_channel.specs.State.{next_of, may_finish, oldest_of}
+use Rattle.input_channel.specs.State.{has_late as late_at}
 use Rattle.dispatch_tables.specs.Lawful.{Lawful}
-use Rattle.dispatch_tables.specs.Channel.{channel_at}
-use Rattle.dispatch_tables.specs.Laws.{ReceiveLaw, FinishLaw, OldestLaw, LateLaw, CountsLaw}
-use Rattle.dispatch_tables.proofs.Waiting.{waiting, with_delivery}
+use Rattle.dispatch_tables.specs.Channel.{channel_at, counts_of}
+use Rattle.dispatch_tables.proofs.Waiting.{with_delivery}
 use Rattle.dispatch_tables.proofs.Channels.{sound}
 use Rattle.dispatch_tables.proofs.Kept.{has_seq_law, channel_law}
 
@@ -31,7 +30,7 @@ next_when : (b : Bool) (o : Option Message) → cond b (got_reply o) Empty ≡ g
 next_when true o = refl
 next_when false o = refl
 
-pub receive_law : ReceiveLaw
+pub receive_law : (ds : List ℕ) (es : List Effect) (c gone spare : ℕ) → Lawful ds es → gone ≤ received (past_of es) c → receive_reply es c ≡ (if not (live (past_of es) c) then Gone else got_reply (next_of (channel_at es c gone spare)))
 receive_law ds es c gone spare l le =
     let n = received (past_of es) c in
     let b = nat_lt n (published es c) in
@@ -52,7 +51,7 @@ within a x seq r p le =
     none true = refl
     none false = refl
 
-pub finish_law : FinishLaw
+pub finish_law : (ds : List ℕ) (es : List Effect) (c gone spare seq : ℕ) → Lawful ds es → finish_reply es c seq ≡ (if not (live (past_of es) c) then Gone else if may_finish seq (channel_at es c gone spare) then Done else UnknownSeq)
 finish_law ds es c gone spare seq l =
     let r = received (past_of es) c in
     let x = not (is_finished (past_of es) c seq) in
@@ -60,7 +59,7 @@ finish_law ds es c gone spare seq l =
     (within (nat_le 1 seq) x seq r (published es c) (sound ds es c l).received_published
     ∙ ap (λ b. nat_le seq r && b) (sym (has_seq_law ds es c seq l)))
 
-pub oldest_law : OldestLaw
+pub oldest_law : (es : List Effect) (c gone spare : ℕ) → oldest_of (channel_at es c gone spare) ≡ option_map (λ m. (m.seq, delivery es c m.seq)) (oldest es c)
 oldest_law es c gone spare =
     ap (option_map {U = ℕ × ℕ} (λ u. (u.seq, u.delivery))) (slice_get-map (with_delivery (delivery es c)) (unfinished es c) 0)
     ∙ twice (slice_get (unfinished es c) 0)
@@ -70,7 +69,7 @@ oldest_law es c gone spare =
     twice None = refl
     twice (Some m) = refl
 
-pub late_law : LateLaw
+pub late_law : (es : List Effect) (c gone spare : ℕ) → late_at (clock (past_of es)) (channel_at es c gone spare) ≡ has_late es c
 late_law es c gone spare = each (unfinished es c)
   where
     each : (ms : List Message)
@@ -79,7 +78,7 @@ late_law es c gone spare = each (unfinished es c)
     each [] = refl
     each (m ∷ ms) = ap (λ b. nat_le (delivery es c m.seq + limit_of (past_of es) c) (clock (past_of es)) || b) (each ms)
 
-pub counts_law : CountsLaw
+pub counts_law : (ds : List ℕ) (es : List Effect) (c gone spare : ℕ) → Lawful ds es → gone ≤ received (past_of es) c → counts es c ≡ (if nat_le 1 c && nat_le c (opened (past_of es)) then Some (counts_of (live (past_of es) c) (channel_at es c gone spare)) else None)
 counts_law ds es c gone spare l le =
     ap (λ n. cond (nat_le 1 c && nat_le c (opened (past_of es)))
     (Some (record { sent = n; received = received (past_of es) c; finished = length (finished (past_of es) c); published = published es c; live = live (past_of es) c })) None)

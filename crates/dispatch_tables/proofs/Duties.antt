@@ -12,7 +12,6 @@ use Rattle.anr_tracker.specs.Due.{IsFirst, is_before, sooner_of, is_put_off}
 use Rattle.anr_tracker.proofs.Firsts.{due_up_to, first_with, one_first}
 use Rattle.input_channel.specs.State.{ChannelState, oldest_of}
 use Rattle.dispatch_calls.specs.declared.counts.Naming.{Naming}
-use Rattle.dispatch_calls.specs.declared.call.Call.{Call}
 use Rattle.dispatch_calls.specs.declared.reply.Reply.{Reply}
 use Rattle.dispatch_calls.specs.declared.reply.Reply.TheVariants.{Named}
 use Rattle.window_snapshot.specs.Mask.{mask_has}
@@ -20,19 +19,18 @@ use Rattle.dispatch_history.specs.History.{clock, limit_of, live, opened}
 use Rattle.dispatch_history.specs.Effect.{Effect, past_of}
 use Rattle.dispatch_history.specs.Effects.{channels, step}
 use Rattle.dispatch_history.specs.Delivery.{able, unresponsive, delivery, oldest}
-use Rattle.dispatch_history.specs.Due.{Due, due_at, dues, sooner_due, first_due, is_late_at, named, naming_of, namings, namings_by}
+use Rattle.dispatch_history.specs.Due.{Due, due_at, sooner_due, first_due, is_late_at, naming_of, namings, namings_by}
 use Rattle.dispatch_history.specs.Reply.{is_due}
 use Rattle.dispatch_tables.specs.Lawful.{Lawful}
 use Rattle.dispatch_tables.specs.Channel.{channel_at}
 use Rattle.dispatch_tables.specs.Dues.{due_moment, due_in, due_pair, naming_in, is_named}
-use Rattle.dispatch_tables.specs.Laws.{DueLaw, QuietDueLaw, NotLiveDueLaw, FirstDueLaw, NamedLaw, NamingsLaw, NamingsKeptLaw}
-use Rattle.dispatch_tables.proofs.Lawfuls.{lawful_last}
+use Rattle.dispatch_tables.specs.Laws.{QuietDueLaw, NotLiveDueLaw, FirstDueLaw, NamedLaw, NamingsLaw, NamingsKeptLaw}
 use Rattle.dispatch_tables.proofs.Kept.{quiet_law}
 use Rattle.dispatch_tables.proofs.Answering.{oldest_law}
 use Rattle.dispatch_tables.proofs.Unopened.{unopened_not_live}
 use Rattle.dispatch_tables.proofs.Ables.{live_number, named_mask}
 
-pub due_law : DueLaw
+pub due_law : (es : List Effect) (c gone spare : ℕ) → due_moment es c ≡ due_in (able es c) (channel_at es c gone spare)
 due_law es c gone spare =
     ap (λ o. cond (able es c) o None)
     (twice (oldest es c) ∙ ap (option_map (λ p. p.1 + limit_of (past_of es) c)) (sym (oldest_law es c gone spare)))
@@ -247,10 +245,28 @@ naming_is es at c s e =
     by_oldest None = refl
     by_oldest (Some m) = refl
 
+-- what is noted of the channels 1 to n is by them alone
+among_same : (f g : ℕ → Option Naming) (p : ℕ → Bool) (n : ℕ) → ((c : ℕ) → 1 ≤ c → c ≤ n → f c ≡ g c)
+    → filter_map f (filter p (channels n)) ≡ filter_map g (filter p (channels n))
+among_same f g p zero same = refl
+among_same f g p (suc n) same =
+    cut f
+    ∙ ap₂ (λ xs ys. xs ++ ys) (among_same f g p n (λ c from to. same c from (omega (arith, to)))) (one (p (suc n)))
+    ∙ sym (cut g)
+  where
+    cut : (h : ℕ → Option Naming) → filter_map h (filter p (channels n ++ suc n ∷ [])) ≡ filter_map h (filter p (channels n)) ++ filter_map h (filter p (suc n ∷ []))
+    cut h = ap (filter_map h) (filter-append p (channels n) (suc n ∷ [])) ∙ filter_map-append h (filter p (channels n)) (filter p (suc n ∷ []))
+
+    one : (b : Bool) → filter_map f (cond b (suc n ∷ []) []) ≡ filter_map g (cond b (suc n ∷ []) [])
+    one true = ap (λ o. cons_option o []) (same (suc n) (omega arith) (omega arith))
+    one false = refl
+
 pub namings_law : NamingsLaw
-namings_law ds now mask es kept e =
+namings_law ds now mask es kept keeps =
     let at = max now (clock (past_of es)) in
-    ap (λ f. namings es ++ filter_map f (filter (mask_has mask) (channels (opened (past_of es))))) (fun_ext (λ c. naming_is es at c (kept c) (e c)))
+    ap (λ xs. namings es ++ xs)
+    (among_same (λ c. naming_of es at c (oldest es c)) (λ c. naming_in at c (kept c)) (mask_has mask) (opened (past_of es))
+    (λ c from to. naming_is es at c (kept c) (ap oldest_of (keeps c from to).is)))
 
 pub namings_kept_law : NamingsKeptLaw
 namings_kept_law ds call answer es e = kept answer (clock (past_of (step ds call answer es))) e

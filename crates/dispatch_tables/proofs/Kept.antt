@@ -1,13 +1,13 @@
 -- What is kept of a channel is a channel.
-use Rattle.std.proofs.Common.{◌≡◌, ℕ, zero, suc, ◌+◌, ◌-◌, ◌≤◌, ◌<◌, ◌==◌, nat_le, nat_lt, min, max, Bool, true, false, not, ◌&&◌, ◌||◌, cond, List, [], ◌∷◌, ◌++◌, length, reverse, take, drop, map, filter, refl, sym, ap, ◌∙◌, subst, inl, inr, arith, length-append, length-drop, append-nil, drop-drop}
+use Rattle.std.proofs.Common.{◌≡◌, ℕ, suc, ◌+◌, ◌-◌, ◌≤◌, ◌==◌, nat_le, nat_lt, min, max, Bool, true, false, not, ◌&&◌, ◌||◌, cond, List, [], ◌∷◌, ◌++◌, length, reverse, take, drop, map, filter, refl, sym, ap, ◌∙◌, subst, inl, inr, arith, length-append, length-drop, append-nil, drop-drop}
 use Rattle.std.proofs.lemmas.List.{length-reverse, length-take}
-use Rattle.std.proofs.lemmas.Bool.{cases_Bool, cases_eq, eq-eqb, ne_eqb, eqb-true, eqb-false, or_cases, le-leb}
+use Rattle.std.proofs.lemmas.Bool.{cases_eq, eq-eqb, ne_eqb, le-leb}
 use Rattle.std.proofs.lemmas.Bool.Decides.{nat_tests}
 use Rattle.input_types.specs.declared.message.Body.{Body}
 use Rattle.input_types.specs.declared.message.Message.{Message}
 use Rattle.input_channel.specs.declared.unfinished.Unfinished.{Unfinished}
 use Rattle.input_channel.specs.Order.{delivered, without, has_seq, NoneAfter, IsInOrder, Follow}
-use Rattle.input_channel.specs.State.{ChannelState, IsChannel, sent, publishable, published_at}
+use Rattle.input_channel.specs.State.{ChannelState, IsChannel, sent, publishable, published_at, let_go_of, with_spare}
 use Rattle.input_channel.proofs.Delivering.{published_channel, published_is}
 use Rattle.input_channel.proofs.Finishing.{finished_channel}
 use Rattle.dispatch_calls.specs.declared.call.Call.{Call}
@@ -18,12 +18,11 @@ use Rattle.dispatch_history.specs.Effects.{step, said_at}
 use Rattle.dispatch_history.specs.Delivery.{published, delivery, is_finished}
 use Rattle.dispatch_tables.specs.Lawful.{Lawful}
 use Rattle.dispatch_tables.specs.Channel.{Part, Opens, Receives, Finishes, Untouched, NumberedFrom, part_of, with_part, channel_at, enqueued_all}
-use Rattle.dispatch_tables.specs.Laws.{ChannelLaw, NumberedLaw, ReadyLaw, QuietLaw, LetGoLaw}
+use Rattle.dispatch_tables.specs.Laws.{NumberedLaw}
 use Rattle.dispatch_tables.proofs.Lawfuls.{lawful_last, lawful_always}
 use Rattle.dispatch_tables.proofs.Numbering.{messages_from, enqueued_is, numbered-take}
 use Rattle.dispatch_tables.proofs.Waiting.{waiting, with_delivery}
 use Rattle.dispatch_tables.proofs.Parts.{CanBe, can_be}
-use Rattle.dispatch_tables.proofs.Stepping.{Sound}
 use Rattle.dispatch_tables.proofs.Channels.{numbered, sound, channel_step}
 
 -- no message was delivered after the clock
@@ -244,7 +243,7 @@ whole_channel ds es c l =
         es l
 
 -- with its first messages let go
-pub channel_law : ChannelLaw
+pub channel_law : (ds : List ℕ) (es : List Effect) (c gone spare : ℕ) → Lawful ds es → gone ≤ received (past_of es) c → IsChannel (channel_at es c gone spare) × (sent (channel_at es c gone spare) ≡ length (stream es c)) × (publishable (channel_at es c gone spare) ≡ published es c) × ((now : ℕ) → clock (past_of es) ≤ now → NoneAfter now (channel_at es c gone spare).unfinished)
 channel_law ds es c gone spare l le =
     let h = whole_channel ds es c l in
     let s = channel_at es c 0 0 in
@@ -260,7 +259,7 @@ channel_law ds es c gone spare l le =
 pub numbered_law : NumberedLaw
 numbered_law = numbered
 
-pub ready_law : ReadyLaw
+pub ready_law : (ds : List ℕ) (call : Call) (answer : Reply) (es : List Effect) (c gone spare : ℕ) (bodies : List Body) → Lawful ds (step ds call answer es) → gone ≤ received (past_of es) c → let now = clock (past_of (step ds call answer es)) in NoneAfter now (enqueued_all bodies now (with_part (part_of call answer c) (channel_at es c gone spare))).unfinished
 ready_law ds call answer es c gone spare bodies l le =
     let now = clock (past_of (step ds call answer es)) in
     let s = channel_at es c gone spare in
@@ -277,7 +276,7 @@ all_published now s e =
       unfinished = (ap (λ n. s.unfinished ++ delivered now s.published n) none ∙ append-nil s.unfinished) i;
     }
 
-pub quiet_law : QuietLaw
+pub quiet_law : (ds : List ℕ) (call : Call) (answer : Reply) (es : List Effect) (c gone spare : ℕ) → Lawful ds (step ds call answer es) → gone ≤ received (past_of es) c → said_at ds call answer es c ≡ [] → part_of call answer c ≡ Untouched → channel_at (step ds call answer es) c gone spare ≡ channel_at es c gone spare
 quiet_law ds call answer es c gone spare l le none untouched =
     let now = clock (past_of (step ds call answer es)) in
     let s = channel_at es c gone spare in
@@ -287,7 +286,7 @@ quiet_law ds call answer es c gone spare l le none untouched =
     ∙ (λ i. published_at now (enqueued_all (none i) now (with_part (untouched i) s)))
     ∙ all_published now s (channel_law ds es c gone spare (lawful_last ds call answer es l).1 le).2
 
-pub let_go_law : LetGoLaw
+pub let_go_law : (ds : List ℕ) (es : List Effect) (c gone spare : ℕ) → Lawful ds es → gone ≤ received (past_of es) c → (let_go_of (channel_at es c gone spare) ≡ channel_at es c (received (past_of es) c) spare) × ((n : ℕ) → with_spare n (channel_at es c gone spare) ≡ channel_at es c gone (max n spare))
 let_go_law ds es c gone spare l le =
     let rest : gone + (received (past_of es) c - gone) ≡ received (past_of es) c = omega (arith, le) in (
       λ i. record (channel_at es c (received (past_of es) c) spare) {

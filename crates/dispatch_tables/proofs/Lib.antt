@@ -10,3 +10,4 @@ pub mod Answering
 pub mod Masking
 pub mod Ables
 pub mod Duties
+pub mod Keeping

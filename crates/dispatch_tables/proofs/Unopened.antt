@@ -1,6 +1,6 @@
 -- Channels that a step concerns are live after it, and channels that were never opened have nothing.
-use Rattle.std.proofs.Common.{◌≡◌, ◌⊎◌, ℕ, ◌≤◌, ◌<◌, ◌==◌, nat_lt, nat_le, Bool, true, false, not, ◌&&◌, ◌||◌, cond, List, [], ◌∷◌, Option, refl, sym, ap, ◌∙◌, subst, inl, inr, arith}
-use Rattle.std.proofs.lemmas.Bool.{cases_Bool, cases_eq, eq-eqb, ne_eqb}
+use Rattle.std.proofs.Common.{◌≡◌, ◌⊎◌, ℕ, ◌≤◌, ◌<◌, ◌==◌, nat_lt, Bool, true, false, not, ◌||◌, cond, List, [], ◌∷◌, Option, refl, sym, ap, ◌∙◌, inl, inr, arith}
+use Rattle.std.proofs.lemmas.Bool.{cases_Bool, cases_eq, ne_eqb}
 use Rattle.input_types.specs.declared.message.Message.{Message}
 use Rattle.input_channel.specs.State.{opened_with}
 use Rattle.dispatch_calls.specs.declared.call.Call.{Call}
@@ -10,13 +10,12 @@ use Rattle.dispatch_calls.specs.declared.reply.Reply.TheVariants.{Opened, Done, 
 use Rattle.dispatch_history.specs.History.{live, opened, received}
 use Rattle.dispatch_history.specs.Effect.{Effect, past_of}
 use Rattle.dispatch_history.specs.Effects.{step, said_at}
-use Rattle.dispatch_history.specs.Delivery.{published, is_finished}
-use Rattle.dispatch_history.specs.Reply.{reply_to, receive_reply, finish_reply, got_reply}
+use Rattle.dispatch_history.specs.Delivery.{published}
+use Rattle.dispatch_history.specs.Reply.{reply_to, got_reply}
 use Rattle.dispatch_history.proofs.StreamLaws.{live_law}
 use Rattle.dispatch_history.proofs.MotionLaws.{opened_mono}
 use Rattle.dispatch_tables.specs.Lawful.{Lawful}
 use Rattle.dispatch_tables.specs.Channel.{Opens, Receives, Finishes, Untouched, part_of, channel_at}
-use Rattle.dispatch_tables.specs.Laws.{NotLiveLaw, UnopenedLaw}
 use Rattle.dispatch_tables.proofs.Lawfuls.{lawful_last, lawful_always}
 use Rattle.dispatch_tables.proofs.Kept.{quiet_law}
 
@@ -53,7 +52,7 @@ pub not_live_said : (ds : List ℕ) (call : Call) (answer : Reply) (es : List Ef
 not_live_said ds call answer es c n = rw n refl
 
 -- a channel that is not live after a step is as before
-pub not_live_law : NotLiveLaw
+pub not_live_law : (ds : List ℕ) (call : Call) (answer : Reply) (es : List Effect) (c gone spare : ℕ) → Lawful ds (step ds call answer es) → gone ≤ received (past_of es) c → live (past_of (step ds call answer es)) c ≡ false → channel_at (step ds call answer es) c gone spare ≡ channel_at es c gone spare
 not_live_law ds call answer es c gone spare l le n =
     quiet_law ds call answer es c gone spare l le (not_live_said ds call answer es c n)
     (elim (part_live es c call answer (lawful_last ds call answer es l).0) [ inl e ↦ e | inr y ↦ absurd (cc (sym y ∙ n)) ])
@@ -66,7 +65,7 @@ unopened_not_live ds es c l lt =
       | inr n ↦ n
     ]
 
-pub unopened_law : UnopenedLaw
+pub unopened_law : (ds : List ℕ) (es : List Effect) (c : ℕ) → Lawful ds es → opened (past_of es) < c → channel_at es c 0 0 ≡ opened_with 0
 unopened_law ds es c l lt =
     lawful_always ds (λ xs. opened (past_of xs) < c → channel_at xs c 0 0 ≡ opened_with 0) (λ x. refl)
         (λ call answer xs m h x.

@@ -1,5 +1,5 @@
 -- What is kept of a channel, and what a step makes of it.
-use Rattle.std.specs.Prelude.{◌≡◌, ℕ, suc, ◌+◌, Bool, ◌==◌, List, [], ◌∷◌, drop, length, map, reverse, if◌then◌else◌}
+use Rattle.std.specs.Prelude.{◌≡◌, ℕ, suc, ◌≤◌, Bool, ◌==◌, List, [], ◌∷◌, drop, length, map, reverse, if◌then◌else◌}
 use Rattle.input_types.specs.declared.message.Body.{Body}
 use Rattle.input_types.specs.declared.message.Message.{Message}
 use Rattle.input_channel.specs.State.{ChannelState, sent, enqueued, received_one, finished_with}
@@ -62,3 +62,8 @@ NumberedFrom n (m ∷ ms) = (m.seq ≡ suc n) × NumberedFrom (suc n) ms
 abbrev pub counts_of : Bool → ChannelState → Counts
 counts_of is_live s =
     record { sent = sent s; received = s.received; finished = s.finished; published = s.published; live = is_live }
+
+-- a channel is kept as it is after a history with these effects, and only messages that were received were let go
+pub record Keeps (es : List Effect) (c : ℕ) (s : ChannelState) : Type 0 where
+  pub is : s ≡ channel_at es c s.gone s.spare
+  pub few : s.gone ≤ s.received

@@ -1,5 +1,5 @@
 -- When channels are due to be named, by the history and by what is kept.
-use Rattle.std.specs.Prelude.{ℕ, ◌+◌, Bool, true, false, List, filter, filter_map, Option, Some, None, option_map, if◌then◌else◌}
+use Rattle.std.specs.Prelude.{ℕ, ◌+◌, Bool, true, false, List, filter, filter_map, Option, None, option_map, if◌then◌else◌}
 use Rattle.input_channel.specs.State.{ChannelState, oldest_of}
 use Rattle.dispatch_calls.specs.declared.counts.Naming.{Naming}
 use Rattle.dispatch_calls.specs.declared.reply.Reply.{Reply}

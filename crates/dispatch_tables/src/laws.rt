@@ -1,5 +1,5 @@
 //! What is proved of what is kept. Each function has the laws as its clauses, and does nothing.
-ghost use Rattle.dispatch_tables.specs.Laws.{LawfulEffects, LawfulStep, LawfulLast, ChannelStep, ChannelLaw, NumberedLaw, ReadyLaw, QuietLaw, NotLiveLaw, LetGoLaw, UnopenedLaw, ReceiveLaw, FinishLaw, OldestLaw, LateLaw, CountsLaw, OpenedFew, AbleLaw, LiveMaskLaw, AbleMaskLaw, DueLaw, QuietDueLaw, NotLiveDueLaw, FirstDueLaw, NamedLaw, NamingsLaw, NamingsKeptLaw};
+ghost use Rattle.dispatch_tables.specs.Laws.{LawfulEffects, LawfulStep, LawfulLast, KeptStep, KeptReady, KeptUnopened, KeptQuiet, KeptNotLive, KeptLess, KeptFacts, NumberedLaw, ReceiveLaw, FinishLaw, OldestLaw, LateLaw, CountsLaw, OpenedFew, AbleLaw, LiveMaskLaw, AbleMaskLaw, DueLaw, QuietDueLaw, NotLiveDueLaw, DuesLaw, FirstDueLaw, NamedLaw, NamingsLaw, NamingsKeptLaw};
 
 /// Effects of legal histories: a step that is answered as it is to be keeps them so, and each step was.
 pub fn lawful()
@@ -10,18 +10,18 @@ pub fn lawful()
 
 /// What is kept of a channel, and what a step makes of it. It is published at the clock after the step, which it may be then.
 pub fn channels()
-    ensures kept { ChannelLaw }
+    ensures facts { KeptFacts }
     ensures numbers { NumberedLaw }
-    ensures step { ChannelStep }
-    ensures ready { ReadyLaw }
-    ensures unopened { UnopenedLaw }
+    ensures step { KeptStep }
+    ensures ready { KeptReady }
+    ensures unopened { KeptUnopened }
 {}
 
-/// The channels that a step does not concern are as before; and messages that were received may be let go.
+/// The channels that a step does not concern are kept as they were; and messages that were received may be let go.
 pub fn quiet_channels()
-    ensures quiet { QuietLaw }
-    ensures not_live { NotLiveLaw }
-    ensures let_go { LetGoLaw }
+    ensures quiet { KeptQuiet }
+    ensures not_live { KeptNotLive }
+    ensures less { KeptLess }
 {}
 
 /// What owners are answered, and what is told of a channel, by what is kept of it.
@@ -46,6 +46,7 @@ pub fn dues()
     ensures kept { DueLaw }
     ensures quiet { QuietDueLaw }
     ensures not_live { NotLiveDueLaw }
+    ensures table { DuesLaw }
     ensures first { FirstDueLaw }
 {}
 
