@@ -1,5 +1,5 @@
 -- What goes on with the moves that wait.
-use Rattle.std.proofs.Common.{◌≡◌, ℕ, zero, suc, ◌-◌, ◌&&◌, ◌<◌, ◌==◌, false, List, [], ◌∷◌, length, Some, refl, ap, arith}
+use Rattle.std.proofs.Common.{◌≡◌, ℕ, zero, suc, ◌-◌, ◌&&◌, ◌<◌, ◌==◌, false, List, [], ◌∷◌, length, Some, refl, ap, arith, Bool, true}
 use Rattle.std.specs.Prelude.{slice_get}
 use Rattle.input_types.specs.declared.message.Body.{Body}
 use Rattle.input_types.specs.declared.pointer.Pointer.{Pointer}
@@ -29,3 +29,10 @@ pub ids_differ : (ps qs : List Pointer) → (length ps == 0) ≡ false → lengt
 ids_differ [] qs e h = absurd (cc)
 ids_differ (p ∷ ps) [] e h = refl
 ids_differ (p ∷ ps) (q ∷ qs) e h = absurd (omega (arith, h))
+
+moves_or : (ss : List Sample) (b : Body) (v : Bool) → is_move b ≡ v → extends ss b ≡ true → v ≡ true
+moves_or ss b true h e = refl
+moves_or ss b false h e = let no_move : extends ss b ≡ false = extends_moves ss b h in absurd (cc)
+
+pub extends_move : (ss : List Sample) (b : Body) → extends ss b ≡ true → is_move b ≡ true
+extends_move ss b e = moves_or ss b (is_move b) refl e

@@ -1,5 +1,6 @@
 //! The batcher.
 ghost use Rattle.std.specs.Prelude.{◌≡◌, ◌++◌, List, [], ◌∷◌, length, take, OnOk, OnErr};
+ghost use Rattle.motion_batch.specs.Batched.{IsBatched, IsFlushed};
 ghost use Rattle.motion_batch.specs.Calls.{Call, StandsFor, added, due_of_rows, flushed, framed, rows_left, taken};
 
 use crate::item::Item;
@@ -51,6 +52,7 @@ impl Batcher {
     pub fn take(&mut self, message: &Message, out: &mut Vec<Item>) -> Result<(), AllocError>
         ensures items { (calls : List Call) → StandsFor calls self.old → OnOk result (out.new.items ≡ out.old.items ++ added (taken message.now) calls) }
         ensures stands { (calls : List Call) → StandsFor calls self.old → OnOk result (StandsFor (taken message.now ∷ calls) self.new) }
+        ensures batched { (calls : List Call) → StandsFor calls self.old → OnOk result (IsBatched (taken message.now ∷ calls)) }
         ensures err { OnErr result (self.new ≡ self.old) }
         ensures err_items { OnErr result (out.new.items ≡ out.old.items) }
     {
@@ -68,9 +70,11 @@ impl Batcher {
 
     /// A frame begins: in rising device, appends the moves of each device up to this moment as one batch. Without memory
     /// nothing changes.
+    #[tactic(auto, using(crate::proofs::Batched::batched_then))]
     pub fn frame(&mut self, at: Moment, out: &mut Vec<Item>) -> Result<(), AllocError>
         ensures items { (calls : List Call) → StandsFor calls self.old → OnOk result (out.new.items ≡ out.old.items ++ added (framed at) calls) }
         ensures stands { (calls : List Call) → StandsFor calls self.old → OnOk result (StandsFor (framed at ∷ calls) self.new) }
+        ensures batched { (calls : List Call) → StandsFor calls self.old → OnOk result (IsBatched (framed at ∷ calls)) }
         ensures err { OnErr result (self.new ≡ self.old) }
         ensures err_items { OnErr result (out.new.items ≡ out.old.items) }
     {
@@ -78,9 +82,12 @@ impl Batcher {
     }
 
     /// A frame for all moves. Without memory nothing changes.
+    #[tactic(auto, using(crate::proofs::Batched::batched_then, crate::proofs::Batched::flushed_then))]
     pub fn flush(&mut self, out: &mut Vec<Item>) -> Result<(), AllocError>
         ensures items { (calls : List Call) → StandsFor calls self.old → OnOk result (out.new.items ≡ out.old.items ++ added flushed calls) }
         ensures stands { (calls : List Call) → StandsFor calls self.old → OnOk result (StandsFor (flushed ∷ calls) self.new) }
+        ensures batched { (calls : List Call) → StandsFor calls self.old → OnOk result (IsBatched (flushed ∷ calls)) }
+        ensures all { (calls : List Call) → StandsFor calls self.old → OnOk result (IsFlushed (flushed ∷ calls)) }
         ensures err { OnErr result (self.new ≡ self.old) }
         ensures err_items { OnErr result (out.new.items ≡ out.old.items) }
     {
