@@ -1,5 +1,5 @@
 -- What is proved of what is kept of the focus, of keys and of repeats. Each law is the clause of a function of its own.
-use Rattle.std.specs.Prelude.{◌≡◌, ◌<◌, ℕ, true, false, List, [], Option, ◌&&◌, bit_and, slice_set}
+use Rattle.std.specs.Prelude.{◌≡◌, ◌<◌, ℕ, true, false, List, [], ◌++◌, map, Option, Some, None, Bool, ◌&&◌, bit_and, slice_set}
 use Rattle.window_snapshot.specs.Mask.{is_channel, mask_has}
 use Rattle.window_snapshot.specs.Named.{is_focusable_on}
 use Rattle.focus_resolver.specs.Resolver.{FocusState, focus_of, target_of, is_focused}
@@ -7,7 +7,7 @@ use Rattle.focus_resolver.specs.Changes.{IsOnlyIn}
 use Rattle.dispatch_calls.specs.declared.call.Call.{Call}
 use Rattle.dispatch_calls.specs.declared.call.Call.TheVariants.{FocusOn}
 use Rattle.dispatch_calls.specs.declared.reply.Reply.{Reply}
-use Rattle.dispatch_history.specs.History.{History, live, snapshot}
+use Rattle.dispatch_history.specs.History.{History, live, clock, snapshot}
 use Rattle.dispatch_history.specs.Focus.{focus, has_focus, key_target, may_focus, focus_told}
 use Rattle.dispatch_history.specs.Effect.{Effect, past_of}
 use Rattle.dispatch_history.specs.Effects.{step}
@@ -15,7 +15,15 @@ use Rattle.dispatch_history.specs.Focus.{is_target}
 use Rattle.dispatch_history.specs.Delivery.{able}
 use Rattle.dispatch_history.specs.Keys.{keys}
 use Rattle.dispatch_tables.specs.Lawful.{Lawful}
-use Rattle.key_tables.specs.Held.{Rising, KeysAre}
+use Rattle.key_tables.specs.Held.{Rising, KeysAre, bodies_tracked, key_messages, target_told}
+use Rattle.key_tables.specs.Repeats.{RepeatIs, repeat_next}
+use Rattle.key_repeat.specs.Due.{Sent, due_of}
+use Rattle.input_types.specs.declared.key.KeyMsg.{KeyMsg}
+use Rattle.input_types.specs.declared.motion.Motion.{Motion}
+use Rattle.input_types.specs.declared.message.Body.TheVariants.{Motion as MotionBody, Key}
+use Rattle.cancel_synthesis.specs.Laws.{keys_told as tracked}
+use Rattle.dispatch_history.specs.Queue.{inbound, args_of}
+use Rattle.dispatch_history.specs.KeyTold.{repeat_due}
 use Rattle.key_tables.specs.Focused.{FocusIs, MasksAre, is_request, leaves_focus, change_told}
 
 -- What is kept of the focus says which channel has the focus of each display, which channels are focused, and where keys go.
@@ -80,3 +88,72 @@ KeysOfTarget =
 -- The keys that a window holds stand in rising order, each once.
 abbrev pub KeysRise : Type 0
 KeysRise = (displays : List ℕ) (es : List Effect) (w : ℕ) → Lawful displays es → Rising (keys es w)
+
+-- A channel that is not live holds no key: nothing is to be kept of one that is opened.
+abbrev pub KeysAtFirst : Type 0
+KeysAtFirst =
+    (displays : List ℕ) (es : List Effect) (w : ℕ) → Lawful displays es → live (past_of es) w ≡ false → KeysAre es w []
+
+-- Of what a window is told only the key messages change what is kept of its keys.
+abbrev pub BodiesTracked : Type 0
+BodiesTracked =
+    (ms : List Motion) (ks : List KeyMsg) (a b : Bool) (held : List KeyMsg)
+    → bodies_tracked (map MotionBody ms ++ map Key ks ++ focus_told a b) held ≡ tracked ks held
+
+-- Where the key messages that a step tells are tracked, the keys of a channel that is live after it are kept.
+abbrev pub KeysStep : Type 0
+KeysStep =
+    (displays : List ℕ) (call : Call) (answer : Reply) (es : List Effect) (w : ℕ) (held : List KeyMsg)
+    → Lawful displays (step displays call answer es)
+    → live (past_of (step displays call answer es)) w ≡ true
+    → KeysAre es w held
+    → KeysAre (step displays call answer es) w (tracked (key_messages call answer es w) held)
+
+-- A step tells nobody of keys but the key target before it.
+abbrev pub KeysQuiet : Type 0
+KeysQuiet =
+    (displays : List ℕ) (call : Call) (answer : Reply) (es : List Effect) (w : ℕ)
+    → Lawful displays (step displays call answer es)
+    → is_target (past_of es) w ≡ false
+    → key_messages call answer es w ≡ []
+
+-- What it tells that one is found from what is kept.
+abbrev pub TargetTold : Type 0
+TargetTold =
+    (displays : List ℕ) (call : Call) (answer : Reply) (es : List Effect) (w : ℕ) (held : List KeyMsg) (last : Option Sent)
+    → Lawful displays (step displays call answer es)
+    → is_target (past_of es) w ≡ true
+    → live (past_of (step displays call answer es)) w ≡ true
+    → KeysAre es w held
+    → RepeatIs es last
+    → key_messages call answer es w
+    ≡ target_told call answer (args_of call answer (inbound (past_of es))) w (able es w)
+    (is_target (past_of (step displays call answer es)) w) held last
+
+-- What is kept of the last key message says when a repeat is due, and is of the key target.
+abbrev pub RepeatRead : Type 0
+RepeatRead =
+    (displays : List ℕ) (es : List Effect) (last : Option Sent)
+    → Lawful displays es
+    → RepeatIs es last
+    → (due_of last ≡ repeat_due es) × ((s : Sent) → last ≡ Some s → is_target (past_of es) s.channel ≡ true)
+
+-- The key messages that the key target is told leave the last one kept.
+abbrev pub RepeatStep : Type 0
+RepeatStep =
+    (displays : List ℕ) (call : Call) (answer : Reply) (es : List Effect) (t : ℕ) (last : Option Sent)
+    → Lawful displays (step displays call answer es)
+    → is_target (past_of es) t ≡ true
+    → RepeatIs es last
+    → RepeatIs (step displays call answer es)
+    (repeat_next (live (past_of (step displays call answer es)) t) (clock (past_of (step displays call answer es))) t (key_messages call answer es t)
+    last)
+
+-- Where there is no key target, a step changes nothing of it.
+abbrev pub RepeatLeft : Type 0
+RepeatLeft =
+    (displays : List ℕ) (call : Call) (answer : Reply) (es : List Effect) (last : Option Sent)
+    → Lawful displays (step displays call answer es)
+    → key_target (past_of es) ≡ None
+    → RepeatIs es last
+    → RepeatIs (step displays call answer es) last
