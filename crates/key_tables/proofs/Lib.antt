@@ -3,3 +3,4 @@ pub mod Holders
 pub mod Rising
 pub mod Tracking
 pub mod Telling
+pub mod Repeating

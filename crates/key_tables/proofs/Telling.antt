@@ -167,7 +167,7 @@ repeat_read ds es last l r = (ap due_of r, λ s e. by_last (last_key es) refl s 
         by_any false any e = absurd (cc e)
 
 -- there is one key target
-one_target : (o : Option ℕ) (v w : ℕ) → is_at o v ≡ true → is_at o w ≡ true → v ≡ w
+pub one_target : (o : Option ℕ) (v w : ℕ) → is_at o v ≡ true → is_at o w ≡ true → v ≡ w
 one_target None v w e f = absurd (true≢false (sym e))
 one_target (Some c) v w e f = eqb-true v c e ∙ sym (eqb-true w c f)
 

@@ -1,5 +1,5 @@
 //! What is proved of what is kept. Each function has the laws as its clauses, and does nothing.
-ghost use Rattle.key_tables.specs.Laws.{FocusRead, FocusRequested, FocusShown, FocusLeft, FocusMask, FocusTold, KeysOfTarget, KeysRise, KeysAtFirst, BodiesTracked, KeysStep, KeysQuiet, TargetTold};
+ghost use Rattle.key_tables.specs.Laws.{FocusRead, FocusRequested, FocusShown, FocusLeft, FocusMask, FocusTold, KeysOfTarget, KeysRise, KeysAtFirst, BodiesTracked, KeysStep, KeysQuiet, TargetTold, RepeatRead, RepeatStep, RepeatLeft};
 
 /// What is kept of the focus says who has it and where keys go, changes as each call says, and tells each channel what it has to know.
 pub fn focus()
@@ -24,4 +24,11 @@ pub fn keys()
 pub fn telling()
     ensures quiet { KeysQuiet }
     ensures target { TargetTold }
+{}
+
+/// What is kept of the last key message says when a repeat is due, and is kept by what the key target is told.
+pub fn repeating()
+    ensures read { RepeatRead }
+    ensures step { RepeatStep }
+    ensures left { RepeatLeft }
 {}
