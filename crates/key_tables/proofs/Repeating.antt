@@ -34,57 +34,9 @@ use Rattle.key_tables.specs.Held.{KeysAre, key_messages}
 use Rattle.key_tables.specs.Repeats.{RepeatIs, repeat_after, repeat_next}
 use Rattle.key_tables.specs.Laws.{RepeatStep, RepeatLeft}
 use Rattle.key_tables.proofs.Holders.{keys_of_target}
-use Rattle.key_tables.proofs.Tracking.{keys_in, keys_step, dead_keys}
+use Rattle.key_tables.proofs.Saying.{key_bodies, said_keys}
+use Rattle.key_tables.proofs.Tracking.{keys_in, keys_stepped, dead_keys}
 use Rattle.key_tables.proofs.Telling.{keys_quiet, one_target}
-
--- the key messages among bodies
-abbrev key_bodies : List Body → List KeyMsg
-key_bodies [] = []
-key_bodies (KeyBody m ∷ bs) = m ∷ key_bodies bs
-key_bodies (b ∷ bs) = key_bodies bs
-
-bodies_append : (xs ys : List Body) → key_bodies (xs ++ ys) ≡ key_bodies xs ++ key_bodies ys
-bodies_append [] ys = refl
-bodies_append (KeyBody m ∷ xs) ys = ap (λ ms. m ∷ ms) (bodies_append xs ys)
-bodies_append (MotionBody m ∷ xs) ys = bodies_append xs ys
-bodies_append (FocusBody b ∷ xs) ys = bodies_append xs ys
-
-no_motions : (o : Pixel) (ms : List Motion) → key_bodies (map (λ m. MotionBody (motion_from o m)) ms) ≡ []
-no_motions o [] = refl
-no_motions o (m ∷ ms) = no_motions o ms
-
-all_keys : (ks : List KeyMsg) → key_bodies (map KeyBody ks) ≡ ks
-all_keys [] = refl
-all_keys (k ∷ ks) = ap (λ ms. k ∷ ms) (all_keys ks)
-
-no_focus : (a b : Bool) → key_bodies (focus_told a b) ≡ []
-no_focus true true = refl
-no_focus true false = refl
-no_focus false true = refl
-no_focus false false = refl
-
-parts : (o : Pixel) (ms : List Motion) (ks : List KeyMsg) (a b : Bool)
-    → key_bodies (map (λ m. MotionBody (motion_from o m)) ms ++ map KeyBody ks ++ focus_told a b) ≡ ks
-parts o ms ks a b =
-    bodies_append (map (λ m. MotionBody (motion_from o m)) ms ++ map KeyBody ks) (focus_told a b)
-    ∙ ap₂ (λ xs ys. xs ++ ys)
-    (bodies_append (map (λ m. MotionBody (motion_from o m)) ms) (map KeyBody ks) ∙ ap₂ (λ xs ys. xs ++ ys) (no_motions o ms) (all_keys ks)) (no_focus a b)
-    ∙ append-nil ks
-
--- the key messages that a step says to a channel
-said_keys : (ds : List ℕ) (call : Call) (answer : Reply) (es : List Effect) (w : ℕ)
-    → key_bodies (said_at ds call answer es w) ≡ cond (live ((call, answer) ∷ past_of es) w) (key_messages call answer es w) []
-said_keys ds call answer es w =
-    elim (cases_Bool (live ((call, answer) ∷ past_of es) w)) [
-      | inl y ↦
-          let s = scene ds es in
-          let e = step_of (snapshot (past_of es)) call answer (args_of call answer (inbound (past_of es))) in
-          ap key_bodies (live_said ds call answer es w y)
-          ∙ parts (origin (past_of es) w) (flat_map (told_with s e (mark s e) w) devices) (key_messages call answer es w) (has_focus (past_of es) w)
-          (has_focus ((call, answer) ∷ past_of es) w)
-          ∙ sym (ap (λ b. cond b (key_messages call answer es w) []) y)
-      | inr n ↦ rw n refl
-    ]
 
 -- the last of some messages that a channel was told at a clock, or else the one before
 abbrev sent_in : (now w : ℕ) → List KeyMsg → Option Sent → Option Sent
@@ -247,7 +199,7 @@ keys_then : (ds : List ℕ) (call : Call) (answer : Reply) (es : List Effect) (w
     → live ((call, answer) ∷ past_of es) w ≡ true → key_messages call answer es w ≡ ms
     → keys (step ds call answer es) w ≡ keys_in (tracked ms (map key_as_is (keys es w)))
 keys_then ds call answer es w ms l n e =
-    sym (keys_step ds call answer es w (map key_as_is (keys es w)) l n (record { keys_are = as_kept (keys es w) })).keys_are
+    sym (keys_stepped ds call answer es w (map key_as_is (keys es w)) l n (as_kept (keys es w)))
     ∙ ap (λ xs. keys_in (tracked xs (map key_as_is (keys es w)))) e
 
 -- a window that is not the key target holds no key after the step, nor before it

@@ -75,7 +75,7 @@ before_all k l m e f =
     first : k.device < m.device → is_before k m ≡ true
     first lt = or_left (nat_lt k.device m.device) (k.device == m.device && nat_lt k.scan m.scan) (lt-ltb k.device m.device lt)
 
-above_all : (k l : KeyArgs) (ks : List KeyArgs) → is_before k l ≡ true → Above l ks → Above k ks
+pub above_all : (k l : KeyArgs) (ks : List KeyArgs) → is_before k l ≡ true → Above l ks → Above k ks
 above_all k l [] e a = tt
 above_all k l (m ∷ ms) e a = (before_all k l m e a.0, above_all k l ms e a.1)
 
@@ -96,7 +96,7 @@ above_filter p k (l ∷ ls) a = by_test (p l) (above_filter p k ls a.1)
     by_test true more = (a.0, more)
     by_test false more = more
 
-rising_filter : (p : KeyArgs → Bool) (ks : List KeyArgs) → Rising ks → Rising (filter p ks)
+pub rising_filter : (p : KeyArgs → Bool) (ks : List KeyArgs) → Rising ks → Rising (filter p ks)
 rising_filter p [] r = tt
 rising_filter p (k ∷ ks) r = by_test (p k) (rising_filter p ks r.1)
   where

@@ -50,7 +50,7 @@ pub cancels_of : (held : List KeyMsg) → map key_cancelled (keys_in held) ≡ k
 cancels_of [] = refl
 cancels_of (m ∷ ms) = ap (λ ks. key_cancelled m.key ∷ ks) (cancels_of ms)
 
-filter_keys : (p : KeyArgs → Bool) (held : List KeyMsg) → filter p (keys_in held) ≡ keys_in (filter (λ m. p m.key) held)
+pub filter_keys : (p : KeyArgs → Bool) (held : List KeyMsg) → filter p (keys_in held) ≡ keys_in (filter (λ m. p m.key) held)
 filter_keys p [] = refl
 filter_keys p (m ∷ ms) = by_test (p m.key) (filter_keys p ms)
   where
@@ -342,19 +342,14 @@ keys_next ds call answer h w held l n are = by_call call l n
     by_call (Pilfer now c e) m q = quiet (Pilfer now c e)
     by_call (Remove now c) m q = quiet (Remove now c)
 
-pub keys_step : KeysStep
-keys_step ds call answer es w held l n k =
-    let e = (lawful_last ds call answer es l).1.whole in
-    record {
-      keys_are =
-          subst
-          (λ xs. live ((call, answer) ∷ past_of xs) w ≡ true → keys_in held ≡ keys xs w
-          → keys_in (tracked (key_messages call answer xs w) held) ≡ keys (step ds call answer xs) w)
-          e (λ m are. keys_next ds call answer (past_of es) w held l.legal m are) n k.keys_are;
-    }
-
-pub keys_at_first : KeysAtFirst
-keys_at_first ds es w l n = record { keys_are = sym (dead_keys ds es w l n) }
+pub keys_stepped : (ds : List ℕ) (call : Call) (answer : Reply) (es : List Effect) (w : ℕ) (held : List KeyMsg) → Lawful ds (step ds call answer es)
+    → live (past_of (step ds call answer es)) w ≡ true → keys_in held ≡ keys es w
+    → keys_in (tracked (key_messages call answer es w) held) ≡ keys (step ds call answer es) w
+keys_stepped ds call answer es w held l n are =
+    subst
+    (λ xs. live ((call, answer) ∷ past_of xs) w ≡ true → keys_in held ≡ keys xs w
+    → keys_in (tracked (key_messages call answer xs w) held) ≡ keys (step ds call answer xs) w)
+    (lawful_last ds call answer es l).1.whole (λ m k. keys_next ds call answer (past_of es) w held l.legal m k) n are
 
 -- bodies that are no keys
 bodies_append : (xs ys : List Body) (held : List KeyMsg) → bodies_tracked (xs ++ ys) held ≡ bodies_tracked ys (bodies_tracked xs held)

@@ -6,6 +6,7 @@ use Rattle.input_types.specs.declared.key.KeyMsg.{KeyMsg}
 use Rattle.input_types.specs.declared.message.Args.{Args}
 use Rattle.input_types.specs.declared.message.Args.TheVariants.{Key as KeyOfDevice, Reset}
 use Rattle.input_types.specs.declared.message.Body.{Body}
+use Rattle.input_types.specs.declared.message.Message.{Message}
 use Rattle.window_snapshot.specs.Mask.{mask_has}
 use Rattle.key_repeat.specs.Due.{Sent, next_of}
 use Rattle.cancel_synthesis.specs.Ends.{keys_cancelled, of_device}
@@ -15,10 +16,11 @@ use Rattle.dispatch_calls.specs.declared.call.Call.TheVariants.{Pump, Tick}
 use Rattle.dispatch_calls.specs.declared.reply.Reply.{Reply}
 use Rattle.dispatch_calls.specs.declared.reply.Reply.TheVariants.{Dispatched, Repeated, Named}
 use Rattle.dispatch_history.specs.Queue.{inbound, args_of}
-use Rattle.dispatch_history.specs.Effect.{Effect, past_of}
+use Rattle.dispatch_history.specs.Effect.{Effect, past_of, stream}
 use Rattle.dispatch_history.specs.Delivery.{able}
 use Rattle.dispatch_history.specs.Focus.{is_target}
 use Rattle.dispatch_history.specs.Keys.{same_key, is_before, loses_all, keys}
+use Rattle.dispatch_history.specs.Known.{last_message}
 use Rattle.dispatch_history.specs.KeyTold.{key_as_is, keys_told, repeat_by, last_key}
 
 -- the key comes before all of these
@@ -31,9 +33,15 @@ abbrev pub Rising : List KeyArgs → Type 0
 Rising [] = Unit {0}
 Rising (k ∷ ks) = Above k ks × Rising ks
 
--- what is kept are the keys that the window holds after a history with these effects
+-- each of these messages is the last one of its key
+abbrev pub AllLast : List Message → List KeyMsg → Type 0
+AllLast past [] = Unit {0}
+AllLast past (m ∷ ms) = (last_message m.key.device m.key.scan past ≡ Some m) × AllLast past ms
+
+-- what is kept are the keys that the window holds after a history with these effects, each with the last message of it
 pub record KeysAre (es : List Effect) (w : ℕ) (held : List KeyMsg) : Type 0 where
   pub keys_are : map (λ m. m.key) held ≡ keys es w
+  pub lasts_are : AllLast (stream es w) held
 
 -- what is kept of keys once these bodies are tracked, the first one first
 abbrev pub bodies_tracked : List Body → List KeyMsg → List KeyMsg
