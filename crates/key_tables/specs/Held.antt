@@ -1,5 +1,5 @@
 -- What is kept of the keys of a window, and what it is told of keys.
-use Rattle.std.specs.Prelude.{◌≡◌, ℕ, Bool, true, List, [], ◌∷◌, ◌++◌, ◌&&◌, map, Option, Some, None, if◌then◌else◌}
+use Rattle.std.specs.Prelude.{◌≡◌, ℕ, Bool, true, List, [], ◌∷◌, ◌++◌, ◌&&◌, map, Option, Some, None, option_map, if◌then◌else◌}
 use Rattle.std.specs.List.{list_any}
 use Rattle.input_types.specs.declared.key.KeyArgs.{KeyArgs}
 use Rattle.input_types.specs.declared.key.KeyMsg.{KeyMsg}
@@ -57,21 +57,20 @@ key_messages call answer before w =
     ++ repeat_by after (last_key before) w
 
 -- a key that is dispatched is told as it is: a down where the window hears it, an up where it holds the key
-abbrev pub key_heard : KeyArgs → (hears : Bool) → List KeyMsg → List KeyMsg
-key_heard k hears held =
-    if (if k.down then hears else list_any (λ m. same_key k m.key) held) then key_as_is k ∷ [] else []
+abbrev pub key_heard : KeyArgs → (hears : Bool) → List KeyMsg → Option KeyMsg
+key_heard k hears held = if (if k.down then hears else list_any (λ m. same_key k m.key) held) then Some (key_as_is k) else None
 
--- a repeat that is made
-abbrev pub repeat_heard : Option (ℕ × KeyMsg) → List KeyMsg
-repeat_heard None = []
-repeat_heard (Some n) = n.1 ∷ []
+-- a message that may be made, for whichever channel
+abbrev pub one_told : Option KeyMsg → List KeyMsg
+one_told None = []
+one_told (Some m) = m ∷ []
 
 -- What the key target is told of keys, with what is kept of its keys and of the last key message. It hears keys where it is able. Its
 -- keys of a device are cancelled by a reset of that, and all of them where a tick names it and where it is not the key target any more.
 abbrev pub target_told : Call → Reply → Option Args → ℕ → (hears stays : Bool) → List KeyMsg → Option Sent → List KeyMsg
-target_told (Pump now) Dispatched (Some (KeyOfDevice k)) w hears stays held last = key_heard k hears held
+target_told (Pump now) Dispatched (Some (KeyOfDevice k)) w hears stays held last = one_told (key_heard k hears held)
 target_told (Pump now) Dispatched (Some (Reset d)) w hears stays held last = keys_cancelled (of_device d held)
-target_told (Pump now) Repeated args w hears stays held last = repeat_heard (next_of last)
+target_told (Pump now) Repeated args w hears stays held last = one_told (option_map (λ n. n.1) (next_of last))
 target_told (Pump now) answer args w hears stays held last = []
 target_told (Tick now) (Named mask) args w hears stays held last = if mask_has mask w then keys_cancelled held else []
 target_told call answer args w hears stays held last = if stays then [] else keys_cancelled held

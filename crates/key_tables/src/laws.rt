@@ -1,5 +1,5 @@
 //! What is proved of what is kept. Each function has the laws as its clauses, and does nothing.
-ghost use Rattle.key_tables.specs.Laws.{FocusRead, FocusRequested, FocusShown, FocusLeft, FocusMask, FocusTold, KeysOfTarget, KeysRise, KeysAtFirst, BodiesTracked, KeysStep, KeysQuiet, TargetTold, RepeatRead, RepeatStep, RepeatLeft};
+ghost use Rattle.key_tables.specs.Laws.{FocusRead, FocusRequested, FocusShown, FocusLeft, FocusMasks, FocusAtFirst, FocusTold, KeysOfTarget, KeysRise, KeysAtFirst, BodiesTracked, KeysStep, KeysQuiet, TargetTold, RepeatRead, RepeatStep, RepeatLeft};
 
 /// What is kept of the focus says who has it and where keys go, changes as each call says, and tells each channel what it has to know.
 pub fn focus()
@@ -7,7 +7,8 @@ pub fn focus()
     ensures requested { FocusRequested }
     ensures shown { FocusShown }
     ensures left { FocusLeft }
-    ensures mask { FocusMask }
+    ensures masks { FocusMasks }
+    ensures first { FocusAtFirst }
     ensures told { FocusTold }
 {}
 
