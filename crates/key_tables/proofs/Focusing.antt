@@ -1,5 +1,5 @@
 -- What is kept of the focus, step by step.
-use Rattle.std.proofs.Common.{◌≡◌, ◌<◌, ℕ, ◌-◌, min, ◌==◌, ◌&&◌, not, Bool, true, false, cond, zero, suc, List, [], ◌∷◌, length, slice_index_or, slice_set, Option, Some, None, refl, sym, ap, ap₂, ◌∙◌, subst, inl, inr, arith}
+use Rattle.std.proofs.Common.{◌≡◌, ◌<◌, ℕ, ◌-◌, min, ◌==◌, ◌&&◌, not, Bool, true, false, cond, zero, suc, List, [], ◌∷◌, slice_index_or, slice_set, Option, Some, None, refl, sym, ap, ap₂, ◌∙◌, subst, inl, inr, arith}
 use Rattle.std.specs.Prelude.{bit_and}
 use Rattle.std.specs.Int.{bit_at}
 use Rattle.std.proofs.lemmas.Bool.{cases_eq, eq-eqb, ne_eqb, true≢false}
@@ -8,16 +8,14 @@ use Rattle.std.proofs.lemmas.Nat.Bits.{bit_at_and, bit_at-lt}
 use Rattle.window_snapshot.specs.Mask.{is_channel, mask_has}
 use Rattle.window_snapshot.proofs.Masks.{mask_has-zero}
 use Rattle.window_snapshot.specs.Named.{is_focusable_on}
-use Rattle.focus_resolver.specs.Resolver.{FocusState, focus_if, focus_of, target_of, is_focused, is_at, may_by}
-use Rattle.focus_resolver.specs.Changes.{IsOnlyIn}
+use Rattle.focus_resolver.specs.Resolver.{FocusState, focus_if, focus_of, is_focused, may_by}
 use Rattle.dispatch_calls.specs.declared.call.Call.{Call}
-use Rattle.dispatch_calls.specs.declared.call.Call.TheVariants.{Open, Windows, FocusOn, Notify, Pump, Tick, Receive, Finish, Pilfer, Remove}
+use Rattle.dispatch_calls.specs.declared.call.Call.TheVariants.{Open, Windows, FocusOn, Remove}
 use Rattle.dispatch_calls.specs.declared.reply.Reply.{Reply}
-use Rattle.dispatch_history.specs.History.{History, live, snapshot}
-use Rattle.dispatch_history.specs.Focus.{requested, asked, may_focus, focus, has_focus, key_target, focus_told}
+use Rattle.dispatch_history.specs.History.{History, snapshot}
+use Rattle.dispatch_history.specs.Focus.{requested, asked, may_focus, focus, has_focus, focus_told}
 use Rattle.dispatch_history.specs.Effect.{Effect, past_of}
-use Rattle.dispatch_history.specs.Effects.{step}
-use Rattle.key_tables.specs.Focused.{FocusIs, MasksAre, is_request, leaves_focus, change_told}
+use Rattle.key_tables.specs.Focused.{FocusIs, is_request, leaves_focus, change_told}
 use Rattle.key_tables.specs.Laws.{FocusRead, FocusRequested, FocusShown, FocusLeft, FocusMasks, FocusAtFirst, FocusTold}
 
 same_focus : (may will : ℕ → Bool) (o : Option ℕ) → ((c : ℕ) → may c ≡ will c) → focus_if may o ≡ focus_if will o

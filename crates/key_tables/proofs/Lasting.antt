@@ -1,6 +1,6 @@
 -- The messages that are kept of keys are the last ones of them.
-use Rattle.std.proofs.Common.{◌≡◌, ℕ, ◌+◌, ◌==◌, ◌&&◌, ◌||◌, nat_lt, Bool, true, false, not, cond, length, List, [], ◌∷◌, map, filter, Option, Some, None, refl, sym, ap, ap₂, ◌∙◌, subst, subst₂, inl, inr, arith}
-use Rattle.std.proofs.lemmas.Bool.{cases_Bool, true≢false, both_ways, and_parts, eq-eqb, eqb-true, le-ltb}
+use Rattle.std.proofs.Common.{◌≡◌, ℕ, ◌+◌, ◌==◌, ◌&&◌, ◌||◌, nat_lt, Bool, true, false, not, cond, length, List, [], ◌∷◌, Option, Some, refl, sym, ap, ap₂, ◌∙◌, subst, subst₂, inl, inr, arith}
+use Rattle.std.proofs.lemmas.Bool.{cases_Bool, both_ways, and_parts, eq-eqb, eqb-true, le-ltb}
 use Rattle.input_types.specs.declared.key.KeyArgs.{KeyArgs}
 use Rattle.input_types.specs.declared.key.KeyMsg.{KeyMsg}
 use Rattle.input_types.specs.declared.message.Body.{Body}
@@ -8,18 +8,15 @@ use Rattle.input_types.specs.declared.message.Body.TheVariants.{Motion as Motion
 use Rattle.input_types.specs.declared.message.Message.{Message}
 use Rattle.cancel_synthesis.specs.Tracked.{with_key as keep, without_key as forget, keys_after}
 use Rattle.cancel_synthesis.specs.Laws.{keys_told as tracked}
-use Rattle.dispatch_calls.specs.declared.call.Call.{Call}
-use Rattle.dispatch_calls.specs.declared.reply.Reply.{Reply}
-use Rattle.dispatch_history.specs.History.{clock, live}
-use Rattle.dispatch_history.specs.Effect.{Effect, past_of, stream, told_on}
+use Rattle.dispatch_history.specs.History.{clock}
+use Rattle.dispatch_history.specs.Effect.{past_of, stream, told_on}
 use Rattle.dispatch_history.specs.Effects.{step, said_at}
-use Rattle.dispatch_history.specs.Keys.{same_key, is_before, keys}
+use Rattle.dispatch_history.specs.Keys.{same_key, is_before}
 use Rattle.dispatch_history.specs.Known.{is_key, last_message}
 use Rattle.dispatch_history.proofs.KeysDown.{is_key-parts}
 use Rattle.dispatch_history.proofs.StreamLaws.{stream_step}
-use Rattle.dispatch_tables.specs.Lawful.{Lawful}
 use Rattle.dispatch_tables.proofs.Lawfuls.{lawful_last}
-use Rattle.key_tables.specs.Held.{Above, Rising, KeysAre, AllLast, key_messages}
+use Rattle.key_tables.specs.Held.{Above, Rising, AllLast, key_messages}
 use Rattle.key_tables.specs.Laws.{KeysAtFirst, KeysStep}
 use Rattle.key_tables.proofs.Rising.{other_way, above_all, rising_filter, keys_rise}
 use Rattle.key_tables.proofs.Saying.{key_bodies, said_keys}

@@ -1,3 +1,4 @@
+pub mod Examples
 pub mod Focusing
 pub mod Holders
 pub mod Rising

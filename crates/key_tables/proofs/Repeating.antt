@@ -1,36 +1,28 @@
 -- What is kept of the last key message, step by step.
-use Rattle.std.proofs.Common.{◌≡◌, ℕ, zero, suc, ◌+◌, ◌≤◌, ◌==◌, ◌&&◌, ◌||◌, ◌⊎◌, Bool, true, false, not, cond, List, [], ◌∷◌, ◌++◌, map, flat_map, Option, Some, None, refl, sym, ap, ap₂, ◌∙◌, subst, inl, inr, arith, append-nil, ◌≢◌}
+use Rattle.std.proofs.Common.{◌≡◌, ℕ, zero, suc, ◌≤◌, ◌==◌, ◌&&◌, ◌||◌, Bool, true, false, not, cond, List, [], ◌∷◌, ◌++◌, map, flat_map, Option, Some, None, refl, sym, ap, ap₂, ◌∙◌, subst, inl, inr, arith, ◌≢◌}
 use Rattle.std.specs.List.{list_any}
-use Rattle.std.proofs.lemmas.Bool.{cases_Bool, cases_eq, true≢false, both_ways, eqb-true, eq-eqb, ne_eqb}
-use Rattle.input_types.specs.declared.axis.Pixel.{Pixel}
+use Rattle.std.proofs.lemmas.Bool.{cases_Bool, cases_eq, both_ways, eqb-true, eq-eqb}
 use Rattle.input_types.specs.declared.key.KeyArgs.{KeyArgs}
 use Rattle.input_types.specs.declared.key.KeyMsg.{KeyMsg}
 use Rattle.input_types.specs.declared.message.Body.{Body}
 use Rattle.input_types.specs.declared.message.Body.TheVariants.{Motion as MotionBody, Key as KeyBody, Focus as FocusBody}
-use Rattle.input_types.specs.declared.motion.Motion.{Motion}
 use Rattle.focus_resolver.specs.Resolver.{is_at}
 use Rattle.key_repeat.specs.Due.{Sent}
 use Rattle.cancel_synthesis.specs.Tracked.{with_key as keep, without_key as forget, keys_after}
 use Rattle.cancel_synthesis.specs.Laws.{keys_told as tracked}
-use Rattle.routing_rules.specs.Given.{mark}
-use Rattle.routing_rules.specs.Told.{told_with, devices}
 use Rattle.dispatch_calls.specs.declared.call.Call.{Call}
 use Rattle.dispatch_calls.specs.declared.reply.Reply.{Reply}
-use Rattle.dispatch_history.specs.History.{History, clock, live, opened, origin, snapshot}
-use Rattle.dispatch_history.specs.Queue.{inbound, args_of}
+use Rattle.dispatch_history.specs.History.{History, clock, live, opened}
 use Rattle.dispatch_history.specs.Effect.{Effect, Told, past_of}
 use Rattle.dispatch_history.specs.Effects.{channels, step, said_at}
-use Rattle.dispatch_history.specs.Step.{scene, step_of}
-use Rattle.dispatch_history.specs.Focus.{has_focus, is_target, key_target, focus_told}
+use Rattle.dispatch_history.specs.Focus.{is_target, key_target}
 use Rattle.dispatch_history.specs.Keys.{same_key, is_before, keys}
 use Rattle.dispatch_history.specs.KeyTold.{key_as_is, key_in, last_key, while_held}
-use Rattle.dispatch_history.specs.Said.{motions_said, keys_said, motion_from}
 use Rattle.dispatch_history.specs.Delivery.{able}
 use Rattle.dispatch_history.proofs.StreamLaws.{live_law}
-use Rattle.dispatch_history.proofs.MotionLaws.{live_said}
 use Rattle.dispatch_tables.specs.Lawful.{Lawful}
 use Rattle.dispatch_tables.proofs.Lawfuls.{lawful_last}
-use Rattle.key_tables.specs.Held.{KeysAre, key_messages}
+use Rattle.key_tables.specs.Held.{key_messages}
 use Rattle.key_tables.specs.Repeats.{RepeatIs, repeat_after, repeat_next}
 use Rattle.key_tables.specs.Laws.{RepeatStep, RepeatLeft}
 use Rattle.key_tables.proofs.Holders.{keys_of_target}

@@ -19,6 +19,7 @@ use Rattle.dispatch_history.specs.Focus.{has_focus, focus_told}
 use Rattle.dispatch_history.specs.Said.{motion_from}
 use Rattle.dispatch_history.proofs.MotionLaws.{live_said}
 use Rattle.key_tables.specs.Held.{key_messages}
+use Rattle.key_tables.specs.Laws.{SaidParts}
 
 -- the key messages among bodies
 abbrev pub key_bodies : List Body → List KeyMsg
@@ -68,3 +69,6 @@ said_keys ds call answer es w =
           ∙ sym (ap (λ b. cond b (key_messages call answer es w) []) y)
       | inr n ↦ rw n refl
     ]
+
+pub said_parts : SaidParts
+said_parts ds call answer es w n = live_said ds call answer es w n

@@ -1,33 +1,32 @@
 -- Who is told of keys at a step, and what.
-use Rattle.std.proofs.Common.{◌≡◌, ℕ, ◌+◌, ◌==◌, ◌&&◌, ◌||◌, ◌⊎◌, max, Bool, true, false, not, cond, List, [], ◌∷◌, ◌++◌, map, filter, option_map, Option, Some, None, refl, sym, ap, ap₂, ◌∙◌, subst, subst₂, inl, inr, append-nil}
+use Rattle.std.proofs.Common.{◌≡◌, ℕ, ◌==◌, ◌&&◌, ◌||◌, ◌⊎◌, max, Bool, true, false, not, cond, List, [], ◌∷◌, ◌++◌, map, filter, option_map, Option, Some, None, refl, sym, ap, ap₂, ◌∙◌, subst, inl, inr, append-nil}
 use Rattle.std.specs.List.{list_any}
-use Rattle.std.proofs.lemmas.Bool.{cases_Bool, true≢false, both_ways, and_parts, eqb-true, eq-eqb}
+use Rattle.std.proofs.lemmas.Bool.{cases_Bool, true≢false, both_ways, eqb-true, eq-eqb}
 use Rattle.input_types.specs.declared.key.KeyArgs.{KeyArgs}
 use Rattle.input_types.specs.declared.key.KeyMsg.{KeyMsg}
 use Rattle.input_types.specs.declared.message.Args.{Args}
 use Rattle.input_types.specs.declared.message.Args.TheVariants.{Motion as MotionArgs, Key as KeyOfDevice, Reset}
 use Rattle.window_snapshot.specs.Mask.{mask_has}
-use Rattle.key_repeat.specs.Due.{Sent, due_of, is_repeated, repeated, next_of}
+use Rattle.key_repeat.specs.Due.{Sent, due_of, repeated, next_of}
 use Rattle.cancel_synthesis.specs.Ends.{keys_cancelled}
 use Rattle.focus_resolver.specs.Resolver.{is_at}
 use Rattle.dispatch_calls.specs.declared.call.Call.{Call}
 use Rattle.dispatch_calls.specs.declared.call.Call.TheVariants.{Open, Windows, FocusOn, Notify, Pump, Tick, Receive, Finish, Pilfer, Remove}
 use Rattle.dispatch_calls.specs.declared.reply.Reply.{Reply}
-use Rattle.dispatch_calls.specs.declared.reply.Reply.TheVariants.{Dispatched, Repeated, Idle, Named}
-use Rattle.dispatch_history.specs.History.{History, clock, live}
+use Rattle.dispatch_calls.specs.declared.reply.Reply.TheVariants.{Dispatched, Repeated, Idle}
+use Rattle.dispatch_history.specs.History.{clock, live}
 use Rattle.dispatch_history.specs.Queue.{inbound, args_of}
 use Rattle.dispatch_history.specs.Effect.{Effect, past_of}
-use Rattle.dispatch_history.specs.Effects.{step}
 use Rattle.dispatch_history.specs.Focus.{is_target, key_target}
 use Rattle.dispatch_history.specs.Delivery.{able, names, is_named_by}
 use Rattle.dispatch_history.specs.Due.{mask_of, named}
-use Rattle.dispatch_history.specs.Keys.{same_key, ends, loses_all, keys}
-use Rattle.dispatch_history.specs.KeyTold.{key_as_is, key_cancelled, keys_told, last_key, while_held, repeat_due, repeat_told, repeat_by}
+use Rattle.dispatch_history.specs.Keys.{same_key, loses_all, keys}
+use Rattle.dispatch_history.specs.KeyTold.{key_as_is, key_cancelled, keys_told, last_key, while_held, repeat_due, repeat_told}
 use Rattle.dispatch_history.specs.Reply.{reply_to, pump_reply, is_due}
 use Rattle.dispatch_history.proofs.KeyTells.{filter_none}
 use Rattle.dispatch_tables.specs.Lawful.{Lawful}
 use Rattle.dispatch_tables.proofs.Lawfuls.{lawful_last}
-use Rattle.key_tables.specs.Held.{KeysAre, key_messages, one_told, target_told}
+use Rattle.key_tables.specs.Held.{key_messages, one_told, target_told}
 use Rattle.key_tables.specs.Repeats.{RepeatIs}
 use Rattle.key_tables.specs.Laws.{KeysQuiet, TargetTold, RepeatRead}
 use Rattle.key_tables.proofs.Holders.{keys_of_target}

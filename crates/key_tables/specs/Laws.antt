@@ -7,10 +7,13 @@ use Rattle.focus_resolver.specs.Changes.{IsOnlyIn}
 use Rattle.dispatch_calls.specs.declared.call.Call.{Call}
 use Rattle.dispatch_calls.specs.declared.call.Call.TheVariants.{FocusOn}
 use Rattle.dispatch_calls.specs.declared.reply.Reply.{Reply}
-use Rattle.dispatch_history.specs.History.{History, live, clock, snapshot}
+use Rattle.dispatch_history.specs.History.{History, live, clock, origin, snapshot}
 use Rattle.dispatch_history.specs.Focus.{focus, has_focus, key_target, focus_told}
 use Rattle.dispatch_history.specs.Effect.{Effect, past_of}
-use Rattle.dispatch_history.specs.Effects.{step}
+use Rattle.dispatch_history.specs.Effects.{step, said_at}
+use Rattle.dispatch_history.specs.Step.{scene, step_of}
+use Rattle.dispatch_history.specs.Said.{motions_said}
+use Rattle.routing_rules.specs.Given.{mark}
 use Rattle.dispatch_history.specs.Focus.{is_target}
 use Rattle.dispatch_history.specs.Delivery.{able}
 use Rattle.dispatch_history.specs.Keys.{keys}
@@ -111,6 +114,18 @@ KeysStep =
     → live (past_of (step displays call answer es)) w ≡ true
     → KeysAre es w held
     → KeysAre (step displays call answer es) w (tracked (key_messages call answer es w) held)
+
+-- What a step says to a channel that is live after it are motions, then these key messages, and then a change of its focus.
+abbrev pub SaidParts : Type 0
+SaidParts =
+    (displays : List ℕ) (call : Call) (answer : Reply) (es : List Effect) (w : ℕ)
+    → live (past_of (step displays call answer es)) w ≡ true
+    → let moment = scene displays es in
+    let this = step_of (snapshot (past_of es)) call answer (args_of call answer (inbound (past_of es))) in
+    said_at displays call answer es w
+    ≡ motions_said moment this (mark moment this) (origin (past_of es) w) w
+    ++ map Key (key_messages call answer es w)
+    ++ focus_told (has_focus (past_of es) w) (has_focus (past_of (step displays call answer es)) w)
 
 -- A step tells nobody of keys but the key target before it.
 abbrev pub KeysQuiet : Type 0

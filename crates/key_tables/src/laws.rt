@@ -1,5 +1,5 @@
 //! What is proved of what is kept. Each function has the laws as its clauses, and does nothing.
-ghost use Rattle.key_tables.specs.Laws.{FocusRead, FocusRequested, FocusShown, FocusLeft, FocusMasks, FocusAtFirst, FocusTold, KeysOfTarget, KeysRise, KeysAtFirst, BodiesTracked, KeysStep, KeysQuiet, TargetTold, RepeatRead, RepeatStep, RepeatLeft};
+ghost use Rattle.key_tables.specs.Laws.{FocusRead, FocusRequested, FocusShown, FocusLeft, FocusMasks, FocusAtFirst, FocusTold, KeysOfTarget, KeysRise, KeysAtFirst, BodiesTracked, KeysStep, SaidParts, KeysQuiet, TargetTold, RepeatRead, RepeatStep, RepeatLeft};
 
 /// What is kept of the focus says who has it and where keys go, changes as each call says, and tells each channel what it has to know.
 pub fn focus()
@@ -23,6 +23,7 @@ pub fn keys()
 
 /// What a step tells of keys: nobody is told but the key target, and that is told what is found from what is kept.
 pub fn telling()
+    ensures parts { SaidParts }
     ensures quiet { KeysQuiet }
     ensures target { TargetTold }
 {}
