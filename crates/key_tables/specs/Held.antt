@@ -58,15 +58,17 @@ key_messages call answer before w =
 
 -- a key that is dispatched is told as it is: a down where the window hears it, an up where it holds the key
 abbrev pub key_heard : KeyArgs → (hears : Bool) → List KeyMsg → Option KeyMsg
-key_heard k hears held = if (if k.down then hears else list_any (λ m. same_key k m.key) held) then Some (key_as_is k) else None
+key_heard k hears held =
+    if (if k.down then hears else list_any (λ m. same_key k m.key) held) then Some (key_as_is k) else None
 
 -- a message that may be made, for whichever channel
 abbrev pub one_told : Option KeyMsg → List KeyMsg
 one_told None = []
 one_told (Some m) = m ∷ []
 
--- What the key target is told of keys, with what is kept of its keys and of the last key message. It hears keys where it is able. Its
--- keys of a device are cancelled by a reset of that, and all of them where a tick names it and where it is not the key target any more.
+-- What the key target is told of keys, with what is kept of its keys and of the last key message. It hears keys where it
+-- is able. Its keys of a device are cancelled by a reset of that, and all of them where a tick names it and where it is
+-- not the key target any more.
 abbrev pub target_told : Call → Reply → Option Args → ℕ → (hears stays : Bool) → List KeyMsg → Option Sent → List KeyMsg
 target_told (Pump now) Dispatched (Some (KeyOfDevice k)) w hears stays held last = one_told (key_heard k hears held)
 target_told (Pump now) Dispatched (Some (Reset d)) w hears stays held last = keys_cancelled (of_device d held)

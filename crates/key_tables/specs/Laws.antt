@@ -1,5 +1,5 @@
 -- What is proved of what is kept of the focus, of keys and of repeats. Each law is the clause of a function of its own.
-use Rattle.std.specs.Prelude.{◌≡◌, ◌<◌, ℕ, true, false, List, [], ◌++◌, map, Option, Some, None, Bool, None, ◌&&◌, replicate, slice_set}
+use Rattle.std.specs.Prelude.{◌≡◌, ◌<◌, ℕ, true, false, List, [], ◌++◌, map, Option, Some, None, Bool, ◌&&◌, replicate, slice_set}
 use Rattle.window_snapshot.specs.Mask.{mask_has}
 use Rattle.window_snapshot.specs.Named.{is_focusable_on}
 use Rattle.focus_resolver.specs.Resolver.{FocusState, may_by, focus_of, target_of, is_focused}
@@ -8,13 +8,12 @@ use Rattle.dispatch_calls.specs.declared.call.Call.{Call}
 use Rattle.dispatch_calls.specs.declared.call.Call.TheVariants.{FocusOn}
 use Rattle.dispatch_calls.specs.declared.reply.Reply.{Reply}
 use Rattle.dispatch_history.specs.History.{History, live, clock, origin, snapshot}
-use Rattle.dispatch_history.specs.Focus.{focus, has_focus, key_target, focus_told}
+use Rattle.dispatch_history.specs.Focus.{focus, has_focus, is_target, key_target, focus_told}
 use Rattle.dispatch_history.specs.Effect.{Effect, past_of}
 use Rattle.dispatch_history.specs.Effects.{step, said_at}
 use Rattle.dispatch_history.specs.Step.{scene, step_of}
 use Rattle.dispatch_history.specs.Said.{motions_said}
 use Rattle.routing_rules.specs.Given.{mark}
-use Rattle.dispatch_history.specs.Focus.{is_target}
 use Rattle.dispatch_history.specs.Delivery.{able}
 use Rattle.dispatch_history.specs.Keys.{keys}
 use Rattle.dispatch_tables.specs.Lawful.{Lawful}
@@ -29,7 +28,8 @@ use Rattle.dispatch_history.specs.Queue.{inbound, args_of}
 use Rattle.dispatch_history.specs.KeyTold.{repeat_due}
 use Rattle.key_tables.specs.Focused.{FocusIs, MasksAre, is_request, leaves_focus, change_of, change_told}
 
--- What is kept of the focus says which channel has the focus of each display, which channels are focused, and where keys go.
+-- What is kept of the focus says which channel has the focus of each display, which channels are focused, and where keys
+-- go.
 abbrev pub FocusRead : Type 0
 FocusRead =
     (es : List Effect) (f : FocusState)
@@ -89,7 +89,8 @@ FocusTold =
 -- Only the key target holds keys, and only while it is able.
 abbrev pub KeysOfTarget : Type 0
 KeysOfTarget =
-    (displays : List ℕ) (es : List Effect) (w : ℕ) → Lawful displays es → (is_target (past_of es) w && able es w) ≡ false → keys es w ≡ []
+    (displays : List ℕ) (es : List Effect) (w : ℕ)
+    → Lawful displays es → (is_target (past_of es) w && able es w) ≡ false → keys es w ≡ []
 
 -- The keys that a window holds stand in rising order, each once.
 abbrev pub KeysRise : Type 0
@@ -115,7 +116,8 @@ KeysStep =
     → KeysAre es w held
     → KeysAre (step displays call answer es) w (tracked (key_messages call answer es w) held)
 
--- What a step says to a channel that is live after it are motions, then these key messages, and then a change of its focus.
+-- What a step says to a channel that is live after it are motions, then these key messages, and then a change of its
+-- focus.
 abbrev pub SaidParts : Type 0
 SaidParts =
     (displays : List ℕ) (call : Call) (answer : Reply) (es : List Effect) (w : ℕ)
@@ -138,7 +140,8 @@ KeysQuiet =
 -- What it tells that one is found from what is kept.
 abbrev pub TargetTold : Type 0
 TargetTold =
-    (displays : List ℕ) (call : Call) (answer : Reply) (es : List Effect) (w : ℕ) (held : List KeyMsg) (last : Option Sent)
+    (displays : List ℕ) (call : Call) (answer : Reply) (es : List Effect)
+    (w : ℕ) (held : List KeyMsg) (last : Option Sent)
     → Lawful displays (step displays call answer es)
     → is_target (past_of es) w ≡ true
     → live (past_of (step displays call answer es)) w ≡ true
@@ -164,8 +167,8 @@ RepeatStep =
     → is_target (past_of es) t ≡ true
     → RepeatIs es last
     → RepeatIs (step displays call answer es)
-    (repeat_next (live (past_of (step displays call answer es)) t) (clock (past_of (step displays call answer es))) t (key_messages call answer es t)
-    last)
+    (repeat_next (live (past_of (step displays call answer es)) t) (clock (past_of (step displays call answer es))) t
+    (key_messages call answer es t) last)
 
 -- Where there is no key target, a step changes nothing of it.
 abbrev pub RepeatLeft : Type 0

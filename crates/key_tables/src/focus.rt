@@ -9,7 +9,8 @@ use focus_resolver::{Change, Focusable};
 use input_types::DisplayId;
 use window_snapshot::{Snapshot, mask_has};
 
-/// The channels that may have the focus of each display: those of a mask that the windows name there with one that may have it.
+/// The channels that may have the focus of each display: those of a mask that the windows name there with one that may
+/// have it.
 pub fn focusable(windows: &Snapshot, live: u64) -> Focusable
     ensures { (y c : ℕ) → y < 4 → may_by result.masks y c ≡ (mask_has live c && is_focusable_on windows.now y c) }
 {
