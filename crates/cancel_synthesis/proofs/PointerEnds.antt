@@ -13,11 +13,11 @@ use Rattle.cancel_synthesis.specs.Ends.{pointers_cancelled}
 use Rattle.cancel_synthesis.specs.Laws.{pointers_told, PointersEnd, CancelsLaw}
 
 -- a listing of everything, and a listing of a listing
-listing_all : (ps : List Pointer) → listing (λ i. true) ps ≡ ps
+pub listing_all : (ps : List Pointer) → listing (λ i. true) ps ≡ ps
 listing_all [] = refl
 listing_all (p ∷ ps) = ap (λ qs. p ∷ qs) (listing_all ps)
 
-listing_twice : (f g : ℕ → Bool) (ps : List Pointer) → listing g (listing f ps) ≡ listing (λ i. f i && g i) ps
+pub listing_twice : (f g : ℕ → Bool) (ps : List Pointer) → listing g (listing f ps) ≡ listing (λ i. f i && g i) ps
 listing_twice f g [] = refl
 listing_twice f g (p ∷ ps) = by_test (f p.id) (listing_twice f g ps)
   where
@@ -114,7 +114,7 @@ some_at i (p ∷ ps) all h = by_test (p.id == i) refl h (some_at i ps all)
     by_test false e h r = r h
 
 -- a list without the pointer at the place of an id
-less_at : (i : ℕ) (ps : List Pointer) → without (slice_get ps (index_in i ps)) ps ≡ filter (λ q. not (q.id == i)) ps
+pub less_at : (i : ℕ) (ps : List Pointer) → without (slice_get ps (index_in i ps)) ps ≡ filter (λ q. not (q.id == i)) ps
 less_at i ps =
     elim (cases_Bool (has_id i ps)) [
       | inl t ↦ some_at i ps ps t

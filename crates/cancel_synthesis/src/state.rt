@@ -2,7 +2,8 @@
 ghost use Rattle.std.specs.Prelude.{◌≡◌, ◌+◌, ◌≤◌, ◌<◌, ℕ, [], IfOk, OnOk, OnErr, IsOk, vec_len, vec_capacity};
 ghost use Rattle.bits32.specs.Set.{is_in};
 ghost use Rattle.input_types.specs.declared.message.Body.TheVariants.{Motion as MotionBody};
-ghost use Rattle.cancel_synthesis.specs.Tracked.{Tracked, Tracks, pointers_of, pointers_in, pointers_then, keys_after, with_spare};
+ghost use Rattle.cancel_synthesis.specs.Tracked.{Tracks, pointers_of, pointers_in, pointers_then};
+ghost use Rattle.cancel_synthesis.specs.Tracked.{keys_after, with_spare};
 ghost use Rattle.cancel_synthesis.specs.Ends.{pointers_cancelled, keys_cancelled, of_device, all_cancelled};
 
 use crate::keys::{cancel_each_key, device_keys_cancelled, forget, keep, keys_cancelled};
@@ -76,10 +77,11 @@ impl InputState {
         Ok(())
     }
 
-    /// What the window is told where pointers of a device with these ids are taken from it: nothing, where it has none of them; one
-    /// Cancel, where it keeps none; and else a cancelled up for each.
+    /// What the window is told where pointers of a device with these ids are taken from it: nothing, where it has
+    /// none of them; one Cancel, where it keeps none; and else a cancelled up for each.
     pub fn cancel_pointers(&self, device: DeviceId, lost: Bits32) -> Result<Vec<Motion>, AllocError>
-        ensures { IfOk result (λ v. v.items ≡ pointers_cancelled device (λ i. is_in i lost) (pointers_of self.now device)) }
+        ensures { IfOk result (λ v.
+            v.items ≡ pointers_cancelled device (λ i. is_in i lost) (pointers_of self.now device)) }
     {
         let mut told = Vec::new(*self.keys.allocator());
         cancel(&mut told, device, pointers_at(&self.pointers, device), lost)?;
@@ -120,7 +122,8 @@ fn pointers_at(pointers: &[Pointers; 8], device: DeviceId) -> &Pointers
 
 /// Sets the pointers of the device of a motion.
 fn set_pointers(pointers: &mut [Pointers; 8], motion: &Motion)
-    ensures { (d : ℕ) → pointers_in pointers.new d ≡ pointers_then (MotionBody motion.now) d (pointers_in pointers.old d) }
+    ensures { (d : ℕ) →
+        pointers_in pointers.new d ≡ pointers_then (MotionBody motion.now) d (pointers_in pointers.old d) }
 {
     let place = usize::from(motion.device.get()) - 1;
     pointers[place] = pointers_after(motion, &pointers[place]);

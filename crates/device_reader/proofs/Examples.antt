@@ -1,5 +1,5 @@
--- Worked events of a touch device of ten slots, on a display of 1080 by 2400 with as many raw positions, and of a device with keys, computed.
--- The newest stands first.
+-- Worked events of a touch device of ten slots, on a display of 1080 by 2400 with as many raw positions, and of a
+-- device with keys, computed. The newest stands first.
 use Rattle.std.specs.Prelude.{◌≡◌, ℕ, ℤ, pos, negsuc, Bool, true, false, List, [], ◌∷◌, ◌++◌, map, refl}
 use Rattle.raw_events.specs.declared.event.RawEvent.{RawEvent}
 use Rattle.input_types.specs.declared.axis.Rotation.TheVariants.{R0}
@@ -72,7 +72,8 @@ pub another_finger : device_args phone (report ∷ tracking (pos 46) ∷ report 
 unfolding assigned least_free
 another_finger = refl
 
--- a drop in mid-packet: what comes up to the next SYN_REPORT is void, another drop too, and nothing is known of the fingers after it
+-- a drop in mid-packet: what comes up to the next SYN_REPORT is void, another drop too, and nothing is known of the
+-- fingers after it
 pub drop_in_a_packet : device_args phone (report ∷ x 130 ∷ report ∷ drop ∷ tracking (pos 47) ∷ drop ∷ x 120 ∷ slot 0 ∷ two) ≡ Reset 1 ∷ two_down
 unfolding assigned least_free
 drop_in_a_packet = refl
@@ -98,7 +99,8 @@ flagged action index ps = MotionArgs (record { device = 1; action = action; inde
 abbrev first : List Pointer
 first = finger 0 100 200 ∷ []
 
--- The second of two fingers becomes a palm, and what it does then says nothing of it; then the first one does, and both lift.
+-- The second of two fingers becomes a palm, and what it does then says nothing of it; then the first one does, and both
+-- lift.
 abbrev second_palm : List RawEvent
 second_palm = report ∷ tool 2 ∷ two
 
@@ -121,7 +123,8 @@ pub palm_does_not_come_back : device_args phone (report ∷ x 310 ∷ tool 0 ∷
 unfolding assigned least_free
 palm_does_not_come_back = refl
 
--- a new tracking id in its slot is another contact: a palm at once where the tool type stays, and a finger where it does not
+-- a new tracking id in its slot is another contact: a palm at once where the tool type stays, and a finger where it
+-- does not
 pub palm_again : device_args phone (report ∷ tracking (pos 47) ∷ second_palm) ≡ says Move 0 first ∷ second_palm_args
 unfolding assigned least_free
 palm_again = refl
@@ -151,7 +154,8 @@ drop_of_a_palm = refl
 
 -- ---- all devices
 
--- moments never fall: what the clock gives later, but with an earlier moment, counts as of the latest moment that gave args
+-- moments never fall: what the clock gives later, but with an earlier moment, counts as of the latest moment that gave
+-- args
 abbrev at : ℕ → RawEvent → RawEvent
 at us e = record { device = e.device; moment = us; kind = e.kind; code = e.code; value = e.value }
 

@@ -208,8 +208,8 @@ press_alone v h =
     let one : v ≡ pos 1 = exact_signed v (pos 1) ((Equal-is (int_cmp v (pos 1))).0 h) in
     ap (λ w. int_eq w (pos 0)) one
 
--- a key after an event that changes nothing: t says that it is the event's key, p that this is a press and r a release, d that the event's
--- key was down
+-- a key after an event that changes nothing: t says that it is the event's key, p that this is a press and r a release,
+-- d that the event's key was down
 same_key : (t p r d now : Bool) → (t ≡ true → now ≡ d) → ((p && not d) || (r && d)) ≡ false → now ≡ (if t && (p || r) then p else now)
 same_key false p r d now is h = refl
 same_key true true r true now is h = is refl

@@ -48,7 +48,8 @@ pointers_at plan past = placed_all plan.cook (assigned (named_after (packets pla
 abbrev pub cancelled_at : TouchPlan → List RawEvent → RawEvent → ℕ → Bool
 cancelled_at plan past e i = is_cancelled (named_after (packets plan.slots past)) (contacts_at plan.slots (e ∷ past)) i
 
--- what an event of a touch device adds after events without a drop: the motions from the packet before to the one that it ends, in their order
+-- what an event of a touch device adds after events without a drop: the motions from the packet before to the one that
+-- it ends, in their order
 abbrev pub touch_args : TouchPlan → List RawEvent → RawEvent → List Args
 touch_args plan past e =
     if is_report e then as_args (gesture plan.device (λ i. cancelled_at plan past e i) (pointers_at plan past) (pointers_at plan (e ∷ past))) else []
@@ -58,7 +59,8 @@ abbrev pub key_list : Option KeyArgs → List Args
 key_list None = []
 key_list (Some k) = Key k ∷ []
 
--- what an event of a keys device adds after events without a drop: the key that it moves, at once and not when its packet ends
+-- what an event of a keys device adds after events without a drop: the key that it moves, at once and not when its
+-- packet ends
 abbrev pub key_args : KeysPlan → List RawEvent → RawEvent → List Args
 key_args plan past e = if is_key e then key_list (key_of plan.device plan.layout (key_events past) (key_event e)) else []
 
@@ -67,7 +69,8 @@ abbrev pub given : DevicePlan → List RawEvent → RawEvent → List Args
 given (Touches plan) past e = touch_args plan past e
 given (Keys plan) past e = key_args plan past e
 
--- What an event adds: nothing where it is void, a Reset where it is a drop, and else what it gives after the events since the last drop.
+-- What an event adds: nothing where it is void, a Reset where it is a drop, and else what it gives after the events
+-- since the last drop.
 abbrev pub args_of : DevicePlan → List RawEvent → RawEvent → List Args
 args_of plan past e =
     if is_void past then []

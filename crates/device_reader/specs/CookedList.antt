@@ -40,7 +40,8 @@ pub record AllStandFor (plans : List DevicePlan) (past : List RawEvent) (readers
   pub each : (i : ℕ) (plan : DevicePlan) (r : Reading) → slice_get plans i ≡ Some plan → slice_get readers i ≡ Some r
       → StandsFor plan (of_device (i + 1) past) r
 
--- the readers of a recording are where they have to be: each after its device's events, and the moment is that of the newest args
+-- the readers of a recording are where they have to be: each after its device's events, and the moment is that of the
+-- newest args
 pub record ReadersStandFor (plans : List DevicePlan) (past : List RawEvent) (all : ReadersState) : Type 0 where
   pub readers_stand : AllStandFor plans past all.readers
   pub latest_is : all.latest ≡ latest (cooked plans past)

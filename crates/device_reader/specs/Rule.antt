@@ -18,13 +18,14 @@ only ps = record { ids = ids_of ps; keys = λ _. false }
 abbrev pub only_keys : List KeyEvent → DeviceState
 only_keys ks = record { ids = []; keys = λ scan. is_down scan ks }
 
--- what is down on a device after some events without a drop: the pointers of its last packet, or its keys whose last press has no release
--- behind it
+-- what is down on a device after some events without a drop: the pointers of its last packet, or its keys whose last
+-- press has no release behind it
 abbrev pub down_at : DevicePlan → List RawEvent → DeviceState
 down_at (Touches plan) past = only (pointers_at plan past)
 down_at (Keys plan) past = only_keys (key_events past)
 
--- What a device gives keeps the rule for devices, and what is down by that rule is what is down after its events since the last drop.
+-- What a device gives keeps the rule for devices, and what is down by that rule is what is down after its events since
+-- the last drop.
 abbrev pub KeepsRule : DevicePlan → List RawEvent → Type 0
 KeepsRule plan past = device_state (number_of plan) (device_args plan past) ≡ Some (down_at plan (since_drop past))
 

@@ -2,7 +2,8 @@
 ghost use Rattle.std.specs.Prelude.{◌≡◌, ℕ, ◌≤◌, List, [], ◌∷◌, ◌++◌, IfOk, OnOk, OnErr};
 ghost use Rattle.raw_events.specs.declared.event.RawEvent.{RawEvent as Event};
 ghost use Rattle.key_mapper.specs.Held.{Held};
-ghost use Rattle.device_reader.specs.Cooked.{DevicePlan, HeldStandsFor, Keys as KeysDevice, KeysPlan, KindStandsFor, StandsFor, Touches, args_of, given, key_args};
+ghost use Rattle.device_reader.specs.Cooked.{DevicePlan, HeldStandsFor, Keys as KeysDevice, KeysPlan, KindStandsFor};
+ghost use Rattle.device_reader.specs.Cooked.{StandsFor, Touches, args_of, given, key_args};
 ghost use Rattle.device_reader.specs.Rule.{KeepsRule};
 
 use crate::packets::is_drop;
@@ -44,13 +45,14 @@ impl Model for DeviceReader {
 impl DeviceReader {
     /// The reader of a touch device with so many slots, whose positions become pixels by `cook`.
     ///
-    /// Whatever the device sends, all that it gives keeps the rule for devices, and the ids that are down by that rule are those of
-    /// its last packet since the last SYN_DROPPED.
+    /// Whatever the device sends, all that it gives keeps the rule for devices, and the ids that are down by that rule
+    /// are those of its last packet since the last SYN_DROPPED.
     pub fn touch(alloc: Global, device: DeviceId, slots: u8, cook: Cook) -> DeviceReader
         requires { (1 ≤ slots) × (slots ≤ 16) }
         ensures state { StandsFor (Touches (record { device = device; slots = slots; cook = cook })) [] result }
         ensures device { result.device ≡ device }
-        ensures rule { (past : List Event) → KeepsRule (Touches (record { device = device; slots = slots; cook = cook })) past }
+        ensures rule { (past : List Event)
+            → KeepsRule (Touches (record { device = device; slots = slots; cook = cook })) past }
     {
         DeviceReader {
             alloc,
@@ -62,9 +64,9 @@ impl DeviceReader {
 
     /// The reader of a device with keys, whose layout says which key code each scan code has.
     ///
-    /// Whatever the device sends, all that it gives keeps the rule for devices: a key goes down only when it is up, and up only when
-    /// it is down. The keys that are down by that rule are those whose last EV_KEY of value 0 or 1 since the last SYN_DROPPED has
-    /// value 1.
+    /// Whatever the device sends, all that it gives keeps the rule for devices: a key goes down only when it is up, and
+    /// up only when it is down. The keys that are down by that rule are those whose last EV_KEY of value 0 or 1 since
+    /// the last SYN_DROPPED has value 1.
     pub fn keys(alloc: Global, device: DeviceId, layout: Layout) -> DeviceReader
         ensures state { StandsFor (KeysDevice (record { device = device; layout = layout })) [] result }
         ensures device { result.device ≡ device }
@@ -80,14 +82,17 @@ impl DeviceReader {
 
     /// Takes the next event of the device, and answers what it adds for the dispatcher.
     ///
-    /// A packet of a touch device ends at a SYN_REPORT and gives its motions. A key of a device with keys is given at its own event, and
-    /// waits for no SYN_REPORT. At a SYN_DROPPED the device begins anew, which is a `Reset`; the events after it, up to and including the
-    /// next SYN_REPORT, are passed over, as the kernel's document on event codes asks. Keys of a touch device, touch of a device with
-    /// keys and other events are passed over too. After want of memory the reader is as before.
+    /// A packet of a touch device ends at a SYN_REPORT and gives its motions. A key of a device with keys is given at
+    /// its own event, and waits for no SYN_REPORT. At a SYN_DROPPED the device begins anew, which is a `Reset`; the
+    /// events after it, up to and including the next SYN_REPORT, are passed over, as the kernel's document on event
+    /// codes asks. Keys of a touch device, touch of a device with keys and other events are passed over too. After want
+    /// of memory the reader is as before.
     pub fn take(&mut self, event: RawEvent) -> Result<Vec<Args>, AllocError>
         requires { event.device ≡ self.old.device }
-        ensures ok { (plan : DevicePlan) (past : List Event) → StandsFor plan past self.old → IfOk result (λ v. v.items ≡ args_of plan past event) }
-        ensures after { (plan : DevicePlan) (past : List Event) → StandsFor plan past self.old → OnOk result (StandsFor plan (event ∷ past) self.new) }
+        ensures ok { (plan : DevicePlan) (past : List Event) → StandsFor plan past self.old → IfOk result
+            (λ v. v.items ≡ args_of plan past event) }
+        ensures after { (plan : DevicePlan) (past : List Event) → StandsFor plan past self.old
+            → OnOk result (StandsFor plan (event ∷ past) self.new) }
         ensures device { self.new.device ≡ self.old.device }
         ensures err { OnErr result (self.new ≡ self.old) }
     {
@@ -96,15 +101,17 @@ impl DeviceReader {
         Ok(args)
     }
 
-    /// Takes the next event of the device, and adds what `take` answers to `args`. After want of memory the reader and `args` are as
-    /// before.
+    /// Takes the next event of the device, and adds what `take` answers to `args`. After want of memory the reader and
+    /// `args` are as before.
     ///
-    /// Only the end of a packet, a key and a SYN_DROPPED ask for memory, and for none where `args` has room for the motions of a packet,
-    /// which are at most `Gestures::MOST`, but for that of a key that goes down.
+    /// Only the end of a packet, a key and a SYN_DROPPED ask for memory, and for none where `args` has room for the
+    /// motions of a packet, which are at most `Gestures::MOST`, but for that of a key that goes down.
     pub fn take_into(&mut self, event: RawEvent, args: &mut Vec<Args>) -> Result<(), AllocError>
         requires { event.device ≡ self.old.device }
-        ensures ok { (plan : DevicePlan) (past : List Event) → StandsFor plan past self.old → OnOk result (args.new.items ≡ args.old.items ++ args_of plan past event) }
-        ensures after { (plan : DevicePlan) (past : List Event) → StandsFor plan past self.old → OnOk result (StandsFor plan (event ∷ past) self.new) }
+        ensures ok { (plan : DevicePlan) (past : List Event) → StandsFor plan past self.old
+            → OnOk result (args.new.items ≡ args.old.items ++ args_of plan past event) }
+        ensures after { (plan : DevicePlan) (past : List Event) → StandsFor plan past self.old
+            → OnOk result (StandsFor plan (event ∷ past) self.new) }
         ensures device { self.new.device ≡ self.old.device }
         ensures err { OnErr result (self.new ≡ self.old) }
         ensures given { OnErr result (args.new.items ≡ args.old.items) }
@@ -125,8 +132,10 @@ impl DeviceReader {
 
 /// Takes an event that is neither void nor a drop, and adds what it gives.
 fn take_given(kind: &mut Kind, event: RawEvent, args: &mut Vec<Args>) -> Result<(), AllocError>
-    ensures ok { (plan : DevicePlan) (past : List Event) → KindStandsFor plan past kind.old → OnOk result (args.new.items ≡ args.old.items ++ given plan past event) }
-    ensures after { (plan : DevicePlan) (past : List Event) → KindStandsFor plan past kind.old → OnOk result (KindStandsFor plan (event ∷ past) kind.new) }
+    ensures ok { (plan : DevicePlan) (past : List Event) → KindStandsFor plan past kind.old
+        → OnOk result (args.new.items ≡ args.old.items ++ given plan past event) }
+    ensures after { (plan : DevicePlan) (past : List Event) → KindStandsFor plan past kind.old
+        → OnOk result (KindStandsFor plan (event ∷ past) kind.new) }
     ensures err { OnErr result (kind.new ≡ kind.old) }
     ensures given { OnErr result (args.new.items ≡ args.old.items) }
 {
@@ -138,8 +147,10 @@ fn take_given(kind: &mut Kind, event: RawEvent, args: &mut Vec<Args>) -> Result<
 
 /// Takes an event of a device with keys, and adds the key that it moves.
 fn take_key(keys: &mut Keys, event: RawEvent, args: &mut Vec<Args>) -> Result<(), AllocError>
-    ensures ok { (plan : KeysPlan) (past : List Event) → HeldStandsFor plan past keys.old → OnOk result (args.new.items ≡ args.old.items ++ key_args plan past event) }
-    ensures after { (plan : KeysPlan) (past : List Event) → HeldStandsFor plan past keys.old → OnOk result (HeldStandsFor plan (event ∷ past) keys.new) }
+    ensures ok { (plan : KeysPlan) (past : List Event) → HeldStandsFor plan past keys.old
+        → OnOk result (args.new.items ≡ args.old.items ++ key_args plan past event) }
+    ensures after { (plan : KeysPlan) (past : List Event) → HeldStandsFor plan past keys.old
+        → OnOk result (HeldStandsFor plan (event ∷ past) keys.new) }
     ensures err { OnErr result (keys.new ≡ keys.old) }
     ensures given { OnErr result (args.new.items ≡ args.old.items) }
 {
@@ -159,7 +170,8 @@ fn take_key(keys: &mut Keys, event: RawEvent, args: &mut Vec<Args>) -> Result<()
 
 /// Forgets all that is down.
 fn reset(kind: &mut Kind)
-    ensures { (plan : DevicePlan) (past : List Event) → KindStandsFor plan past kind.old → KindStandsFor plan [] kind.new }
+    ensures { (plan : DevicePlan) (past : List Event) → KindStandsFor plan past kind.old
+        → KindStandsFor plan [] kind.new }
 {
     match kind {
         Kind::Touch(touch) => touch.reset(),

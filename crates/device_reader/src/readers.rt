@@ -1,5 +1,6 @@
 //! The readers of all devices of a recording.
-ghost use Rattle.std.specs.Prelude.{◌≡◌, ℕ, max, nat_eq, length, List, [], ◌∷◌, ◌++◌, map, reverse, IfOk, OnOk, OnErr, if◌then◌else◌};
+ghost use Rattle.std.specs.Prelude.{◌≡◌, ℕ, max, nat_eq, length, List, [], ◌∷◌, ◌++◌, map, reverse, IfOk, OnOk, OnErr};
+ghost use Rattle.std.specs.Prelude.{if◌then◌else◌};
 ghost use Rattle.raw_events.specs.declared.event.RawEvent.{RawEvent as Event};
 ghost use Rattle.device_reader.specs.All.{AreNumbered};
 ghost use Rattle.device_reader.specs.Cooked.{DevicePlan};
@@ -33,8 +34,10 @@ impl Readers {
     /// The readers of devices that have had no event, in the order of their numbers, which begin at 1.
     pub fn new(readers: Vec<DeviceReader>) -> Readers
         requires { AreNumbered readers.items }
-        ensures state { (plans : List DevicePlan) → AllStandFor plans [] readers.items → ReadersStandFor plans [] result }
-        ensures rule { (plans : List DevicePlan) (past : List Event) → AllStandFor plans [] readers.items → AllKeepRule plans past }
+        ensures state { (plans : List DevicePlan) → AllStandFor plans [] readers.items
+            → ReadersStandFor plans [] result }
+        ensures rule { (plans : List DevicePlan) (past : List Event) → AllStandFor plans [] readers.items
+            → AllKeepRule plans past }
     {
         Readers {
             readers,
@@ -42,16 +45,21 @@ impl Readers {
         }
     }
 
-    /// Takes the next event of the recording, adds what it gives to `args`, and answers the moment of that. After want of memory the readers
-    /// and `args` are as before.
+    /// Takes the next event of the recording, adds what it gives to `args`, and answers the moment of that. After want
+    /// of memory the readers and `args` are as before.
     ///
-    /// The moment is the greatest one of the events that gave args up to this one, so moments never fall. An event of a device without a
-    /// reader adds nothing.
+    /// The moment is the greatest one of the events that gave args up to this one, so moments never fall. An event of a
+    /// device without a reader adds nothing.
     pub fn take(&mut self, event: RawEvent, args: &mut Vec<Args>) -> Result<Moment, AllocError>
-        ensures ok { (plans : List DevicePlan) (past : List Event) → ReadersStandFor plans past self.old → OnOk result (args.new.items ≡ args.old.items ++ added plans past event) }
-        ensures moment { (plans : List DevicePlan) (past : List Event) → ReadersStandFor plans past self.old → IfOk result (λ m. m ≡ latest_of (cooked plans (event ∷ past))) }
-        ensures cooked { (plans : List DevicePlan) (past : List Event) → ReadersStandFor plans past self.old → IfOk result (λ m. cooked plans (event ∷ past) ≡ reverse (map (λ a. (m, a)) (added plans past event)) ++ cooked plans past) }
-        ensures after { (plans : List DevicePlan) (past : List Event) → ReadersStandFor plans past self.old → OnOk result (ReadersStandFor plans (event ∷ past) self.new) }
+        ensures ok { (plans : List DevicePlan) (past : List Event) → ReadersStandFor plans past self.old
+            → OnOk result (args.new.items ≡ args.old.items ++ added plans past event) }
+        ensures moment { (plans : List DevicePlan) (past : List Event) → ReadersStandFor plans past self.old
+            → IfOk result (λ m. m ≡ latest_of (cooked plans (event ∷ past))) }
+        ensures cooked { (plans : List DevicePlan) (past : List Event) → ReadersStandFor plans past self.old
+            → IfOk result (λ m. cooked plans (event ∷ past) ≡ reverse (map (λ a. (m, a)) (added plans past event))
+            ++ cooked plans past) }
+        ensures after { (plans : List DevicePlan) (past : List Event) → ReadersStandFor plans past self.old
+            → OnOk result (ReadersStandFor plans (event ∷ past) self.new) }
         ensures err { OnErr result (self.new ≡ self.old) }
         ensures given { OnErr result (args.new.items ≡ args.old.items) }
     {
@@ -70,8 +78,10 @@ fn take_any(
     args: &mut Vec<Args>,
 ) -> Result<(), AllocError>
     requires { AreNumbered readers.old }
-    ensures ok { (plans : List DevicePlan) (past : List Event) → AllStandFor plans past readers.old → OnOk result (args.new.items ≡ args.old.items ++ added plans past event) }
-    ensures after { (plans : List DevicePlan) (past : List Event) → AllStandFor plans past readers.old → OnOk result (AllStandFor plans (event ∷ past) readers.new) }
+    ensures ok { (plans : List DevicePlan) (past : List Event) → AllStandFor plans past readers.old
+        → OnOk result (args.new.items ≡ args.old.items ++ added plans past event) }
+    ensures after { (plans : List DevicePlan) (past : List Event) → AllStandFor plans past readers.old
+        → OnOk result (AllStandFor plans (event ∷ past) readers.new) }
     ensures numbered { AreNumbered readers.new }
     ensures err { OnErr result (readers.new ≡ readers.old) }
     ensures given { OnErr result (args.new.items ≡ args.old.items) }

@@ -10,7 +10,8 @@ use slot_accumulator::{Slots, is_report};
 use std::alloc::AllocError;
 use touch_mapper::{Cook, Gestures};
 
-/// The slots of a touch device, the contacts of its last packet with their pointer ids, and its gestures. It takes no memory.
+/// The slots of a touch device, the contacts of its last packet with their pointer ids, and its gestures. It takes no
+/// memory.
 #[derive(Clone, Copy)]
 pub(crate) struct Touch {
     slots: Slots,
@@ -33,8 +34,10 @@ impl Touch {
 
     /// Takes the next event, and adds the motions of the packet that it ends.
     pub fn take(&mut self, event: RawEvent, args: &mut Vec<Args>) -> Result<(), AllocError>
-        ensures ok { (plan : TouchPlan) (past : List Event) → TouchStandsFor plan past self.old → OnOk result (args.new.items ≡ args.old.items ++ touch_args plan past event) }
-        ensures after { (plan : TouchPlan) (past : List Event) → TouchStandsFor plan past self.old → OnOk result (TouchStandsFor plan (event ∷ past) self.new) }
+        ensures ok { (plan : TouchPlan) (past : List Event) → TouchStandsFor plan past self.old
+            → OnOk result (args.new.items ≡ args.old.items ++ touch_args plan past event) }
+        ensures after { (plan : TouchPlan) (past : List Event) → TouchStandsFor plan past self.old
+            → OnOk result (TouchStandsFor plan (event ∷ past) self.new) }
         ensures err { OnErr result (self.new ≡ self.old) }
         ensures given { OnErr result (args.new.items ≡ args.old.items) }
     {
@@ -51,7 +54,8 @@ impl Touch {
 
     /// Begins anew, as after `new`.
     pub fn reset(&mut self)
-        ensures { (plan : TouchPlan) (past : List Event) → TouchStandsFor plan past self.old → TouchStandsFor plan [] self.new }
+        ensures { (plan : TouchPlan) (past : List Event) → TouchStandsFor plan past self.old
+            → TouchStandsFor plan [] self.new }
     {
         self.slots.reset();
         self.ids.reset();

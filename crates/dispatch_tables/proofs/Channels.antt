@@ -1,17 +1,17 @@
 -- What is kept of the channels after a legal history.
-use Rattle.std.proofs.Common.{◌≡◌, ℕ, suc, ◌+◌, ◌-◌, ◌≤◌, true, false, List, [], ◌∷◌, length, reverse, refl, sym, ap, ◌∙◌, subst, arith}
+use Rattle.std.proofs.Common.{◌≡◌, ℕ, ◌-◌, ◌≤◌, List, [], ◌∷◌, length, reverse, refl, sym, subst, arith}
 use Rattle.std.proofs.lemmas.Bool.{true≢false}
 use Rattle.dispatch_calls.specs.declared.call.Call.{Call}
 use Rattle.dispatch_calls.specs.declared.reply.Reply.{Reply}
 use Rattle.dispatch_history.specs.History.{clock, received}
 use Rattle.dispatch_history.specs.Effect.{Effect, past_of, stream, told_on}
-use Rattle.dispatch_history.specs.Effects.{effects, step, said_at}
+use Rattle.dispatch_history.specs.Effects.{step, said_at}
 use Rattle.dispatch_history.specs.Known.{IsNumbered}
 use Rattle.dispatch_history.proofs.StreamLaws.{stream_step}
 use Rattle.dispatch_history.proofs.WholeLaws.{numbers_law}
 use Rattle.dispatch_tables.specs.Lawful.{Lawful}
-use Rattle.dispatch_tables.specs.Channel.{NumberedFrom, part_of}
-use Rattle.dispatch_tables.specs.Laws.{ChannelStep}
+use Rattle.dispatch_tables.specs.Channel.{NumberedFrom, part_of, with_part, channel_at, enqueued_all}
+use Rattle.input_channel.specs.State.{published_at}
 use Rattle.dispatch_tables.proofs.Lawfuls.{lawful_last, lawful_always}
 use Rattle.dispatch_tables.proofs.Numbering.{numbered-reverse}
 use Rattle.dispatch_tables.proofs.Parts.{limit_part, received_part, finished_part, can_be}
@@ -46,7 +46,7 @@ sound ds es c l =
         (λ call answer xs k h. stepped_sound xs (step ds call answer xs) c (part_of call answer c) (said_at ds call answer xs c) (stepped ds call answer xs c k h))
         es l
 
-pub channel_step : ChannelStep
+pub channel_step : (ds : List ℕ) (call : Call) (answer : Reply) (es : List Effect) (c gone spare : ℕ) → Lawful ds (step ds call answer es) → gone ≤ received (past_of es) c → let told = said_at ds call answer es c in let now = clock (past_of (step ds call answer es)) in channel_at (step ds call answer es) c gone (spare - length told) ≡ published_at now (enqueued_all told now (with_part (part_of call answer c) (channel_at es c gone spare)))
 channel_step ds call answer es c gone spare l le =
     stepped_channel es (step ds call answer es) c (part_of call answer c) (said_at ds call answer es c) gone spare
     (stepped ds call answer es c l (sound ds es c (lawful_last ds call answer es l).1))

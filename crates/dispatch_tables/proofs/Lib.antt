@@ -4,3 +4,10 @@ pub mod Parts
 pub mod Stepping
 pub mod Lawfuls
 pub mod Channels
+pub mod Kept
+pub mod Unopened
+pub mod Answering
+pub mod Masking
+pub mod Ables
+pub mod Duties
+pub mod Keeping

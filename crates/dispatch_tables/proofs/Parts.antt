@@ -1,5 +1,5 @@
 -- What the part of a channel in a step changes, and which parts there can be.
-use Rattle.std.proofs.Common.{◌≡◌, ℕ, suc, ◌+◌, ◌≤◌, ◌<◌, ◌==◌, nat_le, nat_lt, Bool, true, false, not, ◌&&◌, cond, List, [], ◌∷◌, length, Option, Some, None, refl, sym, ap, ◌∙◌, subst, inl, inr, arith}
+use Rattle.std.proofs.Common.{◌≡◌, ℕ, suc, ◌+◌, ◌≤◌, ◌<◌, ◌==◌, nat_le, nat_lt, Bool, true, false, not, ◌&&◌, cond, List, ◌∷◌, length, Option, refl, sym, subst, inl, inr, arith}
 use Rattle.std.proofs.lemmas.Bool.{cases_eq, eq-eqb, ne_eqb, and_parts, ltb-true, leb-true, not-true}
 use Rattle.input_types.specs.declared.message.Message.{Message}
 use Rattle.input_channel.specs.declared.unfinished.Unfinished.{Unfinished}
@@ -9,8 +9,8 @@ use Rattle.dispatch_calls.specs.declared.call.Call.{Call}
 use Rattle.dispatch_calls.specs.declared.call.Call.TheVariants.{Open, Receive, Finish}
 use Rattle.dispatch_calls.specs.declared.reply.Reply.{Reply}
 use Rattle.dispatch_calls.specs.declared.reply.Reply.TheVariants.{Opened, Done, Got, Gone, Empty, UnknownSeq}
-use Rattle.dispatch_history.specs.History.{History, live, limit_after, received, received_after, finished, finished_after}
-use Rattle.dispatch_history.specs.Effect.{Effect, past_of, stream}
+use Rattle.dispatch_history.specs.History.{live, limit_after, received, received_after, finished_after}
+use Rattle.dispatch_history.specs.Effect.{Effect, past_of}
 use Rattle.dispatch_history.specs.Delivery.{published, is_finished}
 use Rattle.dispatch_history.specs.Reply.{reply_to, receive_reply, finish_reply, got_reply}
 use Rattle.dispatch_tables.specs.Channel.{Part, Opens, Receives, Finishes, Untouched, part_of, with_part}

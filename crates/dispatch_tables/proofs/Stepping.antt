@@ -1,27 +1,22 @@
 -- A channel after one step more.
-use Rattle.std.proofs.Common.{◌≡◌, ℕ, suc, ◌+◌, ◌-◌, ◌≤◌, ◌<◌, ◌==◌, nat_le, min, Bool, true, false, ◌||◌, cond, List, [], ◌∷◌, ◌++◌, length, reverse, take, drop, Option, refl, sym, ap, ap₂, ◌∙◌, subst, inl, inr, arith, length-append, length-drop}
+use Rattle.std.proofs.Common.{◌≡◌, ℕ, ◌+◌, ◌-◌, ◌≤◌, ◌<◌, ◌==◌, nat_le, min, Bool, true, false, cond, List, ◌++◌, length, reverse, take, drop, refl, sym, ap, ap₂, ◌∙◌, subst, inl, inr, arith, length-append, length-drop}
 use Rattle.std.proofs.lemmas.List.{drop-append-le, length-reverse}
-use Rattle.std.proofs.lemmas.Bool.{or_cases, eqb-true, false_from_ne_true, cond-true}
+use Rattle.std.proofs.lemmas.Bool.{or_cases, eqb-true, false_from_ne_true}
 use Rattle.std.proofs.Math.Dec.{leb}
-use Rattle.std.proofs.lemmas.Bool.{le-leb, lt-ltb}
+use Rattle.std.proofs.lemmas.Bool.{le-leb}
 use Rattle.std.proofs.lemmas.Bool.Decides.{nat_tests}
 use Rattle.std.specs.List.{list_any}
-use Rattle.input_types.specs.declared.message.Args.{Args}
 use Rattle.input_types.specs.declared.message.Body.{Body}
 use Rattle.input_types.specs.declared.message.Message.{Message}
-use Rattle.input_channel.specs.declared.unfinished.Unfinished.{Unfinished}
-use Rattle.input_channel.specs.Order.{delivered, without}
-use Rattle.input_channel.specs.State.{ChannelState, sent, publishable, published_at}
-use Rattle.routing_rules.specs.Marks.{Mark}
-use Rattle.dispatch_calls.specs.declared.call.Call.{Call}
-use Rattle.dispatch_calls.specs.declared.reply.Reply.{Reply}
-use Rattle.dispatch_history.specs.History.{clock, limit_of, received, finished, limit_after, received_after, finished_after}
-use Rattle.dispatch_history.specs.Effect.{Effect, Told, past_of, stream, told_on}
-use Rattle.dispatch_history.specs.Delivery.{published, delivery, is_finished, unfinished}
-use Rattle.dispatch_tables.specs.Channel.{Part, Opens, Receives, Finishes, Untouched, part_of, with_part, channel_at, enqueued_all, NumberedFrom}
+use Rattle.input_channel.specs.Order.{delivered}
+use Rattle.input_channel.specs.State.{ChannelState, published_at}
+use Rattle.dispatch_history.specs.History.{clock, limit_of, received, finished}
+use Rattle.dispatch_history.specs.Effect.{Effect, past_of, stream, told_on}
+use Rattle.dispatch_history.specs.Delivery.{published, delivery, is_finished}
+use Rattle.dispatch_tables.specs.Channel.{Part, Opens, Receives, Finishes, Untouched, with_part, channel_at, enqueued_all, NumberedFrom}
 use Rattle.dispatch_tables.proofs.Numbering.{messages_from, length-messages, length-told_on, reverse_told, enqueued_is}
 use Rattle.dispatch_tables.proofs.Waiting.{waiting, waiting-more, waiting-without}
-use Rattle.dispatch_tables.proofs.Parts.{limit_by, received_by, finished_by, count_by, unfinished_by, by_part, part_fields, limit_part, received_part, finished_part, count_part, CanBe}
+use Rattle.dispatch_tables.proofs.Parts.{limit_by, received_by, finished_by, count_by, unfinished_by, by_part, part_fields, count_part, CanBe}
 
 -- what holds of each channel after a legal history
 pub record Sound (es : List Effect) (c : ℕ) : Type 0 where
@@ -84,7 +79,7 @@ received_few es c (Opens limit) h can = h.received_published
 received_few es c (Finishes seq) h can = h.received_published
 received_few es c Untouched h can = h.received_published
 
-received_more : (p : Part) (n : ℕ) → n ≤ received_by p n
+pub received_more : (p : Part) (n : ℕ) → n ≤ received_by p n
 received_more Receives n = omega arith
 received_more (Opens limit) n = omega arith
 received_more (Finishes seq) n = omega arith

@@ -1,9 +1,10 @@
 -- What is kept of a channel, and what a step makes of it.
-use Rattle.std.specs.Prelude.{◌≡◌, ℕ, suc, ◌+◌, Bool, ◌==◌, List, [], ◌∷◌, drop, length, map, reverse, if◌then◌else◌}
+use Rattle.std.specs.Prelude.{◌≡◌, ℕ, suc, ◌≤◌, Bool, ◌==◌, List, [], ◌∷◌, drop, length, map, reverse, if◌then◌else◌}
 use Rattle.input_types.specs.declared.message.Body.{Body}
 use Rattle.input_types.specs.declared.message.Message.{Message}
-use Rattle.input_channel.specs.State.{ChannelState, enqueued, received_one, finished_with}
+use Rattle.input_channel.specs.State.{ChannelState, sent, enqueued, received_one, finished_with}
 use Rattle.dispatch_calls.specs.declared.call.Call.{Call}
+use Rattle.dispatch_calls.specs.declared.counts.Counts.{Counts}
 use Rattle.dispatch_calls.specs.declared.call.Call.TheVariants.{Open, Receive, Finish}
 use Rattle.dispatch_calls.specs.declared.reply.Reply.{Reply}
 use Rattle.dispatch_calls.specs.declared.reply.Reply.TheVariants.{Opened, Done, Got}
@@ -56,3 +57,13 @@ enqueued_all (b ∷ bs) now s = enqueued_all bs now (enqueued b now s)
 abbrev pub NumberedFrom : ℕ → List Message → Type 0
 NumberedFrom n [] = Unit {0}
 NumberedFrom n (m ∷ ms) = (m.seq ≡ suc n) × NumberedFrom (suc n) ms
+
+-- how far a channel has come, and whether it is live
+abbrev pub counts_of : Bool → ChannelState → Counts
+counts_of is_live s =
+    record { sent = sent s; received = s.received; finished = s.finished; published = s.published; live = is_live }
+
+-- a channel is kept as it is after a history with these effects, and only messages that were received were let go
+pub record Keeps (es : List Effect) (c : ℕ) (s : ChannelState) : Type 0 where
+  pub is : s ≡ channel_at es c s.gone s.spare
+  pub few : s.gone ≤ s.received

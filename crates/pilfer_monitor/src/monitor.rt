@@ -10,12 +10,13 @@ use bits32::Bits32;
 use touch_state::TouchState;
 use window_snapshot::mask_has;
 
-/// The window of a channel, which holds something, takes what it holds from all other windows, and is pilfering from then on. The answer
-/// is what each window held and lost.
+/// The window of a channel, which holds something, takes what it holds from all other windows, and is pilfering from
+/// then on. The answer is what each window held and lost.
 pub fn pilfer(state: &mut TouchState, channel: u32) -> Losses
     requires channel { is_channel channel ≡ true }
     requires holds { any state.old channel ≡ true }
-    ensures state { (place : ℕ) → Changes state.old state.new none (pilfered state.old channel) place (λ w. w == channel) }
+    ensures state { (place : ℕ) →
+        Changes state.old state.new none (pilfered state.old channel) place (λ w. w == channel) }
     ensures losses { (w i : ℕ) → is_in i (set_of result w) ≡ (holds state.old w i && pilfered state.old channel w i) }
 {
     let ids = state.held(channel);
@@ -30,7 +31,8 @@ pub fn pilfer(state: &mut TouchState, channel: u32) -> Losses
 /// Takes these ids from a window, unless it is the spy; the answer is those that it held.
 fn take(state: &mut TouchState, channel: u32, spy: u32, ids: Bits32) -> Bits32
     requires { is_channel channel ≡ true }
-    ensures state { (place : ℕ) → Changes state.old state.new none (λ w i. w == channel && (not (w == spy) && is_in i ids)) place nobody }
+    ensures state { (place : ℕ) →
+        Changes state.old state.new none (λ w i. w == channel && (not (w == spy) && is_in i ids)) place nobody }
     ensures lost { (i : ℕ) → is_in i result ≡ (holds state.old channel i && (not (channel == spy) && is_in i ids)) }
 {
     let holders = state.holders();

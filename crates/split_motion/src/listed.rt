@@ -82,7 +82,8 @@ pub fn about(
     flags: u32,
     pointers: Pointers,
 ) -> Motion
-    ensures { result ≡ record { device = device; action = action; index = index_in id pointers; flags = flags; pointers = pointers } }
+    ensures { result ≡
+        record { device = device; action = action; index = index_in id pointers; flags = flags; pointers = pointers } }
 {
     let index = index_in(&pointers, id);
     Motion {
