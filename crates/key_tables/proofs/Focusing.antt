@@ -1,23 +1,22 @@
 -- What is kept of the focus, step by step.
-use Rattle.std.proofs.Common.{◌≡◌, ◌<◌, ℕ, ◌-◌, min, ◌==◌, ◌&&◌, not, Bool, true, false, cond, List, ◌∷◌, length, slice_index_or, slice_set, Option, Some, None, refl, sym, ap, ap₂, ◌∙◌, subst, inl, inr, arith}
+use Rattle.std.proofs.Common.{◌≡◌, ◌<◌, ℕ, ◌-◌, min, ◌==◌, ◌&&◌, not, Bool, true, false, cond, zero, suc, List, [], ◌∷◌, slice_index_or, slice_set, Option, Some, None, refl, sym, ap, ap₂, ◌∙◌, subst, inl, inr, arith}
 use Rattle.std.specs.Prelude.{bit_and}
 use Rattle.std.specs.Int.{bit_at}
 use Rattle.std.proofs.lemmas.Bool.{cases_eq, eq-eqb, ne_eqb, true≢false}
 use Rattle.std.proofs.lemmas.List.{get_or-set_same, get_or-set_other, length-set}
 use Rattle.std.proofs.lemmas.Nat.Bits.{bit_at_and, bit_at-lt}
 use Rattle.window_snapshot.specs.Mask.{is_channel, mask_has}
+use Rattle.window_snapshot.proofs.Masks.{mask_has-zero}
 use Rattle.window_snapshot.specs.Named.{is_focusable_on}
-use Rattle.focus_resolver.specs.Resolver.{FocusState, focus_if, focus_of, target_of, is_focused, is_at, may_by}
-use Rattle.focus_resolver.specs.Changes.{IsOnlyIn}
+use Rattle.focus_resolver.specs.Resolver.{FocusState, focus_if, focus_of, is_focused, may_by}
 use Rattle.dispatch_calls.specs.declared.call.Call.{Call}
-use Rattle.dispatch_calls.specs.declared.call.Call.TheVariants.{Open, Windows, FocusOn, Notify, Pump, Tick, Receive, Finish, Pilfer, Remove}
+use Rattle.dispatch_calls.specs.declared.call.Call.TheVariants.{Open, Windows, FocusOn, Remove}
 use Rattle.dispatch_calls.specs.declared.reply.Reply.{Reply}
-use Rattle.dispatch_history.specs.History.{History, live, snapshot}
-use Rattle.dispatch_history.specs.Focus.{requested, asked, may_focus, focus, has_focus, key_target, focus_told}
+use Rattle.dispatch_history.specs.History.{History, snapshot}
+use Rattle.dispatch_history.specs.Focus.{requested, asked, may_focus, focus, has_focus, focus_told}
 use Rattle.dispatch_history.specs.Effect.{Effect, past_of}
-use Rattle.dispatch_history.specs.Effects.{step}
-use Rattle.key_tables.specs.Focused.{FocusIs, MasksAre, is_request, leaves_focus, change_told}
-use Rattle.key_tables.specs.Laws.{FocusRead, FocusRequested, FocusShown, FocusLeft, FocusMask, FocusTold}
+use Rattle.key_tables.specs.Focused.{FocusIs, is_request, leaves_focus, change_told}
+use Rattle.key_tables.specs.Laws.{FocusRead, FocusRequested, FocusShown, FocusLeft, FocusMasks, FocusAtFirst, FocusTold}
 
 same_focus : (may will : ℕ → Bool) (o : Option ℕ) → ((c : ℕ) → may c ≡ will c) → focus_if may o ≡ focus_if will o
 same_focus may will None e = refl
@@ -124,12 +123,11 @@ in_both a b c =
     spread true s t = refl
     spread false s t = refl
 
-pub focus_mask : FocusMask
-focus_mask h y c named alive n l =
-    in_both named alive c ∙ turned (is_channel c) (bit_at named (c - 1) == 1) (bit_at alive (c - 1) == 1) (is_focusable_on (snapshot h) y c) n
-    ∙ ap (λ b. b && is_focusable_on (snapshot h) y c) l
+-- a channel that is in both of two masks, of which the first has channels that are so
+pub in_both_so : (named alive c : ℕ) (so : Bool) → mask_has named c ≡ (is_channel c && so) → mask_has (bit_and named alive) c ≡ (mask_has alive c && so)
+in_both_so named alive c so n =
+    in_both named alive c ∙ turned (is_channel c) (bit_at named (c - 1) == 1) (bit_at alive (c - 1) == 1) so n
   where
-    -- each part of the first says that the number is a channel's, and so does the second
     turned : (k s t g : Bool) → (k && s) ≡ (k && g) → ((k && s) && (k && t)) ≡ ((k && t) && g)
     turned true true true g e = e
     turned true true false g e = refl
@@ -137,7 +135,36 @@ focus_mask h y c named alive n l =
     turned true false false g e = refl
     turned false s t g e = refl
 
-told_by_masks : (a b : Bool) → focus_told a b ≡ cond (a && not b) (focus_told true false) (cond (b && not a) (focus_told false true) (focus_told true true))
+-- four masks, one for each display
+pub four_masks : (a b c d : ℕ) (f : ℕ → ℕ → Bool) → ((w : ℕ) → mask_has a w ≡ f 0 w) → ((w : ℕ) → mask_has b w ≡ f 1 w)
+    → ((w : ℕ) → mask_has c w ≡ f 2 w) → ((w : ℕ) → mask_has d w ≡ f 3 w) → (y w : ℕ) → y < 4 → may_by (a ∷ b ∷ c ∷ d ∷ []) y w ≡ f y w
+four_masks a b c d f p q r s zero w lt = p w
+four_masks a b c d f p q r s (suc zero) w lt = q w
+four_masks a b c d f p q r s (suc (suc zero)) w lt = r w
+four_masks a b c d f p q r s (suc (suc (suc zero))) w lt = s w
+four_masks a b c d f p q r s (suc (suc (suc (suc n)))) w lt = absurd (omega (arith, lt))
+
+pub focus_masks : FocusMasks
+focus_masks h masks alive l m y c lt = m y c lt ∙ ap (λ b. b && is_focusable_on (snapshot h) y c) (l c)
+
+pub focus_at_first : FocusAtFirst
+focus_at_first =
+    record {
+      four = refl;
+      requested_are = λ y lt. none y lt;
+      last_is = refl;
+      last_within = omega arith;
+      masks_are = λ y c lt. four_masks 0 0 0 0 (λ z w. false) mask_has-zero mask_has-zero mask_has-zero mask_has-zero y c lt;
+    }
+  where
+    none : (y : ℕ) → y < 4 → ◌≡◌ {A = Option ℕ} (slice_index_or (None ∷ None ∷ None ∷ None ∷ []) y None) None
+    none zero lt = refl
+    none (suc zero) lt = refl
+    none (suc (suc zero)) lt = refl
+    none (suc (suc (suc zero))) lt = refl
+    none (suc (suc (suc (suc n)))) lt = absurd (omega (arith, lt))
+
+told_by_masks : (a b : Bool) → focus_told a b ≡ change_told (cond (a && not b) (Some false) (cond (b && not a) (Some true) None))
 told_by_masks true true = refl
 told_by_masks true false = refl
 told_by_masks false true = refl
@@ -147,4 +174,4 @@ pub focus_told_law : FocusTold
 focus_told_law es fs f g lost gained w is now l k =
     ap₂ focus_told (sym (focused_reads es f is w)) (sym (focused_reads fs g now w))
     ∙ told_by_masks (is_focused (focus_of f) w) (is_focused (focus_of g) w)
-    ∙ ap₂ (λ a b. cond a (focus_told true false) (cond b (focus_told false true) (focus_told true true))) (sym (l w)) (sym (k w))
+    ∙ ap₂ (λ a b. change_told (cond a (Some false) (cond b (Some true) None))) (sym (l w)) (sym (k w))

@@ -2,10 +2,8 @@
 use Rattle.std.proofs.Common.{◌≡◌, ℕ, ◌&&◌, ◌||◌, Bool, true, false, not, cond, List, [], ◌∷◌, filter, Option, Some, None, refl, sym, ap, ap₂, ◌∙◌, subst, inl, inr}
 use Rattle.std.proofs.lemmas.Bool.{cases_Bool, true≢false, and_parts, not-true}
 use Rattle.input_types.specs.declared.key.KeyArgs.{KeyArgs}
-use Rattle.input_types.specs.declared.message.Args.{Args}
 use Rattle.dispatch_calls.specs.declared.call.Call.{Call}
 use Rattle.dispatch_calls.specs.declared.call.Call.TheVariants.{Open, Windows, FocusOn, Notify, Pump, Tick, Receive, Finish, Pilfer, Remove}
-use Rattle.dispatch_calls.specs.declared.reply.Reply.{Reply}
 use Rattle.dispatch_history.specs.History.{History, live}
 use Rattle.dispatch_history.specs.Queue.{inbound, args_of}
 use Rattle.dispatch_history.specs.Effect.{Effect, past_of}
@@ -14,7 +12,6 @@ use Rattle.dispatch_history.specs.Focus.{is_target}
 use Rattle.dispatch_history.specs.Delivery.{able, names, unresponsive}
 use Rattle.dispatch_history.specs.Keys.{goes_down, ends, loses_all, key_given, keys}
 use Rattle.dispatch_history.proofs.AbleLaws.{able_step}
-use Rattle.dispatch_tables.specs.Lawful.{Lawful}
 use Rattle.key_tables.specs.Laws.{KeysOfTarget}
 
 -- nothing is given to a window that does not hear, and nothing is left of no keys

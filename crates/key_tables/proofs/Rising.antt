@@ -1,13 +1,13 @@
 -- The order of keys, and the keys of a window in it.
-use Rattle.std.proofs.Common.{◌≡◌, ℕ, ◌<◌, ◌==◌, ◌&&◌, ◌||◌, ◌⊎◌, nat_lt, Bool, true, false, not, cond, List, [], ◌∷◌, filter, Option, Some, None, refl, sym, ap, ap₂, ◌∙◌, subst, inl, inr, arith}
-use Rattle.std.proofs.lemmas.Bool.{cases_Bool, cases_lt, cases_eq, true≢false, and_parts, and_from, or_cases, or_left, or_right, eq-eqb, ne_eqb, eqb-true, lt-ltb, le-ltb, ltb-true, both_ways}
+use Rattle.std.proofs.Common.{◌≡◌, ℕ, ◌<◌, ◌==◌, ◌&&◌, ◌||◌, ◌⊎◌, nat_lt, Bool, true, false, not, cond, List, [], ◌∷◌, filter, Option, Some, None, refl, sym, ap, ◌∙◌, subst, inl, inr, arith}
+use Rattle.std.proofs.lemmas.Bool.{cases_lt, cases_eq, and_parts, and_from, or_cases, or_left, or_right, eq-eqb, ne_eqb, eqb-true, lt-ltb, le-ltb, ltb-true, both_ways}
 use Rattle.input_types.specs.declared.key.KeyArgs.{KeyArgs}
 use Rattle.input_types.specs.declared.message.Args.{Args}
 use Rattle.dispatch_calls.specs.declared.call.Call.{Call}
 use Rattle.dispatch_calls.specs.declared.reply.Reply.{Reply}
 use Rattle.dispatch_history.specs.History.{History}
 use Rattle.dispatch_history.specs.Queue.{inbound, args_of}
-use Rattle.dispatch_history.specs.Effect.{Effect, past_of, dispatched}
+use Rattle.dispatch_history.specs.Effect.{past_of}
 use Rattle.dispatch_history.specs.Effects.{effects}
 use Rattle.dispatch_history.specs.Focus.{is_target}
 use Rattle.dispatch_history.specs.Delivery.{able}
@@ -75,7 +75,7 @@ before_all k l m e f =
     first : k.device < m.device → is_before k m ≡ true
     first lt = or_left (nat_lt k.device m.device) (k.device == m.device && nat_lt k.scan m.scan) (lt-ltb k.device m.device lt)
 
-above_all : (k l : KeyArgs) (ks : List KeyArgs) → is_before k l ≡ true → Above l ks → Above k ks
+pub above_all : (k l : KeyArgs) (ks : List KeyArgs) → is_before k l ≡ true → Above l ks → Above k ks
 above_all k l [] e a = tt
 above_all k l (m ∷ ms) e a = (before_all k l m e a.0, above_all k l ms e a.1)
 
@@ -96,7 +96,7 @@ above_filter p k (l ∷ ls) a = by_test (p l) (above_filter p k ls a.1)
     by_test true more = (a.0, more)
     by_test false more = more
 
-rising_filter : (p : KeyArgs → Bool) (ks : List KeyArgs) → Rising ks → Rising (filter p ks)
+pub rising_filter : (p : KeyArgs → Bool) (ks : List KeyArgs) → Rising ks → Rising (filter p ks)
 rising_filter p [] r = tt
 rising_filter p (k ∷ ks) r = by_test (p k) (rising_filter p ks r.1)
   where

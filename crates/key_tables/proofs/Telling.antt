@@ -1,33 +1,32 @@
 -- Who is told of keys at a step, and what.
-use Rattle.std.proofs.Common.{◌≡◌, ℕ, ◌+◌, ◌==◌, ◌&&◌, ◌||◌, ◌⊎◌, max, Bool, true, false, not, cond, List, [], ◌∷◌, ◌++◌, map, filter, Option, Some, None, refl, sym, ap, ap₂, ◌∙◌, subst, subst₂, inl, inr, append-nil}
+use Rattle.std.proofs.Common.{◌≡◌, ℕ, ◌==◌, ◌&&◌, ◌||◌, ◌⊎◌, max, Bool, true, false, not, cond, List, [], ◌∷◌, ◌++◌, map, filter, option_map, Option, Some, None, refl, sym, ap, ap₂, ◌∙◌, subst, inl, inr, append-nil}
 use Rattle.std.specs.List.{list_any}
-use Rattle.std.proofs.lemmas.Bool.{cases_Bool, true≢false, both_ways, and_parts, eqb-true, eq-eqb}
+use Rattle.std.proofs.lemmas.Bool.{cases_Bool, true≢false, both_ways, eqb-true, eq-eqb}
 use Rattle.input_types.specs.declared.key.KeyArgs.{KeyArgs}
 use Rattle.input_types.specs.declared.key.KeyMsg.{KeyMsg}
 use Rattle.input_types.specs.declared.message.Args.{Args}
 use Rattle.input_types.specs.declared.message.Args.TheVariants.{Motion as MotionArgs, Key as KeyOfDevice, Reset}
 use Rattle.window_snapshot.specs.Mask.{mask_has}
-use Rattle.key_repeat.specs.Due.{Sent, due_of, is_repeated, repeated, next_of}
+use Rattle.key_repeat.specs.Due.{Sent, due_of, repeated, next_of}
 use Rattle.cancel_synthesis.specs.Ends.{keys_cancelled}
 use Rattle.focus_resolver.specs.Resolver.{is_at}
 use Rattle.dispatch_calls.specs.declared.call.Call.{Call}
 use Rattle.dispatch_calls.specs.declared.call.Call.TheVariants.{Open, Windows, FocusOn, Notify, Pump, Tick, Receive, Finish, Pilfer, Remove}
 use Rattle.dispatch_calls.specs.declared.reply.Reply.{Reply}
-use Rattle.dispatch_calls.specs.declared.reply.Reply.TheVariants.{Dispatched, Repeated, Idle, Named}
-use Rattle.dispatch_history.specs.History.{History, clock, live}
+use Rattle.dispatch_calls.specs.declared.reply.Reply.TheVariants.{Dispatched, Repeated, Idle}
+use Rattle.dispatch_history.specs.History.{clock, live}
 use Rattle.dispatch_history.specs.Queue.{inbound, args_of}
 use Rattle.dispatch_history.specs.Effect.{Effect, past_of}
-use Rattle.dispatch_history.specs.Effects.{step}
 use Rattle.dispatch_history.specs.Focus.{is_target, key_target}
 use Rattle.dispatch_history.specs.Delivery.{able, names, is_named_by}
 use Rattle.dispatch_history.specs.Due.{mask_of, named}
-use Rattle.dispatch_history.specs.Keys.{same_key, ends, loses_all, keys}
-use Rattle.dispatch_history.specs.KeyTold.{key_as_is, key_cancelled, keys_told, last_key, while_held, repeat_due, repeat_told, repeat_by}
+use Rattle.dispatch_history.specs.Keys.{same_key, loses_all, keys}
+use Rattle.dispatch_history.specs.KeyTold.{key_as_is, key_cancelled, keys_told, last_key, while_held, repeat_due, repeat_told}
 use Rattle.dispatch_history.specs.Reply.{reply_to, pump_reply, is_due}
 use Rattle.dispatch_history.proofs.KeyTells.{filter_none}
 use Rattle.dispatch_tables.specs.Lawful.{Lawful}
 use Rattle.dispatch_tables.proofs.Lawfuls.{lawful_last}
-use Rattle.key_tables.specs.Held.{KeysAre, key_messages, repeat_heard, target_told}
+use Rattle.key_tables.specs.Held.{key_messages, one_told, target_told}
 use Rattle.key_tables.specs.Repeats.{RepeatIs}
 use Rattle.key_tables.specs.Laws.{KeysQuiet, TargetTold, RepeatRead}
 use Rattle.key_tables.proofs.Holders.{keys_of_target}
@@ -112,9 +111,11 @@ any_in : (p : KeyArgs → Bool) (held : List KeyMsg) → list_any p (keys_in hel
 any_in p [] = refl
 any_in p (m ∷ ms) = ap (λ b. p m.key || b) (any_in p ms)
 
-one_test : (b h a : Bool) (m : KeyMsg) → cond b (cond h (m ∷ []) []) (cond a (m ∷ []) []) ≡ cond (cond b h a) (m ∷ []) []
-one_test true h a m = refl
-one_test false h a m = refl
+one_test : (b h a : Bool) (m : KeyMsg) → cond b (cond h (m ∷ []) []) (cond a (m ∷ []) []) ≡ one_told (cond (cond b h a) (Some m) None)
+one_test true true a m = refl
+one_test true false a m = refl
+one_test false h true m = refl
+one_test false h false m = refl
 
 -- what a dispatch tells the key target
 dispatched_told : (now w : ℕ) (a : Args) (hears stays : Bool) (held : List KeyMsg) (last : Option Sent)
@@ -124,7 +125,7 @@ dispatched_told now w (Reset d) hears stays held last = append-nil (map key_canc
 dispatched_told now w (KeyOfDevice k) hears stays held last =
     append-nil (keys_told (Some (KeyOfDevice k)) hears false (keys_in held))
     ∙ one_test k.down hears (list_any (same_key k) (keys_in held)) (record { key = k; flags = 0; repeat = 0 })
-    ∙ ap (λ b. cond (cond k.down hears b) (record { key = k; flags = 0; repeat = 0 } ∷ []) []) (any_in (same_key k) held)
+    ∙ ap (λ b. one_told (cond (cond k.down hears b) (Some (record { key = k; flags = 0; repeat = 0 })) None)) (any_in (same_key k) held)
 
 pump_told : (now w : ℕ) (answer : Reply) (ws : List Args) (hears stays : Bool) (held : List KeyMsg) (last kept : Option Sent) (due : Option ℕ) (at : ℕ)
     → answer ≡ pump_reply ws due at
@@ -167,23 +168,23 @@ repeat_read ds es last l r = (ap due_of r, λ s e. by_last (last_key es) refl s 
         by_any false any e = absurd (cc e)
 
 -- there is one key target
-one_target : (o : Option ℕ) (v w : ℕ) → is_at o v ≡ true → is_at o w ≡ true → v ≡ w
+pub one_target : (o : Option ℕ) (v w : ℕ) → is_at o v ≡ true → is_at o w ≡ true → v ≡ w
 one_target None v w e f = absurd (true≢false (sym e))
 one_target (Some c) v w e f = eqb-true v c e ∙ sym (eqb-true w c f)
 
 -- a repeat that is due is made of what is kept
 repeat_is_next : (ds : List ℕ) (es : List Effect) (now w at : ℕ) (last : Option Sent) → Lawful ds es → is_target (past_of es) w ≡ true → RepeatIs es last
-    → is_due (repeat_due es) at ≡ true → repeat_told (Pump now) Repeated (last_key es) w ≡ repeat_heard (next_of last)
+    → is_due (repeat_due es) at ≡ true → repeat_told (Pump now) Repeated (last_key es) w ≡ one_told (option_map (λ n. n.1) (next_of last))
 repeat_is_next ds es now w at last l t r y = by_last (last_key es) refl
   where
-    by_last : (o : Option Sent) → last_key es ≡ o → repeat_told (Pump now) Repeated o w ≡ repeat_heard (next_of last)
+    by_last : (o : Option Sent) → last_key es ≡ o → repeat_told (Pump now) Repeated o w ≡ one_told (option_map (λ n. n.1) (next_of last))
     by_last None q = absurd (true≢false (sym (ap (λ o. is_due (due_of (while_held es o)) at) (sym q) ∙ y)))
     by_last (Some m) q =
         let x = due_held ds es at m l y q in
         let kept : last ≡ Some m = r ∙ ap (while_held es) q ∙ ap (λ b. cond b (Some m) None) x.0 in
         let own : (w == m.channel) ≡ true = eq-eqb w m.channel (one_target (key_target (past_of es)) w m.channel t (holder_is_target ds es m.key.key m.channel l x.0)) in
         ap (λ b. cond b (repeated m.key ∷ []) []) own
-        ∙ sym (ap (λ o. repeat_heard (next_of o)) kept ∙ ap (λ b. repeat_heard (cond b (Some (m.channel, repeated m.key)) None)) x.1)
+        ∙ sym (ap (λ o. one_told (option_map (λ n. n.1) (next_of o))) kept ∙ ap (λ b. one_told (option_map (λ (n : ℕ × KeyMsg). n.1) (cond b (Some (m.channel, repeated m.key)) None))) x.1)
 
 -- the key target loses all where it is not the target any more, and where it is named
 moved_only : (s t l : Bool) → s ≡ true → l ≡ true → (s && not t || false || not l) ≡ not t

@@ -1,7 +1,7 @@
 -- What is kept of the keys of a window, step by step.
 use Rattle.std.proofs.Common.{◌≡◌, ℕ, ◌+◌, ◌==◌, ◌&&◌, ◌||◌, ◌⊎◌, max, Bool, true, false, not, cond, List, [], ◌∷◌, ◌++◌, map, filter, Option, Some, None, refl, sym, ap, ap₂, ◌∙◌, subst, subst₂, inl, inr, append-nil}
 use Rattle.std.specs.List.{list_any}
-use Rattle.std.proofs.lemmas.Bool.{cases_Bool, cases_eq, true≢false, both_ways, and_parts, or_parts, not-true, eq-eqb, ne_eqb, eqb-true}
+use Rattle.std.proofs.lemmas.Bool.{cases_Bool, cases_eq, true≢false, and_parts, or_parts, eq-eqb, ne_eqb, eqb-true}
 use Rattle.input_types.specs.declared.key.KeyArgs.{KeyArgs}
 use Rattle.input_types.specs.declared.key.KeyMsg.{KeyMsg}
 use Rattle.input_types.specs.declared.message.Args.{Args}
@@ -25,19 +25,18 @@ use Rattle.dispatch_history.specs.Effect.{Effect, past_of, stream}
 use Rattle.dispatch_history.specs.Effects.{effects, step}
 use Rattle.dispatch_history.specs.Focus.{is_target, focus_told}
 use Rattle.dispatch_history.specs.Delivery.{able, unresponsive}
-use Rattle.dispatch_history.specs.Keys.{same_key, is_before, with_key, goes_down, ends, loses_all, key_given, keys}
+use Rattle.dispatch_history.specs.Keys.{same_key, is_before, with_key, loses_all, key_given, keys}
 use Rattle.dispatch_history.specs.KeyTold.{key_as_is, key_cancelled, keys_told, last_key, while_held, repeat_due, repeat_told, repeat_by}
 use Rattle.dispatch_history.specs.Known.{is_key, held_key, last_message, last_message_after, newest_key, newest_key_after}
 use Rattle.dispatch_history.specs.Legal.{Legal}
 use Rattle.dispatch_history.specs.Reply.{pump_reply, is_due}
-use Rattle.dispatch_history.proofs.LegalLaws.{effects_law}
-use Rattle.dispatch_history.proofs.KeysDown.{is_key-parts, held_rest}
+use Rattle.dispatch_history.proofs.KeysDown.{held_rest}
 use Rattle.dispatch_history.proofs.KeyTells.{any_held, filter_all, filter_none}
 use Rattle.dispatch_history.proofs.KeyLaws.{held_key_law, last_key_law}
 use Rattle.dispatch_tables.specs.Lawful.{Lawful}
 use Rattle.dispatch_tables.proofs.Lawfuls.{lawful_effects, lawful_last}
-use Rattle.key_tables.specs.Held.{Above, Rising, KeysAre, bodies_tracked, key_messages}
-use Rattle.key_tables.specs.Laws.{KeysAtFirst, BodiesTracked, KeysStep}
+use Rattle.key_tables.specs.Held.{Rising, bodies_tracked, key_messages}
+use Rattle.key_tables.specs.Laws.{BodiesTracked}
 use Rattle.key_tables.proofs.Holders.{keys_of_target}
 use Rattle.key_tables.proofs.Rising.{other_way, not_before_itself, above_found, NewKey, next_keys, new_key, rising}
 
@@ -50,7 +49,7 @@ pub cancels_of : (held : List KeyMsg) → map key_cancelled (keys_in held) ≡ k
 cancels_of [] = refl
 cancels_of (m ∷ ms) = ap (λ ks. key_cancelled m.key ∷ ks) (cancels_of ms)
 
-filter_keys : (p : KeyArgs → Bool) (held : List KeyMsg) → filter p (keys_in held) ≡ keys_in (filter (λ m. p m.key) held)
+pub filter_keys : (p : KeyArgs → Bool) (held : List KeyMsg) → filter p (keys_in held) ≡ keys_in (filter (λ m. p m.key) held)
 filter_keys p [] = refl
 filter_keys p (m ∷ ms) = by_test (p m.key) (filter_keys p ms)
   where
@@ -342,19 +341,14 @@ keys_next ds call answer h w held l n are = by_call call l n
     by_call (Pilfer now c e) m q = quiet (Pilfer now c e)
     by_call (Remove now c) m q = quiet (Remove now c)
 
-pub keys_step : KeysStep
-keys_step ds call answer es w held l n k =
-    let e = (lawful_last ds call answer es l).1.whole in
-    record {
-      keys_are =
-          subst
-          (λ xs. live ((call, answer) ∷ past_of xs) w ≡ true → keys_in held ≡ keys xs w
-          → keys_in (tracked (key_messages call answer xs w) held) ≡ keys (step ds call answer xs) w)
-          e (λ m are. keys_next ds call answer (past_of es) w held l.legal m are) n k.keys_are;
-    }
-
-pub keys_at_first : KeysAtFirst
-keys_at_first ds es w l n = record { keys_are = sym (dead_keys ds es w l n) }
+pub keys_stepped : (ds : List ℕ) (call : Call) (answer : Reply) (es : List Effect) (w : ℕ) (held : List KeyMsg) → Lawful ds (step ds call answer es)
+    → live (past_of (step ds call answer es)) w ≡ true → keys_in held ≡ keys es w
+    → keys_in (tracked (key_messages call answer es w) held) ≡ keys (step ds call answer es) w
+keys_stepped ds call answer es w held l n are =
+    subst
+    (λ xs. live ((call, answer) ∷ past_of xs) w ≡ true → keys_in held ≡ keys xs w
+    → keys_in (tracked (key_messages call answer xs w) held) ≡ keys (step ds call answer xs) w)
+    (lawful_last ds call answer es l).1.whole (λ m k. keys_next ds call answer (past_of es) w held l.legal m k) n are
 
 -- bodies that are no keys
 bodies_append : (xs ys : List Body) (held : List KeyMsg) → bodies_tracked (xs ++ ys) held ≡ bodies_tracked ys (bodies_tracked xs held)

@@ -1,5 +1,5 @@
 -- What is kept of the focus.
-use Rattle.std.specs.Prelude.{◌≡◌, ◌<◌, ℕ, Bool, true, false, List, [], ◌∷◌, length, slice_index_or, Option, None, if◌then◌else◌}
+use Rattle.std.specs.Prelude.{◌≡◌, ◌<◌, ℕ, Bool, true, false, List, [], ◌∷◌, length, slice_index_or, Option, Some, None, if◌then◌else◌}
 use Rattle.input_types.specs.declared.message.Body.{Body}
 use Rattle.input_types.specs.declared.message.Body.TheVariants.{Focus}
 use Rattle.window_snapshot.specs.Mask.{mask_has}
@@ -14,8 +14,8 @@ use Rattle.dispatch_history.specs.Effect.{Effect, past_of}
 abbrev pub MasksAre : List ℕ → History → Type 0
 MasksAre masks h = (y c : ℕ) → y < 4 → may_by masks y c ≡ may_focus h y c
 
--- what is kept is the focus after a history with these effects: for each of four displays the channel that was requested last, the
--- display that was asked for last, and the channels that may have the focus of each
+-- what is kept is the focus after a history with these effects: for each of four displays the channel that was requested
+-- last, the display that was asked for last, and the channels that may have the focus of each
 pub record FocusIs (es : List Effect) (f : FocusState) : Type 0 where
   pub four : length f.requested ≡ 4
   pub requested_are : (y : ℕ) → y < 4 → slice_index_or f.requested y None ≡ requested (past_of es) y
@@ -38,7 +38,12 @@ leaves_focus (Finish now channel seq) = true
 leaves_focus (Pilfer now channel device) = true
 leaves_focus call = false
 
--- what a channel is told of the focus, by the masks of the channels that lost it and of those that gained it
-abbrev pub change_told : (lost gained : ℕ) → ℕ → List Body
-change_told lost gained w =
-    if mask_has lost w then Focus false ∷ [] else if mask_has gained w then Focus true ∷ [] else []
+-- whether a channel is told that it lost the focus or that it has it now, by the masks of the channels that lost it and
+-- of those that gained it
+abbrev pub change_of : (lost gained : ℕ) → ℕ → Option Bool
+change_of lost gained w = if mask_has lost w then Some false else if mask_has gained w then Some true else None
+
+-- that as bodies
+abbrev pub change_told : Option Bool → List Body
+change_told None = []
+change_told (Some b) = Focus b ∷ []

@@ -1,17 +1,19 @@
 -- What is proved of what is kept of the focus, of keys and of repeats. Each law is the clause of a function of its own.
-use Rattle.std.specs.Prelude.{◌≡◌, ◌<◌, ℕ, true, false, List, [], ◌++◌, map, Option, Some, None, Bool, ◌&&◌, bit_and, slice_set}
-use Rattle.window_snapshot.specs.Mask.{is_channel, mask_has}
+use Rattle.std.specs.Prelude.{◌≡◌, ◌<◌, ℕ, true, false, List, [], ◌++◌, map, Option, Some, None, Bool, ◌&&◌, replicate, slice_set}
+use Rattle.window_snapshot.specs.Mask.{mask_has}
 use Rattle.window_snapshot.specs.Named.{is_focusable_on}
-use Rattle.focus_resolver.specs.Resolver.{FocusState, focus_of, target_of, is_focused}
+use Rattle.focus_resolver.specs.Resolver.{FocusState, may_by, focus_of, target_of, is_focused}
 use Rattle.focus_resolver.specs.Changes.{IsOnlyIn}
 use Rattle.dispatch_calls.specs.declared.call.Call.{Call}
 use Rattle.dispatch_calls.specs.declared.call.Call.TheVariants.{FocusOn}
 use Rattle.dispatch_calls.specs.declared.reply.Reply.{Reply}
-use Rattle.dispatch_history.specs.History.{History, live, clock, snapshot}
-use Rattle.dispatch_history.specs.Focus.{focus, has_focus, key_target, may_focus, focus_told}
+use Rattle.dispatch_history.specs.History.{History, live, clock, origin, snapshot}
+use Rattle.dispatch_history.specs.Focus.{focus, has_focus, is_target, key_target, focus_told}
 use Rattle.dispatch_history.specs.Effect.{Effect, past_of}
-use Rattle.dispatch_history.specs.Effects.{step}
-use Rattle.dispatch_history.specs.Focus.{is_target}
+use Rattle.dispatch_history.specs.Effects.{step, said_at}
+use Rattle.dispatch_history.specs.Step.{scene, step_of}
+use Rattle.dispatch_history.specs.Said.{motions_said}
+use Rattle.routing_rules.specs.Given.{mark}
 use Rattle.dispatch_history.specs.Delivery.{able}
 use Rattle.dispatch_history.specs.Keys.{keys}
 use Rattle.dispatch_tables.specs.Lawful.{Lawful}
@@ -24,9 +26,10 @@ use Rattle.input_types.specs.declared.message.Body.TheVariants.{Motion as Motion
 use Rattle.cancel_synthesis.specs.Laws.{keys_told as tracked}
 use Rattle.dispatch_history.specs.Queue.{inbound, args_of}
 use Rattle.dispatch_history.specs.KeyTold.{repeat_due}
-use Rattle.key_tables.specs.Focused.{FocusIs, MasksAre, is_request, leaves_focus, change_told}
+use Rattle.key_tables.specs.Focused.{FocusIs, MasksAre, is_request, leaves_focus, change_of, change_told}
 
--- What is kept of the focus says which channel has the focus of each display, which channels are focused, and where keys go.
+-- What is kept of the focus says which channel has the focus of each display, which channels are focused, and where keys
+-- go.
 abbrev pub FocusRead : Type 0
 FocusRead =
     (es : List Effect) (f : FocusState)
@@ -61,14 +64,17 @@ FocusLeft =
     → FocusIs es f
     → FocusIs (step displays call answer es) f
 
--- A channel may have the focus of a display where it is in the mask of those that the windows name there with one that may have it,
--- and in that of the live ones.
-abbrev pub FocusMask : Type 0
-FocusMask =
-    (h : History) (y c named alive : ℕ)
-    → mask_has named c ≡ (is_channel c && is_focusable_on (snapshot h) y c)
-    → mask_has alive c ≡ live h c
-    → mask_has (bit_and named alive) c ≡ may_focus h y c
+-- The masks of the channels that may have the focus are made of the windows and of the live channels.
+abbrev pub FocusMasks : Type 0
+FocusMasks =
+    (h : History) (masks : List ℕ) (alive : ℕ)
+    → ((c : ℕ) → mask_has alive c ≡ live h c)
+    → ((y c : ℕ) → y < 4 → may_by masks y c ≡ (mask_has alive c && is_focusable_on (snapshot h) y c))
+    → MasksAre masks h
+
+-- At first nothing was requested, and no channel may have the focus.
+abbrev pub FocusAtFirst : Type 0
+FocusAtFirst = FocusIs [] (record { requested = replicate 4 None; last = 0; focusable = replicate 4 0 })
 
 -- The masks of a change of the focus say what each channel is told of it.
 abbrev pub FocusTold : Type 0
@@ -78,12 +84,13 @@ FocusTold =
     → FocusIs fs g
     → IsOnlyIn lost (is_focused (focus_of f)) (is_focused (focus_of g))
     → IsOnlyIn gained (is_focused (focus_of g)) (is_focused (focus_of f))
-    → focus_told (has_focus (past_of es) w) (has_focus (past_of fs) w) ≡ change_told lost gained w
+    → focus_told (has_focus (past_of es) w) (has_focus (past_of fs) w) ≡ change_told (change_of lost gained w)
 
 -- Only the key target holds keys, and only while it is able.
 abbrev pub KeysOfTarget : Type 0
 KeysOfTarget =
-    (displays : List ℕ) (es : List Effect) (w : ℕ) → Lawful displays es → (is_target (past_of es) w && able es w) ≡ false → keys es w ≡ []
+    (displays : List ℕ) (es : List Effect) (w : ℕ)
+    → Lawful displays es → (is_target (past_of es) w && able es w) ≡ false → keys es w ≡ []
 
 -- The keys that a window holds stand in rising order, each once.
 abbrev pub KeysRise : Type 0
@@ -109,6 +116,19 @@ KeysStep =
     → KeysAre es w held
     → KeysAre (step displays call answer es) w (tracked (key_messages call answer es w) held)
 
+-- What a step says to a channel that is live after it are motions, then these key messages, and then a change of its
+-- focus.
+abbrev pub SaidParts : Type 0
+SaidParts =
+    (displays : List ℕ) (call : Call) (answer : Reply) (es : List Effect) (w : ℕ)
+    → live (past_of (step displays call answer es)) w ≡ true
+    → let moment = scene displays es in
+    let this = step_of (snapshot (past_of es)) call answer (args_of call answer (inbound (past_of es))) in
+    said_at displays call answer es w
+    ≡ motions_said moment this (mark moment this) (origin (past_of es) w) w
+    ++ map Key (key_messages call answer es w)
+    ++ focus_told (has_focus (past_of es) w) (has_focus (past_of (step displays call answer es)) w)
+
 -- A step tells nobody of keys but the key target before it.
 abbrev pub KeysQuiet : Type 0
 KeysQuiet =
@@ -120,7 +140,8 @@ KeysQuiet =
 -- What it tells that one is found from what is kept.
 abbrev pub TargetTold : Type 0
 TargetTold =
-    (displays : List ℕ) (call : Call) (answer : Reply) (es : List Effect) (w : ℕ) (held : List KeyMsg) (last : Option Sent)
+    (displays : List ℕ) (call : Call) (answer : Reply) (es : List Effect)
+    (w : ℕ) (held : List KeyMsg) (last : Option Sent)
     → Lawful displays (step displays call answer es)
     → is_target (past_of es) w ≡ true
     → live (past_of (step displays call answer es)) w ≡ true
@@ -146,8 +167,8 @@ RepeatStep =
     → is_target (past_of es) t ≡ true
     → RepeatIs es last
     → RepeatIs (step displays call answer es)
-    (repeat_next (live (past_of (step displays call answer es)) t) (clock (past_of (step displays call answer es))) t (key_messages call answer es t)
-    last)
+    (repeat_next (live (past_of (step displays call answer es)) t) (clock (past_of (step displays call answer es))) t
+    (key_messages call answer es t) last)
 
 -- Where there is no key target, a step changes nothing of it.
 abbrev pub RepeatLeft : Type 0

@@ -9,7 +9,8 @@ use Rattle.dispatch_history.specs.KeyTold.{last_key, while_held}
 abbrev pub RepeatIs : List Effect → Option Sent → Type 0
 RepeatIs es last = last ≡ while_held es (last_key es)
 
--- what is kept once a window was told these key messages at a clock: a down or a repeat is kept, and an up ends what was kept
+-- what is kept once a window was told these key messages at a clock: a down or a repeat is kept, and an up ends what was
+-- kept
 abbrev pub repeat_after : (now target : ℕ) → List KeyMsg → Option Sent → Option Sent
 repeat_after now t [] last = last
 repeat_after now t (m ∷ ms) last =

@@ -1,13 +1,15 @@
 //! What is proved of what is kept. Each function has the laws as its clauses, and does nothing.
-ghost use Rattle.key_tables.specs.Laws.{FocusRead, FocusRequested, FocusShown, FocusLeft, FocusMask, FocusTold, KeysOfTarget, KeysRise, KeysAtFirst, BodiesTracked, KeysStep, KeysQuiet, TargetTold};
+ghost use Rattle.key_tables.specs.Laws.{FocusRead, FocusRequested, FocusShown, FocusLeft, FocusMasks, FocusAtFirst, FocusTold, KeysOfTarget, KeysRise, KeysAtFirst, BodiesTracked, KeysStep, SaidParts, KeysQuiet, TargetTold, RepeatRead, RepeatStep, RepeatLeft};
 
-/// What is kept of the focus says who has it and where keys go, changes as each call says, and tells each channel what it has to know.
+/// What is kept of the focus says who has it and where keys go, changes as each call says, and tells each channel what it
+/// has to know.
 pub fn focus()
     ensures read { FocusRead }
     ensures requested { FocusRequested }
     ensures shown { FocusShown }
     ensures left { FocusLeft }
-    ensures mask { FocusMask }
+    ensures masks { FocusMasks }
+    ensures first { FocusAtFirst }
     ensures told { FocusTold }
 {}
 
@@ -22,6 +24,14 @@ pub fn keys()
 
 /// What a step tells of keys: nobody is told but the key target, and that is told what is found from what is kept.
 pub fn telling()
+    ensures parts { SaidParts }
     ensures quiet { KeysQuiet }
     ensures target { TargetTold }
+{}
+
+/// What is kept of the last key message says when a repeat is due, and is kept by what the key target is told.
+pub fn repeating()
+    ensures read { RepeatRead }
+    ensures step { RepeatStep }
+    ensures left { RepeatLeft }
 {}

@@ -1,6 +1,7 @@
 use Rattle.key_tables.proofs.Holders.{keys_of_target}
 use Rattle.key_tables.proofs.Rising.{keys_rise}
-use Rattle.key_tables.proofs.Tracking.{keys_at_first, bodies_tracked_law, keys_step}
+use Rattle.key_tables.proofs.Tracking.{bodies_tracked_law}
+use Rattle.key_tables.proofs.Lasting.{keys_at_first, keys_step}
 use Rattle.key_tables.proofs.laws.keys.Goals as goal
 
 pub returns : goal.returns
