@@ -11,3 +11,5 @@ pub mod Masking
 pub mod Ables
 pub mod Duties
 pub mod Keeping
+pub mod Examples
+pub mod Silence

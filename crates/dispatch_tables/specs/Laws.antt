@@ -20,6 +20,7 @@ use Rattle.dispatch_history.specs.Reply.{reply_to, receive_reply, finish_reply, 
 use Rattle.dispatch_tables.specs.Lawful.{Lawful}
 use Rattle.dispatch_tables.specs.Channel.{Keeps, part_of, Untouched, with_part, enqueued_all, NumberedFrom, counts_of}
 use Rattle.dispatch_tables.specs.Masks.{able_after, live_mask_after, able_mask_after}
+use Rattle.dispatch_tables.specs.Silent.{is_silent}
 use Rattle.dispatch_tables.specs.Dues.{due_moment, due_in, due_pair, namings_in, is_named}
 
 -- The effects of a legal history are lawful, and so are none.
@@ -230,3 +231,9 @@ NamingsKeptLaw =
     (displays : List ℕ) (call : Call) (answer : Reply) (es : List Effect)
     → is_named answer ≡ false
     → namings (step displays call answer es) ≡ namings es
+
+-- What these steps tell: nothing.
+abbrev pub SilentCalls : Type 0
+SilentCalls =
+    (displays : List ℕ) (call : Call) (answer : Reply) (es : List Effect) (c : ℕ)
+    → is_silent call answer c ≡ true → said_at displays call answer es c ≡ []
