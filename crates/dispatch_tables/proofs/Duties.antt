@@ -181,7 +181,7 @@ best_first p k none (suc n) =
         (within_up (due_if p k) n) above (here false e) first
 
 -- the moments of the oldest messages
-abbrev oldest_due : List Effect → ℕ → Option ℕ
+abbrev pub oldest_due : List Effect → ℕ → Option ℕ
 oldest_due es c = option_map (λ m. delivery es c m.seq + limit_of (past_of es) c) (oldest es c)
 
 first_due_is : (es : List Effect) → first_due es ≡ best_of (able es) (oldest_due es) (opened (past_of es))
@@ -262,8 +262,8 @@ among_same f g p (suc n) same =
     one false = refl
 
 pub namings_law : NamingsLaw
-namings_law ds now mask es kept keeps =
-    let at = max now (clock (past_of es)) in
+namings_law ds call mask es kept keeps =
+    let at = clock (past_of (step ds call (Named mask) es)) in
     ap (λ xs. namings es ++ xs)
     (among_same (λ c. naming_of es at c (oldest es c)) (λ c. naming_in at c (kept c)) (mask_has mask) (opened (past_of es))
     (λ c from to. naming_is es at c (kept c) (ap oldest_of (keeps c from to).is)))

@@ -13,3 +13,4 @@ pub mod Duties
 pub mod Keeping
 pub mod Examples
 pub mod Silence
+pub mod Going

@@ -20,6 +20,7 @@ use Rattle.dispatch_history.specs.Reply.{reply_to, receive_reply, finish_reply, 
 use Rattle.dispatch_tables.specs.Lawful.{Lawful}
 use Rattle.dispatch_tables.specs.Channel.{Keeps, part_of, Untouched, with_part, enqueued_all, NumberedFrom, counts_of}
 use Rattle.dispatch_tables.specs.Masks.{able_after, live_mask_after, able_mask_after}
+use Rattle.dispatch_tables.specs.Delivery.{Delivery, DeliveryIs, GoesOn}
 use Rattle.dispatch_tables.specs.Silent.{is_silent}
 use Rattle.dispatch_tables.specs.Dues.{due_moment, due_in, due_pair, namings_in, is_named}
 
@@ -217,13 +218,13 @@ NamedLaw =
     (named es now ≡ filter (λ c. is_due (due_moment es c) at) (channels (opened (past_of es))))
     × ((c : ℕ) → mask_has (mask_of (named es now)) c ≡ is_due (due_moment es c) at)
 
--- A tick notes its clock and the oldest unfinished message of each channel that it names.
+-- A step that names channels notes its clock and the oldest unfinished message of each.
 abbrev pub NamingsLaw : Type 0
 NamingsLaw =
-    (displays : List ℕ) (now mask : ℕ) (es : List Effect) (kept : ℕ → ChannelState)
+    (displays : List ℕ) (call : Call) (mask : ℕ) (es : List Effect) (kept : ℕ → ChannelState)
     → ((c : ℕ) → 1 ≤ c → c ≤ opened (past_of es) → Keeps es c (kept c))
-    → namings (step displays (Tick now) (Named mask) es)
-    ≡ namings es ++ namings_in (max now (clock (past_of es))) mask kept (opened (past_of es))
+    → let now = clock (past_of (step displays call (Named mask) es)) in
+    namings (step displays call (Named mask) es) ≡ namings es ++ namings_in now mask kept (opened (past_of es))
 
 -- A step that is answered with no mask notes nothing.
 abbrev pub NamingsKeptLaw : Type 0
@@ -237,3 +238,17 @@ abbrev pub SilentCalls : Type 0
 SilentCalls =
     (displays : List ℕ) (call : Call) (answer : Reply) (es : List Effect) (c : ℕ)
     → is_silent call answer c ≡ true → said_at displays call answer es c ≡ []
+
+-- Before any call nothing is kept.
+abbrev pub DeliveryStart : Type 0
+DeliveryStart =
+    (channel : ℕ → ChannelState) → DeliveryIs [] (record { count = 0; channel = channel; live = 0; able = 0; due = λ c. None; noted = [] })
+
+-- What is kept of all channels goes on with any step.
+abbrev pub DeliveryLaw : Type 0
+DeliveryLaw =
+    (displays : List ℕ) (call : Call) (answer : Reply) (es : List Effect) (changed : ℕ → Bool) (k later : Delivery)
+    → Lawful displays (step displays call answer es)
+    → DeliveryIs es k
+    → GoesOn call answer es (said_at displays call answer es) (clock (past_of (step displays call answer es))) changed k later
+    → DeliveryIs (step displays call answer es) later

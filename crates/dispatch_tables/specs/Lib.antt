@@ -3,4 +3,5 @@ pub mod Channel
 pub mod Masks
 pub mod Dues
 pub mod Silent
+pub mod Delivery
 pub mod Laws

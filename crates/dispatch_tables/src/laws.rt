@@ -1,5 +1,5 @@
 //! What is proved of what is kept. Each function has the laws as its clauses, and does nothing.
-ghost use Rattle.dispatch_tables.specs.Laws.{LawfulEffects, LawfulStep, LawfulLast, KeptStep, KeptReady, KeptUnopened, KeptQuiet, KeptNotLive, KeptLess, KeptFacts, NumberedLaw, ReceiveLaw, FinishLaw, OldestLaw, LateLaw, CountsLaw, OpenedFew, AbleLaw, LiveMaskLaw, AbleMaskLaw, DueLaw, QuietDueLaw, NotLiveDueLaw, DuesLaw, FirstDueLaw, NamedLaw, NamingsLaw, NamingsKeptLaw, SilentCalls};
+ghost use Rattle.dispatch_tables.specs.Laws.{LawfulEffects, LawfulStep, LawfulLast, KeptStep, KeptReady, KeptUnopened, KeptQuiet, KeptNotLive, KeptLess, KeptFacts, NumberedLaw, ReceiveLaw, FinishLaw, OldestLaw, LateLaw, CountsLaw, OpenedFew, AbleLaw, LiveMaskLaw, AbleMaskLaw, DueLaw, QuietDueLaw, NotLiveDueLaw, DuesLaw, FirstDueLaw, NamedLaw, NamingsLaw, NamingsKeptLaw, SilentCalls, DeliveryStart, DeliveryLaw};
 
 /// Effects of legal histories: a step that is answered as it is to be keeps them so, and each step was.
 pub fn lawful()
@@ -56,4 +56,10 @@ pub fn namings()
     ensures named { NamedLaw }
     ensures tick { NamingsLaw }
     ensures others { NamingsKeptLaw }
+{}
+
+/// What is kept of all channels stands for nothing at first, and after each step for one step more.
+pub fn delivery()
+    ensures start { DeliveryStart }
+    ensures step { DeliveryLaw }
 {}
