@@ -76,7 +76,8 @@ best_more p k n =
 
 -- the one with the lesser moment comes first, where the channel of the other one is lesser
 sooner_is : (m n : ℕ) (best : Option Due) → ((d : Due) → best ≡ Some d → d.channel ≤ n)
-    → Some (sooner_of (option_map pair_of best) (m, suc n)) ≡ option_map pair_of (sooner_due best (record { moment = m; channel = suc n }))
+    → Some (sooner_of (option_map pair_of best) (m, suc n))
+    ≡ option_map pair_of (sooner_due best (record { moment = m; channel = suc n }))
 sooner_is m n None low = refl
 sooner_is m n (Some d) low = by_moment (nat_lt m d.moment) (only (low d refl))
   where
@@ -137,7 +138,8 @@ first_more f g n best (Some m) others low none here first =
             first_part p None = p.0
             first_part p (Some q) = q.0
 
-    stays : (best : Option Due) → ((d : Due) → best ≡ Some d → d.channel ≤ n) → is_put_off (option_map pair_of best) (m, suc n) ≡ false
+    stays : (best : Option Due) → ((d : Due) → best ≡ Some d → d.channel ≤ n)
+        → is_put_off (option_map pair_of best) (m, suc n) ≡ false
     stays None low = refl
     stays (Some d) low = apart d.channel d.moment (low d refl)
       where
@@ -148,7 +150,8 @@ abbrev due_if : (ℕ → Bool) → (ℕ → Option ℕ) → ℕ → Option ℕ
 due_if p k c = cond (p c) (k c) None
 
 -- the best due of the channels 1 to n is what comes first among them
-best_first : (p : ℕ → Bool) (k : ℕ → Option ℕ) → due_if p k 0 ≡ None → (n : ℕ) → IsFirst (due_up_to n (due_if p k)) (option_map pair_of (best_of p k n))
+best_first : (p : ℕ → Bool) (k : ℕ → Option ℕ) → due_if p k 0 ≡ None → (n : ℕ)
+    → IsFirst (due_up_to n (due_if p k)) (option_map pair_of (best_of p k n))
 best_first p k none zero = λ c. at c (cases_eq c 0)
   where
     at : (c : ℕ) → (c ≡ 0) ⊎ (c ≢ 0) → due_up_to 0 (due_if p k) c ≡ None
@@ -188,15 +191,18 @@ first_due_is : (es : List Effect) → first_due es ≡ best_of (able es) (oldest
 first_due_is es = ap (λ h. fold sooner_due None (filter_map h (filter (able es) (channels (opened (past_of es)))))) (fun_ext (λ c. same c (oldest es c)))
   where
     same : (c : ℕ) (o : Option Message)
-        → due_at es c o ≡ option_map (λ m. record { moment = m; channel = c }) (option_map (λ m. delivery es c m.seq + limit_of (past_of es) c) o)
+        → due_at es c o
+        ≡ option_map (λ m. record { moment = m; channel = c }) (option_map (λ m. delivery es c m.seq + limit_of (past_of es) c) o)
     same c None = refl
     same c (Some m) = refl
 
 -- no channel past the last one is due
-up_to_all : (ds : List ℕ) (es : List Effect) (c : ℕ) → Lawful ds es → due_up_to (opened (past_of es)) (due_moment es) c ≡ due_moment es c
+up_to_all : (ds : List ℕ) (es : List Effect) (c : ℕ) → Lawful ds es
+    → due_up_to (opened (past_of es)) (due_moment es) c ≡ due_moment es c
 up_to_all ds es c l = by_test (nat_le c (opened (past_of es))) refl
   where
-    by_test : (b : Bool) → nat_le c (opened (past_of es)) ≡ b → cond (nat_le c (opened (past_of es))) (due_moment es c) None ≡ due_moment es c
+    by_test : (b : Bool) → nat_le c (opened (past_of es)) ≡ b
+        → cond (nat_le c (opened (past_of es))) (due_moment es c) None ≡ due_moment es c
     by_test true e = ap (λ b. cond b (due_moment es c) None) e
     by_test false e =
         let far : opened (past_of es) < c = grind (arith, nat_tests) in
@@ -224,7 +230,8 @@ first_due_law ds es first l is =
     again (Some d) = refl
 
 late_is_due : (es : List Effect) (c at : ℕ) (b : Bool) (o : Option Message)
-    → (b && is_late_at es c at o) ≡ is_due (cond b (option_map (λ m. delivery es c m.seq + limit_of (past_of es) c) o) None) at
+    → (b && is_late_at es c at o)
+    ≡ is_due (cond b (option_map (λ m. delivery es c m.seq + limit_of (past_of es) c) o) None) at
 late_is_due es c at true None = refl
 late_is_due es c at true (Some m) = refl
 late_is_due es c at false o = refl
@@ -236,12 +243,14 @@ named_law ds es now l = (
   λ c. named_mask ds es now c l ∙ late_is_due es c (max now (clock (past_of es))) (able es c) (oldest es c),
 )
 
-naming_is : (es : List Effect) (at c : ℕ) (s : ChannelState) → oldest_of s ≡ oldest_of (channel_at es c 0 0) → naming_of es at c (oldest es c) ≡ naming_in at c s
+naming_is : (es : List Effect) (at c : ℕ) (s : ChannelState) → oldest_of s ≡ oldest_of (channel_at es c 0 0)
+    → naming_of es at c (oldest es c) ≡ naming_in at c s
 naming_is es at c s e =
     by_oldest (oldest es c) ∙ ap (option_map (λ (p : ℕ × ℕ). record { clock = at; channel = c; seq = p.0 })) (sym (e ∙ oldest_law es c 0 0))
   where
     by_oldest : (o : Option Message)
-        → naming_of es at c o ≡ option_map (λ (p : ℕ × ℕ). record { clock = at; channel = c; seq = p.0 }) (option_map {U = ℕ × ℕ} (λ m. (m.seq, delivery es c m.seq)) o)
+        → naming_of es at c o
+        ≡ option_map (λ (p : ℕ × ℕ). record { clock = at; channel = c; seq = p.0 }) (option_map {U = ℕ × ℕ} (λ m. (m.seq, delivery es c m.seq)) o)
     by_oldest None = refl
     by_oldest (Some m) = refl
 
@@ -254,7 +263,9 @@ among_same f g p (suc n) same =
     ∙ ap₂ (λ xs ys. xs ++ ys) (among_same f g p n (λ c from to. same c from (omega (arith, to)))) (one (p (suc n)))
     ∙ sym (cut g)
   where
-    cut : (h : ℕ → Option Naming) → filter_map h (filter p (channels n ++ suc n ∷ [])) ≡ filter_map h (filter p (channels n)) ++ filter_map h (filter p (suc n ∷ []))
+    cut : (h : ℕ → Option Naming)
+        → filter_map h (filter p (channels n ++ suc n ∷ []))
+        ≡ filter_map h (filter p (channels n)) ++ filter_map h (filter p (suc n ∷ []))
     cut h = ap (filter_map h) (filter-append p (channels n) (suc n ∷ [])) ∙ filter_map-append h (filter p (channels n)) (filter p (suc n ∷ []))
 
     one : (b : Bool) → filter_map f (cond b (suc n ∷ []) []) ≡ filter_map g (cond b (suc n ∷ []) [])

@@ -1,19 +1,17 @@
 -- What is kept of all channels goes on with any step.
-use Rattle.std.proofs.Common.{◌≡◌, ◌≢◌, ◌⊎◌, ℕ, zero, suc, ◌+◌, ◌≤◌, ◌<◌, ◌==◌, nat_lt, Bool, true, false, cond, List, [], ◌++◌, Option, None, refl, sym, ap, ap₂, ◌∙◌, subst, inl, inr, arith}
+use Rattle.std.proofs.Common.{◌≡◌, ◌≢◌, ◌⊎◌, ℕ, suc, ◌+◌, ◌≤◌, nat_lt, Bool, true, false, cond, List, ◌++◌, None, refl, sym, ap, ap₂, ◌∙◌, subst, inl, inr, arith}
 use Rattle.std.proofs.Math.Path.{fun_ext}
 use Rattle.std.proofs.lemmas.Bool.{cases_cond, cases_eq, eq-eqb, and_parts}
 use Rattle.window_snapshot.specs.Mask.{mask_has, mask_with}
 use Rattle.window_snapshot.proofs.Masks.{mask_has-zero}
-use Rattle.input_channel.specs.State.{ChannelState}
 use Rattle.input_channel.specs.State.{has_late as late_at}
 use Rattle.dispatch_calls.specs.declared.call.Call.{Call}
 use Rattle.dispatch_calls.specs.declared.call.Call.TheVariants.{Open, Tick, Finish, Remove}
-use Rattle.dispatch_calls.specs.declared.counts.Naming.{Naming}
 use Rattle.dispatch_calls.specs.declared.reply.Reply.{Reply}
 use Rattle.dispatch_calls.specs.declared.reply.Reply.TheVariants.{Opened, Full, Done, Named}
 use Rattle.dispatch_history.specs.History.{clock, live, opened, opened_after}
 use Rattle.dispatch_history.specs.Effect.{Effect, past_of}
-use Rattle.dispatch_history.specs.Effects.{step, said_at}
+use Rattle.dispatch_history.specs.Effects.{step}
 use Rattle.dispatch_history.specs.Delivery.{able, has_late}
 use Rattle.dispatch_history.specs.Due.{namings}
 use Rattle.dispatch_history.specs.Reply.{reply_to}
@@ -21,7 +19,7 @@ use Rattle.dispatch_tables.specs.Lawful.{Lawful}
 use Rattle.dispatch_tables.specs.Channel.{Keeps, Opens, Untouched, part_of}
 use Rattle.dispatch_tables.specs.Masks.{able_mask_after}
 use Rattle.dispatch_tables.specs.Dues.{due_moment, due_in, namings_in}
-use Rattle.dispatch_tables.specs.Delivery.{Delivery, DeliveryIs, GoesOn, channel_after, noted_after}
+use Rattle.dispatch_tables.specs.Delivery.{Delivery, DeliveryIs, noted_after}
 use Rattle.dispatch_history.proofs.MotionLaws.{opened_mono}
 use Rattle.dispatch_tables.specs.Laws.{DeliveryStart, DeliveryLaw}
 use Rattle.dispatch_tables.proofs.Lawfuls.{lawful_last}
@@ -49,7 +47,8 @@ next_number n k r =
     ]
 
 -- a channel after a step was there before, or has a part in it
-there_or_part : (es : List Effect) (c : ℕ) (call : Call) (answer : Reply) → answer ≡ reply_to es call → c ≤ opened_after call answer (opened (past_of es))
+there_or_part : (es : List Effect) (c : ℕ) (call : Call) (answer : Reply) → answer ≡ reply_to es call
+    → c ≤ opened_after call answer (opened (past_of es))
     → (c ≤ opened (past_of es)) ⊎ (part_of call answer c ≡ Untouched → ⊥)
 there_or_part es c (Open limit) (Opened k) r le =
     let next : k ≡ suc (opened (past_of es)) = next_number (opened (past_of es)) k r in
@@ -65,7 +64,8 @@ there_or_part es c _ answer r le = inl le
 
 -- whose late messages matter
 same_late : (call : Call) (answer : Reply) (f g : ℕ → Bool) (mask : ℕ)
-    → ((now k seq : ℕ) → call ≡ Finish now k seq → answer ≡ Done → f k ≡ g k) → able_mask_after call answer f mask ≡ able_mask_after call answer g mask
+    → ((now k seq : ℕ) → call ≡ Finish now k seq → answer ≡ Done → f k ≡ g k)
+    → able_mask_after call answer f mask ≡ able_mask_after call answer g mask
 same_late (Finish now k seq) Done f g mask same = ap (λ b. cond b mask (mask_with mask k)) (same now k seq refl refl)
 same_late (Open limit) (Opened k) f g mask same = refl
 same_late (Remove now k) Done f g mask same = refl
@@ -99,7 +99,8 @@ delivery_law ds call answer es changed k later l h g =
     was : Lawful ds es
     was = (lawful_last ds call answer es l).1
 
-    keeps_by : (c : ℕ) (b : Bool) → changed c ≡ b → 1 ≤ c → c ≤ later.count → Keeps (step ds call answer es) c (later.channel c)
+    keeps_by : (c : ℕ) (b : Bool) → changed c ≡ b → 1 ≤ c → c ≤ later.count
+        → Keeps (step ds call answer es) c (later.channel c)
     keeps_by c true e from to =
         let x = g.changes c e from to in
         subst (Keeps (step ds call answer es) c) (sym x.2) (kept_step ds call answer es c x.0 l x.1)
@@ -116,7 +117,8 @@ delivery_law ds call answer es changed k later l h g =
     keeps : (c : ℕ) → 1 ≤ c → c ≤ later.count → Keeps (step ds call answer es) c (later.channel c)
     keeps c from to = keeps_by c (changed c) refl from to
 
-    late_is : (now c seq : ℕ) → call ≡ Finish now c seq → answer ≡ Done → late_at (clock (past_of (step ds call answer es))) (later.channel c) ≡ has_late (step ds call answer es) c
+    late_is : (now c seq : ℕ) → call ≡ Finish now c seq → answer ≡ Done
+        → late_at (clock (past_of (step ds call answer es))) (later.channel c) ≡ has_late (step ds call answer es) c
     late_is now c seq e f =
         let done : Done ≡ reply_to es (Finish now c seq) = sym f ∙ reply_is ∙ ap (reply_to es) e in
         let number = live_number ds es c was (done_live (live (past_of es) c) _ done) in
@@ -131,7 +133,8 @@ delivery_law ds call answer es changed k later l h g =
         ∙ same_late call answer (λ c. late_at (clock (past_of (step ds call answer es))) (later.channel c)) (has_late (step ds call answer es)) k.able late_is)
         ∙ able_mask_law ds call answer es k.able l h.able_is
 
-    due_kept : (c : ℕ) (b : Bool) → able (step ds call answer es) c ≡ b → due_in (able (step ds call answer es) c) (later.channel c) ≡ due_moment (step ds call answer es) c
+    due_kept : (c : ℕ) (b : Bool) → able (step ds call answer es) c ≡ b
+        → due_in (able (step ds call answer es) c) (later.channel c) ≡ due_moment (step ds call answer es) c
     due_kept c true e =
         let number = live_number ds (step ds call answer es) c l (and_parts (live (past_of (step ds call answer es)) c) _ e).0 in
         let to : c ≤ later.count = subst (λ n. c ≤ n) (sym (g.count_is ∙ ap (opened_after call answer) h.count_is)) number.1 in
@@ -140,7 +143,8 @@ delivery_law ds call answer es changed k later l h g =
         ap (λ b. due_in b (later.channel c)) e ∙ sym (ap (λ b. cond b (oldest_due (step ds call answer es) c) None) e)
 
     due_at : (c : ℕ) (b : Bool) → changed c ≡ b
-        → cond (changed c) (due_in (mask_has later.able c) (later.channel c)) (k.due c) ≡ due_moment (step ds call answer es) c
+        → cond (changed c) (due_in (mask_has later.able c) (later.channel c)) (k.due c)
+        ≡ due_moment (step ds call answer es) c
     due_at c true e =
         ap (λ b. cond b (due_in (mask_has later.able c) (later.channel c)) (k.due c)) e
         ∙ ap (λ f. due_in (f c) (later.channel c)) able_is

@@ -33,10 +33,12 @@ kept P es c s k f =
     let same : s.received ≡ received (past_of es) c = ap (λ t. t.received) k.is in
     subst P (sym k.is) (f s.gone s.spare (omega (arith, k.few, same)))
 
-keeps_at : (es : List Effect) (c gone spare : ℕ) → gone ≤ received (past_of es) c → Keeps es c (channel_at es c gone spare)
+keeps_at : (es : List Effect) (c gone spare : ℕ) → gone ≤ received (past_of es) c
+    → Keeps es c (channel_at es c gone spare)
 keeps_at es c gone spare le = record { is = refl; few = le }
 
-received_grows : (ds : List ℕ) (call : Call) (answer : Reply) (es : List Effect) (c : ℕ) → Lawful ds (step ds call answer es)
+received_grows : (ds : List ℕ) (call : Call) (answer : Reply) (es : List Effect) (c : ℕ)
+    → Lawful ds (step ds call answer es)
     → received (past_of es) c ≤ received (past_of (step ds call answer es)) c
 received_grows ds call answer es c l =
     let h = stepped ds call answer es c l (sound ds es c (lawful_last ds call answer es l).1) in
@@ -77,7 +79,7 @@ kept_not_live ds call answer es c s l k n =
 pub kept_less : KeptLess
 kept_less ds es c s l k = (
   kept (λ t. Keeps es c (let_go_of t)) es c s k (λ gone spare le.
-  subst (Keeps es c) (sym (let_go_law ds es c gone spare l le).0) (keeps_at es c (received (past_of es) c) spare (omega arith))),
+      subst (Keeps es c) (sym (let_go_law ds es c gone spare l le).0) (keeps_at es c (received (past_of es) c) spare (omega arith))),
   λ n. record { is = ap {A = ChannelState} (λ t. record t { spare = max n s.spare }) k.is; few = k.few },
 )
 
@@ -119,7 +121,8 @@ pub dues_law : DuesLaw
 dues_law ds call answer es changed before later channels l e quiet keeps is = fun_ext (λ c. is c ∙ by_change c (changed c) refl)
   where
     by_change : (c : ℕ) (b : Bool) → changed c ≡ b
-        → cond (changed c) (due_in (able (step ds call answer es) c) (channels c)) (before c) ≡ due_moment (step ds call answer es) c
+        → cond (changed c) (due_in (able (step ds call answer es) c) (channels c)) (before c)
+        ≡ due_moment (step ds call answer es) c
     by_change c true f =
         ap (λ b. cond b (due_in (able (step ds call answer es) c) (channels c)) (before c)) f ∙ sym (kept_due (step ds call answer es) c (channels c) (keeps c f))
     by_change c false f =

@@ -37,7 +37,8 @@ no_focus true = refl
 no_focus false = refl
 
 -- a channel that stays what it was loses no key
-keeps_keys : (before later named lives : Bool) → later ≡ before → named ≡ false → lives ≡ true → (before && not later || named || not lives) ≡ false
+keeps_keys : (before later named lives : Bool) → later ≡ before → named ≡ false → lives ≡ true
+    → (before && not later || named || not lives) ≡ false
 keeps_keys before later named lives e f g = rw (e, f, g) (same before)
   where
     same : (b : Bool) → (b && not b || false || false) ≡ false
@@ -47,7 +48,8 @@ keeps_keys before later named lives e f g = rw (e, f, g) (same before)
 -- a step without args, after which a channel has the focus as before, is not named, and is told no motion
 said_none : (after : History) (es : List Effect) (s : Scene) (e : Step) (k : Mark) (c : ℕ)
     → flat_map (told_with s e k c) devices ≡ [] → is_target after c ≡ is_target (past_of es) c → names after c ≡ false
-    → has_focus after c ≡ has_focus (past_of es) c → repeat_by after (last_key es) c ≡ [] → said after None s e k es c ≡ []
+    → has_focus after c ≡ has_focus (past_of es) c → repeat_by after (last_key es) c ≡ []
+    → said after None s e k es c ≡ []
 said_none after es s e k c motions target named focus repeats = by_live (live after c) refl
   where
     told : live after c ≡ true → keys_said after None es c ≡ []
@@ -57,14 +59,17 @@ said_none after es s e k c motions target named focus repeats = by_live (live af
         (keeps_keys (is_target (past_of es) c) (is_target after c) (names after c) (live after c) target named y))
         repeats
 
-    nothing : live after c ≡ true → motions_said s e k (origin (past_of es) c) c ++ keys_said after None es c ++ focus_told (has_focus (past_of es) c) (has_focus after c) ≡ []
+    nothing : live after c ≡ true
+        → motions_said s e k (origin (past_of es) c) c ++ keys_said after None es c ++ focus_told (has_focus (past_of es) c) (has_focus after c)
+        ≡ []
     nothing y =
         ap (λ ms. map (λ m. MotionBody (motion_from (origin (past_of es) c) m)) ms ++ keys_said after None es c ++ focus_told (has_focus (past_of es) c) (has_focus after c)) motions
         ∙ ap₂ (λ xs b. xs ++ focus_told (has_focus (past_of es) c) b) (told y) focus
         ∙ no_focus (has_focus (past_of es) c)
 
     by_live : (b : Bool) → live after c ≡ b
-        → cond (live after c) (motions_said s e k (origin (past_of es) c) c ++ keys_said after None es c ++ focus_told (has_focus (past_of es) c) (has_focus after c)) [] ≡ []
+        → cond (live after c) (motions_said s e k (origin (past_of es) c) c ++ keys_said after None es c ++ focus_told (has_focus (past_of es) c) (has_focus after c)) []
+        ≡ []
     by_live true y =
         ap (λ b. cond b (motions_said s e k (origin (past_of es) c) c ++ keys_said after None es c ++ focus_told (has_focus (past_of es) c) (has_focus after c)) []) y
         ∙ nothing y
@@ -77,11 +82,13 @@ flat_none f [] none = refl
 flat_none f (d ∷ ds) none = ap (λ xs. xs ++ flat_map f ds) (none d) ∙ flat_none f ds none
 
 -- a tick tells nothing of its motions to a channel that it does not name
-not_muted : (s : Scene) (mask c d : ℕ) → mask_has mask c ≡ false → told_with s (Mutes (mask_has mask)) (mark s (Mutes (mask_has mask))) c d ≡ []
+not_muted : (s : Scene) (mask c d : ℕ) → mask_has mask c ≡ false
+    → told_with s (Mutes (mask_has mask)) (mark s (Mutes (mask_has mask))) c d ≡ []
 not_muted s mask c d n = quiet_law s (Mutes (mask_has mask)) c d refl (λ j. n)
 
 -- a step that is no motion, and changes neither the windows nor the focus
-rested : (ds : List ℕ) (call : Call) (answer : Reply) (es : List Effect) (c : ℕ) → let after : History = (call, answer) ∷ past_of es in
+rested : (ds : List ℕ) (call : Call) (answer : Reply) (es : List Effect) (c : ℕ)
+    → let after : History = (call, answer) ∷ past_of es in
     is_target after c ≡ is_target (past_of es) c → names after c ≡ false → has_focus after c ≡ has_focus (past_of es) c → repeat_by after (last_key es) c ≡ []
     → said ((call, answer) ∷ past_of es) None (scene ds es) Rests (mark (scene ds es) Rests) es c ≡ []
 rested ds call answer es c target named focus repeats =

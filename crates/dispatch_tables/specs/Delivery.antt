@@ -16,8 +16,8 @@ use Rattle.dispatch_tables.specs.Channel.{Keeps, Untouched, part_of, with_part, 
 use Rattle.dispatch_tables.specs.Masks.{live_mask_after, able_mask_after}
 use Rattle.dispatch_tables.specs.Dues.{due_moment, due_in, namings_in}
 
--- how many channels were opened, the channels by their numbers, the masks of those that are live and able, when each is due, and all that
--- was noted of ticks
+-- how many channels were opened, the channels by their numbers, the masks of those that are live and able, when each
+-- is due, and all that was noted of ticks
 pub record Delivery : Type 0 where
   pub count : ℕ
   pub channel : ℕ → ChannelState
@@ -44,14 +44,18 @@ abbrev pub noted_after : Reply → (now : ℕ) → Delivery → List Naming
 noted_after (Named mask) now k = k.noted ++ namings_in now mask k.channel k.count
 noted_after answer now k = k.noted
 
--- What is kept goes one step on, in which channels are told these bodies, at the clock after the step. Some channels change, at least those
--- that are told something, have a part in the step, or are not able as before; they and their dues are made anew. One that the step opens
--- was kept as if it had been there before, without messages.
-pub record GoesOn (call : Call) (answer : Reply) (es : List Effect) (told : ℕ → List Body) (now : ℕ) (changed : ℕ → Bool) (k later : Delivery) : Type 0 where
+-- What is kept goes one step on, in which channels are told these bodies, at the clock after the step. Some channels
+-- change, at least those that are told something, have a part in the step, or are not able as before; they and their
+-- dues are made anew. One that the step opens begins as if it had been there before, without messages.
+pub record GoesOn
+    (call : Call) (answer : Reply) (es : List Effect) (told : ℕ → List Body) (now : ℕ) (changed : ℕ → Bool)
+    (k later : Delivery) : Type 0 where
   pub count_is : later.count ≡ opened_after call answer k.count
-  pub changes : (c : ℕ) → changed c ≡ true → 1 ≤ c → c ≤ later.count → (s : ChannelState) × Keeps es c s × (later.channel c ≡ channel_after call answer (told c) now c s)
+  pub changes : (c : ℕ) → changed c ≡ true → 1 ≤ c → c ≤ later.count
+      → (s : ChannelState) × Keeps es c s × (later.channel c ≡ channel_after call answer (told c) now c s)
   pub stays : (c : ℕ) → changed c ≡ false
-      → (later.channel c ≡ k.channel c) × (told c ≡ []) × (part_of call answer c ≡ Untouched) × (mask_has later.able c ≡ mask_has k.able c)
+      → (later.channel c ≡ k.channel c) × (told c ≡ []) × (part_of call answer c ≡ Untouched)
+      × (mask_has later.able c ≡ mask_has k.able c)
   pub live_is : later.live ≡ live_mask_after call answer k.live
   pub able_is : later.able ≡ able_mask_after call answer (λ c. late_at now (later.channel c)) k.able
   pub due_is : (c : ℕ) → later.due c ≡ (if changed c then due_in (mask_has later.able c) (later.channel c) else k.due c)

@@ -4,7 +4,6 @@ use Rattle.input_types.specs.declared.message.Body.{Body}
 use Rattle.window_snapshot.specs.Mask.{mask_has}
 use Rattle.anr_tracker.specs.Due.{IsFirst}
 use Rattle.dispatch_calls.specs.declared.call.Call.{Call}
-use Rattle.dispatch_calls.specs.declared.call.Call.TheVariants.{Tick}
 use Rattle.dispatch_calls.specs.declared.reply.Reply.{Reply}
 use Rattle.dispatch_calls.specs.declared.reply.Reply.TheVariants.{Done, Gone, Named, UnknownSeq}
 use Rattle.input_channel.specs.Order.{NoneAfter}
@@ -40,8 +39,8 @@ LawfulLast =
     (displays : List ℕ) (call : Call) (answer : Reply) (es : List Effect)
     → Lawful displays (step displays call answer es) → (answer ≡ reply_to es call) × Lawful displays es
 
--- A channel that is kept before a step is kept after it once it is opened, received from or finished as the step says, all that it is
--- told is enqueued, and it is published, at the clock after the step.
+-- A channel that is kept before a step is kept after it once it is opened, received from or finished as the step says,
+-- all that it is told is enqueued, and it is published, at the clock after the step.
 abbrev pub KeptStep : Type 0
 KeptStep =
     (displays : List ℕ) (call : Call) (answer : Reply) (es : List Effect) (c : ℕ) (s : ChannelState)
@@ -54,7 +53,8 @@ KeptStep =
 -- Before it is published so, none of its messages was delivered after that clock.
 abbrev pub KeptReady : Type 0
 KeptReady =
-    (displays : List ℕ) (call : Call) (answer : Reply) (es : List Effect) (c : ℕ) (s : ChannelState) (bodies : List Body)
+    (displays : List ℕ) (call : Call) (answer : Reply) (es : List Effect) (c : ℕ) (s : ChannelState)
+    (bodies : List Body)
     → Lawful displays (step displays call answer es)
     → Keeps es c s
     → let now = clock (past_of (step displays call answer es)) in
@@ -63,7 +63,8 @@ KeptReady =
 -- A channel that was never opened is kept as one without messages and without a limit.
 abbrev pub KeptUnopened : Type 0
 KeptUnopened =
-    (displays : List ℕ) (es : List Effect) (c : ℕ) → Lawful displays es → opened (past_of es) < c → Keeps es c (opened_with 0)
+    (displays : List ℕ) (es : List Effect) (c : ℕ)
+    → Lawful displays es → opened (past_of es) < c → Keeps es c (opened_with 0)
 
 -- A channel that is told nothing and has no part in a step is kept as it was.
 abbrev pub KeptQuiet : Type 0
@@ -92,8 +93,8 @@ KeptLess =
     → Keeps es c s
     → Keeps es c (let_go_of s) × ((n : ℕ) → Keeps es c (with_spare n s))
 
--- What is kept is a channel, which has as many messages as its stream; all that can be is published, and no message was delivered after
--- the clock.
+-- What is kept is a channel, which has as many messages as its stream; all that can be is published, and no message was
+-- delivered after the clock.
 abbrev pub KeptFacts : Type 0
 KeptFacts =
     (displays : List ℕ) (es : List Effect) (c : ℕ) (s : ChannelState)
@@ -106,13 +107,15 @@ KeptFacts =
 
 -- The messages of a stream are numbered from 1, in order.
 abbrev pub NumberedLaw : Type 0
-NumberedLaw = (displays : List ℕ) (es : List Effect) (c : ℕ) → Lawful displays es → NumberedFrom 0 (reverse (stream es c))
+NumberedLaw =
+    (displays : List ℕ) (es : List Effect) (c : ℕ) → Lawful displays es → NumberedFrom 0 (reverse (stream es c))
 
 -- The owner of a live channel gets the next message of what is kept, where there is one.
 abbrev pub ReceiveLaw : Type 0
 ReceiveLaw =
     (displays : List ℕ) (es : List Effect) (c : ℕ) (s : ChannelState)
-    → Lawful displays es → Keeps es c s → receive_reply es c ≡ (if not (live (past_of es) c) then Gone else got_reply (next_of s))
+    → Lawful displays es → Keeps es c s
+    → receive_reply es c ≡ (if not (live (past_of es) c) then Gone else got_reply (next_of s))
 
 -- A message of a live channel can be finished where what is kept says so.
 abbrev pub FinishLaw : Type 0
@@ -120,7 +123,8 @@ FinishLaw =
     (displays : List ℕ) (es : List Effect) (c seq : ℕ) (s : ChannelState)
     → Lawful displays es
     → Keeps es c s
-    → finish_reply es c seq ≡ (if not (live (past_of es) c) then Gone else if may_finish seq s then Done else UnknownSeq)
+    → finish_reply es c seq
+    ≡ (if not (live (past_of es) c) then Gone else if may_finish seq s then Done else UnknownSeq)
 
 -- The oldest unfinished message of what is kept is that of the history, with its delivery.
 abbrev pub OldestLaw : Type 0
@@ -138,7 +142,8 @@ CountsLaw =
     (displays : List ℕ) (es : List Effect) (c : ℕ) (s : ChannelState)
     → Lawful displays es
     → Keeps es c s
-    → counts es c ≡ (if nat_le 1 c && nat_le c (opened (past_of es)) then Some (counts_of (live (past_of es) c) s) else None)
+    → counts es c
+    ≡ (if nat_le 1 c && nat_le c (opened (past_of es)) then Some (counts_of (live (past_of es) c) s) else None)
 
 -- At most 64 channels are opened.
 abbrev pub OpenedFew : Type 0
@@ -149,7 +154,8 @@ abbrev pub AbleLaw : Type 0
 AbleLaw =
     (displays : List ℕ) (call : Call) (answer : Reply) (es : List Effect) (c : ℕ)
     → Lawful displays (step displays call answer es)
-    → able (step displays call answer es) c ≡ able_after call answer (has_late (step displays call answer es) c) c (able es c)
+    → able (step displays call answer es) c
+    ≡ able_after call answer (has_late (step displays call answer es) c) c (able es c)
 
 -- The mask of the live channels after a step.
 abbrev pub LiveMaskLaw : Type 0
@@ -165,7 +171,8 @@ AbleMaskLaw =
     (displays : List ℕ) (call : Call) (answer : Reply) (es : List Effect) (mask : ℕ)
     → Lawful displays (step displays call answer es)
     → mask_has mask ≡ able es
-    → mask_has (able_mask_after call answer (has_late (step displays call answer es)) mask) ≡ able (step displays call answer es)
+    → mask_has (able_mask_after call answer (has_late (step displays call answer es)) mask)
+    ≡ able (step displays call answer es)
 
 -- When a channel is due, by what is kept of it.
 abbrev pub DueLaw : Type 0
@@ -185,11 +192,12 @@ QuietDueLaw =
 abbrev pub NotLiveDueLaw : Type 0
 NotLiveDueLaw = (es : List Effect) (c : ℕ) → live (past_of es) c ≡ false → due_moment es c ≡ None
 
--- A table of dues after a step: it is written again for channels, among which are all that are told something, have a part in the step
--- or are not able as before.
+-- A table of dues after a step: it is written again for channels, among which are all that are told something, have a
+-- part in the step or are not able as before.
 abbrev pub DuesLaw : Type 0
 DuesLaw =
-    (displays : List ℕ) (call : Call) (answer : Reply) (es : List Effect) (changed : ℕ → Bool) (before later : ℕ → Option ℕ) (kept : ℕ → ChannelState)
+    (displays : List ℕ) (call : Call) (answer : Reply) (es : List Effect) (changed : ℕ → Bool)
+    (before later : ℕ → Option ℕ) (kept : ℕ → ChannelState)
     → Lawful displays (step displays call answer es)
     → before ≡ due_moment es
     → ((c : ℕ)
@@ -242,7 +250,8 @@ SilentCalls =
 -- Before any call nothing is kept.
 abbrev pub DeliveryStart : Type 0
 DeliveryStart =
-    (channel : ℕ → ChannelState) → DeliveryIs [] (record { count = 0; channel = channel; live = 0; able = 0; due = λ c. None; noted = [] })
+    (channel : ℕ → ChannelState)
+    → DeliveryIs [] (record { count = 0; channel = channel; live = 0; able = 0; due = λ c. None; noted = [] })
 
 -- What is kept of all channels goes on with any step.
 abbrev pub DeliveryLaw : Type 0
@@ -250,5 +259,6 @@ DeliveryLaw =
     (displays : List ℕ) (call : Call) (answer : Reply) (es : List Effect) (changed : ℕ → Bool) (k later : Delivery)
     → Lawful displays (step displays call answer es)
     → DeliveryIs es k
-    → GoesOn call answer es (said_at displays call answer es) (clock (past_of (step displays call answer es))) changed k later
+    → let now = clock (past_of (step displays call answer es)) in
+    GoesOn call answer es (said_at displays call answer es) now changed k later
     → DeliveryIs (step displays call answer es) later

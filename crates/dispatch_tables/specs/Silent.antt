@@ -6,8 +6,8 @@ use Rattle.dispatch_calls.specs.declared.call.Call.TheVariants.{Open, Notify, Pu
 use Rattle.dispatch_calls.specs.declared.reply.Reply.{Reply}
 use Rattle.dispatch_calls.specs.declared.reply.Reply.TheVariants.{Full, Done, Idle, Named, Gone}
 
--- Owners that receive or finish, args that are handed in, a pump for which nothing waits and what is refused tell nobody anything; a tick
--- tells those alone that it names.
+-- Owners that receive or finish, args that are handed in, a pump for which nothing waits and what is refused tell nobody
+-- anything; a tick tells those alone that it names.
 abbrev pub is_silent : Call → Reply → (channel : ℕ) → Bool
 is_silent (Receive channel) answer c = true
 is_silent (Finish now channel seq) answer c = true

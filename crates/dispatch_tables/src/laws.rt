@@ -8,7 +8,8 @@ pub fn lawful()
     ensures last { LawfulLast }
 {}
 
-/// What is kept of a channel, and what a step makes of it. It is published at the clock after the step, which it may be then.
+/// What is kept of a channel, and what a step makes of it. It is published at the clock after the step, which it may be
+/// then.
 pub fn channels()
     ensures facts { KeptFacts }
     ensures numbers { NumberedLaw }
@@ -17,7 +18,8 @@ pub fn channels()
     ensures unopened { KeptUnopened }
 {}
 
-/// The channels that a step does not concern are kept as they were, and many steps tell nothing; messages that were received may be let go.
+/// The channels that a step does not concern are kept as they were, and many steps tell nothing. Messages that were
+/// received may be let go.
 pub fn quiet_channels()
     ensures quiet { KeptQuiet }
     ensures not_live { KeptNotLive }
