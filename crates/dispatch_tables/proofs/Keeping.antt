@@ -21,7 +21,7 @@ use Rattle.dispatch_tables.specs.Laws.{KeptStep, KeptReady, KeptUnopened, KeptQu
 use Rattle.dispatch_tables.proofs.Lawfuls.{lawful_last}
 use Rattle.dispatch_tables.proofs.Stepping.{received_more}
 use Rattle.dispatch_tables.proofs.Channels.{sound, stepped, channel_step}
-use Rattle.dispatch_tables.proofs.Kept.{channel_law, ready_law, quiet_law, let_go_law}
+use Rattle.dispatch_tables.proofs.Kept.{none_after_clock, all_published, channel_law, ready_law, quiet_law, let_go_law}
 use Rattle.dispatch_tables.proofs.Unopened.{not_live_law, unopened_law}
 use Rattle.dispatch_tables.proofs.Answering.{receive_law, finish_law, oldest_law, late_law, counts_law}
 use Rattle.dispatch_tables.proofs.Duties.{due_law, quiet_due_law}
@@ -85,10 +85,15 @@ kept_less ds es c s l k = (
 
 pub kept_facts : KeptFacts
 kept_facts ds es c s l k =
-    kept
-    (λ t.
-    IsChannel t × (sent t ≡ length (stream es c)) × (publishable t ≡ t.published) × ((now : ℕ) → clock (past_of es) ≤ now → NoneAfter now t.unfinished))
-    es c s k (λ gone spare le. channel_law ds es c gone spare l le)
+    let facts =
+    kept (λ t. IsChannel t × (sent t ≡ length (stream es c)) × (publishable t ≡ t.published)) es c s k
+    (λ gone spare le. channel_law ds es c gone spare l le) in (
+      facts.0,
+      facts.1,
+      λ now. all_published now s facts.2,
+      λ now old.
+          kept (λ t. NoneAfter now t.unfinished) es c s k (λ gone spare le. none_after_clock ds es c gone spare now l old),
+    )
 
 pub kept_receive : ReceiveLaw
 kept_receive ds es c s l k =

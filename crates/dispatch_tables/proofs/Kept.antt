@@ -1,7 +1,7 @@
 -- What is kept of a channel is a channel.
 use Rattle.std.proofs.Common.{◌≡◌, ℕ, suc, ◌+◌, ◌-◌, ◌≤◌, ◌==◌, nat_le, nat_lt, min, max, Bool, true, false, not, ◌&&◌, ◌||◌, cond, List, [], ◌∷◌, ◌++◌, length, reverse, take, drop, map, filter, refl, sym, ap, ◌∙◌, subst, inl, inr, arith, length-append, length-drop, append-nil, drop-drop}
 use Rattle.std.proofs.lemmas.List.{length-reverse, length-take}
-use Rattle.std.proofs.lemmas.Bool.{cases_eq, eq-eqb, ne_eqb, le-leb}
+use Rattle.std.proofs.lemmas.Bool.{cases_eq, eq-eqb, ne_eqb, le-leb, lt-ltb, ltb-true, leb-true}
 use Rattle.std.proofs.lemmas.Bool.Decides.{nat_tests}
 use Rattle.input_types.specs.declared.message.Body.{Body}
 use Rattle.input_types.specs.declared.message.Message.{Message}
@@ -70,6 +70,9 @@ told_after : (now : ℕ) (bs : List Body) (s : ChannelState) → NoneAfter now s
     → NoneAfter now (enqueued_all bs now s).unfinished
 told_after now bs s h = subst (λ t. NoneAfter now t.unfinished) (sym (enqueued_is now bs s (sent s) refl)) h
 
+not_below_itself : (n seq : ℕ) → n ≡ seq → nat_lt n seq ≡ false
+not_below_itself n seq e = grind (arith, nat_tests)
+
 lt_next : (n seq : ℕ) → (suc n ≡ seq → ⊥) → nat_lt (suc n) seq ≡ nat_lt n seq
 lt_next n seq ne = grind (arith, nat_tests)
 
@@ -83,7 +86,7 @@ pub has_seq-waiting : (done : ℕ → Bool) (at : ℕ → ℕ) (seq n : ℕ) (ms
 has_seq-waiting done at seq n [] h = none (nat_lt n seq) (nat_le seq (n + 0)) refl refl
   where
     none : (a b : Bool) → nat_lt n seq ≡ a → nat_le seq (n + 0) ≡ b → false ≡ (a && b && not (done seq))
-    none true true e f = absurd (grind (arith, nat_tests))
+    none true true e f = absurd (omega (arith, ltb-true n seq e, leb-true seq (n + 0) f))
     none true false e f = refl
     none false b e f = refl
 has_seq-waiting done at seq n (m ∷ ms) h =
@@ -98,12 +101,13 @@ has_seq-waiting done at seq n (m ∷ ms) h =
         → has_seq seq (map (with_delivery at) (cond (not b) (m ∷ filter (λ m. not (done m.seq)) ms) (filter (λ m. not (done m.seq)) ms)))
         ≡ (nat_lt n seq && nat_le seq (n + suc (length ms)) && not (done seq))
     here e true f r =
-        let low : nat_lt (suc n) seq ≡ false = grind (arith, nat_tests, h.0) in
+        let low : nat_lt (suc n) seq ≡ false = not_below_itself (suc n) seq (sym h.0 ∙ e) in
         let d : done seq ≡ true = subst (λ k. done k ≡ true) e f in
         r ∙ ap (λ b. b && nat_le seq (suc n + length ms) && not (done seq)) low ∙ rw d (sym (and_false (nat_lt n seq && nat_le seq (n + suc (length ms)))))
     here e false f r =
-        let low : nat_lt n seq ≡ true = grind (arith, nat_tests, h.0) in
-        let high : nat_le seq (n + suc (length ms)) ≡ true = grind (arith, nat_tests, h.0) in
+        let next : suc n ≡ seq = sym h.0 ∙ e in
+        let low : nat_lt n seq ≡ true = lt-ltb n seq (omega (arith, next)) in
+        let high : nat_le seq (n + suc (length ms)) ≡ true = le-leb seq (n + suc (length ms)) (omega (arith, next)) in
         let d : done seq ≡ false = subst (λ k. done k ≡ false) e f in
         rw (eq-eqb m.seq seq e, low, high, d) refl
 
@@ -255,18 +259,24 @@ whole_channel ds es c l =
     es l
 
 -- with its first messages let go
-pub channel_law : (ds : List ℕ) (es : List Effect) (c gone spare : ℕ) → Lawful ds es → gone ≤ received (past_of es) c
-    → IsChannel (channel_at es c gone spare) × (sent (channel_at es c gone spare) ≡ length (stream es c)) × (publishable (channel_at es c gone spare) ≡ published es c) × ((now : ℕ) → clock (past_of es) ≤ now → NoneAfter now (channel_at es c gone spare).unfinished)
+pub channel_law :
+    (ds : List ℕ) (es : List Effect) (c gone spare : ℕ)
+    → Lawful ds es
+    → gone ≤ received (past_of es) c
+    → IsChannel (channel_at es c gone spare)
+    × (sent (channel_at es c gone spare) ≡ length (stream es c))
+    × (publishable (channel_at es c gone spare) ≡ published es c)
 channel_law ds es c gone spare l le =
     let h = whole_channel ds es c l in
     let s = channel_at es c 0 0 in
-    let kept : gone ≤ length (reverse (stream es c)) = omega (arith, le, (sound ds es c l).received_published, length-reverse (stream es c)) in
+    let few : received (past_of es) c ≤ published es c = (sound ds es c l).received_published in
+    let kept : gone ≤ length (reverse (stream es c)) = omega (arith, le, few, length-reverse (stream es c)) in
     let all : gone + length (drop gone (reverse (stream es c))) ≡ length (stream es c) =
     omega (arith, kept, length-drop gone (reverse (stream es c)), length-reverse (stream es c)) in (
-      other_messages s gone spare (drop gone (reverse (stream es c))) h le (omega (arith, all, length-reverse (stream es c))),
+      other_messages s gone spare (drop gone (reverse (stream es c))) h le
+          (omega (arith, all, length-reverse (stream es c))),
       all,
       ap (λ n. min n (length (finished (past_of es) c) + 64)) all,
-      λ now old. none_after_clock ds es c gone spare now l old,
     )
 
 pub numbered_law : NumberedLaw
@@ -283,7 +293,7 @@ ready_law ds call answer es c gone spare bodies l le =
     (part_after now (part_of call answer c) s (none_after_clock ds es c gone spare now (lawful_last ds call answer es l).1 old))
 
 -- a channel of which all that can be is published stays as it is
-all_published : (now : ℕ) (s : ChannelState) → publishable s ≡ s.published → published_at now s ≡ s
+pub all_published : (now : ℕ) (s : ChannelState) → publishable s ≡ s.published → published_at now s ≡ s
 all_published now s e =
     let none : publishable s - s.published ≡ 0 = omega (arith, e) in
     λ i. record s {

@@ -61,7 +61,7 @@ pub among : (p : ℕ → Bool) (n c : ℕ)
 among p zero c = none (nat_le 1 c) (nat_le c 0) (p c) refl refl
   where
     none : (a b x : Bool) → nat_le 1 c ≡ a → nat_le c 0 ≡ b → false ≡ (a && b && x)
-    none true true x e f = absurd (grind (arith, nat_tests))
+    none true true x e f = absurd (omega (arith, leb-true 1 c e, leb-true c 0 f))
     none true false x e f = refl
     none false b x e f = refl
 among p (suc n) c =

@@ -7,7 +7,7 @@ use Rattle.dispatch_calls.specs.declared.call.Call.{Call}
 use Rattle.dispatch_calls.specs.declared.reply.Reply.{Reply}
 use Rattle.dispatch_calls.specs.declared.reply.Reply.TheVariants.{Done, Gone, Named, UnknownSeq}
 use Rattle.input_channel.specs.Order.{NoneAfter}
-use Rattle.input_channel.specs.State.{ChannelState, IsChannel, sent, publishable, published_at, next_of, may_finish, oldest_of, let_go_of, with_spare, opened_with}
+use Rattle.input_channel.specs.State.{ChannelState, IsChannel, sent, published_at, next_of, may_finish, oldest_of, let_go_of, with_spare, opened_with}
 use Rattle.input_channel.specs.State.{has_late as late_at}
 use Rattle.dispatch_history.specs.History.{History, clock, live, opened}
 use Rattle.dispatch_history.specs.Effect.{Effect, past_of, stream}
@@ -93,8 +93,8 @@ KeptLess =
     → Keeps es c s
     → Keeps es c (let_go_of s) × ((n : ℕ) → Keeps es c (with_spare n s))
 
--- What is kept is a channel, which has as many messages as its stream; all that can be is published, and no message was
--- delivered after the clock.
+-- What is kept is a channel, which has as many messages as its stream; all that can be is published, so that it stays as it
+-- is where it is published again; and no message was delivered after the clock.
 abbrev pub KeptFacts : Type 0
 KeptFacts =
     (displays : List ℕ) (es : List Effect) (c : ℕ) (s : ChannelState)
@@ -102,7 +102,7 @@ KeptFacts =
     → Keeps es c s
     → IsChannel s
     × (sent s ≡ length (stream es c))
-    × (publishable s ≡ s.published)
+    × ((now : ℕ) → published_at now s ≡ s)
     × ((now : ℕ) → clock (past_of es) ≤ now → NoneAfter now s.unfinished)
 
 -- The messages of a stream are numbered from 1, in order.
