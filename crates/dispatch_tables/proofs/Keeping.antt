@@ -17,12 +17,12 @@ use Rattle.dispatch_history.specs.Effects.{step, said_at}
 use Rattle.dispatch_tables.specs.Lawful.{Lawful}
 use Rattle.dispatch_tables.specs.Channel.{Keeps, channel_at, part_of, with_part, enqueued_all, counts_of}
 use Rattle.dispatch_tables.specs.Dues.{due_moment, due_in}
-use Rattle.dispatch_tables.specs.Laws.{KeptStep, KeptReady, KeptUnopened, KeptQuiet, KeptNotLive, KeptLess, KeptFacts, ReceiveLaw, FinishLaw, OldestLaw, LateLaw, CountsLaw, DueLaw, DuesLaw}
+use Rattle.dispatch_tables.specs.Laws.{KeptStep, KeptReady, KeptUnopened, KeptQuiet, KeptLess, KeptFacts, ReceiveLaw, FinishLaw, OldestLaw, LateLaw, CountsLaw, DueLaw, DuesLaw}
 use Rattle.dispatch_tables.proofs.Lawfuls.{lawful_last}
 use Rattle.dispatch_tables.proofs.Stepping.{received_more}
 use Rattle.dispatch_tables.proofs.Channels.{sound, stepped, channel_step}
 use Rattle.dispatch_tables.proofs.Kept.{none_after_clock, all_published, channel_law, ready_law, quiet_law, let_go_law}
-use Rattle.dispatch_tables.proofs.Unopened.{not_live_law, unopened_law}
+use Rattle.dispatch_tables.proofs.Unopened.{unopened_law}
 use Rattle.dispatch_tables.proofs.Answering.{receive_law, finish_law, oldest_law, late_law, counts_law}
 use Rattle.dispatch_tables.proofs.Duties.{due_law, quiet_due_law}
 
@@ -67,13 +67,6 @@ kept_quiet ds call answer es c s l k none untouched =
     let later = step ds call answer es in
     kept (Keeps later c) es c s k (λ gone spare le.
     subst (Keeps later c) (quiet_law ds call answer es c gone spare l le none untouched)
-    (keeps_at later c gone spare (omega (arith, le, received_grows ds call answer es c l))))
-
-pub kept_not_live : KeptNotLive
-kept_not_live ds call answer es c s l k n =
-    let later = step ds call answer es in
-    kept (Keeps later c) es c s k (λ gone spare le.
-    subst (Keeps later c) (not_live_law ds call answer es c gone spare l le n)
     (keeps_at later c gone spare (omega (arith, le, received_grows ds call answer es c l))))
 
 pub kept_less : KeptLess

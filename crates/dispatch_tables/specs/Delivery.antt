@@ -53,7 +53,7 @@ pub record GoesOn
   pub count_is : later.count ≡ opened_after call answer k.count
   pub changes : (c : ℕ) → changed c ≡ true → 1 ≤ c → c ≤ later.count
       → (s : ChannelState) × Keeps es c s × (later.channel c ≡ channel_after call answer (told c) now c s)
-  pub stays : (c : ℕ) → changed c ≡ false
+  pub stays : (c : ℕ) → changed c ≡ false → 1 ≤ c → c ≤ later.count
       → (later.channel c ≡ k.channel c) × (told c ≡ []) × (part_of call answer c ≡ Untouched)
       × (mask_has later.able c ≡ mask_has k.able c)
   pub live_is : later.live ≡ live_mask_after call answer k.live

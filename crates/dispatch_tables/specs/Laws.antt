@@ -76,16 +76,15 @@ KeptQuiet =
     → part_of call answer c ≡ Untouched
     → Keeps (step displays call answer es) c s
 
--- So is a channel that is not live after the step.
-abbrev pub KeptNotLive : Type 0
-KeptNotLive =
-    (displays : List ℕ) (call : Call) (answer : Reply) (es : List Effect) (c : ℕ) (s : ChannelState)
+-- A channel that is not live after a step is told nothing, and has no part in it.
+abbrev pub NotLiveLaw : Type 0
+NotLiveLaw =
+    (displays : List ℕ) (call : Call) (answer : Reply) (es : List Effect) (c : ℕ)
     → Lawful displays (step displays call answer es)
-    → Keeps es c s
     → live (past_of (step displays call answer es)) c ≡ false
-    → Keeps (step displays call answer es) c s
+    → (said_at displays call answer es c ≡ []) × (part_of call answer c ≡ Untouched)
 
--- It is kept all the same once the messages that were received are let go, and where it has more room.
+-- A channel is kept all the same once the messages that were received are let go, and where it has more room.
 abbrev pub KeptLess : Type 0
 KeptLess =
     (displays : List ℕ) (es : List Effect) (c : ℕ) (s : ChannelState)

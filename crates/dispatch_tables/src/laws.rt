@@ -1,5 +1,5 @@
 //! What is proved of what is kept. Each function has the laws as its clauses, and does nothing.
-ghost use Rattle.dispatch_tables.specs.Laws.{LawfulEffects, LawfulStep, LawfulLast, KeptStep, KeptReady, KeptUnopened, KeptQuiet, KeptNotLive, KeptLess, KeptFacts, NumberedLaw, ReceiveLaw, FinishLaw, OldestLaw, LateLaw, CountsLaw, OpenedFew, AbleLaw, LiveMaskLaw, AbleMaskLaw, DueLaw, QuietDueLaw, NotLiveDueLaw, DuesLaw, FirstDueLaw, NamedLaw, NamingsLaw, NamingsKeptLaw, SilentCalls, DeliveryStart, DeliveryLaw};
+ghost use Rattle.dispatch_tables.specs.Laws.{LawfulEffects, LawfulStep, LawfulLast, KeptStep, KeptReady, KeptUnopened, KeptQuiet, NotLiveLaw, KeptLess, KeptFacts, NumberedLaw, ReceiveLaw, FinishLaw, OldestLaw, LateLaw, CountsLaw, OpenedFew, AbleLaw, LiveMaskLaw, AbleMaskLaw, DueLaw, QuietDueLaw, NotLiveDueLaw, DuesLaw, FirstDueLaw, NamedLaw, NamingsLaw, NamingsKeptLaw, SilentCalls, DeliveryStart, DeliveryLaw};
 
 /// Effects of legal histories: a step that is answered as it is to be keeps them so, and each step was.
 pub fn lawful()
@@ -22,7 +22,7 @@ pub fn channels()
 /// received may be let go.
 pub fn quiet_channels()
     ensures quiet { KeptQuiet }
-    ensures not_live { KeptNotLive }
+    ensures not_live { NotLiveLaw }
     ensures less { KeptLess }
     ensures silent { SilentCalls }
 {}
