@@ -15,11 +15,12 @@ use Rattle.dispatch_calls.specs.declared.counts.Naming.{Naming}
 use Rattle.dispatch_calls.specs.declared.reply.Reply.{Reply}
 use Rattle.dispatch_calls.specs.declared.reply.Reply.TheVariants.{Named}
 use Rattle.window_snapshot.specs.Mask.{mask_has}
+use Rattle.window_snapshot.proofs.Masks.{same_mask}
 use Rattle.dispatch_history.specs.History.{clock, limit_of, live, opened}
 use Rattle.dispatch_history.specs.Effect.{Effect, past_of}
 use Rattle.dispatch_history.specs.Effects.{channels, step}
 use Rattle.dispatch_history.specs.Delivery.{able, unresponsive, delivery, oldest}
-use Rattle.dispatch_history.specs.Due.{Due, due_at, sooner_due, first_due, is_late_at, naming_of, namings, namings_by}
+use Rattle.dispatch_history.specs.Due.{Due, due_at, sooner_due, first_due, is_late_at, mask_of, named, naming_of, namings, namings_by}
 use Rattle.dispatch_history.specs.Reply.{is_due}
 use Rattle.dispatch_tables.specs.Lawful.{Lawful}
 use Rattle.dispatch_tables.specs.Channel.{channel_at}
@@ -28,6 +29,7 @@ use Rattle.dispatch_tables.specs.Laws.{QuietDueLaw, NotLiveDueLaw, FirstDueLaw, 
 use Rattle.dispatch_tables.proofs.Kept.{quiet_law}
 use Rattle.dispatch_tables.proofs.Answering.{oldest_law}
 use Rattle.dispatch_tables.proofs.Unopened.{unopened_not_live}
+use Rattle.dispatch_tables.proofs.Masking.{mask_of-low}
 use Rattle.dispatch_tables.proofs.Ables.{live_number, named_mask}
 
 pub due_law : (es : List Effect) (c gone spare : ℕ) → due_moment es c ≡ due_in (able es c) (channel_at es c gone spare)
@@ -241,6 +243,9 @@ named_law ds es now l = (
   filter_agree (λ c. able es c && is_late_at es c (max now (clock (past_of es))) (oldest es c)) (λ c. is_due (due_moment es c) (max now (clock (past_of es))))
       (λ c. late_is_due es c (max now (clock (past_of es))) (able es c) (oldest es c)) (channels (opened (past_of es))),
   λ c. named_mask ds es now c l ∙ late_is_due es c (max now (clock (past_of es))) (able es c) (oldest es c),
+  λ mask low same.
+      same_mask mask (mask_of (named es now)) low (mask_of-low (named es now))
+      (λ c. same c ∙ sym (late_is_due es c (max now (clock (past_of es))) (able es c) (oldest es c)) ∙ sym (named_mask ds es now c l)),
 )
 
 naming_is : (es : List Effect) (at c : ℕ) (s : ChannelState) → oldest_of s ≡ oldest_of (channel_at es c 0 0)

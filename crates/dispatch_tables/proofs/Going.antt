@@ -1,7 +1,7 @@
 -- What is kept of all channels goes on with any step.
-use Rattle.std.proofs.Common.{◌≡◌, ◌≢◌, ◌⊎◌, ℕ, zero, suc, ◌+◌, ◌≤◌, nat_lt, Bool, true, false, cond, List, ◌++◌, None, refl, sym, ap, ap₂, ◌∙◌, subst, inl, inr, arith}
+use Rattle.std.proofs.Common.{◌≡◌, ◌≢◌, ◌⊎◌, ℕ, suc, ◌+◌, ◌≤◌, nat_lt, Bool, true, false, cond, List, ◌++◌, None, refl, sym, ap, ap₂, ◌∙◌, subst, inl, inr, arith}
 use Rattle.std.proofs.Math.Path.{fun_ext}
-use Rattle.std.proofs.lemmas.Bool.{cases_Bool, cases_lt, cases_cond, cases_eq, eq-eqb, and_parts}
+use Rattle.std.proofs.lemmas.Bool.{cases_cond, cases_eq, eq-eqb, and_parts}
 use Rattle.window_snapshot.specs.Mask.{mask_has, mask_with}
 use Rattle.window_snapshot.proofs.Masks.{mask_has-zero}
 use Rattle.input_channel.specs.State.{has_late as late_at}
@@ -21,11 +21,11 @@ use Rattle.dispatch_tables.specs.Masks.{able_mask_after}
 use Rattle.dispatch_tables.specs.Dues.{due_moment, due_in, namings_in}
 use Rattle.dispatch_tables.specs.Delivery.{Delivery, DeliveryIs, noted_after}
 use Rattle.dispatch_history.proofs.MotionLaws.{opened_mono}
-use Rattle.dispatch_tables.specs.Laws.{DeliveryStart, DeliveryLaw}
+use Rattle.dispatch_tables.specs.Laws.{DeliveryStart, DeliveryLaw, DeliveryDue}
 use Rattle.dispatch_tables.proofs.Lawfuls.{lawful_last}
 use Rattle.dispatch_tables.proofs.Unopened.{done_live}
 use Rattle.dispatch_tables.proofs.Ables.{live_number, live_mask_law, able_mask_law}
-use Rattle.dispatch_tables.proofs.Duties.{oldest_due, quiet_due_law, not_live_due_law, namings_law, namings_kept_law}
+use Rattle.dispatch_tables.proofs.Duties.{oldest_due, namings_law, namings_kept_law}
 use Rattle.dispatch_tables.proofs.Keeping.{kept_step, kept_quiet, kept_late, kept_due}
 
 pub delivery_start : DeliveryStart
@@ -35,7 +35,6 @@ delivery_start channel =
       keeps = λ c from to. absurd (omega (arith, from, to));
       live_is = fun_ext mask_has-zero;
       able_is = fun_ext mask_has-zero;
-      due_is = refl;
       noted_is = refl;
     }
 
@@ -61,23 +60,6 @@ there_or_part es c (Open limit) (Opened k) r le =
     below n k e ne le = omega (arith, e, ne, le)
 there_or_part es c (Open limit) _ r le = inl le
 there_or_part es c _ answer r le = inl le
-
-in_range : (c n : ℕ) → ((1 ≤ c) × (c ≤ n)) ⊎ (1 ≤ c → c ≤ n → ⊥)
-in_range zero n = inr (λ from to. absurd (omega (arith, from)))
-in_range (suc c) n =
-    elim (cases_lt n (suc c)) [
-      | inl lt ↦ inr (λ from to. absurd (omega (arith, lt, to)))
-      | inr le ↦ inl (omega arith, le)
-    ]
-
--- a channel whose number was not given is not live
-outside : (ds : List ℕ) (es : List Effect) (c : ℕ) → Lawful ds es → (1 ≤ c → c ≤ opened (past_of es) → ⊥)
-    → live (past_of es) c ≡ false
-outside ds es c l far =
-    elim (cases_Bool (live (past_of es) c)) [
-      | inl y ↦ let number = live_number ds es c l y in absurd (far number.0 number.1)
-      | inr n ↦ n
-    ]
 
 -- whose late messages matter
 same_late : (call : Call) (answer : Reply) (f g : ℕ → Bool) (mask : ℕ)
@@ -106,7 +88,6 @@ delivery_law ds call answer es changed k later l h g =
       keeps = keeps;
       live_is = ap mask_has g.live_is ∙ live_mask_law ds call answer es k.live l h.live_is;
       able_is = able_is;
-      due_is = fun_ext (λ c. g.due_is c ∙ due_at c (changed c) refl);
       noted_is = g.noted_is ∙ notes ds call answer es k h;
     }
   where
@@ -151,36 +132,13 @@ delivery_law ds call answer es changed k later l h g =
         ∙ same_late call answer (λ c. late_at (clock (past_of (step ds call answer es))) (later.channel c)) (has_late (step ds call answer es)) k.able late_is)
         ∙ able_mask_law ds call answer es k.able l h.able_is
 
-    due_kept : (c : ℕ) (b : Bool) → able (step ds call answer es) c ≡ b
-        → due_in (able (step ds call answer es) c) (later.channel c) ≡ due_moment (step ds call answer es) c
-    due_kept c true e =
-        let number = live_number ds (step ds call answer es) c l (and_parts (live (past_of (step ds call answer es)) c) _ e).0 in
-        let to : c ≤ later.count = subst (λ n. c ≤ n) (sym all) number.1 in
-        sym (kept_due (step ds call answer es) c (later.channel c) (keeps c number.0 to))
-    due_kept c false e =
-        ap (λ b. due_in b (later.channel c)) e ∙ sym (ap (λ b. cond b (oldest_due (step ds call answer es) c) None) e)
-
-    due_at : (c : ℕ) (b : Bool) → changed c ≡ b
-        → cond (changed c) (due_in (mask_has later.able c) (later.channel c)) (k.due c)
-        ≡ due_moment (step ds call answer es) c
-    due_at c true e =
-        ap (λ b. cond b (due_in (mask_has later.able c) (later.channel c)) (k.due c)) e
-        ∙ ap (λ f. due_in (f c) (later.channel c)) able_is
-        ∙ due_kept c (able (step ds call answer es) c) refl
-    due_at c false e =
-        ap (λ b. cond b (due_in (mask_has later.able c) (later.channel c)) (k.due c)) e
-        ∙ ap (λ f. f c) h.due_is
-        ∙ elim (in_range c later.count) [
-          | inl within ↦
-              let x = g.stays c e within.0 within.1 in
-              let same : able (step ds call answer es) c ≡ able es c =
-              ap (λ f. f c) (sym able_is) ∙ x.3 ∙ ap (λ f. f c) h.able_is in
-              sym (quiet_due_law ds call answer es c l x.1 x.2 same)
-          | inr far ↦
-              let grows = opened_mono call answer (opened (past_of es)) in
-              not_live_due_law es c
-              (outside ds es c was (λ from to. far from (subst (λ n. c ≤ n) (sym all) (omega (arith, to, grows)))))
-              ∙ sym
-              (not_live_due_law (step ds call answer es) c
-              (outside ds (step ds call answer es) c l (λ from to. far from (subst (λ n. c ≤ n) (sym all) to))))
-        ]
+-- the channels are due as by what is kept
+pub delivery_due : DeliveryDue
+delivery_due ds es k l h = fun_ext (λ c. ap (λ f. due_in (f c) (k.channel c)) h.able_is ∙ by_able c (able es c) refl)
+  where
+    by_able : (c : ℕ) (b : Bool) → able es c ≡ b → due_in (able es c) (k.channel c) ≡ due_moment es c
+    by_able c true e =
+        let number = live_number ds es c l (and_parts (live (past_of es) c) _ e).0 in
+        sym (kept_due es c (k.channel c) (h.keeps c number.0 (subst (λ n. c ≤ n) (sym h.count_is) number.1)))
+    by_able c false e =
+        ap (λ b. due_in b (k.channel c)) e ∙ sym (ap (λ b. cond b (oldest_due es c) None) e)

@@ -1,5 +1,5 @@
 -- What is proved of what is kept. Each law is the clause of a function of its own.
-use Rattle.std.specs.Prelude.{◌≡◌, ℕ, ◌<◌, ◌≤◌, max, Bool, false, true, not, ◌&&◌, nat_le, List, [], ◌++◌, filter, length, reverse, Option, Some, None, option_map, if◌then◌else◌}
+use Rattle.std.specs.Prelude.{◌≡◌, ℕ, ◌^◌, ◌<◌, ◌≤◌, max, Bool, false, true, not, ◌&&◌, nat_le, List, [], ◌++◌, filter, length, reverse, Option, Some, None, option_map, if◌then◌else◌}
 use Rattle.input_types.specs.declared.message.Body.{Body}
 use Rattle.window_snapshot.specs.Mask.{mask_has}
 use Rattle.anr_tracker.specs.Due.{IsFirst}
@@ -19,7 +19,7 @@ use Rattle.dispatch_history.specs.Reply.{reply_to, receive_reply, finish_reply, 
 use Rattle.dispatch_tables.specs.Lawful.{Lawful}
 use Rattle.dispatch_tables.specs.Channel.{Keeps, part_of, Untouched, with_part, enqueued_all, NumberedFrom, counts_of}
 use Rattle.dispatch_tables.specs.Masks.{able_after, live_mask_after, able_mask_after}
-use Rattle.dispatch_tables.specs.Delivery.{Delivery, DeliveryIs, GoesOn}
+use Rattle.dispatch_tables.specs.Delivery.{Delivery, DeliveryIs, GoesOn, due_kept}
 use Rattle.dispatch_tables.specs.Silent.{is_silent}
 use Rattle.dispatch_tables.specs.Dues.{due_moment, due_in, due_pair, namings_in, is_named}
 
@@ -216,7 +216,7 @@ FirstDueLaw =
     → IsFirst (due_moment es) first
     → first_due es ≡ option_map due_pair first
 
--- A tick names the channels that are due at the clock that it makes.
+-- A tick names the channels that are due at the clock that it makes; its answer is the mask that has just those.
 abbrev pub NamedLaw : Type 0
 NamedLaw =
     (displays : List ℕ) (es : List Effect) (now : ℕ)
@@ -224,6 +224,7 @@ NamedLaw =
     → let at = max now (clock (past_of es)) in
     (named es now ≡ filter (λ c. is_due (due_moment es c) at) (channels (opened (past_of es))))
     × ((c : ℕ) → mask_has (mask_of (named es now)) c ≡ is_due (due_moment es c) at)
+    × ((mask : ℕ) → mask < 2 ^ 64 → ((c : ℕ) → mask_has mask c ≡ is_due (due_moment es c) at) → mask ≡ mask_of (named es now))
 
 -- A step that names channels notes its clock and the oldest unfinished message of each.
 abbrev pub NamingsLaw : Type 0
@@ -250,7 +251,7 @@ SilentCalls =
 abbrev pub DeliveryStart : Type 0
 DeliveryStart =
     (channel : ℕ → ChannelState)
-    → DeliveryIs [] (record { count = 0; channel = channel; live = 0; able = 0; due = λ c. None; noted = [] })
+    → DeliveryIs [] (record { count = 0; channel = channel; live = 0; able = 0; noted = [] })
 
 -- What is kept of all channels goes on with any step.
 abbrev pub DeliveryLaw : Type 0
@@ -261,3 +262,9 @@ DeliveryLaw =
     → let now = clock (past_of (step displays call answer es)) in
     GoesOn call answer es (said_at displays call answer es) now changed k later
     → DeliveryIs (step displays call answer es) later
+
+-- The channels are due as by what is kept.
+abbrev pub DeliveryDue : Type 0
+DeliveryDue =
+    (displays : List ℕ) (es : List Effect) (k : Delivery)
+    → Lawful displays es → DeliveryIs es k → due_kept k ≡ due_moment es
