@@ -14,3 +14,4 @@ pub mod Keeping
 pub mod Examples
 pub mod Silence
 pub mod Going
+pub mod Resting

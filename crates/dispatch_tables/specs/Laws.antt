@@ -20,7 +20,7 @@ use Rattle.dispatch_tables.specs.Lawful.{Lawful}
 use Rattle.dispatch_tables.specs.Channel.{Keeps, part_of, Untouched, with_part, enqueued_all, NumberedFrom, counts_of}
 use Rattle.dispatch_tables.specs.Masks.{able_after, live_mask_after, able_mask_after}
 use Rattle.dispatch_tables.specs.Delivery.{Delivery, DeliveryIs, GoesOn, due_kept}
-use Rattle.dispatch_tables.specs.Silent.{is_silent}
+use Rattle.dispatch_tables.specs.Silent.{is_silent, is_resting}
 use Rattle.dispatch_tables.specs.Dues.{due_moment, due_in, due_pair, namings_in, is_named}
 
 -- The effects of a legal history are lawful, and so are none.
@@ -268,3 +268,12 @@ abbrev pub DeliveryDue : Type 0
 DeliveryDue =
     (displays : List ℕ) (es : List Effect) (k : Delivery)
     → Lawful displays es → DeliveryIs es k → due_kept k ≡ due_moment es
+
+-- Steps that leave all channels as they are.
+abbrev pub DeliveryRests : Type 0
+DeliveryRests =
+    (displays : List ℕ) (call : Call) (answer : Reply) (es : List Effect) (k : Delivery)
+    → Lawful displays (step displays call answer es)
+    → is_resting call answer ≡ true
+    → DeliveryIs es k
+    → DeliveryIs (step displays call answer es) k

@@ -1,5 +1,5 @@
 //! What is proved of what is kept. Each function has the laws as its clauses, and does nothing.
-ghost use Rattle.dispatch_tables.specs.Laws.{LawfulEffects, LawfulStep, LawfulLast, KeptStep, KeptReady, KeptUnopened, KeptQuiet, NotLiveLaw, KeptLess, KeptFacts, NumberedLaw, ReceiveLaw, FinishLaw, OldestLaw, LateLaw, CountsLaw, OpenedFew, AbleLaw, LiveMaskLaw, AbleMaskLaw, DueLaw, QuietDueLaw, NotLiveDueLaw, DuesLaw, FirstDueLaw, NamedLaw, NamingsLaw, NamingsKeptLaw, SilentCalls, DeliveryStart, DeliveryLaw, DeliveryDue};
+ghost use Rattle.dispatch_tables.specs.Laws.{LawfulEffects, LawfulStep, LawfulLast, KeptStep, KeptReady, KeptUnopened, KeptQuiet, NotLiveLaw, KeptLess, KeptFacts, NumberedLaw, ReceiveLaw, FinishLaw, OldestLaw, LateLaw, CountsLaw, OpenedFew, AbleLaw, LiveMaskLaw, AbleMaskLaw, DueLaw, QuietDueLaw, NotLiveDueLaw, DuesLaw, FirstDueLaw, NamedLaw, NamingsLaw, NamingsKeptLaw, SilentCalls, DeliveryStart, DeliveryLaw, DeliveryDue, DeliveryRests};
 
 /// Effects of legal histories: a step that is answered as it is to be keeps them so, and each step was.
 pub fn lawful()
@@ -64,5 +64,6 @@ pub fn namings()
 pub fn delivery()
     ensures start { DeliveryStart }
     ensures step { DeliveryLaw }
+    ensures rests { DeliveryRests }
     ensures due { DeliveryDue }
 {}
