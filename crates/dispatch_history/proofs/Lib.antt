@@ -22,3 +22,6 @@ pub mod KeyTells
 pub mod KeyLaws
 pub mod Agreeing
 pub mod WholeLaws
+pub mod Turns
+pub mod TurnLaws
+pub mod KeyPlaceLaws

@@ -1,15 +1,22 @@
 -- What the owner of a channel knows from its messages, newest first, where each of them may come.
-use Rattle.std.specs.Prelude.{ℕ, ◌+◌, ◌==◌, ◌&&◌, ◌≡◌, ◌≤◌, Bool, List, [], ◌∷◌, length, filter, Option, Some, None, option_and_then, if◌then◌else◌}
+use Rattle.std.specs.Prelude.{ℕ, ◌+◌, ◌==◌, ◌&&◌, ◌≡◌, ◌≤◌, Bool, true, false, not, List, [], ◌∷◌, length, filter, Option, Some, None, option_and_then, if◌then◌else◌}
 use Rattle.std.specs.List.{find, list_any}
 use Rattle.input_types.specs.declared.key.KeyArgs.{KeyArgs}
 use Rattle.input_types.specs.declared.key.KeyMsg.{KeyMsg}
 use Rattle.input_types.specs.declared.message.Body.{Body}
-use Rattle.input_types.specs.declared.message.Body.TheVariants.{Key as KeyBody}
+use Rattle.input_types.specs.declared.message.Body.TheVariants.{Motion as MotionBody, Key as KeyBody}
 use Rattle.input_types.specs.declared.message.Message.{Message}
+use Rattle.input_types.specs.declared.motion.Motion.{Motion}
+use Rattle.input_types.specs.declared.motion.MotionAction.{MotionAction}
+use Rattle.input_types.specs.declared.motion.MotionAction.TheVariants.{Up, Cancel, PointerUp}
+use Rattle.input_types.specs.declared.pointer.Pointer.{Pointer}
+use Rattle.input_types.specs.Gestures.{allowed}
 use Rattle.input_types.specs.StreamRule.{StreamState, after_key}
+use Rattle.routing_rules.specs.Given.{changed}
 use Rattle.routing_rules.specs.Pairs.{has}
 use Rattle.routing_rules.specs.Marks.{held}
-use Rattle.routing_rules.specs.Told.{devices}
+use Rattle.routing_rules.specs.Told.{devices, is_down}
+use Rattle.dispatch_history.specs.PointerOf.{is_of}
 use Rattle.dispatch_history.specs.Effect.{Effect, past_of, stream, down_ids}
 use Rattle.dispatch_history.specs.Focus.{has_focus}
 use Rattle.dispatch_history.specs.Keys.{keys}
@@ -42,6 +49,11 @@ told_repeat d s (m ∷ past) = repeat_after d s m.body (told_repeat d s past)
 -- the key of this device and scan code among those that a window holds
 abbrev pub held_key : List KeyArgs → ℕ → ℕ → Option KeyArgs
 held_key ks d s = find (is_key d s) ks
+
+-- no two of these keys are the same
+abbrev pub AllDiffer : List KeyArgs → Type 0
+AllDiffer [] = Unit {0}
+AllDiffer (k ∷ ks) = (held_key ks k.device k.scan ≡ None) × AllDiffer ks
 
 -- the next repeat number of a key that is held: one more than that of its last message
 abbrev pub next_repeat : Option KeyArgs → Option KeyMsg → Option ℕ
@@ -81,3 +93,30 @@ IsNumbered (m ∷ past) = (m.seq ≡ 1 + length past) × IsNumbered past
 abbrev pub NeverFalls : ℕ → List Message → Type 0
 NeverFalls bound [] = Unit {0}
 NeverFalls bound (m ∷ past) = (m.moment ≤ bound) × NeverFalls m.moment past
+
+-- a motion takes the pointer with this id of a device down
+abbrev pub takes_down : ℕ → ℕ → Motion → Bool
+takes_down d i m = m.device == d && (is_down m.action && is_of (changed m) i)
+
+-- an action that lists these pointers ends the one with this id: it goes up, also cancelled, or all are cancelled
+abbrev pub is_end_of : MotionAction → Option Pointer → List Pointer → ℕ → Bool
+is_end_of Up p listed i = is_of p i
+is_end_of PointerUp p listed i = is_of p i
+is_end_of Cancel p listed i = list_any (λ q. q.id == i) listed
+is_end_of _ p listed i = false
+
+-- a motion ends the pointer with this id of a device
+abbrev pub ends_it : ℕ → ℕ → Motion → Bool
+ends_it d i m = m.device == d && is_end_of m.action (changed m) m.pointers i
+
+-- what a message does to a pointer that is known to be down or not: it goes down where it was not, and ends where it was
+abbrev pub pointer_after : ℕ → ℕ → Body → Option Bool → Option Bool
+pointer_after d i (MotionBody m) x =
+    if takes_down d i m then option_and_then (λ is_down. allowed (not is_down) true) x
+    else if ends_it d i m then option_and_then (λ is_down. allowed is_down false) x else x
+pointer_after d i body x = x
+
+-- whether a pointer is down after messages with which it goes down and ends by turns; None where it does not
+abbrev pub told_pointer : ℕ → ℕ → List Message → Option Bool
+told_pointer d i [] = Some false
+told_pointer d i (m ∷ past) = pointer_after d i m.body (told_pointer d i past)

@@ -1,5 +1,5 @@
 -- What is proved of histories. Each law is the clause of a function of its own.
-use Rattle.std.specs.Prelude.{ℕ, ◌==◌, filter, Some, ◌≡◌, ◌≤◌, IsTrue, is_some, reverse, ◌++◌, true, false, not, ◌&&◌, ◌||◌, List, ◌∷◌, None}
+use Rattle.std.specs.Prelude.{ℕ, ◌==◌, filter, Some, ◌≡◌, ◌≤◌, ◌↔◌, IsTrue, is_some, reverse, ◌++◌, true, false, not, ◌&&◌, ◌||◌, List, ◌∷◌, None}
 use Rattle.std.specs.List.{list_any}
 use Rattle.input_types.specs.Displays.{device_display}
 use Rattle.window_snapshot.specs.Named.{is_shown_on}
@@ -12,7 +12,7 @@ use Rattle.input_types.specs.DeviceRule.{device_state}
 use Rattle.dispatch_history.specs.History.{History, clock, live, opened, snapshot}
 use Rattle.dispatch_history.specs.Queue.{accepted, inbound}
 use Rattle.dispatch_history.specs.PointerOf.{PointerOf, IsDown, AllRise}
-use Rattle.dispatch_history.specs.Effect.{Effect, past_of, stream, dispatched, told_on, told_down, told_focus, down_ids}
+use Rattle.dispatch_history.specs.Effect.{Effect, past_of, stream, dispatched, told_on, told_down, told_focus, down_ids, is_key_down}
 use Rattle.dispatch_history.specs.Effects.{effects, said_at}
 use Rattle.dispatch_history.specs.Delivery.{able, unresponsive, names, finishes, has_late}
 use Rattle.dispatch_history.specs.Step.{scene}
@@ -23,7 +23,8 @@ use Rattle.input_types.specs.declared.key.KeyArgs.{KeyArgs}
 use Rattle.key_repeat.specs.Due.{Sent}
 use Rattle.dispatch_history.specs.Keys.{keys}
 use Rattle.dispatch_history.specs.KeyTold.{last_key}
-use Rattle.dispatch_history.specs.Known.{told_repeat, last_message, held_key, next_repeat, newest_key, known_state, IsNumbered, NeverFalls}
+use Rattle.dispatch_history.specs.KeyPlaces.{HoldsKey}
+use Rattle.dispatch_history.specs.Known.{told_repeat, last_message, held_key, AllDiffer, next_repeat, newest_key, known_state, IsNumbered, NeverFalls, told_pointer}
 use Rattle.dispatch_history.specs.Legal.{Legal, reply, calls_of, run, replay}
 use Rattle.dispatch_history.specs.Plan.{Plan}
 use Rattle.dispatch_history.specs.Ordered.{Ordered, ordered, chosen}
@@ -204,3 +205,32 @@ abbrev pub NumbersLaw : Type 0
 NumbersLaw =
     (displays : List ℕ) (h : History) (w : ℕ)
     → IsNumbered (stream (effects displays h) w) × NeverFalls (clock h) (stream (effects displays h) w)
+
+-- In the stream of a live channel each pointer of a device goes down and ends by turns, and after it is down just where its window holds it:
+-- a pointer that went down goes up or is cancelled once, unless it is still down.
+abbrev pub TurnsLaw : Type 0
+TurnsLaw =
+    (displays : List ℕ) (h : History) (w d i : ℕ)
+    → Legal displays h → AllRise h → live h w ≡ true → list_any (λ e. e == d) devices ≡ true
+    → told_pointer d i (stream (effects displays h) w) ≡ Some ((scene displays (effects displays h)).holds w d i)
+
+-- So it does in that of a channel that is not live any more.
+abbrev pub TurnsComeLaw : Type 0
+TurnsComeLaw =
+    (displays : List ℕ) (h : History) (w d i : ℕ)
+    → Legal displays h → AllRise h → IsTrue (is_some (told_pointer d i (stream (effects displays h) w)))
+
+-- In a legal history the keys that are computed for a window are those that it holds by places.
+abbrev pub KeyPlacesLaw : Type 0
+KeyPlacesLaw =
+    (displays : List ℕ) (h : History) (w : ℕ) (k : KeyArgs)
+    → Legal displays h
+    → (held_key (keys (effects displays h) w) k.device k.scan ≡ Some k) ↔ HoldsKey (effects displays h) w k
+
+-- In a legal history a window holds each key once, and the keys that it holds are down on their devices.
+abbrev pub KeysDownLaw : Type 0
+KeysDownLaw =
+    (displays : List ℕ) (h : History) (w : ℕ)
+    → Legal displays h
+    → AllDiffer (keys (effects displays h) w)
+    × ((d s : ℕ) (k : KeyArgs) → held_key (keys (effects displays h) w) d s ≡ Some k → is_key_down (effects displays h) d s ≡ true)

@@ -19,3 +19,4 @@ pub mod Settled
 pub mod Laws
 pub mod PointerOf
 pub mod Known
+pub mod KeyPlaces

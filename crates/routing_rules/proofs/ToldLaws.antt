@@ -69,7 +69,7 @@ fresh_id s m p w down f a c e =
       | inr n ↦ n
     ]
 
-shape_of : (s : Scene) (m : Motion) (p : Pointer) (w : ℕ) (down next : List ℕ) → Fits s m.device down → Apart m.pointers → changed m ≡ Some p → Kind m down next
+pub shape_of : (s : Scene) (m : Motion) (p : Pointer) (w : ℕ) (down next : List ℕ) → Fits s m.device down → Apart m.pointers → changed m ≡ Some p → Kind m down next
     → Shape s m p (s.holds w m.device) (after s (mark s (Moves m)) w m.device) down next
 shape_of s m p w down next f a c kind =
     let x : Lies m p (s.holds w m.device) (after s (mark s (Moves m)) w m.device) down next =

@@ -1,3 +1,4 @@
 pub mod Parts
 pub mod SplitLaws
+pub mod Keeping
 pub mod Examples

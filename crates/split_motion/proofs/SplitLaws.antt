@@ -30,7 +30,7 @@ moving m o held [] e all = refl
 moving m o held (q ∷ qs) e all = ap (λ x. x ∷ []) (all q qs)
 
 -- an up is no down
-up_not_down : (a : MotionAction) → is_up a ≡ true → is_down a ≡ false
+pub up_not_down : (a : MotionAction) → is_up a ≡ true → is_down a ≡ false
 up_not_down Up e = refl
 up_not_down PointerUp e = refl
 up_not_down Cancel e = refl

@@ -6,9 +6,9 @@ use Rattle.input_types.specs.declared.pointer.Pointer.{Pointer}
 use Rattle.routing_rules.specs.Given.{changed}
 use Rattle.routing_rules.specs.Told.{listing, plain, opening, closing, is_up, is_down, is_cancelled}
 
--- What a window is told that has these pointers of the motion, of which the set holds: the changed pointer goes down in it, where
--- the motion is a down and the window holds that; it goes up, where the motion is an up of it, cancelled where that is; else what
--- the window holds moves.
+-- What a window is told that has these pointers of the motion, of which the set holds: the changed pointer goes down
+-- in it, where the motion is a down and the window holds that; it goes up, where the motion is an up of it, cancelled
+-- where that is; else what the window holds moves.
 abbrev pub part_about : Motion → Option Pointer → (held : ℕ → Bool) → List Pointer → Motion
 part_about m None held ps = plain m.device Move ps
 part_about m (Some p) held ps =

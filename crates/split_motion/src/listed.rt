@@ -1,5 +1,5 @@
 //! Some of the pointers of a motion, and motions that list them.
-ghost use Rattle.std.specs.Prelude.{◌≡◌, ℕ, ◌<◌, ◌++◌, [], ◌∷◌, length};
+ghost use Rattle.std.specs.Prelude.{◌≡◌, ℕ, not, ◌<◌, ◌++◌, [], ◌∷◌, length};
 ghost use Rattle.bits32.specs.Set.{is_in};
 ghost use Rattle.input_types.specs.Pointers.{EndsBelow, IsRising};
 ghost use Rattle.routing_rules.specs.Told.{listing, index_in, plain};
@@ -16,6 +16,20 @@ pub fn part(pointers: &Pointers, set: Bits32) -> Pointers
     let _count = pointers.len();
     for pointer in pointers.as_slice() {
         if set.has(pointer.id.get()) {
+            put(&mut listed, *pointer);
+        }
+    }
+    listed
+}
+
+/// The pointers whose ids are not in the set, in the same order.
+pub fn rest(pointers: &Pointers, set: Bits32) -> Pointers
+    ensures { result ≡ listing (λ i. not (is_in i set)) pointers.now }
+{
+    let mut listed = Pointers::empty();
+    let _count = pointers.len();
+    for pointer in pointers.as_slice() {
+        if !set.has(pointer.id.get()) {
             put(&mut listed, *pointer);
         }
     }
@@ -68,7 +82,8 @@ pub fn about(
     flags: u32,
     pointers: Pointers,
 ) -> Motion
-    ensures { result ≡ record { device = device; action = action; index = index_in id pointers; flags = flags; pointers = pointers } }
+    ensures { result ≡
+        record { device = device; action = action; index = index_in id pointers; flags = flags; pointers = pointers } }
 {
     let index = index_in(&pointers, id);
     Motion {

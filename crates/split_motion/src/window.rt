@@ -9,8 +9,8 @@ use crate::listed::{about, part, plain};
 use bits32::Bits32;
 use input_types::{DeviceId, FLAG_CANCELED, Motion, MotionAction, Pointer, PointerId, Pointers};
 
-/// The motion of a window that holds these ids, after a pointer is given and before one goes up. None exactly where it has none of the
-/// motion's pointers.
+/// The motion of a window that holds these ids, after a pointer is given and before one goes up. None exactly where
+/// it has none of the motion's pointers.
 pub fn split(motion: &Motion, held: Bits32) -> Option<Motion>
     ensures { result ≡ split_of motion.now (λ i. is_in i held) }
 {
