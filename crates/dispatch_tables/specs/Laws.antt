@@ -92,8 +92,8 @@ KeptLess =
     → Keeps es c s
     → Keeps es c (let_go_of s) × ((n : ℕ) → Keeps es c (with_spare n s))
 
--- What is kept is a channel, which has as many messages as its stream; all that can be is published, so that it stays as it
--- is where it is published again; and no message was delivered after the clock.
+-- What is kept is a channel, which has as many messages as its stream; all that can be is published, so that it stays
+-- as it is where it is published again; and no message was delivered after the clock.
 abbrev pub KeptFacts : Type 0
 KeptFacts =
     (displays : List ℕ) (es : List Effect) (c : ℕ) (s : ChannelState)
@@ -224,7 +224,10 @@ NamedLaw =
     → let at = max now (clock (past_of es)) in
     (named es now ≡ filter (λ c. is_due (due_moment es c) at) (channels (opened (past_of es))))
     × ((c : ℕ) → mask_has (mask_of (named es now)) c ≡ is_due (due_moment es c) at)
-    × ((mask : ℕ) → mask < 2 ^ 64 → ((c : ℕ) → mask_has mask c ≡ is_due (due_moment es c) at) → mask ≡ mask_of (named es now))
+    × ((mask : ℕ)
+    → mask < 2 ^ 64
+    → ((c : ℕ) → mask_has mask c ≡ is_due (due_moment es c) at)
+    → mask ≡ mask_of (named es now))
 
 -- A step that names channels notes its clock and the oldest unfinished message of each.
 abbrev pub NamingsLaw : Type 0

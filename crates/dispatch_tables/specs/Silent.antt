@@ -6,8 +6,8 @@ use Rattle.dispatch_calls.specs.declared.call.Call.TheVariants.{Open, Notify, Pu
 use Rattle.dispatch_calls.specs.declared.reply.Reply.{Reply}
 use Rattle.dispatch_calls.specs.declared.reply.Reply.TheVariants.{Full, Done, Idle, Named, Got, Gone}
 
--- Owners that receive or finish, args that are handed in, a pump for which nothing waits and what is refused tell nobody
--- anything; a tick tells those alone that it names.
+-- Owners that receive or finish, args that are handed in, a pump for which nothing waits and what is refused tell
+-- nobody anything; a tick tells those alone that it names.
 abbrev pub is_silent : Call → Reply → (channel : ℕ) → Bool
 is_silent (Receive channel) answer c = true
 is_silent (Finish now channel seq) answer c = true
@@ -20,8 +20,8 @@ is_silent (Remove now channel) Gone c = true
 is_silent (Open limit) Full c = true
 is_silent call answer c = false
 
--- Args that are handed in, what is refused, a pump for which nothing waits and a receive of nothing leave all channels as
--- they are.
+-- Args that are handed in, what is refused, a pump for which nothing waits and a receive of nothing leave all channels
+-- as they are.
 abbrev pub is_resting : Call → Reply → Bool
 is_resting call (Named mask) = false
 is_resting (Notify now args) answer = true

@@ -14,9 +14,9 @@
 //! unfinished  1 delivered at 0, 2 delivered at 1000000
 //! ```
 //!
-//! and it is due to be named at 5000000. Its owner finishes the DOWN: now 1 message is finished, only 2 is unfinished, and
-//! the channel is due at 6000000. Nothing else changes, and of no other channel anything. The laws say so of each step, so
-//! that whoever keeps these values by them can answer every call as the history would.
+//! and it is due to be named at 5000000. Its owner finishes the DOWN: now 1 message is finished, only 2 is unfinished,
+//! and the channel is due at 6000000. Nothing else changes, and of no other channel anything. The laws say so of each
+//! step, so that whoever keeps these values by them can answer every call as the history would.
 #![tactic(auto)]
 
 pub mod laws;
