@@ -26,14 +26,16 @@ use Rattle.dispatch_tables.proofs.Lawfuls.{lawful_last, lawful_always}
 use Rattle.dispatch_tables.proofs.Masking.{mask_has-mask_of, mask_of-low, mask_with-low, among}
 use Rattle.dispatch_tables.proofs.Unopened.{unopened_not_live, done_live}
 
-few_step : (call : Call) (answer : Reply) (es : List Effect) → answer ≡ reply_to es call → opened (past_of es) ≤ 64 → opened_after call answer (opened (past_of es)) ≤ 64
+few_step : (call : Call) (answer : Reply) (es : List Effect) → answer ≡ reply_to es call → opened (past_of es) ≤ 64
+    → opened_after call answer (opened (past_of es)) ≤ 64
 few_step (Open limit) answer es r le =
     elim (cases_cond (nat_lt (opened (past_of es)) 64) (Opened (opened (past_of es) + 1)) Full answer r) [
       | inl e ↦ by_count (nat_lt (opened (past_of es)) 64) refl r
       | inr e ↦ rw e le
     ]
   where
-    by_count : (b : Bool) → nat_lt (opened (past_of es)) 64 ≡ b → answer ≡ cond b (Opened (opened (past_of es) + 1)) Full
+    by_count : (b : Bool) → nat_lt (opened (past_of es)) 64 ≡ b
+        → answer ≡ cond b (Opened (opened (past_of es) + 1)) Full
         → opened_after (Open limit) answer (opened (past_of es)) ≤ 64
     by_count true e q = rw q (ltb-true (opened (past_of es)) 64 e)
     by_count false e q = rw q le
@@ -42,10 +44,11 @@ few_step _ answer es r le = le
 pub opened_few : OpenedFew
 opened_few ds es l =
     lawful_always ds (λ xs. opened (past_of xs) ≤ 64) (omega arith)
-        (λ call answer xs m h. few_step call answer xs (lawful_last ds call answer xs m).0 h) es l
+    (λ call answer xs m h. few_step call answer xs (lawful_last ds call answer xs m).0 h) es l
 
 -- a channel that is live has a number of a channel
-pub live_number : (ds : List ℕ) (es : List Effect) (c : ℕ) → Lawful ds es → live (past_of es) c ≡ true → (1 ≤ c) × (c ≤ opened (past_of es)) × (c ≤ 64)
+pub live_number : (ds : List ℕ) (es : List Effect) (c : ℕ) → Lawful ds es → live (past_of es) c ≡ true
+    → (1 ≤ c) × (c ≤ opened (past_of es)) × (c ≤ 64)
 live_number ds es c l y =
     let r = live_law ds (past_of es) c l.legal y in
     (r.0, r.1, omega (arith, r.1, opened_few ds es l))
@@ -87,7 +90,8 @@ same_named : (a b : ℕ) → Named a ≡ Named b → a ≡ b
 same_named a b e = cc
 
 -- a channel that was never opened is not named, and so not unresponsive
-not_named : (ds : List ℕ) (es : List Effect) (c : ℕ) (call : Call) (answer : Reply) → Lawful ds es → answer ≡ reply_to es call → opened (past_of es) < c → is_named_by call answer c ≡ false
+not_named : (ds : List ℕ) (es : List Effect) (c : ℕ) (call : Call) (answer : Reply) → Lawful ds es
+    → answer ≡ reply_to es call → opened (past_of es) < c → is_named_by call answer c ≡ false
 not_named ds es c (Tick now) (Named mask) l r lt =
     ap (λ m. mask_has m c) (same_named mask (mask_of (named es now)) r)
     ∙ named_mask ds es now c l
@@ -97,16 +101,17 @@ not_named ds es c call answer l r lt = refl
 quietly : (n u f l : Bool) → n ≡ false → u ≡ false → (n || u && not (f && not l)) ≡ false
 quietly n u f l e g = rw (e, g) refl
 
-pub unopened_responds : (ds : List ℕ) (es : List Effect) (c : ℕ) → Lawful ds es → opened (past_of es) < c → unresponsive es c ≡ false
+pub unopened_responds : (ds : List ℕ) (es : List Effect) (c : ℕ) → Lawful ds es → opened (past_of es) < c
+    → unresponsive es c ≡ false
 unopened_responds ds es c l lt =
     lawful_always ds (λ xs. opened (past_of xs) < c → unresponsive xs c ≡ false) (λ x. refl)
-        (λ call answer xs m h x.
-        let last = lawful_last ds call answer xs m in
-        let before : opened (past_of xs) < c = omega (arith, x, opened_mono call answer (opened (past_of xs))) in
-        unresponsive_step (effect_of ds call answer (args_of call answer (inbound (past_of xs))) xs) xs c
-        ∙ quietly (is_named_by call answer c) (unresponsive xs c) (is_finish_of call answer c) (has_late (step ds call answer xs) c)
-        (not_named ds xs c call answer last.1 last.0 before) (h before))
-        es l lt
+    (λ call answer xs m h x.
+    let last = lawful_last ds call answer xs m in
+    let before : opened (past_of xs) < c = omega (arith, x, opened_mono call answer (opened (past_of xs))) in
+    unresponsive_step (effect_of ds call answer (args_of call answer (inbound (past_of xs))) xs) xs c
+    ∙ quietly (is_named_by call answer c) (unresponsive xs c) (is_finish_of call answer c) (has_late (step ds call answer xs) c)
+    (not_named ds xs c call answer last.1 last.0 before) (h before))
+    es l lt
 
 -- who is able, by tests
 opens : (e lv u : Bool) → (e ≡ true → u ≡ false) → ((e || lv) && not (u && true)) ≡ (e || lv && not u)
@@ -127,7 +132,8 @@ mutes true false u = refl
 mutes false lv true = refl
 mutes false lv false = refl
 
-finishing : (e lv u l : Bool) → (e ≡ true → lv ≡ true) → (lv && not (u && not (e && not l))) ≡ cond e ((lv && not u) || not l) (lv && not u)
+finishing : (e lv u l : Bool) → (e ≡ true → lv ≡ true)
+    → (lv && not (u && not (e && not l))) ≡ cond e ((lv && not u) || not l) (lv && not u)
 finishing true lv true true h = rw (h refl) refl
 finishing true lv true false h = rw (h refl) refl
 finishing true lv false l h = rw (h refl) refl
@@ -145,7 +151,8 @@ next_opened n k r =
       | inr e ↦ absurd (cc e)
     ]
 
-by_call : (ds : List ℕ) (es : List Effect) (c : ℕ) (call : Call) (answer : Reply) (late : Bool) → Lawful ds es → answer ≡ reply_to es call
+by_call : (ds : List ℕ) (es : List Effect) (c : ℕ) (call : Call) (answer : Reply) (late : Bool) → Lawful ds es
+    → answer ≡ reply_to es call
     → (live_after call answer c (live (past_of es) c) && not (is_named_by call answer c || unresponsive es c && not (is_finish_of call answer c && not late)))
     ≡ able_after call answer late c (live (past_of es) c && not (unresponsive es c))
 by_call ds es c (Open limit) (Opened k) late l r =
@@ -187,7 +194,8 @@ with_one mask k c e =
     there false true y z f g = rw (f, g) refl
     there false false y z f g = rw g refl
 
-less_one : (mask k c : ℕ) → is_channel k ≡ true → mask_has (mask_less mask (mask_with 0 k)) c ≡ (not (c == k) && mask_has mask c)
+less_one : (mask k c : ℕ) → is_channel k ≡ true
+    → mask_has (mask_less mask (mask_with 0 k)) c ≡ (not (c == k) && mask_has mask c)
 less_one mask k c e =
     mask_has-without mask (mask_with 0 k) c (mask_with-low 0 k (omega arith))
     ∙ ap (λ b. mask_has mask c && not b) (with_one 0 k c e ∙ ap (λ b. (c == k) || b) (mask_has-zero c))
@@ -199,7 +207,8 @@ less_one mask k c e =
     turned false true = refl
     turned false false = refl
 
-less_named : (mask other c : ℕ) → other < 2 ^ 64 → mask_has (mask_less mask other) c ≡ (not (mask_has other c) && mask_has mask c)
+less_named : (mask other c : ℕ) → other < 2 ^ 64
+    → mask_has (mask_less mask other) c ≡ (not (mask_has other c) && mask_has mask c)
 less_named mask other c low = mask_has-without mask other c low ∙ turned (mask_has mask c) (mask_has other c)
   where
     turned : (m x : Bool) → (m && not x) ≡ (not x && m)
@@ -209,7 +218,8 @@ less_named mask other c low = mask_has-without mask other c low ∙ turned (mask
     turned false false = refl
 
 finished_mask : (late : ℕ → Bool) (mask k c : ℕ) → is_channel k ≡ true
-    → mask_has (cond (late k) mask (mask_with mask k)) c ≡ cond (c == k) (mask_has mask c || not (late c)) (mask_has mask c)
+    → mask_has (cond (late k) mask (mask_with mask k)) c
+    ≡ cond (c == k) (mask_has mask c || not (late c)) (mask_has mask c)
 finished_mask late mask k c e =
     elim (cases_eq c k) [
       | inl same ↦
@@ -220,7 +230,8 @@ finished_mask late mask k c e =
           ∙ there (late k) (late c) (c == k) (mask_has mask c) (mask_has (mask_with mask k) c) (ne_eqb c k ne) (with_one mask k c e)
     ]
   where
-    by_late : (l : Bool) → mask_has (cond l mask (mask_with mask k)) c ≡ cond l (mask_has mask c) (mask_has (mask_with mask k) c)
+    by_late : (l : Bool)
+        → mask_has (cond l mask (mask_with mask k)) c ≡ cond l (mask_has mask c) (mask_has (mask_with mask k) c)
     by_late true = refl
     by_late false = refl
 
@@ -241,25 +252,29 @@ finished_mask late mask k c e =
     there false m z b w g h = h ∙ rw g refl
 
 -- a channel that is opened, removed or finished has a number of a channel
-opened_number : (ds : List ℕ) (es : List Effect) (limit k : ℕ) → Lawful ds es → Opened k ≡ reply_to es (Open limit) → is_channel k ≡ true
+opened_number : (ds : List ℕ) (es : List Effect) (limit k : ℕ) → Lawful ds es → Opened k ≡ reply_to es (Open limit)
+    → is_channel k ≡ true
 opened_number ds es limit k l r =
     by_count (nat_lt (opened (past_of es)) 64) refl r
   where
-    by_count : (b : Bool) → nat_lt (opened (past_of es)) 64 ≡ b → Opened k ≡ cond b (Opened (opened (past_of es) + 1)) Full → is_channel k ≡ true
+    by_count : (b : Bool) → nat_lt (opened (past_of es)) 64 ≡ b
+        → Opened k ≡ cond b (Opened (opened (past_of es) + 1)) Full → is_channel k ≡ true
     by_count true e q =
         let same : k ≡ opened (past_of es) + 1 = cc in
         let lt : opened (past_of es) < 64 = ltb-true (opened (past_of es)) 64 e in
         from_to k (omega (arith, same)) (omega (arith, same, lt))
     by_count false e q = absurd (cc q)
 
-live_channel : (ds : List ℕ) (es : List Effect) (k : ℕ) → Lawful ds es → live (past_of es) k ≡ true → is_channel k ≡ true
+live_channel : (ds : List ℕ) (es : List Effect) (k : ℕ) → Lawful ds es → live (past_of es) k ≡ true
+    → is_channel k ≡ true
 live_channel ds es k l y = let r = live_number ds es k l y in from_to k r.0 r.2
 
 was_live : (b : Bool) → Done ≡ cond b Done Gone → b ≡ true
 was_live true e = refl
 was_live false e = absurd (cc e)
 
-live_mask : (ds : List ℕ) (es : List Effect) (mask c : ℕ) (call : Call) (answer : Reply) → Lawful ds es → answer ≡ reply_to es call
+live_mask : (ds : List ℕ) (es : List Effect) (mask c : ℕ) (call : Call) (answer : Reply) → Lawful ds es
+    → answer ≡ reply_to es call
     → mask_has (live_mask_after call answer mask) c ≡ live_after call answer c (mask_has mask c)
 live_mask ds es mask c (Open limit) (Opened k) l r = with_one mask k c (opened_number ds es limit k l r)
 live_mask ds es mask c (Remove now k) Done l r = less_one mask k c (live_channel ds es k l (was_live (live (past_of es) k) r))
@@ -270,7 +285,8 @@ live_mask_law ds call answer es mask l e =
     let last = lawful_last ds call answer es l in
     fun_ext (λ c. live_mask ds es mask c call answer last.1 last.0 ∙ ap (λ f. live_after call answer c (f c)) e)
 
-able_mask : (ds : List ℕ) (es : List Effect) (mask c : ℕ) (call : Call) (answer : Reply) (late : ℕ → Bool) → Lawful ds es → answer ≡ reply_to es call
+able_mask : (ds : List ℕ) (es : List Effect) (mask c : ℕ) (call : Call) (answer : Reply) (late : ℕ → Bool)
+    → Lawful ds es → answer ≡ reply_to es call
     → mask_has (able_mask_after call answer late mask) c ≡ able_after call answer (late c) c (mask_has mask c)
 able_mask ds es mask c (Open limit) (Opened k) late l r = with_one mask k c (opened_number ds es limit k l r)
 able_mask ds es mask c (Remove now k) Done late l r = less_one mask k c (live_channel ds es k l (was_live (live (past_of es) k) r))

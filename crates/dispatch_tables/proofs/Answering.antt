@@ -30,7 +30,9 @@ next_when : (b : Bool) (o : Option Message) → cond b (got_reply o) Empty ≡ g
 next_when true o = refl
 next_when false o = refl
 
-pub receive_law : (ds : List ℕ) (es : List Effect) (c gone spare : ℕ) → Lawful ds es → gone ≤ received (past_of es) c → receive_reply es c ≡ (if not (live (past_of es) c) then Gone else got_reply (next_of (channel_at es c gone spare)))
+pub receive_law : (ds : List ℕ) (es : List Effect) (c gone spare : ℕ) → Lawful ds es → gone ≤ received (past_of es) c
+    → receive_reply es c
+    ≡ (if not (live (past_of es) c) then Gone else got_reply (next_of (channel_at es c gone spare)))
 receive_law ds es c gone spare l le =
     let n = received (past_of es) c in
     let b = nat_lt n (published es c) in
@@ -51,7 +53,9 @@ within a x seq r p le =
     none true = refl
     none false = refl
 
-pub finish_law : (ds : List ℕ) (es : List Effect) (c gone spare seq : ℕ) → Lawful ds es → finish_reply es c seq ≡ (if not (live (past_of es) c) then Gone else if may_finish seq (channel_at es c gone spare) then Done else UnknownSeq)
+pub finish_law : (ds : List ℕ) (es : List Effect) (c gone spare seq : ℕ) → Lawful ds es
+    → finish_reply es c seq
+    ≡ (if not (live (past_of es) c) then Gone else if may_finish seq (channel_at es c gone spare) then Done else UnknownSeq)
 finish_law ds es c gone spare seq l =
     let r = received (past_of es) c in
     let x = not (is_finished (past_of es) c seq) in
@@ -59,17 +63,20 @@ finish_law ds es c gone spare seq l =
     (within (nat_le 1 seq) x seq r (published es c) (sound ds es c l).received_published
     ∙ ap (λ b. nat_le seq r && b) (sym (has_seq_law ds es c seq l)))
 
-pub oldest_law : (es : List Effect) (c gone spare : ℕ) → oldest_of (channel_at es c gone spare) ≡ option_map (λ m. (m.seq, delivery es c m.seq)) (oldest es c)
+pub oldest_law : (es : List Effect) (c gone spare : ℕ)
+    → oldest_of (channel_at es c gone spare) ≡ option_map (λ m. (m.seq, delivery es c m.seq)) (oldest es c)
 oldest_law es c gone spare =
     ap (option_map {U = ℕ × ℕ} (λ u. (u.seq, u.delivery))) (slice_get-map (with_delivery (delivery es c)) (unfinished es c) 0)
     ∙ twice (slice_get (unfinished es c) 0)
   where
     twice : (o : Option Message)
-        → option_map {U = ℕ × ℕ} (λ u. (u.seq, u.delivery)) (option_map (with_delivery (delivery es c)) o) ≡ option_map {U = ℕ × ℕ} (λ m. (m.seq, delivery es c m.seq)) o
+        → option_map {U = ℕ × ℕ} (λ u. (u.seq, u.delivery)) (option_map (with_delivery (delivery es c)) o)
+        ≡ option_map {U = ℕ × ℕ} (λ m. (m.seq, delivery es c m.seq)) o
     twice None = refl
     twice (Some m) = refl
 
-pub late_law : (es : List Effect) (c gone spare : ℕ) → late_at (clock (past_of es)) (channel_at es c gone spare) ≡ has_late es c
+pub late_law : (es : List Effect) (c gone spare : ℕ)
+    → late_at (clock (past_of es)) (channel_at es c gone spare) ≡ has_late es c
 late_law es c gone spare = each (unfinished es c)
   where
     each : (ms : List Message)
@@ -78,7 +85,9 @@ late_law es c gone spare = each (unfinished es c)
     each [] = refl
     each (m ∷ ms) = ap (λ b. nat_le (delivery es c m.seq + limit_of (past_of es) c) (clock (past_of es)) || b) (each ms)
 
-pub counts_law : (ds : List ℕ) (es : List Effect) (c gone spare : ℕ) → Lawful ds es → gone ≤ received (past_of es) c → counts es c ≡ (if nat_le 1 c && nat_le c (opened (past_of es)) then Some (counts_of (live (past_of es) c) (channel_at es c gone spare)) else None)
+pub counts_law : (ds : List ℕ) (es : List Effect) (c gone spare : ℕ) → Lawful ds es → gone ≤ received (past_of es) c
+    → counts es c
+    ≡ (if nat_le 1 c && nat_le c (opened (past_of es)) then Some (counts_of (live (past_of es) c) (channel_at es c gone spare)) else None)
 counts_law ds es c gone spare l le =
     ap (λ n. cond (nat_le 1 c && nat_le c (opened (past_of es)))
     (Some (record { sent = n; received = received (past_of es) c; finished = length (finished (past_of es) c); published = published es c; live = live (past_of es) c })) None)

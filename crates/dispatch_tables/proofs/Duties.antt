@@ -15,11 +15,12 @@ use Rattle.dispatch_calls.specs.declared.counts.Naming.{Naming}
 use Rattle.dispatch_calls.specs.declared.reply.Reply.{Reply}
 use Rattle.dispatch_calls.specs.declared.reply.Reply.TheVariants.{Named}
 use Rattle.window_snapshot.specs.Mask.{mask_has}
+use Rattle.window_snapshot.proofs.Masks.{same_mask}
 use Rattle.dispatch_history.specs.History.{clock, limit_of, live, opened}
 use Rattle.dispatch_history.specs.Effect.{Effect, past_of}
 use Rattle.dispatch_history.specs.Effects.{channels, step}
 use Rattle.dispatch_history.specs.Delivery.{able, unresponsive, delivery, oldest}
-use Rattle.dispatch_history.specs.Due.{Due, due_at, sooner_due, first_due, is_late_at, naming_of, namings, namings_by}
+use Rattle.dispatch_history.specs.Due.{Due, due_at, sooner_due, first_due, is_late_at, mask_of, named, naming_of, namings, namings_by}
 use Rattle.dispatch_history.specs.Reply.{is_due}
 use Rattle.dispatch_tables.specs.Lawful.{Lawful}
 use Rattle.dispatch_tables.specs.Channel.{channel_at}
@@ -28,6 +29,7 @@ use Rattle.dispatch_tables.specs.Laws.{QuietDueLaw, NotLiveDueLaw, FirstDueLaw, 
 use Rattle.dispatch_tables.proofs.Kept.{quiet_law}
 use Rattle.dispatch_tables.proofs.Answering.{oldest_law}
 use Rattle.dispatch_tables.proofs.Unopened.{unopened_not_live}
+use Rattle.dispatch_tables.proofs.Masking.{mask_of-low}
 use Rattle.dispatch_tables.proofs.Ables.{live_number, named_mask}
 
 pub due_law : (es : List Effect) (c gone spare : ℕ) → due_moment es c ≡ due_in (able es c) (channel_at es c gone spare)
@@ -76,7 +78,8 @@ best_more p k n =
 
 -- the one with the lesser moment comes first, where the channel of the other one is lesser
 sooner_is : (m n : ℕ) (best : Option Due) → ((d : Due) → best ≡ Some d → d.channel ≤ n)
-    → Some (sooner_of (option_map pair_of best) (m, suc n)) ≡ option_map pair_of (sooner_due best (record { moment = m; channel = suc n }))
+    → Some (sooner_of (option_map pair_of best) (m, suc n))
+    ≡ option_map pair_of (sooner_due best (record { moment = m; channel = suc n }))
 sooner_is m n None low = refl
 sooner_is m n (Some d) low = by_moment (nat_lt m d.moment) (only (low d refl))
   where
@@ -137,7 +140,8 @@ first_more f g n best (Some m) others low none here first =
             first_part p None = p.0
             first_part p (Some q) = q.0
 
-    stays : (best : Option Due) → ((d : Due) → best ≡ Some d → d.channel ≤ n) → is_put_off (option_map pair_of best) (m, suc n) ≡ false
+    stays : (best : Option Due) → ((d : Due) → best ≡ Some d → d.channel ≤ n)
+        → is_put_off (option_map pair_of best) (m, suc n) ≡ false
     stays None low = refl
     stays (Some d) low = apart d.channel d.moment (low d refl)
       where
@@ -148,7 +152,8 @@ abbrev due_if : (ℕ → Bool) → (ℕ → Option ℕ) → ℕ → Option ℕ
 due_if p k c = cond (p c) (k c) None
 
 -- the best due of the channels 1 to n is what comes first among them
-best_first : (p : ℕ → Bool) (k : ℕ → Option ℕ) → due_if p k 0 ≡ None → (n : ℕ) → IsFirst (due_up_to n (due_if p k)) (option_map pair_of (best_of p k n))
+best_first : (p : ℕ → Bool) (k : ℕ → Option ℕ) → due_if p k 0 ≡ None → (n : ℕ)
+    → IsFirst (due_up_to n (due_if p k)) (option_map pair_of (best_of p k n))
 best_first p k none zero = λ c. at c (cases_eq c 0)
   where
     at : (c : ℕ) → (c ≡ 0) ⊎ (c ≢ 0) → due_up_to 0 (due_if p k) c ≡ None
@@ -181,22 +186,25 @@ best_first p k none (suc n) =
         (within_up (due_if p k) n) above (here false e) first
 
 -- the moments of the oldest messages
-abbrev oldest_due : List Effect → ℕ → Option ℕ
+abbrev pub oldest_due : List Effect → ℕ → Option ℕ
 oldest_due es c = option_map (λ m. delivery es c m.seq + limit_of (past_of es) c) (oldest es c)
 
 first_due_is : (es : List Effect) → first_due es ≡ best_of (able es) (oldest_due es) (opened (past_of es))
 first_due_is es = ap (λ h. fold sooner_due None (filter_map h (filter (able es) (channels (opened (past_of es)))))) (fun_ext (λ c. same c (oldest es c)))
   where
     same : (c : ℕ) (o : Option Message)
-        → due_at es c o ≡ option_map (λ m. record { moment = m; channel = c }) (option_map (λ m. delivery es c m.seq + limit_of (past_of es) c) o)
+        → due_at es c o
+        ≡ option_map (λ m. record { moment = m; channel = c }) (option_map (λ m. delivery es c m.seq + limit_of (past_of es) c) o)
     same c None = refl
     same c (Some m) = refl
 
 -- no channel past the last one is due
-up_to_all : (ds : List ℕ) (es : List Effect) (c : ℕ) → Lawful ds es → due_up_to (opened (past_of es)) (due_moment es) c ≡ due_moment es c
+up_to_all : (ds : List ℕ) (es : List Effect) (c : ℕ) → Lawful ds es
+    → due_up_to (opened (past_of es)) (due_moment es) c ≡ due_moment es c
 up_to_all ds es c l = by_test (nat_le c (opened (past_of es))) refl
   where
-    by_test : (b : Bool) → nat_le c (opened (past_of es)) ≡ b → cond (nat_le c (opened (past_of es))) (due_moment es c) None ≡ due_moment es c
+    by_test : (b : Bool) → nat_le c (opened (past_of es)) ≡ b
+        → cond (nat_le c (opened (past_of es))) (due_moment es c) None ≡ due_moment es c
     by_test true e = ap (λ b. cond b (due_moment es c) None) e
     by_test false e =
         let far : opened (past_of es) < c = grind (arith, nat_tests) in
@@ -224,7 +232,8 @@ first_due_law ds es first l is =
     again (Some d) = refl
 
 late_is_due : (es : List Effect) (c at : ℕ) (b : Bool) (o : Option Message)
-    → (b && is_late_at es c at o) ≡ is_due (cond b (option_map (λ m. delivery es c m.seq + limit_of (past_of es) c) o) None) at
+    → (b && is_late_at es c at o)
+    ≡ is_due (cond b (option_map (λ m. delivery es c m.seq + limit_of (past_of es) c) o) None) at
 late_is_due es c at true None = refl
 late_is_due es c at true (Some m) = refl
 late_is_due es c at false o = refl
@@ -234,14 +243,19 @@ named_law ds es now l = (
   filter_agree (λ c. able es c && is_late_at es c (max now (clock (past_of es))) (oldest es c)) (λ c. is_due (due_moment es c) (max now (clock (past_of es))))
       (λ c. late_is_due es c (max now (clock (past_of es))) (able es c) (oldest es c)) (channels (opened (past_of es))),
   λ c. named_mask ds es now c l ∙ late_is_due es c (max now (clock (past_of es))) (able es c) (oldest es c),
+  λ mask low same.
+      same_mask mask (mask_of (named es now)) low (mask_of-low (named es now))
+      (λ c. same c ∙ sym (late_is_due es c (max now (clock (past_of es))) (able es c) (oldest es c)) ∙ sym (named_mask ds es now c l)),
 )
 
-naming_is : (es : List Effect) (at c : ℕ) (s : ChannelState) → oldest_of s ≡ oldest_of (channel_at es c 0 0) → naming_of es at c (oldest es c) ≡ naming_in at c s
+naming_is : (es : List Effect) (at c : ℕ) (s : ChannelState) → oldest_of s ≡ oldest_of (channel_at es c 0 0)
+    → naming_of es at c (oldest es c) ≡ naming_in at c s
 naming_is es at c s e =
     by_oldest (oldest es c) ∙ ap (option_map (λ (p : ℕ × ℕ). record { clock = at; channel = c; seq = p.0 })) (sym (e ∙ oldest_law es c 0 0))
   where
     by_oldest : (o : Option Message)
-        → naming_of es at c o ≡ option_map (λ (p : ℕ × ℕ). record { clock = at; channel = c; seq = p.0 }) (option_map {U = ℕ × ℕ} (λ m. (m.seq, delivery es c m.seq)) o)
+        → naming_of es at c o
+        ≡ option_map (λ (p : ℕ × ℕ). record { clock = at; channel = c; seq = p.0 }) (option_map {U = ℕ × ℕ} (λ m. (m.seq, delivery es c m.seq)) o)
     by_oldest None = refl
     by_oldest (Some m) = refl
 
@@ -254,7 +268,9 @@ among_same f g p (suc n) same =
     ∙ ap₂ (λ xs ys. xs ++ ys) (among_same f g p n (λ c from to. same c from (omega (arith, to)))) (one (p (suc n)))
     ∙ sym (cut g)
   where
-    cut : (h : ℕ → Option Naming) → filter_map h (filter p (channels n ++ suc n ∷ [])) ≡ filter_map h (filter p (channels n)) ++ filter_map h (filter p (suc n ∷ []))
+    cut : (h : ℕ → Option Naming)
+        → filter_map h (filter p (channels n ++ suc n ∷ []))
+        ≡ filter_map h (filter p (channels n)) ++ filter_map h (filter p (suc n ∷ []))
     cut h = ap (filter_map h) (filter-append p (channels n) (suc n ∷ [])) ∙ filter_map-append h (filter p (channels n)) (filter p (suc n ∷ []))
 
     one : (b : Bool) → filter_map f (cond b (suc n ∷ []) []) ≡ filter_map g (cond b (suc n ∷ []) [])
@@ -262,8 +278,8 @@ among_same f g p (suc n) same =
     one false = refl
 
 pub namings_law : NamingsLaw
-namings_law ds now mask es kept keeps =
-    let at = max now (clock (past_of es)) in
+namings_law ds call mask es kept keeps =
+    let at = clock (past_of (step ds call (Named mask) es)) in
     ap (λ xs. namings es ++ xs)
     (among_same (λ c. naming_of es at c (oldest es c)) (λ c. naming_in at c (kept c)) (mask_has mask) (opened (past_of es))
     (λ c from to. naming_is es at c (kept c) (ap oldest_of (keeps c from to).is)))

@@ -17,12 +17,12 @@ use Rattle.dispatch_history.specs.Effects.{step, said_at}
 use Rattle.dispatch_tables.specs.Lawful.{Lawful}
 use Rattle.dispatch_tables.specs.Channel.{Keeps, channel_at, part_of, with_part, enqueued_all, counts_of}
 use Rattle.dispatch_tables.specs.Dues.{due_moment, due_in}
-use Rattle.dispatch_tables.specs.Laws.{KeptStep, KeptReady, KeptUnopened, KeptQuiet, KeptNotLive, KeptLess, KeptFacts, ReceiveLaw, FinishLaw, OldestLaw, LateLaw, CountsLaw, DueLaw, DuesLaw}
+use Rattle.dispatch_tables.specs.Laws.{KeptStep, KeptReady, KeptUnopened, KeptQuiet, KeptLess, KeptFacts, ReceiveLaw, FinishLaw, OldestLaw, LateLaw, CountsLaw, DueLaw, DuesLaw}
 use Rattle.dispatch_tables.proofs.Lawfuls.{lawful_last}
 use Rattle.dispatch_tables.proofs.Stepping.{received_more}
 use Rattle.dispatch_tables.proofs.Channels.{sound, stepped, channel_step}
-use Rattle.dispatch_tables.proofs.Kept.{channel_law, ready_law, quiet_law, let_go_law}
-use Rattle.dispatch_tables.proofs.Unopened.{not_live_law, unopened_law}
+use Rattle.dispatch_tables.proofs.Kept.{none_after_clock, all_published, channel_law, ready_law, quiet_law, let_go_law}
+use Rattle.dispatch_tables.proofs.Unopened.{unopened_law}
 use Rattle.dispatch_tables.proofs.Answering.{receive_law, finish_law, oldest_law, late_law, counts_law}
 use Rattle.dispatch_tables.proofs.Duties.{due_law, quiet_due_law}
 
@@ -33,10 +33,12 @@ kept P es c s k f =
     let same : s.received ≡ received (past_of es) c = ap (λ t. t.received) k.is in
     subst P (sym k.is) (f s.gone s.spare (omega (arith, k.few, same)))
 
-keeps_at : (es : List Effect) (c gone spare : ℕ) → gone ≤ received (past_of es) c → Keeps es c (channel_at es c gone spare)
+keeps_at : (es : List Effect) (c gone spare : ℕ) → gone ≤ received (past_of es) c
+    → Keeps es c (channel_at es c gone spare)
 keeps_at es c gone spare le = record { is = refl; few = le }
 
-received_grows : (ds : List ℕ) (call : Call) (answer : Reply) (es : List Effect) (c : ℕ) → Lawful ds (step ds call answer es)
+received_grows : (ds : List ℕ) (call : Call) (answer : Reply) (es : List Effect) (c : ℕ)
+    → Lawful ds (step ds call answer es)
     → received (past_of es) c ≤ received (past_of (step ds call answer es)) c
 received_grows ds call answer es c l =
     let h = stepped ds call answer es c l (sound ds es c (lawful_last ds call answer es l).1) in
@@ -67,26 +69,24 @@ kept_quiet ds call answer es c s l k none untouched =
     subst (Keeps later c) (quiet_law ds call answer es c gone spare l le none untouched)
     (keeps_at later c gone spare (omega (arith, le, received_grows ds call answer es c l))))
 
-pub kept_not_live : KeptNotLive
-kept_not_live ds call answer es c s l k n =
-    let later = step ds call answer es in
-    kept (Keeps later c) es c s k (λ gone spare le.
-    subst (Keeps later c) (not_live_law ds call answer es c gone spare l le n)
-    (keeps_at later c gone spare (omega (arith, le, received_grows ds call answer es c l))))
-
 pub kept_less : KeptLess
 kept_less ds es c s l k = (
   kept (λ t. Keeps es c (let_go_of t)) es c s k (λ gone spare le.
-  subst (Keeps es c) (sym (let_go_law ds es c gone spare l le).0) (keeps_at es c (received (past_of es) c) spare (omega arith))),
+      subst (Keeps es c) (sym (let_go_law ds es c gone spare l le).0) (keeps_at es c (received (past_of es) c) spare (omega arith))),
   λ n. record { is = ap {A = ChannelState} (λ t. record t { spare = max n s.spare }) k.is; few = k.few },
 )
 
 pub kept_facts : KeptFacts
 kept_facts ds es c s l k =
-    kept
-    (λ t.
-    IsChannel t × (sent t ≡ length (stream es c)) × (publishable t ≡ t.published) × ((now : ℕ) → clock (past_of es) ≤ now → NoneAfter now t.unfinished))
-    es c s k (λ gone spare le. channel_law ds es c gone spare l le)
+    let facts =
+    kept (λ t. IsChannel t × (sent t ≡ length (stream es c)) × (publishable t ≡ t.published)) es c s k
+    (λ gone spare le. channel_law ds es c gone spare l le) in (
+      facts.0,
+      facts.1,
+      λ now. all_published now s facts.2,
+      λ now old.
+          kept (λ t. NoneAfter now t.unfinished) es c s k (λ gone spare le. none_after_clock ds es c gone spare now l old),
+    )
 
 pub kept_receive : ReceiveLaw
 kept_receive ds es c s l k =
@@ -119,7 +119,8 @@ pub dues_law : DuesLaw
 dues_law ds call answer es changed before later channels l e quiet keeps is = fun_ext (λ c. is c ∙ by_change c (changed c) refl)
   where
     by_change : (c : ℕ) (b : Bool) → changed c ≡ b
-        → cond (changed c) (due_in (able (step ds call answer es) c) (channels c)) (before c) ≡ due_moment (step ds call answer es) c
+        → cond (changed c) (due_in (able (step ds call answer es) c) (channels c)) (before c)
+        ≡ due_moment (step ds call answer es) c
     by_change c true f =
         ap (λ b. cond b (due_in (able (step ds call answer es) c) (channels c)) (before c)) f ∙ sym (kept_due (step ds call answer es) c (channels c) (keeps c f))
     by_change c false f =

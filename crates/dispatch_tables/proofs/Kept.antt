@@ -1,7 +1,7 @@
 -- What is kept of a channel is a channel.
 use Rattle.std.proofs.Common.{◌≡◌, ℕ, suc, ◌+◌, ◌-◌, ◌≤◌, ◌==◌, nat_le, nat_lt, min, max, Bool, true, false, not, ◌&&◌, ◌||◌, cond, List, [], ◌∷◌, ◌++◌, length, reverse, take, drop, map, filter, refl, sym, ap, ◌∙◌, subst, inl, inr, arith, length-append, length-drop, append-nil, drop-drop}
 use Rattle.std.proofs.lemmas.List.{length-reverse, length-take}
-use Rattle.std.proofs.lemmas.Bool.{cases_eq, eq-eqb, ne_eqb, le-leb}
+use Rattle.std.proofs.lemmas.Bool.{cases_eq, eq-eqb, ne_eqb, le-leb, lt-ltb, ltb-true, leb-true}
 use Rattle.std.proofs.lemmas.Bool.Decides.{nat_tests}
 use Rattle.input_types.specs.declared.message.Body.{Body}
 use Rattle.input_types.specs.declared.message.Message.{Message}
@@ -29,13 +29,14 @@ use Rattle.dispatch_tables.proofs.Channels.{numbered, sound, channel_step}
 delivery_law : (ds : List ℕ) (es : List Effect) → Lawful ds es → (c k : ℕ) → delivery es c k ≤ clock (past_of es)
 delivery_law ds es l =
     lawful_always ds (λ xs. (c k : ℕ) → delivery xs c k ≤ clock (past_of xs)) (λ c k. omega arith)
-        (λ call answer xs m h c k. later (nat_le k (published xs c)) (delivery xs c k) (moment_of call) (clock (past_of xs)) (h c k)) es l
+    (λ call answer xs m h c k. later (nat_le k (published xs c)) (delivery xs c k) (moment_of call) (clock (past_of xs)) (h c k)) es l
   where
     later : (b : Bool) (at moment now : ℕ) → at ≤ now → cond b at (max moment now) ≤ max moment now
     later true at moment now le = omega arith
     later false at moment now le = omega arith
 
-none_after : (done : ℕ → Bool) (at : ℕ → ℕ) (now : ℕ) (ms : List Message) → ((k : ℕ) → at k ≤ now) → NoneAfter now (waiting done at ms)
+none_after : (done : ℕ → Bool) (at : ℕ → ℕ) (now : ℕ) (ms : List Message) → ((k : ℕ) → at k ≤ now)
+    → NoneAfter now (waiting done at ms)
 none_after done at now [] le = tt
 none_after done at now (m ∷ ms) le = first (not (done m.seq)) (none_after done at now ms le)
   where
@@ -52,19 +53,25 @@ none_after-without now seq (u ∷ us) h = first (not (u.seq == seq)) (none_after
     first true k = (h.0, k)
     first false k = k
 
-pub none_after_clock : (ds : List ℕ) (es : List Effect) (c gone spare now : ℕ) → Lawful ds es → clock (past_of es) ≤ now → NoneAfter now (channel_at es c gone spare).unfinished
+pub none_after_clock : (ds : List ℕ) (es : List Effect) (c gone spare now : ℕ) → Lawful ds es → clock (past_of es) ≤ now
+    → NoneAfter now (channel_at es c gone spare).unfinished
 none_after_clock ds es c gone spare now l le =
     none_after (is_finished (past_of es) c) (delivery es c) now (take (published es c) (reverse (stream es c)))
-        (λ k. omega (arith, delivery_law ds es l c k, le))
+    (λ k. omega (arith, delivery_law ds es l c k, le))
 
-part_after : (now : ℕ) (p : Part) (s : ChannelState) → NoneAfter now s.unfinished → NoneAfter now (with_part p s).unfinished
+part_after : (now : ℕ) (p : Part) (s : ChannelState) → NoneAfter now s.unfinished
+    → NoneAfter now (with_part p s).unfinished
 part_after now (Opens limit) s h = h
 part_after now Receives s h = h
 part_after now (Finishes seq) s h = none_after-without now seq s.unfinished h
 part_after now Untouched s h = h
 
-told_after : (now : ℕ) (bs : List Body) (s : ChannelState) → NoneAfter now s.unfinished → NoneAfter now (enqueued_all bs now s).unfinished
+told_after : (now : ℕ) (bs : List Body) (s : ChannelState) → NoneAfter now s.unfinished
+    → NoneAfter now (enqueued_all bs now s).unfinished
 told_after now bs s h = subst (λ t. NoneAfter now t.unfinished) (sym (enqueued_is now bs s (sent s) refl)) h
+
+not_below_itself : (n seq : ℕ) → n ≡ seq → nat_lt n seq ≡ false
+not_below_itself n seq e = grind (arith, nat_tests)
 
 lt_next : (n seq : ℕ) → (suc n ≡ seq → ⊥) → nat_lt (suc n) seq ≡ nat_lt n seq
 lt_next n seq ne = grind (arith, nat_tests)
@@ -79,7 +86,7 @@ pub has_seq-waiting : (done : ℕ → Bool) (at : ℕ → ℕ) (seq n : ℕ) (ms
 has_seq-waiting done at seq n [] h = none (nat_lt n seq) (nat_le seq (n + 0)) refl refl
   where
     none : (a b : Bool) → nat_lt n seq ≡ a → nat_le seq (n + 0) ≡ b → false ≡ (a && b && not (done seq))
-    none true true e f = absurd (grind (arith, nat_tests))
+    none true true e f = absurd (omega (arith, ltb-true n seq e, leb-true seq (n + 0) f))
     none true false e f = refl
     none false b e f = refl
 has_seq-waiting done at seq n (m ∷ ms) h =
@@ -89,20 +96,24 @@ has_seq-waiting done at seq n (m ∷ ms) h =
     ]
   where
     here : m.seq ≡ seq → (b : Bool) → done m.seq ≡ b
-        → has_seq seq (map (with_delivery at) (filter (λ m. not (done m.seq)) ms)) ≡ (nat_lt (suc n) seq && nat_le seq (suc n + length ms) && not (done seq))
+        → has_seq seq (map (with_delivery at) (filter (λ m. not (done m.seq)) ms))
+        ≡ (nat_lt (suc n) seq && nat_le seq (suc n + length ms) && not (done seq))
         → has_seq seq (map (with_delivery at) (cond (not b) (m ∷ filter (λ m. not (done m.seq)) ms) (filter (λ m. not (done m.seq)) ms)))
         ≡ (nat_lt n seq && nat_le seq (n + suc (length ms)) && not (done seq))
     here e true f r =
-        let low : nat_lt (suc n) seq ≡ false = grind (arith, nat_tests, h.0) in
+        let low : nat_lt (suc n) seq ≡ false = not_below_itself (suc n) seq (sym h.0 ∙ e) in
         let d : done seq ≡ true = subst (λ k. done k ≡ true) e f in
         r ∙ ap (λ b. b && nat_le seq (suc n + length ms) && not (done seq)) low ∙ rw d (sym (and_false (nat_lt n seq && nat_le seq (n + suc (length ms)))))
     here e false f r =
-        let low : nat_lt n seq ≡ true = grind (arith, nat_tests, h.0) in
-        let high : nat_le seq (n + suc (length ms)) ≡ true = grind (arith, nat_tests, h.0) in
+        let next : suc n ≡ seq = sym h.0 ∙ e in
+        let low : nat_lt n seq ≡ true = lt-ltb n seq (omega (arith, next)) in
+        let high : nat_le seq (n + suc (length ms)) ≡ true = le-leb seq (n + suc (length ms)) (omega (arith, next)) in
         let d : done seq ≡ false = subst (λ k. done k ≡ false) e f in
         rw (eq-eqb m.seq seq e, low, high, d) refl
 
-    tests : (m.seq ≡ seq → ⊥) → (nat_lt (suc n) seq && nat_le seq (suc n + length ms) && not (done seq)) ≡ (nat_lt n seq && nat_le seq (n + suc (length ms)) && not (done seq))
+    tests : (m.seq ≡ seq → ⊥)
+        → (nat_lt (suc n) seq && nat_le seq (suc n + length ms) && not (done seq))
+        ≡ (nat_lt n seq && nat_le seq (n + suc (length ms)) && not (done seq))
     tests ne =
         let apart : suc n ≡ seq → ⊥ = λ e. ne (h.0 ∙ e) in
         let low : nat_lt (suc n) seq ≡ nat_lt n seq = lt_next n seq apart in
@@ -110,21 +121,24 @@ has_seq-waiting done at seq n (m ∷ ms) h =
         rw (low, high) refl
 
     there : (m.seq ≡ seq → ⊥) → (b : Bool)
-        → has_seq seq (map (with_delivery at) (filter (λ m. not (done m.seq)) ms)) ≡ (nat_lt (suc n) seq && nat_le seq (suc n + length ms) && not (done seq))
+        → has_seq seq (map (with_delivery at) (filter (λ m. not (done m.seq)) ms))
+        ≡ (nat_lt (suc n) seq && nat_le seq (suc n + length ms) && not (done seq))
         → has_seq seq (map (with_delivery at) (cond (not b) (m ∷ filter (λ m. not (done m.seq)) ms) (filter (λ m. not (done m.seq)) ms)))
         ≡ (nat_lt n seq && nat_le seq (n + suc (length ms)) && not (done seq))
     there ne true r = r ∙ tests ne
     there ne false r = rw (ne_eqb m.seq seq ne) (r ∙ tests ne)
 
 -- those with greater numbers are all others
-greater : (seq : ℕ) (u : Unfinished) (us : List Unfinished) → u.seq ≡ seq → Follow u us → length (without seq us) ≡ length us
+greater : (seq : ℕ) (u : Unfinished) (us : List Unfinished) → u.seq ≡ seq → Follow u us
+    → length (without seq us) ≡ length us
 greater seq u [] same h = refl
 greater seq u (v ∷ vs) same h =
     let other : (v.seq == seq) ≡ false = ne_eqb v.seq seq (λ e. absurd (omega (arith, e, same, h.0))) in
     ap (λ b. length (cond (not b) (v ∷ without seq vs) (without seq vs))) other ∙ ap suc (greater seq u vs same h.2)
 
 -- one that is there is taken out
-shorter : (seq : ℕ) (us : List Unfinished) → IsInOrder us → has_seq seq us ≡ true → length (without seq us) + 1 ≡ length us
+shorter : (seq : ℕ) (us : List Unfinished) → IsInOrder us → has_seq seq us ≡ true
+    → length (without seq us) + 1 ≡ length us
 shorter seq [] o e = absurd (cc e)
 shorter seq (u ∷ us) o e =
     elim (cases_eq u.seq seq) [
@@ -152,7 +166,8 @@ has_seq_law ds es c seq l =
     ∙ ap (λ n. nat_le 1 seq && nat_le seq n && not (is_finished (past_of es) c seq)) many
 
 -- a channel with other messages and other room
-other_messages : (s : ChannelState) (gone spare : ℕ) (messages : List Message) → IsChannel s → gone ≤ s.received → sent s ≤ gone + length messages
+other_messages : (s : ChannelState) (gone spare : ℕ) (messages : List Message) → IsChannel s → gone ≤ s.received
+    → sent s ≤ gone + length messages
     → IsChannel (record s { gone = gone; messages = messages; spare = spare })
 other_messages s gone spare messages h low le =
     record {
@@ -166,7 +181,8 @@ other_messages s gone spare messages h low le =
     }
 
 -- a channel after its part
-part_channel : (ds : List ℕ) (es : List Effect) (c : ℕ) (p : Part) → Lawful ds es → CanBe es c p → IsChannel (channel_at es c 0 0) → IsChannel (with_part p (channel_at es c 0 0))
+part_channel : (ds : List ℕ) (es : List Effect) (c : ℕ) (p : Part) → Lawful ds es → CanBe es c p
+    → IsChannel (channel_at es c 0 0) → IsChannel (with_part p (channel_at es c 0 0))
 part_channel ds es c (Opens limit) l can h =
     record {
       gone_received = h.gone_received;
@@ -226,40 +242,49 @@ channel_start c =
 whole_channel : (ds : List ℕ) (es : List Effect) (c : ℕ) → Lawful ds es → IsChannel (channel_at es c 0 0)
 whole_channel ds es c l =
     lawful_always ds (λ xs. IsChannel (channel_at xs c 0 0)) (channel_start c)
-        (λ call answer xs m h.
-        let last = lawful_last ds call answer xs m in
-        let now = clock (past_of (step ds call answer xs)) in
-        let bs = said_at ds call answer xs c in
-        let p = part_of call answer c in
-        let s = with_part p (channel_at xs c 0 0) in
-        let old : clock (past_of xs) ≤ now = omega arith in
-        let all : IsChannel (channel_at (step ds call answer xs) c 0 (0 - length bs)) =
-        subst IsChannel (sym (channel_step ds call answer xs c 0 0 m (omega arith)))
-        (published_ok now (enqueued_all bs now s)
-        (told_ok now bs s (part_channel ds xs c p last.1 (can_be xs c call answer last.0) h))
-        (told_after now bs s (part_after now p (channel_at xs c 0 0) (none_after_clock ds xs c 0 0 now last.1 old)))) in
-        let t = channel_at (step ds call answer xs) c 0 (0 - length bs) in
-        other_messages t 0 0 t.messages all (omega arith) (omega arith))
-        es l
+    (λ call answer xs m h.
+    let last = lawful_last ds call answer xs m in
+    let now = clock (past_of (step ds call answer xs)) in
+    let bs = said_at ds call answer xs c in
+    let p = part_of call answer c in
+    let s = with_part p (channel_at xs c 0 0) in
+    let old : clock (past_of xs) ≤ now = omega arith in
+    let all : IsChannel (channel_at (step ds call answer xs) c 0 (0 - length bs)) =
+    subst IsChannel (sym (channel_step ds call answer xs c 0 0 m (omega arith)))
+    (published_ok now (enqueued_all bs now s)
+    (told_ok now bs s (part_channel ds xs c p last.1 (can_be xs c call answer last.0) h))
+    (told_after now bs s (part_after now p (channel_at xs c 0 0) (none_after_clock ds xs c 0 0 now last.1 old)))) in
+    let t = channel_at (step ds call answer xs) c 0 (0 - length bs) in
+    other_messages t 0 0 t.messages all (omega arith) (omega arith))
+    es l
 
 -- with its first messages let go
-pub channel_law : (ds : List ℕ) (es : List Effect) (c gone spare : ℕ) → Lawful ds es → gone ≤ received (past_of es) c → IsChannel (channel_at es c gone spare) × (sent (channel_at es c gone spare) ≡ length (stream es c)) × (publishable (channel_at es c gone spare) ≡ published es c) × ((now : ℕ) → clock (past_of es) ≤ now → NoneAfter now (channel_at es c gone spare).unfinished)
+pub channel_law :
+    (ds : List ℕ) (es : List Effect) (c gone spare : ℕ)
+    → Lawful ds es
+    → gone ≤ received (past_of es) c
+    → IsChannel (channel_at es c gone spare)
+    × (sent (channel_at es c gone spare) ≡ length (stream es c))
+    × (publishable (channel_at es c gone spare) ≡ published es c)
 channel_law ds es c gone spare l le =
     let h = whole_channel ds es c l in
     let s = channel_at es c 0 0 in
-    let kept : gone ≤ length (reverse (stream es c)) = omega (arith, le, (sound ds es c l).received_published, length-reverse (stream es c)) in
+    let few : received (past_of es) c ≤ published es c = (sound ds es c l).received_published in
+    let kept : gone ≤ length (reverse (stream es c)) = omega (arith, le, few, length-reverse (stream es c)) in
     let all : gone + length (drop gone (reverse (stream es c))) ≡ length (stream es c) =
     omega (arith, kept, length-drop gone (reverse (stream es c)), length-reverse (stream es c)) in (
-      other_messages s gone spare (drop gone (reverse (stream es c))) h le (omega (arith, all, length-reverse (stream es c))),
+      other_messages s gone spare (drop gone (reverse (stream es c))) h le
+          (omega (arith, all, length-reverse (stream es c))),
       all,
       ap (λ n. min n (length (finished (past_of es) c) + 64)) all,
-      λ now old. none_after_clock ds es c gone spare now l old,
     )
 
 pub numbered_law : NumberedLaw
 numbered_law = numbered
 
-pub ready_law : (ds : List ℕ) (call : Call) (answer : Reply) (es : List Effect) (c gone spare : ℕ) (bodies : List Body) → Lawful ds (step ds call answer es) → gone ≤ received (past_of es) c → let now = clock (past_of (step ds call answer es)) in NoneAfter now (enqueued_all bodies now (with_part (part_of call answer c) (channel_at es c gone spare))).unfinished
+pub ready_law : (ds : List ℕ) (call : Call) (answer : Reply) (es : List Effect) (c gone spare : ℕ) (bodies : List Body)
+    → Lawful ds (step ds call answer es) → gone ≤ received (past_of es) c
+    → let now = clock (past_of (step ds call answer es)) in NoneAfter now (enqueued_all bodies now (with_part (part_of call answer c) (channel_at es c gone spare))).unfinished
 ready_law ds call answer es c gone spare bodies l le =
     let now = clock (past_of (step ds call answer es)) in
     let s = channel_at es c gone spare in
@@ -268,7 +293,7 @@ ready_law ds call answer es c gone spare bodies l le =
     (part_after now (part_of call answer c) s (none_after_clock ds es c gone spare now (lawful_last ds call answer es l).1 old))
 
 -- a channel of which all that can be is published stays as it is
-all_published : (now : ℕ) (s : ChannelState) → publishable s ≡ s.published → published_at now s ≡ s
+pub all_published : (now : ℕ) (s : ChannelState) → publishable s ≡ s.published → published_at now s ≡ s
 all_published now s e =
     let none : publishable s - s.published ≡ 0 = omega (arith, e) in
     λ i. record s {
@@ -276,7 +301,9 @@ all_published now s e =
       unfinished = (ap (λ n. s.unfinished ++ delivered now s.published n) none ∙ append-nil s.unfinished) i;
     }
 
-pub quiet_law : (ds : List ℕ) (call : Call) (answer : Reply) (es : List Effect) (c gone spare : ℕ) → Lawful ds (step ds call answer es) → gone ≤ received (past_of es) c → said_at ds call answer es c ≡ [] → part_of call answer c ≡ Untouched → channel_at (step ds call answer es) c gone spare ≡ channel_at es c gone spare
+pub quiet_law : (ds : List ℕ) (call : Call) (answer : Reply) (es : List Effect) (c gone spare : ℕ)
+    → Lawful ds (step ds call answer es) → gone ≤ received (past_of es) c → said_at ds call answer es c ≡ []
+    → part_of call answer c ≡ Untouched → channel_at (step ds call answer es) c gone spare ≡ channel_at es c gone spare
 quiet_law ds call answer es c gone spare l le none untouched =
     let now = clock (past_of (step ds call answer es)) in
     let s = channel_at es c gone spare in
@@ -286,7 +313,8 @@ quiet_law ds call answer es c gone spare l le none untouched =
     ∙ (λ i. published_at now (enqueued_all (none i) now (with_part (untouched i) s)))
     ∙ all_published now s (channel_law ds es c gone spare (lawful_last ds call answer es l).1 le).2
 
-pub let_go_law : (ds : List ℕ) (es : List Effect) (c gone spare : ℕ) → Lawful ds es → gone ≤ received (past_of es) c → (let_go_of (channel_at es c gone spare) ≡ channel_at es c (received (past_of es) c) spare) × ((n : ℕ) → with_spare n (channel_at es c gone spare) ≡ channel_at es c gone (max n spare))
+pub let_go_law : (ds : List ℕ) (es : List Effect) (c gone spare : ℕ) → Lawful ds es → gone ≤ received (past_of es) c
+    → (let_go_of (channel_at es c gone spare) ≡ channel_at es c (received (past_of es) c) spare) × ((n : ℕ) → with_spare n (channel_at es c gone spare) ≡ channel_at es c gone (max n spare))
 let_go_law ds es c gone spare l le =
     let rest : gone + (received (past_of es) c - gone) ≡ received (past_of es) c = omega (arith, le) in (
       λ i. record (channel_at es c (received (past_of es) c) spare) {

@@ -11,3 +11,7 @@ pub mod Masking
 pub mod Ables
 pub mod Duties
 pub mod Keeping
+pub mod Examples
+pub mod Silence
+pub mod Going
+pub mod Resting

@@ -13,7 +13,8 @@ use Rattle.window_snapshot.proofs.Masks.{mask_has-with, mask_has-zero}
 use Rattle.dispatch_history.specs.Due.{mask_of}
 use Rattle.dispatch_history.specs.Effects.{channels}
 
-mask_has-fold : (ds : List ℕ) (mask c : ℕ) → mask_has (fold mask_with mask ds) c ≡ (mask_has mask c || (is_channel c && list_any (λ d. d == c) ds))
+mask_has-fold : (ds : List ℕ) (mask c : ℕ)
+    → mask_has (fold mask_with mask ds) c ≡ (mask_has mask c || (is_channel c && list_any (λ d. d == c) ds))
 mask_has-fold [] mask c = none (mask_has mask c) (is_channel c)
   where
     none : (a k : Bool) → a ≡ (a || (k && false))
@@ -55,11 +56,12 @@ pub mask_of-low : (ds : List ℕ) → mask_of ds < 2 ^ 64
 mask_of-low ds = fold-low ds 0 (omega arith)
 
 -- which of the channels 1 to n pass a test
-pub among : (p : ℕ → Bool) (n c : ℕ) → list_any (λ d. d == c) (filter p (channels n)) ≡ (nat_le 1 c && nat_le c n && p c)
+pub among : (p : ℕ → Bool) (n c : ℕ)
+    → list_any (λ d. d == c) (filter p (channels n)) ≡ (nat_le 1 c && nat_le c n && p c)
 among p zero c = none (nat_le 1 c) (nat_le c 0) (p c) refl refl
   where
     none : (a b x : Bool) → nat_le 1 c ≡ a → nat_le c 0 ≡ b → false ≡ (a && b && x)
-    none true true x e f = absurd (grind (arith, nat_tests))
+    none true true x e f = absurd (omega (arith, leb-true 1 c e, leb-true c 0 f))
     none true false x e f = refl
     none false b x e f = refl
 among p (suc n) c =

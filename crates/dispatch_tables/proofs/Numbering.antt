@@ -17,7 +17,8 @@ pub length-messages : (now n : ℕ) (bs : List Body) → length (messages_from n
 length-messages now n [] = refl
 length-messages now n (b ∷ bs) = ap suc (length-messages now (suc n) bs)
 
-pub reverse_told : (now : ℕ) (bs : List Body) (ms : List Message) → reverse (told_on now bs ms) ≡ reverse ms ++ messages_from now (length ms) bs
+pub reverse_told : (now : ℕ) (bs : List Body) (ms : List Message)
+    → reverse (told_on now bs ms) ≡ reverse ms ++ messages_from now (length ms) bs
 reverse_told now [] ms = sym (append-nil (reverse ms))
 reverse_told now (b ∷ bs) ms =
     let m : Message = record { seq = 1 + length ms; moment = now; body = b } in
@@ -56,7 +57,8 @@ enqueued_is now (b ∷ bs) s n e =
     less = omega arith
 
 -- messages numbered after others
-pub numbered-append : (n k : ℕ) (xs ys : List Message) → NumberedFrom n xs → n + length xs ≡ k → NumberedFrom k ys → NumberedFrom n (xs ++ ys)
+pub numbered-append : (n k : ℕ) (xs ys : List Message) → NumberedFrom n xs → n + length xs ≡ k → NumberedFrom k ys
+    → NumberedFrom n (xs ++ ys)
 numbered-append n k [] ys h e g = let same : k ≡ n = omega (arith, e) in subst (λ j. NumberedFrom j ys) same g
 numbered-append n k (x ∷ xs) ys h e g = (h.0, numbered-append (suc n) k xs ys h.1 (omega (arith, e)) g)
 

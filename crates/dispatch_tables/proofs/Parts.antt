@@ -36,7 +36,8 @@ abbrev pub unfinished_by : Part → List Unfinished → List Unfinished
 unfinished_by (Finishes seq) before = without seq before
 unfinished_by part before = before
 
-pub limit_part : (call : Call) (answer : Reply) (c n : ℕ) → limit_after call answer c n ≡ limit_by (part_of call answer c) n
+pub limit_part : (call : Call) (answer : Reply) (c n : ℕ)
+    → limit_after call answer c n ≡ limit_by (part_of call answer c) n
 limit_part (Open limit) (Opened k) c n = here (c == k)
   where
     here : (b : Bool) → cond b limit n ≡ limit_by (cond b (Opens limit) Untouched) n
@@ -54,7 +55,8 @@ limit_part (Finish now k seq) Done c n = here (c == k)
     here false = refl
 limit_part call answer c n = refl
 
-pub received_part : (call : Call) (answer : Reply) (c n : ℕ) → received_after call answer c n ≡ received_by (part_of call answer c) n
+pub received_part : (call : Call) (answer : Reply) (c n : ℕ)
+    → received_after call answer c n ≡ received_by (part_of call answer c) n
 received_part (Open limit) (Opened k) c n = here (c == k)
   where
     here : (b : Bool) → n ≡ received_by (cond b (Opens limit) Untouched) n
@@ -72,7 +74,8 @@ received_part (Finish now k seq) Done c n = here (c == k)
     here false = refl
 received_part call answer c n = refl
 
-pub finished_part : (call : Call) (answer : Reply) (c : ℕ) (ns : List ℕ) → finished_after call answer c ns ≡ finished_by (part_of call answer c) ns
+pub finished_part : (call : Call) (answer : Reply) (c : ℕ) (ns : List ℕ)
+    → finished_after call answer c ns ≡ finished_by (part_of call answer c) ns
 finished_part (Open limit) (Opened k) c ns = here (c == k)
   where
     here : (b : Bool) → ns ≡ finished_by (cond b (Opens limit) Untouched) ns
@@ -133,7 +136,8 @@ done_when true b e = absurd (cc e)
 done_when false true e = refl
 done_when false false e = absurd (cc e)
 
-can_receive : (es : List Effect) (k : ℕ) (m : Message) → Got m ≡ receive_reply es k → received (past_of es) k < published es k
+can_receive : (es : List Effect) (k : ℕ) (m : Message) → Got m ≡ receive_reply es k
+    → received (past_of es) k < published es k
 can_receive es k m e =
     ltb-true (received (past_of es) k) (published es k)
     (got_when (not (live (past_of es) k)) (nat_lt (received (past_of es) k) (published es k)) _ m e)
@@ -145,7 +149,8 @@ can_finish es k seq e =
     let y = and_parts (nat_le 1 seq) (nat_le seq (received (past_of es) k)) x.0 in
     (leb-true 1 seq y.0, leb-true seq (received (past_of es) k) y.1, not-true (is_finished (past_of es) k seq) x.1)
 
-pub can_be : (es : List Effect) (c : ℕ) (call : Call) (answer : Reply) → answer ≡ reply_to es call → CanBe es c (part_of call answer c)
+pub can_be : (es : List Effect) (c : ℕ) (call : Call) (answer : Reply) → answer ≡ reply_to es call
+    → CanBe es c (part_of call answer c)
 can_be es c (Open limit) (Opened k) r = here (c == k)
   where
     here : (b : Bool) → CanBe es c (cond b (Opens limit) Untouched)

@@ -34,7 +34,8 @@ more_finished Receives ns = omega arith
 more_finished Untouched ns = omega arith
 
 -- a number that is finished after a part is received before it
-done_by : (es : List Effect) (c : ℕ) (p : Part) → Sound es c → CanBe es c p → (k : ℕ) → list_any (λ n. n == k) (finished_by p (finished (past_of es) c)) ≡ true
+done_by : (es : List Effect) (c : ℕ) (p : Part) → Sound es c → CanBe es c p → (k : ℕ)
+    → list_any (λ n. n == k) (finished_by p (finished (past_of es) c)) ≡ true
     → (1 ≤ k) × (k ≤ received (past_of es) c)
 done_by es c (Finishes seq) h can k d =
     elim (or_cases (seq == k) (is_finished (past_of es) c k) d) [
@@ -47,7 +48,8 @@ done_by es c Untouched h can k d = h.done_received k d
 
 -- those that wait after a part
 waiting-part : (p : Part) (ns : List ℕ) (at : ℕ → ℕ) (ms : List Message)
-    → waiting (λ k. list_any (λ n. n == k) (finished_by p ns)) at ms ≡ unfinished_by p (waiting (λ k. list_any (λ n. n == k) ns) at ms)
+    → waiting (λ k. list_any (λ n. n == k) (finished_by p ns)) at ms
+    ≡ unfinished_by p (waiting (λ k. list_any (λ n. n == k) ns) at ms)
 waiting-part (Finishes seq) ns at ms = waiting-without (λ k. list_any (λ n. n == k) ns) at seq ms
 waiting-part (Opens limit) ns at ms = refl
 waiting-part Receives ns at ms = refl
@@ -61,10 +63,12 @@ pub record Stepped (es later : List Effect) (c : ℕ) (p : Part) (told : List Bo
   pub received_is : received (past_of later) c ≡ received_by p (received (past_of es) c)
   pub finished_is : finished (past_of later) c ≡ finished_by p (finished (past_of es) c)
   pub stream_is : stream later c ≡ told_on (clock (past_of later)) told (stream es c)
-  pub delivery_is : (k : ℕ) → delivery later c k ≡ cond (nat_le k (published es c)) (delivery es c k) (clock (past_of later))
+  pub delivery_is : (k : ℕ)
+      → delivery later c k ≡ cond (nat_le k (published es c)) (delivery es c k) (clock (past_of later))
   pub numbered : NumberedFrom 0 (reverse (stream later c))
 
-pub stepped_published : (es later : List Effect) (c : ℕ) (p : Part) (told : List Body) → Stepped es later c p told → published es c ≤ published later c
+pub stepped_published : (es later : List Effect) (c : ℕ) (p : Part) (told : List Body) → Stepped es later c p told
+    → published es c ≤ published later c
 stepped_published es later c p told h =
     let longer : length (stream later c) ≡ length (stream es c) + length told =
     ap length h.stream_is ∙ length-told_on (clock (past_of later)) told (stream es c) in
@@ -73,7 +77,8 @@ stepped_published es later c p told h =
     published-grows (length (stream es c)) (length (stream later c)) (length (finished (past_of es) c)) (length (finished (past_of later) c)) 64
     (omega (arith, longer)) more
 
-received_few : (es : List Effect) (c : ℕ) (p : Part) → Sound es c → CanBe es c p → received_by p (received (past_of es) c) ≤ published es c
+received_few : (es : List Effect) (c : ℕ) (p : Part) → Sound es c → CanBe es c p
+    → received_by p (received (past_of es) c) ≤ published es c
 received_few es c Receives h can = can
 received_few es c (Opens limit) h can = h.received_published
 received_few es c (Finishes seq) h can = h.received_published
@@ -85,7 +90,8 @@ received_more (Opens limit) n = omega arith
 received_more (Finishes seq) n = omega arith
 received_more Untouched n = omega arith
 
-pub stepped_sound : (es later : List Effect) (c : ℕ) (p : Part) (told : List Body) → Stepped es later c p told → Sound later c
+pub stepped_sound : (es later : List Effect) (c : ℕ) (p : Part) (told : List Body) → Stepped es later c p told
+    → Sound later c
 stepped_sound es later c p told h =
     let few : received (past_of later) c ≤ published es c = subst (λ n. n ≤ published es c) (sym h.received_is) (received_few es c p h.sound h.can) in
     let more : received (past_of es) c ≤ received (past_of later) c =
@@ -145,7 +151,8 @@ stepped_unfinished es later c p told h =
         ∙ waiting-part p (finished (past_of es) c) (delivery es c) (take (published es c) (reverse (stream es c)))
 
 -- the channel after the step
-pub stepped_channel : (es later : List Effect) (c : ℕ) (p : Part) (told : List Body) (gone spare : ℕ) → Stepped es later c p told → gone ≤ received (past_of es) c
+pub stepped_channel : (es later : List Effect) (c : ℕ) (p : Part) (told : List Body) (gone spare : ℕ)
+    → Stepped es later c p told → gone ≤ received (past_of es) c
     → channel_at later c gone (spare - length told)
     ≡ published_at (clock (past_of later)) (enqueued_all told (clock (past_of later)) (with_part p (channel_at es c gone spare)))
 stepped_channel es later c p told gone spare h le =
@@ -193,7 +200,9 @@ stepped_channel es later c p told gone spare h le =
         ap length h.stream_is ∙ length-told_on (clock (past_of later)) told (stream es c) in
         let same : length (stream later c) ≡ gone + length (drop gone (reverse (stream es c)) ++ messages_from (clock (past_of later)) (length (stream es c)) told) =
         omega (
-          arith, longer, all,
+          arith,
+          longer,
+          all,
           length-append (drop gone (reverse (stream es c))) (messages_from (clock (past_of later)) (length (stream es c)) told),
           length-messages (clock (past_of later)) (length (stream es c)) told,
         ) in

@@ -18,7 +18,8 @@ with_delivery at m = record { seq = m.seq; delivery = at m.seq }
 abbrev pub waiting : (ℕ → Bool) → (ℕ → ℕ) → List Message → List Unfinished
 waiting done at ms = map (with_delivery at) (filter (λ m. not (done m.seq)) ms)
 
-waiting-append : (done : ℕ → Bool) (at : ℕ → ℕ) (xs ys : List Message) → waiting done at (xs ++ ys) ≡ waiting done at xs ++ waiting done at ys
+waiting-append : (done : ℕ → Bool) (at : ℕ → ℕ) (xs ys : List Message)
+    → waiting done at (xs ++ ys) ≡ waiting done at xs ++ waiting done at ys
 waiting-append done at xs ys =
     ap (map (with_delivery at)) (filter-append (λ m. not (done m.seq)) xs ys)
     ∙ map-append (with_delivery at) (filter (λ m. not (done m.seq)) xs) (filter (λ m. not (done m.seq)) ys)
@@ -33,7 +34,9 @@ waiting-same done f g n p (m ∷ ms) h le same =
     rest : List Message
     rest = filter (λ m. not (done m.seq)) ms
 
-    first : (b : Bool) → f m.seq ≡ g m.seq → map (with_delivery f) (filter (λ m. not (done m.seq)) ms) ≡ map (with_delivery g) (filter (λ m. not (done m.seq)) ms)
+    first : (b : Bool) → f m.seq ≡ g m.seq
+        → map (with_delivery f) (filter (λ m. not (done m.seq)) ms)
+        ≡ map (with_delivery g) (filter (λ m. not (done m.seq)) ms)
         → map (with_delivery f) (cond b (m ∷ filter (λ m. not (done m.seq)) ms) (filter (λ m. not (done m.seq)) ms))
         ≡ map (with_delivery g) (cond b (m ∷ filter (λ m. not (done m.seq)) ms) (filter (λ m. not (done m.seq)) ms))
     first true e r = λ i. record { seq = m.seq; delivery = e i } ∷ r i
@@ -50,7 +53,8 @@ waiting-without done at seq (m ∷ ms) =
     ]
   where
     first : (a b : Bool) → (seq == m.seq) ≡ a → (m.seq == seq) ≡ a
-        → map (with_delivery at) (filter (λ m. not ((seq == m.seq) || done m.seq)) ms) ≡ without seq (map (with_delivery at) (filter (λ m. not (done m.seq)) ms))
+        → map (with_delivery at) (filter (λ m. not ((seq == m.seq) || done m.seq)) ms)
+        ≡ without seq (map (with_delivery at) (filter (λ m. not (done m.seq)) ms))
         → map (with_delivery at) (cond (not ((seq == m.seq) || b)) (m ∷ filter (λ m. not ((seq == m.seq) || done m.seq)) ms) (filter (λ m. not ((seq == m.seq) || done m.seq)) ms))
         ≡ without seq (map (with_delivery at) (cond (not b) (m ∷ filter (λ m. not (done m.seq)) ms) (filter (λ m. not (done m.seq)) ms)))
     first true true e f r = rw e r
@@ -58,7 +62,8 @@ waiting-without done at seq (m ∷ ms) =
     first false true e f r = rw e r
     first false false e f r = rw (e, f) (ap (λ us. with_delivery at m ∷ us) r)
 
-delivered-cons : (now n j : ℕ) → delivered now n (suc j) ≡ record { seq = suc n; delivery = now } ∷ delivered now (suc n) j
+delivered-cons : (now n j : ℕ)
+    → delivered now n (suc j) ≡ record { seq = suc n; delivery = now } ∷ delivered now (suc n) j
 delivered-cons now n zero = let same : n + 1 ≡ suc n = omega arith in λ i. record { seq = same i; delivery = now } ∷ []
 delivered-cons now n (suc j) =
     let same : n + suc (suc j) ≡ suc n + suc j = omega arith in

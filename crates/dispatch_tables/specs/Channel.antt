@@ -26,8 +26,8 @@ channel_at es c gone spare =
       spare = spare;
     }
 
--- what a step does to a channel besides what it tells: it opens the channel with a limit, hands its owner the next message, finishes
--- a message of it, or does none of these
+-- what a step does to a channel besides what it tells: it opens the channel with a limit, hands its owner the next
+-- message, finishes a message of it, or does none of these
 pub data Part : Type 0 where
   Opens : (limit : ℕ) → Part
   Receives : Part

@@ -13,7 +13,8 @@ use Rattle.dispatch_history.specs.Effects.{channels}
 
 -- the moment at which a channel is due: its limit after the delivery of its oldest unfinished message, where it is able
 abbrev pub due_moment : List Effect → ℕ → Option ℕ
-due_moment es c = if able es c then option_map (λ m. delivery es c m.seq + limit_of (past_of es) c) (oldest es c) else None
+due_moment es c =
+    if able es c then option_map (λ m. delivery es c m.seq + limit_of (past_of es) c) (oldest es c) else None
 
 -- the same by what is kept of the channel
 abbrev pub due_in : (is_able : Bool) → ChannelState → Option ℕ

@@ -1,14 +1,13 @@
 -- What is proved of what is kept. Each law is the clause of a function of its own.
-use Rattle.std.specs.Prelude.{◌≡◌, ℕ, ◌<◌, ◌≤◌, max, Bool, false, true, not, ◌&&◌, nat_le, List, [], ◌++◌, filter, length, reverse, Option, Some, None, option_map, if◌then◌else◌}
+use Rattle.std.specs.Prelude.{◌≡◌, ℕ, ◌^◌, ◌<◌, ◌≤◌, max, Bool, false, true, not, ◌&&◌, nat_le, List, [], ◌++◌, filter, length, reverse, Option, Some, None, option_map, if◌then◌else◌}
 use Rattle.input_types.specs.declared.message.Body.{Body}
 use Rattle.window_snapshot.specs.Mask.{mask_has}
 use Rattle.anr_tracker.specs.Due.{IsFirst}
 use Rattle.dispatch_calls.specs.declared.call.Call.{Call}
-use Rattle.dispatch_calls.specs.declared.call.Call.TheVariants.{Tick}
 use Rattle.dispatch_calls.specs.declared.reply.Reply.{Reply}
 use Rattle.dispatch_calls.specs.declared.reply.Reply.TheVariants.{Done, Gone, Named, UnknownSeq}
 use Rattle.input_channel.specs.Order.{NoneAfter}
-use Rattle.input_channel.specs.State.{ChannelState, IsChannel, sent, publishable, published_at, next_of, may_finish, oldest_of, let_go_of, with_spare, opened_with}
+use Rattle.input_channel.specs.State.{ChannelState, IsChannel, sent, published_at, next_of, may_finish, oldest_of, let_go_of, with_spare, opened_with}
 use Rattle.input_channel.specs.State.{has_late as late_at}
 use Rattle.dispatch_history.specs.History.{History, clock, live, opened}
 use Rattle.dispatch_history.specs.Effect.{Effect, past_of, stream}
@@ -20,6 +19,8 @@ use Rattle.dispatch_history.specs.Reply.{reply_to, receive_reply, finish_reply, 
 use Rattle.dispatch_tables.specs.Lawful.{Lawful}
 use Rattle.dispatch_tables.specs.Channel.{Keeps, part_of, Untouched, with_part, enqueued_all, NumberedFrom, counts_of}
 use Rattle.dispatch_tables.specs.Masks.{able_after, live_mask_after, able_mask_after}
+use Rattle.dispatch_tables.specs.Delivery.{Delivery, DeliveryIs, GoesOn, due_kept}
+use Rattle.dispatch_tables.specs.Silent.{is_silent, is_resting}
 use Rattle.dispatch_tables.specs.Dues.{due_moment, due_in, due_pair, namings_in, is_named}
 
 -- The effects of a legal history are lawful, and so are none.
@@ -38,8 +39,8 @@ LawfulLast =
     (displays : List ℕ) (call : Call) (answer : Reply) (es : List Effect)
     → Lawful displays (step displays call answer es) → (answer ≡ reply_to es call) × Lawful displays es
 
--- A channel that is kept before a step is kept after it once it is opened, received from or finished as the step says, all that it is
--- told is enqueued, and it is published, at the clock after the step.
+-- A channel that is kept before a step is kept after it once it is opened, received from or finished as the step says,
+-- all that it is told is enqueued, and it is published, at the clock after the step.
 abbrev pub KeptStep : Type 0
 KeptStep =
     (displays : List ℕ) (call : Call) (answer : Reply) (es : List Effect) (c : ℕ) (s : ChannelState)
@@ -52,7 +53,8 @@ KeptStep =
 -- Before it is published so, none of its messages was delivered after that clock.
 abbrev pub KeptReady : Type 0
 KeptReady =
-    (displays : List ℕ) (call : Call) (answer : Reply) (es : List Effect) (c : ℕ) (s : ChannelState) (bodies : List Body)
+    (displays : List ℕ) (call : Call) (answer : Reply) (es : List Effect) (c : ℕ) (s : ChannelState)
+    (bodies : List Body)
     → Lawful displays (step displays call answer es)
     → Keeps es c s
     → let now = clock (past_of (step displays call answer es)) in
@@ -61,7 +63,8 @@ KeptReady =
 -- A channel that was never opened is kept as one without messages and without a limit.
 abbrev pub KeptUnopened : Type 0
 KeptUnopened =
-    (displays : List ℕ) (es : List Effect) (c : ℕ) → Lawful displays es → opened (past_of es) < c → Keeps es c (opened_with 0)
+    (displays : List ℕ) (es : List Effect) (c : ℕ)
+    → Lawful displays es → opened (past_of es) < c → Keeps es c (opened_with 0)
 
 -- A channel that is told nothing and has no part in a step is kept as it was.
 abbrev pub KeptQuiet : Type 0
@@ -73,16 +76,15 @@ KeptQuiet =
     → part_of call answer c ≡ Untouched
     → Keeps (step displays call answer es) c s
 
--- So is a channel that is not live after the step.
-abbrev pub KeptNotLive : Type 0
-KeptNotLive =
-    (displays : List ℕ) (call : Call) (answer : Reply) (es : List Effect) (c : ℕ) (s : ChannelState)
+-- A channel that is not live after a step is told nothing, and has no part in it.
+abbrev pub NotLiveLaw : Type 0
+NotLiveLaw =
+    (displays : List ℕ) (call : Call) (answer : Reply) (es : List Effect) (c : ℕ)
     → Lawful displays (step displays call answer es)
-    → Keeps es c s
     → live (past_of (step displays call answer es)) c ≡ false
-    → Keeps (step displays call answer es) c s
+    → (said_at displays call answer es c ≡ []) × (part_of call answer c ≡ Untouched)
 
--- It is kept all the same once the messages that were received are let go, and where it has more room.
+-- A channel is kept all the same once the messages that were received are let go, and where it has more room.
 abbrev pub KeptLess : Type 0
 KeptLess =
     (displays : List ℕ) (es : List Effect) (c : ℕ) (s : ChannelState)
@@ -90,8 +92,8 @@ KeptLess =
     → Keeps es c s
     → Keeps es c (let_go_of s) × ((n : ℕ) → Keeps es c (with_spare n s))
 
--- What is kept is a channel, which has as many messages as its stream; all that can be is published, and no message was delivered after
--- the clock.
+-- What is kept is a channel, which has as many messages as its stream; all that can be is published, so that it stays
+-- as it is where it is published again; and no message was delivered after the clock.
 abbrev pub KeptFacts : Type 0
 KeptFacts =
     (displays : List ℕ) (es : List Effect) (c : ℕ) (s : ChannelState)
@@ -99,18 +101,20 @@ KeptFacts =
     → Keeps es c s
     → IsChannel s
     × (sent s ≡ length (stream es c))
-    × (publishable s ≡ s.published)
+    × ((now : ℕ) → published_at now s ≡ s)
     × ((now : ℕ) → clock (past_of es) ≤ now → NoneAfter now s.unfinished)
 
 -- The messages of a stream are numbered from 1, in order.
 abbrev pub NumberedLaw : Type 0
-NumberedLaw = (displays : List ℕ) (es : List Effect) (c : ℕ) → Lawful displays es → NumberedFrom 0 (reverse (stream es c))
+NumberedLaw =
+    (displays : List ℕ) (es : List Effect) (c : ℕ) → Lawful displays es → NumberedFrom 0 (reverse (stream es c))
 
 -- The owner of a live channel gets the next message of what is kept, where there is one.
 abbrev pub ReceiveLaw : Type 0
 ReceiveLaw =
     (displays : List ℕ) (es : List Effect) (c : ℕ) (s : ChannelState)
-    → Lawful displays es → Keeps es c s → receive_reply es c ≡ (if not (live (past_of es) c) then Gone else got_reply (next_of s))
+    → Lawful displays es → Keeps es c s
+    → receive_reply es c ≡ (if not (live (past_of es) c) then Gone else got_reply (next_of s))
 
 -- A message of a live channel can be finished where what is kept says so.
 abbrev pub FinishLaw : Type 0
@@ -118,7 +122,8 @@ FinishLaw =
     (displays : List ℕ) (es : List Effect) (c seq : ℕ) (s : ChannelState)
     → Lawful displays es
     → Keeps es c s
-    → finish_reply es c seq ≡ (if not (live (past_of es) c) then Gone else if may_finish seq s then Done else UnknownSeq)
+    → finish_reply es c seq
+    ≡ (if not (live (past_of es) c) then Gone else if may_finish seq s then Done else UnknownSeq)
 
 -- The oldest unfinished message of what is kept is that of the history, with its delivery.
 abbrev pub OldestLaw : Type 0
@@ -136,7 +141,8 @@ CountsLaw =
     (displays : List ℕ) (es : List Effect) (c : ℕ) (s : ChannelState)
     → Lawful displays es
     → Keeps es c s
-    → counts es c ≡ (if nat_le 1 c && nat_le c (opened (past_of es)) then Some (counts_of (live (past_of es) c) s) else None)
+    → counts es c
+    ≡ (if nat_le 1 c && nat_le c (opened (past_of es)) then Some (counts_of (live (past_of es) c) s) else None)
 
 -- At most 64 channels are opened.
 abbrev pub OpenedFew : Type 0
@@ -147,7 +153,8 @@ abbrev pub AbleLaw : Type 0
 AbleLaw =
     (displays : List ℕ) (call : Call) (answer : Reply) (es : List Effect) (c : ℕ)
     → Lawful displays (step displays call answer es)
-    → able (step displays call answer es) c ≡ able_after call answer (has_late (step displays call answer es) c) c (able es c)
+    → able (step displays call answer es) c
+    ≡ able_after call answer (has_late (step displays call answer es) c) c (able es c)
 
 -- The mask of the live channels after a step.
 abbrev pub LiveMaskLaw : Type 0
@@ -163,7 +170,8 @@ AbleMaskLaw =
     (displays : List ℕ) (call : Call) (answer : Reply) (es : List Effect) (mask : ℕ)
     → Lawful displays (step displays call answer es)
     → mask_has mask ≡ able es
-    → mask_has (able_mask_after call answer (has_late (step displays call answer es)) mask) ≡ able (step displays call answer es)
+    → mask_has (able_mask_after call answer (has_late (step displays call answer es)) mask)
+    ≡ able (step displays call answer es)
 
 -- When a channel is due, by what is kept of it.
 abbrev pub DueLaw : Type 0
@@ -183,11 +191,12 @@ QuietDueLaw =
 abbrev pub NotLiveDueLaw : Type 0
 NotLiveDueLaw = (es : List Effect) (c : ℕ) → live (past_of es) c ≡ false → due_moment es c ≡ None
 
--- A table of dues after a step: it is written again for channels, among which are all that are told something, have a part in the step
--- or are not able as before.
+-- A table of dues after a step: it is written again for channels, among which are all that are told something, have a
+-- part in the step or are not able as before.
 abbrev pub DuesLaw : Type 0
 DuesLaw =
-    (displays : List ℕ) (call : Call) (answer : Reply) (es : List Effect) (changed : ℕ → Bool) (before later : ℕ → Option ℕ) (kept : ℕ → ChannelState)
+    (displays : List ℕ) (call : Call) (answer : Reply) (es : List Effect) (changed : ℕ → Bool)
+    (before later : ℕ → Option ℕ) (kept : ℕ → ChannelState)
     → Lawful displays (step displays call answer es)
     → before ≡ due_moment es
     → ((c : ℕ)
@@ -207,7 +216,7 @@ FirstDueLaw =
     → IsFirst (due_moment es) first
     → first_due es ≡ option_map due_pair first
 
--- A tick names the channels that are due at the clock that it makes.
+-- A tick names the channels that are due at the clock that it makes; its answer is the mask that has just those.
 abbrev pub NamedLaw : Type 0
 NamedLaw =
     (displays : List ℕ) (es : List Effect) (now : ℕ)
@@ -215,14 +224,18 @@ NamedLaw =
     → let at = max now (clock (past_of es)) in
     (named es now ≡ filter (λ c. is_due (due_moment es c) at) (channels (opened (past_of es))))
     × ((c : ℕ) → mask_has (mask_of (named es now)) c ≡ is_due (due_moment es c) at)
+    × ((mask : ℕ)
+    → mask < 2 ^ 64
+    → ((c : ℕ) → mask_has mask c ≡ is_due (due_moment es c) at)
+    → mask ≡ mask_of (named es now))
 
--- A tick notes its clock and the oldest unfinished message of each channel that it names.
+-- A step that names channels notes its clock and the oldest unfinished message of each.
 abbrev pub NamingsLaw : Type 0
 NamingsLaw =
-    (displays : List ℕ) (now mask : ℕ) (es : List Effect) (kept : ℕ → ChannelState)
+    (displays : List ℕ) (call : Call) (mask : ℕ) (es : List Effect) (kept : ℕ → ChannelState)
     → ((c : ℕ) → 1 ≤ c → c ≤ opened (past_of es) → Keeps es c (kept c))
-    → namings (step displays (Tick now) (Named mask) es)
-    ≡ namings es ++ namings_in (max now (clock (past_of es))) mask kept (opened (past_of es))
+    → let now = clock (past_of (step displays call (Named mask) es)) in
+    namings (step displays call (Named mask) es) ≡ namings es ++ namings_in now mask kept (opened (past_of es))
 
 -- A step that is answered with no mask notes nothing.
 abbrev pub NamingsKeptLaw : Type 0
@@ -230,3 +243,40 @@ NamingsKeptLaw =
     (displays : List ℕ) (call : Call) (answer : Reply) (es : List Effect)
     → is_named answer ≡ false
     → namings (step displays call answer es) ≡ namings es
+
+-- What these steps tell: nothing.
+abbrev pub SilentCalls : Type 0
+SilentCalls =
+    (displays : List ℕ) (call : Call) (answer : Reply) (es : List Effect) (c : ℕ)
+    → is_silent call answer c ≡ true → said_at displays call answer es c ≡ []
+
+-- Before any call nothing is kept.
+abbrev pub DeliveryStart : Type 0
+DeliveryStart =
+    (channel : ℕ → ChannelState)
+    → DeliveryIs [] (record { count = 0; channel = channel; live = 0; able = 0; noted = [] })
+
+-- What is kept of all channels goes on with any step.
+abbrev pub DeliveryLaw : Type 0
+DeliveryLaw =
+    (displays : List ℕ) (call : Call) (answer : Reply) (es : List Effect) (changed : ℕ → Bool) (k later : Delivery)
+    → Lawful displays (step displays call answer es)
+    → DeliveryIs es k
+    → let now = clock (past_of (step displays call answer es)) in
+    GoesOn call answer es (said_at displays call answer es) now changed k later
+    → DeliveryIs (step displays call answer es) later
+
+-- The channels are due as by what is kept.
+abbrev pub DeliveryDue : Type 0
+DeliveryDue =
+    (displays : List ℕ) (es : List Effect) (k : Delivery)
+    → Lawful displays es → DeliveryIs es k → due_kept k ≡ due_moment es
+
+-- Steps that leave all channels as they are.
+abbrev pub DeliveryRests : Type 0
+DeliveryRests =
+    (displays : List ℕ) (call : Call) (answer : Reply) (es : List Effect) (k : Delivery)
+    → Lawful displays (step displays call answer es)
+    → is_resting call answer ≡ true
+    → DeliveryIs es k
+    → DeliveryIs (step displays call answer es) k

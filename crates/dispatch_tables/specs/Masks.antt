@@ -7,8 +7,8 @@ use Rattle.dispatch_calls.specs.declared.call.Call.TheVariants.{Open, Tick, Fini
 use Rattle.dispatch_calls.specs.declared.reply.Reply.{Reply}
 use Rattle.dispatch_calls.specs.declared.reply.Reply.TheVariants.{Opened, Done, Named}
 
--- A channel is able once it is opened, and not any more once it is removed or named; a finish of it makes it able where after it none
--- of its messages is late.
+-- A channel is able once it is opened, and not any more once it is removed or named; a finish of it makes it able where
+-- after it none of its messages is late.
 abbrev pub able_after : Call → Reply → (late : Bool) → ℕ → (before : Bool) → Bool
 able_after (Open limit) (Opened k) late c before = c == k || before
 able_after (Remove now k) Done late c before = not (c == k) && before

@@ -1,5 +1,5 @@
 //! What is proved of what is kept. Each function has the laws as its clauses, and does nothing.
-ghost use Rattle.dispatch_tables.specs.Laws.{LawfulEffects, LawfulStep, LawfulLast, KeptStep, KeptReady, KeptUnopened, KeptQuiet, KeptNotLive, KeptLess, KeptFacts, NumberedLaw, ReceiveLaw, FinishLaw, OldestLaw, LateLaw, CountsLaw, OpenedFew, AbleLaw, LiveMaskLaw, AbleMaskLaw, DueLaw, QuietDueLaw, NotLiveDueLaw, DuesLaw, FirstDueLaw, NamedLaw, NamingsLaw, NamingsKeptLaw};
+ghost use Rattle.dispatch_tables.specs.Laws.{LawfulEffects, LawfulStep, LawfulLast, KeptStep, KeptReady, KeptUnopened, KeptQuiet, NotLiveLaw, KeptLess, KeptFacts, NumberedLaw, ReceiveLaw, FinishLaw, OldestLaw, LateLaw, CountsLaw, OpenedFew, AbleLaw, LiveMaskLaw, AbleMaskLaw, DueLaw, QuietDueLaw, NotLiveDueLaw, DuesLaw, FirstDueLaw, NamedLaw, NamingsLaw, NamingsKeptLaw, SilentCalls, DeliveryStart, DeliveryLaw, DeliveryDue, DeliveryRests};
 
 /// Effects of legal histories: a step that is answered as it is to be keeps them so, and each step was.
 pub fn lawful()
@@ -8,7 +8,8 @@ pub fn lawful()
     ensures last { LawfulLast }
 {}
 
-/// What is kept of a channel, and what a step makes of it. It is published at the clock after the step, which it may be then.
+/// What is kept of a channel, and what a step makes of it. It is published at the clock after the step, which it may be
+/// then.
 pub fn channels()
     ensures facts { KeptFacts }
     ensures numbers { NumberedLaw }
@@ -17,11 +18,13 @@ pub fn channels()
     ensures unopened { KeptUnopened }
 {}
 
-/// The channels that a step does not concern are kept as they were; and messages that were received may be let go.
+/// The channels that a step does not concern are kept as they were, and many steps tell nothing. Messages that were
+/// received may be let go.
 pub fn quiet_channels()
     ensures quiet { KeptQuiet }
-    ensures not_live { KeptNotLive }
+    ensures not_live { NotLiveLaw }
     ensures less { KeptLess }
+    ensures silent { SilentCalls }
 {}
 
 /// What owners are answered, and what is told of a channel, by what is kept of it.
@@ -55,4 +58,12 @@ pub fn namings()
     ensures named { NamedLaw }
     ensures tick { NamingsLaw }
     ensures others { NamingsKeptLaw }
+{}
+
+/// What is kept of all channels stands for nothing at first, and after each step for one step more.
+pub fn delivery()
+    ensures start { DeliveryStart }
+    ensures step { DeliveryLaw }
+    ensures rests { DeliveryRests }
+    ensures due { DeliveryDue }
 {}

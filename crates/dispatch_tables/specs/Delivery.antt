@@ -1,0 +1,62 @@
+-- What is kept of all channels, and what a step makes of it.
+use Rattle.std.specs.Prelude.{◌≡◌, ℕ, ◌≤◌, Bool, true, false, List, [], ◌++◌, Option}
+use Rattle.input_types.specs.declared.message.Body.{Body}
+use Rattle.window_snapshot.specs.Mask.{mask_has}
+use Rattle.dispatch_calls.specs.declared.call.Call.{Call}
+use Rattle.dispatch_calls.specs.declared.counts.Naming.{Naming}
+use Rattle.dispatch_calls.specs.declared.reply.Reply.{Reply}
+use Rattle.dispatch_calls.specs.declared.reply.Reply.TheVariants.{Named}
+use Rattle.input_channel.specs.State.{ChannelState, published_at}
+use Rattle.input_channel.specs.State.{has_late as late_at}
+use Rattle.dispatch_history.specs.History.{opened, opened_after, live}
+use Rattle.dispatch_history.specs.Effect.{Effect, past_of}
+use Rattle.dispatch_history.specs.Delivery.{able}
+use Rattle.dispatch_history.specs.Due.{namings}
+use Rattle.dispatch_tables.specs.Channel.{Keeps, Untouched, part_of, with_part, enqueued_all}
+use Rattle.dispatch_tables.specs.Masks.{live_mask_after, able_mask_after}
+use Rattle.dispatch_tables.specs.Dues.{due_in, namings_in}
+
+-- how many channels were opened, the channels by their numbers, the masks of those that are live and able, and all that
+-- was noted of ticks
+pub record Delivery : Type 0 where
+  pub count : ℕ
+  pub channel : ℕ → ChannelState
+  pub live : ℕ
+  pub able : ℕ
+  pub noted : List Naming
+
+-- when a channel is due to be named by what is kept
+abbrev pub due_kept : Delivery → ℕ → Option ℕ
+due_kept k c = due_in (mask_has k.able c) (k.channel c)
+
+-- it stands for the effects of a history
+pub record DeliveryIs (es : List Effect) (k : Delivery) : Type 0 where
+  pub count_is : k.count ≡ opened (past_of es)
+  pub keeps : (c : ℕ) → 1 ≤ c → c ≤ k.count → Keeps es c (k.channel c)
+  pub live_is : mask_has k.live ≡ live (past_of es)
+  pub able_is : mask_has k.able ≡ able es
+  pub noted_is : k.noted ≡ namings es
+
+-- a channel after a step: its part in it, then what it is told, and all is published
+abbrev pub channel_after : Call → Reply → (told : List Body) → (now channel : ℕ) → ChannelState → ChannelState
+channel_after call answer told now c s = published_at now (enqueued_all told now (with_part (part_of call answer c) s))
+
+-- what is noted after a step
+abbrev pub noted_after : Reply → (now : ℕ) → Delivery → List Naming
+noted_after (Named mask) now k = k.noted ++ namings_in now mask k.channel k.count
+noted_after answer now k = k.noted
+
+-- What is kept goes one step on, in which channels are told these bodies, at the clock after the step. Some channels
+-- change, at least those that are told something or have a part in the step. One that the step opens begins as if it
+-- had been there before, without messages.
+pub record GoesOn
+    (call : Call) (answer : Reply) (es : List Effect) (told : ℕ → List Body) (now : ℕ) (changed : ℕ → Bool)
+    (k later : Delivery) : Type 0 where
+  pub count_is : later.count ≡ opened_after call answer k.count
+  pub changes : (c : ℕ) → changed c ≡ true → 1 ≤ c → c ≤ later.count
+      → (s : ChannelState) × Keeps es c s × (later.channel c ≡ channel_after call answer (told c) now c s)
+  pub stays : (c : ℕ) → changed c ≡ false → 1 ≤ c → c ≤ later.count
+      → (later.channel c ≡ k.channel c) × (told c ≡ []) × (part_of call answer c ≡ Untouched)
+  pub live_is : later.live ≡ live_mask_after call answer k.live
+  pub able_is : later.able ≡ able_mask_after call answer (λ c. late_at now (later.channel c)) k.able
+  pub noted_is : later.noted ≡ noted_after answer now k

@@ -1,0 +1,37 @@
+-- Which steps tell a channel nothing, whatever it holds.
+use Rattle.std.specs.Prelude.{ℕ, Bool, true, false, not}
+use Rattle.window_snapshot.specs.Mask.{mask_has}
+use Rattle.dispatch_calls.specs.declared.call.Call.{Call}
+use Rattle.dispatch_calls.specs.declared.call.Call.TheVariants.{Open, Notify, Pump, Tick, Receive, Finish, Pilfer, Remove}
+use Rattle.dispatch_calls.specs.declared.reply.Reply.{Reply}
+use Rattle.dispatch_calls.specs.declared.reply.Reply.TheVariants.{Full, Done, Idle, Named, Got, Gone}
+
+-- Owners that receive or finish, args that are handed in, a pump for which nothing waits and what is refused tell
+-- nobody anything; a tick tells those alone that it names.
+abbrev pub is_silent : Call → Reply → (channel : ℕ) → Bool
+is_silent (Receive channel) answer c = true
+is_silent (Finish now channel seq) answer c = true
+is_silent (Notify now args) answer c = true
+is_silent (Pump now) Idle c = true
+is_silent (Tick now) (Named mask) c = not (mask_has mask c)
+is_silent (Pilfer now channel device) Done c = false
+is_silent (Pilfer now channel device) answer c = true
+is_silent (Remove now channel) Gone c = true
+is_silent (Open limit) Full c = true
+is_silent call answer c = false
+
+-- Args that are handed in, what is refused, a pump for which nothing waits and a receive of nothing leave all channels
+-- as they are.
+abbrev pub is_resting : Call → Reply → Bool
+is_resting call (Named mask) = false
+is_resting (Notify now args) answer = true
+is_resting (Receive channel) (Got m) = false
+is_resting (Receive channel) answer = true
+is_resting (Finish now channel seq) Done = false
+is_resting (Finish now channel seq) answer = true
+is_resting (Pilfer now channel device) Done = false
+is_resting (Pilfer now channel device) answer = true
+is_resting (Pump now) Idle = true
+is_resting (Remove now channel) Gone = true
+is_resting (Open limit) Full = true
+is_resting call answer = false
