@@ -1,5 +1,5 @@
 -- Which successive messages stand in one batch.
-use Rattle.std.specs.Prelude.{ℕ, zero, suc, ◌++◌, ◌==◌, ◌&&◌, ◌||◌, not, Bool, true, false, if◌then◌else◌, List, [], ◌∷◌, length, Option, Some, None}
+use Rattle.std.specs.Prelude.{ℕ, zero, suc, ◌++◌, ◌==◌, ◌&&◌, ◌||◌, not, Bool, false, if◌then◌else◌, List, [], ◌∷◌, length, Option, Some, None}
 use Rattle.input_types.specs.declared.message.Message.{Message}
 use Rattle.motion_batch.specs.Calls.{Call, framed, flushed, pending, taken}
 use Rattle.motion_batch.specs.Rule.{class_of, has_same_ids, is_move, pointers_of, reaches}

@@ -1,5 +1,5 @@
 -- Items as the messages that they are.
-use Rattle.std.specs.Prelude.{ℕ, ◌++◌, ◌==◌, Bool, List, [], ◌∷◌, map}
+use Rattle.std.specs.Prelude.{ℕ, ◌++◌, ◌==◌, List, [], ◌∷◌, map}
 use Rattle.std.specs.List.{filter}
 use Rattle.input_types.specs.declared.message.Body.TheVariants.{Motion}
 use Rattle.input_types.specs.declared.message.Message.{Message}
