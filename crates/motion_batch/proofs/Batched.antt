@@ -10,11 +10,11 @@ use Rattle.motion_batch.specs.declared.item.Item.TheVariants.{One}
 use Rattle.motion_batch.specs.declared.sample.Sample.{Sample}
 use Rattle.motion_batch.specs.Batched.{IsBatched, IsFlushed, IsLatest, IsRising, with_waiting}
 use Rattle.motion_batch.specs.Calls.{AreOfDevices, Call, due_of_rows, flushed, framed, items, pending, rows_of, taken}
-use Rattle.motion_batch.specs.Pairs.{Mark, marks, part}
+use Rattle.motion_batch.specs.Pairs.{Mark, mark, marks, part}
 use Rattle.motion_batch.specs.Rule.{added_by, batch_of, class_of, due_of, extends, is_full, is_move, kept_after, left_by, sample_of}
 use Rattle.motion_batch.specs.Unbatch.{item_class, items_of, messages, messages_of, move_of, of_class, unbatch}
 use Rattle.motion_batch.proofs.Classes.{items_added, items_due, unbatch_of_class}
-use Rattle.motion_batch.proofs.Grouping.{mark, older}
+use Rattle.motion_batch.proofs.Grouping.{older}
 use Rattle.motion_batch.proofs.OneClass.{one_class}
 use Rattle.motion_batch.proofs.Steps.{Grouping, More, framed_from, take_begun, take_full, take_on, take_one, waiting_is}
 use Rattle.motion_batch.proofs.Whole.{same_number, whole}

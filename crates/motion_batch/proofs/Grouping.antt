@@ -5,13 +5,9 @@ use Rattle.std.proofs.lemmas.List.{length-map, length-reverse, map-append, rever
 use Rattle.input_types.specs.declared.message.Message.{Message}
 use Rattle.motion_batch.specs.declared.sample.Sample.{Sample}
 use Rattle.motion_batch.specs.Batched.{with_waiting}
-use Rattle.motion_batch.specs.Pairs.{Mark, grouped, groups_of, joins, part, parts}
+use Rattle.motion_batch.specs.Pairs.{Mark, mark, grouped, groups_of, joins, part, parts}
 use Rattle.motion_batch.specs.Rule.{has_same_ids, is_due, reaches}
 use Rattle.motion_batch.specs.Unbatch.{move_of}
-
--- a message that no frame has parted from the next one
-abbrev pub mark : Message → Mark
-mark m = record { message = m; parted = false }
 
 -- samples, the newest first, as messages of a device
 abbrev pub marked : ℕ → List Sample → List Mark → List Mark

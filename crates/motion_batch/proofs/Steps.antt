@@ -6,12 +6,12 @@ use Rattle.input_types.specs.declared.message.Body.{Body}
 use Rattle.input_types.specs.declared.message.Message.{Message}
 use Rattle.motion_batch.specs.declared.sample.Sample.{Sample}
 use Rattle.motion_batch.specs.Batched.{with_waiting}
-use Rattle.motion_batch.specs.Pairs.{Mark, grouped, groups_of, joins, part}
+use Rattle.motion_batch.specs.Pairs.{Mark, are_alike, mark, grouped, groups_of, joins, part}
 use Rattle.motion_batch.specs.Rule.{class_of, due_of, extends, has_same_ids, is_full, is_move, left_by, pointers_of, sample_of}
 use Rattle.motion_batch.specs.Unbatch.{move_of}
 use Rattle.motion_batch.proofs.Classes.{move_again}
 use Rattle.motion_batch.proofs.Extending.{extends_move}
-use Rattle.motion_batch.proofs.Grouping.{AllBelow, Chained, Falling, Shut, ShutFor, and_false, apart, cut, mark, marked, newer, older, one_group, part_waiting, reverse_with, shut_any, waiting_group, waiting_some}
+use Rattle.motion_batch.proofs.Grouping.{AllBelow, Chained, Falling, Shut, ShutFor, and_false, apart, cut, marked, newer, older, one_group, part_waiting, reverse_with, shut_any, waiting_group, waiting_some}
 use Rattle.motion_batch.proofs.Splits.{chained_newer, chained_older, falling_newer, few_newer, few_older, low_newer, newer_all, shut_older, split_due}
 
 -- what waits of a class stands in front of groups with which nothing goes on
@@ -30,25 +30,19 @@ pub record Grouping (k : ℕ) (Latest : ℕ → Type 0) (waits : List Sample) (m
 -- a message that was parted from the next one, or is no move, or is the 256th, is not joined by it
 not_parted : (x : Mark) (n : Message) (size : ℕ) → x.parted ≡ true → joins x n size ≡ false
 not_parted x n size e =
-    let same : Bool = has_same_ids (pointers_of x.message.body) (pointers_of n.body) in
-    ap (λ b. is_move x.message.body && (is_move n.body && (same && (not (size == 256) && not b)))) e
-    ∙ ap (λ b. is_move x.message.body && (is_move n.body && (same && b))) (and_false (not (size == 256)))
-    ∙ ap (λ b. is_move x.message.body && (is_move n.body && b)) (and_false same)
-    ∙ ap (λ b. is_move x.message.body && b) (and_false (is_move n.body))
-    ∙ and_false (is_move x.message.body)
+    let alike : Bool = are_alike x.message.body n.body in
+    ap (λ b. alike && (not (size == 256) && not b)) e ∙ ap (λ b. alike && b) (and_false (not (size == 256))) ∙ and_false alike
 
 not_full : (x : Mark) (n : Message) (size : ℕ) → (size == 256) ≡ true → joins x n size ≡ false
 not_full x n size e =
-    let same : Bool = has_same_ids (pointers_of x.message.body) (pointers_of n.body) in
-    ap (λ b. is_move x.message.body && (is_move n.body && (same && (not b && not x.parted)))) e
-    ∙ ap (λ b. is_move x.message.body && (is_move n.body && b)) (and_false same)
-    ∙ ap (λ b. is_move x.message.body && b) (and_false (is_move n.body))
-    ∙ and_false (is_move x.message.body)
+    let alike : Bool = are_alike x.message.body n.body in
+    ap (λ b. alike && (not b && not x.parted)) e ∙ and_false alike
 
 not_move : (x : Mark) (n : Message) (size : ℕ) → is_move n.body ≡ false → joins x n size ≡ false
 not_move x n size e =
-    ap (λ b. is_move x.message.body && (b && (has_same_ids (pointers_of x.message.body) (pointers_of n.body) && (not (size == 256) && not x.parted)))) e
-    ∙ and_false (is_move x.message.body)
+    let same : Bool = has_same_ids (pointers_of x.message.body) (pointers_of n.body) in
+    let open_yet : Bool = not (size == 256) && not x.parted in
+    ap (λ b. (is_move x.message.body && (b && same)) && open_yet) e ∙ ap (λ b. b && open_yet) (and_false (is_move x.message.body))
 
 alone : (xs : List Mark) (n : Message) (groups : List (List Message)) → is_move n.body ≡ false → grouped xs n groups ≡ (n ∷ []) ∷ groups
 alone [] n groups e = refl
@@ -84,7 +78,8 @@ shut_begun k m (q ∷ qs) rest e move chained few shut =
     = sym (ap (λ b. b && has_same_ids q.pointers (pointers_of m.body)) move) ∙ sym (extends_newest q qs m.body) ∙ e in
     let group : List Message = map (move_of k) (reverse (q ∷ qs)) in
     apart (mark (move_of k q)) (marked k qs rest) m (groups_of (marked k (q ∷ qs) rest)) group (groups_of rest) (one_group k q qs rest false chained (omega (arith, few)) shut)
-    (ap (λ b. is_move m.body && (b && (not (length group == 256) && true))) other ∙ and_false (is_move m.body))
+    (ap (λ b. (is_move m.body && b) && (not (length group == 256) && true)) other
+    ∙ ap (λ b. b && (not (length group == 256) && true)) (and_false (is_move m.body)))
 
 -- a move of the class as a sample is its message
 move_is : (k : ℕ) (m : Message) → class_of m.body ≡ k → is_move m.body ≡ true → move_of k (sample_of m) ≡ m
@@ -178,7 +173,7 @@ take_one k Latest ss ms gs m move g =
       marks_are = refl;
       groups_are = group ∙ ap (λ xs. (m ∷ []) ∷ xs) (waiting_is k Latest ss ms gs g);
       shut = λ n. apart (mark m) ms n (groups_of (mark m ∷ ms)) (m ∷ []) (groups_of ms) group
-          (ap (λ b. b && (is_move n.body && (has_same_ids (pointers_of m.body) (pointers_of n.body) && (not (1 == 256) && true)))) move);
+          (ap (λ b. (b && (is_move n.body && has_same_ids (pointers_of m.body) (pointers_of n.body))) && (not (1 == 256) && true)) move);
       chained = tt;
       few = omega arith;
       low = λ t l. tt;

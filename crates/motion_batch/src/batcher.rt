@@ -50,9 +50,12 @@ impl Batcher {
     /// Takes a message, and appends the items that it gives out. Without memory nothing changes.
     #[tactic(auto, using(crate::proofs::Rows::no_others))]
     pub fn take(&mut self, message: &Message, out: &mut Vec<Item>) -> Result<(), AllocError>
-        ensures items { (calls : List Call) → StandsFor calls self.old → OnOk result (out.new.items ≡ out.old.items ++ added (taken message.now) calls) }
-        ensures stands { (calls : List Call) → StandsFor calls self.old → OnOk result (StandsFor (taken message.now ∷ calls) self.new) }
-        ensures batched { (calls : List Call) → StandsFor calls self.old → OnOk result (IsBatched (taken message.now ∷ calls)) }
+        ensures items { (calls : List Call) → StandsFor calls self.old
+            → OnOk result (out.new.items ≡ out.old.items ++ added (taken message.now) calls) }
+        ensures stands { (calls : List Call) → StandsFor calls self.old
+            → OnOk result (StandsFor (taken message.now ∷ calls) self.new) }
+        ensures batched { (calls : List Call) → StandsFor calls self.old
+            → OnOk result (IsBatched (taken message.now ∷ calls)) }
         ensures err { OnErr result (self.new ≡ self.old) }
         ensures err_items { OnErr result (out.new.items ≡ out.old.items) }
     {
@@ -68,13 +71,16 @@ impl Batcher {
         }
     }
 
-    /// A frame begins: in rising device, appends the moves of each device up to this moment as one batch. Without memory
-    /// nothing changes.
+    /// A frame begins: in rising device, appends the moves of each device up to this moment as one batch. Without
+    /// memory nothing changes.
     #[tactic(auto, using(crate::proofs::Batched::batched_then))]
     pub fn frame(&mut self, at: Moment, out: &mut Vec<Item>) -> Result<(), AllocError>
-        ensures items { (calls : List Call) → StandsFor calls self.old → OnOk result (out.new.items ≡ out.old.items ++ added (framed at) calls) }
-        ensures stands { (calls : List Call) → StandsFor calls self.old → OnOk result (StandsFor (framed at ∷ calls) self.new) }
-        ensures batched { (calls : List Call) → StandsFor calls self.old → OnOk result (IsBatched (framed at ∷ calls)) }
+        ensures items { (calls : List Call) → StandsFor calls self.old
+            → OnOk result (out.new.items ≡ out.old.items ++ added (framed at) calls) }
+        ensures stands { (calls : List Call) → StandsFor calls self.old
+            → OnOk result (StandsFor (framed at ∷ calls) self.new) }
+        ensures batched { (calls : List Call) → StandsFor calls self.old
+            → OnOk result (IsBatched (framed at ∷ calls)) }
         ensures err { OnErr result (self.new ≡ self.old) }
         ensures err_items { OnErr result (out.new.items ≡ out.old.items) }
     {
@@ -84,10 +90,14 @@ impl Batcher {
     /// A frame for all moves. Without memory nothing changes.
     #[tactic(auto, using(crate::proofs::Batched::batched_then, crate::proofs::Batched::flushed_then))]
     pub fn flush(&mut self, out: &mut Vec<Item>) -> Result<(), AllocError>
-        ensures items { (calls : List Call) → StandsFor calls self.old → OnOk result (out.new.items ≡ out.old.items ++ added flushed calls) }
-        ensures stands { (calls : List Call) → StandsFor calls self.old → OnOk result (StandsFor (flushed ∷ calls) self.new) }
-        ensures batched { (calls : List Call) → StandsFor calls self.old → OnOk result (IsBatched (flushed ∷ calls)) }
-        ensures all { (calls : List Call) → StandsFor calls self.old → OnOk result (IsFlushed (flushed ∷ calls)) }
+        ensures items { (calls : List Call) → StandsFor calls self.old
+            → OnOk result (out.new.items ≡ out.old.items ++ added flushed calls) }
+        ensures stands { (calls : List Call) → StandsFor calls self.old
+            → OnOk result (StandsFor (flushed ∷ calls) self.new) }
+        ensures batched { (calls : List Call) → StandsFor calls self.old
+            → OnOk result (IsBatched (flushed ∷ calls)) }
+        ensures all { (calls : List Call) → StandsFor calls self.old
+            → OnOk result (IsFlushed (flushed ∷ calls)) }
         ensures err { OnErr result (self.new ≡ self.old) }
         ensures err_items { OnErr result (out.new.items ≡ out.old.items) }
     {
