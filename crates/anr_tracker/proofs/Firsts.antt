@@ -1,10 +1,14 @@
 -- What comes first after a change of the map.
-use Rattle.std.specs.Prelude.{◌≡◌, ◌≢◌, ◌⊎◌, ℕ, zero, suc, ◌-◌, ◌<◌, ◌≤◌, Bool, true, false, List, length, get_or, replicate, Option, Some, None, if◌then◌else◌}
+use Rattle.std.specs.Prelude.{◌≡◌, ◌≢◌, ◌⊎◌, ℕ, zero, suc, ◌-◌, ◌<◌, ◌≤◌, Bool, true, false, List, length, get_or, replicate, Option, Some, None, nat_le, if◌then◌else◌, if◌then◌else◌}
 use Rattle.std.proofs.Common.{refl, sym, ◌∙◌, ap, arith, inl, inr, set, get_or-set_same, get_or-set_other}
 use Rattle.std.proofs.lemmas.List.{get_or-replicate, get_or_past, length-set, length-replicate}
 use Rattle.std.proofs.lemmas.Bool.{cases_eq}
 use Rattle.std.proofs.lemmas.Bool.Decides.{nat_tests}
 use Rattle.anr_tracker.specs.Due.{due_of, IsFirst, IsTable, is_before, is_put_off, sooner_of}
+
+-- the map with the channels up to a number
+abbrev pub due_up_to : ℕ → (ℕ → Option ℕ) → ℕ → Option ℕ
+due_up_to n due c = if nat_le c n then due c else None
 
 before_itself : (m c : ℕ) → is_before (m, c) (m, c) ≡ false
 before_itself m c = grind (arith, nat_tests)

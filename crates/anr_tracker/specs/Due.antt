@@ -1,5 +1,5 @@
 -- Which channel is due first.
-use Rattle.std.specs.Prelude.{◌≡◌, ℕ, zero, suc, Bool, false, ◌&&◌, ◌||◌, nat_eq, nat_le, nat_lt, List, length, slice_index_or, Option, Some, None, if◌then◌else◌}
+use Rattle.std.specs.Prelude.{◌≡◌, ℕ, zero, suc, Bool, false, ◌&&◌, ◌||◌, nat_eq, nat_lt, List, length, slice_index_or, Option, Some, None, if◌then◌else◌}
 
 -- when a channel is due, by a table that begins with channel 1
 abbrev pub due_of : List (Option ℕ) → ℕ → Option ℕ
@@ -30,7 +30,3 @@ sooner_of (Some p) q = if is_before q p then q else p
 pub record IsTable (dues : List (Option ℕ)) (first : Option (ℕ × ℕ)) : Type 0 where
   pub whole : length dues ≡ 64
   pub first_is : IsFirst (due_of dues) first
-
--- the map with the channels up to a number
-abbrev pub due_up_to : ℕ → (ℕ → Option ℕ) → ℕ → Option ℕ
-due_up_to n due c = if nat_le c n then due c else None

@@ -1,17 +1,17 @@
 -- The readers of all devices, one event more.
-use Rattle.std.specs.Prelude.{◌≡◌, ◌≢◌, ℕ, zero, suc, ◌+◌, ◌-◌, ◌<◌, ◌⊎◌, max, nat_eq, Bool, false, List, [], ◌∷◌, ◌++◌, length, map, reverse, take, drop, get_or, slice_get, Some, Ok, Err, OnOk, if◌then◌else◌}
+use Rattle.std.specs.Prelude.{◌≡◌, ◌≢◌, ℕ, zero, suc, ◌+◌, ◌<◌, ◌⊎◌, max, nat_eq, Bool, true, false, not, List, [], ◌∷◌, ◌++◌, length, map, reverse, take, drop, get_or, slice_get, Some, None, Ok, Err, OnOk, if◌then◌else◌}
 use Rattle.std.specs.declared.result.Result.{Result}
-use Rattle.std.proofs.Common.{sym, ◌∙◌, ap, subst, refl, arith, set, inl, inr, eq-eqb, ne_eqb, append_assoc, add-one, take-suc}
+use Rattle.std.proofs.Common.{sym, ◌∙◌, ap, subst, refl, arith, set, inl, inr, eq-eqb, ne_eqb, append_assoc, add-one, take-suc, length-append}
 use Rattle.std.proofs.Math.Seq.{take-append_seam}
 use Rattle.std.proofs.lemmas.Bool.{cases_eq}
-use Rattle.std.proofs.lemmas.List.{length-set, reverse-append}
+use Rattle.std.proofs.lemmas.List.{length-set, reverse-append, append-nil}
 use Rattle.std.proofs.lemmas.Option.{slice_get_past, slice_get_within}
 use Rattle.raw_events.specs.declared.event.RawEvent.{RawEvent}
 use Rattle.input_types.specs.declared.message.Args.{Args}
 use Rattle.device_reader.specs.Reading.{Reading}
-use Rattle.device_reader.specs.Cooked.{DevicePlan, StandsFor}
+use Rattle.device_reader.specs.Cooked.{DevicePlan, StandsFor, args_of, number_of}
 use Rattle.device_reader.specs.All.{AreNumbered}
-use Rattle.device_reader.specs.CookedList.{of_device, added_by, added, latest, cooked, AllStandFor}
+use Rattle.device_reader.specs.CookedList.{of_device, plan_of, added_by, added, latest, cooked, AllStandFor}
 
 get_same : {X : Type 0} (xs : List X) (i : ℕ) (v : X) → i < length xs → slice_get (set xs i v) i ≡ Some v
 get_same [] i v lt = absurd (omega arith)
@@ -32,10 +32,10 @@ element (x ∷ xs) zero lt = (x, refl)
 element (x ∷ xs) (suc i) lt = element xs i (omega arith)
 
 -- an event is one of its device's, and none of another's
-more_of : (d : ℕ) (e : RawEvent) (past : List RawEvent) → e.device ≡ d → of_device d (e ∷ past) ≡ e ∷ of_device d past
+pub more_of : (d : ℕ) (e : RawEvent) (past : List RawEvent) → e.device ≡ d → of_device d (e ∷ past) ≡ e ∷ of_device d past
 more_of d e past same = rw (eq-eqb e.device d same) refl
 
-none_of : (d : ℕ) (e : RawEvent) (past : List RawEvent) → e.device ≢ d → of_device d (e ∷ past) ≡ of_device d past
+pub none_of : (d : ℕ) (e : RawEvent) (past : List RawEvent) → e.device ≢ d → of_device d (e ∷ past) ≡ of_device d past
 none_of d e past other = rw (ne_eqb e.device d other) refl
 
 numbered_at : (readers : List Reading) (i j : ℕ) (new r : Reading) → AreNumbered readers → i < length readers → new.device ≡ i + 1
@@ -88,10 +88,20 @@ stand_past plans past readers e h far = record {
       subst (λ (es : List RawEvent). StandsFor p es r) (sym (none_of (j + 1) e past elsewhere)) (h.each j p r hp hr);
 }
 
+plan_past : (plans : List DevicePlan) (d : ℕ) → length plans < d → plan_of plans d ≡ None
+plan_past plans zero far = refl
+plan_past plans (suc i) far = slice_get_past plans i (omega (arith, far))
+
 pub nothing_past : (plans : List DevicePlan) (past : List RawEvent) (readers : List Reading) (e : RawEvent)
     → AllStandFor plans past readers → length readers < e.device → added plans past e ≡ []
 nothing_past plans past readers e h far =
-    ap (λ o. added_by o past e) (slice_get_past plans (e.device - 1) (omega (arith, far, h.as_many)))
+    ap (λ o. added_by o past e) (plan_past plans e.device (omega (arith, far, h.as_many)))
+
+-- what an event adds is what its device's plan says
+pub added_here : (plans : List DevicePlan) (past : List RawEvent) (e : RawEvent) (i : ℕ) (plan : DevicePlan) → e.device ≡ i + 1
+    → slice_get plans i ≡ Some plan → args_of plan (of_device (i + 1) past) e ≡ added plans past e
+added_here plans past e i plan d found =
+    sym (ap (λ o. added_by o past e) (ap (λ k. plan_of plans k) (d ∙ add-one i) ∙ found) ∙ ap (λ k. args_of plan (of_device k past) e) d)
 
 pub on_ok : {T E : Type 0} {P Q : Type 0} (r : Result T E) → (P → Q) → OnOk r P → OnOk r Q
 on_ok (Ok x) f h = f h
@@ -113,18 +123,26 @@ latest_args m (a ∷ args) given some =
     ∙ ap (λ xs. latest xs) (append_assoc (reverse (map (λ (c : Args). (m, c)) args)) ((m, a) ∷ []) given)
     ∙ latest_push m args a given)
 
--- the moment of the newest args after an event
-pub latest_after : (plans : List DevicePlan) (past : List RawEvent) (e : RawEvent) (args : List Args) (before m : ℕ) → args ≡ added plans past e
-    → before ≡ latest (cooked plans past) → m ≡ (if nat_eq (length args) 0 then before else max before e.moment) → m ≡ latest (cooked plans (e ∷ past))
-latest_after plans past e [] before m are late is =
-    is ∙ late ∙ ap (λ (xs : List Args). latest (reverse (map (λ (a : Args). (max (latest (cooked plans past)) e.moment, a)) xs) ++ cooked plans past)) are
-latest_after plans past e (a ∷ args) before m are late is =
-    let some : nat_eq (length (a ∷ args)) 0 ≡ false = ne_eqb (length (a ∷ args)) 0 (λ h. omega (arith, h)) in
+-- a list is longer exactly where something is put behind it
+longer : (old : List Args) (a : Args) (xs : List Args) → not (nat_eq (length (old ++ a ∷ xs)) (length old)) ≡ true
+longer old a xs = let ne : length (old ++ a ∷ xs) ≢ length old = omega (arith, length-append old (a ∷ xs)) in rw (ne_eqb (length (old ++ a ∷ xs)) (length old) ne) refl
+
+as_long : (old : List Args) → not (nat_eq (length (old ++ [])) (length old)) ≡ false
+as_long old = rw (eq-eqb (length (old ++ [])) (length old) (ap (λ xs. length xs) (append-nil old))) refl
+
+-- the moment of the newest args after an event, which put what it adds behind a list
+pub latest_after : (plans : List DevicePlan) (past : List RawEvent) (e : RawEvent) (old xs : List Args) (adds : Bool) (before m : ℕ) → xs ≡ added plans past e
+    → before ≡ latest (cooked plans past) → adds ≡ not (nat_eq (length (old ++ xs)) (length old)) → m ≡ (if adds then max before e.moment else before)
+    → m ≡ latest (cooked plans (e ∷ past))
+latest_after plans past e old [] adds before m are late more is =
+    is ∙ ap (λ (t : Bool). if t then max before e.moment else before) (more ∙ as_long old) ∙ late
+    ∙ ap (λ (ys : List Args). latest (reverse (map (λ (a : Args). (max (latest (cooked plans past)) e.moment, a)) ys) ++ cooked plans past)) are
+latest_after plans past e old (a ∷ xs) adds before m are late more is =
     is
-    ∙ ap (λ (t : Bool). if t then before else max before e.moment) some
+    ∙ ap (λ (t : Bool). if t then max before e.moment else before) (more ∙ longer old a xs)
     ∙ ap (λ n. max n e.moment) late
-    ∙ latest_args (max (latest (cooked plans past)) e.moment) (a ∷ args) (cooked plans past) (omega arith)
-    ∙ ap (λ (xs : List Args). latest (reverse (map (λ (b : Args). (max (latest (cooked plans past)) e.moment, b)) xs) ++ cooked plans past)) are
+    ∙ latest_args (max (latest (cooked plans past)) e.moment) (a ∷ xs) (cooked plans past) (omega arith)
+    ∙ ap (λ (ys : List Args). latest (reverse (map (λ (b : Args). (max (latest (cooked plans past)) e.moment, b)) ys) ++ cooked plans past)) are
 
 -- all args after an event
 pub given_now : (plans : List DevicePlan) (past : List RawEvent) (e : RawEvent) (args : List Args) (m : ℕ)
@@ -156,3 +174,15 @@ numbered_one r d = λ i s g. numbered_first r d i s g
 -- a list that was written over one of its length
 pub written : (n : ℕ) (xs ys : List Reading) → n ≡ length xs → take n (xs ++ drop (length xs) ys) ≡ xs
 written n xs ys e = ap (λ k. take k (xs ++ drop (length xs) ys)) e ∙ take-append_seam xs (drop (length xs) ys)
+
+plan_number : (plans : List DevicePlan) (readers : List Reading) (d : ℕ) (plan : DevicePlan) → AreNumbered readers → AllStandFor plans [] readers
+    → plan_of plans d ≡ Some plan → number_of plan ≡ d
+plan_number plans readers zero plan n h g = absurd (cc)
+plan_number plans readers (suc i) plan n h g =
+    let found : (r : Reading) × (slice_get readers i ≡ Some r) = element readers i (omega (arith, h.as_many, slice_get_within plans i plan g)) in
+    sym (h.each i plan found.0 g found.1).device_is ∙ n i found.0 found.1 ∙ add-one i
+
+-- plans that readers in the order of their numbers stand for are in that order
+pub plans_in_order : (plans : List DevicePlan) (readers : List Reading) → AreNumbered readers → AllStandFor plans [] readers
+    → (d : ℕ) (plan : DevicePlan) → plan_of plans d ≡ Some plan → number_of plan ≡ d
+plans_in_order plans readers n h = λ d plan g. plan_number plans readers d plan n h g

@@ -1,11 +1,11 @@
--- Worked events of a touch device of ten slots, on a display of 1080 by 2400 with as many raw positions, and of a device with keys, computed.
--- The newest stands first.
+-- Worked events of a touch device of ten slots, on a display of 1080 by 2400 with as many raw positions, and of a
+-- device with keys, computed. The newest stands first.
 use Rattle.std.specs.Prelude.{◌≡◌, ℕ, ℤ, pos, negsuc, Bool, true, false, List, [], ◌∷◌, ◌++◌, map, refl}
 use Rattle.raw_events.specs.declared.event.RawEvent.{RawEvent}
 use Rattle.input_types.specs.declared.axis.Rotation.TheVariants.{R0}
 use Rattle.input_types.specs.declared.pointer.Pointer.{Pointer}
 use Rattle.input_types.specs.declared.motion.MotionAction.{MotionAction}
-use Rattle.input_types.specs.declared.motion.MotionAction.TheVariants.{Down, Up, Move, PointerDown, PointerUp}
+use Rattle.input_types.specs.declared.motion.MotionAction.TheVariants.{Down, Up, Move, Cancel, PointerDown, PointerUp}
 use Rattle.input_types.specs.declared.message.Args.{Args}
 use Rattle.input_types.specs.declared.message.Args.TheVariants.{Motion as MotionArgs, Key, Reset}
 use Rattle.pointer_ids.specs.PointerIds.{assigned, least_free}
@@ -72,7 +72,8 @@ pub another_finger : device_args phone (report ∷ tracking (pos 46) ∷ report 
 unfolding assigned least_free
 another_finger = refl
 
--- a drop in mid-packet: what comes up to the next SYN_REPORT is void, another drop too, and nothing is known of the fingers after it
+-- a drop in mid-packet: what comes up to the next SYN_REPORT is void, another drop too, and nothing is known of the
+-- fingers after it
 pub drop_in_a_packet : device_args phone (report ∷ x 130 ∷ report ∷ drop ∷ tracking (pos 47) ∷ drop ∷ x 120 ∷ slot 0 ∷ two) ≡ Reset 1 ∷ two_down
 unfolding assigned least_free
 drop_in_a_packet = refl
@@ -87,7 +88,74 @@ pub no_report : device_args phone (tracking (negsuc 0) ∷ two) ≡ two_down
 unfolding assigned least_free
 no_report = refl
 
--- moments never fall: what the clock gives later, but with an earlier moment, counts as of the latest moment that gave args
+-- ---- palms
+
+abbrev tool : ℕ → RawEvent
+tool v = event 3 55 (pos v)
+
+abbrev flagged : MotionAction → ℕ → List Pointer → Args
+flagged action index ps = MotionArgs (record { device = 1; action = action; index = index; flags = 32; pointers = ps })
+
+abbrev first : List Pointer
+first = finger 0 100 200 ∷ []
+
+-- The second of two fingers becomes a palm, and what it does then says nothing of it; then the first one does, and both
+-- lift.
+abbrev second_palm : List RawEvent
+second_palm = report ∷ tool 2 ∷ two
+
+abbrev second_palm_args : List Args
+second_palm_args = flagged PointerUp 1 both ∷ two_down
+
+pub both_become_palms : device_args phone
+    (report ∷ tracking (negsuc 0) ∷ slot 1 ∷ tracking (negsuc 0) ∷ report ∷ tool 2 ∷ slot 0 ∷ report ∷ x 310 ∷ second_palm)
+    ≡ says Cancel 0 first ∷ says Move 0 first ∷ second_palm_args
+unfolding assigned least_free
+both_become_palms = refl
+
+-- a tool type that is written before its tracking id, in the packet of the down: it never is a pointer
+pub palm_from_the_start : device_args phone (report ∷ x 540 ∷ report ∷ tracking (pos 45) ∷ tool 2 ∷ []) ≡ []
+unfolding assigned least_free
+palm_from_the_start = refl
+
+-- a palm whose tool type goes back to 0 while its tracking id stays gives nothing more
+pub palm_does_not_come_back : device_args phone (report ∷ x 310 ∷ tool 0 ∷ second_palm) ≡ says Move 0 first ∷ second_palm_args
+unfolding assigned least_free
+palm_does_not_come_back = refl
+
+-- a new tracking id in its slot is another contact: a palm at once where the tool type stays, and a finger where it
+-- does not
+pub palm_again : device_args phone (report ∷ tracking (pos 47) ∷ second_palm) ≡ says Move 0 first ∷ second_palm_args
+unfolding assigned least_free
+palm_again = refl
+
+pub finger_again : device_args phone (report ∷ tool 0 ∷ tracking (pos 47) ∷ second_palm) ≡ says PointerDown 1 both ∷ second_palm_args
+unfolding assigned least_free
+finger_again = refl
+
+-- two palms in one packet of three fingers
+pub two_of_three : device_args phone (report ∷ tool 2 ∷ slot 2 ∷ tool 2 ∷ slot 0 ∷ report ∷ tracking (pos 47) ∷ slot 2 ∷ two)
+    ≡ flagged PointerUp 1 (finger 1 300 400 ∷ finger 2 0 0 ∷ [])
+    ∷ flagged PointerUp 0 (finger 0 100 200 ∷ finger 1 300 400 ∷ finger 2 0 0 ∷ [])
+    ∷ says PointerDown 2 (finger 0 100 200 ∷ finger 1 300 400 ∷ finger 2 0 0 ∷ [])
+    ∷ two_down
+unfolding assigned least_free
+two_of_three = refl
+
+-- a palm beside a finger that lifts in the same packet
+pub palm_beside_an_up : device_args phone (report ∷ tracking (negsuc 0) ∷ slot 0 ∷ tool 2 ∷ two) ≡ says Cancel 0 (finger 1 300 400 ∷ []) ∷ says PointerUp 0 both ∷ two_down
+unfolding assigned least_free
+palm_beside_an_up = refl
+
+-- a drop forgets the palm: its tracking id, written anew, is that of a finger
+pub drop_of_a_palm : device_args phone (report ∷ tracking (pos 46) ∷ slot 1 ∷ report ∷ drop ∷ second_palm) ≡ says Down 0 (finger 0 0 0 ∷ []) ∷ Reset 1 ∷ second_palm_args
+unfolding assigned least_free
+drop_of_a_palm = refl
+
+-- ---- all devices
+
+-- moments never fall: what the clock gives later, but with an earlier moment, counts as of the latest moment that gave
+-- args
 abbrev at : ℕ → RawEvent → RawEvent
 at us e = record { device = e.device; moment = us; kind = e.kind; code = e.code; value = e.value }
 

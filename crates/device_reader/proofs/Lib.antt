@@ -1,3 +1,5 @@
 pub mod Drops
+pub mod Packet
+pub mod Rule
 pub mod Examples
 pub mod All

@@ -1,12 +1,13 @@
 -- What the dispatcher is given of a device. Events and args stand with the newest first.
-use Rattle.std.specs.Prelude.{◌≡◌, ℕ, List, [], ◌∷◌, ◌++◌, reverse, Option, Some, None, if◌then◌else◌}
+use Rattle.std.specs.Prelude.{◌≡◌, ℕ, Bool, List, [], ◌∷◌, ◌++◌, reverse, Option, Some, None, if◌then◌else◌}
 use Rattle.raw_events.specs.declared.event.RawEvent.{RawEvent}
 use Rattle.input_types.specs.declared.pointer.Pointer.{Pointer}
 use Rattle.input_types.specs.declared.key.KeyArgs.{KeyArgs}
 use Rattle.input_types.specs.declared.message.Args.{Args}
 use Rattle.input_types.specs.declared.message.Args.TheVariants.{Key, Reset}
-use Rattle.slot_accumulator.specs.SlotContacts.{StandsFor as SlotsStandFor}
-use Rattle.pointer_ids.specs.PointerIds.{named_after, assigned}
+use Rattle.slot_accumulator.specs.SlotValues.{is_report}
+use Rattle.slot_accumulator.specs.SlotContacts.{contacts_at, StandsFor as SlotsStandFor}
+use Rattle.pointer_ids.specs.PointerIds.{named_after, is_cancelled, assigned}
 use Rattle.touch_mapper.specs.Cooking.{Cooking}
 use Rattle.touch_mapper.specs.Gesture.{placed_all, gesture, as_args}
 use Rattle.key_layout.specs.Layout.{Codes}
@@ -16,7 +17,7 @@ use Rattle.device_reader.specs.declared.touch.Touch.{Touch}
 use Rattle.device_reader.specs.declared.reader.Kind.{Kind}
 use Rattle.device_reader.specs.declared.reader.Kind.TheVariants as kinds
 use Rattle.device_reader.specs.Reading.{Reading}
-use Rattle.device_reader.specs.Packets.{is_report, is_drop, is_void, since_drop, packets, is_key, key_event, key_events}
+use Rattle.device_reader.specs.Packets.{is_drop, is_void, since_drop, packets, is_key, key_event, key_events}
 
 -- a touch device: its number, how many slots it has, and how its positions become pixels
 pub record TouchPlan : Type 0 where
@@ -34,6 +35,7 @@ pub data DevicePlan : Type 0 where
   Touches : TouchPlan → DevicePlan
   Keys : KeysPlan → DevicePlan
 
+-- a device's number
 abbrev pub number_of : DevicePlan → ℕ
 number_of (Touches plan) = plan.device
 number_of (Keys plan) = plan.device
@@ -42,23 +44,33 @@ number_of (Keys plan) = plan.device
 abbrev pub pointers_at : TouchPlan → List RawEvent → List Pointer
 pointers_at plan past = placed_all plan.cook (assigned (named_after (packets plan.slots past)))
 
--- what an event of a touch device adds after events without a drop: the motions from the packet before to the one that it ends, in their order
-abbrev pub touch_args : TouchPlan → List RawEvent → RawEvent → List Args
-touch_args plan past e = if is_report e then as_args (gesture plan.device (pointers_at plan past) (pointers_at plan (e ∷ past))) else []
+-- the ids of the packet before that are cancelled in the packet that an event ends: those of fingers that became palms
+abbrev pub cancelled_at : TouchPlan → List RawEvent → RawEvent → ℕ → Bool
+cancelled_at plan past e i = is_cancelled (named_after (packets plan.slots past)) (contacts_at plan.slots (e ∷ past)) i
 
+-- what an event of a touch device adds after events without a drop: the motions from the packet before to the one that
+-- it ends, in their order
+abbrev pub touch_args : TouchPlan → List RawEvent → RawEvent → List Args
+touch_args plan past e =
+    if is_report e then as_args (gesture plan.device (λ i. cancelled_at plan past e i) (pointers_at plan past) (pointers_at plan (e ∷ past))) else []
+
+-- the args of a key, where one moved
 abbrev pub key_list : Option KeyArgs → List Args
 key_list None = []
 key_list (Some k) = Key k ∷ []
 
--- what an event of a keys device adds after events without a drop: the key that it moves, at once and not when its packet ends
+-- what an event of a keys device adds after events without a drop: the key that it moves, at once and not when its
+-- packet ends
 abbrev pub key_args : KeysPlan → List RawEvent → RawEvent → List Args
 key_args plan past e = if is_key e then key_list (key_of plan.device plan.layout (key_events past) (key_event e)) else []
 
+-- what an event of a device adds after events without a drop
 abbrev pub given : DevicePlan → List RawEvent → RawEvent → List Args
 given (Touches plan) past e = touch_args plan past e
 given (Keys plan) past e = key_args plan past e
 
--- What an event adds: nothing where it is void, a Reset where it is a drop, and else what it gives after the events since the last drop.
+-- What an event adds: nothing where it is void, a Reset where it is a drop, and else what it gives after the events
+-- since the last drop.
 abbrev pub args_of : DevicePlan → List RawEvent → RawEvent → List Args
 args_of plan past e =
     if is_void past then []
@@ -83,6 +95,7 @@ pub record HeldStandsFor (plan : KeysPlan) (past : List RawEvent) (k : Held) : T
   pub layout_is : k.layout ≡ plan.layout
   pub keys_stand : KeysStandFor (key_events past) k
 
+-- what is known of a device of some kind does
 abbrev pub KindStandsFor : DevicePlan → List RawEvent → Kind → Type 0
 KindStandsFor (Touches plan) past (kinds.Touch t) = TouchStandsFor plan past t
 KindStandsFor (Keys plan) past (kinds.Keys k) = HeldStandsFor plan past k

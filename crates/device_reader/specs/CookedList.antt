@@ -1,5 +1,5 @@
 -- What the dispatcher is given of all devices of a recording. Events and args stand with the newest first.
-use Rattle.std.specs.Prelude.{◌≡◌, ℕ, ◌+◌, ◌-◌, max, nat_eq, List, [], ◌∷◌, ◌++◌, length, map, reverse, filter, slice_get, Option, Some, None}
+use Rattle.std.specs.Prelude.{◌≡◌, ℕ, zero, suc, ◌+◌, max, nat_eq, List, [], ◌∷◌, ◌++◌, length, map, reverse, filter, slice_get, Option, Some, None}
 use Rattle.raw_events.specs.declared.event.RawEvent.{RawEvent}
 use Rattle.input_types.specs.declared.message.Args.{Args}
 use Rattle.device_reader.specs.Reading.{Reading}
@@ -10,13 +10,19 @@ use Rattle.device_reader.specs.Cooked.{DevicePlan, args_of, StandsFor}
 abbrev pub of_device : ℕ → List RawEvent → List RawEvent
 of_device d past = filter (λ e. nat_eq e.device d) past
 
+-- what an event of a device adds, where that is known
 abbrev pub added_by : Option DevicePlan → List RawEvent → RawEvent → List Args
 added_by None past e = []
 added_by (Some plan) past e = args_of plan (of_device e.device past) e
 
--- what an event adds, where the devices stand in the order of their numbers, which begin at 1
+-- a device's plan: the devices stand in the order of their numbers, which begin at 1
+abbrev pub plan_of : List DevicePlan → ℕ → Option DevicePlan
+plan_of plans zero = None
+plan_of plans (suc i) = slice_get plans i
+
+-- what an event adds
 abbrev pub added : List DevicePlan → List RawEvent → RawEvent → List Args
-added plans past e = added_by (slice_get plans (e.device - 1)) past e
+added plans past e = added_by (plan_of plans e.device) past e
 
 -- the moment of the newest args, and 0 where there are none
 abbrev pub latest : List (ℕ × Args) → ℕ
@@ -34,7 +40,8 @@ pub record AllStandFor (plans : List DevicePlan) (past : List RawEvent) (readers
   pub each : (i : ℕ) (plan : DevicePlan) (r : Reading) → slice_get plans i ≡ Some plan → slice_get readers i ≡ Some r
       → StandsFor plan (of_device (i + 1) past) r
 
--- the readers of a recording are where they have to be: each after its device's events, and the moment is that of the newest args
+-- the readers of a recording are where they have to be: each after its device's events, and the moment is that of the
+-- newest args
 pub record ReadersStandFor (plans : List DevicePlan) (past : List RawEvent) (all : ReadersState) : Type 0 where
   pub readers_stand : AllStandFor plans past all.readers
   pub latest_is : all.latest ≡ latest (cooked plans past)

@@ -2,12 +2,9 @@
 use Rattle.std.specs.Prelude.{ℕ, Bool, false, not, ◌&&◌, nat_eq, List, [], ◌∷◌, if◌then◌else◌}
 use Rattle.raw_events.specs.declared.event.RawEvent.{RawEvent}
 use Rattle.slot_accumulator.specs.declared.contacts.Contact.{Contact}
+use Rattle.slot_accumulator.specs.SlotValues.{is_report}
 use Rattle.slot_accumulator.specs.SlotContacts.{contacts_at}
 use Rattle.key_mapper.specs.Key.{KeyEvent}
-
--- a SYN_REPORT
-abbrev pub is_report : RawEvent → Bool
-is_report e = nat_eq e.kind 0 && nat_eq e.code 0
 
 -- a SYN_DROPPED
 abbrev pub is_drop : RawEvent → Bool
@@ -26,7 +23,7 @@ since_drop (e ∷ past) = if is_void past then since_drop past else (if is_drop 
 -- the contacts of each packet of some events without a drop, the newest packet first
 abbrev pub packets : ℕ → List RawEvent → List (List Contact)
 packets slots [] = []
-packets slots (e ∷ past) = if is_report e then contacts_at slots past ∷ packets slots past else packets slots past
+packets slots (e ∷ past) = if is_report e then contacts_at slots (e ∷ past) ∷ packets slots past else packets slots past
 
 -- an EV_KEY
 abbrev pub is_key : RawEvent → Bool

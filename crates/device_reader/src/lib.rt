@@ -6,12 +6,19 @@
 //! ABS_MT_TRACKING_ID 45, ABS_MT_POSITION_X 540, ABS_MT_POSITION_Y 1200, SYN_REPORT
 //! ```
 //!
-//! gives a motion `Down` of pointer 0 at (540, 1200). A key of a device with keys waits for no SYN_REPORT: with the layout line
-//! `key 115 VOLUME_UP` an EV_KEY of code 115 and value 1 gives at once that key 24 goes down. At a SYN_DROPPED, by which the kernel
-//! says that events were lost, the device gives a `Reset`, all that was known of it is forgotten, and what comes up to the next
-//! SYN_REPORT is passed over.
+//! gives a motion `Down` of pointer 0 at (540, 1200). Where the next packet is
 //!
-//! `Readers` has the readers of all devices of a recording and takes one event at a time; `cook` takes a whole recording.
+//! ```text
+//! ABS_MT_TOOL_TYPE MT_TOOL_PALM, SYN_REPORT
+//! ```
+//!
+//! the finger was a palm: it gives a `Cancel` of pointer 0, and nothing more while its tracking id stays. A key of a
+//! device with keys waits for no SYN_REPORT: with the layout line `key 115 VOLUME_UP` an EV_KEY of code 115 and value 1
+//! gives at once that key 24 goes down. At a SYN_DROPPED, by which the kernel says that events were lost, the device
+//! gives a `Reset`, all that was known of it is forgotten, and what comes up to the next SYN_REPORT is passed over.
+//!
+//! `Readers` has the readers of all devices of a recording and takes one event at a time; `cook` takes a whole
+//! recording.
 #![tactic(auto)]
 
 mod packets;

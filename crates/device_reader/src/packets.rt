@@ -1,19 +1,9 @@
-//! The events that say where packets end.
+//! The event that says that events were lost.
 ghost use Rattle.std.specs.Prelude.{◌≡◌};
-ghost use Rattle.device_reader.specs.Packets.{is_report as ends_packet, is_drop as drops};
+ghost use Rattle.device_reader.specs.Packets.{is_drop as drops};
 
 use raw_events::RawEvent;
-use raw_events::codes::{EV_SYN, SYN_DROPPED, SYN_REPORT};
-
-/// Whether an event ends a packet.
-pub(crate) fn is_report(event: &RawEvent) -> bool
-    ensures { result ≡ ends_packet event.now }
-{
-    if event.kind != EV_SYN {
-        return false;
-    }
-    event.code == SYN_REPORT
-}
+use raw_events::codes::{EV_SYN, SYN_DROPPED};
 
 /// Whether an event says that events were lost.
 pub(crate) fn is_drop(event: &RawEvent) -> bool

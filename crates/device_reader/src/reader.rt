@@ -1,17 +1,19 @@
 //! One device's reader.
-ghost use Rattle.std.specs.Prelude.{◌≡◌, ℕ, ◌≤◌, List, [], ◌∷◌, ◌++◌, OnOk, OnErr};
+ghost use Rattle.std.specs.Prelude.{◌≡◌, ℕ, ◌≤◌, List, [], ◌∷◌, ◌++◌, IfOk, OnOk, OnErr};
 ghost use Rattle.raw_events.specs.declared.event.RawEvent.{RawEvent as Event};
 ghost use Rattle.key_mapper.specs.Held.{Held};
-ghost use Rattle.device_reader.specs.Cooked.{DevicePlan, HeldStandsFor, Keys as KeysDevice, KeysPlan, KindStandsFor, StandsFor, Touches, args_of, given, key_args};
+ghost use Rattle.device_reader.specs.Cooked.{DevicePlan, HeldStandsFor, Keys as KeysDevice, KeysPlan, KindStandsFor};
+ghost use Rattle.device_reader.specs.Cooked.{StandsFor, Touches, args_of, given, key_args};
 ghost use Rattle.device_reader.specs.Rule.{KeepsRule};
 
-use crate::packets::{is_drop, is_report};
+use crate::packets::is_drop;
 use crate::touch::Touch;
 use input_types::{Args, DeviceId};
 use key_layout::Layout;
 use key_mapper::Keys;
 use raw_events::RawEvent;
 use raw_events::codes::EV_KEY;
+use slot_accumulator::is_report;
 use std::alloc::{AllocError, Global};
 use std::marker::Model;
 use touch_mapper::Cook;
@@ -26,6 +28,7 @@ enum Kind {
 /// The reader of one device, with touch or with keys.
 #[derive(Drop)]
 pub struct DeviceReader {
+    alloc: Global,
     device: DeviceId,
     void: bool,
     kind: Kind,
@@ -40,17 +43,19 @@ impl Model for DeviceReader {
 }
 
 impl DeviceReader {
-    /// The reader of a touch device with so many slots, whose positions become pixels by `cook`. It takes no memory.
+    /// The reader of a touch device with so many slots, whose positions become pixels by `cook`.
     ///
-    /// Whatever the device sends, all that it gives keeps the rule for devices, and the ids that are down by that rule are those of
-    /// its last packet since the last SYN_DROPPED.
-    pub fn touch(device: DeviceId, slots: u8, cook: Cook) -> DeviceReader
+    /// Whatever the device sends, all that it gives keeps the rule for devices, and the ids that are down by that rule
+    /// are those of its last packet since the last SYN_DROPPED.
+    pub fn touch(alloc: Global, device: DeviceId, slots: u8, cook: Cook) -> DeviceReader
         requires { (1 ≤ slots) × (slots ≤ 16) }
         ensures state { StandsFor (Touches (record { device = device; slots = slots; cook = cook })) [] result }
         ensures device { result.device ≡ device }
-        ensures rule { (past : List Event) → KeepsRule (Touches (record { device = device; slots = slots; cook = cook })) past }
+        ensures rule { (past : List Event)
+            → KeepsRule (Touches (record { device = device; slots = slots; cook = cook })) past }
     {
         DeviceReader {
+            alloc,
             device,
             void: false,
             kind: Kind::Touch(Touch::new(device, slots, cook)),
@@ -59,36 +64,58 @@ impl DeviceReader {
 
     /// The reader of a device with keys, whose layout says which key code each scan code has.
     ///
-    /// Whatever the device sends, all that it gives keeps the rule for devices: a key goes down only when it is up, and up only when
-    /// it is down. The keys that are down by that rule are those whose last EV_KEY of value 0 or 1 since the last SYN_DROPPED has
-    /// value 1.
+    /// Whatever the device sends, all that it gives keeps the rule for devices: a key goes down only when it is up, and
+    /// up only when it is down. The keys that are down by that rule are those whose last EV_KEY of value 0 or 1 since
+    /// the last SYN_DROPPED has value 1.
     pub fn keys(alloc: Global, device: DeviceId, layout: Layout) -> DeviceReader
         ensures state { StandsFor (KeysDevice (record { device = device; layout = layout })) [] result }
         ensures device { result.device ≡ device }
         ensures rule { (past : List Event) → KeepsRule (KeysDevice (record { device = device; layout = layout })) past }
     {
         DeviceReader {
+            alloc,
             device,
             void: false,
             kind: Kind::Keys(Keys::new(alloc, device, layout)),
         }
     }
 
-    /// Takes the next event of the device; `args` then holds what it adds for the dispatcher, and nothing after want of memory.
+    /// Takes the next event of the device, and answers what it adds for the dispatcher.
     ///
-    /// A packet of a touch device ends at a SYN_REPORT and gives its motions. A key of a device with keys is given at its own event, and
-    /// waits for no SYN_REPORT. At a SYN_DROPPED the device begins anew, which is a `Reset`; the events after it, up to and including the
-    /// next SYN_REPORT, are passed over, as the kernel's document on event codes asks. Keys of a touch device, touch of a device with
-    /// keys and other events are passed over too. An event that gives nothing takes no memory but for the room of a key.
-    pub fn take(&mut self, event: RawEvent, args: &mut Vec<Args>) -> Result<(), AllocError>
+    /// A packet of a touch device ends at a SYN_REPORT and gives its motions. A key of a device with keys is given at
+    /// its own event, and waits for no SYN_REPORT. At a SYN_DROPPED the device begins anew, which is a `Reset`; the
+    /// events after it, up to and including the next SYN_REPORT, are passed over, as the kernel's document on event
+    /// codes asks. Keys of a touch device, touch of a device with keys and other events are passed over too. After want
+    /// of memory the reader is as before.
+    pub fn take(&mut self, event: RawEvent) -> Result<Vec<Args>, AllocError>
         requires { event.device ≡ self.old.device }
-        ensures ok { (plan : DevicePlan) (past : List Event) → StandsFor plan past self.old → OnOk result (args.new.items ≡ args_of plan past event) }
-        ensures after { (plan : DevicePlan) (past : List Event) → StandsFor plan past self.old → OnOk result (StandsFor plan (event ∷ past) self.new) }
+        ensures ok { (plan : DevicePlan) (past : List Event) → StandsFor plan past self.old → IfOk result
+            (λ v. v.items ≡ args_of plan past event) }
+        ensures after { (plan : DevicePlan) (past : List Event) → StandsFor plan past self.old
+            → OnOk result (StandsFor plan (event ∷ past) self.new) }
         ensures device { self.new.device ≡ self.old.device }
         ensures err { OnErr result (self.new ≡ self.old) }
-        ensures none { OnErr result (args.new.items ≡ []) }
     {
-        args.clear();
+        let mut args = Vec::new(self.alloc);
+        self.take_into(event, &mut args)?;
+        Ok(args)
+    }
+
+    /// Takes the next event of the device, and adds what `take` answers to `args`. After want of memory the reader and
+    /// `args` are as before.
+    ///
+    /// Only the end of a packet, a key and a SYN_DROPPED ask for memory, and for none where `args` has room for the
+    /// motions of a packet, which are at most `Gestures::MOST`, but for that of a key that goes down.
+    pub fn take_into(&mut self, event: RawEvent, args: &mut Vec<Args>) -> Result<(), AllocError>
+        requires { event.device ≡ self.old.device }
+        ensures ok { (plan : DevicePlan) (past : List Event) → StandsFor plan past self.old
+            → OnOk result (args.new.items ≡ args.old.items ++ args_of plan past event) }
+        ensures after { (plan : DevicePlan) (past : List Event) → StandsFor plan past self.old
+            → OnOk result (StandsFor plan (event ∷ past) self.new) }
+        ensures device { self.new.device ≡ self.old.device }
+        ensures err { OnErr result (self.new ≡ self.old) }
+        ensures given { OnErr result (args.new.items ≡ args.old.items) }
+    {
         if self.void {
             self.void = !is_report(&event);
             return Ok(());
@@ -99,21 +126,18 @@ impl DeviceReader {
             self.void = true;
             return Ok(());
         }
-        match take_given(&mut self.kind, event, args) {
-            Ok(()) => Ok(()),
-            Err(error) => {
-                args.clear();
-                Err(error)
-            }
-        }
+        take_given(&mut self.kind, event, args)
     }
 }
 
-/// Takes an event that is neither void nor a drop, and gives what it adds.
+/// Takes an event that is neither void nor a drop, and adds what it gives.
 fn take_given(kind: &mut Kind, event: RawEvent, args: &mut Vec<Args>) -> Result<(), AllocError>
-    ensures ok { (plan : DevicePlan) (past : List Event) → KindStandsFor plan past kind.old → OnOk result (args.new.items ≡ args.old.items ++ given plan past event) }
-    ensures after { (plan : DevicePlan) (past : List Event) → KindStandsFor plan past kind.old → OnOk result (KindStandsFor plan (event ∷ past) kind.new) }
+    ensures ok { (plan : DevicePlan) (past : List Event) → KindStandsFor plan past kind.old
+        → OnOk result (args.new.items ≡ args.old.items ++ given plan past event) }
+    ensures after { (plan : DevicePlan) (past : List Event) → KindStandsFor plan past kind.old
+        → OnOk result (KindStandsFor plan (event ∷ past) kind.new) }
     ensures err { OnErr result (kind.new ≡ kind.old) }
+    ensures given { OnErr result (args.new.items ≡ args.old.items) }
 {
     match kind {
         Kind::Touch(touch) => touch.take(event, args),
@@ -121,11 +145,14 @@ fn take_given(kind: &mut Kind, event: RawEvent, args: &mut Vec<Args>) -> Result<
     }
 }
 
-/// Takes an event of a device with keys, and gives the key that it moves.
+/// Takes an event of a device with keys, and adds the key that it moves.
 fn take_key(keys: &mut Keys, event: RawEvent, args: &mut Vec<Args>) -> Result<(), AllocError>
-    ensures ok { (plan : KeysPlan) (past : List Event) → HeldStandsFor plan past keys.old → OnOk result (args.new.items ≡ args.old.items ++ key_args plan past event) }
-    ensures after { (plan : KeysPlan) (past : List Event) → HeldStandsFor plan past keys.old → OnOk result (HeldStandsFor plan (event ∷ past) keys.new) }
+    ensures ok { (plan : KeysPlan) (past : List Event) → HeldStandsFor plan past keys.old
+        → OnOk result (args.new.items ≡ args.old.items ++ key_args plan past event) }
+    ensures after { (plan : KeysPlan) (past : List Event) → HeldStandsFor plan past keys.old
+        → OnOk result (HeldStandsFor plan (event ∷ past) keys.new) }
     ensures err { OnErr result (keys.new ≡ keys.old) }
+    ensures given { OnErr result (args.new.items ≡ args.old.items) }
 {
     if event.kind != EV_KEY {
         return Ok(());
@@ -143,7 +170,8 @@ fn take_key(keys: &mut Keys, event: RawEvent, args: &mut Vec<Args>) -> Result<()
 
 /// Forgets all that is down.
 fn reset(kind: &mut Kind)
-    ensures { (plan : DevicePlan) (past : List Event) → KindStandsFor plan past kind.old → KindStandsFor plan [] kind.new }
+    ensures { (plan : DevicePlan) (past : List Event) → KindStandsFor plan past kind.old
+        → KindStandsFor plan [] kind.new }
 {
     match kind {
         Kind::Touch(touch) => touch.reset(),

@@ -1,8 +1,10 @@
 //! The readers of all devices of a recording.
-ghost use Rattle.std.specs.Prelude.{◌≡◌, ℕ, max, nat_eq, length, List, [], ◌∷◌, ◌++◌, map, reverse, IfOk, OnOk, OnErr, if◌then◌else◌};
+ghost use Rattle.std.specs.Prelude.{◌≡◌, ℕ, max, nat_eq, length, List, [], ◌∷◌, ◌++◌, map, reverse, IfOk, OnOk, OnErr};
+ghost use Rattle.std.specs.Prelude.{if◌then◌else◌};
 ghost use Rattle.raw_events.specs.declared.event.RawEvent.{RawEvent as Event};
 ghost use Rattle.device_reader.specs.All.{AreNumbered};
 ghost use Rattle.device_reader.specs.Cooked.{DevicePlan};
+ghost use Rattle.device_reader.specs.Rule.{AllKeepRule};
 ghost use Rattle.device_reader.specs.CookedList.{AllStandFor, ReadersStandFor, added, cooked, latest as latest_of};
 
 use crate::reader::DeviceReader;
@@ -32,7 +34,10 @@ impl Readers {
     /// The readers of devices that have had no event, in the order of their numbers, which begin at 1.
     pub fn new(readers: Vec<DeviceReader>) -> Readers
         requires { AreNumbered readers.items }
-        ensures { (plans : List DevicePlan) → AllStandFor plans [] readers.items → ReadersStandFor plans [] result }
+        ensures state { (plans : List DevicePlan) → AllStandFor plans [] readers.items
+            → ReadersStandFor plans [] result }
+        ensures rule { (plans : List DevicePlan) (past : List Event) → AllStandFor plans [] readers.items
+            → AllKeepRule plans past }
     {
         Readers {
             readers,
@@ -40,58 +45,63 @@ impl Readers {
         }
     }
 
-    /// Takes the next event of the recording, and answers the moment of what it adds; `args` then holds that, and nothing after want
-    /// of memory.
+    /// Takes the next event of the recording, adds what it gives to `args`, and answers the moment of that. After want
+    /// of memory the readers and `args` are as before.
     ///
-    /// The moment is the greatest one of the events that gave args up to this one, so moments never fall. An event of a device without a
-    /// reader adds nothing.
+    /// The moment is the greatest one of the events that gave args up to this one, so moments never fall. An event of a
+    /// device without a reader adds nothing.
     pub fn take(&mut self, event: RawEvent, args: &mut Vec<Args>) -> Result<Moment, AllocError>
-        ensures ok { (plans : List DevicePlan) (past : List Event) → ReadersStandFor plans past self.old → OnOk result (args.new.items ≡ added plans past event) }
-        ensures moment { (plans : List DevicePlan) (past : List Event) → ReadersStandFor plans past self.old → IfOk result (λ m. m ≡ latest_of (cooked plans (event ∷ past))) }
-        ensures cooked { (plans : List DevicePlan) (past : List Event) → ReadersStandFor plans past self.old → IfOk result (λ m. cooked plans (event ∷ past) ≡ reverse (map (λ a. (m, a)) args.new.items) ++ cooked plans past) }
-        ensures after { (plans : List DevicePlan) (past : List Event) → ReadersStandFor plans past self.old → OnOk result (ReadersStandFor plans (event ∷ past) self.new) }
+        ensures ok { (plans : List DevicePlan) (past : List Event) → ReadersStandFor plans past self.old
+            → OnOk result (args.new.items ≡ args.old.items ++ added plans past event) }
+        ensures moment { (plans : List DevicePlan) (past : List Event) → ReadersStandFor plans past self.old
+            → IfOk result (λ m. m ≡ latest_of (cooked plans (event ∷ past))) }
+        ensures cooked { (plans : List DevicePlan) (past : List Event) → ReadersStandFor plans past self.old
+            → IfOk result (λ m. cooked plans (event ∷ past) ≡ reverse (map (λ a. (m, a)) (added plans past event))
+            ++ cooked plans past) }
+        ensures after { (plans : List DevicePlan) (past : List Event) → ReadersStandFor plans past self.old
+            → OnOk result (ReadersStandFor plans (event ∷ past) self.new) }
         ensures err { OnErr result (self.new ≡ self.old) }
-        ensures none { OnErr result (args.new.items ≡ []) }
+        ensures given { OnErr result (args.new.items ≡ args.old.items) }
     {
         let moment = event.moment;
+        let before = args.len();
         take_any(&mut self.readers, event, args)?;
-        self.latest = raised(self.latest, moment, args);
+        self.latest = raised(self.latest, moment, args.len() != before);
         Ok(self.latest)
     }
 }
 
-/// Takes an event by the reader of its device.
+/// Takes an event by the reader of its device, and adds what it gives.
 fn take_any(
     readers: &mut [DeviceReader],
     event: RawEvent,
     args: &mut Vec<Args>,
 ) -> Result<(), AllocError>
     requires { AreNumbered readers.old }
-    ensures ok { (plans : List DevicePlan) (past : List Event) → AllStandFor plans past readers.old → OnOk result (args.new.items ≡ added plans past event) }
-    ensures after { (plans : List DevicePlan) (past : List Event) → AllStandFor plans past readers.old → OnOk result (AllStandFor plans (event ∷ past) readers.new) }
+    ensures ok { (plans : List DevicePlan) (past : List Event) → AllStandFor plans past readers.old
+        → OnOk result (args.new.items ≡ args.old.items ++ added plans past event) }
+    ensures after { (plans : List DevicePlan) (past : List Event) → AllStandFor plans past readers.old
+        → OnOk result (AllStandFor plans (event ∷ past) readers.new) }
     ensures numbered { AreNumbered readers.new }
     ensures err { OnErr result (readers.new ≡ readers.old) }
-    ensures none { OnErr result (args.new.items ≡ []) }
+    ensures given { OnErr result (args.new.items ≡ args.old.items) }
 {
     let i = usize::from(event.device.get() - 1);
     if i < readers.len() {
-        readers[i].take(event, args)
+        readers[i].take_into(event, args)
     } else {
-        args.clear();
         Ok(())
     }
 }
 
-/// The latest moment after an event at a moment gave some args.
-fn raised(latest: Moment, moment: Moment, args: &[Args]) -> Moment
-    ensures { result ≡ (if nat_eq (length args.now) 0 then latest else max latest moment) }
+/// The latest moment after an event at a moment, which adds something or not.
+fn raised(latest: Moment, moment: Moment, adds: bool) -> Moment
+    ensures { result ≡ (if adds then max latest moment else latest) }
 {
-    if args.is_empty() {
-        return latest;
-    }
-    later(latest, moment)
+    if adds { later(latest, moment) } else { latest }
 }
 
+/// The later one of two moments.
 fn later(a: Moment, b: Moment) -> Moment
     ensures { result ≡ max a b }
 {

@@ -10,29 +10,32 @@ use input_types::{Args, Moment};
 use raw_events::RawEvent;
 use std::alloc::{AllocError, Global};
 
-/// The args that the events of a recording give, each with its moment, by the readers of all devices in the order of their numbers,
-/// which begin at 1.
+/// The args that the events of a recording give, each with its moment, by the readers of all devices in the order of
+/// their numbers, which begin at 1.
 ///
-/// The moment of each is the greatest one of the events that gave args up to it, so moments never fall. An event of a device without
-/// a reader gives nothing.
+/// The moment of each is the greatest one of the events that gave args up to it, so moments never fall. An event of a
+/// device without a reader gives nothing.
 pub fn cook(
     alloc: Global,
     readers: Vec<DeviceReader>,
     events: &[RawEvent],
 ) -> Result<Vec<(Moment, Args)>, AllocError>
     requires { AreNumbered readers.items }
-    ensures { (plans : List DevicePlan) → AllStandFor plans [] readers.items → IfOk result (λ v. reverse v.items ≡ cooked plans (reverse events.now)) }
+    ensures { (plans : List DevicePlan) → AllStandFor plans [] readers.items → IfOk result (λ v. reverse v.items
+        ≡ cooked plans (reverse events.now)) }
 {
     let mut readers = Readers::new(readers);
     let mut given = Vec::new(alloc);
     let mut args = Vec::new(alloc);
     for event in events {
+        args.clear();
         let moment = readers.take(*event, &mut args)?;
         push_all(&mut given, moment, &args)?;
     }
     Ok(given)
 }
 
+/// Puts some args with their moment behind the others.
 fn push_all(
     given: &mut Vec<(Moment, Args)>,
     moment: Moment,

@@ -3,15 +3,15 @@ ghost use Rattle.std.specs.Prelude.{◌≡◌, ◌≤◌, List, [], ◌∷◌, �
 ghost use Rattle.raw_events.specs.declared.event.RawEvent.{RawEvent as Event};
 ghost use Rattle.device_reader.specs.Cooked.{TouchPlan, TouchStandsFor, touch_args};
 
-use crate::packets::is_report;
 use input_types::{Args, DeviceId};
 use pointer_ids::Ids;
 use raw_events::RawEvent;
-use slot_accumulator::Slots;
+use slot_accumulator::{Slots, is_report};
 use std::alloc::AllocError;
 use touch_mapper::{Cook, Gestures};
 
-/// The slots of a touch device, the contacts of its last packet with their pointer ids, and its gestures. It takes no memory.
+/// The slots of a touch device, the contacts of its last packet with their pointer ids, and its gestures. It takes no
+/// memory.
 #[derive(Clone, Copy)]
 pub(crate) struct Touch {
     slots: Slots,
@@ -32,28 +32,30 @@ impl Touch {
         }
     }
 
-    /// Takes the next event, and gives the motions of the packet that it ends.
+    /// Takes the next event, and adds the motions of the packet that it ends.
     pub fn take(&mut self, event: RawEvent, args: &mut Vec<Args>) -> Result<(), AllocError>
-        ensures ok { (plan : TouchPlan) (past : List Event) → TouchStandsFor plan past self.old → OnOk result (args.new.items ≡ args.old.items ++ touch_args plan past event) }
-        ensures after { (plan : TouchPlan) (past : List Event) → TouchStandsFor plan past self.old → OnOk result (TouchStandsFor plan (event ∷ past) self.new) }
+        ensures ok { (plan : TouchPlan) (past : List Event) → TouchStandsFor plan past self.old
+            → OnOk result (args.new.items ≡ args.old.items ++ touch_args plan past event) }
+        ensures after { (plan : TouchPlan) (past : List Event) → TouchStandsFor plan past self.old
+            → OnOk result (TouchStandsFor plan (event ∷ past) self.new) }
         ensures err { OnErr result (self.new ≡ self.old) }
+        ensures given { OnErr result (args.new.items ≡ args.old.items) }
     {
         if !is_report(&event) {
             self.slots.take(event);
             return Ok(());
         }
-        // The ids are worked on in a copy until all memory was found.
-        let mut ids = self.ids;
-        let pointers = ids.assign(&self.slots.contacts());
-        self.gestures.next(args, &pointers)?;
+        // With room for all that a packet makes nothing fails after the slots changed.
+        args.reserve(Gestures::MOST)?;
         self.slots.take(event);
-        self.ids = ids;
-        Ok(())
+        let pointers = self.ids.assign(&self.slots.contacts());
+        self.gestures.next_into(args, &pointers)
     }
 
     /// Begins anew, as after `new`.
     pub fn reset(&mut self)
-        ensures { (plan : TouchPlan) (past : List Event) → TouchStandsFor plan past self.old → TouchStandsFor plan [] self.new }
+        ensures { (plan : TouchPlan) (past : List Event) → TouchStandsFor plan past self.old
+            → TouchStandsFor plan [] self.new }
     {
         self.slots.reset();
         self.ids.reset();

@@ -5,6 +5,7 @@ pub mod Palms
 pub mod Timeouts
 pub mod Held
 pub mod TwoDisplays
+pub mod WholeStream
 pub mod Runs
 pub mod LegalLaws
 pub mod OrderedLaws
@@ -16,3 +17,11 @@ pub mod FitLaws
 pub mod HolderLaws
 pub mod MotionLaws
 pub mod FocusLaws
+pub mod KeysDown
+pub mod KeyTells
+pub mod KeyLaws
+pub mod Agreeing
+pub mod WholeLaws
+pub mod Turns
+pub mod TurnLaws
+pub mod KeyPlaceLaws

@@ -294,7 +294,7 @@ step_skips ds call answer es w d x n h =
     ∙ none_of_devices (told_with s e (mark s e) w) d o devices x (λ v. told_of s e (mark s e) w v) h
 
 -- a channel that was not opened yet has told nothing
-opened_mono : (call : Call) (answer : Reply) (n : ℕ) → n ≤ opened_after call answer n
+pub opened_mono : (call : Call) (answer : Reply) (n : ℕ) → n ≤ opened_after call answer n
 opened_mono (Open limit) (Opened k) n = omega arith
 opened_mono (Open limit) _ n = omega arith
 opened_mono _ answer n = omega arith
@@ -376,7 +376,7 @@ motions_law ds ((call, answer) ∷ h) w d l r e k =
     ∙ ap Some (sym (filter_agree ((scene ds (effects ds ((call, answer) ∷ h))).holds w d) (after s (mark s step) w d) (λ i. held_then (mark s step) (marks es) w d i) next))
 
 -- of a device without a number nothing is known
-none_known : (ds : List ℕ) (h : History) (w d : ℕ) → Legal ds h → list_any (λ e. e == d) devices ≡ false → told_down d (stream (effects ds h) w) ≡ Some []
+pub none_known : (ds : List ℕ) (h : History) (w d : ℕ) → Legal ds h → list_any (λ e. e == d) devices ≡ false → told_down d (stream (effects ds h) w) ≡ Some []
 none_known ds [] w d l n = refl
 none_known ds ((call, answer) ∷ h) w d l n =
     elim (cases_Bool (live ((call, answer) ∷ h) w)) [

@@ -1,7 +1,6 @@
 -- At each moment an id that is down is one pointer.
-use Rattle.std.proofs.Common.{◌≡◌, ℕ, zero, suc, ◌==◌, ◌&&◌, Bool, true, false, cond, is_some, List, [], ◌∷◌, ◌++◌, length, remove, reverse, slice_get, option_and_then, option_map, Option, Some, None, refl, sym, ap, ◌∙◌, subst, subst₂, inl, inr}
-use Rattle.std.specs.List.{list_any}
-use Rattle.std.proofs.lemmas.Bool.{and_parts, and_from, cases_Bool, both_ways, true≢false, eqb-true, or_cases, or_left, or_right}
+use Rattle.std.proofs.Common.{◌≡◌, ℕ, ◌==◌, ◌&&◌, Bool, true, false, cond, is_some, List, [], ◌∷◌, ◌++◌, length, remove, reverse, option_and_then, option_map, Option, Some, None, refl, sym, ap, ◌∙◌, subst, subst₂, inl, inr}
+use Rattle.std.proofs.lemmas.Bool.{and_parts, and_from, cases_Bool, both_ways, true≢false, eqb-true}
 use Rattle.input_types.specs.declared.message.Args.{Args}
 use Rattle.input_types.specs.declared.message.Args.TheVariants.{Motion as MotionArgs, Key, Reset}
 use Rattle.input_types.specs.declared.motion.Motion.{Motion}
@@ -17,6 +16,7 @@ use Rattle.dispatch_calls.specs.declared.reply.Reply.TheVariants.{Taken}
 use Rattle.routing_rules.specs.Given.{changed}
 use Rattle.routing_rules.specs.Told.{is_up, is_down}
 use Rattle.routing_rules.proofs.Listings.{apart_rising, has_id, id_at, any-ids_of, not_in_remove}
+use Rattle.routing_rules.proofs.FitsLaws.{among, in_remove, stays_in}
 use Rattle.routing_rules.proofs.MotionKind.{Kind, opens, moves, closes, kind_at}
 use Rattle.dispatch_history.specs.History.{History}
 use Rattle.dispatch_history.specs.Queue.{accepted, accepted_after, inbound}
@@ -25,32 +25,6 @@ use Rattle.dispatch_history.specs.Effects.{effects}
 use Rattle.dispatch_history.specs.PointerOf.{downs, ups, is_of, NoneUps, RisesIn, AllRise}
 use Rattle.dispatch_history.specs.Laws.{OnePointer}
 use Rattle.dispatch_history.proofs.QueueLaws.{queue_law, device_law, older_kept}
-
--- an id among others
-abbrev among : ℕ → List ℕ → Bool
-among i xs = list_any (λ j. j == i) xs
-
--- an id of another place stays where one goes
-in_remove : (ps : List Pointer) (k i : ℕ) → among i (remove (ids_of ps) k) ≡ true → among i (ids_of ps) ≡ true
-in_remove [] zero i e = e
-in_remove [] (suc k) i e = e
-in_remove (p ∷ ps) zero i e = or_right (p.id == i) (among i (ids_of ps)) e
-in_remove (p ∷ ps) (suc k) i e =
-    elim (or_cases (p.id == i) (among i (remove (ids_of ps) k)) e)
-    [ inl t ↦ or_left (p.id == i) (among i (ids_of ps)) t | inr t ↦ or_right (p.id == i) (among i (ids_of ps)) (in_remove ps k i t) ]
-
-stays_in : (ps : List Pointer) (k i : ℕ) (p : Pointer) → slice_get ps k ≡ Some p → (p.id == i) ≡ false → among i (ids_of ps) ≡ true
-    → among i (remove (ids_of ps) k) ≡ true
-stays_in [] k i p e n h = absurd (cc e)
-stays_in (q ∷ ps) zero i p e n h =
-    let s : q ≡ p = cc in
-    elim (or_cases (q.id == i) (among i (ids_of ps)) h)
-    [ inl t ↦ absurd (both_ways (p.id == i) n (subst (λ x. (x.id == i) ≡ true) s t)) | inr t ↦ t ]
-stays_in (q ∷ ps) (suc k) i p e n h =
-    elim (or_cases (q.id == i) (among i (ids_of ps)) h) [
-      | inl t ↦ or_left (q.id == i) (among i (remove (ids_of ps) k)) t
-      | inr t ↦ or_right (q.id == i) (among i (remove (ids_of ps) k)) (stays_in ps k i p e n t)
-    ]
 
 -- the pointers of each of these motions have rising ids
 abbrev pub RiseAll : List Args → Type 0

@@ -70,6 +70,10 @@ last (x ∷ before) d = last_after x.args d (last before d)
 abbrev pub down_ids : List Effect → ℕ → List ℕ
 down_ids es d = (unwrap_or (device_state d (dispatched es)) nothing_down).ids
 
+-- a key is down on a device by the args that were dispatched
+abbrev pub is_key_down : List Effect → ℕ → ℕ → Bool
+is_key_down es d s = (unwrap_or (device_state d (dispatched es)) nothing_down).keys s
+
 -- what a message does to the ids of a device that are known to be down, where it may come
 abbrev pub ids_after : ℕ → Body → Option (List ℕ) → Option (List ℕ)
 ids_after d (MotionBody m) ids = if m.device == d then option_and_then (λ down. after_motion down m) ids else ids

@@ -1,21 +1,30 @@
 -- What is proved of histories. Each law is the clause of a function of its own.
-use Rattle.std.specs.Prelude.{ℕ, ◌==◌, filter, Some, ◌≡◌, ◌≤◌, IsTrue, is_some, reverse, ◌++◌, true, false, not, ◌&&◌, ◌||◌, List, ◌∷◌, None}
+use Rattle.std.specs.Prelude.{ℕ, ◌==◌, filter, Some, ◌≡◌, ◌≤◌, ◌↔◌, IsTrue, is_some, reverse, ◌++◌, true, false, not, ◌&&◌, ◌||◌, List, ◌∷◌, None}
 use Rattle.std.specs.List.{list_any}
 use Rattle.input_types.specs.Displays.{device_display}
 use Rattle.window_snapshot.specs.Named.{is_shown_on}
 use Rattle.dispatch_calls.specs.declared.call.Call.{Call}
+use Rattle.dispatch_calls.specs.declared.call.Call.TheVariants.{Receive, Finish, Pilfer, Remove}
 use Rattle.dispatch_calls.specs.declared.reply.Reply.{Reply}
+use Rattle.dispatch_calls.specs.declared.reply.Reply.TheVariants.{Done, Gone}
+use Rattle.input_types.specs.StreamRule.{stream_state, is_well_formed}
 use Rattle.input_types.specs.DeviceRule.{device_state}
 use Rattle.dispatch_history.specs.History.{History, clock, live, opened, snapshot}
 use Rattle.dispatch_history.specs.Queue.{accepted, inbound}
 use Rattle.dispatch_history.specs.PointerOf.{PointerOf, IsDown, AllRise}
-use Rattle.dispatch_history.specs.Effect.{Effect, past_of, stream, dispatched, told_on, told_down, told_focus, down_ids}
+use Rattle.dispatch_history.specs.Effect.{Effect, past_of, stream, dispatched, told_on, told_down, told_focus, down_ids, is_key_down}
 use Rattle.dispatch_history.specs.Effects.{effects, said_at}
 use Rattle.dispatch_history.specs.Delivery.{able, unresponsive, names, finishes, has_late}
 use Rattle.dispatch_history.specs.Step.{scene}
 use Rattle.routing_rules.specs.Fits.{Fits}
 use Rattle.routing_rules.specs.Told.{devices}
 use Rattle.dispatch_history.specs.Focus.{has_focus}
+use Rattle.input_types.specs.declared.key.KeyArgs.{KeyArgs}
+use Rattle.key_repeat.specs.Due.{Sent}
+use Rattle.dispatch_history.specs.Keys.{keys}
+use Rattle.dispatch_history.specs.KeyTold.{last_key}
+use Rattle.dispatch_history.specs.KeyPlaces.{HoldsKey}
+use Rattle.dispatch_history.specs.Known.{told_repeat, last_message, held_key, AllDiffer, next_repeat, newest_key, known_state, IsNumbered, NeverFalls, told_pointer}
 use Rattle.dispatch_history.specs.Legal.{Legal, reply, calls_of, run, replay}
 use Rattle.dispatch_history.specs.Plan.{Plan}
 use Rattle.dispatch_history.specs.Ordered.{Ordered, ordered, chosen}
@@ -134,3 +143,94 @@ FocusLaw = (displays : List ℕ) (h : History) (w : ℕ) → Legal displays h �
 -- So do those of a channel that is not live any more.
 abbrev pub FocusComesLaw : Type 0
 FocusComesLaw = (displays : List ℕ) (h : History) (w : ℕ) → Legal displays h → IsTrue (is_some (told_focus (stream (effects displays h) w)))
+
+-- The messages of each key in the stream of a live channel come one after the other as the rule of streams says, and the keys that are
+-- down after them are just those that its window holds, each with the next repeat number.
+abbrev pub KeysLaw : Type 0
+KeysLaw =
+    (displays : List ℕ) (h : History) (w d s : ℕ)
+    → Legal displays h → live h w ≡ true
+    → told_repeat d s (stream (effects displays h) w)
+    ≡ Some (next_repeat (held_key (keys (effects displays h) w) d s) (last_message d s (stream (effects displays h) w)))
+
+-- So do those of a channel that is not live any more.
+abbrev pub KeysComeLaw : Type 0
+KeysComeLaw = (displays : List ℕ) (h : History) (w d s : ℕ) → Legal displays h → IsTrue (is_some (told_repeat d s (stream (effects displays h) w)))
+
+-- The last message of a key that a window holds is a down or a repeat with the same code and meta bits, from which its cancel is made.
+abbrev pub HeldKeyLaw : Type 0
+HeldKeyLaw =
+    (displays : List ℕ) (h : History) (w d s : ℕ) (k : KeyArgs)
+    → Legal displays h → live h w ≡ true → held_key (keys (effects displays h) w) d s ≡ Some k
+    → (k.down ≡ true) × (n : ℕ) × (last_message d s (stream (effects displays h) w) ≡ Some (record { key = k; flags = 0; repeat = n }))
+
+-- The last key message that was told to any window, from which a repeat is made, is the newest one in the stream of its channel.
+abbrev pub LastKeyLaw : Type 0
+LastKeyLaw =
+    (displays : List ℕ) (h : History) (last : Sent)
+    → last_key (effects displays h) ≡ Some last → newest_key (stream (effects displays h) last.channel) ≡ Some last.key
+
+-- The stream of a live channel is well-formed, and leaves its owner knowing what its window holds: the ids and the keys that are down are
+-- just those, and it knows whether it is focused.
+abbrev pub WholeLaw : Type 0
+WholeLaw =
+    (displays : List ℕ) (h : History) (w : ℕ)
+    → Legal displays h → AllRise h → live h w ≡ true
+    → stream_state (stream (effects displays h) w) ≡ Some (known_state (effects displays h) w)
+
+-- The stream of each channel is well-formed.
+abbrev pub WellFormedLaw : Type 0
+WellFormedLaw = (displays : List ℕ) (h : History) (w : ℕ) → Legal displays h → AllRise h → IsTrue (is_well_formed (stream (effects displays h) w))
+
+-- A removed channel stays removed, and its stream is that of just before its removal.
+abbrev pub RemovedLaw : Type 0
+RemovedLaw =
+    (displays : List ℕ) (later h : History) (now c : ℕ)
+    → Legal displays (later ++ (Remove now c, Done) ∷ h)
+    → (live (later ++ (Remove now c, Done) ∷ h) c ≡ false)
+    × (stream (effects displays (later ++ (Remove now c, Done) ∷ h)) c ≡ stream (effects displays h) c)
+
+-- What is asked of a channel that is not live is answered with Gone.
+abbrev pub GoneLaw : Type 0
+GoneLaw =
+    (displays : List ℕ) (h : History) (c : ℕ)
+    → live h c ≡ false
+    → (reply displays h (Receive c) ≡ Gone)
+    × ((now seq : ℕ) → reply displays h (Finish now c seq) ≡ Gone)
+    × ((now device : ℕ) → reply displays h (Pilfer now c device) ≡ Gone)
+    × ((now : ℕ) → reply displays h (Remove now c) ≡ Gone)
+
+-- The messages of a stream are numbered from 1, their moments do not fall, and none is above the clock.
+abbrev pub NumbersLaw : Type 0
+NumbersLaw =
+    (displays : List ℕ) (h : History) (w : ℕ)
+    → IsNumbered (stream (effects displays h) w) × NeverFalls (clock h) (stream (effects displays h) w)
+
+-- In the stream of a live channel each pointer of a device goes down and ends by turns, and after it is down just where its window holds it:
+-- a pointer that went down goes up or is cancelled once, unless it is still down.
+abbrev pub TurnsLaw : Type 0
+TurnsLaw =
+    (displays : List ℕ) (h : History) (w d i : ℕ)
+    → Legal displays h → AllRise h → live h w ≡ true → list_any (λ e. e == d) devices ≡ true
+    → told_pointer d i (stream (effects displays h) w) ≡ Some ((scene displays (effects displays h)).holds w d i)
+
+-- So it does in that of a channel that is not live any more.
+abbrev pub TurnsComeLaw : Type 0
+TurnsComeLaw =
+    (displays : List ℕ) (h : History) (w d i : ℕ)
+    → Legal displays h → AllRise h → IsTrue (is_some (told_pointer d i (stream (effects displays h) w)))
+
+-- In a legal history the keys that are computed for a window are those that it holds by places.
+abbrev pub KeyPlacesLaw : Type 0
+KeyPlacesLaw =
+    (displays : List ℕ) (h : History) (w : ℕ) (k : KeyArgs)
+    → Legal displays h
+    → (held_key (keys (effects displays h) w) k.device k.scan ≡ Some k) ↔ HoldsKey (effects displays h) w k
+
+-- In a legal history a window holds each key once, and the keys that it holds are down on their devices.
+abbrev pub KeysDownLaw : Type 0
+KeysDownLaw =
+    (displays : List ℕ) (h : History) (w : ℕ)
+    → Legal displays h
+    → AllDiffer (keys (effects displays h) w)
+    × ((d s : ℕ) (k : KeyArgs) → held_key (keys (effects displays h) w) d s ≡ Some k → is_key_down (effects displays h) d s ≡ true)

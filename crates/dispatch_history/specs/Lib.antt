@@ -18,3 +18,5 @@ pub mod Ordered
 pub mod Settled
 pub mod Laws
 pub mod PointerOf
+pub mod Known
+pub mod KeyPlaces

@@ -1,5 +1,5 @@
 //! What is proved of histories. Each function has the laws as its clauses, and does nothing.
-ghost use Rattle.dispatch_history.specs.Laws.{LegalLast, LegalMore, LegalUnique, ReplayLaw, LegalReplay, EffectsLaw, UnresponsiveStep, AbleStep, OrderedSound, OrderedComplete, OrderedUnique, QueueLaw, DeviceLaw, LiveLaw, StreamStep, SilentLaw, OnePointer, HolderLaw, FitLaw, MotionsLaw, MotionsComeLaw, FocusLaw, FocusComesLaw};
+ghost use Rattle.dispatch_history.specs.Laws.{LegalLast, LegalMore, LegalUnique, ReplayLaw, LegalReplay, EffectsLaw, UnresponsiveStep, AbleStep, OrderedSound, OrderedComplete, OrderedUnique, QueueLaw, DeviceLaw, LiveLaw, StreamStep, SilentLaw, OnePointer, HolderLaw, FitLaw, MotionsLaw, MotionsComeLaw, FocusLaw, FocusComesLaw, KeysLaw, KeysComeLaw, HeldKeyLaw, LastKeyLaw, WholeLaw, WellFormedLaw, RemovedLaw, GoneLaw, NumbersLaw, TurnsLaw, TurnsComeLaw, KeyPlacesLaw, KeysDownLaw};
 
 /// A list of calls has exactly one legal history, its replay, and each step of it was answered as the history before it says.
 pub fn legality()
@@ -47,6 +47,43 @@ pub fn gestures()
 pub fn focusing()
     ensures live { FocusLaw }
     ensures each { FocusComesLaw }
+{}
+
+/// The messages of each key in a stream come as they may, and leave down just the keys that the window holds, with their next repeat
+/// numbers. The last message of a held key is the one that a cancel or a repeat is made from.
+pub fn keys()
+    ensures live { KeysLaw }
+    ensures each { KeysComeLaw }
+    ensures held { HeldKeyLaw }
+    ensures last { LastKeyLaw }
+{}
+
+/// Who holds a key: some step gave it, and no later one took it. The list that is computed step by step tells exactly this. It has each
+/// key once, and its keys are down on their devices.
+pub fn held_keys()
+    ensures places { KeyPlacesLaw }
+    ensures down { KeysDownLaw }
+{}
+
+/// Every stream is well-formed by the rule of streams, and that of a live channel says what its window holds. Its messages are numbered
+/// from 1, and their moments do not fall.
+pub fn whole()
+    ensures live { WholeLaw }
+    ensures each { WellFormedLaw }
+    ensures numbers { NumbersLaw }
+{}
+
+/// A pointer that went down in a stream goes up or is cancelled once, unless it is still down or its channel was removed.
+pub fn turns()
+    ensures live { TurnsLaw }
+    ensures each { TurnsComeLaw }
+{}
+
+/// Nothing follows a removal: the channel stays removed, its stream stays as it was just before, and what is asked of it is answered with
+/// Gone.
+pub fn removal()
+    ensures stream { RemovedLaw }
+    ensures gone { GoneLaw }
 {}
 
 /// Who is unresponsive, and who is able to take input, after a step.

@@ -35,8 +35,6 @@ fn listed(pointers: &Pointers) -> Bits32
     ensures { members result ≡ ids_of pointers.now }
 {
     let mut set = Bits32::empty();
-    // Its clause says that the ids rise.
-    let _len = pointers.len();
     for pointer in pointers.as_slice() {
         set.mark(pointer.id.get());
     }

@@ -1,5 +1,5 @@
--- Which pointer id each finger of a packet has, and which ids are cancelled: fingers that became palms. A finger is a contact that is no
--- palm.
+-- Which pointer id each finger of a packet has, and which ids are cancelled: fingers that became palms. A finger is a
+-- contact that is no palm.
 use Rattle.std.specs.Prelude.{ℕ, zero, suc, ◌+◌, Bool, not, ◌||◌, ◌&&◌, nat_eq, ℤ, List, [], ◌∷◌, ◌++◌, Option, Some, None, is_some, unwrap_or, filter, find, if◌then◌else◌}
 use Rattle.std.specs.List.{list_any}
 use Rattle.std.specs.Ordering.{int_eq}
@@ -29,8 +29,8 @@ least_from taken n (suc left) = if taken n then least_from taken (n + 1) left el
 unfoldable pub least_free : (ℕ → Bool) → ℕ
 least_free taken = least_from taken 0 32
 
--- The id of a finger: the one that its tracking id had in the packet before, else the least that is not taken. Taken are the ids
--- of all fingers of the packet before and those that new fingers of lower slots got.
+-- The id of a finger: the one that its tracking id had in the packet before, else the least that is not taken. Taken
+-- are the ids of all fingers of the packet before and those that new fingers of lower slots got.
 abbrev pub id_of : List Named → (ℕ → Bool) → ℤ → ℕ
 id_of before taken tracking = unwrap_or (id_in tracking before) (least_free taken)
 

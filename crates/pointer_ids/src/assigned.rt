@@ -14,7 +14,8 @@ pub struct Held {
     pub y: i32,
 }
 
-/// The pointers of a packet, at most 16 with rising ids, and which ids of the packet before are cancelled: fingers that became palms.
+/// The pointers of a packet, at most 16 with rising ids, and which ids of the packet before are cancelled: fingers that
+/// became palms.
 #[derive(Clone, Copy, Debug, PartialEq, Eq)]
 pub struct Assigned {
     items: [Held; 16],
@@ -35,7 +36,11 @@ impl Model for Assigned {
 
     ghost invariant = { λ a. IsTable a.items a.used };
 
-    ghost inverse = { λ s. record { items = s.pointers ++ replicate (16 - length s.pointers) unused; used = length s.pointers; cancelled = s.cancelled } };
+    ghost inverse = { λ s. record {
+      items = s.pointers ++ replicate (16 - length s.pointers) unused;
+      used = length s.pointers;
+      cancelled = s.cancelled;
+    } };
 
     ghost inverse_ok = { λ a h. fields_again a h };
 }

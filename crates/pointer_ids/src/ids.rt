@@ -2,7 +2,9 @@
 ghost use Rattle.std.specs.Prelude.{◌≡◌, ℕ, ◌+◌, ◌<◌, ◌≤◌, List, [], ◌∷◌, length, option_map, find, nat_eq};
 ghost use Rattle.bits32.specs.Set.{is_in, members};
 ghost use Rattle.slot_accumulator.specs.declared.contacts.Contact.{Contact as Touch};
-ghost use Rattle.pointer_ids.specs.PointerIds.{id_in, id_of, taken_after, least_free, has_id, named_contact, named_from, named as named_in, named_after, has_palm, is_cancelled, held, by_id, assigned};
+ghost use Rattle.pointer_ids.specs.PointerIds.{id_in, id_of, taken_after, least_free, has_id, named_contact};
+ghost use Rattle.pointer_ids.specs.PointerIds.{named_from, named as named_in, named_after, has_palm, is_cancelled};
+ghost use Rattle.pointer_ids.specs.PointerIds.{held, by_id, assigned};
 
 use crate::assigned::{Assigned, Held};
 use crate::named::{Named, NamedList};
@@ -42,15 +44,17 @@ impl Ids {
 
     /// The pointers of the next packet, in rising id, and the ids that are cancelled in it.
     ///
-    /// A finger is a contact that is no palm, and only fingers are pointers. A finger keeps its id while its tracking id is that of a
-    /// finger in successive packets. Each new finger, in slot order, gets the least id that no finger of the packet before has and that no
-    /// new finger of a lower slot got. AOSP's touch mapper gives its ids in this way. An id of the packet before is cancelled where its
-    /// tracking id is that of a palm now; no finger gets it in this packet.
+    /// A finger is a contact that is no palm, and only fingers are pointers. A finger keeps its id while its tracking
+    /// id is that of a finger in successive packets. Each new finger, in slot order, gets the least id that no finger
+    /// of the packet before has and that no new finger of a lower slot got. AOSP's touch mapper gives its ids in this
+    /// way. An id of the packet before is cancelled where its tracking id is that of a palm now; no finger gets it in
+    /// this packet.
     pub fn assign(&mut self, now: &Contacts) -> Assigned
         ensures pointers { result.pointers ≡ assigned (named_in self.old now.now) }
         ensures cancelled { (i : ℕ) → is_in i result.cancelled ≡ is_cancelled self.old now.now i }
         ensures last { self.new ≡ named_in self.old now.now }
-        ensures packets { (past : List (List Touch)) → self.old ≡ named_after past → self.new ≡ named_after (now.now ∷ past) }
+        ensures packets { (past : List (List Touch)) → self.old ≡ named_after past → self.new
+            ≡ named_after (now.now ∷ past) }
     {
         let cancelled = cancelled(self.last.as_slice(), now.as_slice());
         self.last = named(self.last.as_slice(), now.as_slice());
@@ -118,7 +122,8 @@ fn ids_of(contacts: &[Named]) -> Bits32
 fn id_for(before: &[Named], taken: &mut Bits32, contact: &Contact) -> PointerId
     requires { length (members taken.old) < 32 }
     ensures id { result ≡ id_of before.now (λ k. is_in k taken.old) contact.now.tracking }
-    ensures taken { (k : ℕ) → is_in k taken.new ≡ taken_after before.now (λ i. is_in i taken.old) contact.now.tracking k }
+    ensures taken { (k : ℕ) → is_in k taken.new ≡ taken_after before.now
+        (λ i. is_in i taken.old) contact.now.tracking k }
     ensures few { length (members taken.new) ≤ length (members taken.old) + 1 }
 {
     match kept_id(before, contact) {

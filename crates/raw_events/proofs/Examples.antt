@@ -7,6 +7,7 @@ use Rattle.raw_events.specs.declared.line.Line.TheVariants.{PassedOver, Event, R
 use Rattle.raw_events.specs.Text.{number_at}
 use Rattle.raw_events.specs.Line.{Known, seconds_at, moment_at, path_at, fields_of, formed, judged_text, judged}
 use Rattle.raw_events.specs.Recording.{recorded}
+use Rattle.raw_events.specs.Pieces.{parts, Reader, fed, finished}
 
 -- one touch device
 touch : Known
@@ -71,3 +72,35 @@ whole = refl
 unmarked : recorded touch (codes "/dev/input/event2: 0003 0035 00000064") ≡ Err (errors.NoMoment 1)
 unfolding touch recorded judged judged_text formed moment_at seconds_at number_at path_at fields_of
 unmarked = refl
+
+-- two lines that ended, and one that has begun
+three_parts : parts (codes "ab" ++ 10 ∷ 10 ∷ codes "cd") ≡ record { ended = codes "ab" ∷ [] ∷ []; begun = codes "cd" }
+three_parts = refl
+
+-- a reader at a line
+at_line : ℕ → List ℕ → Reader
+at_line n begun = record { devices = touch; place = Ok (n, begun) }
+
+-- the first piece of a line gives nothing, and is kept
+first_piece : fed (at_line 1 []) (codes "[   12345.10") ≡ record { events = []; place = Ok (1, codes "[   12345.10") }
+unfolding at_line
+first_piece = refl
+
+-- the second piece gives its event; the next line is line 2
+second_piece : fed (at_line 1 (codes "[   12345.10")) (codes "0000] /dev/input/event2: 0003 0035 0000021c" ++ 10 ∷ [])
+    ≡ record { events = record { device = 1; moment = 12345100000; kind = 3; code = 53; value = pos 540 } ∷ []; place = Ok (2, []) }
+unfolding touch at_line judged judged_text formed moment_at seconds_at number_at path_at fields_of
+second_piece = refl
+
+-- at the end a line that is cut is refused, and a carriage return alone is a line without anything
+cut_end : finished (at_line 3 (codes "[       1.000000] /dev/input/event2: 0003 0035")) ≡ record { events = []; place = Err (errors.BadLine 3) }
+unfolding touch at_line judged judged_text formed moment_at seconds_at number_at path_at fields_of
+cut_end = refl
+
+return_end : finished (at_line 3 (13 ∷ [])) ≡ record { events = []; place = Ok (4, []) }
+unfolding touch at_line judged judged_text formed moment_at seconds_at number_at path_at fields_of
+return_end = refl
+
+-- nothing comes behind a refusal
+refusal_stays : fed (record { devices = touch; place = Err (errors.NoMoment 7) }) (codes "x") ≡ record { events = []; place = Err (errors.NoMoment 7) }
+refusal_stays = refl

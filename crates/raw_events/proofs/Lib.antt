@@ -1,4 +1,10 @@
 pub mod Reading
-pub mod Lines
 pub mod Numbers
+pub mod Newlines
 pub mod Examples
+pub mod Parts
+pub mod Telling
+pub mod Steps
+pub mod Cuts
+pub mod Heads
+pub mod Fields

@@ -7,15 +7,25 @@
 //! ```
 //!
 //! says that the device at `/dev/input/event2` sent an event of type 3 (EV_ABS) and code 0x35 (ABS_MT_POSITION_X) with
-//! the value 540 at 12,345,100,000 microseconds. `events_of` reads a whole recording and gives the events of the
-//! devices of a session, or the first line that it refuses.
+//! the value 540 at 12,345,100,000 microseconds. A `LineReader` is fed a recording in pieces of any length, and gives
+//! the events of the devices of a session up to the first line that it refuses. Cut behind `[   12345.10` and fed in
+//! two pieces, the line above gives its event with the second piece.
+//!
+//! Lines that follow one another mostly have the same moment and path, and their numbers are written alike. Such a line
+//! is read by its front, which the line before it left; nobody can tell which way a line went.
 #![tactic(auto)]
 
 pub mod codes;
+mod digits;
 mod event;
+mod front;
 mod line;
+mod piece;
+mod reader;
 mod recording;
 mod text;
+mod usual;
 
 pub use event::{LineError, RawEvent};
-pub use recording::events_of;
+pub use reader::LineReader;
+pub use recording::{events_of, read_pieces};

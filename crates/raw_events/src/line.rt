@@ -1,22 +1,39 @@
 //! What one line of a recording says.
 ghost use Rattle.std.specs.Prelude.{◌≡◌, ℕ, ◌<◌, ◌≤◌, ◌^◌, length, option_map, IfSome, Some};
+ghost use Rattle.std.specs.Int.{cast_signed, w32};
+ghost use Rattle.raw_events.specs.Front.{FrontSays};
 ghost use Rattle.raw_events.specs.Line.{known, seconds_at, moment_at, path_at, fields_of, sender, sent, formed, judged_text, without_return, judged, device_at};
 
 use crate::event::RawEvent;
+use crate::front::{Front, front_of, quick};
 use crate::text::{
     decimal_at, digits_in_front, hex_at, past_blanks, past_byte, trim_blanks, word_in_front,
 };
 use input_types::{DeviceId, Moment};
 
 /// The greatest length of a line, a carriage return at its end counted.
-const MAX_LINE: usize = 4096;
+pub(crate) const MAX_LINE: usize = 4096;
 
 /// Type, code and value of an event.
 #[derive(Clone, Copy)]
 pub(crate) struct Fields {
-    kind: u16,
-    code: u16,
-    value: i32,
+    pub(crate) kind: u16,
+    pub(crate) code: u16,
+    pub(crate) value: i32,
+}
+
+/// Type, code and value from their bits.
+#[inline(always)]
+pub(crate) fn fields_from(kind: u32, code: u32, value: u32) -> Fields
+    requires kind { kind < 2 ^ 16 }
+    requires code { code < 2 ^ 16 }
+    ensures { result ≡ record { kind = kind; code = code; value = cast_signed w32 value } }
+{
+    Fields {
+        kind: kind as u16,
+        code: code as u16,
+        value: value.cast_signed(),
+    }
 }
 
 /// Why a line is refused.
@@ -52,7 +69,7 @@ fn seconds(bytes: &[u8]) -> Option<(u64, &[u8])>
 /// The moment behind the first bracket, in microseconds, and the second bracket.
 #[inline(always)]
 #[tactic(auto, unfolding(crate::specs::Line::moment_at))]
-fn moment(bytes: &[u8]) -> Option<(u64, &[u8])>
+pub(crate) fn moment(bytes: &[u8]) -> Option<(u64, &[u8])>
     ensures value { option_map (λ read. (read.0, read.1.now)) result ≡ moment_at bytes.now }
     ensures bound { IfSome result (λ read. read.0 < 10 ^ 18) }
 {
@@ -66,7 +83,7 @@ fn moment(bytes: &[u8]) -> Option<(u64, &[u8])>
 /// The path without its colon, where one stands there.
 #[inline(always)]
 #[tactic(auto, unfolding(crate::specs::Line::path_at))]
-fn path(bytes: &[u8]) -> Option<(Option<&[u8]>, &[u8])>
+pub(crate) fn path(bytes: &[u8]) -> Option<(Option<&[u8]>, &[u8])>
     ensures { option_map (λ read. (option_map (λ path. path.now) read.0, read.1.now)) result ≡ path_at bytes.now }
 {
     let [b'/', ..] = bytes else {
@@ -94,11 +111,7 @@ fn read_fields(bytes: &[u8]) -> Option<Fields>
     if !trim_blanks(rest).is_empty() {
         return None;
     }
-    Some(Fields {
-        kind: kind as u16,
-        code: code as u16,
-        value: value.cast_signed(),
-    })
+    Some(fields_from(kind, code, value))
 }
 
 /// The device at a path, the first one where two have it.
@@ -116,7 +129,7 @@ fn device_of(devices: &[(String, DeviceId)], path: &[u8]) -> Option<DeviceId>
 
 /// The device that sent a line.
 #[inline(always)]
-fn sender_of(devices: &[(String, DeviceId)], path: Option<&[u8]>) -> Option<DeviceId>
+pub(crate) fn sender_of(devices: &[(String, DeviceId)], path: Option<&[u8]>) -> Option<DeviceId>
     ensures { result ≡ sender (known devices.now) (option_map (λ p. p.now) path.entry) }
 {
     match path {
@@ -189,4 +202,51 @@ pub(crate) fn judge(devices: &[(String, DeviceId)], line: &[u8]) -> Line
         return Line::Refused(Cause::TooLong);
     }
     judge_text(devices, trim_blanks(strip_return(line)))
+}
+
+/// What a line says, and its front, where the front of the line before it helps to read it.
+#[inline(always)]
+#[tactic(auto, unfolding(crate::specs::Line::judged))]
+pub(crate) fn judge_next<'a>(
+    devices: &[(String, DeviceId)],
+    front: &Option<Front<'a>>,
+    line: &'a [u8],
+) -> (Line, Option<Front<'a>>)
+    requires { IfSome front.now (λ f. FrontSays (known devices.now) f.time.now f.moment f.part.now f.device) }
+    ensures line { result.0 ≡ judged (known devices.now) line.now }
+    ensures front { IfSome result.1 (λ f. FrontSays (known devices.now) f.time.now f.moment f.part.now f.device) }
+{
+    if line.len() > MAX_LINE {
+        return (Line::Refused(Cause::TooLong), None);
+    }
+    let text = trim_blanks(strip_return(line));
+    match front {
+        Some(front) => judge_behind(devices, front, text),
+        None => judge_alone(devices, text),
+    }
+}
+
+/// What a line says that has no blanks in front, and its front, behind a line with this front.
+#[inline(always)]
+fn judge_behind<'a>(
+    devices: &[(String, DeviceId)],
+    front: &Front<'a>,
+    text: &'a [u8],
+) -> (Line, Option<Front<'a>>)
+    requires { FrontSays (known devices.now) front.now.time.now front.now.moment front.now.part.now front.now.device }
+    ensures line { result.0 ≡ judged_text (known devices.now) text.now }
+    ensures front { IfSome result.1 (λ f. FrontSays (known devices.now) f.time.now f.moment f.part.now f.device) }
+{
+    match quick(devices, front, text) {
+        Some((line, next)) => (line, Some(next)),
+        None => judge_alone(devices, text),
+    }
+}
+
+/// What a line says that has no blanks in front, and its front.
+fn judge_alone<'a>(devices: &[(String, DeviceId)], text: &'a [u8]) -> (Line, Option<Front<'a>>)
+    ensures line { result.0 ≡ judged_text (known devices.now) text.now }
+    ensures front { IfSome result.1 (λ f. FrontSays (known devices.now) f.time.now f.moment f.part.now f.device) }
+{
+    (judge_text(devices, text), front_of(devices, text))
 }

@@ -1,8 +1,10 @@
 //! Blanks, words and numbers in the bytes of a line.
 ghost use Rattle.std.specs.Prelude.{◌≡◌, ℕ, ◌<◌, ◌≤◌, ◌^◌, length, option_map, take, drop, IfSome, Some, ◌==◌};
-ghost use Rattle.std.specs.Char.{digit_value, is_digit};
+ghost use Rattle.std.specs.Char.{is_digit};
 ghost use Rattle.std.specs.List.{prefix_len};
 ghost use Rattle.raw_events.specs.Text.{is_blank, skip_blanks, after_blanks, after_byte, number, number_at, word_len};
+
+use crate::digits::value_of;
 
 #[inline(always)]
 pub(crate) fn blank(b: u8) -> bool
@@ -51,19 +53,6 @@ pub(crate) fn past_byte(byte: u8, bytes: &[u8]) -> Option<&[u8]>
     match bytes {
         [b, rest @ ..] => { if *b == byte { Some(rest) } else { None } }
         [] => None,
-    }
-}
-
-/// The value of a digit or a letter: 0 to 35, and 36 for any other byte.
-#[inline(always)]
-fn value_of(b: u8) -> u8
-    ensures { result ≡ digit_value b }
-{
-    match b {
-        b'0'..=b'9' => b - b'0',
-        b'A'..=b'Z' => b - (b'A' - 10),
-        b'a'..=b'z' => b - (b'a' - 10),
-        _ => 36,
     }
 }
 

@@ -15,15 +15,15 @@ use Rattle.replay_engine.proofs.Newest.{next_of_take}
 use Rattle.replay_engine.specs.Cooked.{device_plan, device_plans}
 
 -- the plans of more devices
-pub device_plans-append : (display : Display) (k : ℕ) (ds es : List DeviceData) → device_plans display k (ds ++ es) ≡ device_plans display k ds ++ device_plans display (k + length ds) es
-device_plans-append display k [] es = ap (λ n. device_plans display n es) (omega arith)
-device_plans-append display k (d ∷ ds) es =
-    ap (λ ps. device_plan display k d.kind ∷ ps)
-    (device_plans-append display (k + 1) ds es ∙ ap (λ n. device_plans display (k + 1) ds ++ device_plans display n es) (omega arith))
+pub device_plans-append : (displays : List Display) (k : ℕ) (ds es : List DeviceData) → device_plans displays k (ds ++ es) ≡ device_plans displays k ds ++ device_plans displays (k + length ds) es
+device_plans-append displays k [] es = ap (λ n. device_plans displays n es) (omega arith)
+device_plans-append displays k (d ∷ ds) es =
+    ap (λ ps. device_plan displays k d.kind ∷ ps)
+    (device_plans-append displays (k + 1) ds es ∙ ap (λ n. device_plans displays (k + 1) ds ++ device_plans displays n es) (omega arith))
 
-pub length-device_plans : (display : Display) (k : ℕ) (ds : List DeviceData) → length (device_plans display k ds) ≡ length ds
-length-device_plans display k [] = refl
-length-device_plans display k (d ∷ ds) = ap suc (length-device_plans display (k + 1) ds)
+pub length-device_plans : (displays : List Display) (k : ℕ) (ds : List DeviceData) → length (device_plans displays k ds) ≡ length ds
+length-device_plans displays k [] = refl
+length-device_plans displays k (d ∷ ds) = ap suc (length-device_plans displays (k + 1) ds)
 
 -- an element of a list with one more is of the list before, or the last one
 pushed_later : {X : Type 0} (z : X) (zs : List X) (x : X) (i : ℕ) (y : X) → (slice_get zs i ≡ Some y) ⊎ ((i ≡ length zs) × (x ≡ y))
@@ -62,18 +62,18 @@ pub numbered_push : (readers : List Reading) (r : Reading) → AreNumbered reade
 numbered_push readers r all new = λ i s g. numbered_at readers r s i all new (pushed readers r i s g)
 
 -- the plans of the devices up to the next one
-pub plans_next : (display : Display) (ds : List Device) (i : ℕ) (d : Device) → i < length ds → d ≡ get_or ds i d
-    → device_plans display 1 (map device_view (take (i + 1) ds)) ≡ device_plans display 1 (map device_view (take i ds)) ++ device_plan display (i + 1) d.kind ∷ []
-plans_next display ds i d within is =
+pub plans_next : (displays : List Display) (ds : List Device) (i : ℕ) (d : Device) → i < length ds → d ≡ get_or ds i d
+    → device_plans displays 1 (map device_view (take (i + 1) ds)) ≡ device_plans displays 1 (map device_view (take i ds)) ++ device_plan displays (i + 1) d.kind ∷ []
+plans_next displays ds i d within is =
     let size : 1 + length (map device_view (take i ds)) ≡ i + 1
     = omega (arith, length-map (take i ds) device_view, length-take-le i ds (omega (arith, within)))
-    in ap (λ xs. device_plans display 1 (map device_view xs)) (next_of_take ds i d within is)
-    ∙ ap (device_plans display 1) (map-append device_view (take i ds) (d ∷ []))
-    ∙ device_plans-append display 1 (map device_view (take i ds)) (device_view d ∷ [])
-    ∙ ap (λ n. device_plans display 1 (map device_view (take i ds)) ++ device_plan display n d.kind ∷ []) size
+    in ap (λ xs. device_plans displays 1 (map device_view xs)) (next_of_take ds i d within is)
+    ∙ ap (device_plans displays 1) (map-append device_view (take i ds) (d ∷ []))
+    ∙ device_plans-append displays 1 (map device_view (take i ds)) (device_view d ∷ [])
+    ∙ ap (λ n. device_plans displays 1 (map device_view (take i ds)) ++ device_plan displays n d.kind ∷ []) size
 
 -- how many readers there are
-pub readers_so_far : (display : Display) (ds : List Device) (i : ℕ) (readers : List Reading) → i ≤ length ds
-    → AllStandFor (device_plans display 1 (map device_view (take i ds))) [] readers → length readers ≡ i
-readers_so_far display ds i readers within all =
-    all.as_many ∙ length-device_plans display 1 (map device_view (take i ds)) ∙ length-map (take i ds) device_view ∙ length-take-le i ds within
+pub readers_so_far : (displays : List Display) (ds : List Device) (i : ℕ) (readers : List Reading) → i ≤ length ds
+    → AllStandFor (device_plans displays 1 (map device_view (take i ds))) [] readers → length readers ≡ i
+readers_so_far displays ds i readers within all =
+    all.as_many ∙ length-device_plans displays 1 (map device_view (take i ds)) ∙ length-map (take i ds) device_view ∙ length-take-le i ds within

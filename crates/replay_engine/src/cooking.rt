@@ -1,33 +1,50 @@
 //! The readers of the devices of a session.
-ghost use Rattle.std.specs.Prelude.{◌≡◌, ◌+◌, ◌<◌, [], IfOk};
+ghost use Rattle.std.specs.Prelude.{◌≡◌, ◌+◌, ◌<◌, [], length, IfOk};
+ghost use Rattle.std.specs.List.{All};
 ghost use Rattle.device_reader.specs.Cooked.{StandsFor};
 ghost use Rattle.device_reader.specs.CookedList.{ReadersStandFor};
 ghost use Rattle.session_plan.specs.Valid.{IsKind, IsDisplay, IsPlan};
 ghost use Rattle.session_plan.specs.View.{plan_view};
-ghost use Rattle.replay_engine.specs.Cooked.{device_plan, plans_of};
+ghost use Rattle.replay_engine.specs.Cooked.{display_at, device_plan, plans_of};
 
 use device_reader::{DeviceReader, Readers};
-use input_types::DeviceId;
+use input_types::{DeviceId, DisplayId};
 use session_plan::{DeviceKind, Display, Plan};
 use std::alloc::{AllocError, Global};
 use touch_mapper::Cook;
 
-/// The reader of a device that has had no event.
+/// The display with this number, of those of a session.
+fn display_at(displays: &[Display], number: DisplayId) -> Display
+    requires within { number < length displays.now }
+    requires valid { All IsDisplay displays.now }
+    ensures value { result ≡ display_at displays.now number }
+    ensures valid { IsDisplay result }
+{
+    displays[usize::from(number.get())]
+}
+
+/// The reader of a device that has had no event, of a session with these displays.
 fn reader_of(
     alloc: Global,
-    display: Display,
+    displays: &[Display],
     number: DeviceId,
     kind: &DeviceKind,
 ) -> Result<DeviceReader, AllocError>
-    requires display { IsDisplay display }
-    requires kind { IsKind kind.now }
-    ensures stands { IfOk result (StandsFor (device_plan display number kind.now) []) }
+    requires displays { All IsDisplay displays.now }
+    requires kind { IsKind (length displays.now) kind.now }
+    ensures stands { IfOk result (StandsFor (device_plan displays.now number kind.now) []) }
     ensures number { IfOk result (λ r. r.device ≡ number) }
 {
     match kind {
-        DeviceKind::Touch { slots, x, y } => {
-            let cook = Cook::new(*x, *y, display.width, display.height, display.rotation).unwrap();
-            Ok(DeviceReader::touch(number, *slots, cook))
+        DeviceKind::Touch {
+            slots,
+            x,
+            y,
+            display,
+        } => {
+            let on = display_at(displays, *display);
+            let cook = Cook::new(*x, *y, on.width, on.height, on.rotation).unwrap();
+            Ok(DeviceReader::touch(alloc, number, *slots, cook))
         }
         DeviceKind::Keys { layout } => Ok(DeviceReader::keys(alloc, number, layout.clone()?)),
     }
@@ -48,7 +65,7 @@ pub fn readers_of(alloc: Global, plan: &Plan) -> Result<Readers, AllocError>
 {
     let mut readers = Vec::new(alloc);
     for (place, device) in plan.devices.iter().enumerate() {
-        let reader = reader_of(alloc, plan.display, device_number(place), &device.kind)?;
+        let reader = reader_of(alloc, &plan.displays, device_number(place), &device.kind)?;
         readers.push(reader)?;
     }
     Ok(Readers::new(readers))

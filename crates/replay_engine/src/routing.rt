@@ -196,6 +196,7 @@ pub fn route(alloc: Global, plan: &Plan, events: &[RawEvent]) -> Result<Vec<Stre
     let mut readers = readers_of(alloc, plan)?;
     let mut added = Vec::new(alloc);
     for event in events {
+        added.clear();
         let moment = readers.take(*event, &mut added)?;
         take_added(&mut router, &mut streams, moment, &added, shown, live)?;
     }

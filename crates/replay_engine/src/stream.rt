@@ -85,7 +85,6 @@ fn pointers_from(origin: Pixel, pointers: &Pointers) -> Pointers
     ensures { result ≡ map (λ p. record { id = p.id; at = place_from origin p.at }) pointers.now }
 {
     let mut moved = Pointers::empty();
-    let _count = pointers.len();
     for pointer in pointers.as_slice() {
         let pushed = moved.push(Pointer {
             id: pointer.id,

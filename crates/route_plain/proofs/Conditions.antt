@@ -76,7 +76,7 @@ IsGood s w = (s.able w ≡ true) × (is_named s.windows w ≡ true)
 
 takers_good : (s : Scene) (d : ℕ) (m : Motion) (p : Pointer) (w e i : ℕ) → has (pairs d p.id (takers s d p.at)) w e i ≡ true → IsGood s w
 takers_good s d m p w e i h =
-    let cand : ℕ → Bool = is_candidate s p.at (chosen s d p.at) in
+    let cand : ℕ → Bool = is_candidate s d p.at (chosen s d p.at) in
     in_which (λ v. is_target s d cand v.channel && s.able v.channel) s.able (λ v t. (and_parts (is_target s d cand v.channel) (s.able v.channel) t).1)
     s.windows w (in_pairs d p.id (takers s d p.at) w e i h)
 
@@ -99,8 +99,8 @@ slips_good s (Some v) (Some t) x e =
 
 slip_good : (s : Scene) (d : ℕ) (a : MotionAction) (o : Option Pointer) (x : Slip) → slip_of s d a o ≡ Some x → IsGood s x.to
 slip_good s d Move (Some p) x e =
-    let k = slips_good s (only (holders_of s d p.id)) (touched s.windows s.live p.at.x p.at.y) x e in
-    (k.0, found_named (takes_touch s.live p.at.x p.at.y) s.windows x.to k.1)
+    let k = slips_good s (only (holders_of s d p.id)) (touched s.windows (s.reach d) p.at.x p.at.y) x e in
+    (k.0, found_named (takes_touch (s.reach d) p.at.x p.at.y) s.windows x.to k.1)
 slip_good s d Move None x e = absurd (cc e)
 slip_good s d Down o x e = absurd (cc e)
 slip_good s d Up o x e = absurd (cc e)
@@ -161,7 +161,7 @@ given_good : (s : Scene) (e : Step) (w d i : ℕ) → has (given s e) w d i ≡ 
 given_good s (Moves m) w d i h = (motion_good s m m.action (changed m) w d i h, no_motion_drops s m m.action (changed m) w, refl)
 given_good s (Resets v) w d i h = absurd (true≢false (sym h))
 given_good s (Pilfers v x) w d i h = absurd (true≢false (sym h))
-given_good s (Shows names) w d i h = absurd (true≢false (sym h))
+given_good s (Shows stays) w d i h = absurd (true≢false (sym h))
 given_good s (Mutes muted) w d i h = absurd (true≢false (sym h))
 given_good s (Removes v) w d i h = absurd (true≢false (sym h))
 given_good s Rests w d i h = absurd (true≢false (sym h))
@@ -186,7 +186,7 @@ able_law st s e able w d i h =
     ]
 
 still_named : (s : Scene) (e : Step) (w d i : ℕ) → takes (taken s e) w d i ≡ false → is_named s.windows w ≡ true → named_after s e w ≡ true
-still_named s (Shows names) w d i t h = unfalse (names w) t
+still_named s (Shows stays) w d i t h = unfalse (stays w) t
   where
     unfalse : (b : Bool) → not b ≡ false → b ≡ true
     unfalse true e = refl
@@ -220,7 +220,7 @@ last_is : (e : Step) (last : List (List Pointer)) (d : ℕ) → length last ≡ 
 last_is (Moves m) last d n r o = place_after last m.device d m.pointers n o.0 o.1 r (m.device == d) refl
 last_is (Resets v) last d n r o = refl
 last_is (Pilfers v x) last d n r o = refl
-last_is (Shows names) last d n r o = refl
+last_is (Shows stays) last d n r o = refl
 last_is (Mutes muted) last d n r o = refl
 last_is (Removes v) last d n r o = refl
 last_is Rests last d n r o = refl

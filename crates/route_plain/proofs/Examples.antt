@@ -83,8 +83,9 @@ a_new_finger_goes_to_the_app :
 unfolding said_up_to
 a_new_finger_goes_to_the_app = refl
 
--- Two windows side by side with nothing below them. Window 1 gets fingers 0 and 2 and window 2 finger 1; then finger 0 lifts, and a
--- finger goes down where nothing is. Window 1 began first, although finger 1 is older than what window 1 still has.
+-- Two windows side by side with nothing below them. Window 1 gets fingers 0 and 2 and window 2 finger 1; then finger 0
+-- lifts, and a finger goes down where nothing is. Window 1 began first, although finger 1 is older than what window 1
+-- still has.
 abbrev side_by_side : List Window
 side_by_side = window 1 0 0 0 540 2000 ∷ window 2 0 540 0 1080 2000 ∷ []
 
@@ -99,3 +100,38 @@ the_earliest_holder_gets_it :
     ≡ to 1 (motion PointerDown 0 (at 0 100 2200 ∷ at 2 200 100 ∷ [])) ∷ to 2 (motion Move 0 (at 1 600 100 ∷ [])) ∷ []
 unfolding said_up_to
 the_earliest_holder_gets_it = refl
+
+-- One window over all of the display holds two fingers. The second becomes a palm, and then the last one.
+abbrev whole : List Window
+whole = window 1 0 0 0 1080 2400 ∷ []
+
+abbrev two_on_one : List Turn
+two_on_one = Pointers (motion PointerDown 1 (at 0 100 200 ∷ at 1 300 400 ∷ [])) ∷ Pointers (motion Down 0 (at 0 100 200 ∷ [])) ∷ []
+
+abbrev second_palm : Turn
+second_palm = Pointers (cancelled PointerUp 1 (at 0 100 200 ∷ at 1 300 400 ∷ []))
+
+a_finger_of_two_becomes_a_palm :
+    said_after whole 1 two_on_one second_palm ≡ to 1 (cancelled PointerUp 1 (at 0 100 200 ∷ at 1 300 400 ∷ [])) ∷ []
+unfolding said_up_to
+a_finger_of_two_becomes_a_palm = refl
+
+the_last_finger_becomes_a_palm :
+    said_after whole 1 (second_palm ∷ two_on_one) (Pointers (motion Cancel 0 (at 0 100 200 ∷ []))) ≡ to 1 (motion Cancel 0 (at 0 100 200 ∷ [])) ∷ []
+unfolding said_up_to
+the_last_finger_becomes_a_palm = refl
+
+nothing_moves_after_the_last_palm :
+    said_after whole 1 (Pointers (motion Cancel 0 (at 0 100 200 ∷ [])) ∷ second_palm ∷ two_on_one) (Pointers (motion Move 0 [])) ≡ []
+unfolding said_up_to
+nothing_moves_after_the_last_palm = refl
+
+-- a finger on each of two windows, of which that on the right one becomes a palm: its window is told a Cancel, the
+-- other one a Move
+a_palm_is_its_windows_last :
+    said_after side_by_side 3
+    (Pointers (motion PointerDown 1 (at 0 100 200 ∷ at 1 700 400 ∷ [])) ∷ Pointers (motion Down 0 (at 0 100 200 ∷ [])) ∷ [])
+    (Pointers (cancelled PointerUp 1 (at 0 100 200 ∷ at 1 700 400 ∷ [])))
+    ≡ to 1 (motion Move 0 (at 0 100 200 ∷ [])) ∷ to 2 (motion Cancel 0 (at 1 700 400 ∷ [])) ∷ []
+unfolding said_up_to
+a_palm_is_its_windows_last = refl

@@ -1,10 +1,10 @@
 -- What the router keeps follows the marks of its turns.
-use Rattle.std.proofs.Common.{◌≡◌, ℕ, suc, ◌-◌, ◌^◌, ◌<◌, Bool, true, false, not, ◌&&◌, ◌||◌, ◌==◌, cond, nat_lt, List, [], ◌∷◌, ◌++◌, map, length, Option, Some, None, refl, ap, ap₂, sym, ◌∙◌, inl, inr, add-one}
+use Rattle.std.proofs.Common.{◌≡◌, ℕ, suc, ◌-◌, ◌^◌, ◌<◌, Bool, true, false, not, ◌&&◌, ◌||◌, ◌==◌, cond, nat_lt, List, [], ◌∷◌, ◌++◌, map, length, Option, Some, None, refl, ap, ap₂, sym, ◌∙◌, add-one}
 use Rattle.std.specs.Prelude.{unwrap_or}
 use Rattle.std.proofs.lemmas.List.{map-append, length-set}
 use Rattle.std.proofs.lemmas.List.Folds.{list_any-append}
 use Rattle.std.proofs.lemmas.Map.Views.{any-filter_same}
-use Rattle.std.proofs.lemmas.Bool.{cases_eq, eqb-true, eq-eqb, ne_eqb, and_parts, and_from, and_right, or_left, or_right, lt-ltb}
+use Rattle.std.proofs.lemmas.Bool.{eqb-true, eq-eqb, and_parts, and_from, and_right, or_left, or_right, lt-ltb}
 use Rattle.std.proofs.Math.Path.{fun_ext}
 use Rattle.input_types.specs.declared.motion.Motion.{Motion}
 use Rattle.input_types.specs.declared.motion.MotionAction.{MotionAction}
@@ -24,6 +24,7 @@ use Rattle.route_plain.specs.State.{State, last_of}
 use Rattle.route_plain.specs.Route.{holds_left, holds_after, hold_from, with_pilferer, pilferers_after, last_after, next_turn}
 use Rattle.route_plain.specs.Laws.{BeganBy, Follows, StartLaw, TurnLaw, SceneLaw}
 use Rattle.route_plain.proofs.Gains.{pairs_of-gained}
+use Rattle.route_plain.proofs.IdSets.{either_way}
 use Rattle.route_plain.proofs.Left.{pairs_of-left}
 
 -- the number with which a window began, where each hold has that of a function
@@ -141,13 +142,6 @@ no_motion_pilfers s m PointerDown None w d = refl
 no_motion_pilfers s m Cancel None w d = refl
 no_motion_pilfers s m Outside None w d = refl
 
-either_way : (a b : ℕ) → (a == b) ≡ (b == a)
-either_way a b =
-    elim (cases_eq a b) [
-      | inl e ↦ eq-eqb a b e ∙ sym (eq-eqb b a (sym e))
-      | inr ne ↦ ne_eqb a b ne ∙ sym (ne_eqb b a (λ h. ne (sym h)))
-    ]
-
 swap : (x t : Bool) → (x || (t || false)) ≡ (t || x)
 swap true true = refl
 swap true false = refl
@@ -172,7 +166,7 @@ noted_at : (s : Scene) (e : Step) (ps : List Pilferer) (w d : ℕ) → is_pilfer
 noted_at s (Pilfers v c) ps w d = noted v c ps w d (is_pilfering ps v c) refl
 noted_at s (Moves m) ps w d = ap (λ b. b || is_pilfering ps w d) (sym (no_motion_pilfers s m m.action (changed m) w d))
 noted_at s (Resets e) ps w d = refl
-noted_at s (Shows names) ps w d = refl
+noted_at s (Shows stays) ps w d = refl
 noted_at s (Mutes muted) ps w d = refl
 noted_at s (Removes v) ps w d = refl
 noted_at s Rests ps w d = refl
@@ -192,7 +186,7 @@ length-last_after : (e : Step) (last : List (List Pointer)) → length (last_aft
 length-last_after (Moves m) last = length-set last (m.device - 1) m.pointers
 length-last_after (Resets d) last = refl
 length-last_after (Pilfers w d) last = refl
-length-last_after (Shows names) last = refl
+length-last_after (Shows stays) last = refl
 length-last_after (Mutes muted) last = refl
 length-last_after (Removes w) last = refl
 length-last_after Rests last = refl
@@ -221,7 +215,7 @@ scene_law ms st windows live able x =
     let pilfer : is_pilfering st.pilferers ≡ pilfering ms = fun_ext (λ w. fun_ext (λ d. x.pilfers w d)) in
     λ i. record {
       windows = windows;
-      live = mask_has live;
+      reach = λ d. mask_has live;
       able = mask_has able;
       holds = has (x.holds i);
       any = has_any (x.holds i);

@@ -1,45 +1,44 @@
 -- What a pointer that goes down gives, as the router finds it.
-use Rattle.std.proofs.Common.{◌≡◌, ℕ, Bool, ◌||◌, ◌==◌, List, [], ◌∷◌, map, filter, Option, Some, None, refl, ap, sym, ◌∙◌}
+use Rattle.std.proofs.Common.{◌≡◌, ℕ, Bool, not, ◌&&◌, ◌||◌, ◌==◌, List, [], ◌∷◌, map, filter, Option, Some, None, refl, ap, sym, ◌∙◌}
 use Rattle.std.specs.List.{list_any}
 use Rattle.std.proofs.Math.Path.{fun_ext}
+use Rattle.std.proofs.lemmas.Simd.{map-map}
 use Rattle.input_types.specs.declared.axis.Pixel.{Pixel}
 use Rattle.window_snapshot.specs.declared.window.Window.{Window}
 use Rattle.window_snapshot.specs.Hits.{is_spy_at}
 use Rattle.routing_rules.specs.Pairs.{Pair}
-use Rattle.routing_rules.specs.Scene.{Scene}
+use Rattle.routing_rules.specs.Scene.{Scene, which}
 use Rattle.routing_rules.specs.Given.{pairs}
-use Rattle.routing_rules.specs.Choice.{is_candidate, takers, chosen}
+use Rattle.routing_rules.specs.Choice.{is_candidate, is_target, takers, chosen}
 use Rattle.route_plain.specs.declared.hold.Hold.{Hold}
 use Rattle.route_plain.specs.Holds.{pairs_of}
-use Rattle.route_plain.specs.Choosing.{is_candidate_of, is_pilfering_candidate, is_taker, takers_by}
+use Rattle.route_plain.specs.Choosing.{is_candidate_of}
 use Rattle.route_plain.specs.Route.{hold_from}
 
-same_candidate : (s : Scene) (at : Pixel) (spies : ℕ → Bool) → ((w : ℕ) → spies w ≡ is_spy_at s.windows s.live at.x at.y w)
-    → (c : Option ℕ) (w : ℕ) → is_candidate_of c spies w ≡ is_candidate s at c w
-same_candidate s at spies e None w = e w
-same_candidate s at spies e (Some v) w = ap (λ b. w == v || b) (e w)
+same_candidate : (s : Scene) (d : ℕ) (at : Pixel) (spies : ℕ → Bool) → ((w : ℕ) → spies w ≡ is_spy_at s.windows (s.reach d) at.x at.y w)
+    → (c : Option ℕ) (w : ℕ) → is_candidate_of c spies w ≡ is_candidate s d at c w
+same_candidate s d at spies e None w = e w
+same_candidate s d at spies e (Some v) w = ap (λ b. w == v || b) (e w)
 
-takers_are : (s : Scene) (d : ℕ) (at : Pixel) (spies : ℕ → Bool) → ((w : ℕ) → spies w ≡ is_spy_at s.windows s.live at.x at.y w)
-    → takers_by s d (is_candidate_of (chosen s d at) spies) ≡ takers s d at
-takers_are s d at spies e = ap (takers_by s d) (fun_ext (same_candidate s at spies e (chosen s d at)))
-
-map-map : {A B C : Type 0} (g : B → C) (f : A → B) (xs : List A) → map g (map f xs) ≡ map (λ x. g (f x)) xs
-map-map g f [] = refl
-map-map g f (x ∷ xs) = ap (λ ys. g (f x) ∷ ys) (map-map g f xs)
+-- the windows that get the pointer, front to back, of these candidates
+abbrev takers_by : Scene → ℕ → (ℕ → Bool) → List ℕ
+takers_by s d candidate = which s (λ v. is_target s d candidate v.channel && s.able v.channel)
 
 -- the holds of the takers, found window by window
-pub gains_are : (s : Scene) (d i n : ℕ) (hs : List Hold) (at : Pixel) (spies : ℕ → Bool) → ((w : ℕ) → spies w ≡ is_spy_at s.windows s.live at.x at.y w)
+pub gains_are : (s : Scene) (d i n : ℕ) (hs : List Hold) (at : Pixel) (spies : ℕ → Bool) → ((w : ℕ) → spies w ≡ is_spy_at s.windows (s.reach d) at.x at.y w)
     → (c : Option ℕ) → c ≡ chosen s d at
-    → (some : Bool) → some ≡ list_any (λ v. is_pilfering_candidate s d (is_candidate_of c spies) v.channel) s.windows
-    → map (λ w. hold_from n hs (record { window = w.channel; device = d; id = i })) (filter (λ w. is_taker s d (is_candidate_of c spies) some w.channel) s.windows)
+    → (some : Bool) → some ≡ list_any (λ v. is_candidate_of c spies v.channel && s.pilfering v.channel d) s.windows
+    → map (λ w. hold_from n hs (record { window = w.channel; device = d; id = i }))
+    (filter (λ w. is_candidate_of c spies w.channel && (s.pilfering w.channel d || not some) && s.able w.channel) s.windows)
     ≡ map (hold_from n hs) (pairs d i (takers s d at))
 gains_are s d i n hs at spies e c ce some se =
     let one : Window → Hold = λ w. hold_from n hs (record { window = w.channel; device = d; id = i }) in
     let by : Option ℕ → List ℕ = λ o. takers_by s d (is_candidate_of o spies) in
-    ap (λ b. map one (filter (λ w. is_taker s d (is_candidate_of c spies) b w.channel) s.windows)) se
+    ap (λ b. map one (filter (λ w. is_candidate_of c spies w.channel && (s.pilfering w.channel d || not b) && s.able w.channel) s.windows)) se
     ∙ sym (map-map (λ w. hold_from n hs (record { window = w; device = d; id = i })) (λ (v : Window). v.channel) _)
     ∙ sym (map-map (hold_from n hs) (λ w. record { window = w; device = d; id = i }) (by c))
-    ∙ ap (λ ws. map (hold_from n hs) (pairs d i ws)) (ap by ce ∙ takers_are s d at spies e)
+    ∙ ap (λ ws. map (hold_from n hs) (pairs d i ws))
+    (ap by ce ∙ ap (takers_by s d) (fun_ext (same_candidate s d at spies e (chosen s d at))))
 
 -- the pairs of what is gained are those that are given
 pub pairs_of-gained : (n : ℕ) (hs : List Hold) (qs : List Pair) → pairs_of (map (hold_from n hs) qs) ≡ qs

@@ -1,21 +1,19 @@
 -- What is held after a turn.
-use Rattle.std.proofs.Common.{◌≡◌, ℕ, ◌-◌, Bool, true, false, not, ◌&&◌, ◌||◌, ◌==◌, cond, List, [], ◌∷◌, refl, ap, ◌∙◌}
+use Rattle.std.proofs.Common.{◌≡◌, ℕ, ◌-◌, ◌<◌, min, Bool, true, false, not, ◌&&◌, ◌||◌, ◌==◌, cond, List, [], ◌∷◌, refl, ap, ◌∙◌, arith, inl, inr}
 use Rattle.std.specs.Prelude.{bit_and}
 use Rattle.std.proofs.Math.Path.{fun_ext}
+use Rattle.std.proofs.lemmas.Bool.{cases_eq}
 use Rattle.std.proofs.lemmas.Nat.Bits.{bit_at_and, bit_at-lt}
-use Rattle.input_types.specs.declared.pointer.Pointer.{Pointer}
+use Rattle.bits32.specs.Set.{is_in}
 use Rattle.window_snapshot.specs.Mask.{is_channel, mask_has}
 use Rattle.routing_rules.specs.Pairs.{has}
-use Rattle.routing_rules.specs.Taking.{Taking, Nothing, takes}
+use Rattle.routing_rules.specs.Taking.{Taking, takes}
 use Rattle.routing_rules.specs.Marks.{kept}
-use Rattle.routing_rules.specs.Told.{cancels}
 use Rattle.routing_rules.proofs.HoldingLaws.{has-kept}
 use Rattle.route_plain.specs.declared.hold.Hold.{Hold}
 use Rattle.route_plain.specs.Holds.{pairs_of, ids_with}
-use Rattle.route_plain.specs.IdSet.{set_has}
 use Rattle.route_plain.specs.Route.{holds_left}
-use Rattle.route_plain.specs.Telling.{held_after}
-use Rattle.route_plain.proofs.IdSets.{set_has-ids_with, set_has-ids, min_is_and}
+use Rattle.route_plain.proofs.IdSets.{in-ids_with, in-ids}
 
 -- the pairs of what is left are those that are left
 pub pairs_of-left : (t : Taking) (hs : List Hold) → pairs_of (holds_left t hs) ≡ kept t (pairs_of hs)
@@ -28,40 +26,51 @@ pairs_of-left t (h ∷ hs) = first (takes t h.window h.device h.id) (pairs_of-le
     first true e = e
     first false e = ap (λ qs. record { window = h.window; device = h.device; id = h.id } ∷ qs) e
 
-gives : (x g : Bool) → (x || g) ≡ (g || x && true)
-gives true true = refl
-gives true false = refl
-gives false true = refl
-gives false false = refl
+and_true : (x : Bool) → x ≡ (x && true)
+and_true true = refl
+and_true false = refl
 
-gives_left : (n x g : Bool) → (n && x || g) ≡ (g || x && n)
-gives_left true true true = refl
-gives_left true true false = refl
-gives_left true false true = refl
-gives_left true false false = refl
-gives_left false true true = refl
-gives_left false true false = refl
-gives_left false false true = refl
-gives_left false false false = refl
+pub and_comm : (n x : Bool) → (n && x) ≡ (x && n)
+and_comm true true = refl
+and_comm true false = refl
+and_comm false true = refl
+and_comm false false = refl
 
--- the ids after a turn that takes nothing
-pub held_none : (gained hs : List Hold) (w d : ℕ) → set_has (ids_with (ids_with 0 hs w d) gained w d) ≡ held_after gained Nothing hs w d
-held_none gained hs w d =
+or_comm : (x g : Bool) → (x || g) ≡ (g || x)
+or_comm true true = refl
+or_comm true false = refl
+or_comm false true = refl
+or_comm false false = refl
+
+-- the ids of a window where nothing is taken
+pub kept_all : (hs : List Hold) (w d i : ℕ) → is_in i (ids_with 0 hs w d) ≡ (has (pairs_of hs) w d i && true)
+kept_all hs w d i = in-ids hs w d i ∙ and_true (has (pairs_of hs) w d i)
+
+-- and where something is
+pub kept_left : (t : Taking) (hs : List Hold) (w d i : ℕ)
+    → is_in i (ids_with 0 (holds_left t hs) w d) ≡ (has (pairs_of hs) w d i && not (takes t w d i))
+kept_left t hs w d i =
+    in-ids (holds_left t hs) w d i
+    ∙ ap (λ qs. has qs w d i) (pairs_of-left t hs)
+    ∙ has-kept t (pairs_of hs) w d i
+    ∙ and_comm (not (takes t w d i)) (has (pairs_of hs) w d i)
+
+-- with what is gained
+pub held_after : (gained : List Hold) (left w d : ℕ) (f : ℕ → Bool) → ((i : ℕ) → is_in i left ≡ f i)
+    → ◌≡◌ {A = ℕ → Bool} (λ i. is_in i (ids_with left gained w d)) (λ i. has (pairs_of gained) w d i || f i)
+held_after gained left w d f e =
     fun_ext
-    (λ i. set_has-ids_with gained (ids_with 0 hs w d) w d i
-    ∙ ap (λ f. f i || has (pairs_of gained) w d i) (set_has-ids hs w d)
-    ∙ gives (has (pairs_of hs) w d i) (has (pairs_of gained) w d i))
+    (λ i. in-ids_with gained left w d i ∙ ap (λ b. b || has (pairs_of gained) w d i) (e i) ∙ or_comm (f i) (has (pairs_of gained) w d i))
 
--- the ids after a turn that takes something
-pub held_left : (t : Taking) (gained hs : List Hold) (w d : ℕ)
-    → set_has (ids_with (ids_with 0 (holds_left t hs) w d) gained w d) ≡ held_after gained t hs w d
-held_left t gained hs w d =
-    fun_ext
-    (λ i. set_has-ids_with gained (ids_with 0 (holds_left t hs) w d) w d i
-    ∙ ap (λ f. f i || has (pairs_of gained) w d i) (set_has-ids (holds_left t hs) w d)
-    ∙ ap (λ qs. has qs w d i || has (pairs_of gained) w d i) (pairs_of-left t hs)
-    ∙ ap (λ b. b || has (pairs_of gained) w d i) (has-kept t (pairs_of hs) w d i)
-    ∙ gives_left (not (takes t w d i)) (has (pairs_of hs) w d i) (has (pairs_of gained) w d i))
+-- two bits that are both set
+min_is_and : (m n : ℕ) → m < 2 → n < 2 → (min m n == 1) ≡ (m == 1 && n == 1)
+min_is_and m n p q =
+    elim (cases_eq m 0) [
+      | inl z ↦ elim (cases_eq n 0) [ inl y ↦ rw (z, y) refl | inr y ↦ let o : n ≡ 1 = omega arith in rw (z, o) refl ]
+      | inr z ↦
+          let u : m ≡ 1 = omega arith in
+          elim (cases_eq n 0) [ inl y ↦ rw (u, y) refl | inr y ↦ let o : n ≡ 1 = omega arith in rw (u, o) refl ]
+    ]
 
 -- a channel is in both of two masks
 pub mask_has-and : (a b c : ℕ) → mask_has (bit_and a b) c ≡ (mask_has a c && mask_has b c)
@@ -70,7 +79,3 @@ mask_has-and a b c = ap (λ t. is_channel c && t) (ap (λ n. n == 1) (bit_at_and
     spread : (k t u : Bool) → (k && (t && u)) ≡ ((k && t) && (k && u))
     spread true t u = refl
     spread false t u = refl
-
--- what is cancelled is told by what was held, what is held and the last places
-pub same_cancels : (d : ℕ) (l l' : List Pointer) (b b' a a' : ℕ → Bool) → l ≡ l' → b ≡ b' → a ≡ a' → cancels d l b a ≡ cancels d l' b' a'
-same_cancels d l l' b b' a a' e f g = λ k. cancels d (e k) (f k) (g k)

@@ -11,4 +11,3 @@ pub mod SaidLaws
 pub mod Sayings
 pub mod Silence
 pub mod Slipped
-pub mod Unconcerned

@@ -2,9 +2,8 @@
 use Rattle.std.proofs.Common.{◌≡◌, ℕ, zero, suc, ◌+◌, ◌<◌, ◌≤◌, Bool, true, false, not, ◌&&◌, ◌==◌, cond, List, [], ◌∷◌, ◌++◌, length, take, get_or, filter, refl, ap, sym, ◌∙◌, arith, subst, add-one}
 use Rattle.input_types.specs.declared.pointer.Pointer.{Pointer}
 use Rattle.input_types.specs.declared.motion.Motion.{Motion}
-use Rattle.input_types.specs.declared.motion.MotionAction.TheVariants.{Cancel}
 use Rattle.input_types.specs.Pointers.{IsRising, EndsBelow}
-use Rattle.routing_rules.specs.Told.{listing, plain, cancelled_ups, cancels_of, or_else}
+use Rattle.routing_rules.specs.Told.{listing, or_else}
 
 -- each id of a list is below a number
 abbrev AllBelow : List Pointer → ℕ → Type 0
@@ -95,31 +94,6 @@ listing-less f i (p ∷ ps) = first (f p.id) (p.id == i) (listing-less f i ps)
         ≡ cond (b && not (p.id == i)) (p ∷ listing (λ j. f j && not (j == i)) ps) (listing (λ j. f j && not (j == i)) ps)
     first false c e = e
     first true c e = λ k. cond (not (p.id == i)) (p ∷ e k) (e k)
-
--- what is cancelled, by how many pointers are lost and how many are kept
-pub none_lost : (d : ℕ) (had kept lost : List Pointer) → length lost ≡ 0 → cancels_of d had kept lost ≡ []
-none_lost d had kept [] e = refl
-none_lost d had kept (p ∷ lost) e = absurd (omega (arith, e))
-
-pub all_lost : (d : ℕ) (had kept lost : List Pointer) → 0 < length lost → length kept ≡ 0 → cancels_of d had kept lost ≡ plain d Cancel had ∷ []
-all_lost d had kept [] lt e = absurd (omega (arith, lt))
-all_lost d had [] (p ∷ lost) lt e = refl
-all_lost d had (q ∷ kept) (p ∷ lost) lt e = absurd (omega (arith, e))
-
-pub some_lost : (d : ℕ) (had kept lost : List Pointer) → 0 < length lost → 0 < length kept → cancels_of d had kept lost ≡ cancelled_ups d had lost
-some_lost d had kept [] lt gt = absurd (omega (arith, lt))
-some_lost d had [] (p ∷ lost) lt gt = absurd (omega (arith, gt))
-some_lost d had (q ∷ kept) (p ∷ lost) lt gt = refl
-
--- where something is lost, it is told alone
-pub or_else-lost : (d : ℕ) (had kept lost : List Pointer) (ys : List Motion) → 0 < length lost
-    → or_else (cancels_of d had kept lost) ys ≡ cancels_of d had kept lost
-or_else-lost d had kept [] ys lt = absurd (omega (arith, lt))
-or_else-lost d had [] (p ∷ lost) ys lt = refl
-or_else-lost d had (q ∷ kept) (p ∷ lost) ys lt = refl
-
-pub or_else-none_lost : (d : ℕ) (had kept lost : List Pointer) (ys : List Motion) → length lost ≡ 0 → or_else (cancels_of d had kept lost) ys ≡ ys
-or_else-none_lost d had kept lost ys e = ap (λ xs. or_else xs ys) (none_lost d had kept lost e)
 
 pub or_else-nil : (xs : List Motion) → or_else xs [] ≡ xs
 or_else-nil [] = refl

@@ -1,5 +1,5 @@
 -- What is said, channel by channel and device by device.
-use Rattle.std.proofs.Common.{◌≡◌, ℕ, zero, suc, ◌+◌, ◌<◌, ◌≤◌, Bool, true, false, not, ◌&&◌, ◌||◌, ◌==◌, List, [], ◌∷◌, ◌++◌, map, drop, Option, Some, None, refl, ap, ap₂, sym, ◌∙◌, arith, add-one, append_assoc, append-nil}
+use Rattle.std.proofs.Common.{◌≡◌, ℕ, zero, suc, ◌+◌, ◌<◌, ◌≤◌, Bool, true, false, not, ◌&&◌, ◌==◌, List, [], ◌∷◌, ◌++◌, drop, Some, None, refl, ap, ap₂, sym, ◌∙◌, arith, add-one, append_assoc, append-nil}
 use Rattle.std.proofs.lemmas.List.{map-append}
 use Rattle.std.specs.Prelude.{flat_map, if◌then◌else◌}
 use Rattle.std.proofs.Math.Path.{fun_ext}
@@ -7,22 +7,19 @@ use Rattle.input_types.specs.declared.pointer.Pointer.{Pointer}
 use Rattle.input_types.specs.declared.motion.Motion.{Motion}
 use Rattle.input_types.specs.declared.motion.MotionAction.TheVariants.{Outside}
 use Rattle.window_snapshot.specs.declared.window.Window.{Window}
-use Rattle.window_snapshot.specs.Hits.{is_watcher_at}
-use Rattle.routing_rules.specs.Pairs.{has}
-use Rattle.routing_rules.specs.Taking.{Taking, takes}
 use Rattle.routing_rules.specs.Marks.{Mark}
 use Rattle.routing_rules.specs.Scene.{Scene, Step, Moves, Resets, Pilfers, Shows, Mutes, Removes, Rests}
-use Rattle.routing_rules.specs.Given.{given, taken, mark, changed}
-use Rattle.routing_rules.specs.Told.{devices, listing, plain, opening, closing, cancels, moves, is_up, is_first, or_else, told_motion, told_with, told_all, after}
+use Rattle.routing_rules.specs.Given.{given, mark, changed}
+use Rattle.routing_rules.specs.Told.{devices, listing, plain, opening, closing, cancels, moves, is_up, is_cancelled, or_else, told_motion, told_with, told_all, after}
 use Rattle.route_plain.specs.declared.hold.Hold.{Hold}
 use Rattle.route_plain.specs.declared.loss.Loss.{Loss}
 use Rattle.route_plain.specs.declared.turn.Said.{Said}
 use Rattle.route_plain.specs.declared.turn.Turn.{Turn}
 use Rattle.route_plain.specs.declared.turn.Turn.TheVariants.{Pointers, Reset, Pilfer, Windows, Mute, Forget}
 use Rattle.route_plain.specs.Holds.{pairs_of}
-use Rattle.route_plain.specs.Loss.{taking_of}
-use Rattle.route_plain.specs.Route.{to_channel, said_up_to, said_at, step_of, hold_from}
-use Rattle.route_plain.specs.Telling.{outside_of, told_here, is_watching, held_after, told_of_motion, told_of_losses}
+use Rattle.route_plain.specs.Loss.{mark_of}
+use Rattle.route_plain.specs.Route.{step_of, to_channel, said_up_to, said_at}
+use Rattle.route_plain.specs.Telling.{is_watching, outside_of, told_moved, told_lost, told_losses}
 use Rattle.route_plain.specs.Changing.{IsChange}
 use Rattle.route_plain.proofs.Gains.{pairs_of-gained}
 use Rattle.route_plain.proofs.Listings.{or_else-nil}
@@ -80,40 +77,54 @@ one_device f (suc (suc (suc (suc (suc (suc (suc zero))))))) p q = append-nil (f 
 one_device f (suc (suc (suc (suc (suc (suc (suc (suc zero)))))))) p q = append-nil (f 8)
 one_device f (suc (suc (suc (suc (suc (suc (suc (suc (suc e))))))))) p q = absurd (omega (arith, q))
 
+-- what a motion is to a window, row by row
 outside_by : (b : Bool) (d : ℕ) (p : Pointer) → (if b then plain d Outside (p ∷ []) ∷ [] else []) ≡ outside_of d (if b then Some p else None)
 outside_by true d p = refl
 outside_by false d p = refl
 
--- what the rules say of a motion is what is told
-told_motion_is : (s : Scene) (m : Motion) (p : Option Pointer) (w : ℕ) (b l : ℕ → Bool)
-    → told_here m p (s.last m.device) b l (is_watching s m p w) ≡ told_motion s m p w b l
-told_motion_is s m None w b l = ap (or_else (cancels m.device (s.last m.device) b l)) (or_else-nil (moves m.device (listing l m.pointers)))
-told_motion_is s m (Some p) w b l =
-    ap
-    (λ ys.
-    if l p.id && not (b p.id) then opening m.device p.id (listing l m.pointers) ∷ []
-    else if is_up m.action && b p.id then closing m.device p.id (listing b m.pointers) ∷ []
-    else or_else (cancels m.device (s.last m.device) b l) (or_else (moves m.device (listing l m.pointers)) ys))
-    (sym (outside_by (is_first m.action && s.able w && is_watcher_at s.windows s.live p.at.x p.at.y w) m.device p))
+pub row_unchanged : (s : Scene) (m : Motion) (w : ℕ) (b l : ℕ → Bool)
+    → or_else (cancels m.device (s.last m.device) b l) (or_else (moves m.device (listing l m.pointers)) (outside_of m.device None)) ≡ told_motion s m None w b l
+row_unchanged s m w b l = ap (or_else (cancels m.device (s.last m.device) b l)) (or_else-nil (moves m.device (listing l m.pointers)))
 
--- what is held after a turn is what the rules say is
-held_after_is : (s : Scene) (e : Step) (n : ℕ) (hs gained : List Hold) (loss : Loss) → s.holds ≡ has (pairs_of hs) → IsChange s e n hs gained loss
-    → (c d : ℕ) → held_after gained (taking_of s.windows loss) hs c d ≡ after s (mark s e) c d
-held_after_is s e n hs gained loss h x c d =
-    ap₂ (λ qs t. λ i. has qs c d i || has (pairs_of hs) c d i && not (takes t c d i)) (ap pairs_of x.gains ∙ pairs_of-gained n hs (given s e)) x.loses
-    ∙ ap (λ f. λ i. has (given s e) c d i || f c d i && not (takes (taken s e) c d i)) (sym h)
+pub row_given : (s : Scene) (m : Motion) (p : Pointer) (w : ℕ) (b l : ℕ → Bool) → (l p.id && not (b p.id)) ≡ true
+    → opening m.device p.id (listing l m.pointers) ∷ [] ≡ told_motion s m (Some p) w b l
+row_given s m p w b l e = rw e refl
+
+pub row_up : (s : Scene) (m : Motion) (p : Pointer) (w : ℕ) (b l : ℕ → Bool) → (l p.id && not (b p.id)) ≡ false → (is_up m.action && b p.id) ≡ true
+    → closing m.device p.id (is_cancelled m.action m.flags) (listing b m.pointers) ∷ [] ≡ told_motion s m (Some p) w b l
+row_up s m p w b l e f = rw (e, f) refl
+
+pub row_rest : (s : Scene) (m : Motion) (p : Pointer) (w : ℕ) (b l : ℕ → Bool) → (l p.id && not (b p.id)) ≡ false → (is_up m.action && b p.id) ≡ false
+    → or_else (cancels m.device (s.last m.device) b l)
+    (or_else (moves m.device (listing l m.pointers)) (outside_of m.device (if is_watching s m (Some p) w then Some p else None)))
+    ≡ told_motion s m (Some p) w b l
+row_rest s m p w b l e f =
+    rw (e, f)
+    (ap (λ ys. or_else (cancels m.device (s.last m.device) b l) (or_else (moves m.device (listing l m.pointers)) ys))
+    (sym (outside_by (is_watching s m (Some p) w) m.device p)))
+
+-- what is told, by what is held before and later
+pub same_told : (s : Scene) (m : Motion) (w : ℕ) (b b' l l' : ℕ → Bool) → b ≡ b' → l ≡ l' → told_motion s m (changed m) w b l ≡ told_motion s m (changed m) w b' l'
+same_told s m w b b' l l' e f = λ k. told_motion s m (changed m) w (e k) (f k)
+
+pub same_cancels : (d : ℕ) (last last' : List Pointer) (b b' l l' : ℕ → Bool) → last ≡ last' → b ≡ b' → l ≡ l' → cancels d last b l ≡ cancels d last' b' l'
+same_cancels d last last' b b' l l' e f g = λ k. cancels d (e k) (f k) (g k)
+
+-- the mark of a change is that of its step
+mark_is : (s : Scene) (e : Step) (n : ℕ) (hs gained : List Hold) (loss : Loss) → IsChange s e n hs gained loss → mark_of s.windows gained loss ≡ mark s e
+mark_is s e n hs gained loss x =
+    let gains : pairs_of gained ≡ given s e = ap pairs_of x.gains ∙ pairs_of-gained n hs (given s e) in
+    λ k. record { given = gains k; taken = x.loses k }
 
 -- what is said of a motion is what the rules say
-pub said_of_motion_is : (s : Scene) (m : Motion) (n : ℕ) (hs gained : List Hold) (loss : Loss) → s.holds ≡ has (pairs_of hs)
+pub said_of_motion_is : (s : Scene) (m : Motion) (n : ℕ) (hs gained : List Hold) (loss : Loss)
     → IsChange s (Moves m) n hs gained loss → 1 ≤ m.device → m.device ≤ 8
-    → said_up_to (told_of_motion s m gained (taking_of s.windows loss) hs) 64 ≡ said_at s (Moves m)
-said_of_motion_is s m n hs gained loss h x p q =
-    ap (λ f. said_up_to f 64)
+    → said_up_to (told_moved s (mark_of s.windows gained loss) m) 64 ≡ said_at s (Moves m)
+said_of_motion_is s m n hs gained loss x p q =
+    ap (λ (k : Mark). said_up_to (told_moved s k m) 64) (mark_is s (Moves m) n hs gained loss x)
+    ∙ ap (λ f. said_up_to f 64)
     (fun_ext
-    (λ c. ap₂ (λ b l. told_here m (changed m) (s.last m.device) b l (is_watching s m (changed m) c)) (ap (λ f. f c m.device) (sym h))
-    (held_after_is s (Moves m) n hs gained loss h x c m.device)
-    ∙ told_motion_is s m (changed m) c (s.holds c m.device) (after s (mark s (Moves m)) c m.device)
-    ∙ sym (one_device (λ d. told_motion s m (changed m) c (s.holds c d) (after s (mark s (Moves m)) c d)) m.device p q)))
+    (λ c. sym (one_device (λ d. told_motion s m (changed m) c (s.holds c d) (after s (mark s (Moves m)) c d)) m.device p q)))
 
 -- what is said where a channel is removed is nothing
 pub said_of_removal : (s : Scene) (c : ℕ) → said_at s (Removes c) ≡ []
@@ -126,35 +137,21 @@ IsLoss (Removes c) = ⊥
 IsLoss Rests = ⊥
 IsLoss e = Unit {0}
 
-cancelled : (s : Scene) (e : Step) → IsLoss e → (k : Mark) (c d : ℕ) → cancels d (s.last d) (s.holds c d) (after s k c d) ≡ told_with s e k c d
-cancelled s (Moves m) i k c d = absurd i
-cancelled s (Removes v) i k c d = absurd i
-cancelled s Rests i k c d = absurd i
-cancelled s (Resets e) i k c d = refl
-cancelled s (Pilfers w e) i k c d = refl
-cancelled s (Shows names) i k c d = refl
-cancelled s (Mutes muted) i k c d = refl
-
-none_given : (s : Scene) (e : Step) → IsLoss e → given s e ≡ []
-none_given s (Moves m) i = absurd i
-none_given s (Removes v) i = absurd i
-none_given s Rests i = absurd i
-none_given s (Resets e) i = refl
-none_given s (Pilfers w e) i = refl
-none_given s (Shows names) i = refl
-none_given s (Mutes muted) i = refl
+lost_told : (s : Scene) (e : Step) → IsLoss e → (k : Mark) (c d : ℕ) → told_lost s k c d ≡ told_with s e k c d
+lost_told s (Moves m) i k c d = absurd i
+lost_told s (Removes v) i k c d = absurd i
+lost_told s Rests i k c d = absurd i
+lost_told s (Resets e) i k c d = refl
+lost_told s (Pilfers w e) i k c d = refl
+lost_told s (Shows stays) i k c d = refl
+lost_told s (Mutes muted) i k c d = refl
 
 -- what is said of a loss is what the rules say
-pub said_of_loss_is : (s : Scene) (e : Step) (n : ℕ) (hs gained : List Hold) (loss : Loss) → s.holds ≡ has (pairs_of hs)
-    → IsLoss e → IsChange s e n hs gained loss → said_up_to (told_of_losses s (taking_of s.windows loss) hs) 64 ≡ said_at s e
-said_of_loss_is s e n hs gained loss h i x =
-    ap (λ f. said_up_to f 64)
-    (fun_ext
-    (λ c. ap (λ f. flat_map f devices)
-    (fun_ext
-    (λ d. ap₂ (λ b l. cancels d (s.last d) b l) (ap (λ f. f c d) (sym h))
-    (held_after_is s e n hs [] loss h (record { gains = sym (ap (map (hold_from n hs)) (none_given s e i)); loses = x.loses }) c d)
-    ∙ cancelled s e i (mark s e) c d))))
+pub said_of_loss_is : (s : Scene) (e : Step) (n : ℕ) (hs gained : List Hold) (loss : Loss) → IsLoss e → IsChange s e n hs gained loss
+    → said_up_to (told_losses s (mark_of s.windows gained loss)) 64 ≡ said_at s e
+said_of_loss_is s e n hs gained loss i x =
+    ap (λ (k : Mark). said_up_to (told_losses s k) 64) (mark_is s e n hs gained loss x)
+    ∙ ap (λ f. said_up_to f 64) (fun_ext (λ c. ap (λ f. flat_map f devices) (fun_ext (lost_told s e i (mark s e) c))))
 
 -- a turn that is no motion and no removal is a loss
 pub is_loss : (turn : Turn) (windows : List Window) → ((m : Motion) → turn ≡ Pointers m → ⊥) → ((c : ℕ) → turn ≡ Forget c → ⊥) → IsLoss (step_of turn windows)
@@ -164,13 +161,3 @@ is_loss (Reset d) windows h k = tt
 is_loss (Pilfer c d) windows h k = tt
 is_loss Windows windows h k = tt
 is_loss (Mute cs) windows h k = tt
-
--- what is told of a motion, by the last places and whether a window watches
-pub same_told_here : (m : Motion) (p p' : Option Pointer) (l l' : List Pointer) (b b' a a' : ℕ → Bool) (w w' : Bool) → p ≡ p' → l ≡ l' → b ≡ b' → a ≡ a' → w ≡ w'
-    → told_here m p l b a w ≡ told_here m p' l' b' a' w'
-same_told_here m p p' l l' b b' a a' w w' d e f g h = λ k. told_here m (d k) (e k) (f k) (g k) (h k)
-
-pub told_of_motion_is : (s : Scene) (m : Motion) (gained : List Hold) (t : Taking) (hs : List Hold) (c : ℕ) (l : List Pointer) (w : Bool)
-    → l ≡ s.last m.device → w ≡ is_watching s m (changed m) c
-    → told_here m (changed m) l (has (pairs_of hs) c m.device) (held_after gained t hs c m.device) w ≡ told_of_motion s m gained t hs c
-told_of_motion_is s m gained t hs c l w e f = λ k. told_here m (changed m) (e k) (has (pairs_of hs) c m.device) (held_after gained t hs c m.device) (f k)

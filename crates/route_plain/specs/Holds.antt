@@ -1,11 +1,11 @@
 -- Who holds what, as the router keeps it: a list in the order in which it was given.
 use Rattle.std.specs.Prelude.{ℕ, Bool, false, ◌==◌, ◌&&◌, nat_lt, List, map, fold, filter, Option, Some, option_map}
 use Rattle.std.specs.List.{list_any, find}
+use Rattle.bits32.specs.Set.{marked}
 use Rattle.window_snapshot.specs.Mask.{mask_with}
 use Rattle.routing_rules.specs.Pairs.{Pair}
 use Rattle.route_plain.specs.declared.hold.Hold.{Hold}
 use Rattle.route_plain.specs.declared.hold.Pilferer.{Pilferer}
-use Rattle.route_plain.specs.IdSet.{set_with}
 
 -- the pair of a hold, and the pairs of the list
 abbrev pub pair_of : Hold → Pair
@@ -37,7 +37,7 @@ is_pilfering ps w d = list_any (λ p. p.window == w && p.device == d) ps
 
 -- a set with the ids of the window's holds on the device
 abbrev pub ids_with : ℕ → List Hold → ℕ → ℕ → ℕ
-ids_with set hs w d = fold (λ s h. set_with s h.id) set (filter (is_of w d) hs)
+ids_with set hs w d = fold (λ s h. marked h.id s) set (filter (is_of w d) hs)
 
 -- a mask with the windows of the holds besides
 abbrev pub channels_with : ℕ → List Hold → ℕ

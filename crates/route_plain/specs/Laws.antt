@@ -19,8 +19,8 @@ abbrev pub BeganBy : (ℕ → ℕ → ℕ) → List Hold → Type 0
 BeganBy f [] = Unit {0}
 BeganBy f (h ∷ hs) = (h.since ≡ f h.window h.device) × BeganBy f hs
 
--- What the router keeps is what the marks of its turns say, the newest first: how many there were, who holds what, since which turn
--- a window holds something of a device, who is pilfering, and that there are eight devices.
+-- What the router keeps is what the marks of its turns say, the newest first: how many there were, who holds what,
+-- since which turn a window holds something of a device, who is pilfering, and that there are eight devices.
 pub record Follows (ms : List Mark) (st : State) : Type 0 where
   pub turns : st.turns ≡ length ms
   pub holds : pairs_of st.holds ≡ held ms
@@ -38,14 +38,14 @@ TurnLaw =
     (ms : List Mark) (st : State) (s : Scene) (e : Step)
     → length ms < 2 ^ 64 - 1 → Follows ms st → Follows (mark s e ∷ ms) (state_after s e st)
 
--- Then the moment before a turn is the one that the marks make: of two windows that hold something of a device, the one whose number is
--- the lesser began first.
+-- Then the moment before a turn is the one that the marks make: of two windows that hold something of a device, the one
+-- whose number is the lesser began first.
 abbrev pub SceneLaw : Type 0
 SceneLaw =
     (ms : List Mark) (st : State) (windows : List Window) (live able : ℕ)
     → Follows ms st
     → scene_before st windows live able
-    ≡ scene_of windows (mask_has live) (mask_has able) (held ms)
+    ≡ scene_of windows (λ d. mask_has live) (mask_has able) (held ms)
     (λ v w d. has_any (held ms) v d && has_any (held ms) w d && nat_lt (since ms v d) (since ms w d)) (pilfering ms) (last_of st.last)
 
 -- each window that holds something passes the test
@@ -59,10 +59,11 @@ drops t w = false
 
 -- the windows that are named after a step
 abbrev pub named_after : Scene → Step → ℕ → Bool
-named_after s (Shows names) w = names w
+named_after s (Shows stays) w = stays w
 named_after s e w = is_named s.windows w
 
--- Who holds something after a turn is able to take input, where all were before, and is none of those from which the turn takes all.
+-- Who holds something after a turn is able to take input, where all were before, and is none of those from which the
+-- turn takes all.
 abbrev pub AbleLaw : Type 0
 AbleLaw =
     (st : State) (s : Scene) (e : Step)
@@ -79,8 +80,8 @@ abbrev pub IsOfDevices : Step → Type 0
 IsOfDevices (Moves m) = (1 ≤ m.device) × (m.device ≤ 8)
 IsOfDevices e = Unit {0}
 
--- What is held of a device after a turn is down on it, and its last motion listed it, where both were so before and the turn's motion may
--- come then.
+-- What is held of a device after a turn is down on it, and its last motion listed it, where both were so before and the
+-- turn's motion may come then.
 abbrev pub DownLaw : Type 0
 DownLaw =
     (st : State) (windows windows' : List Window) (live able live' able' : ℕ) (e : Step) (d : ℕ) (down next : List ℕ)

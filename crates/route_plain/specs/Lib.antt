@@ -1,4 +1,3 @@
-pub mod IdSet
 pub mod Holds
 pub mod State
 pub mod Loss

@@ -1,8 +1,5 @@
 -- A pointer that slips, as the router finds it.
-use Rattle.std.specs.Prelude.{ℕ, Bool, not, ◌&&◌, Option, Some, None}
-use Rattle.window_snapshot.specs.declared.window.Window.{Window}
-use Rattle.window_snapshot.specs.Window.{is_spy}
-use Rattle.routing_rules.specs.Scene.{Scene}
+use Rattle.std.specs.Prelude.{ℕ, Option, Some, None}
 use Rattle.routing_rules.specs.Slip.{Slip as RuleSlip}
 use Rattle.route_plain.specs.declared.slip.Slip.{Slip}
 use Rattle.route_plain.specs.declared.slip.Found.{Found}
@@ -23,7 +20,3 @@ abbrev pub the_one : Found → Option ℕ
 the_one Nobody = None
 the_one (One w) = Some w
 the_one Several = None
-
--- a window without SPY that holds this pointer
-abbrev pub is_holder_of : Scene → ℕ → ℕ → Window → Bool
-is_holder_of s d i v = not (is_spy v) && s.holds v.channel d i

@@ -8,8 +8,8 @@ use Rattle.route_plain.specs.declared.hold.Hold.{Hold}
 use Rattle.route_plain.specs.declared.hold.Pilferer.{Pilferer}
 use Rattle.route_plain.specs.Holds.{pairs_of, is_earlier, is_pilfering}
 
--- how many turns there were; who holds what; who is pilfering; and for each device, 1 first, its pointers at the places where its
--- last motion listed them
+-- how many turns there were; who holds what; who is pilfering; and for each device, 1 first, its pointers at the places
+-- where its last motion listed them
 pub record State : Type 0 where
   pub turns : ℕ
   pub holds : List Hold
@@ -20,10 +20,15 @@ pub record State : Type 0 where
 abbrev pub last_of : List (List Pointer) → ℕ → List Pointer
 last_of last d = slice_index_or last (d - 1) []
 
+-- the scene of these windows, of masks of live and able channels, and of what the router keeps: each device reaches
+-- each live channel
+abbrev pub scene_with : List Window → (live able : ℕ) → List Hold → List Pilferer → List (List Pointer) → Scene
+scene_with windows live able holds pilferers last =
+    scene_of windows (λ d. mask_has live) (mask_has able) (pairs_of holds) (is_earlier holds) (is_pilfering pilferers) (last_of last)
+
 -- the moment before a turn, with these windows and masks of live and able channels
 abbrev pub scene_before : State → List Window → ℕ → ℕ → Scene
-scene_before s windows live able =
-    scene_of windows (mask_has live) (mask_has able) (pairs_of s.holds) (is_earlier s.holds) (is_pilfering s.pilferers) (last_of s.last)
+scene_before s windows live able = scene_with windows live able s.holds s.pilferers s.last
 
 -- before the first turn
 abbrev pub fresh : State

@@ -1,12 +1,12 @@
 //! What a turn gives and takes.
-ghost use Rattle.std.specs.Prelude.{◌≡◌, ℕ, [], ◌∷◌, map, filter, option_map, IfOk, unwrap_or};
+ghost use Rattle.std.specs.Prelude.{◌≡◌, ℕ, [], ◌∷◌, ◌&&◌, ◌||◌, not, map, filter, option_map, IfOk, unwrap_or};
 ghost use Rattle.window_snapshot.specs.Mask.{mask_has};
 ghost use Rattle.window_snapshot.specs.Hits.{is_spy_at};
 ghost use Rattle.routing_rules.specs.Scene.{Moves};
 ghost use Rattle.routing_rules.specs.Slip.{slip};
 ghost use Rattle.routing_rules.specs.Given.{given, taken, pairs, slips_in, changed};
 ghost use Rattle.routing_rules.specs.Choice.{takers};
-ghost use Rattle.route_plain.specs.Choosing.{is_candidate_of, is_taker};
+ghost use Rattle.route_plain.specs.Choosing.{is_candidate_of};
 ghost use Rattle.route_plain.specs.Loss.{taking_of};
 ghost use Rattle.route_plain.specs.Moment.{scene_at};
 ghost use Rattle.route_plain.specs.Route.{hold_from, step_of};
@@ -19,17 +19,18 @@ use crate::loss::Loss;
 use crate::moment::Moment;
 use crate::slip::{Slip, slip_of};
 use crate::turn::Turn;
+use bits32::Bits32;
 use input_types::{DeviceId, Motion, MotionAction, Pixel, Pointer, PointerId};
 use std::alloc::{AllocError, Global};
 
-// What a turn gives, in the order in which it stands behind what was held, and what it takes.
+/// What a turn gives, in the order in which it stands behind what was held, and what it takes.
 #[derive(Drop)]
 pub(crate) struct Change {
     pub(crate) gained: Vec<Hold>,
     pub(crate) loss: Loss,
 }
 
-// The hold of a window that is given a pointer at a turn.
+/// The hold of a window that is given a pointer at a turn.
 fn hold_from(moment: &Moment, turn: u64, window: u32, device: DeviceId, id: PointerId) -> Hold
     ensures { result ≡ hold_from turn moment.now.holds.now (record { window = window; device = device; id = id }) }
 {
@@ -41,7 +42,7 @@ fn hold_from(moment: &Moment, turn: u64, window: u32, device: DeviceId, id: Poin
     }
 }
 
-// The holds of those that get a pointer, of these candidates.
+/// The holds of those that get a pointer, of these candidates.
 fn taken_by(
     alloc: Global,
     moment: &Moment,
@@ -53,7 +54,7 @@ fn taken_by(
     some_pilfering: bool,
 ) -> Result<Vec<Hold>, AllocError>
     ensures { let s = scene_at moment.now in
-        IfOk result (λ v. v.items ≡ map (λ w. hold_from turn moment.now.holds.now (record { window = w.channel; device = device; id = id })) (filter (λ w. is_taker s device (is_candidate_of chosen (mask_has spies)) some_pilfering w.channel) s.windows)) }
+        IfOk result (λ v. v.items ≡ map (λ w. hold_from turn moment.now.holds.now (record { window = w.channel; device = device; id = id })) (filter (λ w. is_candidate_of chosen (mask_has spies) w.channel && (s.pilfering w.channel device || not some_pilfering) && s.able w.channel) s.windows)) }
 {
     moment
         .snapshot
@@ -71,14 +72,14 @@ fn taken_by(
         .collect(alloc)
 }
 
-// The spies of the snapshot at a point.
-fn spies(moment: &Moment, at: Pixel) -> u64
-    ensures { let s = scene_at moment.now in (c : ℕ) → mask_has result c ≡ is_spy_at s.windows s.live at.x at.y c }
+/// The spies of the snapshot at a point.
+fn spies(moment: &Moment, device: DeviceId, at: Pixel) -> u64
+    ensures { let s = scene_at moment.now in (c : ℕ) → mask_has result c ≡ is_spy_at s.windows (s.reach device) at.x at.y c }
 {
     moment.snapshot.spies(at.x, at.y, moment.live)
 }
 
-// The holds of those that get a pointer that goes down.
+/// The holds of those that get a pointer that goes down.
 fn gained_down(
     alloc: Global,
     moment: &Moment,
@@ -90,12 +91,12 @@ fn gained_down(
         IfOk result (λ v. v.items ≡ map (hold_from turn moment.now.holds.now) (pairs device pointer.id (takers s device pointer.at))) }
 {
     let chosen = chosen(moment, device, pointer.at);
-    let spies = spies(moment, pointer.at);
+    let spies = spies(moment, device, pointer.at);
     let some = some_pilfering(moment, device, chosen, spies);
     taken_by(alloc, moment, turn, device, pointer.id, chosen, spies, some)
 }
 
-// The hold of the window that a pointer slips to.
+/// The hold of the window that a pointer slips to.
 fn gained_slip(
     alloc: Global,
     moment: &Moment,
@@ -113,14 +114,14 @@ fn gained_slip(
     Ok(gained)
 }
 
-// The pointer that goes down or up with a motion, or the first one of a move.
+/// The pointer that goes down or up with a motion, or the first one of a move.
 pub(crate) fn changed(motion: &Motion) -> Option<Pointer>
     ensures { result ≡ changed motion.now }
 {
     motion.pointers.get(usize::from(motion.index))
 }
 
-// What a motion gives.
+/// What a motion gives.
 fn gained(
     alloc: Global,
     moment: &Moment,
@@ -147,7 +148,7 @@ fn gained(
     }
 }
 
-// What a motion takes.
+/// What a motion takes.
 fn lost(moment: &Moment, motion: &Motion, slipped: Option<Slip>) -> Loss
     requires { option_map rule_slip slipped ≡ slip (scene_at moment.now) motion.now }
     ensures { taking_of moment.now.snapshot.now result ≡ taken (scene_at moment.now) (Moves motion.now) }
@@ -156,7 +157,7 @@ fn lost(moment: &Moment, motion: &Motion, slipped: Option<Slip>) -> Loss
         return Loss::None;
     };
     match motion.action {
-        MotionAction::Up | MotionAction::PointerUp => Loss::Lift {
+        MotionAction::Up | MotionAction::PointerUp | MotionAction::Cancel => Loss::Lift {
             device: motion.device,
             id: pointer.id,
         },
@@ -172,7 +173,7 @@ fn lost(moment: &Moment, motion: &Motion, slipped: Option<Slip>) -> Loss
     }
 }
 
-// What a motion changes.
+/// What a motion changes.
 fn change_by(
     alloc: Global,
     moment: &Moment,
@@ -187,7 +188,7 @@ fn change_by(
     Ok(Change { gained, loss })
 }
 
-// What a turn that is no motion takes; such a turn gives nothing.
+/// What a turn that is no motion takes; such a turn gives nothing.
 fn loss_of(moment: &Moment, turn: &Turn) -> Loss
     requires { IsNoMotion turn.now }
     ensures { let s = scene_at moment.now in taking_of s.windows result ≡ taken s (step_of turn.now s.windows) }
@@ -198,7 +199,7 @@ fn loss_of(moment: &Moment, turn: &Turn) -> Loss
         Turn::Pilfer { channel, device } => Loss::Pilfer {
             window: channel,
             device,
-            ids: ids_with(0, moment.holds, channel, device),
+            ids: ids_with(Bits32::empty(), moment.holds, channel, device),
         },
         Turn::Windows => Loss::Unnamed,
         Turn::Mute { channels } => Loss::Mute { channels },
@@ -206,7 +207,7 @@ fn loss_of(moment: &Moment, turn: &Turn) -> Loss
     }
 }
 
-// What a turn changes.
+/// What a turn changes.
 pub(crate) fn change_of(
     alloc: Global,
     moment: &Moment,

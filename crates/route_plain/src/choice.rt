@@ -1,5 +1,5 @@
 //! Who gets a pointer that goes down.
-ghost use Rattle.std.specs.Prelude.{◌≡◌, ◌&&◌, not, ℕ, map, filter, IfOk};
+ghost use Rattle.std.specs.Prelude.{◌≡◌, ◌&&◌, ◌||◌, not, ℕ, map, filter, IfOk};
 ghost use Rattle.std.specs.List.{list_any};
 ghost use Rattle.routing_rules.specs.Choice.{is_holder, sooner, earliest, is_alone, choose, chosen};
 ghost use Rattle.routing_rules.specs.Scene.{shows, which};
@@ -7,28 +7,28 @@ ghost use Rattle.window_snapshot.specs.Mask.{mask_has};
 ghost use Rattle.window_snapshot.specs.Window.{prevents_splitting};
 ghost use Rattle.window_snapshot.specs.Hits.{touched};
 ghost use Rattle.route_plain.specs.Moment.{scene_at};
-ghost use Rattle.route_plain.specs.Choosing.{is_whole_holder, is_candidate_of, is_pilfering_candidate, is_taker};
+ghost use Rattle.route_plain.specs.Choosing.{is_candidate_of};
 
 use crate::hold::{holds_any, is_earlier, is_pilfering};
 use crate::moment::Moment;
 use input_types::{DeviceId, Pixel};
 use window_snapshot::{Window, mask_has};
 
-// Whether the window is no spy and holds something of the device.
+/// Whether the window is no spy and holds something of the device.
 fn is_holder(moment: &Moment, device: DeviceId, window: &Window) -> bool
     ensures { result ≡ is_holder (scene_at moment.now) device window.now }
 {
     !window.is_spy() && holds_any(moment.holds, window.channel, device)
 }
 
-// Whether it prevents splitting besides.
+/// Whether it prevents splitting besides.
 fn is_whole_holder(moment: &Moment, device: DeviceId, window: &Window) -> bool
-    ensures { result ≡ is_whole_holder (scene_at moment.now) device window.now }
+    ensures { result ≡ (is_holder (scene_at moment.now) device window.now && prevents_splitting window.now) }
 {
     is_holder(moment, device, window) && window.prevents_splitting()
 }
 
-// Of the best so far and a window behind it, the one that began first.
+/// Of the best so far and a window behind it, the one that began first.
 fn sooner(moment: &Moment, device: DeviceId, best: Option<u32>, channel: u32) -> Option<u32>
     ensures { result ≡ sooner (scene_at moment.now) device best channel }
 {
@@ -44,7 +44,7 @@ fn sooner(moment: &Moment, device: DeviceId, best: Option<u32>, channel: u32) ->
     }
 }
 
-// The earliest holder.
+/// The earliest holder.
 fn earliest_holder(moment: &Moment, device: DeviceId) -> Option<u32>
     ensures { let s = scene_at moment.now in result ≡ earliest s device (which s (is_holder s device)) }
 {
@@ -57,9 +57,9 @@ fn earliest_holder(moment: &Moment, device: DeviceId) -> Option<u32>
         .fold(None, |best, channel| sooner(moment, device, best, channel))
 }
 
-// The earliest holder that prevents splitting.
+/// The earliest holder that prevents splitting.
 fn earliest_whole_holder(moment: &Moment, device: DeviceId) -> Option<u32>
-    ensures { let s = scene_at moment.now in result ≡ earliest s device (which s (is_whole_holder s device)) }
+    ensures { let s = scene_at moment.now in result ≡ earliest s device (which s (λ v. is_holder s device v && prevents_splitting v)) }
 {
     moment
         .snapshot
@@ -70,7 +70,7 @@ fn earliest_whole_holder(moment: &Moment, device: DeviceId) -> Option<u32>
         .fold(None, |best, channel| sooner(moment, device, best, channel))
 }
 
-// Whether the channel's window prevents splitting.
+/// Whether the channel's window prevents splitting.
 fn shows_whole(moment: &Moment, channel: u32) -> bool
     ensures { result ≡ shows (scene_at moment.now) prevents_splitting channel }
 {
@@ -78,7 +78,7 @@ fn shows_whole(moment: &Moment, channel: u32) -> bool
         && window.prevents_splitting())
 }
 
-// Whether the touched window prevents splitting and holds nothing of the device.
+/// Whether the touched window prevents splitting and holds nothing of the device.
 fn is_alone(moment: &Moment, device: DeviceId, touched: Option<u32>) -> bool
     ensures { result ≡ is_alone (scene_at moment.now) device touched }
 {
@@ -88,7 +88,7 @@ fn is_alone(moment: &Moment, device: DeviceId, touched: Option<u32>) -> bool
     }
 }
 
-// The choice, as a table.
+/// The choice, as a table.
 fn choose(first: Option<u32>, whole: Option<u32>, touched: Option<u32>, alone: bool) -> Option<u32>
     ensures { result ≡ choose first whole touched alone }
 {
@@ -100,7 +100,7 @@ fn choose(first: Option<u32>, whole: Option<u32>, touched: Option<u32>, alone: b
     }
 }
 
-// The window that is chosen for a pointer that goes down there.
+/// The window that is chosen for a pointer that goes down there.
 pub(crate) fn chosen(moment: &Moment, device: DeviceId, at: Pixel) -> Option<u32>
     ensures { result ≡ chosen (scene_at moment.now) device at }
 {
@@ -110,7 +110,7 @@ pub(crate) fn chosen(moment: &Moment, device: DeviceId, at: Pixel) -> Option<u32
     choose(first, whole, touched, is_alone(moment, device, touched))
 }
 
-// Whether the window is the chosen one or one of these spies.
+/// Whether the window is the chosen one or one of these spies.
 fn is_candidate(chosen: Option<u32>, spies: u64, channel: u32) -> bool
     ensures { result ≡ is_candidate_of chosen (mask_has spies) channel }
 {
@@ -120,7 +120,7 @@ fn is_candidate(chosen: Option<u32>, spies: u64, channel: u32) -> bool
     }
 }
 
-// Whether a candidate is pilfering the device.
+/// Whether a candidate is pilfering the device.
 fn is_pilfering_candidate(
     moment: &Moment,
     device: DeviceId,
@@ -128,19 +128,19 @@ fn is_pilfering_candidate(
     spies: u64,
     channel: u32,
 ) -> bool
-    ensures { result ≡ is_pilfering_candidate (scene_at moment.now) device (is_candidate_of chosen (mask_has spies)) channel }
+    ensures { result ≡ (is_candidate_of chosen (mask_has spies) channel && (scene_at moment.now).pilfering channel device) }
 {
     is_candidate(chosen, spies, channel) && is_pilfering(moment.pilferers, channel, device)
 }
 
-// Whether some candidate is.
+/// Whether some candidate is.
 pub(crate) fn some_pilfering(
     moment: &Moment,
     device: DeviceId,
     chosen: Option<u32>,
     spies: u64,
 ) -> bool
-    ensures { let s = scene_at moment.now in result ≡ list_any (λ v. is_pilfering_candidate s device (is_candidate_of chosen (mask_has spies)) v.channel) s.windows }
+    ensures { let s = scene_at moment.now in result ≡ list_any (λ v. is_candidate_of chosen (mask_has spies) v.channel && s.pilfering v.channel device) s.windows }
 {
     moment.snapshot.windows().iter().any(|window| is_pilfering_candidate(
         moment,
@@ -151,7 +151,7 @@ pub(crate) fn some_pilfering(
     ))
 }
 
-// Whether the window gets a pointer that goes down.
+/// Whether the window gets a pointer that goes down.
 pub(crate) fn is_taker(
     moment: &Moment,
     device: DeviceId,
@@ -160,7 +160,7 @@ pub(crate) fn is_taker(
     some_pilfering: bool,
     channel: u32,
 ) -> bool
-    ensures { result ≡ is_taker (scene_at moment.now) device (is_candidate_of chosen (mask_has spies)) some_pilfering channel }
+    ensures { let s = scene_at moment.now in result ≡ (is_candidate_of chosen (mask_has spies) channel && (s.pilfering channel device || not some_pilfering) && s.able channel) }
 {
     is_candidate(chosen, spies, channel)
         && (is_pilfering(moment.pilferers, channel, device) || !some_pilfering)

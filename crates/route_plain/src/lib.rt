@@ -1,10 +1,12 @@
 //! The plain router: each pointer to its windows, over a plain list of who holds what.
 //!
-//! [`Plain`] keeps a list of holds: which window holds which pointer of which device, in the order in which it was given, and since
-//! which turn the window holds something of the device. Each [`Turn`] changes the list by the rules of `routing_rules`, and answers
-//! what each channel is told. It is slow and easy to believe; a faster router is held against it.
+//! [`Plain`] keeps a list of holds: which window holds which pointer of which device, in the order in which it was
+//! given, and since which turn the window holds something of the device. Each [`Turn`] changes the list by the rules of
+//! `routing_rules`, and answers what each channel is told. It is slow and easy to believe; a faster router is held
+//! against it.
 //!
-//! Two windows stand side by side, 1 on the left and 2 on the right, both live and responsive. The turns are those of two fingers:
+//! Two windows stand side by side, 1 on the left and 2 on the right, both live and responsive. The turns are those of
+//! two fingers:
 //!
 //! ```text
 //! turn                                             said                                    holds after it

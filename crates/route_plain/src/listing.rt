@@ -1,20 +1,17 @@
 //! Lists of pointers, and motions that list them.
-ghost use Rattle.std.specs.Prelude.{◌≡◌, ◌<◌, ◌==◌, ◌++◌, [], ◌∷◌, bit_and, bit_xor, length};
+ghost use Rattle.std.specs.Prelude.{◌≡◌, ◌<◌, ◌==◌, ◌++◌, [], ◌∷◌, if◌then◌else◌, length};
+ghost use Rattle.bits32.specs.Set.{is_in};
+ghost use Rattle.input_types.specs.Gestures.{flag_canceled};
 ghost use Rattle.input_types.specs.Pointers.{EndsBelow};
-ghost use Rattle.routing_rules.specs.Told.{listing, index_in, plain, opening, closing, is_up};
-ghost use Rattle.route_plain.specs.IdSet.{set_has};
+ghost use Rattle.routing_rules.specs.Told.{listing, index_in, plain, opening, closing, is_up, is_cancelled};
 
-use crate::hold::{set_has, set_with};
-use input_types::{DeviceId, Motion, MotionAction, Pointer, PointerId, Pointers, PushRefused};
+use crate::hold::has_id;
+use bits32::Bits32;
+use input_types::{
+    DeviceId, FLAG_CANCELED, Motion, MotionAction, Pointer, PointerId, Pointers, PushRefused,
+};
 
-// The ids of one set that another has not.
-pub(crate) fn set_without(set: u32, other: u32) -> u32
-    ensures { result ≡ bit_and set (bit_xor set other) }
-{
-    set & (set ^ other)
-}
-
-// Puts a pointer behind a list.
+/// Puts a pointer behind a list.
 fn put(list: &mut Pointers, pointer: Pointer)
     requires room { length list.old < 16 }
     requires rises { EndsBelow list.old pointer.id }
@@ -27,7 +24,7 @@ fn put(list: &mut Pointers, pointer: Pointer)
     }
 }
 
-// The list of one pointer.
+/// The list of one pointer.
 pub(crate) fn single(pointer: Pointer) -> Pointers
     ensures { result ≡ pointer ∷ [] }
 {
@@ -36,21 +33,20 @@ pub(crate) fn single(pointer: Pointer) -> Pointers
     list
 }
 
-// The pointers whose ids are in the set.
-pub(crate) fn listing(set: u32, pointers: &Pointers) -> Pointers
-    ensures { result ≡ listing (set_has set) pointers.now }
+/// The pointers whose ids are in the set.
+pub(crate) fn listing(set: Bits32, pointers: &Pointers) -> Pointers
+    ensures { result ≡ listing (λ i. is_in i set) pointers.now }
 {
     let mut listed = Pointers::empty();
-    let _count = pointers.len();
     for pointer in pointers.as_slice() {
-        if set_has(set, pointer.id) {
+        if has_id(set, pointer.id) {
             put(&mut listed, *pointer);
         }
     }
     listed
 }
 
-// The place of an id in the list.
+/// The place of an id in the list.
 fn index_in(pointers: &Pointers, id: PointerId) -> u8
     ensures { result ≡ index_in id pointers.now }
 {
@@ -63,7 +59,7 @@ fn index_in(pointers: &Pointers, id: PointerId) -> u8
     count as u8
 }
 
-// A motion about no pointer of its own.
+/// A motion about no pointer of its own.
 pub(crate) fn plain(device: DeviceId, action: MotionAction, pointers: &Pointers) -> Motion
     ensures { result ≡ plain device action pointers.now }
 {
@@ -76,7 +72,7 @@ pub(crate) fn plain(device: DeviceId, action: MotionAction, pointers: &Pointers)
     }
 }
 
-// A motion about the pointer with this id.
+/// A motion about the pointer with this id.
 pub(crate) fn about(
     device: DeviceId,
     action: MotionAction,
@@ -95,7 +91,7 @@ pub(crate) fn about(
     }
 }
 
-// A pointer goes down in a window that then has these.
+/// A pointer goes down in a window that then has these.
 pub(crate) fn opening(device: DeviceId, id: PointerId, pointers: &Pointers) -> Motion
     ensures { result ≡ opening device id pointers.now }
 {
@@ -105,22 +101,61 @@ pub(crate) fn opening(device: DeviceId, id: PointerId, pointers: &Pointers) -> M
     }
 }
 
-// A pointer goes up in a window that had these.
-pub(crate) fn closing(device: DeviceId, id: PointerId, pointers: &Pointers) -> Motion
-    ensures { result ≡ closing device id pointers.now }
+/// A pointer goes up in a window that had these.
+pub(crate) fn closing(
+    device: DeviceId,
+    id: PointerId,
+    cancelled: bool,
+    pointers: &Pointers,
+) -> Motion
+    ensures { result ≡ closing device id cancelled pointers.now }
 {
     match pointers.as_slice() {
-        [_] => plain(device, MotionAction::Up, pointers),
-        _ => about(device, MotionAction::PointerUp, id, 0, pointers),
+        [_] => plain(device, last_up(cancelled), pointers),
+        _ => about(
+            device,
+            MotionAction::PointerUp,
+            id,
+            up_flags(cancelled),
+            pointers,
+        ),
     }
 }
 
-// Whether it is an action with which a pointer goes up.
+/// The action with which the last pointer of a window goes up.
+fn last_up(cancelled: bool) -> MotionAction
+    ensures { result ≡ (if cancelled then MotionAction.Cancel else MotionAction.Up) }
+{
+    if cancelled {
+        MotionAction::Cancel
+    } else {
+        MotionAction::Up
+    }
+}
+
+/// The flags with which one of several pointers goes up.
+fn up_flags(cancelled: bool) -> u32
+    ensures { result ≡ (if cancelled then flag_canceled else 0) }
+{
+    if cancelled { FLAG_CANCELED } else { 0 }
+}
+
+/// Whether it is an action with which a pointer goes up.
 pub(crate) fn is_up(action: MotionAction) -> bool
     ensures { result ≡ is_up action }
 {
     match action {
-        MotionAction::Up | MotionAction::PointerUp => true,
+        MotionAction::Up | MotionAction::PointerUp | MotionAction::Cancel => true,
         _ => false,
+    }
+}
+
+/// Whether a motion with this action and these flags cancels what goes up with it.
+pub(crate) fn is_cancelled(action: MotionAction, flags: u32) -> bool
+    ensures { result ≡ is_cancelled action flags }
+{
+    match action {
+        MotionAction::Cancel => true,
+        _ => flags == FLAG_CANCELED,
     }
 }

@@ -1,8 +1,8 @@
 //! The router and its turns.
 ghost use Rattle.std.specs.Prelude.{◌≡◌, ℕ, ◌+◌, ◌≤◌, ◌++◌, [], ◌∷◌, not, filter, length, IfOk, OnOk, OnErr, List, vec_len, vec_capacity};
+ghost use Rattle.bits32.specs.Set.{is_in};
 ghost use Rattle.routing_rules.specs.Pairs.{has, has_any};
 ghost use Rattle.window_snapshot.specs.declared.window.Window.{Window};
-ghost use Rattle.route_plain.specs.IdSet.{set_has};
 ghost use Rattle.route_plain.specs.Holds.{pairs_of, is_pilfering};
 ghost use Rattle.route_plain.specs.Loss.{taking_of};
 ghost use Rattle.route_plain.specs.State.{scene_before, fresh};
@@ -14,6 +14,7 @@ use crate::loss::{Loss, is_taken};
 use crate::moment::Moment;
 use crate::said::said_at;
 use crate::turn::{Said, Turn};
+use bits32::Bits32;
 use input_types::{DeviceId, Pointers};
 use std::alloc::{AllocError, Global};
 use std::marker::Model;
@@ -21,8 +22,8 @@ use window_snapshot::{Snapshot, Window};
 
 /// The plain router: who holds what, as a list.
 ///
-/// A clause sees how many turns there were, the holds in the order in which they were given, the windows that are pilfering a device,
-/// and for each of the eight devices its pointers at the places where its last motion listed them.
+/// A clause sees how many turns there were, the holds in the order in which they were given, the windows that are
+/// pilfering a device, and for each of the eight devices its pointers at the places where its last motion listed them.
 #[derive(Drop)]
 pub struct Plain {
     turns: u64,
@@ -55,16 +56,18 @@ impl Plain {
         }
     }
 
-    /// Takes a turn, and answers what is said: in rising channel, and to one channel in the order in which it is told it. Places are
-    /// display pixels; whoever sends the motions takes off the origins of the windows.
+    /// Takes a turn, and answers what is said: in rising channel, and to one channel in the order in which it is told
+    /// it. Places are display pixels; whoever sends the motions takes off the origins of the windows. There is one
+    /// display: each device reaches each live window.
     ///
     /// `snapshot` is the current one, in a `Windows` turn the new one. `live` is the mask of the live channels and `able` that of those
     /// that are responsive besides.
     ///
-    /// The clauses hold of every turn. That nothing is said to a channel that is not live, and that each channel's motions are a stream,
-    /// rests on three conditions, which the layer above keeps: a motion may come after those of its device before it, by the rule of
-    /// devices; `able` lies within `live`; and each window that holds something is in `able` and, but in a `Windows` turn, is named by
-    /// the snapshot. [`crate::laws::holders`] says that a turn leaves them as they were.
+    /// The clauses hold of every turn. That nothing is said to a channel that is not live, and that each channel's
+    /// motions are a stream, rests on three conditions, which the layer above keeps: a motion may come after those of
+    /// its device before it, by the rule of devices; `able` lies within `live`; and each window that holds something is
+    /// in `able` and, but in a `Windows` turn, is named by the snapshot. [`crate::laws::holders`] says that a turn
+    /// leaves them as they were.
     ///
     /// For want of memory the router is as it was before.
     pub fn turn(
@@ -104,13 +107,13 @@ impl Plain {
 
     /// The ids of the pointers that a window holds of a device, as bits: bit `i` stands for pointer `i`.
     pub fn holds(&self, channel: u32, device: DeviceId) -> u32
-        ensures { set_has result ≡ has (pairs_of self.now.holds) channel device }
+        ensures { (i : ℕ) → is_in i result ≡ has (pairs_of self.now.holds) channel device i }
     {
-        ids_with(0, &self.holds, channel, device)
+        ids_with(Bits32::empty(), &self.holds, channel, device).bits()
     }
 }
 
-// Takes the holds away that a turn takes.
+/// Takes the holds away that a turn takes.
 fn lose(holds: &mut Vec<Hold>, loss: &Loss, windows: &[Window])
     ensures items { holds.new.items ≡ holds_left (taking_of windows.now loss.now) holds.old.items }
     ensures len { vec_len holds.new ≤ vec_len holds.old }
@@ -119,7 +122,7 @@ fn lose(holds: &mut Vec<Hold>, loss: &Loss, windows: &[Window])
     holds.retain(|hold| !is_taken(loss, windows, hold));
 }
 
-// Puts the holds behind that a turn gives; there is room.
+/// Puts the holds behind that a turn gives; there is room.
 fn gain(holds: &mut Vec<Hold>, gained: &[Hold])
     requires { vec_len holds.old + length gained.now ≤ vec_capacity holds.old }
     ensures { holds.new.items ≡ holds.old.items ++ gained.now }
@@ -130,7 +133,7 @@ fn gain(holds: &mut Vec<Hold>, gained: &[Hold])
     }
 }
 
-// Notes the window that pilfers at a turn; there is room.
+/// Notes the window that pilfers at a turn; there is room.
 fn note_pilferer(pilferers: &mut Vec<Pilferer>, turn: &Turn)
     requires { vec_len pilferers.old + 1 ≤ vec_capacity pilferers.old }
     ensures { (w : List Window) → pilferers.new.items ≡ with_pilferer (step_of turn.now w) pilferers.old.items }
@@ -145,14 +148,14 @@ fn note_pilferer(pilferers: &mut Vec<Pilferer>, turn: &Turn)
     }
 }
 
-// Lets go the pilferers that hold nothing of their device.
+/// Lets go the pilferers that hold nothing of their device.
 fn keep_pilferers(pilferers: &mut Vec<Pilferer>, holds: &[Hold])
     ensures { pilferers.new.items ≡ filter (λ p. has_any (pairs_of holds.now) p.window p.device) pilferers.old.items }
 {
     pilferers.retain(|pilferer| holds_any(holds, pilferer.window, pilferer.device));
 }
 
-// Notes where a motion's pointers are.
+/// Notes where a motion's pointers are.
 fn note_places(last: &mut [Pointers], turn: &Turn)
     requires { length last.old ≡ 8 }
     ensures { (w : List Window) → last.new ≡ last_after (step_of turn.now w) last.old }
@@ -163,7 +166,7 @@ fn note_places(last: &mut [Pointers], turn: &Turn)
     }
 }
 
-// The number of the next turn.
+/// The number of the next turn.
 fn next_turn(number: u64) -> u64
     ensures { result ≡ next_turn number }
 {

@@ -1,24 +1,24 @@
 //! A pointer that slips from one window to another.
-ghost use Rattle.std.specs.Prelude.{◌≡◌, fold, map, filter, option_map};
-ghost use Rattle.window_snapshot.specs.Window.{is_slippery};
+ghost use Rattle.std.specs.Prelude.{◌≡◌, ◌&&◌, not, fold, map, filter, option_map};
+ghost use Rattle.window_snapshot.specs.Window.{is_spy, is_slippery};
 ghost use Rattle.routing_rules.specs.Scene.{shows};
 ghost use Rattle.routing_rules.specs.Slip.{only, holders_of, slips_to, slip};
 ghost use Rattle.route_plain.specs.Moment.{scene_at};
-ghost use Rattle.route_plain.specs.Slipping.{rule_slip, and_one, the_one, is_holder_of};
+ghost use Rattle.route_plain.specs.Slipping.{rule_slip, and_one, the_one};
 
 use crate::hold::holds_pointer;
 use crate::moment::Moment;
 use input_types::{DeviceId, Motion, MotionAction, PointerId};
 use window_snapshot::{Window, mask_has};
 
-// From which window to which one a pointer slips.
+/// From which window to which one a pointer slips.
 #[derive(Clone, Copy)]
 pub(crate) struct Slip {
     pub(crate) from: u32,
     pub(crate) to: u32,
 }
 
-// The windows that were found.
+/// The windows that were found.
 #[derive(Clone, Copy)]
 enum Found {
     Nobody,
@@ -26,7 +26,7 @@ enum Found {
     Several,
 }
 
-// Those and one more.
+/// Those and one more.
 fn and_one(found: Found, channel: u32) -> Found
     ensures { result ≡ and_one found channel }
 {
@@ -36,7 +36,7 @@ fn and_one(found: Found, channel: u32) -> Found
     }
 }
 
-// The one that was found.
+/// The one that was found.
 fn the_one(found: Found) -> Option<u32>
     ensures { result ≡ the_one found }
 {
@@ -46,16 +46,16 @@ fn the_one(found: Found) -> Option<u32>
     }
 }
 
-// Whether the window is no spy and holds the pointer.
+/// Whether the window is no spy and holds the pointer.
 fn is_holder_of(moment: &Moment, device: DeviceId, id: PointerId, window: &Window) -> bool
-    ensures { result ≡ is_holder_of (scene_at moment.now) device id window.now }
+    ensures { result ≡ (not (is_spy window.now) && (scene_at moment.now).holds window.now.channel device id) }
 {
     !window.is_spy() && holds_pointer(moment.holds, window.channel, device, id)
 }
 
-// The windows without SPY that hold the pointer.
+/// The windows without SPY that hold the pointer.
 fn found_holders(moment: &Moment, device: DeviceId, id: PointerId) -> Found
-    ensures { let s = scene_at moment.now in result ≡ fold and_one Found.Nobody (map (λ v. v.channel) (filter (is_holder_of s device id) s.windows)) }
+    ensures { let s = scene_at moment.now in result ≡ fold and_one Found.Nobody (map (λ v. v.channel) (filter (λ v. not (is_spy v) && s.holds v.channel device id) s.windows)) }
 {
     moment
         .snapshot
@@ -66,14 +66,14 @@ fn found_holders(moment: &Moment, device: DeviceId, id: PointerId) -> Found
         .fold(Found::Nobody, |found, channel| and_one(found, channel))
 }
 
-// The only window without SPY that holds the pointer.
+/// The only window without SPY that holds the pointer.
 fn only_holder(moment: &Moment, device: DeviceId, id: PointerId) -> Option<u32>
     ensures { result ≡ only (holders_of (scene_at moment.now) device id) }
 {
     the_one(found_holders(moment, device, id))
 }
 
-// Whether the channel's window is slippery.
+/// Whether the channel's window is slippery.
 fn is_slippery(moment: &Moment, channel: u32) -> bool
     ensures { result ≡ shows (scene_at moment.now) is_slippery channel }
 {
@@ -84,7 +84,7 @@ fn is_slippery(moment: &Moment, channel: u32) -> bool
         .any(|window| window.channel == channel && window.is_slippery())
 }
 
-// From the one holder to the touched window, where it may slip there.
+/// From the one holder to the touched window, where it may slip there.
 fn slips_to(moment: &Moment, holder: Option<u32>, touched: Option<u32>) -> Option<Slip>
     ensures { option_map rule_slip result ≡ slips_to (scene_at moment.now) holder touched }
 {
@@ -100,7 +100,7 @@ fn slips_to(moment: &Moment, holder: Option<u32>, touched: Option<u32>) -> Optio
     }
 }
 
-// Whether a motion lets a pointer slip: a move that lists it alone.
+/// Whether a motion lets a pointer slip: a move that lists it alone.
 pub(crate) fn slip_of(moment: &Moment, motion: &Motion) -> Option<Slip>
     ensures { option_map rule_slip result ≡ slip (scene_at moment.now) motion.now }
 {

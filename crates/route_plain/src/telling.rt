@@ -1,92 +1,138 @@
-//! What one channel is told.
-ghost use Rattle.std.specs.Prelude.{◌≡◌, ◌++◌, [], ◌∷◌, ◌&&◌, not, OnOk};
+//! What one channel is told of a device.
+ghost use Rattle.std.specs.Prelude.{◌≡◌, ◌++◌, [], ◌∷◌, ◌&&◌, not, length, Some, OnOk};
+ghost use Rattle.std.specs.List.{list_any};
+ghost use Rattle.bits32.specs.Set.{is_in};
 ghost use Rattle.routing_rules.specs.Given.{changed};
-ghost use Rattle.routing_rules.specs.Told.{listing, cancelled_ups, cancels_of, cancels};
-ghost use Rattle.route_plain.specs.IdSet.{set_has};
+ghost use Rattle.routing_rules.specs.Told.{listing, cancelled_ups, cancels, moves, or_else, told_motion};
+ghost use Rattle.route_plain.specs.Moment.{scene_at};
 ghost use Rattle.route_plain.specs.Route.{to_channel};
-ghost use Rattle.route_plain.specs.Telling.{outside_of, told_others, told_here, is_silent};
+ghost use Rattle.route_plain.specs.Telling.{is_watching, outside_of};
 
 use crate::change::changed;
-use crate::hold::{set_has, set_with};
-use crate::listing::{about, closing, is_up, listing, opening, plain, set_without, single};
+use crate::hold::has_id;
+use crate::listing::{about, closing, is_cancelled, is_up, listing, opening, plain, single};
+use crate::moment::{Moment, last_of};
 use crate::turn::Said;
-use input_types::{DeviceId, FLAG_CANCELED, Motion, MotionAction, Pointer, Pointers};
+use bits32::Bits32;
+use input_types::{DeviceId, FLAG_CANCELED, Motion, MotionAction, Pointer, PointerId, Pointers};
 use std::alloc::AllocError;
 
-// Says a motion to a channel.
-fn say(out: &mut Vec<Said>, channel: u32, motion: Motion) -> Result<(), AllocError>
-    ensures { OnOk result (out.new.items ≡ out.old.items ++ to_channel channel (motion ∷ [])) }
-{
-    out.push(Said { channel, motion })?;
-    Ok(())
+/// The ids that a window holds of a device before and after a turn.
+#[derive(Clone, Copy)]
+pub(crate) struct Held {
+    pub(crate) before: Bits32,
+    pub(crate) later: Bits32,
 }
 
-// Says one cancelled up for each lost pointer of the ids that the channel had.
-fn tell_cancelled_ups(
+/// Says to a channel what a motion is to it.
+pub(crate) fn tell_motion(
+    out: &mut Vec<Said>,
+    channel: u32,
+    moment: &Moment,
+    motion: &Motion,
+    held: &Held,
+    watching: bool,
+) -> Result<(), AllocError>
+    requires whole { length moment.now.last.now ≡ 8 }
+    requires watching { watching ≡ is_watching (scene_at moment.now) motion.now (changed motion.now) channel }
+    ensures { OnOk result (out.new.items ≡ out.old.items ++ to_channel channel (told_motion (scene_at moment.now) motion.now (changed motion.now) channel (λ i. is_in i held.now.before) (λ i. is_in i held.now.later))) }
+{
+    match changed(motion) {
+        Some(pointer) => tell_changed(out, channel, moment, motion, pointer, held, watching),
+        None => tell_rest(out, channel, moment, motion, held, None),
+    }
+}
+
+/// Says to a channel what it loses of a device.
+pub(crate) fn tell_cancels(
     out: &mut Vec<Said>,
     channel: u32,
     device: DeviceId,
     last: &Pointers,
-    before: u32,
-    lost: &Pointers,
+    held: &Held,
 ) -> Result<(), AllocError>
-    ensures { OnOk result (out.new.items ≡ out.old.items ++ to_channel channel (cancelled_ups device (listing (set_has before) last.now) lost.now)) }
+    ensures { OnOk result (out.new.items ≡ out.old.items ++ to_channel channel (cancels device last.now (λ i. is_in i held.now.before) (λ i. is_in i held.now.later))) }
 {
-    let mut ids = before;
-    for pointer in lost.as_slice() {
-        let held = listing(ids, last);
-        let up = about(
-            device,
-            MotionAction::PointerUp,
-            pointer.id,
-            FLAG_CANCELED,
-            &held,
-        );
-        say(out, channel, up)?;
-        ids = set_without(ids, set_with(0, pointer.id));
-    }
-    Ok(())
-}
-
-// Says what is lost of what the channel had, with what it keeps.
-fn tell_lost(
-    out: &mut Vec<Said>,
-    channel: u32,
-    device: DeviceId,
-    last: &Pointers,
-    before: u32,
-    later: u32,
-    lost: &Pointers,
-) -> Result<(), AllocError>
-    ensures { OnOk result (out.new.items ≡ out.old.items ++ to_channel channel (cancels_of device (listing (set_has before) last.now) (listing (set_has later) last.now) lost.now)) }
-{
-    if lost.is_empty() {
-        return Ok(());
-    }
-    if listing(later, last).is_empty() {
-        let had = listing(before, last);
+    if loses_some(last, held) {
+        if lists_some(held.later, last) {
+            return tell_ups(out, channel, device, last, held);
+        }
+        let had = listing(held.before, last);
         return say(out, channel, plain(device, MotionAction::Cancel, &had));
     }
-    tell_cancelled_ups(out, channel, device, last, before, lost)
+    Ok(())
 }
 
-// The pointers of ids that a channel had before and has no longer.
-pub(crate) fn lost_of(last: &Pointers, before: u32, later: u32) -> Pointers
-    ensures { result ≡ listing (λ i. set_has before i && not (set_has later i)) last.now }
+/// Says to a channel what a motion is to it that has a changed pointer.
+fn tell_changed(
+    out: &mut Vec<Said>,
+    channel: u32,
+    moment: &Moment,
+    motion: &Motion,
+    pointer: Pointer,
+    held: &Held,
+    watching: bool,
+) -> Result<(), AllocError>
+    requires whole { length moment.now.last.now ≡ 8 }
+    requires watching { watching ≡ is_watching (scene_at moment.now) motion.now (Some pointer) channel }
+    ensures { OnOk result (out.new.items ≡ out.old.items ++ to_channel channel (told_motion (scene_at moment.now) motion.now (Some pointer) channel (λ i. is_in i held.now.before) (λ i. is_in i held.now.later))) }
 {
-    listing(set_without(before, later), last)
+    if is_given(held, pointer.id) {
+        let now = listing(held.later, &motion.pointers);
+        return say(out, channel, opening(motion.device, pointer.id, &now));
+    }
+    if is_up(motion.action) && has_id(held.before, pointer.id) {
+        let had = listing(held.before, &motion.pointers);
+        let cancelled = is_cancelled(motion.action, motion.flags);
+        return say(
+            out,
+            channel,
+            closing(motion.device, pointer.id, cancelled, &had),
+        );
+    }
+    let watched = if watching { Some(pointer) } else { None };
+    tell_rest(out, channel, moment, motion, held, watched)
 }
 
-// Says that a pointer is outside, where there is one.
+/// Says to a channel what it loses, else what moves, else that a pointer is outside where it watches this one.
+fn tell_rest(
+    out: &mut Vec<Said>,
+    channel: u32,
+    moment: &Moment,
+    motion: &Motion,
+    held: &Held,
+    watched: Option<Pointer>,
+) -> Result<(), AllocError>
+    requires { length moment.now.last.now ≡ 8 }
+    ensures { let s = scene_at moment.now in
+        let m = motion.now in
+        OnOk result (out.new.items ≡ out.old.items ++ to_channel channel (or_else (cancels m.device (s.last m.device) (λ i. is_in i held.now.before) (λ i. is_in i held.now.later)) (or_else (moves m.device (listing (λ i. is_in i held.now.later) m.pointers)) (outside_of m.device watched)))) }
+{
+    let last = last_of(moment.last, motion.device);
+    if loses_some(last, held) {
+        return tell_cancels(out, channel, motion.device, last, held);
+    }
+    if lists_some(held.later, &motion.pointers) {
+        let moving = listing(held.later, &motion.pointers);
+        return say(
+            out,
+            channel,
+            plain(motion.device, MotionAction::Move, &moving),
+        );
+    }
+    tell_outside(out, channel, motion.device, watched)
+}
+
+/// Says that a pointer is outside, where there is one.
 fn tell_outside(
     out: &mut Vec<Said>,
     channel: u32,
     device: DeviceId,
-    outside: Option<Pointer>,
+    watched: Option<Pointer>,
 ) -> Result<(), AllocError>
-    ensures { OnOk result (out.new.items ≡ out.old.items ++ to_channel channel (outside_of device outside)) }
+    ensures { OnOk result (out.new.items ≡ out.old.items ++ to_channel channel (outside_of device watched)) }
 {
-    match outside {
+    match watched {
         Some(pointer) => say(
             out,
             channel,
@@ -96,81 +142,71 @@ fn tell_outside(
     }
 }
 
-// Says to a channel what it loses, else what moves, else that a pointer is outside.
-fn tell_others(
-    out: &mut Vec<Said>,
-    channel: u32,
-    motion: &Motion,
-    last: &Pointers,
-    before: u32,
-    later: u32,
-    outside: Option<Pointer>,
-) -> Result<(), AllocError>
-    ensures { OnOk result (out.new.items ≡ out.old.items ++ to_channel channel (told_others motion.now last.now (set_has before) (set_has later) outside)) }
-{
-    let lost = lost_of(last, before, later);
-    if !lost.is_empty() {
-        return tell_lost(out, channel, motion.device, last, before, later, &lost);
-    }
-    let moving = listing(later, &motion.pointers);
-    if !moving.is_empty() {
-        return say(
-            out,
-            channel,
-            plain(motion.device, MotionAction::Move, &moving),
-        );
-    }
-    tell_outside(out, channel, motion.device, outside)
-}
-
-// Whether a channel neither has anything nor watches.
-fn is_silent(before: u32, later: u32, watching: bool) -> bool
-    ensures { result ≡ is_silent before later watching }
-{
-    before == 0 && later == 0 && !watching
-}
-
-// Says to a channel what a motion of the pointers that it has is to it.
-pub(crate) fn tell_motion(
-    out: &mut Vec<Said>,
-    channel: u32,
-    motion: &Motion,
-    last: &Pointers,
-    before: u32,
-    later: u32,
-    watching: bool,
-) -> Result<(), AllocError>
-    ensures { OnOk result (out.new.items ≡ out.old.items ++ to_channel channel (told_here motion.now (changed motion.now) last.now (set_has before) (set_has later) watching)) }
-{
-    if is_silent(before, later, watching) {
-        return Ok(());
-    }
-    let Some(pointer) = changed(motion) else {
-        return tell_others(out, channel, motion, last, before, later, None);
-    };
-    if set_has(later, pointer.id) && !set_has(before, pointer.id) {
-        let now = listing(later, &motion.pointers);
-        return say(out, channel, opening(motion.device, pointer.id, &now));
-    }
-    if is_up(motion.action) && set_has(before, pointer.id) {
-        let had = listing(before, &motion.pointers);
-        return say(out, channel, closing(motion.device, pointer.id, &had));
-    }
-    let outside = if watching { Some(pointer) } else { None };
-    tell_others(out, channel, motion, last, before, later, outside)
-}
-
-// Says to a channel what it loses of a device.
-pub(crate) fn tell_cancels(
+/// Says one cancelled up after the other of what the window loses, each listing what is left with it.
+fn tell_ups(
     out: &mut Vec<Said>,
     channel: u32,
     device: DeviceId,
     last: &Pointers,
-    before: u32,
-    later: u32,
+    held: &Held,
 ) -> Result<(), AllocError>
-    ensures { OnOk result (out.new.items ≡ out.old.items ++ to_channel channel (cancels device last.now (set_has before) (set_has later))) }
+    ensures { OnOk result (out.new.items ≡ out.old.items ++ to_channel channel (cancelled_ups device (listing (λ i. is_in i held.now.before) last.now) (listing (λ i. is_in i held.now.before && not (is_in i held.now.later)) last.now))) }
 {
-    let lost = lost_of(last, before, later);
-    tell_lost(out, channel, device, last, before, later, &lost)
+    let mut ids = held.before;
+    for pointer in last.as_slice() {
+        if is_lost(held, pointer.id) {
+            let left = listing(ids, last);
+            let up = about(
+                device,
+                MotionAction::PointerUp,
+                pointer.id,
+                FLAG_CANCELED,
+                &left,
+            );
+            say(out, channel, up)?;
+            ids.clear(pointer.id.get());
+        }
+    }
+    Ok(())
+}
+
+/// Says a motion to a channel.
+fn say(out: &mut Vec<Said>, channel: u32, motion: Motion) -> Result<(), AllocError>
+    ensures { OnOk result (out.new.items ≡ out.old.items ++ to_channel channel (motion ∷ [])) }
+{
+    out.push(Said { channel, motion })?;
+    Ok(())
+}
+
+/// Whether the window is given the pointer with this id.
+fn is_given(held: &Held, id: PointerId) -> bool
+    ensures { result ≡ (is_in id held.now.later && not (is_in id held.now.before)) }
+{
+    has_id(held.later, id) && !has_id(held.before, id)
+}
+
+/// Whether the window loses the pointer with this id.
+fn is_lost(held: &Held, id: PointerId) -> bool
+    ensures { result ≡ (is_in id held.now.before && not (is_in id held.now.later)) }
+{
+    has_id(held.before, id) && !has_id(held.later, id)
+}
+
+/// Whether the window loses one of the pointers.
+fn loses_some(last: &Pointers, held: &Held) -> bool
+    ensures { result ≡ list_any (λ p. is_in p.id held.now.before && not (is_in p.id held.now.later)) last.now }
+{
+    last.as_slice()
+        .iter()
+        .any(|pointer| is_lost(held, pointer.id))
+}
+
+/// Whether one of the pointers is in the set.
+fn lists_some(ids: Bits32, pointers: &Pointers) -> bool
+    ensures { result ≡ list_any (λ p. is_in p.id ids) pointers.now }
+{
+    pointers
+        .as_slice()
+        .iter()
+        .any(|pointer| has_id(ids, pointer.id))
 }

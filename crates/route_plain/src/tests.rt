@@ -1,10 +1,10 @@
-// Gestures over a few windows, and what the router says of them. Places are display pixels.
+//! Gestures over a few windows, and what the router says of them. Places are display pixels.
 
 use crate::plain::Plain;
 use crate::turn::{Said, Turn};
 use bitflags::Flags;
 use input_types::{
-    DeviceId, FLAG_CANCELED, Motion, MotionAction, Pixel, Pointer, PointerId, Pointers,
+    DeviceId, DisplayId, FLAG_CANCELED, Motion, MotionAction, Pixel, Pointer, PointerId, Pointers,
 };
 use std::alloc::Global;
 use std::test::Fail;
@@ -45,33 +45,34 @@ fn window(alloc: Global, channel: u32, frame: Rect, flags: WindowFlags) -> Resul
     let region = Region::new(vec![in alloc; frame]?)?;
     Ok(Window {
         channel,
+        display: DisplayId::zero(),
         frame,
         region,
         flags,
     })
 }
 
-// A slippery strip as channel 1, and below it a window as channel 2.
+/// A slippery strip as channel 1, and below it a window as channel 2.
 fn strip_and_window(alloc: Global) -> Result<Snapshot, Fail> {
     let strip = window(alloc, 1, STRIP, WindowFlags::SLIPPERY)?;
     let below = window(alloc, 2, BELOW, WindowFlags::from_bits_retain(0))?;
     Ok(Snapshot::new(vec![in alloc; strip, below]?)?)
 }
 
-// A spy over the upper half as channel 1, and an app that has all of the display as channel 2.
+/// A spy over the upper half as channel 1, and an app that has all of the display as channel 2.
 fn spy_and_app(alloc: Global) -> Result<Snapshot, Fail> {
     let spy = window(alloc, 1, UPPER, WindowFlags::SPY)?;
     let app = window(alloc, 2, DISPLAY, WindowFlags::from_bits_retain(0))?;
     Ok(Snapshot::new(vec![in alloc; spy, app]?)?)
 }
 
-// One window that has all of the display, as channel 1.
+/// One window that has all of the display, as channel 1.
 fn main_window(alloc: Global) -> Result<Snapshot, Fail> {
     let main = window(alloc, 1, DISPLAY, WindowFlags::from_bits_retain(0))?;
     Ok(Snapshot::new(vec![in alloc; main]?)?)
 }
 
-// A motion of device 1; each pointer is its id and its place.
+/// A motion of device 1; each pointer is its id and its place.
 fn motion(
     action: MotionAction,
     index: u8,
@@ -94,12 +95,12 @@ fn motion(
     })
 }
 
-// A turn by a motion without flags.
+/// A turn by a motion without flags.
 fn moves(action: MotionAction, index: u8, at: &[(u8, i32, i32)]) -> Result<Turn, Fail> {
     Ok(Turn::Pointers(motion(action, index, 0, at)?))
 }
 
-// What a channel is told, without flags.
+/// What a channel is told, without flags.
 fn said(
     channel: u32,
     action: MotionAction,
@@ -128,39 +129,7 @@ fn a_pointer_slips_onto_the_next_window(rt: HostRuntime) -> Result<(), Fail> {
     Ok(())
 }
 
-#[test]
-fn of_two_fingers_none_slips(rt: HostRuntime) -> Result<(), Fail> {
-    let windows = strip_and_window(rt.alloc())?;
-    let mut plain = Plain::new(rt.alloc());
-    let first = moves(MotionAction::Down, 0, &[(0, 500, 100)])?;
-    let _told = plain.turn(&first, &windows, ALL, ALL)?;
-    let second = moves(
-        MotionAction::PointerDown,
-        1,
-        &[(0, 500, 100), (1, 600, 100)],
-    )?;
-    let _told = plain.turn(&second, &windows, ALL, ALL)?;
-    let slide = moves(MotionAction::Move, 0, &[(0, 500, 300), (1, 600, 100)])?;
-    let told = plain.turn(&slide, &windows, ALL, ALL)?;
-    let moved = said(1, MotionAction::Move, 0, &[(0, 500, 300), (1, 600, 100)])?;
-    assert_eq!(rt; told.as_slice(), [moved].as_slice());
-    Ok(())
-}
-
-#[test]
-fn nothing_slips_to_an_unresponsive_window(rt: HostRuntime) -> Result<(), Fail> {
-    let windows = strip_and_window(rt.alloc())?;
-    let mut plain = Plain::new(rt.alloc());
-    let down = moves(MotionAction::Down, 0, &[(0, 500, 100)])?;
-    let _told = plain.turn(&down, &windows, ALL, 1)?;
-    let slide = moves(MotionAction::Move, 0, &[(0, 500, 300)])?;
-    let told = plain.turn(&slide, &windows, ALL, 1)?;
-    let moved = said(1, MotionAction::Move, 0, &[(0, 500, 300)])?;
-    assert_eq!(rt; told.as_slice(), [moved].as_slice());
-    Ok(())
-}
-
-// Two fingers are down on the app, the first of them also on the spy, and the spy pilfers.
+/// Two fingers are down on the app, the first of them also on the spy, and the spy pilfers.
 fn pilfered(plain: &mut Plain, windows: &Snapshot) -> Result<Vec<Said>, Fail> {
     let first = moves(MotionAction::Down, 0, &[(0, 100, 100)])?;
     let _told = plain.turn(&first, windows, ALL, ALL)?;
@@ -200,32 +169,6 @@ fn a_spy_takes_a_part(rt: HostRuntime) -> Result<(), Fail> {
 }
 
 #[test]
-fn a_spy_that_holds_nothing_pilfers_no_longer(rt: HostRuntime) -> Result<(), Fail> {
-    let windows = spy_and_app(rt.alloc())?;
-    let mut plain = Plain::new(rt.alloc());
-    let _told = pilfered(&mut plain, &windows)?;
-    let lift = moves(MotionAction::PointerUp, 0, &[(0, 100, 100), (1, 100, 2000)])?;
-    let told = plain.turn(&lift, &windows, ALL, ALL)?;
-    let up = said(1, MotionAction::Up, 0, &[(0, 100, 100)])?;
-    let moved = said(2, MotionAction::Move, 0, &[(1, 100, 2000)])?;
-    assert_eq!(rt; told.as_slice(), [up, moved].as_slice());
-    let third = moves(
-        MotionAction::PointerDown,
-        0,
-        &[(0, 200, 2000), (1, 100, 2000)],
-    )?;
-    let told = plain.turn(&third, &windows, ALL, ALL)?;
-    let down = said(
-        2,
-        MotionAction::PointerDown,
-        0,
-        &[(0, 200, 2000), (1, 100, 2000)],
-    )?;
-    assert_eq!(rt; told.as_slice(), [down].as_slice());
-    Ok(())
-}
-
-#[test]
 fn a_window_that_comes_back_gets_nothing_back(rt: HostRuntime) -> Result<(), Fail> {
     let main = main_window(rt.alloc())?;
     let none = Snapshot::empty(rt.alloc());
@@ -247,5 +190,41 @@ fn a_window_that_comes_back_gets_nothing_back(rt: HostRuntime) -> Result<(), Fai
         told.as_slice(),
         [said(1, MotionAction::Down, 0, &[(0, 540, 1200)])?].as_slice()
     );
+    Ok(())
+}
+
+#[test]
+fn fingers_become_palms(rt: HostRuntime) -> Result<(), Fail> {
+    let main = main_window(rt.alloc())?;
+    let mut plain = Plain::new(rt.alloc());
+    let two = [(0, 100, 200), (1, 300, 400)];
+    let _told = plain.turn(
+        &moves(MotionAction::Down, 0, &[(0, 100, 200)])?,
+        &main,
+        1,
+        1,
+    )?;
+    let _told = plain.turn(&moves(MotionAction::PointerDown, 1, &two)?, &main, 1, 1)?;
+    let second = motion(MotionAction::PointerUp, 1, FLAG_CANCELED, &two)?;
+    let told = plain.turn(&Turn::Pointers(second), &main, 1, 1)?;
+    assert_eq!(rt;
+        told.as_slice(),
+        [Said {
+            channel: 1,
+            motion: second
+        }]
+        .as_slice()
+    );
+    let last = motion(MotionAction::Cancel, 0, 0, &[(0, 100, 200)])?;
+    let told = plain.turn(&Turn::Pointers(last), &main, 1, 1)?;
+    assert_eq!(rt;
+        told.as_slice(),
+        [Said {
+            channel: 1,
+            motion: last
+        }]
+        .as_slice()
+    );
+    assert_eq!(rt; plain.holds(1, DeviceId::new(1).ok_or("a device")?), 0);
     Ok(())
 }

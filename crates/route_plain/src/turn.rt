@@ -4,7 +4,9 @@ use input_types::{DeviceId, Motion};
 /// A step that changes who holds what, or tells windows of what they hold. Channels are numbers from 1 to 64.
 #[derive(Clone, Copy, Debug, PartialEq, Eq)]
 pub enum Turn {
-    /// A motion of a device, in display pixels.
+    /// A motion of a device, in display pixels. An up with FLAG_CANCELED and a `Cancel` of the only pointer, as of a
+    /// finger that became a palm, are ups: the windows that held the pointer lose it, and are told that it is
+    /// cancelled.
     Pointers(Motion),
     /// A device begins anew: all its pointers are taken from all windows.
     Reset(DeviceId),

@@ -69,7 +69,7 @@ fresh_id s m p w down f a c e =
       | inr n ↦ n
     ]
 
-shape_of : (s : Scene) (m : Motion) (p : Pointer) (w : ℕ) (down next : List ℕ) → Fits s m.device down → Apart m.pointers → changed m ≡ Some p → Kind m down next
+pub shape_of : (s : Scene) (m : Motion) (p : Pointer) (w : ℕ) (down next : List ℕ) → Fits s m.device down → Apart m.pointers → changed m ≡ Some p → Kind m down next
     → Shape s m p (s.holds w m.device) (after s (mark s (Moves m)) w m.device) down next
 shape_of s m p w down next f a c kind =
     let x : Lies m p (s.holds w m.device) (after s (mark s (Moves m)) w m.device) down next =
@@ -219,7 +219,7 @@ nothing_lost : (b : Bool) → (b && not b) ≡ false
 nothing_lost true = refl
 nothing_lost false = refl
 
-quiet_cancels : (d : ℕ) (last : List Pointer) (b l : ℕ → Bool) → ((j : ℕ) → l j ≡ b j) → cancels d last b l ≡ []
+pub quiet_cancels : (d : ℕ) (last : List Pointer) (b l : ℕ → Bool) → ((j : ℕ) → l j ≡ b j) → cancels d last b l ≡ []
 quiet_cancels d last b l same =
     ap (cancels_of d (listing b last) (listing l last))
     (listing_none (λ j. b j && not (l j)) last (λ j. ap (λ c. b j && not c) (same j) ∙ nothing_lost (b j)))

@@ -27,7 +27,7 @@ pub record Shape (s : Scene) (m : Motion) (p : Pointer) (b l : ℕ → Bool) (do
   pub listed : filter b (ids_of (s.last m.device)) ≡ filter b down
 
 -- what is not given was held before
-held_before : (b l : ℕ → Bool) (i : ℕ) → (l i && not (b i)) ≡ false → ((j : ℕ) → (j == i) ≡ false → l j ≡ b j) → (j : ℕ) → l j ≡ true → b j ≡ true
+pub held_before : (b l : ℕ → Bool) (i : ℕ) → (l i && not (b i)) ≡ false → ((j : ℕ) → (j == i) ≡ false → l j ≡ b j) → (j : ℕ) → l j ≡ true → b j ≡ true
 held_before b l i n same j e =
     elim (cases_Bool (j == i)) [
       | inl t ↦ let q = eqb-true j i t in subst (λ x. b x ≡ true) (sym q) (here (l i) (b i) n (subst (λ x. l x ≡ true) q e))

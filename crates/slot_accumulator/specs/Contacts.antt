@@ -22,7 +22,8 @@ abbrev pub AreContacts : List Contact → Type 0
 AreContacts [] = Unit {0}
 AreContacts (c ∷ cs) = (pos 0 ≤ℤ c.tracking) × IsBeforeAll c cs × AreContacts cs
 
--- the contact may come behind the list: its slot is above those of the list, and its tracking id is new and not negative
+-- the contact may come behind the list: its slot is above those of the list, and its tracking id is new and not
+-- negative
 abbrev pub Joins : List Contact → Contact → Type 0
 Joins [] d = pos 0 ≤ℤ d.tracking
 Joins (c ∷ cs) d = IsBefore c d × Joins cs d

@@ -29,8 +29,8 @@ abbrev pub palm_below : (ℕ → Row) → (ℤ → Bool) → ℕ → ℤ → Boo
 palm_below rows before zero tracking = false
 palm_below rows before (suc s) tracking = palm_below rows before s tracking || holds_palm rows before s tracking
 
--- At the end of the last packet the contact of this tracking id is a palm: its slot has the tool type of a palm there, or had it at the
--- end of an earlier packet and the tracking id was that of a contact at the end of each packet since.
+-- At the end of the last packet the contact of this tracking id is a palm: its slot has the tool type of a palm there,
+-- or had it at the end of an earlier packet and the tracking id was that of a contact at the end of each packet since.
 abbrev pub is_palm : ℕ → List RawEvent → ℤ → Bool
 is_palm slots [] tracking = false
 is_palm slots (e ∷ past) tracking =
@@ -46,8 +46,8 @@ contacts_of rows palms zero = []
 contacts_of rows palms (suc s) =
     if holds rows s then contacts_of rows palms s ++ contact palms s (rows s) ∷ [] else contacts_of rows palms s
 
--- The contacts of a device of so many slots after its events. Where the newest of them is a SYN_REPORT, they are those at the end of its
--- packet.
+-- The contacts of a device of so many slots after its events. Where the newest of them is a SYN_REPORT, they are those
+-- at the end of its packet.
 abbrev pub contacts_at : ℕ → List RawEvent → List Contact
 contacts_at slots past = contacts_of (λ s. row s past) (λ t. is_palm slots past t) slots
 

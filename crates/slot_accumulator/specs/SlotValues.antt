@@ -1,5 +1,5 @@
--- What the events of a touch device have written to its slots, by the kernel's multi-touch protocol B. Events stand with the
--- newest first.
+-- What the events of a touch device have written to its slots, by the kernel's multi-touch protocol B. Events stand
+-- with the newest first.
 use Rattle.std.specs.Prelude.{ℕ, Bool, false, ℤ, pos, negsuc, List, [], ◌∷◌, nat_eq, ◌&&◌, if◌then◌else◌}
 use Rattle.raw_events.specs.declared.event.RawEvent.{RawEvent}
 use Rattle.slot_accumulator.specs.declared.slots.Row.{Row}
@@ -22,7 +22,8 @@ abbrev pub current : List RawEvent → ℤ
 current [] = pos 0
 current (e ∷ past) = if is_abs 47 e then e.value else current past
 
--- the value of an attribute of slot `s`: that of the last event of its code that came while `s` was the current slot, else `first`
+-- the value of an attribute of slot `s`: that of the last event of its code that came while `s` was the current slot,
+-- else `first`
 abbrev pub value : ℕ → ℤ → ℕ → List RawEvent → ℤ
 value code first s [] = first
 value code first s (e ∷ past) = if is_slot (current past) s && is_abs code e then e.value else value code first s past

@@ -5,7 +5,8 @@ use Rattle.std.specs.Ordering.{int_eq}
 use Rattle.slot_accumulator.specs.declared.slots.Row.{Row}
 use Rattle.slot_accumulator.specs.declared.palms.Palms.{Palms}
 
--- how many slots the device has, the current slot, the rows of 16 slots, and the tracking ids of the palms at the last packet's end
+-- how many slots the device has, the current slot, the rows of 16 slots, and the tracking ids of the palms at the last
+-- packet's end
 pub record Table : Type 0 where
   pub slots : ℕ
   pub current : ℤ

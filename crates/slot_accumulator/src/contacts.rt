@@ -4,7 +4,8 @@ ghost use Rattle.slot_accumulator.specs.Contacts.{AreContacts, Joins, has_tracki
 
 use std::marker::Model;
 
-/// What touches a device: the slot that holds it, its tracking id, where it is in the device's units, and whether it is a palm.
+/// What touches a device: the slot that holds it, its tracking id, where it is in the device's units, and whether it is
+/// a palm.
 #[derive(Clone, Copy, Debug, PartialEq, Eq)]
 pub struct Contact {
     pub slot: u8,

@@ -1,12 +1,14 @@
 //! The slots of a device.
-ghost use Rattle.std.specs.Prelude.{◌≡◌, ℕ, ◌+◌, ◌<◌, ◌≤◌, List, [], ◌∷◌, MatchOption, ℤ, Bool, pos, false, not, ◌&&◌, ◌||◌, int_le, length};
+ghost use Rattle.std.specs.Prelude.{◌≡◌, ℕ, ◌+◌, ◌<◌, ◌≤◌, List, [], ◌∷◌, MatchOption, ℤ, Bool, pos, false, not, ◌&&◌};
+ghost use Rattle.std.specs.Prelude.{◌||◌, int_le, length};
 ghost use Rattle.std.specs.List.{list_any};
 ghost use Rattle.std.specs.Ordering.{int_eq};
 ghost use Rattle.raw_events.specs.declared.event.RawEvent.{RawEvent as Event};
 ghost use Rattle.slot_accumulator.specs.SlotValues.{row_after, is_slot};
 ghost use Rattle.slot_accumulator.specs.Contacts.{has_tracking};
 ghost use Rattle.slot_accumulator.specs.Table.{is_kept};
-ghost use Rattle.slot_accumulator.specs.SlotContacts.{contact as contact_of, contacts_at, contacts_of, has_palm_tool, palm_below, row_in, StandsFor};
+ghost use Rattle.slot_accumulator.specs.SlotContacts.{contact as contact_of, contacts_at, contacts_of, has_palm_tool};
+ghost use Rattle.slot_accumulator.specs.SlotContacts.{palm_below, row_in, StandsFor};
 
 use crate::contacts::{Contact, Contacts, tracked};
 use crate::palms::Palms;
@@ -29,8 +31,8 @@ pub struct Row {
 
 /// The slots of one device, as its events leave them. It is `Copy` and takes no memory.
 ///
-/// Contracts see the number of slots, the current slot, the rows of 16 slots, of which those of the device count, and the tracking ids
-/// that were those of palms at the end of the last packet.
+/// Contracts see the number of slots, the current slot, the rows of 16 slots, of which those of the device count, and
+/// the tracking ids that were those of palms at the end of the last packet.
 #[derive(Clone, Copy, Debug, PartialEq, Eq)]
 pub struct Slots {
     rows: [Row; 16],
@@ -55,7 +57,8 @@ impl Slots {
     /// The most slots of a device.
     pub const MAX: u8 = 16;
 
-    /// The slots 0 to `slots - 1`, without a contact, at position (0, 0) and with tool type 0, and with slot 0 as the current one.
+    /// The slots 0 to `slots - 1`, without a contact, at position (0, 0) and with tool type 0, and with slot 0 as the
+    /// current one.
     pub fn new(slots: u8) -> Slots
         requires { (1 ≤ slots) × (slots ≤ 16) }
         ensures state { StandsFor [] result }
@@ -78,8 +81,9 @@ impl Slots {
     /// Takes the next event of the device. Events that are neither about slots nor the end of a packet change nothing.
     ///
     /// As the kernel's multi-touch document says, ABS_MT_SLOT sets the current slot, and the attributes that follow are
-    /// written to it. Those written while the current slot is none of the device's are never seen. A SYN_REPORT notes which contacts
-    /// are palms: those whose tool type is MT_TOOL_PALM, and those that were palms at the end of the packet before.
+    /// written to it. Those written while the current slot is none of the device's are never seen. A SYN_REPORT notes
+    /// which contacts are palms: those whose tool type is MT_TOOL_PALM, and those that were palms at the end of the
+    /// packet before.
     pub fn take(&mut self, event: RawEvent)
         ensures state { (past : List Event) → StandsFor past self.old → StandsFor (event ∷ past) self.new }
         ensures slots { self.new.slots ≡ self.old.slots }
@@ -100,8 +104,8 @@ impl Slots {
         }
     }
 
-    /// The contacts now: the slots of the device whose tracking id is not negative and is that of no lower slot, each with whether it
-    /// was noted as a palm. After a SYN_REPORT they are the contacts at the end of its packet.
+    /// The contacts now: the slots of the device whose tracking id is not negative and is that of no lower slot, each
+    /// with whether it was noted as a palm. After a SYN_REPORT they are the contacts at the end of its packet.
     pub fn contacts(&self) -> Contacts
         ensures now { result ≡ contacts_of (row_in self.now.rows) (λ t. is_kept self.now.palms t) self.now.slots }
         ensures events { (past : List Event) → StandsFor past self.now → result ≡ contacts_at self.now.slots past }
@@ -156,7 +160,8 @@ fn written(row: &Row, event: &RawEvent) -> Row
 fn palms(rows: &[Row], before: &Palms) -> Palms
     requires rows { length rows.now ≤ 16 }
     requires before { (before.now.used ≤ 16) × (length before.now.items ≡ 16) }
-    ensures kept { (tracking : ℤ) → is_kept result tracking ≡ palm_below (row_in rows.now) (λ t. is_kept before.now t) (length rows.now) tracking }
+    ensures kept { (tracking : ℤ) → is_kept result tracking ≡ palm_below (row_in rows.now)
+        (λ t. is_kept before.now t) (length rows.now) tracking }
     ensures places { length result.items ≡ 16 }
     ensures used { result.used ≤ 16 }
 {

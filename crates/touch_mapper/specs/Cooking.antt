@@ -19,6 +19,7 @@ abbrev pub can_cook : Axis → Axis → ℕ → ℕ → Bool
 can_cook x y width height =
     int_le x.min x.max && int_le y.min y.max && (nat_le 1 width && nat_le width 16384) && (nat_le 1 height && nat_le height 16384)
 
+-- the same as facts
 pub record CanCook (x y : Axis) (width height : ℕ) : Type 0 where
   pub x_has : x.min ≤ℤ x.max
   pub y_has : y.min ≤ℤ y.max

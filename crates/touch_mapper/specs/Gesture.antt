@@ -11,7 +11,10 @@ use Rattle.input_types.specs.declared.message.Args.{Args}
 use Rattle.input_types.specs.declared.message.Args.TheVariants.{Motion as MotionArgs}
 use Rattle.input_types.specs.Gestures.{ids_of, same_ids, after_motion, flag_canceled}
 use Rattle.pointer_ids.specs.declared.assigned.Held.{Held}
+use Rattle.bits32.specs.Set.{is_in}
+use Rattle.pointer_ids.specs.Assigned.{Assignment}
 use Rattle.touch_mapper.specs.Cooking.{Cooking, pixel}
+use Rattle.touch_mapper.specs.GestureState.{GestureState}
 
 -- a pointer at its pixel
 abbrev pub placed : Cooking → Held → Pointer
@@ -49,8 +52,8 @@ is_changed last now = list_any (λ p. is_moved now p) last
 abbrev pub motion : ℕ → MotionAction → ℕ → ℕ → List Pointer → Motion
 motion d action index flags ps = record { device = d; action = action; index = index; flags = flags; pointers = ps }
 
--- The pointer at place `index` goes up. The last pointer is an Up, and a Cancel where it is cancelled; any other is a PointerUp, which has
--- the flag where it is cancelled.
+-- The pointer at place `index` goes up. The last pointer is an Up, and a Cancel where it is cancelled; any other is a
+-- PointerUp, which has the flag where it is cancelled.
 abbrev pub up : ℕ → Bool → ℕ → List Pointer → Motion
 up d cancelled index ps =
     if nat_eq (length ps) 1 then motion d (if cancelled then Cancel else Up) index 0 ps
@@ -60,16 +63,16 @@ up d cancelled index ps =
 abbrev pub down : ℕ → ℕ → List Pointer → Motion
 down d index ps = motion d (if nat_eq (length ps) 1 then Down else PointerDown) index 0 ps
 
--- The pointers that are gone go up in rising id. `below` are the pointers with lower ids that stay, and what follows are the
--- pointers with higher ids, which are all still down.
+-- The pointers that are gone go up in rising id. `below` are the pointers with lower ids that stay, and what follows
+-- are the pointers with higher ids, which are all still down.
 abbrev pub ups : ℕ → (ℕ → Bool) → List Pointer → List Pointer → List Pointer → List Motion
 ups d cancelled now below [] = []
 ups d cancelled now below (p ∷ above) =
     if is_down p.id now then ups d cancelled now (below ++ p ∷ []) above
     else up d (cancelled p.id) (length below) (below ++ p ∷ above) ∷ ups d cancelled now below above
 
--- The new pointers go down in rising id. `below` are the pointers with lower ids, which are all down by then; of those with higher
--- ids the ones are down that were down before.
+-- The new pointers go down in rising id. `below` are the pointers with lower ids, which are all down by then; of those
+-- with higher ids the ones are down that were down before.
 abbrev pub downs : ℕ → List Pointer → List Pointer → List Pointer → List Motion
 downs d last below [] = []
 downs d last below (p ∷ above) =
@@ -80,13 +83,21 @@ downs d last below (p ∷ above) =
 abbrev pub moves : ℕ → List Pointer → List Pointer → List Motion
 moves d last now = if is_changed last now then motion d Move 0 0 (kept last now) ∷ [] else []
 
--- The motions between two packets, where some of the ids that are gone are cancelled. Where the same pointers are down, it is one Move, also
--- if nothing moved, or nothing where none is down. Else the gone ones go up, at their last places, while those that stay are at their new
--- places; then comes the Move of those that stay; then the new ones go down.
+-- The motions between two packets, where some of the ids that are gone are cancelled. Where the same pointers are down,
+-- it is one Move, also if nothing moved, or nothing where none is down. Else the gone ones go up, at their last places,
+-- while those that stay are at their new places; then comes the Move of those that stay; then the new ones go down.
 abbrev pub gesture : ℕ → (ℕ → Bool) → List Pointer → List Pointer → List Motion
 gesture d cancelled last now =
     if same_ids (ids_of last) (ids_of now) then (if nat_eq (length now) 0 then [] else motion d Move 0 0 now ∷ [])
     else ups d cancelled now [] (moved_all last now) ++ moves d last now ++ downs d last [] now
+
+-- the motions that the next packet of a device makes, from its pointers and the ids that are cancelled in it
+abbrev pub packet_motions : GestureState → Assignment → List Motion
+packet_motions g a = gesture g.device (λ i. is_in i a.cancelled) g.last (placed_all g.cook a.pointers)
+
+-- the gestures of a device after its next packet
+abbrev pub after_packet : GestureState → Assignment → GestureState
+after_packet g a = record { device = g.device; cook = g.cook; last = placed_all g.cook a.pointers }
 
 -- the ids that are down after some motions, in their order; None where one of them might not come
 abbrev pub after_motions : List ℕ → List Motion → Option (List ℕ)

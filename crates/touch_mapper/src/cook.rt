@@ -41,8 +41,8 @@ impl Cook {
 
     /// The axes of a device, the width and height of its display in its natural position, and how far that is turned.
     ///
-    /// `BadRange` comes exactly where an axis has its greatest position below its least, or where the width or the height is not
-    /// 1 to 16,384.
+    /// `BadRange` comes exactly where an axis has its greatest position below its least, or where the width or the
+    /// height is not 1 to 16,384.
     pub fn new(
         x: Axis,
         y: Axis,
@@ -51,7 +51,8 @@ impl Cook {
         rotation: Rotation,
     ) -> Result<Cook, BadRange>
         ensures variant { IsOk result ↔ IsTrue (can_cook x y width height) }
-        ensures value { IfOk result (λ c. c ≡ record { x = x; y = y; width = width; height = height; rotation = rotation }) }
+        ensures value { IfOk result (λ c. c
+            ≡ record { x = x; y = y; width = width; height = height; rotation = rotation }) }
     {
         if is_axis(&x) && is_axis(&y) && is_extent(width) && is_extent(height) {
             Ok(Cook {
@@ -68,8 +69,8 @@ impl Cook {
 
     /// The display pixel of a raw position, which counts as the nearest one of the device's axes.
     ///
-    /// The formula is this project's own choice: each axis is cut into as many equal parts as the display has pixels there. It
-    /// holds for all axes of 32-bit numbers.
+    /// The formula is this project's own choice: each axis is cut into as many equal parts as the display has pixels
+    /// there. It holds for all axes of 32-bit numbers.
     pub fn pixel(&self, x: i32, y: i32) -> Pixel
         ensures { result ≡ pixel self.now x y }
     {

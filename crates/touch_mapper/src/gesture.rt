@@ -1,15 +1,16 @@
 //! The motions between two packets.
 ghost use Rattle.std.specs.Prelude.{◌≡◌, ℕ, ◌+◌, ◌<◌, ◌≤◌, [], ◌∷◌, ◌++◌, length, map, vec_len, vec_capacity};
 ghost use Rattle.bits32.specs.Set.{is_in};
-ghost use Rattle.touch_mapper.specs.Gesture.{gesture as motions_between, motion as motion_of, up as up_of, down as down_of, ups, downs, moves};
+ghost use Rattle.touch_mapper.specs.Gesture.{gesture as motions_between, motion as motion_of, up as up_of};
+ghost use Rattle.touch_mapper.specs.Gesture.{down as down_of, ups, downs, moves};
 
 use crate::lists::{all_moved, append, in_use, is_changed, is_down, joined, joined_kept, same_ids};
 use crate::motions::FromMotion;
 use bits32::Bits32;
 use input_types::{DeviceId, FLAG_CANCELED, Motion, MotionAction, Pointer, Pointers};
 
-/// Adds the motions between two packets, from the pointers that were down and those that are, where some of the ids that are gone are
-/// cancelled.
+/// Adds the motions between two packets, from the pointers that were down and those that are, where some of the ids
+/// that are gone are cancelled.
 pub fn gesture<T: FromMotion>(
     given: &mut Vec<T>,
     device: DeviceId,
@@ -18,7 +19,8 @@ pub fn gesture<T: FromMotion>(
     now: &Pointers,
 )
     requires { vec_len given.old + (length last.now + length now.now + 1) ≤ vec_capacity given.old }
-    ensures { given.new.items ≡ given.old.items ++ map T.of_motion (motions_between device (λ i. is_in i cancelled) last.now now.now) }
+    ensures { given.new.items ≡ given.old.items ++ map T.of_motion (motions_between device
+        (λ i. is_in i cancelled) last.now now.now) }
 {
     if same_ids(last.as_slice(), now.as_slice()) {
         if !now.is_empty() {
@@ -46,7 +48,8 @@ fn push_ups<T: FromMotion>(
     now: &[Pointer],
 )
     requires { vec_len given.old + length moved.now ≤ vec_capacity given.old }
-    ensures items { given.new.items ≡ given.old.items ++ map T.of_motion (ups device (λ i. is_in i cancelled) now.now [] moved.now) }
+    ensures items { given.new.items ≡ given.old.items ++ map T.of_motion (ups device
+        (λ i. is_in i cancelled) now.now [] moved.now) }
     ensures few { vec_len given.new ≤ vec_len given.old + length moved.now }
     ensures room { vec_capacity given.old ≤ vec_capacity given.new }
 {

@@ -1,7 +1,6 @@
 //! Gestures of one device.
 ghost use Rattle.std.specs.Prelude.{◌≡◌, ℕ, ◌+◌, ◌≤◌, [], ◌++◌, map, vec_len, vec_capacity, IsOk, IfOk, OnErr, OnOk};
-ghost use Rattle.bits32.specs.Set.{is_in};
-ghost use Rattle.touch_mapper.specs.Gesture.{gesture as motions_between, placed_all};
+ghost use Rattle.touch_mapper.specs.Gesture.{after_packet, packet_motions};
 
 use crate::cook::Cook;
 use crate::gesture::gesture;
@@ -12,7 +11,8 @@ use pointer_ids::Assigned;
 use std::alloc::{AllocError, Global};
 use std::marker::Model;
 
-/// The gestures of one device: which pointers were down at the last packet, and at which pixels. It is `Copy` and takes no memory.
+/// The gestures of one device: which pointers were down at the last packet, and at which pixels. It is `Copy` and takes
+/// no memory.
 #[derive(Clone, Copy, Debug, PartialEq, Eq)]
 pub struct Gestures {
     device: DeviceId,
@@ -45,18 +45,19 @@ impl Gestures {
         }
     }
 
-    /// The motions that the next packet of the device makes, in their order. They are this project's own choice after Android's:
+    /// The motions that the next packet of the device makes, in their order. They are this project's own choice after
+    /// Android's:
     ///
     /// * Where the same pointers are down as before, one `Move`, also if nothing moved; nothing where none is down.
-    /// * Else the pointers that are gone go up by `PointerUp`, lowest id first, at their last places, beside the others at their new
-    ///   ones; then one `Move` comes where a pointer that stays changed its pixel; then the new ones go down by `PointerDown`, lowest
-    ///   id first. The first pointer down is a `Down`, the last one up is an `Up`.
+    /// * Else the pointers that are gone go up by `PointerUp`, lowest id first, at their last places, beside the others
+    ///   at their new ones; then one `Move` comes where a pointer that stays changed its pixel; then the new ones go
+    ///   down by `PointerDown`, lowest id first. The first pointer down is a `Down`, the last one up is an `Up`.
     /// * A pointer that is cancelled goes up by a `PointerUp` with `FLAG_CANCELED`; the last one by a `Cancel`.
     ///
     /// Each motion lists all pointers that are down, the one that goes up or down included.
     pub fn next(&mut self, alloc: Global, now: &Assigned) -> Result<Vec<Motion>, AllocError>
-        ensures ok { IfOk result (λ v. v.items ≡ motions_between self.old.device (λ i. is_in i now.now.cancelled) self.old.last (placed_all self.old.cook now.now.pointers)) }
-        ensures after { OnOk result (self.new ≡ record { device = self.old.device; cook = self.old.cook; last = placed_all self.old.cook now.now.pointers }) }
+        ensures ok { IfOk result (λ v. v.items ≡ packet_motions self.old now.now) }
+        ensures after { OnOk result (self.new ≡ after_packet self.old now.now) }
         ensures err { OnErr result (self.new ≡ self.old) }
     {
         let mut motions = Vec::new(alloc);
@@ -64,15 +65,15 @@ impl Gestures {
         Ok(motions)
     }
 
-    /// Adds the motions of `next` to those that are given. After want of memory the list is as it was, and with room for `MOST` more there
-    /// is none.
+    /// Adds the motions of `next` to those that are given. After want of memory the list is as it was, and with room
+    /// for `MOST` more there is none.
     pub fn next_into<T: FromMotion>(
         &mut self,
         given: &mut Vec<T>,
         now: &Assigned,
     ) -> Result<(), AllocError>
-        ensures ok { OnOk result (given.new.items ≡ given.old.items ++ map T.of_motion (motions_between self.old.device (λ i. is_in i now.now.cancelled) self.old.last (placed_all self.old.cook now.now.pointers))) }
-        ensures after { OnOk result (self.new ≡ record { device = self.old.device; cook = self.old.cook; last = placed_all self.old.cook now.now.pointers }) }
+        ensures ok { OnOk result (given.new.items ≡ given.old.items ++ map T.of_motion (packet_motions self.old now.now)) }
+        ensures after { OnOk result (self.new ≡ after_packet self.old now.now) }
         ensures err { OnErr result (self.new ≡ self.old) }
         ensures given { OnErr result (given.new.items ≡ given.old.items) }
         ensures room { vec_len given.old + 33 ≤ vec_capacity given.old → IsOk result }

@@ -5,7 +5,8 @@ ghost use Rattle.input_types.specs.Gestures.{ids_of, same_ids as ids_agree};
 ghost use Rattle.input_types.specs.Pointers.{EndsBelow};
 ghost use Rattle.touch_mapper.specs.Cooking.{Cooking};
 ghost use Rattle.touch_mapper.specs.Rising.{Rises};
-ghost use Rattle.touch_mapper.specs.Gesture.{is_down as is_in, moved as moved_in, moved_all, kept, is_moved as has_moved, is_changed as have_changed, placed, placed_all};
+ghost use Rattle.touch_mapper.specs.Gesture.{is_down as is_in, moved as moved_in, moved_all, kept};
+ghost use Rattle.touch_mapper.specs.Gesture.{is_moved as has_moved, is_changed as have_changed, placed, placed_all};
 
 use crate::cook::Cook;
 use input_types::{Pixel, Pointer, PointerId, Pointers, PushRefused};

@@ -1,6 +1,6 @@
 //! A list of rectangles, and the points that lie in some of them.
 
-ghost use Rattle.std.specs.Prelude.{◌≡◌, ◌≤◌, length, IfOk, Ok, None};
+ghost use Rattle.std.specs.Prelude.{◌≡◌, ◌≤◌, length, IfOk};
 ghost use Rattle.touch_region.specs.declared.region.RegionError.TheVariants.{Memory};
 
 use crate::band::{Band, bands_hold, bands_of, copy_bands};
@@ -14,7 +14,8 @@ pub const MAX_RECTS: usize = 64;
 /// The part of the display on which a window can be touched: every point that lies in one of its rectangles.
 ///
 /// A clause sees a region as the list of its rectangles, in display pixels, in the order in which they were given.
-/// There are at most 64, each with its edges in order. A region without rectangles, or with empty ones alone, has no point.
+/// There are at most 64, each with its edges in order. A region without rectangles, or with empty ones alone, has no
+/// point.
 ///
 /// Two or more rectangles have bands beside them, in which two binary searches find a point: one for the band, one in
 /// it for the span. One rectangle, as nearly every window has, is looked at itself.

@@ -1,6 +1,6 @@
 //! Stretches of pixels along one axis, and their edges.
 
-ghost use Rattle.std.specs.Prelude.{◌≡◌, ◌*◌, length, vec_len, IfOk};
+ghost use Rattle.std.specs.Prelude.{◌≡◌, ◌*◌, length, IfOk};
 ghost use Rattle.touch_region.specs.Between.{is_between};
 ghost use Rattle.touch_region.specs.Spans.{spans_hold, AreApart, AreEdges};
 

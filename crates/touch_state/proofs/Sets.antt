@@ -28,6 +28,9 @@ none_in n none = same_from_bits n 0 (λ i. no_bit (bit_at n i) (bit_at-lt n i) (
     no_bit : (b : ℕ) → b < 2 → (b == 1) ≡ false → b ≡ 0
     no_bit b lt e = let n : b ≢ 1 = eqb-false b 1 e in elim (cases_lt b 1) [ inl l ↦ omega (arith, l) | inr g ↦ absurd (n (omega (arith, g, lt))) ]
 
+pub empty_has_none : (i : ℕ) → is_in i 0 ≡ false
+empty_has_none i = rw (bit_at-zero i) refl
+
 -- a set with a number is not empty
 pub not_empty : (i set : ℕ) → is_in i set ≡ true → (set == 0) ≡ false
 not_empty i set e = ne_eqb set 0 (λ z. both_ways (is_in i set) (rw (z, bit_at-zero i) refl) e)

@@ -163,6 +163,9 @@ kept_pilferer rows holders pilferers c k channel h =
     by_window w (inr n) p =
         k.pilfer w (or_false_of (mask_has pilferers w) (sym (ap (λ b. mask_has pilferers w || (b && true)) (ne_eqb w c n)) ∙ sym (noted_one pilferers c channel w) ∙ p))
 
+pub empty_mask : (w : ℕ) → mask_has 0 w ≡ false
+empty_mask w = rw (bit_at-zero (w - 1)) (and_false (is_channel w))
+
 -- tables of nothing
 pub nobody_kept : (rows : List Row) → ((w : ℕ) → (row_of rows w).ids ≡ 0) → Kept rows 0 0
 nobody_kept rows none =

@@ -42,8 +42,8 @@ sooner false place least = least
 sooner true place None = Some place
 sooner true place (Some least) = Some (if nat_lt place least then place else least)
 
--- the least place at which a window of the mask began, of those that stand in the first k rows: none where the mask has none of
--- them, and else that of one of them, and at or below that of each of them
+-- the least place at which a window of the mask began, of those that stand in the first k rows: none where the mask
+-- has none of them, and else that of one of them, and at or below that of each of them
 abbrev pub IsLeastSince : List Row → (hits k : ℕ) → Option ℕ → Type 0
 IsLeastSince rows hits k None = (w : ℕ) → w ≤ k → mask_has hits w ≡ false
 IsLeastSince rows hits k (Some least) =

@@ -5,7 +5,8 @@ use Rattle.window_snapshot.specs.Mask.{mask_has}
 use Rattle.touch_state.specs.declared.row.Row.{Row}
 use Rattle.touch_state.specs.Rows.{row_of}
 
--- what is kept of a device: the row of each window, that of channel 1 first, and the mask of the windows that are pilfering
+-- what is kept of a device: the row of each window, that of channel 1 first, and the mask of the windows that are
+-- pilfering
 pub record Touches : Type 0 where
   pub device : ℕ
   pub rows : List Row
@@ -31,9 +32,10 @@ holds t w i = is_in i (held t w)
 abbrev pub any : Touches → ℕ → Bool
 any t w = not (held t w == 0)
 
--- A change at a place that gives these pointers, takes those, and with which these windows pilfer the device. A window holds what
--- it is given, and what it held and is not taken; it began here where it held nothing before and holds something after; and it is
--- pilfering where it holds something, and either pilfers here or was pilfering before.
+-- A change at a place that gives these pointers, takes those, and with which these windows pilfer the device. A
+-- window holds what it is given, and what it held and is not taken; it began here where it held nothing before and
+-- holds something after; and it is pilfering where it holds something, and either pilfers here or was pilfering
+-- before.
 pub record Changes (old new : Touches) (gives takes : (window id : ℕ) → Bool) (place : ℕ) (pilfers : ℕ → Bool) : Type 0 where
   pub device : new.device ≡ old.device
   pub hold : (w i : ℕ) → holds new w i ≡ (gives w i || holds old w i && not (takes w i))

@@ -1,7 +1,9 @@
 //! The touch state of one device.
-ghost use Rattle.std.specs.Prelude.{◌≡◌, ℕ, Bool, true, false, ◌==◌, IsTrue, ◌↔◌};
+ghost use Rattle.std.specs.Prelude.{◌≡◌, ℕ, [], Bool, true, false, ◌==◌, IsTrue, ◌↔◌};
 ghost use Rattle.window_snapshot.specs.Mask.{is_channel, mask_has};
-ghost use Rattle.touch_state.specs.Touches.{held, since, pilfering, holds, any, Changes, none, one, of_mask, of_all, of_set, everything, nobody, IsEarliest};
+ghost use Rattle.touch_state.specs.Laws.{Agrees};
+ghost use Rattle.touch_state.specs.Touches.{held, since, pilfering, holds, any, Changes, none};
+ghost use Rattle.touch_state.specs.Touches.{one, of_mask, of_all, of_set, everything, nobody, IsEarliest};
 
 use crate::row::{
     Row, began_at, empty_all, give_all, holders_of, least_since, lift_all, no_row, row_at, slip,
@@ -41,6 +43,7 @@ impl TouchState {
     /// No window holds anything of the device.
     pub fn new(device: DeviceId) -> TouchState
         ensures device { result.device ≡ device }
+        ensures agrees { Agrees result [] device }
         ensures held { (w : ℕ) → held result w ≡ 0 }
         ensures since { (w : ℕ) → since result w ≡ 0 }
         ensures pilfering { (w : ℕ) → pilfering result w ≡ false }
@@ -125,9 +128,10 @@ impl TouchState {
         row_at(&self.rows, channel).ids
     }
 
-    /// The mask of the windows that hold something.
+    /// The mask of the windows that hold something. The others do not pilfer.
     pub fn holders(&self) -> u64
-        ensures { (w : ℕ) → mask_has result w ≡ any self.now w }
+        ensures mask { (w : ℕ) → mask_has result w ≡ any self.now w }
+        ensures pilferers { (w : ℕ) → pilfering self.now w ≡ true → any self.now w ≡ true }
     {
         self.holders
     }

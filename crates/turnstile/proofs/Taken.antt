@@ -4,10 +4,10 @@ use Rattle.std.specs.Prelude.{Option, Some, None}
 use Rattle.atomic_table.specs.Seated.{TableId}
 use Rattle.atomic_table.specs.Table.{Me, Allows, rest}
 use Rattle.turnstile.specs.History.{Entry}
-use Rattle.turnstile.specs.Rule as rule
+use Rattle.turnstile.specs.Rule.{Holds}
 use Rattle.turnstile.specs.Told.{Commits, Frees}
 use Rattle.turnstile.specs.Views.{missed, waited}
-use Rattle.turnstile.specs.Taken.{Holds}
+use Rattle.turnstile.specs.Taken.{HoldsMachine}
 use Rattle.turnstile.specs.declared.view.View.{View}
 use Rattle.turnstile.proofs.Commit.{commit, free}
 
@@ -43,20 +43,20 @@ same_table a b c d p q r = p ∙ q ∙ r
 
 module _ {M T C R : Type 0} (legal : T → List (Entry C R) → Type 0) (setup : M → T) (history : M → List (Entry C R)) where
   -- who holds a machine may free the lock
-  pub holder_frees : (slots id : ℕ) (me : Me (Option M) (View T C R)) (m : M) → Holds legal setup history me m
-      → Allows (rule.Holds legal setup history) slots id me 1 (λ _. 0) (λ _. Frees me)
+  pub holder_frees : (slots id : ℕ) (me : Me (Option M) (View T C R)) (m : M) → HoldsMachine legal setup history me m
+      → Allows (Holds legal setup history) slots id me 1 (λ _. 0) (λ _. Frees me)
   holder_frees slots id me m h = free legal setup history slots id me m h.live h.hand h.turn h.setup_is
 
   -- who took a machine out, stepped it and put it back may commit its entry
   pub holder_commits : (slots id : ℕ) (me one two : Me (Option M) (View T C R)) (m0 m next : M) (found : Option M) (number : ℕ) (call : C) (reply : R) (n : ℕ)
-      → Holds legal setup history me m0 → me.1 ≡ (0, found) ∷ rest me.1 → found ≡ Some m → one ≡ (me.0, (0, None) ∷ rest me.1) → two ≡ (one.0, (0, Some next) ∷ rest one.1)
+      → HoldsMachine legal setup history me m0 → me.1 ≡ (0, found) ∷ rest me.1 → found ≡ Some m → one ≡ (me.0, (0, None) ∷ rest me.1) → two ≡ (one.0, (0, Some next) ∷ rest one.1)
       → number ≡ me.0.mine.number → legal (setup next) (history next) → history next ≡ (number, call, reply) ∷ history m → setup next ≡ setup m → n ≡ length (history next)
-      → Allows (rule.Holds legal setup history) slots id two 0 (λ _. n) (λ _. Commits history two)
+      → Allows (Holds legal setup history) slots id two 0 (λ _. n) (λ _. Commits history two)
   holder_commits slots id me one two m0 m next found number call reply n h was is first second mine lawful longer fixed long =
       let same : m0 ≡ m = held_is me m0 m found h.hand was is in
       let place = held_again me one two (Some m0) None (Some next) h.hand first second in
       let e : Entry C R = (number, call, reply) in
-      subst (λ x. Allows (rule.Holds legal setup history) slots id x 0 (λ _. n) (λ _. Commits history x)) (sym place)
+      subst (λ x. Allows (Holds legal setup history) slots id x 0 (λ _. n) (λ _. Commits history x)) (sym place)
       (commit legal setup history slots id (me.0, (0, Some next) ∷ []) e (history m) (setup next) n
       h.live
       (h.turn ∙ ap (λ x. Some (history x)) same)

@@ -10,7 +10,7 @@ use Rattle.turnstile.specs.declared.view.View.{View}
 
 module _ {M T C R : Type 0} (legal : T → List (Entry C R) → Type 0) (setup : M → T) (history : M → List (Entry C R)) where
   -- a seat holds this machine, and knows its setup and its legal history
-  pub record Holds (me : Me (Option M) (View T C R)) (m : M) : Type 0 where
+  pub record HoldsMachine (me : Me (Option M) (View T C R)) (m : M) : Type 0 where
     pub hand : me.1 ≡ (0, Some m) ∷ []
     pub turn : me.0.turn ≡ Some (history m)
     pub setup_is : me.0.setup ≡ Some (setup m)
@@ -19,7 +19,7 @@ module _ {M T C R : Type 0} (legal : T → List (Entry C R) → Type 0) (setup :
 
   -- a seat holds the machine
   abbrev pub Holding : Me (Option M) (View T C R) → Type 0
-  Holding me = (m : M) × Holds me m
+  Holding me = (m : M) × HoldsMachine me m
 
   -- a seat took the turn: it holds the machine, with a history that it may find
   abbrev pub Taken : Me (Option M) (View T C R) → Me (Option M) (View T C R) → Type 0

@@ -7,7 +7,8 @@ use Rattle.turnstile.specs.declared.view.Record.{Record}
 use Rattle.turnstile.specs.declared.view.View.{View}
 
 module _ {C R : Type 0} where
-  -- a record's own calls are the entries of its number; where it is that of number 0, no number above its `made` has entries
+  -- A record's own calls are the entries that bear its number, with their places. Where it is that of number 0, no entry bears a number above
+  -- its `made`
   pub record Owns (h : List (Entry C R)) (r : Record C R) : Type 0 where
     pub own : r.own ≡ calls_by r.number h
     pub above : r.number ≡ 0 → (k : ℕ) → r.made < k → calls_by k h ≡ []
@@ -21,8 +22,8 @@ module _ {T C R : Type 0} (legal : T → List (Entry C R) → Type 0) where
   abbrev pub LegalFor : View T C R → List (Entry C R) → Type 0
   LegalFor v h = (s : T) × (v.setup ≡ Some s) × legal s h
 
-  -- The history that a seat finds is legal, begins with all that the seat had seen, and has of the seat's number, and of those joined into
-  -- it, exactly their own calls
+  -- The history that a seat finds is legal and begins with all that the seat had seen. Of the seat's number, and of each that was joined into
+  -- it, it has exactly that one's own calls
   pub record Finds (v : View T C R) (h : List (Entry C R)) : Type 0 where
     pub legal_then : LegalFor v h
     pub start : IsStart v.known h

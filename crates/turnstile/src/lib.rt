@@ -14,7 +14,7 @@
 //! ```
 //!
 //! What a seat is told of is one history: each later one begins with all that the seat had seen, and of the seat's
-//! number it has the seat's own calls and no others. `docs/TURNSTILE.md` tells the life of one call.
+//! number it has the seat's own calls and no others.
 #![tactic(auto)]
 
 mod calls;

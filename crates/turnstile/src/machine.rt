@@ -13,14 +13,16 @@ pub trait Machine {
 
     type Reply;
 
-    /// Which histories may be.
+    /// Which histories may be, with a setup.
     ghost legal: { Self.Setup → List (Entry Self.Call Self.Reply) → Type 0 };
 
+    /// What a contract sees of a machine: its setup and its history.
     ghost setup: { Self → Self.Setup };
 
     ghost history: { Self → List (Entry Self.Call Self.Reply) };
 
-    /// Answers a call of the seat with this number: the history is longer by one entry. Without memory nothing changes.
+    /// Answers a call of the seat with this number. The history has then one entry more, of that number, the call and
+    /// the reply. Without memory nothing changes.
     fn step(&mut self, seat: u64, call: Self::Call) -> Result<Self::Reply, AllocError>
         requires { legal (setup self.old) (history self.old) }
         ensures legal { legal (setup self.new) (history self.new) }
@@ -31,6 +33,7 @@ pub trait Machine {
     fn places(&self) -> u64
         ensures { result ≡ length (history self.now) };
 
+    /// A machine that has answered nothing may be.
     ghost empty: { (s : Self.Setup) → legal s [] };
 }
 

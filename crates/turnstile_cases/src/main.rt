@@ -19,7 +19,7 @@ use std::thread::{Threads, join_mut};
 use turnstile::{Machine, Placed, Seat, TryRefused, Turnstile};
 
 /// How many calls each of two threads makes.
-const CALLS: u64 = 1000;
+const CALLS: u64 = 100_000;
 
 /// Tries a call, and prints what it answered.
 fn try_call<M: Machine<Setup = u64, Call = u64, Reply = u64>, R: Print>(

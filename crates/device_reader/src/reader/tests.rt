@@ -7,19 +7,19 @@ use input_types::{
     Axis, KeyArgs, Moment, Motion, MotionAction, Pixel, Pointer, PointerId, Pointers, Rotation,
 };
 use raw_events::codes::{
-    ABS_MT_POSITION_X, ABS_MT_POSITION_Y, ABS_MT_SLOT, ABS_MT_TRACKING_ID, EV_ABS, EV_SYN,
-    SYN_DROPPED, SYN_REPORT,
+    ABS_MT_POSITION_X, ABS_MT_POSITION_Y, ABS_MT_SLOT, ABS_MT_TOOL_TYPE, ABS_MT_TRACKING_ID,
+    EV_ABS, EV_SYN, MT_TOOL_PALM, SYN_DROPPED, SYN_REPORT,
 };
 use std::test::Fail;
 
 /// The device's reader, on a display of 1080 by 2400 with as many raw positions.
-fn phone(device: DeviceId) -> Option<DeviceReader>
+fn phone(alloc: Global, device: DeviceId) -> Option<DeviceReader>
     ensures { IfSome result (λ r. r.device ≡ device) }
 {
     let x = Axis { min: 0, max: 1079 };
     let y = Axis { min: 0, max: 2399 };
     let cook = Cook::new(x, y, 1080, 2400, Rotation::R0).ok()?;
-    Some(DeviceReader::touch(device, 10, cook))
+    Some(DeviceReader::touch(alloc, device, 10, cook))
 }
 
 /// What some events of a type, a code and a value give: the args of the last event that gives any.
@@ -33,7 +33,6 @@ fn feed(
     ensures { reader.new.device ≡ reader.old.device }
 {
     let mut given = Vec::new(alloc);
-    let mut args = Vec::new(alloc);
     for (kind, code, value) in events {
         let event = RawEvent {
             device,
@@ -42,9 +41,9 @@ fn feed(
             code: *code,
             value: *value,
         };
-        reader.take(event, &mut args)?;
+        let args = reader.take(event)?;
         if !args.is_empty() {
-            given = args.to_vec(alloc)?;
+            given = args;
         }
     }
     Ok(given)
@@ -86,7 +85,7 @@ const TWO_FINGERS: [(u16, u16, i32); 9] = [
 #[test]
 fn the_first_of_two_fingers_goes_up(rt: HostRuntime) -> Result<(), Fail> {
     let device = DeviceId::new(1).ok_or("a device")?;
-    let mut reader = phone(device).ok_or("a reader")?;
+    let mut reader = phone(rt.alloc(), device).ok_or("a reader")?;
     let both = [(0, 100, 200), (1, 300, 400)];
     let given = feed(rt.alloc(), &mut reader, device, &TWO_FINGERS)?;
     let down = motion(device, MotionAction::Down, 0, &[(0, 100, 200)]);
@@ -121,16 +120,15 @@ fn the_first_of_two_fingers_goes_up(rt: HostRuntime) -> Result<(), Fail> {
 }
 
 #[test]
-fn lost_events_reset_the_device(rt: HostRuntime) -> Result<(), Fail> {
+fn a_palm_is_cancelled_and_forgotten_at_a_drop(rt: HostRuntime) -> Result<(), Fail> {
     let device = DeviceId::new(1).ok_or("a device")?;
-    let mut reader = phone(device).ok_or("a reader")?;
+    let mut reader = phone(rt.alloc(), device).ok_or("a reader")?;
     let given = feed(rt.alloc(), &mut reader, device, &TWO_FINGERS)?;
     assert_eq!(rt; given.len(), 2);
-    let lost = [
-        (EV_ABS, ABS_MT_SLOT, 0),
-        (EV_ABS, ABS_MT_POSITION_X, 120),
-        (EV_SYN, SYN_DROPPED, 0),
-    ];
+    let palm = [(EV_ABS, ABS_MT_TOOL_TYPE, MT_TOOL_PALM), REPORT];
+    let given = feed(rt.alloc(), &mut reader, device, &palm)?;
+    assert_eq!(rt; given.len(), 1);
+    let lost = [(EV_SYN, SYN_DROPPED, 0)];
     let given = feed(rt.alloc(), &mut reader, device, &lost)?;
     assert_eq!(rt; given.as_slice(), [Args::Reset(device)].as_slice());
     let after = [REPORT, (EV_ABS, ABS_MT_POSITION_X, 130), REPORT];
@@ -162,7 +160,7 @@ fn at(device: DeviceId, us: u64, kind: u16, code: u16, value: i32) -> RawEvent {
 #[test]
 fn moments_never_fall(rt: HostRuntime) -> Result<(), Fail> {
     let device = DeviceId::new(1).ok_or("a device")?;
-    let readers = alone(rt.alloc(), phone(device).ok_or("a reader")?)?;
+    let readers = alone(rt.alloc(), phone(rt.alloc(), device).ok_or("a reader")?)?;
     let events = [
         at(device, 1000, EV_ABS, ABS_MT_TRACKING_ID, 45),
         at(device, 2000, EV_SYN, SYN_REPORT, 0),

@@ -1,4 +1,5 @@
-use Rattle.anr_tracker.specs.Due.{IsFirst, due_of, due_up_to}
+use Rattle.anr_tracker.specs.Due.{IsFirst, due_of}
+use Rattle.anr_tracker.proofs.Firsts.{due_up_to}
 use Rattle.anr_tracker.proofs.tracker.first_of.Given as goal
 
 abbrev pub invariant-loop-i : goal.invariant-loop-i

@@ -18,7 +18,7 @@ loop-pointer-preserved c =
     let k = c.loop-pointer.pointer-index in
     let p = c.pointer-item.result in
     let here : slice_get ps k ≡ Some p = slice_get_read ps (length ps) k p refl c.loop-pointer-test.true c.pointer-item.is in
-    let rises : IsRising ps = rw c.as_slice-pointer-items.ensures c.len-len.ensures.rises in
+    let rises : IsRising ps = c.as_slice-pointer-items.ensures.rises in
     let more : members c.mark.new.self ≡ members c.loop-pointer.set ++ c.get.result ∷ [] =
     members_of_marked c.get.result c.loop-pointer.set c.mark.new.self (omega (arith, c.get.ensures.range)) c.mark.ensures.has
     (λ j i. rw c.get.ensures.value (c.loop-pointer.invariant.below j p i here)) in

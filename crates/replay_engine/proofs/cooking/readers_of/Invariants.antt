@@ -9,6 +9,6 @@ use Rattle.replay_engine.proofs.cooking.readers_of.Given as goal
 abbrev pub invariant-loop-place : goal.invariant-loop-place
 invariant-loop-place l =
     record {
-      stand : AllStandFor (device_plans l.plan.display 1 (map device_view (take l.place l.plan.devices.items))) [] l.readers.items;
+      stand : AllStandFor (device_plans l.plan.displays.items 1 (map device_view (take l.place l.plan.devices.items))) [] l.readers.items;
       numbered : AreNumbered l.readers.items;
     }

@@ -2,7 +2,7 @@
 use Rattle.std.proofs.Common.{◌≡◌, ◌<◌, ◌∙◌, ℕ, List, ◌∷◌, ◌++◌, ap, sym, subst, map, take, take_all, reverse, length, get_or, vec_len, arith}
 use Rattle.session_plan.specs.View.{plan_view}
 use Rattle.input_types.specs.declared.message.Args.{Args}
-use Rattle.device_reader.specs.CookedList.{cooked}
+use Rattle.device_reader.specs.CookedList.{added, cooked}
 use Rattle.replay_engine.specs.Cooked.{plans_of}
 use Rattle.replay_engine.specs.Following.{Follows}
 use Rattle.replay_engine.specs.Routing.{args_turns, channels_to, shown_by, step_turns, stream_by, turns_of}
@@ -29,9 +29,13 @@ loop-event-preserved c =
     in let past = reverse (take c.loop-event.event-index c.args.events.now)
     in let item = c.event-item.result
     in let newest = newest_of_take c.args.events.now c.loop-event.event-index item c.loop-event-test.true c.event-item.is
+    in let fresh : c.deref.result.now ≡ added plans past item
+    = c.deref.ensures.value
+    ∙ c.in_ok-moment.ensures.ok plans past before.stand
+    ∙ ap (λ (xs : List Args). xs ++ added plans past item) c.clear.ensures.items
     in let given : cooked plans (item ∷ past) ≡ reverse (map (λ a. (c.in_ok-moment.moment, a)) c.deref.result.now) ++ cooked plans past
     = c.in_ok-moment.ensures.cooked plans past before.stand
-    ∙ ap (λ (xs : List Args). reverse (map (λ a. (c.in_ok-moment.moment, a)) xs) ++ cooked plans past) (sym c.deref.ensures.value)
+    ∙ ap (λ (xs : List Args). reverse (map (λ a. (c.in_ok-moment.moment, a)) xs) ++ cooked plans past) (sym fresh)
     in record {
       len = c.in_ok-take_added.ensures.len ∙ before.len;
       shown = before.shown;

@@ -1,6 +1,6 @@
 use Rattle.std.proofs.Common.{arith, ap, length}
 use Rattle.std.specs.Prelude.{◌<◌}
-use Rattle.route_plain.specs.IdSet.{set_has}
+use Rattle.bits32.specs.Set.{is_in}
 use Rattle.route_plain.proofs.Listings.{length-listing_take, listing_ends_below}
 use Rattle.route_plain.proofs.listing.listing.Goals as goal
 
@@ -9,17 +9,16 @@ put-requires-clause-room c =
     rw c.loop-pointer.invariant
     (omega (
       arith,
-      length-listing_take (set_has c.args.set) c.args.pointers.now c.loop-pointer.pointer-index,
+      length-listing_take (λ i. is_in i c.args.set) c.args.pointers.now c.loop-pointer.pointer-index,
       c.loop-pointer-test.true,
-      ap length c.as_slice-pointer-items.ensures,
-      c.len-count.ensures.value,
-      c.len-count.ensures.range,
+      c.as_slice-pointer-items.ensures.range,
     ))
 
 pub put-requires-clause-rises : goal.put-requires-clause-rises
 put-requires-clause-rises c =
     let lt : c.loop-pointer.pointer-index < length c.args.pointers.now =
-    omega (arith, c.loop-pointer-test.true, ap length c.as_slice-pointer-items.ensures) in
+    omega (arith, c.loop-pointer-test.true, ap length c.as_slice-pointer-items.ensures.value) in
     rw c.loop-pointer.invariant
-    (listing_ends_below (set_has c.args.set) c.args.pointers.now c.loop-pointer.pointer-index c.pointer-item.result c.len-count.ensures.rises lt
-    (rw c.as_slice-pointer-items.ensures at c.pointer-item.is))
+    (listing_ends_below (λ i. is_in i c.args.set) c.args.pointers.now c.loop-pointer.pointer-index c.pointer-item.result
+    (rw c.as_slice-pointer-items.ensures.value at c.as_slice-pointer-items.ensures.rises) lt
+    (rw c.as_slice-pointer-items.ensures.value at c.pointer-item.is))

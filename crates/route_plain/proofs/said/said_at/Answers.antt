@@ -1,4 +1,4 @@
-use Rattle.std.proofs.Common.{◌∙◌, sym, refl}
+use Rattle.std.proofs.Common.{◌∙◌, sym}
 use Rattle.std.proofs.lemmas.Result.{IfOk-weaker}
 use Rattle.route_plain.specs.Moment.{scene_at}
 use Rattle.route_plain.specs.Route.{step_of}
@@ -11,7 +11,7 @@ returns-in-Pointers c =
     (IfOk-weaker c.said_of_motion.result _ _
     (λ v e. e
     ∙ said_of_motion_is (scene_at c.args.moment.now) c.in-Pointers.motion c.args.number c.args.moment.now.holds.now c.args.change.now.gained.items
-    c.args.change.now.loss refl (rw c.in-Pointers.is at c.requires.change) c.said_of_motion.ensures.device.0 c.said_of_motion.ensures.device.1)
+    c.args.change.now.loss (rw c.in-Pointers.is at c.requires.change) c.said_of_motion.ensures.device.0 c.said_of_motion.ensures.device.1)
     c.said_of_motion.ensures.said)
 
 pub returns-in-Forget : goal.returns-in-Forget
@@ -23,5 +23,5 @@ returns-in_default c =
     IfOk-weaker c.said_of_loss.result _ _
     (λ v e. e
     ∙ said_of_loss_is s (step_of c.args.turn.now s.windows) c.args.number c.args.moment.now.holds.now c.args.change.now.gained.items
-    c.args.change.now.loss refl (is_loss c.args.turn.now s.windows c.in_default.not-Pointers c.in_default.not-Forget) c.requires.change)
+    c.args.change.now.loss (is_loss c.args.turn.now s.windows c.in_default.not-Pointers c.in_default.not-Forget) c.requires.change)
     c.said_of_loss.ensures

@@ -1,12 +1,11 @@
-use Rattle.std.proofs.Common.{◌≡◌, ◌<◌, ap, ap₂, sym, ◌∙◌, ◌+◌, [], append-nil, arith}
+use Rattle.std.proofs.Common.{◌≡◌, ◌<◌, ap, ap₂, sym, ◌∙◌, ◌+◌, [], append-nil, arith, refl}
 use Rattle.window_snapshot.specs.Mask.{mask_has}
 use Rattle.routing_rules.specs.Given.{changed}
 use Rattle.route_plain.specs.Holds.{channels_with}
-use Rattle.route_plain.specs.Loss.{taking_of}
 use Rattle.route_plain.specs.Moment.{scene_at}
 use Rattle.route_plain.specs.Telling.{is_watching}
-use Rattle.route_plain.proofs.Unconcerned.{unconcerned, one_of_64}
-use Rattle.route_plain.proofs.SaidLaws.{said_none, said_step, told_of_motion_is}
+use Rattle.route_plain.proofs.Silence.{unconcerned, one_of_64}
+use Rattle.route_plain.proofs.SaidLaws.{said_none, said_step}
 use Rattle.route_plain.proofs.said.said_of_motion.Goals as goal
 use Rattle.route_plain.proofs.said.said_of_motion.Goals.{then-mask_has+in_ok-tell_channel, else-mask_has}
 
@@ -17,8 +16,6 @@ pub loop-below-preserved : goal.loop-below-preserved
 loop-below-preserved c =
     let s = scene_at c.args.moment.now in
     let k = c.loop-below.below + 1 in
-    let hs = c.args.moment.now.holds.now in
-    let t = taking_of s.windows c.args.change.now.loss in
     let gained = c.args.change.now.gained.items in
     let watched : mask_has c.watching-watching.result k ≡ is_watching s c.args.motion.now (changed c.args.motion.now) k =
     c.watching-watching.ensures k ∙ ap (λ p. is_watching s c.args.motion.now p k) c.changed.ensures
@@ -27,14 +24,13 @@ loop-below-preserved c =
     elim c.if-mask_has.branch [
       | then-mask_has+in_ok-tell_channel w ↦
           ap (λ o. o.items) w.out-is
-          ∙ said_step _ c.loop-below.below c.loop-below.out.items w.tell_channel.new.out.items _ w.in_ok-tell_channel.ensures c.loop-below.invariant
-          (told_of_motion_is s c.args.motion.now gained t hs k c.last_of-last.result w.mask_has-then-mask_has.result c.last_of-last.ensures.place
-          (w.mask_has-then-mask_has.ensures ∙ watched))
+          ∙ said_step _ c.loop-below.below c.loop-below.out.items w.tell_channel.new.out.items _ w.in_ok-tell_channel.ensures c.loop-below.invariant refl
       | else-mask_has w ↦
           let lt : c.loop-below.below < 64 = omega arith in
           ap (λ o. o.items) w.out-is
           ∙ said_step _ c.loop-below.below c.loop-below.out.items c.loop-below.out.items [] (sym (append-nil c.loop-below.out.items)) c.loop-below.invariant
           (sym
-          (unconcerned s c.args.motion.now gained t hs c.watching-watching.result k (one_of_64 c.loop-below.below lt) watched
+          (unconcerned s c.args.motion.now c.args.moment.now.snapshot.now gained c.args.change.now.loss c.args.moment.now.holds.now
+          c.watching-watching.result k refl (one_of_64 c.loop-below.below lt) watched
           (ap (λ m. mask_has m k) (sym concerned) ∙ sym c.mask_has.ensures ∙ w.if-mask_has.false)))
     ]

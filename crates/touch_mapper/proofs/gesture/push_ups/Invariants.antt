@@ -4,7 +4,8 @@ use Rattle.touch_mapper.specs.Rising.{Rises}
 use Rattle.touch_mapper.specs.Gesture.{ups}
 use Rattle.touch_mapper.proofs.gesture.push_ups.Given as goal
 
--- the motions so far, with those of the pointers that are left, are all, and there is room for as many as pointers are left
+-- the motions so far, with those of the pointers that are left, are all, and there is room for as many as pointers are
+-- left
 abbrev pub invariant-loop-i : goal.invariant-loop-i
 invariant-loop-i g l = record {
   all : l.given.items ++ map g.T.FromMotion.of_motion (ups l.device (λ i. is_in i l.cancelled) l.now l.below (drop l.i l.pointers))

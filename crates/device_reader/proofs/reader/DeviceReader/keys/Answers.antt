@@ -1,5 +1,5 @@
 use Rattle.device_reader.specs.Cooked.{Keys}
-use Rattle.device_reader.specs.Rule.{args_fit}
+use Rattle.device_reader.proofs.Rule.{args_fit}
 use Rattle.device_reader.proofs.reader.DeviceReader.keys.Goals as goal
 
 pub returns-clause-rule : goal.returns-clause-rule

@@ -1,5 +1,5 @@
 use Rattle.device_reader.specs.Cooked.{Touches}
-use Rattle.device_reader.specs.Rule.{args_fit}
+use Rattle.device_reader.proofs.Rule.{args_fit}
 use Rattle.device_reader.proofs.reader.DeviceReader.touch.Goals as goal
 
 pub returns-clause-rule : goal.returns-clause-rule

@@ -1,8 +1,14 @@
 use Rattle.std.proofs.Common.{ap, ◌∙◌}
 use Rattle.route_plain.specs.State.{State, scene_before}
-use Rattle.route_plain.specs.Route.{step_of, state_after}
+use Rattle.route_plain.specs.Route.{step_of, said_at, state_after}
 use Rattle.route_plain.proofs.NextState.{state_is}
 use Rattle.route_plain.proofs.plain.Plain.turn.Goals as goal
+
+pub returns-clause-said : goal.returns-clause-said
+returns-clause-said c =
+    let windows = c.args.snapshot.now in
+    rw (c.deref.ensures.value, c.deref-2.ensures.value) at c.in_ok-said.ensures
+    ∙ ap (λ (st : State). said_at (scene_before st windows c.args.live c.args.able) (step_of c.args.turn.now windows)) c.self.view_is
 
 pub returns-clause-state : goal.returns-clause-state
 returns-clause-state c =

@@ -1,0 +1,5 @@
+pub mod KeyPlaces
+pub mod PointerEnds
+pub mod KeyEnds
+pub mod Tracking
+pub mod Examples

@@ -1,0 +1,3 @@
+pub mod Tracked
+pub mod Ends
+pub mod Laws

@@ -1,0 +1,146 @@
+//! What a window was told, as far as it has not ended.
+ghost use Rattle.std.specs.Prelude.{◌≡◌, ◌+◌, ◌≤◌, ◌<◌, ℕ, [], IfOk, OnOk, OnErr, IsOk, vec_len, vec_capacity};
+ghost use Rattle.bits32.specs.Set.{is_in};
+ghost use Rattle.input_types.specs.declared.message.Body.TheVariants.{Motion as MotionBody};
+ghost use Rattle.cancel_synthesis.specs.Tracked.{Tracks, pointers_of, pointers_in, pointers_then};
+ghost use Rattle.cancel_synthesis.specs.Tracked.{keys_after, with_spare};
+ghost use Rattle.cancel_synthesis.specs.Ends.{pointers_cancelled, keys_cancelled, of_device, all_cancelled};
+
+use crate::keys::{cancel_each_key, device_keys_cancelled, forget, keep, keys_cancelled};
+use crate::pointers::{cancel, cancel_devices, pointers_after};
+use bits32::Bits32;
+use input_types::{Body, DeviceId, KeyMsg, Motion, Pointers};
+use std::alloc::{AllocError, Global};
+use std::marker::Model;
+
+/// The pointers and keys that are down in one window, from what it was told. Places are display pixels.
+#[derive(Drop)]
+pub struct InputState {
+    /// The pointers of each device at their last places, those of device 1 first.
+    pointers: [Pointers; 8],
+    /// The last message of each key that is down, by device and scan code.
+    keys: Vec<KeyMsg>,
+    /// For how many messages more there is room.
+    spare: u32,
+}
+
+impl Model for InputState {
+    ghost use Rattle.std.specs.Prelude.{vec_len, vec_capacity};
+    ghost use Rattle.cancel_synthesis.specs.Tracked.{Tracked, HasRoom};
+
+    ghost Value = { Tracked };
+
+    ghost view = { λ s. record { pointers = s.pointers; keys = s.keys.items; spare = s.spare } };
+
+    ghost invariant = { λ s. HasRoom (vec_len s.keys) (vec_capacity s.keys) s.spare };
+}
+
+impl InputState {
+    /// The window was told nothing.
+    pub fn new(alloc: Global) -> InputState
+        ensures pointers { (d : ℕ) → pointers_of result d ≡ [] }
+        ensures keys { result.keys ≡ [] }
+        ensures spare { result.spare ≡ 0 }
+    {
+        InputState {
+            pointers: [Pointers::empty(); 8],
+            keys: Vec::new(alloc),
+            spare: 0,
+        }
+    }
+
+    /// Makes room, so that the next `n` calls of `track` cannot answer want of memory. Without memory nothing changes.
+    pub fn reserve(&mut self, n: u32) -> Result<(), AllocError>
+        ensures ok { OnOk result (self.new ≡ with_spare n self.old) }
+        ensures err { OnErr result (self.new ≡ self.old) }
+        ensures reserved { n ≤ self.old.spare → IsOk result }
+    {
+        if n > self.spare {
+            self.keys.reserve(n as usize)?;
+            self.spare = n;
+        }
+        Ok(())
+    }
+
+    /// The window is told one thing more. Without memory nothing changes.
+    pub fn track(&mut self, body: &Body) -> Result<(), AllocError>
+        ensures ok { OnOk result (Tracks self.old self.new body.now) }
+        ensures err { OnErr result (self.new ≡ self.old) }
+        ensures reserved { 1 ≤ self.old.spare → IsOk result }
+    {
+        match body {
+            Body::Motion(motion) => set_pointers(&mut self.pointers, motion),
+            Body::Key(message) => set_key(&mut self.keys, message)?,
+            Body::Focus(_) => {}
+        }
+        self.spare = self.spare.saturating_sub(1);
+        Ok(())
+    }
+
+    /// What the window is told where pointers of a device with these ids are taken from it: nothing, where it has
+    /// none of them; one Cancel, where it keeps none; and else a cancelled up for each.
+    pub fn cancel_pointers(&self, device: DeviceId, lost: Bits32) -> Result<Vec<Motion>, AllocError>
+        ensures { IfOk result (λ v.
+            v.items ≡ pointers_cancelled device (λ i. is_in i lost) (pointers_of self.now device)) }
+    {
+        let mut told = Vec::new(*self.keys.allocator());
+        cancel(&mut told, device, pointers_at(&self.pointers, device), lost)?;
+        Ok(told)
+    }
+
+    /// What it is told where its keys are taken from it.
+    pub fn cancel_keys(&self) -> Result<Vec<KeyMsg>, AllocError>
+        ensures { IfOk result (λ v. v.items ≡ keys_cancelled self.now.keys) }
+    {
+        keys_cancelled(*self.keys.allocator(), &self.keys)
+    }
+
+    /// What it is told where its keys of a device are taken from it.
+    pub fn cancel_device_keys(&self, device: DeviceId) -> Result<Vec<KeyMsg>, AllocError>
+        ensures { IfOk result (λ v. v.items ≡ keys_cancelled (of_device device self.now.keys)) }
+    {
+        device_keys_cancelled(*self.keys.allocator(), &self.keys, device)
+    }
+
+    /// What it is told where all ends: device by device its pointers, and then its keys.
+    pub fn cancel_all(&self) -> Result<Vec<Body>, AllocError>
+        ensures { IfOk result (λ v. v.items ≡ all_cancelled self.now) }
+    {
+        let mut told = Vec::new(*self.keys.allocator());
+        cancel_devices(&mut told, &self.pointers)?;
+        cancel_each_key(&mut told, &self.keys)?;
+        Ok(told)
+    }
+}
+
+/// The pointers of a device.
+fn pointers_at(pointers: &[Pointers; 8], device: DeviceId) -> &Pointers
+    ensures { result.now ≡ pointers_in pointers.now device }
+{
+    &pointers[usize::from(device.get()) - 1]
+}
+
+/// Sets the pointers of the device of a motion.
+fn set_pointers(pointers: &mut [Pointers; 8], motion: &Motion)
+    ensures { (d : ℕ) →
+        pointers_in pointers.new d ≡ pointers_then (MotionBody motion.now) d (pointers_in pointers.old d) }
+{
+    let place = usize::from(motion.device.get()) - 1;
+    pointers[place] = pointers_after(motion, &pointers[place]);
+}
+
+/// Keeps the message of a key that is down, and forgets that of one that is up.
+fn set_key(keys: &mut Vec<KeyMsg>, message: &KeyMsg) -> Result<(), AllocError>
+    ensures items { OnOk result (keys.new.items ≡ keys_after message.now keys.old.items) }
+    ensures len { OnOk result (vec_len keys.new ≤ vec_len keys.old + 1) }
+    ensures capacity { vec_capacity keys.old ≤ vec_capacity keys.new }
+    ensures err { OnErr result (keys.new.items ≡ keys.old.items) }
+    ensures err_len { OnErr result (vec_len keys.new ≡ vec_len keys.old) }
+    ensures reserved { vec_len keys.old < vec_capacity keys.old → IsOk result }
+{
+    if message.key.down {
+        return keep(keys, message);
+    }
+    forget(keys, message);
+    Ok(())
+}

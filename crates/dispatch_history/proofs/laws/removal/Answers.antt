@@ -1,0 +1,5 @@
+use Rattle.dispatch_history.proofs.WholeLaws.{removed_law, gone_law}
+use Rattle.dispatch_history.proofs.laws.removal.Goals as goal
+
+pub returns : goal.returns
+returns c = record { stream = removed_law; gone = gone_law }

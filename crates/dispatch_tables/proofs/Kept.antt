@@ -1,0 +1,296 @@
+-- What is kept of a channel is a channel.
+use Rattle.std.proofs.Common.{◌≡◌, ℕ, suc, ◌+◌, ◌-◌, ◌≤◌, ◌==◌, nat_le, nat_lt, min, max, Bool, true, false, not, ◌&&◌, ◌||◌, cond, List, [], ◌∷◌, ◌++◌, length, reverse, take, drop, map, filter, refl, sym, ap, ◌∙◌, subst, inl, inr, arith, length-append, length-drop, append-nil, drop-drop}
+use Rattle.std.proofs.lemmas.List.{length-reverse, length-take}
+use Rattle.std.proofs.lemmas.Bool.{cases_eq, eq-eqb, ne_eqb, le-leb}
+use Rattle.std.proofs.lemmas.Bool.Decides.{nat_tests}
+use Rattle.input_types.specs.declared.message.Body.{Body}
+use Rattle.input_types.specs.declared.message.Message.{Message}
+use Rattle.input_channel.specs.declared.unfinished.Unfinished.{Unfinished}
+use Rattle.input_channel.specs.Order.{delivered, without, has_seq, NoneAfter, IsInOrder, Follow}
+use Rattle.input_channel.specs.State.{ChannelState, IsChannel, sent, publishable, published_at, let_go_of, with_spare}
+use Rattle.input_channel.proofs.Delivering.{published_channel, published_is}
+use Rattle.input_channel.proofs.Finishing.{finished_channel}
+use Rattle.dispatch_calls.specs.declared.call.Call.{Call}
+use Rattle.dispatch_calls.specs.declared.reply.Reply.{Reply}
+use Rattle.dispatch_history.specs.History.{clock, received, finished, moment_of}
+use Rattle.dispatch_history.specs.Effect.{Effect, past_of, stream}
+use Rattle.dispatch_history.specs.Effects.{step, said_at}
+use Rattle.dispatch_history.specs.Delivery.{published, delivery, is_finished}
+use Rattle.dispatch_tables.specs.Lawful.{Lawful}
+use Rattle.dispatch_tables.specs.Channel.{Part, Opens, Receives, Finishes, Untouched, NumberedFrom, part_of, with_part, channel_at, enqueued_all}
+use Rattle.dispatch_tables.specs.Laws.{NumberedLaw}
+use Rattle.dispatch_tables.proofs.Lawfuls.{lawful_last, lawful_always}
+use Rattle.dispatch_tables.proofs.Numbering.{messages_from, enqueued_is, numbered-take}
+use Rattle.dispatch_tables.proofs.Waiting.{waiting, with_delivery}
+use Rattle.dispatch_tables.proofs.Parts.{CanBe, can_be}
+use Rattle.dispatch_tables.proofs.Channels.{numbered, sound, channel_step}
+
+-- no message was delivered after the clock
+delivery_law : (ds : List ℕ) (es : List Effect) → Lawful ds es → (c k : ℕ) → delivery es c k ≤ clock (past_of es)
+delivery_law ds es l =
+    lawful_always ds (λ xs. (c k : ℕ) → delivery xs c k ≤ clock (past_of xs)) (λ c k. omega arith)
+        (λ call answer xs m h c k. later (nat_le k (published xs c)) (delivery xs c k) (moment_of call) (clock (past_of xs)) (h c k)) es l
+  where
+    later : (b : Bool) (at moment now : ℕ) → at ≤ now → cond b at (max moment now) ≤ max moment now
+    later true at moment now le = omega arith
+    later false at moment now le = omega arith
+
+none_after : (done : ℕ → Bool) (at : ℕ → ℕ) (now : ℕ) (ms : List Message) → ((k : ℕ) → at k ≤ now) → NoneAfter now (waiting done at ms)
+none_after done at now [] le = tt
+none_after done at now (m ∷ ms) le = first (not (done m.seq)) (none_after done at now ms le)
+  where
+    first : (b : Bool) → NoneAfter now (map (with_delivery at) (filter (λ m. not (done m.seq)) ms))
+        → NoneAfter now (map (with_delivery at) (cond b (m ∷ filter (λ m. not (done m.seq)) ms) (filter (λ m. not (done m.seq)) ms)))
+    first true h = (le m.seq, h)
+    first false h = h
+
+none_after-without : (now seq : ℕ) (us : List Unfinished) → NoneAfter now us → NoneAfter now (without seq us)
+none_after-without now seq [] h = tt
+none_after-without now seq (u ∷ us) h = first (not (u.seq == seq)) (none_after-without now seq us h.1)
+  where
+    first : (b : Bool) → NoneAfter now (without seq us) → NoneAfter now (cond b (u ∷ without seq us) (without seq us))
+    first true k = (h.0, k)
+    first false k = k
+
+pub none_after_clock : (ds : List ℕ) (es : List Effect) (c gone spare now : ℕ) → Lawful ds es → clock (past_of es) ≤ now → NoneAfter now (channel_at es c gone spare).unfinished
+none_after_clock ds es c gone spare now l le =
+    none_after (is_finished (past_of es) c) (delivery es c) now (take (published es c) (reverse (stream es c)))
+        (λ k. omega (arith, delivery_law ds es l c k, le))
+
+part_after : (now : ℕ) (p : Part) (s : ChannelState) → NoneAfter now s.unfinished → NoneAfter now (with_part p s).unfinished
+part_after now (Opens limit) s h = h
+part_after now Receives s h = h
+part_after now (Finishes seq) s h = none_after-without now seq s.unfinished h
+part_after now Untouched s h = h
+
+told_after : (now : ℕ) (bs : List Body) (s : ChannelState) → NoneAfter now s.unfinished → NoneAfter now (enqueued_all bs now s).unfinished
+told_after now bs s h = subst (λ t. NoneAfter now t.unfinished) (sym (enqueued_is now bs s (sent s) refl)) h
+
+lt_next : (n seq : ℕ) → (suc n ≡ seq → ⊥) → nat_lt (suc n) seq ≡ nat_lt n seq
+lt_next n seq ne = grind (arith, nat_tests)
+
+and_false : (b : Bool) → (b && false) ≡ false
+and_false true = refl
+and_false false = refl
+
+-- a message waits where its number is one of those that are published, and it is not done
+pub has_seq-waiting : (done : ℕ → Bool) (at : ℕ → ℕ) (seq n : ℕ) (ms : List Message) → NumberedFrom n ms
+    → has_seq seq (waiting done at ms) ≡ (nat_lt n seq && nat_le seq (n + length ms) && not (done seq))
+has_seq-waiting done at seq n [] h = none (nat_lt n seq) (nat_le seq (n + 0)) refl refl
+  where
+    none : (a b : Bool) → nat_lt n seq ≡ a → nat_le seq (n + 0) ≡ b → false ≡ (a && b && not (done seq))
+    none true true e f = absurd (grind (arith, nat_tests))
+    none true false e f = refl
+    none false b e f = refl
+has_seq-waiting done at seq n (m ∷ ms) h =
+    elim (cases_eq m.seq seq) [
+      | inl e ↦ here e (done m.seq) refl (has_seq-waiting done at seq (suc n) ms h.1)
+      | inr ne ↦ there ne (done m.seq) (has_seq-waiting done at seq (suc n) ms h.1)
+    ]
+  where
+    here : m.seq ≡ seq → (b : Bool) → done m.seq ≡ b
+        → has_seq seq (map (with_delivery at) (filter (λ m. not (done m.seq)) ms)) ≡ (nat_lt (suc n) seq && nat_le seq (suc n + length ms) && not (done seq))
+        → has_seq seq (map (with_delivery at) (cond (not b) (m ∷ filter (λ m. not (done m.seq)) ms) (filter (λ m. not (done m.seq)) ms)))
+        ≡ (nat_lt n seq && nat_le seq (n + suc (length ms)) && not (done seq))
+    here e true f r =
+        let low : nat_lt (suc n) seq ≡ false = grind (arith, nat_tests, h.0) in
+        let d : done seq ≡ true = subst (λ k. done k ≡ true) e f in
+        r ∙ ap (λ b. b && nat_le seq (suc n + length ms) && not (done seq)) low ∙ rw d (sym (and_false (nat_lt n seq && nat_le seq (n + suc (length ms)))))
+    here e false f r =
+        let low : nat_lt n seq ≡ true = grind (arith, nat_tests, h.0) in
+        let high : nat_le seq (n + suc (length ms)) ≡ true = grind (arith, nat_tests, h.0) in
+        let d : done seq ≡ false = subst (λ k. done k ≡ false) e f in
+        rw (eq-eqb m.seq seq e, low, high, d) refl
+
+    tests : (m.seq ≡ seq → ⊥) → (nat_lt (suc n) seq && nat_le seq (suc n + length ms) && not (done seq)) ≡ (nat_lt n seq && nat_le seq (n + suc (length ms)) && not (done seq))
+    tests ne =
+        let apart : suc n ≡ seq → ⊥ = λ e. ne (h.0 ∙ e) in
+        let low : nat_lt (suc n) seq ≡ nat_lt n seq = lt_next n seq apart in
+        let high : suc n + length ms ≡ n + suc (length ms) = omega arith in
+        rw (low, high) refl
+
+    there : (m.seq ≡ seq → ⊥) → (b : Bool)
+        → has_seq seq (map (with_delivery at) (filter (λ m. not (done m.seq)) ms)) ≡ (nat_lt (suc n) seq && nat_le seq (suc n + length ms) && not (done seq))
+        → has_seq seq (map (with_delivery at) (cond (not b) (m ∷ filter (λ m. not (done m.seq)) ms) (filter (λ m. not (done m.seq)) ms)))
+        ≡ (nat_lt n seq && nat_le seq (n + suc (length ms)) && not (done seq))
+    there ne true r = r ∙ tests ne
+    there ne false r = rw (ne_eqb m.seq seq ne) (r ∙ tests ne)
+
+-- those with greater numbers are all others
+greater : (seq : ℕ) (u : Unfinished) (us : List Unfinished) → u.seq ≡ seq → Follow u us → length (without seq us) ≡ length us
+greater seq u [] same h = refl
+greater seq u (v ∷ vs) same h =
+    let other : (v.seq == seq) ≡ false = ne_eqb v.seq seq (λ e. absurd (omega (arith, e, same, h.0))) in
+    ap (λ b. length (cond (not b) (v ∷ without seq vs) (without seq vs))) other ∙ ap suc (greater seq u vs same h.2)
+
+-- one that is there is taken out
+shorter : (seq : ℕ) (us : List Unfinished) → IsInOrder us → has_seq seq us ≡ true → length (without seq us) + 1 ≡ length us
+shorter seq [] o e = absurd (cc e)
+shorter seq (u ∷ us) o e =
+    elim (cases_eq u.seq seq) [
+      | inl same ↦
+          let b : (u.seq == seq) ≡ true = eq-eqb u.seq seq same in
+          ap (λ x. length (cond (not x) (u ∷ without seq us) (without seq us)) + 1) b ∙ rest (greater seq u us same o.0)
+      | inr ne ↦
+          let b : (u.seq == seq) ≡ false = ne_eqb u.seq seq ne in
+          let more : length (without seq us) + 1 ≡ length us = shorter seq us o.1 (subst (λ x. (x || has_seq seq us) ≡ true) b e) in
+          ap (λ x. length (cond (not x) (u ∷ without seq us) (without seq us)) + 1) b ∙ omega (arith, more)
+    ]
+  where
+    rest : length (without seq us) ≡ length us → length (without seq us) + 1 ≡ suc (length us)
+    rest e = omega (arith, e)
+
+-- which of the messages are published and not finished
+pub has_seq_law : (ds : List ℕ) (es : List Effect) (c seq : ℕ) → Lawful ds es
+    → has_seq seq (waiting (is_finished (past_of es) c) (delivery es c) (take (published es c) (reverse (stream es c))))
+    ≡ (nat_le 1 seq && nat_le seq (published es c) && not (is_finished (past_of es) c seq))
+has_seq_law ds es c seq l =
+    let many : 0 + length (take (published es c) (reverse (stream es c))) ≡ published es c =
+    omega (arith, length-take (published es c) (reverse (stream es c)), length-reverse (stream es c)) in
+    has_seq-waiting (is_finished (past_of es) c) (delivery es c) seq 0 (take (published es c) (reverse (stream es c)))
+    (numbered-take 0 (published es c) (reverse (stream es c)) (numbered ds es c l))
+    ∙ ap (λ n. nat_le 1 seq && nat_le seq n && not (is_finished (past_of es) c seq)) many
+
+-- a channel with other messages and other room
+other_messages : (s : ChannelState) (gone spare : ℕ) (messages : List Message) → IsChannel s → gone ≤ s.received → sent s ≤ gone + length messages
+    → IsChannel (record s { gone = gone; messages = messages; spare = spare })
+other_messages s gone spare messages h low le =
+    record {
+      gone_received = low;
+      received_published = h.received_published;
+      published_sent = omega (arith, h.published_sent, le);
+      counted = h.counted;
+      few = h.few;
+      numbered = h.numbered;
+      in_order = h.in_order;
+    }
+
+-- a channel after its part
+part_channel : (ds : List ℕ) (es : List Effect) (c : ℕ) (p : Part) → Lawful ds es → CanBe es c p → IsChannel (channel_at es c 0 0) → IsChannel (with_part p (channel_at es c 0 0))
+part_channel ds es c (Opens limit) l can h =
+    record {
+      gone_received = h.gone_received;
+      received_published = h.received_published;
+      published_sent = h.published_sent;
+      counted = h.counted;
+      few = h.few;
+      numbered = h.numbered;
+      in_order = h.in_order;
+    }
+part_channel ds es c Receives l can h =
+    record {
+      gone_received = omega (arith, h.gone_received);
+      received_published = omega (arith, can);
+      published_sent = h.published_sent;
+      counted = h.counted;
+      few = h.few;
+      numbered = h.numbered;
+      in_order = h.in_order;
+    }
+part_channel ds es c (Finishes seq) l can h =
+    let s = channel_at es c 0 0 in
+    finished_channel s seq (without seq s.unfinished) h refl
+    (shorter seq s.unfinished h.in_order
+    (has_seq_law ds es c seq l
+    ∙ tests (nat_le 1 seq) (nat_le seq (published es c)) (is_finished (past_of es) c seq) (le-leb 1 seq can.0)
+    (le-leb seq (published es c) (omega (arith, can.1, (sound ds es c l).received_published))) can.2))
+  where
+    tests : (x y z : Bool) → x ≡ true → y ≡ true → z ≡ false → (x && y && not z) ≡ true
+    tests x y z e f g = rw (e, f, g) refl
+part_channel ds es c Untouched l can h = h
+
+-- a channel once all that can be is published
+published_ok : (now : ℕ) (s : ChannelState) → IsChannel s → NoneAfter now s.unfinished → IsChannel (published_at now s)
+published_ok now s h after =
+    subst IsChannel (published_is s now (min (64 - length s.unfinished) (sent s - s.published)) h refl)
+    (published_channel s now (min (64 - length s.unfinished) (sent s - s.published)) h after refl)
+
+told_ok : (now : ℕ) (bs : List Body) (s : ChannelState) → IsChannel s → IsChannel (enqueued_all bs now s)
+told_ok now bs s h =
+    subst IsChannel (sym (enqueued_is now bs s (sent s) refl))
+    (other_messages s s.gone (s.spare - length bs) (s.messages ++ messages_from now (sent s) bs) h h.gone_received
+    (omega (arith, length-append s.messages (messages_from now (sent s) bs))))
+
+channel_start : (c : ℕ) → IsChannel (channel_at [] c 0 0)
+channel_start c =
+    record {
+      gone_received = omega arith;
+      received_published = omega arith;
+      published_sent = omega arith;
+      counted = refl;
+      few = omega arith;
+      numbered = tt;
+      in_order = tt;
+    }
+
+whole_channel : (ds : List ℕ) (es : List Effect) (c : ℕ) → Lawful ds es → IsChannel (channel_at es c 0 0)
+whole_channel ds es c l =
+    lawful_always ds (λ xs. IsChannel (channel_at xs c 0 0)) (channel_start c)
+        (λ call answer xs m h.
+        let last = lawful_last ds call answer xs m in
+        let now = clock (past_of (step ds call answer xs)) in
+        let bs = said_at ds call answer xs c in
+        let p = part_of call answer c in
+        let s = with_part p (channel_at xs c 0 0) in
+        let old : clock (past_of xs) ≤ now = omega arith in
+        let all : IsChannel (channel_at (step ds call answer xs) c 0 (0 - length bs)) =
+        subst IsChannel (sym (channel_step ds call answer xs c 0 0 m (omega arith)))
+        (published_ok now (enqueued_all bs now s)
+        (told_ok now bs s (part_channel ds xs c p last.1 (can_be xs c call answer last.0) h))
+        (told_after now bs s (part_after now p (channel_at xs c 0 0) (none_after_clock ds xs c 0 0 now last.1 old)))) in
+        let t = channel_at (step ds call answer xs) c 0 (0 - length bs) in
+        other_messages t 0 0 t.messages all (omega arith) (omega arith))
+        es l
+
+-- with its first messages let go
+pub channel_law : (ds : List ℕ) (es : List Effect) (c gone spare : ℕ) → Lawful ds es → gone ≤ received (past_of es) c → IsChannel (channel_at es c gone spare) × (sent (channel_at es c gone spare) ≡ length (stream es c)) × (publishable (channel_at es c gone spare) ≡ published es c) × ((now : ℕ) → clock (past_of es) ≤ now → NoneAfter now (channel_at es c gone spare).unfinished)
+channel_law ds es c gone spare l le =
+    let h = whole_channel ds es c l in
+    let s = channel_at es c 0 0 in
+    let kept : gone ≤ length (reverse (stream es c)) = omega (arith, le, (sound ds es c l).received_published, length-reverse (stream es c)) in
+    let all : gone + length (drop gone (reverse (stream es c))) ≡ length (stream es c) =
+    omega (arith, kept, length-drop gone (reverse (stream es c)), length-reverse (stream es c)) in (
+      other_messages s gone spare (drop gone (reverse (stream es c))) h le (omega (arith, all, length-reverse (stream es c))),
+      all,
+      ap (λ n. min n (length (finished (past_of es) c) + 64)) all,
+      λ now old. none_after_clock ds es c gone spare now l old,
+    )
+
+pub numbered_law : NumberedLaw
+numbered_law = numbered
+
+pub ready_law : (ds : List ℕ) (call : Call) (answer : Reply) (es : List Effect) (c gone spare : ℕ) (bodies : List Body) → Lawful ds (step ds call answer es) → gone ≤ received (past_of es) c → let now = clock (past_of (step ds call answer es)) in NoneAfter now (enqueued_all bodies now (with_part (part_of call answer c) (channel_at es c gone spare))).unfinished
+ready_law ds call answer es c gone spare bodies l le =
+    let now = clock (past_of (step ds call answer es)) in
+    let s = channel_at es c gone spare in
+    let old : clock (past_of es) ≤ now = omega arith in
+    told_after now bodies (with_part (part_of call answer c) s)
+    (part_after now (part_of call answer c) s (none_after_clock ds es c gone spare now (lawful_last ds call answer es l).1 old))
+
+-- a channel of which all that can be is published stays as it is
+all_published : (now : ℕ) (s : ChannelState) → publishable s ≡ s.published → published_at now s ≡ s
+all_published now s e =
+    let none : publishable s - s.published ≡ 0 = omega (arith, e) in
+    λ i. record s {
+      published = e i;
+      unfinished = (ap (λ n. s.unfinished ++ delivered now s.published n) none ∙ append-nil s.unfinished) i;
+    }
+
+pub quiet_law : (ds : List ℕ) (call : Call) (answer : Reply) (es : List Effect) (c gone spare : ℕ) → Lawful ds (step ds call answer es) → gone ≤ received (past_of es) c → said_at ds call answer es c ≡ [] → part_of call answer c ≡ Untouched → channel_at (step ds call answer es) c gone spare ≡ channel_at es c gone spare
+quiet_law ds call answer es c gone spare l le none untouched =
+    let now = clock (past_of (step ds call answer es)) in
+    let s = channel_at es c gone spare in
+    let same : spare ≡ spare - length (said_at ds call answer es c) = omega (arith, ap length none) in
+    ap (λ n. channel_at (step ds call answer es) c gone n) same
+    ∙ channel_step ds call answer es c gone spare l le
+    ∙ (λ i. published_at now (enqueued_all (none i) now (with_part (untouched i) s)))
+    ∙ all_published now s (channel_law ds es c gone spare (lawful_last ds call answer es l).1 le).2
+
+pub let_go_law : (ds : List ℕ) (es : List Effect) (c gone spare : ℕ) → Lawful ds es → gone ≤ received (past_of es) c → (let_go_of (channel_at es c gone spare) ≡ channel_at es c (received (past_of es) c) spare) × ((n : ℕ) → with_spare n (channel_at es c gone spare) ≡ channel_at es c gone (max n spare))
+let_go_law ds es c gone spare l le =
+    let rest : gone + (received (past_of es) c - gone) ≡ received (past_of es) c = omega (arith, le) in (
+      λ i. record (channel_at es c (received (past_of es) c) spare) {
+        messages = (drop-drop (received (past_of es) c - gone) gone (reverse (stream es c)) ∙ ap (λ n. drop n (reverse (stream es c))) rest) i;
+      },
+      λ n. refl,
+    )

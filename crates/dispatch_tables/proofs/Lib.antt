@@ -1,0 +1,13 @@
+pub mod Numbering
+pub mod Waiting
+pub mod Parts
+pub mod Stepping
+pub mod Lawfuls
+pub mod Channels
+pub mod Kept
+pub mod Unopened
+pub mod Answering
+pub mod Masking
+pub mod Ables
+pub mod Duties
+pub mod Keeping

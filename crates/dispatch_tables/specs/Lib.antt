@@ -1,0 +1,5 @@
+pub mod Lawful
+pub mod Channel
+pub mod Masks
+pub mod Dues
+pub mod Laws

@@ -1,0 +1,69 @@
+-- What is kept of the keys of a window, and what it is told of keys.
+use Rattle.std.specs.Prelude.{◌≡◌, ℕ, Bool, true, List, [], ◌∷◌, ◌++◌, ◌&&◌, map, Option, Some, None, if◌then◌else◌}
+use Rattle.std.specs.List.{list_any}
+use Rattle.input_types.specs.declared.key.KeyArgs.{KeyArgs}
+use Rattle.input_types.specs.declared.key.KeyMsg.{KeyMsg}
+use Rattle.input_types.specs.declared.message.Args.{Args}
+use Rattle.input_types.specs.declared.message.Args.TheVariants.{Key as KeyOfDevice, Reset}
+use Rattle.input_types.specs.declared.message.Body.{Body}
+use Rattle.window_snapshot.specs.Mask.{mask_has}
+use Rattle.key_repeat.specs.Due.{Sent, next_of}
+use Rattle.cancel_synthesis.specs.Ends.{keys_cancelled, of_device}
+use Rattle.cancel_synthesis.specs.Tracked.{keys_then}
+use Rattle.dispatch_calls.specs.declared.call.Call.{Call}
+use Rattle.dispatch_calls.specs.declared.call.Call.TheVariants.{Pump, Tick}
+use Rattle.dispatch_calls.specs.declared.reply.Reply.{Reply}
+use Rattle.dispatch_calls.specs.declared.reply.Reply.TheVariants.{Dispatched, Repeated, Named}
+use Rattle.dispatch_history.specs.Queue.{inbound, args_of}
+use Rattle.dispatch_history.specs.Effect.{Effect, past_of}
+use Rattle.dispatch_history.specs.Delivery.{able}
+use Rattle.dispatch_history.specs.Focus.{is_target}
+use Rattle.dispatch_history.specs.Keys.{same_key, is_before, loses_all, keys}
+use Rattle.dispatch_history.specs.KeyTold.{key_as_is, keys_told, repeat_by, last_key}
+
+-- the key comes before all of these
+abbrev pub Above : KeyArgs → List KeyArgs → Type 0
+Above k [] = Unit {0}
+Above k (l ∷ ls) = (is_before k l ≡ true) × Above k ls
+
+-- keys stand in rising order
+abbrev pub Rising : List KeyArgs → Type 0
+Rising [] = Unit {0}
+Rising (k ∷ ks) = Above k ks × Rising ks
+
+-- what is kept are the keys that the window holds after a history with these effects
+pub record KeysAre (es : List Effect) (w : ℕ) (held : List KeyMsg) : Type 0 where
+  pub keys_are : map (λ m. m.key) held ≡ keys es w
+
+-- what is kept of keys once these bodies are tracked, the first one first
+abbrev pub bodies_tracked : List Body → List KeyMsg → List KeyMsg
+bodies_tracked [] held = held
+bodies_tracked (b ∷ bs) held = bodies_tracked bs (keys_then b held)
+
+-- the key messages that the step with this call and reply says to a channel that is live after it
+abbrev pub key_messages : Call → Reply → List Effect → ℕ → List KeyMsg
+key_messages call answer before w =
+    let after = (call, answer) ∷ past_of before in
+    let args = args_of call answer (inbound (past_of before)) in
+    keys_told args (is_target (past_of before) w && able before w) (loses_all after (past_of before) w) (keys before w)
+    ++ repeat_by after (last_key before) w
+
+-- a key that is dispatched is told as it is: a down where the window hears it, an up where it holds the key
+abbrev pub key_heard : KeyArgs → (hears : Bool) → List KeyMsg → List KeyMsg
+key_heard k hears held =
+    if (if k.down then hears else list_any (λ m. same_key k m.key) held) then key_as_is k ∷ [] else []
+
+-- a repeat that is made
+abbrev pub repeat_heard : Option (ℕ × KeyMsg) → List KeyMsg
+repeat_heard None = []
+repeat_heard (Some n) = n.1 ∷ []
+
+-- What the key target is told of keys, with what is kept of its keys and of the last key message. It hears keys where it is able. Its
+-- keys of a device are cancelled by a reset of that, and all of them where a tick names it and where it is not the key target any more.
+abbrev pub target_told : Call → Reply → Option Args → ℕ → (hears stays : Bool) → List KeyMsg → Option Sent → List KeyMsg
+target_told (Pump now) Dispatched (Some (KeyOfDevice k)) w hears stays held last = key_heard k hears held
+target_told (Pump now) Dispatched (Some (Reset d)) w hears stays held last = keys_cancelled (of_device d held)
+target_told (Pump now) Repeated args w hears stays held last = repeat_heard (next_of last)
+target_told (Pump now) answer args w hears stays held last = []
+target_told (Tick now) (Named mask) args w hears stays held last = if mask_has mask w then keys_cancelled held else []
+target_told call answer args w hears stays held last = if stays then [] else keys_cancelled held

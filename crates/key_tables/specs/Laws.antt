@@ -1,0 +1,159 @@
+-- What is proved of what is kept of the focus, of keys and of repeats. Each law is the clause of a function of its own.
+use Rattle.std.specs.Prelude.{◌≡◌, ◌<◌, ℕ, true, false, List, [], ◌++◌, map, Option, Some, None, Bool, ◌&&◌, bit_and, slice_set}
+use Rattle.window_snapshot.specs.Mask.{is_channel, mask_has}
+use Rattle.window_snapshot.specs.Named.{is_focusable_on}
+use Rattle.focus_resolver.specs.Resolver.{FocusState, focus_of, target_of, is_focused}
+use Rattle.focus_resolver.specs.Changes.{IsOnlyIn}
+use Rattle.dispatch_calls.specs.declared.call.Call.{Call}
+use Rattle.dispatch_calls.specs.declared.call.Call.TheVariants.{FocusOn}
+use Rattle.dispatch_calls.specs.declared.reply.Reply.{Reply}
+use Rattle.dispatch_history.specs.History.{History, live, clock, snapshot}
+use Rattle.dispatch_history.specs.Focus.{focus, has_focus, key_target, may_focus, focus_told}
+use Rattle.dispatch_history.specs.Effect.{Effect, past_of}
+use Rattle.dispatch_history.specs.Effects.{step}
+use Rattle.dispatch_history.specs.Focus.{is_target}
+use Rattle.dispatch_history.specs.Delivery.{able}
+use Rattle.dispatch_history.specs.Keys.{keys}
+use Rattle.dispatch_tables.specs.Lawful.{Lawful}
+use Rattle.key_tables.specs.Held.{Rising, KeysAre, bodies_tracked, key_messages, target_told}
+use Rattle.key_tables.specs.Repeats.{RepeatIs, repeat_next}
+use Rattle.key_repeat.specs.Due.{Sent, due_of}
+use Rattle.input_types.specs.declared.key.KeyMsg.{KeyMsg}
+use Rattle.input_types.specs.declared.motion.Motion.{Motion}
+use Rattle.input_types.specs.declared.message.Body.TheVariants.{Motion as MotionBody, Key}
+use Rattle.cancel_synthesis.specs.Laws.{keys_told as tracked}
+use Rattle.dispatch_history.specs.Queue.{inbound, args_of}
+use Rattle.dispatch_history.specs.KeyTold.{repeat_due}
+use Rattle.key_tables.specs.Focused.{FocusIs, MasksAre, is_request, leaves_focus, change_told}
+
+-- What is kept of the focus says which channel has the focus of each display, which channels are focused, and where keys go.
+abbrev pub FocusRead : Type 0
+FocusRead =
+    (es : List Effect) (f : FocusState)
+    → FocusIs es f
+    → ((y : ℕ) → y < 4 → focus_of f y ≡ focus (past_of es) y)
+    × ((w : ℕ) → is_focused (focus_of f) w ≡ has_focus (past_of es) w)
+    × (target_of f ≡ key_target (past_of es))
+
+-- A request sets the channel that is requested for its display, which is asked for last then.
+abbrev pub FocusRequested : Type 0
+FocusRequested =
+    (displays : List ℕ) (now display : ℕ) (channel : Option ℕ) (answer : Reply) (es : List Effect) (f : FocusState)
+    → display < 4
+    → FocusIs es f
+    → FocusIs (step displays (FocusOn now display channel) answer es)
+    (record { requested = slice_set f.requested display channel; last = display; focusable = f.focusable })
+
+-- Any other step changes at most the channels that may have the focus.
+abbrev pub FocusShown : Type 0
+FocusShown =
+    (displays : List ℕ) (call : Call) (answer : Reply) (es : List Effect) (f : FocusState) (masks : List ℕ)
+    → is_request call ≡ false
+    → MasksAre masks (past_of (step displays call answer es))
+    → FocusIs es f
+    → FocusIs (step displays call answer es) (record { requested = f.requested; last = f.last; focusable = masks })
+
+-- A step that shows no windows, and opens or removes no channel, leaves them as they are, too.
+abbrev pub FocusLeft : Type 0
+FocusLeft =
+    (displays : List ℕ) (call : Call) (answer : Reply) (es : List Effect) (f : FocusState)
+    → leaves_focus call ≡ true
+    → FocusIs es f
+    → FocusIs (step displays call answer es) f
+
+-- A channel may have the focus of a display where it is in the mask of those that the windows name there with one that may have it,
+-- and in that of the live ones.
+abbrev pub FocusMask : Type 0
+FocusMask =
+    (h : History) (y c named alive : ℕ)
+    → mask_has named c ≡ (is_channel c && is_focusable_on (snapshot h) y c)
+    → mask_has alive c ≡ live h c
+    → mask_has (bit_and named alive) c ≡ may_focus h y c
+
+-- The masks of a change of the focus say what each channel is told of it.
+abbrev pub FocusTold : Type 0
+FocusTold =
+    (es fs : List Effect) (f g : FocusState) (lost gained w : ℕ)
+    → FocusIs es f
+    → FocusIs fs g
+    → IsOnlyIn lost (is_focused (focus_of f)) (is_focused (focus_of g))
+    → IsOnlyIn gained (is_focused (focus_of g)) (is_focused (focus_of f))
+    → focus_told (has_focus (past_of es) w) (has_focus (past_of fs) w) ≡ change_told lost gained w
+
+-- Only the key target holds keys, and only while it is able.
+abbrev pub KeysOfTarget : Type 0
+KeysOfTarget =
+    (displays : List ℕ) (es : List Effect) (w : ℕ) → Lawful displays es → (is_target (past_of es) w && able es w) ≡ false → keys es w ≡ []
+
+-- The keys that a window holds stand in rising order, each once.
+abbrev pub KeysRise : Type 0
+KeysRise = (displays : List ℕ) (es : List Effect) (w : ℕ) → Lawful displays es → Rising (keys es w)
+
+-- A channel that is not live holds no key: nothing is to be kept of one that is opened.
+abbrev pub KeysAtFirst : Type 0
+KeysAtFirst =
+    (displays : List ℕ) (es : List Effect) (w : ℕ) → Lawful displays es → live (past_of es) w ≡ false → KeysAre es w []
+
+-- Of what a window is told only the key messages change what is kept of its keys.
+abbrev pub BodiesTracked : Type 0
+BodiesTracked =
+    (ms : List Motion) (ks : List KeyMsg) (a b : Bool) (held : List KeyMsg)
+    → bodies_tracked (map MotionBody ms ++ map Key ks ++ focus_told a b) held ≡ tracked ks held
+
+-- Where the key messages that a step tells are tracked, the keys of a channel that is live after it are kept.
+abbrev pub KeysStep : Type 0
+KeysStep =
+    (displays : List ℕ) (call : Call) (answer : Reply) (es : List Effect) (w : ℕ) (held : List KeyMsg)
+    → Lawful displays (step displays call answer es)
+    → live (past_of (step displays call answer es)) w ≡ true
+    → KeysAre es w held
+    → KeysAre (step displays call answer es) w (tracked (key_messages call answer es w) held)
+
+-- A step tells nobody of keys but the key target before it.
+abbrev pub KeysQuiet : Type 0
+KeysQuiet =
+    (displays : List ℕ) (call : Call) (answer : Reply) (es : List Effect) (w : ℕ)
+    → Lawful displays (step displays call answer es)
+    → is_target (past_of es) w ≡ false
+    → key_messages call answer es w ≡ []
+
+-- What it tells that one is found from what is kept.
+abbrev pub TargetTold : Type 0
+TargetTold =
+    (displays : List ℕ) (call : Call) (answer : Reply) (es : List Effect) (w : ℕ) (held : List KeyMsg) (last : Option Sent)
+    → Lawful displays (step displays call answer es)
+    → is_target (past_of es) w ≡ true
+    → live (past_of (step displays call answer es)) w ≡ true
+    → KeysAre es w held
+    → RepeatIs es last
+    → key_messages call answer es w
+    ≡ target_told call answer (args_of call answer (inbound (past_of es))) w (able es w)
+    (is_target (past_of (step displays call answer es)) w) held last
+
+-- What is kept of the last key message says when a repeat is due, and is of the key target.
+abbrev pub RepeatRead : Type 0
+RepeatRead =
+    (displays : List ℕ) (es : List Effect) (last : Option Sent)
+    → Lawful displays es
+    → RepeatIs es last
+    → (due_of last ≡ repeat_due es) × ((s : Sent) → last ≡ Some s → is_target (past_of es) s.channel ≡ true)
+
+-- The key messages that the key target is told leave the last one kept.
+abbrev pub RepeatStep : Type 0
+RepeatStep =
+    (displays : List ℕ) (call : Call) (answer : Reply) (es : List Effect) (t : ℕ) (last : Option Sent)
+    → Lawful displays (step displays call answer es)
+    → is_target (past_of es) t ≡ true
+    → RepeatIs es last
+    → RepeatIs (step displays call answer es)
+    (repeat_next (live (past_of (step displays call answer es)) t) (clock (past_of (step displays call answer es))) t (key_messages call answer es t)
+    last)
+
+-- Where there is no key target, a step changes nothing of it.
+abbrev pub RepeatLeft : Type 0
+RepeatLeft =
+    (displays : List ℕ) (call : Call) (answer : Reply) (es : List Effect) (last : Option Sent)
+    → Lawful displays (step displays call answer es)
+    → key_target (past_of es) ≡ None
+    → RepeatIs es last
+    → RepeatIs (step displays call answer es) last

@@ -1,0 +1,4 @@
+pub mod Focused
+pub mod Held
+pub mod Repeats
+pub mod Laws

@@ -1,0 +1,8 @@
+use Rattle.raw_events.proofs.Newlines.{before_newline, no_newline}
+use Rattle.raw_events.proofs.piece.line_in_front.Goals as goal
+
+pub returns-in-Some-clause-value : goal.returns-in-Some-clause-value
+returns-in-Some-clause-value c = before_newline c.args.bytes.now c.in-Some.place c.in-Some.ensures
+
+pub returns-in-None-clause-value : goal.returns-in-None-clause-value
+returns-in-None-clause-value c = no_newline c.args.bytes.now c.in-None.ensures

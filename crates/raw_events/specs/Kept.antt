@@ -1,0 +1,51 @@
+-- What a reader keeps between two pieces, and what its parts read.
+use Rattle.std.specs.Prelude.{ℕ, ◌≡◌, ◌<◌, ◌≤◌, List, ◌++◌, length, take, Option, Some, None, Result, Ok, Err}
+use Rattle.raw_events.specs.declared.event.RawEvent.{RawEvent}
+use Rattle.raw_events.specs.declared.event.LineError.{LineError}
+use Rattle.raw_events.specs.declared.event.LineError.TheVariants as errors
+use Rattle.raw_events.specs.declared.line.Line.{Line}
+use Rattle.raw_events.specs.Recording.{line_len, next_number}
+use Rattle.raw_events.specs.Pieces.{Told, Place, Step, with_told}
+
+-- the bytes of a line that has begun, with room for the longest line
+pub record IsKept (kept : List ℕ) (capacity : ℕ) : Type 0 where
+  pub short : length kept ≤ 4096
+  pub unended : line_len kept ≡ length kept
+  pub room : 4096 ≤ capacity
+
+-- want of memory is no refusal of a line
+abbrev pub IsCause : Option LineError → Type 0
+IsCause (Some errors.Memory) = ⊥
+IsCause (Some error) = Unit {0}
+IsCause None = Unit {0}
+
+-- the refusal, where a line was refused; else the number of the line that has begun, and its bytes
+abbrev pub place_of : ℕ → List ℕ → Option LineError → Place
+place_of n kept None = Ok (n, kept)
+place_of n kept (Some error) = Err error
+
+-- events that were told before
+abbrev pub behind : List RawEvent → Told → Told
+behind before told = record { events = before ++ told.events; next = told.next }
+
+-- A line was told: what the lines behind it tell is still to come. After want of memory nothing was added.
+abbrev pub TellsLine : Result ℕ LineError → Line → ℕ → List RawEvent → List RawEvent → Type 0
+TellsLine (Ok next) line n before after = (next ≡ next_number n) × ((told : Told) → behind after told ≡ behind before (with_told line n told))
+TellsLine (Err errors.Memory) line n before after = after ≡ before
+TellsLine (Err error) line n before after = (told : Told) → record { events = after; next = Err error } ≡ behind before (with_told line n told)
+
+-- Lines were told up to where the next one begins. After want of memory some events may have been added.
+abbrev pub TellsLines : Result ℕ LineError → Told → List RawEvent → List RawEvent → Type 0
+TellsLines (Err errors.Memory) told before after = take (length before) after ≡ before
+TellsLines next told before after = record { events = after; next = next } ≡ behind before told
+
+-- A piece was read up to where a line goes on. After want of memory some events and some bytes may have been added.
+abbrev pub ReadsPiece : Result ℕ LineError → Step → List RawEvent → List RawEvent → List ℕ → List ℕ → Type 0
+ReadsPiece (Ok next) step before after kept keeps = (after ≡ before ++ step.events) × (step.place ≡ Ok (next, keeps))
+ReadsPiece (Err errors.Memory) step before after kept keeps = (take (length before) after ≡ before) × (take (length kept) keeps ≡ kept)
+ReadsPiece (Err error) step before after kept keeps = (after ≡ before ++ step.events) × (step.place ≡ Err error)
+
+-- A line that has begun is longer then, or stays where it would be too long.
+abbrev pub Keeps : Result (Unit {0}) LineError → List ℕ → ℕ → List ℕ → List ℕ → Type 0
+Keeps (Ok done) longer n kept keeps = keeps ≡ longer
+Keeps (Err error) longer n kept keeps = (error ≡ errors.TooLong n) × (4096 < length longer) × (keeps ≡ kept)

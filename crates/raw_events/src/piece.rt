@@ -1,0 +1,177 @@
+//! What a piece of a recording tells.
+ghost use Rattle.std.specs.Prelude.{◌≡◌, ◌<◌, ◌≤◌, length, ◌∷◌, ◌++◌, [], IfOk, IfSome, MatchOption, vec_capacity};
+ghost use Rattle.std.specs.Result.{result_map_both};
+ghost use Rattle.raw_events.specs.Line.{known, judged};
+ghost use Rattle.raw_events.specs.Recording.{line_len, refusal};
+ghost use Rattle.raw_events.specs.Pieces.{parts, last_line, tell, from_parts};
+ghost use Rattle.raw_events.specs.Kept.{IsKept, TellsLine, TellsLines, ReadsPiece, Keeps};
+
+use crate::event::{LineError, RawEvent};
+use crate::front::Front;
+use crate::line::{Cause, Line, MAX_LINE, judge, judge_next};
+use input_types::DeviceId;
+use memchr::memchr;
+
+/// How many bytes stand before the first newline.
+#[inline(always)]
+fn line_in_front(bytes: &[u8]) -> usize
+    ensures value { result ≡ line_len bytes.now }
+    ensures within { result ≤ length bytes.now }
+{
+    match memchr(b'\n', bytes) {
+        Some(place) => place,
+        None => bytes.len(),
+    }
+}
+
+/// The bytes up to the first newline, and those behind it; None where there is no newline.
+#[inline(always)]
+fn next_line(bytes: &[u8]) -> Option<(&[u8], &[u8])>
+    ensures parts { MatchOption result (parts bytes.now ≡ record { ended = []; begun = bytes.now })
+        (λ cut. parts bytes.now
+        ≡ record { ended = cut.0.now ∷ (parts cut.1.now).ended; begun = (parts cut.1.now).begun }) }
+    ensures unended { MatchOption result (line_len bytes.now ≡ length bytes.now)
+        (λ cut. line_len cut.0.now ≡ length cut.0.now) }
+    ensures shorter { IfSome result (λ cut. length cut.1.now < length bytes.now) }
+{
+    let (line, rest) = bytes.split_at(line_in_front(bytes));
+    match rest {
+        [_, after @ ..] => Some((line, after)),
+        [] => None,
+    }
+}
+
+/// The refusal of a line by its number.
+fn refused(cause: Cause, line: u64) -> LineError
+    ensures { result ≡ refusal cause line }
+{
+    match cause {
+        Cause::BadLine => LineError::BadLine { line },
+        Cause::NoMoment => LineError::NoMoment { line },
+        Cause::TooLong => LineError::TooLong { line },
+    }
+}
+
+/// Appends what a line says to the events, and answers the number of the next line.
+#[inline(always)]
+pub(crate) fn tell_line(
+    line: &Line,
+    number: u64,
+    events: &mut Vec<RawEvent>,
+) -> Result<u64, LineError>
+    ensures { TellsLine result line.now number events.old.items events.new.items }
+{
+    match line {
+        Line::PassedOver => {}
+        Line::Event(event) => events.push(*event)?,
+        Line::Refused(cause) => return Err(refused(*cause, number)),
+    }
+    Ok(number.saturating_add(1))
+}
+
+/// Appends the events of the lines that end in these bytes, and answers the number of the line behind them with its
+/// bytes.
+pub(crate) fn read_lines<'a>(
+    devices: &[(String, DeviceId)],
+    number: u64,
+    bytes: &'a [u8],
+    events: &mut Vec<RawEvent>,
+) -> Result<(u64, &'a [u8]), LineError>
+    ensures told { TellsLines (result_map_both (λ r. r.0) (λ e. e) result)
+        (tell (known devices.now) number (parts bytes.now).ended) events.old.items events.new.items }
+    ensures begun { IfOk result (λ r. r.1.now ≡ (parts bytes.now).begun) }
+{
+    let mut number = number;
+    let mut rest = bytes;
+    let mut front: Option<Front> = None;
+    'lines: while let Some((line, after)) = next_line(rest) {
+        let (said, next) = judge_next(devices, &front, line);
+        number = tell_line(&said, number, events)?;
+        front = next;
+        rest = after;
+    }
+    Ok((number, rest))
+}
+
+/// Appends the event of what stands behind the last newline, where anything does.
+pub(crate) fn tell_last(
+    devices: &[(String, DeviceId)],
+    number: u64,
+    last: &[u8],
+    events: &mut Vec<RawEvent>,
+) -> Result<u64, LineError>
+    ensures { TellsLines result (tell (known devices.now) number (last_line last.now))
+        events.old.items events.new.items }
+{
+    if last.is_empty() {
+        return Ok(number);
+    }
+    let line = judge(devices, last);
+    tell_line(&line, number, events)
+}
+
+/// Reads a piece behind the line that has begun, of which `kept` has the bytes, and answers the number of the line that
+/// goes on behind the piece, of which `kept` has the bytes then.
+pub(crate) fn read_piece(
+    devices: &[(String, DeviceId)],
+    kept: &mut Vec<u8>,
+    number: u64,
+    piece: &[u8],
+    events: &mut Vec<RawEvent>,
+) -> Result<u64, LineError>
+    requires { IsKept kept.old.items (vec_capacity kept.old) }
+    ensures kept { IsKept kept.new.items (vec_capacity kept.new) }
+    ensures read { ReadsPiece result (from_parts (known devices.now) number (parts (kept.old.items ++ piece.now)))
+        events.old.items events.new.items kept.old.items kept.new.items }
+{
+    if kept.is_empty() {
+        return read_fresh(devices, kept, number, piece, events);
+    }
+    match next_line(piece) {
+        Some((end, after)) => {
+            keep(kept, end, number)?;
+            let line = judge(devices, kept.as_slice());
+            let number = tell_line(&line, number, events)?;
+            read_fresh(devices, kept, number, after, events)
+        }
+        None => {
+            keep(kept, piece, number)?;
+            Ok(number)
+        }
+    }
+}
+
+/// Reads bytes that begin with a new line. What `kept` has goes away, unless memory runs out.
+fn read_fresh(
+    devices: &[(String, DeviceId)],
+    kept: &mut Vec<u8>,
+    number: u64,
+    bytes: &[u8],
+    events: &mut Vec<RawEvent>,
+) -> Result<u64, LineError>
+    requires { IsKept kept.old.items (vec_capacity kept.old) }
+    ensures kept { IsKept kept.new.items (vec_capacity kept.new) }
+    ensures read { ReadsPiece result (from_parts (known devices.now) number (parts bytes.now))
+        events.old.items events.new.items kept.old.items kept.new.items }
+{
+    let (number, begun) = read_lines(devices, number, bytes, events)?;
+    kept.clear();
+    keep(kept, begun, number)?;
+    Ok(number)
+}
+
+/// Appends bytes to a line that has begun, unless it gets too long.
+fn keep(kept: &mut Vec<u8>, more: &[u8], number: u64) -> Result<(), LineError>
+    requires kept { IsKept kept.old.items (vec_capacity kept.old) }
+    requires unended { line_len more.now ≡ length more.now }
+    ensures kept { IsKept kept.new.items (vec_capacity kept.new) }
+    ensures longer { Keeps result (kept.old.items ++ more.now) number kept.old.items kept.new.items }
+{
+    if kept.len() + more.len() > MAX_LINE {
+        return Err(LineError::TooLong { line: number });
+    }
+    match kept.extend_from_slice(more) {
+        Ok(()) => Ok(()),
+        Err(_) => unreachable!(),
+    }
+}

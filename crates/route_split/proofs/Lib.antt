@@ -1,0 +1,4 @@
+pub mod Changing
+pub mod Arms
+pub mod MaskSets
+pub mod FollowingLaws

@@ -1,0 +1,67 @@
+//! The touch states of all devices.
+ghost use Rattle.std.specs.Prelude.{◌≡◌, ℕ, true, IfOk};
+ghost use Rattle.bits32.specs.Set.{is_in};
+ghost use Rattle.window_snapshot.specs.Mask.{is_channel, mask_has};
+ghost use Rattle.routing_rules.specs.Taking.{takes, pilfers};
+ghost use Rattle.route_split.specs.Tables.{table_of, any_at, holds_at, IsFresh, ChangesAll};
+ghost use Rattle.route_split.specs.Marking.{gives, taking, IsWhole, after};
+
+use crate::mark::Mark;
+use crate::taking::{fresh_states, index_of, take_mark};
+use bits32::Bits32;
+use input_types::DeviceId;
+use std::alloc::{AllocError, Global};
+use std::marker::Model;
+use touch_state::TouchState;
+
+/// Which of the windows 1 to 64 hold which pointers of the devices 1 to 8, since when, and which of them are pilfering which device.
+#[derive(Drop)]
+pub struct Touches {
+    /// The state of each device, that of device 1 first.
+    states: Vec<TouchState>,
+}
+
+impl Model for Touches {
+    ghost use Rattle.std.specs.Prelude.{List};
+    ghost use Rattle.touch_state.specs.Touches.{Touches as Table};
+    ghost use Rattle.route_split.specs.Tables.{IsTables};
+
+    ghost Value = { List Table };
+
+    ghost view = { λ t. t.states.items };
+
+    ghost invariant = { λ t. IsTables t.states.items };
+}
+
+impl Touches {
+    /// Nobody holds anything.
+    pub fn new(alloc: Global) -> Result<Touches, AllocError>
+        ensures { IfOk result (λ t. (d : ℕ) → IsFresh (table_of t d)) }
+    {
+        let states = fresh_states(alloc)?;
+        Ok(Touches { states })
+    }
+
+    /// The ids of the pointers of a device that a window holds.
+    pub fn held(&self, window: u32, device: DeviceId) -> Bits32
+        requires { is_channel window ≡ true }
+        ensures { (i : ℕ) → is_in i result ≡ holds_at self.now window device i }
+    {
+        self.states[index_of(device)].held(window)
+    }
+
+    /// The mask of the windows that hold something of a device.
+    pub fn holders(&self, device: DeviceId) -> u64
+        ensures { (w : ℕ) → mask_has result w ≡ any_at self.now w device }
+    {
+        self.states[index_of(device)].holders()
+    }
+
+    /// Takes the step of a mark, at a place, which is how many steps were before it.
+    pub fn take(&mut self, mark: &Mark, place: u64)
+        requires { IsWhole mark.now }
+        ensures { ChangesAll self.old self.new (gives mark.now) (takes (taking self.old mark.now)) place (pilfers (taking self.old mark.now)) }
+    {
+        take_mark(&mut self.states, mark, place);
+    }
+}

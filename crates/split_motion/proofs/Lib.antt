@@ -1,0 +1,4 @@
+pub mod Parts
+pub mod SplitLaws
+pub mod Keeping
+pub mod Examples

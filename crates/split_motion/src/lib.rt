@@ -1,0 +1,23 @@
+//! A motion of a device, cut down to the pointers of one window.
+//!
+//! Fingers 0 and 1 are down, 0 in one window and 1 in another, and finger 1 lifts:
+//!
+//! ```text
+//! the device says                    POINTER_UP:1 0@100,200 1@700,400
+//! the window that holds {0} is told  MOVE 0@100,200
+//! the window that holds {1} is told  UP 1@700,400
+//! ```
+//!
+//! Had finger 1 become a palm, the latter would be told a `CANCEL`. A window that holds both is told the motion as it
+//! is, and one that holds neither is told nothing.
+//!
+//! Which window holds what is not known here. What is proved, besides what the motion is, is that it is what the
+//! rules of routing tell a window of the motion ([`laws`]).
+#![tactic(auto)]
+
+pub mod laws;
+mod listed;
+mod window;
+
+pub use listed::{about, part, plain, rest};
+pub use window::split;

@@ -1,0 +1,96 @@
+//! Some of the pointers of a motion, and motions that list them.
+ghost use Rattle.std.specs.Prelude.{◌≡◌, ℕ, not, ◌<◌, ◌++◌, [], ◌∷◌, length};
+ghost use Rattle.bits32.specs.Set.{is_in};
+ghost use Rattle.input_types.specs.Pointers.{EndsBelow, IsRising};
+ghost use Rattle.routing_rules.specs.Told.{listing, index_in, plain};
+
+use bits32::Bits32;
+use input_types::{DeviceId, Motion, MotionAction, Pointer, PointerId, Pointers, PushRefused};
+
+/// The pointers whose ids are in the set, in the same order.
+pub fn part(pointers: &Pointers, set: Bits32) -> Pointers
+    ensures { result ≡ listing (λ i. is_in i set) pointers.now }
+{
+    let mut listed = Pointers::empty();
+    // Its clauses say that the ids rise, and that there are at most 16.
+    let _count = pointers.len();
+    for pointer in pointers.as_slice() {
+        if set.has(pointer.id.get()) {
+            put(&mut listed, *pointer);
+        }
+    }
+    listed
+}
+
+/// The pointers whose ids are not in the set, in the same order.
+pub fn rest(pointers: &Pointers, set: Bits32) -> Pointers
+    ensures { result ≡ listing (λ i. not (is_in i set)) pointers.now }
+{
+    let mut listed = Pointers::empty();
+    let _count = pointers.len();
+    for pointer in pointers.as_slice() {
+        if !set.has(pointer.id.get()) {
+            put(&mut listed, *pointer);
+        }
+    }
+    listed
+}
+
+/// Puts a pointer behind a list.
+fn put(list: &mut Pointers, pointer: Pointer)
+    requires room { length list.old < 16 }
+    requires rises { EndsBelow list.old pointer.id }
+    ensures { list.new ≡ list.old ++ pointer ∷ [] }
+{
+    match list.push(pointer) {
+        Ok(()) => {}
+        Err(PushRefused::Full) | Err(PushRefused::NotRising) => unreachable!(),
+    }
+}
+
+/// The place of an id in a list, and how many pointers it has where it lists no such one.
+fn index_in(pointers: &Pointers, id: PointerId) -> u8
+    ensures { result ≡ index_in id pointers.now }
+{
+    let count = pointers.len();
+    for (place, pointer) in pointers.as_slice().iter().enumerate() {
+        if pointer.id == id {
+            return place as u8;
+        }
+    }
+    count as u8
+}
+
+/// A motion that lists these pointers, without flags and without an index.
+pub fn plain(device: DeviceId, action: MotionAction, pointers: Pointers) -> Motion
+    ensures { result ≡ plain device action pointers }
+{
+    Motion {
+        device,
+        action,
+        index: 0,
+        flags: 0,
+        pointers,
+    }
+}
+
+/// A motion that lists these pointers, about the one with this id.
+pub fn about(
+    device: DeviceId,
+    action: MotionAction,
+    id: PointerId,
+    flags: u32,
+    pointers: Pointers,
+) -> Motion
+    ensures { result ≡
+        record { device = device; action = action; index = index_in id pointers; flags = flags; pointers = pointers } }
+{
+    let index = index_in(&pointers, id);
+    Motion {
+        device,
+        action,
+        index,
+        flags,
+        pointers,
+    }
+}
