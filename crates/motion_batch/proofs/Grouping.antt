@@ -1,17 +1,13 @@
 -- Messages in groups: what waits is a group of its own, and nothing goes on with a group that was given out.
-use Rattle.std.proofs.Common.{◌≡◌, ℕ, zero, suc, ◌+◌, ◌≤◌, ◌==◌, ◌&&◌, ◌||◌, not, Bool, true, false, if◌then◌else◌, List, [], ◌∷◌, ◌++◌, map, reverse, length, take, drop, Option, Some, None, refl, sym, ◌∙◌, ap, arith}
+use Rattle.std.proofs.Common.{◌≡◌, ℕ, suc, ◌≤◌, ◌==◌, ◌&&◌, not, Bool, true, false, if◌then◌else◌, List, [], ◌∷◌, ◌++◌, map, reverse, length, Option, Some, None, refl, sym, ◌∙◌, ap, arith}
 use Rattle.std.proofs.lemmas.Bool.Decides.{nat_tests}
-use Rattle.std.proofs.lemmas.List.{append_assoc, append-nil, length-append, length-map, length-reverse, map-append, reverse-append, take-append-le, drop-append-le}
+use Rattle.std.proofs.lemmas.List.{length-map, length-reverse, map-append, reverse-append}
 use Rattle.input_types.specs.declared.message.Message.{Message}
 use Rattle.motion_batch.specs.declared.sample.Sample.{Sample}
 use Rattle.motion_batch.specs.Batched.{with_waiting}
-use Rattle.motion_batch.specs.Pairs.{Mark, grouped, groups_of, joins, part, parts}
-use Rattle.motion_batch.specs.Rule.{count_due, due_of, has_same_ids, is_due, is_move, left_by, pointers_of, reaches}
+use Rattle.motion_batch.specs.Pairs.{Mark, mark, grouped, groups_of, joins, part, parts}
+use Rattle.motion_batch.specs.Rule.{has_same_ids, is_due, reaches}
 use Rattle.motion_batch.specs.Unbatch.{move_of}
-
--- a message that no frame has parted from the next one
-abbrev pub mark : Message → Mark
-mark m = record { message = m; parted = false }
 
 -- samples, the newest first, as messages of a device
 abbrev pub marked : ℕ → List Sample → List Mark → List Mark

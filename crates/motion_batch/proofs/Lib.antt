@@ -1,8 +1,10 @@
 pub mod Batched
 pub mod Classes
+pub mod Examples
 pub mod Extending
 pub mod Grouping
 pub mod OneClass
 pub mod Rows
 pub mod Splits
+pub mod Steps
 pub mod Whole

@@ -1,6 +1,5 @@
 -- The messages of one class of a well-formed stream are a well-formed stream.
-use Rattle.std.proofs.Common.{◌≡◌, ℕ, ◌≤◌, ◌==◌, nat_eq, Bool, true, false, if◌then◌else◌, List, [], ◌∷◌, ◌++◌, Option, Some, None, refl, sym, ◌∙◌, ap, arith, reverse}
-use Rattle.std.specs.List.{filter}
+use Rattle.std.proofs.Common.{◌≡◌, ℕ, ◌==◌, nat_eq, Bool, true, false, if◌then◌else◌, List, [], ◌∷◌, ◌++◌, Option, Some, None, refl, sym, ◌∙◌, ap, arith, reverse}
 use Rattle.std.specs.Option.{option_map, option_and_then, is_some}
 use Rattle.std.proofs.lemmas.Bool.Decides.{nat_tests}
 use Rattle.std.proofs.lemmas.List.{append-nil, reverse-append}
@@ -8,6 +7,7 @@ use Rattle.std.proofs.lemmas.List.Elements.{filter-append}
 use Rattle.input_types.specs.declared.message.Body.{Body}
 use Rattle.input_types.specs.declared.message.Body.TheVariants.{Motion as MotionBody, Key, Focus}
 use Rattle.input_types.specs.declared.message.Message.{Message}
+use Rattle.input_types.specs.declared.motion.Motion.{Motion}
 use Rattle.input_types.specs.Gestures.{after_motion, allowed, differ}
 use Rattle.input_types.specs.StreamRule.{StreamState, after_body, after_key, is_well_formed, stream_state, untold, with_ids, with_repeat}
 use Rattle.motion_batch.specs.Rule.{class_of}
@@ -50,16 +50,20 @@ other_class k t s (Focus had) c e =
     let apart : k ≡ 0 → ⊥ = λ z. grind (arith, nat_tests) in
     record { ids = ap (λ (x : StreamState). x.ids k) told.1; repeats = λ z. absurd (apart z); focus = λ z. absurd (apart z) }
 
+-- what a window knows after a motion that may come
+after_ids : (u : StreamState) (m : Motion) (ids : List ℕ) → after_motion (u.ids m.device) m ≡ Some ids
+    → after_body u (MotionBody m) ≡ Some (record { ids = with_ids u.ids m.device ids; repeats = u.repeats; focus = u.focus })
+after_ids u m ids e = ap (option_map (λ x. record { ids = with_ids u.ids m.device x; repeats = u.repeats; focus = u.focus })) e
+
 -- a message of the class may come in both, and changes the same
 same_class : (k : ℕ) (u t s : StreamState) (b : Body) → (class_of b == k) ≡ true → Agree k u t → after_body t b ≡ Some s → (v : StreamState) × (after_body u b ≡ Some v) × Agree k v s
 same_class k u t s (MotionBody m) c a e =
     let told = some_map (λ ids. record { ids = with_ids t.ids m.device ids; repeats = t.repeats; focus = t.focus }) (after_motion (t.ids m.device) m) s e in
     let device : m.device ≡ k = grind (arith, nat_tests) in
     let known : u.ids m.device ≡ t.ids m.device = rw device a.ids in
-    let v : StreamState = record { ids = with_ids u.ids m.device told.0; repeats = u.repeats; focus = u.focus } in
-    let here : nat_eq k m.device ≡ true = grind (arith, nat_tests) in
-    (v, ap (λ ids. option_map (λ x. record { ids = with_ids u.ids m.device x; repeats = u.repeats; focus = u.focus }) (after_motion ids m)) known
-      ∙ ap (option_map (λ x. record { ids = with_ids u.ids m.device x; repeats = u.repeats; focus = u.focus })) told.1,
+    let here : nat_eq k m.device ≡ true = grind (arith, nat_tests) in (
+      record { ids = with_ids u.ids m.device told.0; repeats = u.repeats; focus = u.focus },
+      after_ids u m told.0 (ap (λ ids. after_motion ids m) known ∙ told.1),
       record {
         ids =
             ap (λ b. if b then told.0 else u.ids k) here
@@ -67,30 +71,33 @@ same_class k u t s (MotionBody m) c a e =
             ∙ ap (λ (x : StreamState). x.ids k) told.2;
         repeats = λ z. a.repeats z ∙ ap (λ (x : StreamState). x.repeats) told.2;
         focus = λ z. a.focus z ∙ ap (λ (x : StreamState). x.focus) told.2;
-      })
+      },
+    )
 same_class k u t s (Key m) c a e =
     let told = some_map (λ due. record { ids = t.ids; repeats = with_repeat t.repeats m.key.device m.key.scan due; focus = t.focus }) (after_key (t.repeats m.key.device m.key.scan) m) s e in
     let zero_k : k ≡ 0 = grind (arith, nat_tests) in
-    let known : u.repeats ≡ t.repeats = a.repeats zero_k in
-    (record { ids = u.ids; repeats = with_repeat u.repeats m.key.device m.key.scan told.0; focus = u.focus },
+    let known : u.repeats ≡ t.repeats = a.repeats zero_k in (
+      record { ids = u.ids; repeats = with_repeat u.repeats m.key.device m.key.scan told.0; focus = u.focus },
       ap (λ table. option_map (λ due. record { ids = u.ids; repeats = with_repeat u.repeats m.key.device m.key.scan due; focus = u.focus }) (after_key (table m.key.device m.key.scan) m)) known
-      ∙ ap (option_map (λ due. record { ids = u.ids; repeats = with_repeat u.repeats m.key.device m.key.scan due; focus = u.focus })) told.1,
+          ∙ ap (option_map (λ due. record { ids = u.ids; repeats = with_repeat u.repeats m.key.device m.key.scan due; focus = u.focus })) told.1,
       record {
         ids = a.ids ∙ ap (λ (x : StreamState). x.ids k) told.2;
         repeats = λ z. ap (λ table. with_repeat table m.key.device m.key.scan told.0) known ∙ ap (λ (x : StreamState). x.repeats) told.2;
         focus = λ z. a.focus z ∙ ap (λ (x : StreamState). x.focus) told.2;
-      })
+      },
+    )
 same_class k u t s (Focus had) c a e =
     let told = some_allowed (differ had t.focus) (record { ids = t.ids; repeats = t.repeats; focus = had }) s e in
     let zero_k : k ≡ 0 = grind (arith, nat_tests) in
-    let may : differ had u.focus ≡ true = ap (differ had) (a.focus zero_k) ∙ told.0 in
-    (record { ids = u.ids; repeats = u.repeats; focus = had },
+    let may : differ had u.focus ≡ true = ap (differ had) (a.focus zero_k) ∙ told.0 in (
+      record { ids = u.ids; repeats = u.repeats; focus = had },
       ap (λ b. allowed b (record { ids = u.ids; repeats = u.repeats; focus = had })) may,
       record {
         ids = a.ids ∙ ap (λ (x : StreamState). x.ids k) told.1;
         repeats = λ z. a.repeats z ∙ ap (λ (x : StreamState). x.repeats) told.1;
         focus = λ z. ap (λ (x : StreamState). x.focus) told.1;
-      })
+      },
+    )
 
 -- what a window knows of a class after the messages of that class alone
 Known : ℕ → List Message → StreamState → Type 0

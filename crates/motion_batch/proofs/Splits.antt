@@ -1,5 +1,5 @@
 -- What a frame gives out and what it leaves.
-use Rattle.std.proofs.Common.{◌≡◌, ℕ, zero, suc, ◌+◌, ◌≤◌, ◌&&◌, Bool, true, false, if◌then◌else◌, List, [], ◌∷◌, ◌++◌, reverse, length, take, drop, Option, Some, None, refl, sym, ◌∙◌, ap, subst, arith}
+use Rattle.std.proofs.Common.{◌≡◌, ℕ, suc, ◌≤◌, true, false, if◌then◌else◌, List, [], ◌∷◌, ◌++◌, reverse, length, take, drop, Option, refl, sym, ◌∙◌, ap, subst, arith}
 use Rattle.std.proofs.lemmas.List.{take-append-le, drop-append-le}
 use Rattle.motion_batch.specs.declared.sample.Sample.{Sample}
 use Rattle.motion_batch.specs.Pairs.{Mark}
@@ -13,9 +13,9 @@ chained_newer at (q ∷ r ∷ qs) c =
     elim (is_due at q) as (λ b. Chained (if b then [] else q ∷ newer at (r ∷ qs))) [
       | true ↦ tt
       | false ↦ elim (is_due at r) as (λ b. Chained (if b then [] else r ∷ newer at qs) → Chained (q ∷ (if b then [] else r ∷ newer at qs))) [
-          | true ↦ λ d. tt
-          | false ↦ λ d. (c.0, d)
-        ] (chained_newer at (r ∷ qs) c.1)
+        | true ↦ λ d. tt
+        | false ↦ λ d. (c.0, d)
+      ] (chained_newer at (r ∷ qs) c.1)
     ]
 
 chained_rest : (q : Sample) (qs : List Sample) → Chained (q ∷ qs) → Chained qs
@@ -124,8 +124,9 @@ split_due at (q ∷ qs) falls =
       | false ↦ λ e.
           let rest = split_due at qs falls.1 in
           let xs : List Sample = reverse qs in
-          let few : count_due at xs ≤ length xs = count_few at xs in
-          (ap (due_of at) (reverse_with q qs) ∙ ap (λ n. take n (xs ++ q ∷ [])) (count_last at xs q e) ∙ take-append-le (count_due at xs) xs (q ∷ []) few ∙ rest.0,
+          let few : count_due at xs ≤ length xs = count_few at xs in (
+            ap (due_of at) (reverse_with q qs) ∙ ap (λ n. take n (xs ++ q ∷ [])) (count_last at xs q e) ∙ take-append-le (count_due at xs) xs (q ∷ []) few ∙ rest.0,
             ap (left_by at) (reverse_with q qs) ∙ ap (λ n. drop n (xs ++ q ∷ [])) (count_last at xs q e) ∙ drop-append-le (count_due at xs) xs (q ∷ []) few
-            ∙ ap (λ ys. ys ++ q ∷ []) rest.1 ∙ sym (reverse_with q (newer at qs)))
+                ∙ ap (λ ys. ys ++ q ∷ []) rest.1 ∙ sym (reverse_with q (newer at qs)),
+          )
     ] refl

@@ -1,6 +1,5 @@
 -- The items and what waits are what was taken.
-use Rattle.std.proofs.Common.{◌≡◌, ℕ, zero, suc, ◌+◌, ◌≤◌, ◌==◌, Bool, true, false, if◌then◌else◌, List, [], ◌∷◌, ◌++◌, map, take, drop, Option, Some, None, refl, sym, ◌∙◌, ap, arith}
-use Rattle.std.specs.List.{filter}
+use Rattle.std.proofs.Common.{◌≡◌, ℕ, ◌≤◌, ◌==◌, Bool, true, false, if◌then◌else◌, List, [], ◌∷◌, ◌++◌, map, Option, Some, None, refl, sym, ◌∙◌, ap, arith}
 use Rattle.std.proofs.lemmas.Bool.Decides.{nat_tests}
 use Rattle.std.proofs.lemmas.List.{append_assoc, append-nil, map-append, take-append-drop}
 use Rattle.std.proofs.lemmas.List.Elements.{filter-append}
@@ -8,10 +7,10 @@ use Rattle.input_types.specs.declared.message.Message.{Message}
 use Rattle.motion_batch.specs.declared.item.Item.{Item}
 use Rattle.motion_batch.specs.declared.item.Item.TheVariants.{One}
 use Rattle.motion_batch.specs.declared.sample.Sample.{Sample}
-use Rattle.motion_batch.specs.Calls.{AreOfDevices, Call, added, due_of_rows, flushed, framed, items, pending, rows_of, taken}
+use Rattle.motion_batch.specs.Calls.{AreOfDevices, Call, added, flushed, framed, items, pending, taken}
 use Rattle.motion_batch.specs.Rule.{added_by, batch_of, below_most, class_of, count_due, due_of, extends, full_of, is_full, is_move, kept_after, left_by, sample_of}
 use Rattle.motion_batch.specs.Unbatch.{item_class, items_of, messages, move_of, of_class, unbatch}
-use Rattle.motion_batch.proofs.Classes.{both_true, items_added, items_due, move_again, unbatch_append, unbatch_batch}
+use Rattle.motion_batch.proofs.Classes.{items_added, items_due, move_again, unbatch_append, unbatch_batch}
 use Rattle.motion_batch.proofs.Extending.{extends_move}
 
 -- some samples and one more, whether or not they are a full batch

@@ -26,15 +26,23 @@ abbrev pub with_waiting : ℕ → List Sample → List (List Message) → List (
 with_waiting k [] groups = groups
 with_waiting k (s ∷ ss) groups = map (move_of k) (s ∷ ss) ∷ groups
 
--- Of each class, from 0 to 8: the messages of its items, followed by those that wait, are its messages that were taken; and where no
--- moment falls, the messages of each item, and those that wait, are those that stand in one batch.
-pub record IsBatched (calls : List Call) : Type 0 where
-  pub whole : (k : ℕ) → k ≤ 8 → unbatch (items_of k (items calls)) ++ map (move_of k) (pending k calls) ≡ of_class k (messages calls)
-  pub pairs : IsRising calls → (k : ℕ) → k ≤ 8
-      → groups_of (marks k calls) ≡ with_waiting k (pending k calls) (reverse (map messages_of (items_of k (items calls))))
+-- the messages of the items of a class, and then those that wait
+abbrev pub told : ℕ → List Call → List Message
+told k calls = unbatch (items_of k (items calls)) ++ map (move_of k) (pending k calls)
 
--- After a flush all that was taken is given out; and where the messages that were taken are well-formed, those of each class of all items
--- are as well.
+-- the messages of the items of a class, each item a group, the newest first, and in front of them those that wait
+abbrev pub given : ℕ → List Call → List (List Message)
+given k calls = with_waiting k (pending k calls) (reverse (map messages_of (items_of k (items calls))))
+
+-- Of each class, from 0 to 8: what its items tell, followed by what waits, is what was taken of it; and where no moment
+-- falls, the messages of an item, and those that wait, are those that stand in one batch.
+pub record IsBatched (calls : List Call) : Type 0 where
+  pub whole : (k : ℕ) → k ≤ 8 → told k calls ≡ of_class k (messages calls)
+  pub pairs : IsRising calls → (k : ℕ) → k ≤ 8 → groups_of (marks k calls) ≡ given k calls
+
+-- After a flush the items tell all that was taken; and where the messages that were taken are a well-formed stream,
+-- those of each class of all items are as well.
 pub record IsFlushed (calls : List Call) : Type 0 where
   pub all : (k : ℕ) → k ≤ 8 → of_class k (unbatch (items calls)) ≡ of_class k (messages calls)
-  pub well_formed : is_well_formed (reverse (messages calls)) ≡ true → (k : ℕ) → k ≤ 8 → is_well_formed (reverse (of_class k (unbatch (items calls)))) ≡ true
+  pub well_formed : is_well_formed (reverse (messages calls)) ≡ true → (k : ℕ) → k ≤ 8
+      → is_well_formed (reverse (of_class k (unbatch (items calls)))) ≡ true

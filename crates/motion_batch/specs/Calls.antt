@@ -13,7 +13,7 @@ pub data Call : Type 0 where
   framed : ℕ → Call
   flushed : Call
 
--- the moves of a class that wait after these calls, the newest first
+-- the moves of a class that wait after these calls, of which the newest stands first
 abbrev pub pending : ℕ → List Call → List Sample
 pending k [] = []
 pending k (taken m ∷ calls) = if class_of m.body == k then kept_after (pending k calls) m else pending k calls
@@ -37,7 +37,7 @@ due_of_rows at d (row ∷ rows) = batch_of d (due_of at row) ++ due_of_rows at (
 abbrev pub rows_left : Option ℕ → List (List Sample) → List (List Sample)
 rows_left at rows = map (left_by at) rows
 
--- the items that a call adds after these calls, the newest first
+-- the items that a call adds after these calls
 abbrev pub added : Call → List Call → List Item
 added (taken m) calls = added_by (pending (class_of m.body) calls) m
 added (framed at) calls = due_of_rows (Some at) 1 (rows_of calls)

@@ -1,5 +1,6 @@
 -- What a message, or a frame, does to the moves of its device that wait.
-use Rattle.std.specs.Prelude.{ℕ, suc, ◌++◌, ◌==◌, ◌&&◌, nat_le, Bool, true, false, if◌then◌else◌, List, [], ◌∷◌, length, take, drop, Option, Some, None}
+use Rattle.std.specs.Prelude.{ℕ, suc, ◌++◌, ◌==◌, ◌&&◌, nat_le, Bool, true, false, if◌then◌else◌}
+use Rattle.std.specs.Prelude.{List, [], ◌∷◌, length, take, drop, Option, Some, None}
 use Rattle.input_types.specs.declared.message.Body.{Body}
 use Rattle.input_types.specs.declared.message.Body.TheVariants.{Motion, Key, Focus}
 use Rattle.input_types.specs.declared.message.Message.{Message}
@@ -66,8 +67,8 @@ full_of d ss = if is_full ss then batch_of d ss else []
 abbrev pub below_most : List Sample → List Sample
 below_most ss = if is_full ss then [] else ss
 
--- The items that a message adds, of whose class these moves wait: what it does not go on with is given out first. A move then waits
--- with those that it goes on with, and every other message is given out by itself.
+-- The items that a message adds, of whose class these moves wait: what it does not go on with is given out first. A
+-- move then waits with those that it goes on with, and every other message is given out by itself.
 abbrev pub added_by : List Sample → Message → List Item
 added_by ss m =
     if extends ss m.body then full_of (class_of m.body) (ss ++ sample_of m ∷ [])

@@ -1,5 +1,5 @@
 -- Items as the messages that they are.
-use Rattle.std.specs.Prelude.{ℕ, ◌++◌, ◌==◌, Bool, List, [], ◌∷◌, map}
+use Rattle.std.specs.Prelude.{ℕ, ◌++◌, ◌==◌, List, [], ◌∷◌, map}
 use Rattle.std.specs.List.{filter}
 use Rattle.input_types.specs.declared.message.Body.TheVariants.{Motion}
 use Rattle.input_types.specs.declared.message.Message.{Message}
@@ -12,7 +12,11 @@ use Rattle.motion_batch.specs.Rule.{class_of}
 
 -- a sample of a device is the message of a move
 abbrev pub move_of : ℕ → Sample → Message
-move_of d s = record { seq = s.seq; moment = s.moment; body = Motion (record { device = d; action = Move; index = 0; flags = 0; pointers = s.pointers }) }
+move_of d s = record {
+  seq = s.seq;
+  moment = s.moment;
+  body = Motion (record { device = d; action = Move; index = 0; flags = 0; pointers = s.pointers });
+}
 
 -- an item is its message, or a move for each of its samples
 abbrev pub messages_of : Item → List Message

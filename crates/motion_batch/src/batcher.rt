@@ -50,9 +50,12 @@ impl Batcher {
     /// Takes a message, and appends the items that it gives out. Without memory nothing changes.
     #[tactic(auto, using(crate::proofs::Rows::no_others))]
     pub fn take(&mut self, message: &Message, out: &mut Vec<Item>) -> Result<(), AllocError>
-        ensures items { (calls : List Call) → StandsFor calls self.old → OnOk result (out.new.items ≡ out.old.items ++ added (taken message.now) calls) }
-        ensures stands { (calls : List Call) → StandsFor calls self.old → OnOk result (StandsFor (taken message.now ∷ calls) self.new) }
-        ensures batched { (calls : List Call) → StandsFor calls self.old → OnOk result (IsBatched (taken message.now ∷ calls)) }
+        ensures items { (calls : List Call) → StandsFor calls self.old
+            → OnOk result (out.new.items ≡ out.old.items ++ added (taken message.now) calls) }
+        ensures stands { (calls : List Call) → StandsFor calls self.old
+            → OnOk result (StandsFor (taken message.now ∷ calls) self.new) }
+        ensures batched { (calls : List Call) → StandsFor calls self.old
+            → OnOk result (IsBatched (taken message.now ∷ calls)) }
         ensures err { OnErr result (self.new ≡ self.old) }
         ensures err_items { OnErr result (out.new.items ≡ out.old.items) }
     {
@@ -68,13 +71,16 @@ impl Batcher {
         }
     }
 
-    /// A frame begins: in rising device, appends the moves of each device up to this moment as one batch. Without memory
-    /// nothing changes.
+    /// A frame begins: in rising device, appends the moves of each device up to this moment as one batch. Without
+    /// memory nothing changes.
     #[tactic(auto, using(crate::proofs::Batched::batched_then))]
     pub fn frame(&mut self, at: Moment, out: &mut Vec<Item>) -> Result<(), AllocError>
-        ensures items { (calls : List Call) → StandsFor calls self.old → OnOk result (out.new.items ≡ out.old.items ++ added (framed at) calls) }
-        ensures stands { (calls : List Call) → StandsFor calls self.old → OnOk result (StandsFor (framed at ∷ calls) self.new) }
-        ensures batched { (calls : List Call) → StandsFor calls self.old → OnOk result (IsBatched (framed at ∷ calls)) }
+        ensures items { (calls : List Call) → StandsFor calls self.old
+            → OnOk result (out.new.items ≡ out.old.items ++ added (framed at) calls) }
+        ensures stands { (calls : List Call) → StandsFor calls self.old
+            → OnOk result (StandsFor (framed at ∷ calls) self.new) }
+        ensures batched { (calls : List Call) → StandsFor calls self.old
+            → OnOk result (IsBatched (framed at ∷ calls)) }
         ensures err { OnErr result (self.new ≡ self.old) }
         ensures err_items { OnErr result (out.new.items ≡ out.old.items) }
     {
@@ -84,10 +90,14 @@ impl Batcher {
     /// A frame for all moves. Without memory nothing changes.
     #[tactic(auto, using(crate::proofs::Batched::batched_then, crate::proofs::Batched::flushed_then))]
     pub fn flush(&mut self, out: &mut Vec<Item>) -> Result<(), AllocError>
-        ensures items { (calls : List Call) → StandsFor calls self.old → OnOk result (out.new.items ≡ out.old.items ++ added flushed calls) }
-        ensures stands { (calls : List Call) → StandsFor calls self.old → OnOk result (StandsFor (flushed ∷ calls) self.new) }
-        ensures batched { (calls : List Call) → StandsFor calls self.old → OnOk result (IsBatched (flushed ∷ calls)) }
-        ensures all { (calls : List Call) → StandsFor calls self.old → OnOk result (IsFlushed (flushed ∷ calls)) }
+        ensures items { (calls : List Call) → StandsFor calls self.old
+            → OnOk result (out.new.items ≡ out.old.items ++ added flushed calls) }
+        ensures stands { (calls : List Call) → StandsFor calls self.old
+            → OnOk result (StandsFor (flushed ∷ calls) self.new) }
+        ensures batched { (calls : List Call) → StandsFor calls self.old
+            → OnOk result (IsBatched (flushed ∷ calls)) }
+        ensures all { (calls : List Call) → StandsFor calls self.old
+            → OnOk result (IsFlushed (flushed ∷ calls)) }
         ensures err { OnErr result (self.new ≡ self.old) }
         ensures err_items { OnErr result (out.new.items ≡ out.old.items) }
     {
@@ -131,5 +141,70 @@ impl Batcher {
         for row in 0..8 {
             self.pending[row].drop_due(at);
         }
+    }
+}
+
+#[cfg(test)]
+mod tests {
+    use super::*;
+    use input_types::{Motion, MotionAction, Pixel, Pointer, PointerId, Pointers};
+    use std::test::Fail;
+
+    fn finger(seq: u64, us: u64, action: MotionAction) -> Result<Message, Fail> {
+        let mut pointers = Pointers::empty();
+        let _ = pointers.push(Pointer {
+            id: PointerId::zero(),
+            at: Pixel { x: 540, y: 1200 },
+        });
+        Ok(Message {
+            seq,
+            moment: Moment::new(us).ok_or("a moment")?,
+            body: Body::Motion(Motion {
+                device: DeviceId::new(8).ok_or("a device")?,
+                action,
+                index: 0,
+                flags: 0,
+                pointers,
+            }),
+        })
+    }
+
+    /// The number of the first message of each item, and how many messages it is.
+    fn told(alloc: Global, items: &[Item]) -> Result<Vec<(u64, usize)>, AllocError> {
+        let mut told = Vec::new(alloc);
+        for item in items {
+            match item {
+                Item::One(message) => told.push((message.seq, 1))?,
+                Item::Batch(batch) => {
+                    if let Some(sample) = batch.samples().first() {
+                        told.push((sample.seq, batch.samples().len()))?;
+                    }
+                }
+            }
+        }
+        Ok(told)
+    }
+
+    fn one_finger(alloc: Global) -> Result<Vec<(u64, usize)>, Fail> {
+        let mut batcher = Batcher::new(alloc);
+        let mut out = Vec::new(alloc);
+        batcher.take(&finger(1, 1000, MotionAction::Down)?, &mut out)?;
+        batcher.take(&finger(2, 2000, MotionAction::Move)?, &mut out)?;
+        batcher.take(&finger(3, 3000, MotionAction::Move)?, &mut out)?;
+        batcher.frame(Moment::new(8000).ok_or("a moment")?, &mut out)?;
+        batcher.take(&finger(4, 9000, MotionAction::Move)?, &mut out)?;
+        batcher.take(&finger(5, 9500, MotionAction::Up)?, &mut out)?;
+        batcher.flush(&mut out)?;
+        Ok(told(alloc, &out)?)
+    }
+
+    #[test]
+    fn moves_wait_for_a_frame(rt: HostRuntime) -> Result<(), Fail> {
+        let told = one_finger(rt.alloc())?;
+        assert_eq!(rt;
+            told.as_slice(),
+            [(1, 1), (2, 2), (4, 1), (5, 1)].as_slice()
+        );
+        Ok(())
     }
 }

@@ -3,7 +3,8 @@ ghost use Rattle.std.specs.Prelude.{◌≡◌, ◌≤◌, ◌+◌, ◌++◌, [],
 ghost use Rattle.std.specs.Option.{option_to_list};
 ghost use Rattle.input_types.specs.declared.message.Body.TheVariants.{Motion as MotionBody};
 ghost use Rattle.motion_batch.specs.declared.item.Item.TheVariants.{One};
-ghost use Rattle.motion_batch.specs.Rule.{added_by, batch_of, below_most, count_due, due_of, extends, full_of, has_same_ids, is_due, is_move, kept_after, left_by};
+ghost use Rattle.motion_batch.specs.Rule.{added_by, batch_of, below_most, count_due, due_of, extends, full_of};
+ghost use Rattle.motion_batch.specs.Rule.{has_same_ids, is_due, is_move, kept_after, left_by};
 
 use crate::item::{Item, MOST_SAMPLES, batch_of, full_batch};
 use crate::sample::Sample;
@@ -169,7 +170,8 @@ impl Pending {
         device: DeviceId,
         out: &mut Vec<Item>,
     ) -> Result<(), AllocError>
-        ensures items { OnOk result (out.new.items ≡ out.old.items ++ (batch_of device self.old ++ One message.now ∷ [])) }
+        ensures items { OnOk result (out.new.items
+            ≡ out.old.items ++ (batch_of device self.old ++ One message.now ∷ [])) }
         ensures kept { OnOk result (self.new ≡ []) }
         ensures err { OnErr result (self.new ≡ self.old) }
         ensures err_items { OnErr result (out.new.items ≡ out.old.items) }
