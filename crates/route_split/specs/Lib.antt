@@ -1,3 +1,5 @@
 pub mod Tables
 pub mod Marking
 pub mod Following
+pub mod Seen
+pub mod Slipping

@@ -18,8 +18,14 @@
 //! specs/Following): each mark that is taken is one mark more.
 #![tactic(auto)]
 
+mod after;
+mod choice;
 pub mod laws;
 mod mark;
+mod motion;
+mod seen;
+mod sets;
+mod slip;
 mod taking;
 mod touches;
 

@@ -3,16 +3,22 @@ ghost use Rattle.std.specs.Prelude.{◌≡◌, ℕ, true, IfOk};
 ghost use Rattle.bits32.specs.Set.{is_in};
 ghost use Rattle.window_snapshot.specs.Mask.{is_channel, mask_has};
 ghost use Rattle.routing_rules.specs.Taking.{takes, pilfers};
-ghost use Rattle.route_split.specs.Tables.{table_of, any_at, holds_at, IsFresh, ChangesAll};
-ghost use Rattle.route_split.specs.Marking.{gives, taking, IsWhole, after};
+ghost use Rattle.routing_rules.specs.Scene.{Scene, Moves};
+ghost use Rattle.routing_rules.specs.Given.{mark};
+ghost use Rattle.route_split.specs.Seen.{Sees};
+ghost use Rattle.route_split.specs.Tables.{table_of, any_at, holds_at, Stands, IsFresh, ChangesAll};
+ghost use Rattle.route_split.specs.Marking.{gives, taking, IsWhole, IsMark, after};
 
 use crate::mark::Mark;
+use crate::motion::mark_of;
+use crate::seen::Seen;
 use crate::taking::{fresh_states, index_of, take_mark};
 use bits32::Bits32;
-use input_types::DeviceId;
+use input_types::{DeviceId, Motion};
 use std::alloc::{AllocError, Global};
 use std::marker::Model;
 use touch_state::TouchState;
+use window_snapshot::Snapshot;
 
 /// Which of the windows 1 to 64 hold which pointers of the devices 1 to 8, since when, and which of them are pilfering which device.
 #[derive(Drop)]
@@ -24,6 +30,9 @@ pub struct Touches {
 impl Model for Touches {
     ghost use Rattle.std.specs.Prelude.{List};
     ghost use Rattle.touch_state.specs.Touches.{Touches as Table};
+    ghost use Rattle.routing_rules.specs.Scene.{Scene, Moves};
+    ghost use Rattle.routing_rules.specs.Given.{mark};
+    ghost use Rattle.route_split.specs.Seen.{Sees};
     ghost use Rattle.route_split.specs.Tables.{IsTables};
 
     ghost Value = { List Table };
@@ -55,6 +64,21 @@ impl Touches {
         ensures { (w : ℕ) → mask_has result w ≡ any_at self.now w device }
     {
         self.states[index_of(device)].holders()
+    }
+
+    /// The mark of a motion: who gets a pointer that goes down, from whom one goes that goes up, and between which windows one slips.
+    /// The masks are those of the channels that the device can reach, and of those that are able to take input.
+    pub fn mark(&self, motion: &Motion, windows: &Snapshot, reach: u64, able: u64) -> Mark
+        ensures mark { (s : Scene) → Stands s self.now → Sees s windows.now reach able motion.now.device → IsMark self.now result (mark s (Moves motion.now)) }
+        ensures whole { IsWhole result }
+    {
+        let seen = Seen {
+            windows,
+            reach,
+            able,
+            table: &self.states[index_of(motion.device)],
+        };
+        mark_of(&seen, motion)
     }
 
     /// Takes the step of a mark, at a place, which is how many steps were before it.
