@@ -56,7 +56,7 @@ holder_channel s t d i are (Some v) e =
     only_passes (λ u. not (is_spy u) && s.holds u.channel d i) is_channel
     (λ u h. held_channel t u.channel i (sym (are u.channel) ∙ (and_parts (not (is_spy u)) (s.holds u.channel d i) h).1)) s.windows v (sym e)
 
-symmetric : (a b : ℕ) → (a == b) ≡ (b == a)
+pub symmetric : (a b : ℕ) → (a == b) ≡ (b == a)
 symmetric a b = elim (cases_eq a b) [ inl e ↦ eq-eqb a b e ∙ sym (eq-eqb b a (sym e)) | inr n ↦ ne_eqb a b n ∙ sym (ne_eqb b a (λ e. n (sym e))) ]
 
 shared : (a b c r : Bool) → (a && b && c || (b && (r && c))) ≡ (b && ((a || r) && c))

@@ -6,3 +6,5 @@ pub mod Earlier
 pub mod Found
 pub mod Near
 pub mod Steps
+pub mod TellingLaws
+pub mod ToldBy

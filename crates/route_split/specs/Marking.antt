@@ -50,8 +50,8 @@ pub record IsMotionMark (s : Scene) (m : Motion) (k : Mark) : Type 0 where
   pub whole : IsWhole k
 
 -- the ids that a window holds of a device after a step with this mark
-abbrev pub after : List Touches → Mark → (window device id : ℕ) → Bool
-after ts k w d i = gives k w d i || holds_at ts w d i && not (takes (taking ts k) w d i)
+abbrev pub holds_after : List Touches → Mark → (window device id : ℕ) → Bool
+holds_after ts k w d i = gives k w d i || holds_at ts w d i && not (takes (taking ts k) w d i)
 
 -- a step that is no motion leaves this mark; of windows that stay, or are found unresponsive, the channels matter alone
 abbrev pub IsStepOf : Mark → Step → Type 0
@@ -63,6 +63,11 @@ IsStepOf (Forget window) (Removes w) = w ≡ window
 IsStepOf Rests Resting = Unit {0}
 IsStepOf _ _ = ⊥
 
+-- with the step a channel is removed
+abbrev pub is_forget : Mark → Bool
+is_forget (Forget window) = true
+is_forget k = false
+
 -- Each such step leaves that mark.
 abbrev pub OtherLaw : Type 0
 OtherLaw = (s : Scene) (ts : List Touches) (k : Mark) (e : Step) → Stands s ts → IsStepOf k e → IsMark ts k (mark s e)
@@ -70,5 +75,5 @@ OtherLaw = (s : Scene) (ts : List Touches) (k : Mark) (e : Step) → Stands s ts
 -- a window may be told something of a device at a step with this mark: it holds something of it, or is given something
 abbrev pub may_be_told : List Touches → Mark → (window device : ℕ) → Bool
 may_be_told ts (Give device id windows) w d = any_at ts w d || d == device && mask_has windows w
-may_be_told ts (Slip device id from to) w d = any_at ts w d || d == device && w == to
+may_be_told ts (Slip device id from to) w d = any_at ts w d || d == device && (is_channel w && w == to)
 may_be_told ts _ w d = any_at ts w d

@@ -3,7 +3,7 @@ ghost use Rattle.std.specs.Prelude.{◌≡◌, ℕ, ◌==◌, ◌&&◌, ◌||◌
 ghost use Rattle.bits32.specs.Set.{is_in};
 ghost use Rattle.window_snapshot.specs.Mask.{is_channel};
 ghost use Rattle.route_split.specs.Tables.{IsTables, holds_at};
-ghost use Rattle.route_split.specs.Marking.{IsWhole, after};
+ghost use Rattle.route_split.specs.Marking.{IsWhole, holds_after};
 
 use crate::mark::Mark;
 use crate::sets::{with_id, without, without_id};
@@ -27,7 +27,7 @@ pub(crate) fn after_of(states: &[TouchState], mark: &Mark, window: u32, device: 
     requires tables { IsTables states.now }
     requires whole { IsWhole mark.now }
     requires channel { is_channel window ≡ true }
-    ensures { (i : ℕ) → is_in i result ≡ after states.now mark.now window device i }
+    ensures { (i : ℕ) → is_in i result ≡ holds_after states.now mark.now window device i }
 {
     let before = held_of(states, window, device);
     match *mark {

@@ -23,11 +23,17 @@ mod choice;
 pub mod laws;
 mod mark;
 mod motion;
+mod planned;
 mod seen;
 mod sets;
 mod slip;
 mod taking;
+mod telling;
+mod tells;
 mod touches;
+mod watching;
 
 pub use mark::Mark;
+pub use tells::Tells;
 pub use touches::Touches;
+pub use watching::watchers;
