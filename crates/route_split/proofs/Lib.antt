@@ -8,3 +8,4 @@ pub mod Near
 pub mod Steps
 pub mod TellingLaws
 pub mod ToldBy
+pub mod Quiet

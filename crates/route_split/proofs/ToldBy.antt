@@ -101,7 +101,7 @@ gives_none (Forget window) (Removes v) w d i h = refl
 gives_none Rests Resting w d i h = refl
 gives_none _ _ w d i h = absurd h
 
-told_cancels : (s : Scene) (k : Mark) (e : Step) (w d : ℕ) → IsStepOf k e → is_forget k ≡ false
+pub told_cancels : (s : Scene) (k : Mark) (e : Step) (w d : ℕ) → IsStepOf k e → is_forget k ≡ false
     → told s e w d ≡ cancels d (s.last d) (s.holds w d) (after s (mark s e) w d)
 told_cancels s (Empty device) (Resets v) w d h n = refl
 told_cancels s (Pilfer device window) (Pilfers v x) w d h n = refl

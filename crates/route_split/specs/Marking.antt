@@ -72,8 +72,12 @@ is_forget k = false
 abbrev pub OtherLaw : Type 0
 OtherLaw = (s : Scene) (ts : List Touches) (k : Mark) (e : Step) → Stands s ts → IsStepOf k e → IsMark ts k (mark s e)
 
+-- a window is given a pointer of a device with this mark
+abbrev pub is_given_some : Mark → (window device : ℕ) → Bool
+is_given_some (Give device id windows) w d = d == device && mask_has windows w
+is_given_some (Slip device id from to) w d = d == device && (is_channel w && w == to)
+is_given_some _ w d = false
+
 -- a window may be told something of a device at a step with this mark: it holds something of it, or is given something
 abbrev pub may_be_told : List Touches → Mark → (window device : ℕ) → Bool
-may_be_told ts (Give device id windows) w d = any_at ts w d || d == device && mask_has windows w
-may_be_told ts (Slip device id from to) w d = any_at ts w d || d == device && (is_channel w && w == to)
-may_be_told ts _ w d = any_at ts w d
+may_be_told ts k w d = any_at ts w d || is_given_some k w d

@@ -6,10 +6,15 @@ use Rattle.input_types.specs.declared.motion.Motion.{Motion}
 use Rattle.input_types.specs.declared.motion.MotionAction.TheVariants.{Outside}
 use Rattle.input_types.specs.declared.pointer.Pointer.{Pointer}
 use Rattle.window_snapshot.specs.Hits.{is_watcher_at}
-use Rattle.routing_rules.specs.Scene.{Scene}
-use Rattle.routing_rules.specs.Told.{plain, cancels, listing, moves, or_else, is_first}
+use Rattle.routing_rules.specs.Scene.{Scene, Step, Moves}
+use Rattle.routing_rules.specs.Given.{changed, mark}
+use Rattle.routing_rules.specs.Told.{plain, cancels, listing, moves, or_else, is_first, told}
+use Rattle.touch_state.specs.Touches.{Touches}
+use Rattle.route_split.specs.declared.mark.Mark.{Mark}
 use Rattle.route_split.specs.declared.tells.Tells.{Tells}
 use Rattle.route_split.specs.declared.tells.Tells.TheVariants.{Nothing, One, Cancels}
+use Rattle.route_split.specs.Tables.{Stands}
+use Rattle.route_split.specs.Marking.{IsWhole, IsMark, IsStepOf, may_be_told}
 
 -- these are the motions that it stands for, where the window holds the ids `before` of device d, whose last places these are
 abbrev pub IsTold : Tells → List Motion → (d : ℕ) → (last : List Pointer) → (before : ℕ → Bool) → Type 0
@@ -43,3 +48,11 @@ OnlyNew (Some p) before later = (i : ℕ) → (i == p.id) ≡ false → later i 
 -- what is told of pointers that are neither given nor go up
 abbrev pub told_rest : Motion → (watched : Option Pointer) → List Pointer → (before later : ℕ → Bool) → List Motion
 told_rest m watched last before later = or_else (cancels m.device last before later) (or_else (moves m.device (listing later m.pointers)) (outside_of m.device watched))
+
+-- A window that may not be told anything of a device at a step is told nothing of it, unless it watches for touches outside of it.
+abbrev pub QuietLaw : Type 0
+QuietLaw =
+    (s : Scene) (ts : List Touches) (k : Mark) (w d : ℕ)
+    → Stands s ts → IsWhole k → may_be_told ts k w d ≡ false
+    → ((m : Motion) → IsMark ts k (mark s (Moves m)) → is_watching s m (changed m) w ≡ false → told s (Moves m) w d ≡ [])
+    × ((e : Step) → IsStepOf k e → told s e w d ≡ [])

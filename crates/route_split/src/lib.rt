@@ -20,6 +20,7 @@
 
 mod after;
 mod choice;
+mod concern;
 pub mod laws;
 mod mark;
 mod motion;

@@ -9,9 +9,10 @@ ghost use Rattle.routing_rules.specs.Told.{told};
 ghost use Rattle.route_split.specs.Seen.{Sees};
 ghost use Rattle.route_split.specs.Telling.{IsTold, IsListed, is_watching};
 ghost use Rattle.route_split.specs.Tables.{table_of, any_at, holds_at, Stands, IsFresh, ChangesAll};
-ghost use Rattle.route_split.specs.Marking.{gives, taking, IsWhole, IsMark, IsStepOf, holds_after};
+ghost use Rattle.route_split.specs.Marking.{gives, taking, IsWhole, IsMark, IsStepOf, holds_after, may_be_told};
 
 use crate::after::after_of;
+use crate::concern::given_windows;
 use crate::mark::Mark;
 use crate::motion::mark_of;
 use crate::planned::{loses_at, tells_at};
@@ -86,6 +87,14 @@ impl Touches {
             table: &self.states[index_of(motion.device)],
         };
         mark_of(&seen, motion)
+    }
+
+    /// The mask of the windows that may be told something of a device at the step of a mark: those that hold something of it, and those
+    /// that are given something. At a motion its `watchers` may be told something besides.
+    pub fn concerned(&self, mark: &Mark, device: DeviceId) -> u64
+        ensures { (w : ℕ) → mask_has result w ≡ may_be_told self.now mark.now w device }
+    {
+        self.holders(device) | given_windows(mark, device)
     }
 
     /// The ids of the pointers of a device that a window holds after the step of a mark.
