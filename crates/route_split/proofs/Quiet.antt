@@ -1,12 +1,12 @@
 -- Who holds nothing and is given nothing is told nothing.
-use Rattle.std.proofs.Common.{ℕ, Bool, true, false, not, ◌&&◌, ◌||◌, ◌==◌, ◌≡◌, ◌≢◌, ◌⊎◌, if◌then◌else◌, List, [], ◌∷◌, Option, Some, None, refl, sym, ap, ap₂, ◌∙◌, subst, inl, inr}
-use Rattle.std.proofs.lemmas.Bool.{cases_Bool, cases_eq, eq-eqb, ne_eqb, both_ways, and_from, and_right}
+use Rattle.std.proofs.Common.{ℕ, Bool, true, false, not, ◌&&◌, ◌||◌, ◌==◌, ◌≡◌, ◌≢◌, ◌⊎◌, if◌then◌else◌, [], ◌∷◌, Option, Some, None, refl, sym, ap, ap₂, ◌∙◌, inl, inr}
+use Rattle.std.proofs.lemmas.Bool.{cases_Bool, cases_eq, eq-eqb, ne_eqb, both_ways, and_right}
 use Rattle.input_types.specs.declared.motion.Motion.{Motion}
 use Rattle.input_types.specs.declared.pointer.Pointer.{Pointer}
 use Rattle.window_snapshot.specs.Mask.{is_channel, mask_has}
 use Rattle.routing_rules.specs.Scene.{Scene, Step, Moves}
 use Rattle.routing_rules.specs.Given.{mark, changed}
-use Rattle.routing_rules.specs.Told.{after, told, told_motion, told_with, cancels, moves, listing, or_else, outside, is_up, plain}
+use Rattle.routing_rules.specs.Told.{after, told, told_motion, moves, or_else, is_up, plain}
 use Rattle.routing_rules.specs.Taking.{takes}
 use Rattle.routing_rules.proofs.ToldLaws.{quiet_cancels}
 use Rattle.input_types.specs.declared.motion.MotionAction.TheVariants.{Outside}
@@ -14,8 +14,8 @@ use Rattle.touch_state.specs.Touches.{Touches, held, holds, any}
 use Rattle.touch_state.proofs.Sets.{not_empty, and_false}
 use Rattle.route_split.specs.declared.mark.Mark.{Mark}
 use Rattle.route_split.specs.declared.mark.Mark.TheVariants.{Rests, Give, Lift, Slip, Empty, Pilfer, Unnamed, Mute, Forget}
-use Rattle.route_split.specs.Tables.{table_of, holds_at, any_at, Stands}
-use Rattle.route_split.specs.Marking.{gives, taking, holds_after, is_given_some, may_be_told, is_forget, IsWhole, IsMark, IsStepOf}
+use Rattle.route_split.specs.Tables.{table_of, any_at}
+use Rattle.route_split.specs.Marking.{gives, taking, holds_after, is_given_some, is_forget, IsWhole, IsMark, IsStepOf}
 use Rattle.route_split.specs.Telling.{is_watching, QuietLaw}
 use Rattle.route_split.proofs.Steps.{other_law}
 use Rattle.route_split.proofs.TellingLaws.{none_listed}

@@ -1,14 +1,8 @@
 -- The marks of steps that are no motions.
-use Rattle.std.proofs.Common.{ℕ, Bool, true, not, ◌≡◌, ◌==◌, ◌&&◌, List, refl, sym, ap, ap₂, ◌∙◌}
-use Rattle.window_snapshot.specs.Mask.{is_channel, mask_has}
-use Rattle.routing_rules.specs.Taking.{takes, pilfers}
-use Rattle.routing_rules.specs.Scene.{Scene, Step, Resets, Pilfers, Shows, Mutes, Removes, Rests as Resting}
-use Rattle.routing_rules.specs.Given.{mark, taken}
-use Rattle.touch_state.specs.Touches.{Touches}
-use Rattle.route_split.specs.declared.mark.Mark.{Mark}
-use Rattle.route_split.specs.declared.mark.Mark.TheVariants.{Rests, Give, Lift, Slip, Empty, Pilfer, Unnamed, Mute, Forget}
-use Rattle.route_split.specs.Tables.{holds_at, Stands}
-use Rattle.route_split.specs.Marking.{taking, IsMark, IsStepOf, OtherLaw}
+use Rattle.std.proofs.Common.{ℕ, Bool, not, ◌==◌, ◌&&◌, refl, ap, ap₂, ◌∙◌}
+use Rattle.routing_rules.specs.Scene.{Resets, Pilfers, Shows, Mutes, Removes, Rests as Resting}
+use Rattle.route_split.specs.declared.mark.Mark.TheVariants.{Rests, Empty, Pilfer, Unnamed, Mute, Forget}
+use Rattle.route_split.specs.Marking.{OtherLaw}
 
 pub other_law : OtherLaw
 other_law s ts (Empty device) (Resets d) f h =

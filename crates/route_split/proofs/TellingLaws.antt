@@ -1,8 +1,7 @@
 -- What a window is told of a motion, by what it holds before and later.
-use Rattle.std.proofs.Common.{ℕ, Bool, true, false, not, ◌&&◌, ◌||◌, ◌==◌, ◌≡◌, ◌≢◌, if◌then◌else◌, List, [], ◌∷◌, length, Option, Some, None, refl, sym, ap, ap₂, ◌∙◌, subst, inl, inr, arith}
+use Rattle.std.proofs.Common.{ℕ, Bool, true, false, not, ◌&&◌, ◌==◌, ◌≡◌, if◌then◌else◌, List, [], ◌∷◌, length, Option, Some, None, refl, sym, ap, ◌∙◌, inl, inr, arith}
 use mathlib.Core.Path.{fun_ext}
-use Rattle.std.specs.List.{list_any}
-use Rattle.std.proofs.lemmas.Bool.{cases_Bool, cases_eq, eq-eqb, ne_eqb, eqb-true, and_parts, and_from, not-true, both_ways, true≢false}
+use Rattle.std.proofs.lemmas.Bool.{cases_eq, ne_eqb, eqb-true, and_parts, and_from, not-true, true≢false}
 use Rattle.std.proofs.lemmas.Nat.Bits.{bit_at-zero}
 use Rattle.bits32.specs.Set.{is_in}
 use Rattle.input_types.specs.declared.motion.Motion.{Motion}
@@ -11,7 +10,7 @@ use Rattle.input_types.specs.declared.motion.MotionAction.TheVariants.{Down, Up,
 use Rattle.input_types.specs.declared.pointer.Pointer.{Pointer}
 use Rattle.routing_rules.specs.Scene.{Scene}
 use Rattle.routing_rules.specs.Given.{changed}
-use Rattle.routing_rules.specs.Told.{listing, plain, closing, moves, is_up, is_down, is_cancelled, outside, or_else, told_motion, cancels, cancels_of}
+use Rattle.routing_rules.specs.Told.{listing, plain, closing, moves, is_up, is_down, is_cancelled, or_else, told_motion, cancels, cancels_of}
 use Rattle.routing_rules.proofs.Listings.{has_id, has_id-listing, id_at}
 use Rattle.split_motion.specs.Split.{part_about, part_of, split_of, as_down}
 use Rattle.split_motion.specs.Laws.{if_some}

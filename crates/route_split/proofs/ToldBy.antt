@@ -1,9 +1,7 @@
 -- What is told by the rules, where what is held before and later is known.
-use Rattle.std.proofs.Common.{ℕ, Bool, true, false, not, ◌&&◌, ◌||◌, ◌==◌, ◌≡◌, if◌then◌else◌, List, [], ◌∷◌, Option, Some, None, refl, sym, ap, ap₂, ◌∙◌, subst, inl, inr}
-use mathlib.Core.Path.{fun_ext}
+use Rattle.std.proofs.Common.{ℕ, Bool, true, false, not, ◌&&◌, ◌||◌, ◌==◌, ◌≡◌, if◌then◌else◌, List, [], Option, Some, None, refl, sym, ap, ap₂, ◌∙◌, subst}
 use Rattle.std.specs.List.{list_any}
-use Rattle.std.proofs.lemmas.Bool.{eq-eqb, and_parts, or_cases, both_ways, true≢false}
-use Rattle.bits32.specs.Set.{is_in}
+use Rattle.std.proofs.lemmas.Bool.{eq-eqb, both_ways, true≢false}
 use Rattle.input_types.specs.declared.motion.Motion.{Motion}
 use Rattle.input_types.specs.declared.motion.MotionAction.{MotionAction}
 use Rattle.input_types.specs.declared.motion.MotionAction.TheVariants.{Down, Up, Move, Cancel, Outside, PointerDown, PointerUp}
@@ -20,7 +18,7 @@ use Rattle.routing_rules.proofs.ToldLaws.{quiet_cancels}
 use Rattle.touch_state.specs.Touches.{Touches}
 use Rattle.touch_state.proofs.Sets.{and_false, and_true}
 use Rattle.route_split.specs.declared.mark.Mark.{Mark}
-use Rattle.route_split.specs.declared.mark.Mark.TheVariants.{Rests, Give, Lift, Slip, Empty, Pilfer, Unnamed, Mute, Forget}
+use Rattle.route_split.specs.declared.mark.Mark.TheVariants.{Rests, Empty, Pilfer, Unnamed, Mute, Forget}
 use Rattle.route_split.specs.declared.tells.Tells.{Tells}
 use Rattle.route_split.specs.Tables.{table_of, holds_at, Stands}
 use Rattle.route_split.specs.Marking.{gives, taking, IsMark, IsStepOf, is_forget, holds_after}

@@ -1,4 +1,4 @@
-use Rattle.std.proofs.Common.{ℕ, Bool, not, ◌&&◌, refl, sym, ap, ◌∙◌}
+use Rattle.std.proofs.Common.{not, ◌&&◌, refl, sym, ap, ◌∙◌}
 use mathlib.Core.Path.{fun_ext}
 use Rattle.std.proofs.lemmas.Nat.Bits.{bit_at-zero}
 use Rattle.bits32.specs.Set.{is_in}

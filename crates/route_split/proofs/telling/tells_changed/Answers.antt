@@ -1,8 +1,7 @@
-use Rattle.std.proofs.Common.{◌≡◌, Some, None, if◌then◌else◌, sym, ap, ◌∙◌, subst}
+use Rattle.std.proofs.Common.{sym, ap, ◌∙◌, subst}
 use Rattle.bits32.specs.Set.{is_in}
-use Rattle.routing_rules.specs.Told.{told_motion}
 use Rattle.split_motion.specs.Laws.{if_some}
-use Rattle.split_motion.specs.Split.{split_of, as_down}
+use Rattle.split_motion.specs.Split.{split_of}
 use Rattle.route_split.specs.Telling.{IsTold, told_rest}
 use Rattle.route_split.proofs.TellingLaws.{given_told, up_told, rest_told, within_before}
 use Rattle.route_split.proofs.telling.tells_changed.Goals as goal

@@ -1,4 +1,4 @@
-use Rattle.std.proofs.Common.{◌≡◌, Some, None, sym, ap, ◌∙◌, subst}
+use Rattle.std.proofs.Common.{sym, ap, ◌∙◌, subst}
 use Rattle.bits32.specs.Set.{is_in}
 use Rattle.routing_rules.specs.Told.{told_motion}
 use Rattle.route_split.specs.Telling.{IsTold, is_watching, OnlyNew}

@@ -1,4 +1,4 @@
-use Rattle.std.proofs.Common.{ℕ, ◌≡◌, ◌&&◌, true, sym, ap, ap₂, ◌∙◌}
+use Rattle.std.proofs.Common.{◌≡◌, ◌&&◌, true, sym, ap, ap₂, ◌∙◌}
 use Rattle.window_snapshot.specs.Hits.{is_watcher_at}
 use Rattle.routing_rules.specs.Told.{is_first}
 use Rattle.touch_state.proofs.Steps.{mask_has-and}

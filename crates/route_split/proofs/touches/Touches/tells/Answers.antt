@@ -1,11 +1,10 @@
-use Rattle.std.proofs.Common.{ℕ, ◌≡◌, List, ◌∙◌, subst}
-use Rattle.bits32.specs.Set.{is_in}
-use Rattle.routing_rules.specs.Scene.{Scene, Step, Moves}
+use Rattle.std.proofs.Common.{◌≡◌, List, ◌∙◌, subst}
+use Rattle.routing_rules.specs.Scene.{Scene, Moves}
 use Rattle.routing_rules.specs.Given.{changed, mark}
 use Rattle.routing_rules.specs.Told.{told}
 use Rattle.touch_state.specs.Touches.{Touches}
 use Rattle.route_split.specs.Tables.{Stands}
-use Rattle.route_split.specs.Marking.{IsMark, IsStepOf, holds_after}
+use Rattle.route_split.specs.Marking.{IsMark}
 use Rattle.route_split.specs.Telling.{IsTold, IsListed, is_watching}
 use Rattle.route_split.proofs.touches.Touches.tells.Goals as goal
 
