@@ -154,7 +154,7 @@ all_dropped old ts m k le c place d =
     (λ w i h. let p = held_device old w d i h in ap (λ b. b && m w) (le-leb d k (omega (arith, le, p.1)))) (c place d)
 
 -- who holds something is a channel
-held_channel : (t : Touches) (w i : ℕ) → holds t w i ≡ true → is_channel w ≡ true
+pub held_channel : (t : Touches) (w i : ℕ) → holds t w i ≡ true → is_channel w ≡ true
 held_channel t w i h =
     elim (cases_Bool (is_channel w)) [
       | inl c ↦ c

@@ -11,7 +11,8 @@ use Rattle.routing_rules.proofs.HoldingLaws.{held_step, some_id, any_from_id}
 use Rattle.touch_state.specs.Touches.{Touches, held as held_of, holds, any}
 use Rattle.touch_state.proofs.Sets.{not_empty, some_in}
 use Rattle.route_split.specs.Tables.{table_of, holds_at, any_at, is_earlier, pilfering_at}
-use Rattle.route_split.specs.Marking.{gives}
+use Rattle.route_split.specs.Marking.{gives, taking}
+use Rattle.route_split.proofs.Changing.{held_channel}
 use Rattle.route_split.specs.Following.{StartLaw, StepLaw, SceneLaw}
 
 -- where the pairs of a window are those of its set, the set is empty where there are none
@@ -46,6 +47,11 @@ turned false true false = refl
 turned false false true = refl
 turned false false false = refl
 
+-- what is kept, where the same is taken of what is held
+pub kept_of : (h t u : Bool) → (h ≡ true → t ≡ u) → (h && not t) ≡ (h && not u)
+kept_of true t u f = ap not (f refl)
+kept_of false t u f = refl
+
 pub step_law : StepLaw
 step_law ms m ts us k f mk ch =
     record {
@@ -56,14 +62,15 @@ step_law ms m ts us k f mk ch =
           ∙ ap (λ n. if any (table_of us d) w && not (any (table_of ts d) w) then length ms else n) (f.since_are w d) ∙ sym ((ch d).began w);
       pilfering_are = λ w d.
           ap₂ (λ x y. x && (pilfers m.taken w d || y)) (any_then w d) (f.pilfering_are w d)
-          ∙ ap (λ t. any (table_of us d) w && (pilfers t w d || pilfering_at ts w d)) mk.taken_is ∙ sym ((ch d).pilfer w);
+          ∙ ap (λ b. any (table_of us d) w && (b || pilfering_at ts w d)) (mk.pilfers_are w d) ∙ sym ((ch d).pilfer w);
     }
   where
     held_then : (w d i : ℕ) → has (held (m ∷ ms)) w d i ≡ holds_at us w d i
     held_then w d i =
         held_step m ms w d i ∙ turned (has (held ms) w d i) (takes m.taken w d i) (has m.given w d i)
         ∙ ap₂ (λ g h. g || h && not (takes m.taken w d i)) (mk.given_are w d i) (f.holds_are w d i)
-        ∙ ap (λ t. gives k w d i || holds_at ts w d i && not (takes t w d i)) mk.taken_is ∙ sym ((ch d).hold w i)
+        ∙ ap (λ b. gives k w d i || b) (kept_of (holds_at ts w d i) (takes m.taken w d i) (takes (taking ts k) w d i)
+        (λ h. mk.taken_are w d i (held_channel (table_of ts d) w i h))) ∙ sym ((ch d).hold w i)
 
     any_then : (w d : ℕ) → has_any (held (m ∷ ms)) w d ≡ any_at us w d
     any_then w d = any_by_holds (held (m ∷ ms)) (table_of us d) w d (λ i. held_then w d i)

@@ -2,3 +2,10 @@ pub mod Changing
 pub mod Arms
 pub mod MaskSets
 pub mod FollowingLaws
+pub mod Earlier
+pub mod Found
+pub mod Near
+pub mod Steps
+pub mod TellingLaws
+pub mod ToldBy
+pub mod Quiet

@@ -1,13 +1,16 @@
 -- The marks of the rules, as masks and sets.
 use Rattle.std.specs.Prelude.{ℕ, Bool, true, false, not, ◌&&◌, ◌||◌, ◌==◌, ◌≡◌, List}
+use Rattle.input_types.specs.declared.motion.Motion.{Motion}
 use Rattle.window_snapshot.specs.Mask.{is_channel, mask_has}
 use Rattle.routing_rules.specs.Pairs.{has}
-use Rattle.routing_rules.specs.Taking.{Taking, Nothing, Lifted, Emptied, Slipped, Pilfered, Dropped, takes}
+use Rattle.routing_rules.specs.Taking.{Taking, Nothing, Lifted, Emptied, Slipped, Pilfered, Dropped, takes, pilfers}
 use Rattle.routing_rules.specs.Marks.{Mark as RuleMark}
+use Rattle.routing_rules.specs.Scene.{Scene, Step, Moves, Resets, Pilfers, Shows, Mutes, Removes, Rests as Resting}
+use Rattle.routing_rules.specs.Given.{given, taken, mark}
 use Rattle.touch_state.specs.Touches.{Touches, of_mask, one}
 use Rattle.route_split.specs.declared.mark.Mark.{Mark}
 use Rattle.route_split.specs.declared.mark.Mark.TheVariants.{Rests, Give, Lift, Slip, Empty, Pilfer, Unnamed, Mute, Forget}
-use Rattle.route_split.specs.Tables.{holds_at}
+use Rattle.route_split.specs.Tables.{holds_at, any_at, Stands}
 
 -- what a mark gives: a pointer that goes down, or that slips to a window
 abbrev pub gives : Mark → (window device id : ℕ) → Bool
@@ -33,11 +36,48 @@ IsWhole (Slip device id from to) = (is_channel from ≡ true) × (is_channel to 
 IsWhole (Pilfer device window) = is_channel window ≡ true
 IsWhole _ = Unit {0}
 
--- It is a mark of the rules: it gives the same pairs, in whatever order they are listed, and takes the same.
+-- It is a mark of the rules: it gives the same pairs, in whatever order they are listed, it takes the same from channels, and the same
+-- window pilfers.
 pub record IsMark (ts : List Touches) (k : Mark) (m : RuleMark) : Type 0 where
   pub given_are : (w d i : ℕ) → has m.given w d i ≡ gives k w d i
-  pub taken_is : m.taken ≡ taking ts k
+  pub taken_are : (w d i : ℕ) → is_channel w ≡ true → takes m.taken w d i ≡ takes (taking ts k) w d i
+  pub pilfers_are : (w d : ℕ) → pilfers m.taken w d ≡ pilfers (taking ts k) w d
+
+-- it is the mark of a motion in a scene
+pub record IsMotionMark (s : Scene) (m : Motion) (k : Mark) : Type 0 where
+  pub given_are : (w d i : ℕ) → has (given s (Moves m)) w d i ≡ gives k w d i
+  pub taken_is : (ts : List Touches) → taken s (Moves m) ≡ taking ts k
+  pub whole : IsWhole k
 
 -- the ids that a window holds of a device after a step with this mark
-abbrev pub after : List Touches → Mark → (window device id : ℕ) → Bool
-after ts k w d i = gives k w d i || holds_at ts w d i && not (takes (taking ts k) w d i)
+abbrev pub holds_after : List Touches → Mark → (window device id : ℕ) → Bool
+holds_after ts k w d i = gives k w d i || holds_at ts w d i && not (takes (taking ts k) w d i)
+
+-- a step that is no motion leaves this mark; of windows that stay, or are found unresponsive, the channels matter alone
+abbrev pub IsStepOf : Mark → Step → Type 0
+IsStepOf (Empty device) (Resets d) = d ≡ device
+IsStepOf (Pilfer device window) (Pilfers w d) = (w ≡ window) × (d ≡ device)
+IsStepOf (Unnamed stays) (Shows names) = (w : ℕ) → is_channel w ≡ true → names w ≡ mask_has stays w
+IsStepOf (Mute channels) (Mutes muted) = (w : ℕ) → is_channel w ≡ true → muted w ≡ mask_has channels w
+IsStepOf (Forget window) (Removes w) = w ≡ window
+IsStepOf Rests Resting = Unit {0}
+IsStepOf _ _ = ⊥
+
+-- with the step a channel is removed
+abbrev pub is_forget : Mark → Bool
+is_forget (Forget window) = true
+is_forget k = false
+
+-- Each such step leaves that mark.
+abbrev pub OtherLaw : Type 0
+OtherLaw = (s : Scene) (ts : List Touches) (k : Mark) (e : Step) → Stands s ts → IsStepOf k e → IsMark ts k (mark s e)
+
+-- a window is given a pointer of a device with this mark
+abbrev pub is_given_some : Mark → (window device : ℕ) → Bool
+is_given_some (Give device id windows) w d = d == device && mask_has windows w
+is_given_some (Slip device id from to) w d = d == device && (is_channel w && w == to)
+is_given_some _ w d = false
+
+-- a window may be told something of a device at a step with this mark: it holds something of it, or is given something
+abbrev pub may_be_told : List Touches → Mark → (window device : ℕ) → Bool
+may_be_told ts k w d = any_at ts w d || is_given_some k w d

@@ -18,10 +18,23 @@
 //! specs/Following): each mark that is taken is one mark more.
 #![tactic(auto)]
 
+mod after;
+mod choice;
+mod concern;
 pub mod laws;
 mod mark;
+mod motion;
+mod planned;
+mod seen;
+mod sets;
+mod slip;
 mod taking;
+mod telling;
+mod tells;
 mod touches;
+mod watching;
 
 pub use mark::Mark;
+pub use tells::Tells;
 pub use touches::Touches;
+pub use watching::watchers;

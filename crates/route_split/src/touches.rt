@@ -3,16 +3,28 @@ ghost use Rattle.std.specs.Prelude.{◌≡◌, ℕ, true, IfOk};
 ghost use Rattle.bits32.specs.Set.{is_in};
 ghost use Rattle.window_snapshot.specs.Mask.{is_channel, mask_has};
 ghost use Rattle.routing_rules.specs.Taking.{takes, pilfers};
-ghost use Rattle.route_split.specs.Tables.{table_of, any_at, holds_at, IsFresh, ChangesAll};
-ghost use Rattle.route_split.specs.Marking.{gives, taking, IsWhole, after};
+ghost use Rattle.routing_rules.specs.Scene.{Scene, Step, Moves};
+ghost use Rattle.routing_rules.specs.Given.{changed, mark as rule_mark};
+ghost use Rattle.routing_rules.specs.Told.{told};
+ghost use Rattle.route_split.specs.Seen.{Sees};
+ghost use Rattle.route_split.specs.Telling.{IsTold, IsListed, is_watching};
+ghost use Rattle.route_split.specs.Tables.{table_of, any_at, holds_at, Stands, IsFresh, ChangesAll};
+ghost use Rattle.route_split.specs.Marking.{gives, taking, IsWhole, IsMark, IsStepOf, holds_after, may_be_told};
 
+use crate::after::after_of;
+use crate::concern::given_windows;
 use crate::mark::Mark;
+use crate::motion::mark_of;
+use crate::planned::{loses_at, tells_at};
+use crate::seen::Seen;
 use crate::taking::{fresh_states, index_of, take_mark};
+use crate::tells::Tells;
 use bits32::Bits32;
-use input_types::DeviceId;
+use input_types::{DeviceId, Motion};
 use std::alloc::{AllocError, Global};
 use std::marker::Model;
 use touch_state::TouchState;
+use window_snapshot::Snapshot;
 
 /// Which of the windows 1 to 64 hold which pointers of the devices 1 to 8, since when, and which of them are pilfering which device.
 #[derive(Drop)]
@@ -24,6 +36,11 @@ pub struct Touches {
 impl Model for Touches {
     ghost use Rattle.std.specs.Prelude.{List};
     ghost use Rattle.touch_state.specs.Touches.{Touches as Table};
+    ghost use Rattle.routing_rules.specs.Scene.{Scene, Step, Moves};
+    ghost use Rattle.routing_rules.specs.Given.{changed, mark as rule_mark};
+    ghost use Rattle.routing_rules.specs.Told.{told};
+    ghost use Rattle.route_split.specs.Seen.{Sees};
+    ghost use Rattle.route_split.specs.Telling.{IsTold, IsListed, is_watching};
     ghost use Rattle.route_split.specs.Tables.{IsTables};
 
     ghost Value = { List Table };
@@ -55,6 +72,59 @@ impl Touches {
         ensures { (w : ℕ) → mask_has result w ≡ any_at self.now w device }
     {
         self.states[index_of(device)].holders()
+    }
+
+    /// The mark of a motion: who gets a pointer that goes down, from whom one goes that goes up, and between which windows one slips.
+    /// The masks are those of the channels that the device can reach, and of those that are able to take input.
+    pub fn mark(&self, motion: &Motion, windows: &Snapshot, reach: u64, able: u64) -> Mark
+        ensures mark { (s : Scene) → Stands s self.now → Sees s windows.now reach able motion.now.device → IsMark self.now result (rule_mark s (Moves motion.now)) }
+        ensures whole { IsWhole result }
+    {
+        let seen = Seen {
+            windows,
+            reach,
+            able,
+            table: &self.states[index_of(motion.device)],
+        };
+        mark_of(&seen, motion)
+    }
+
+    /// The mask of the windows that may be told something of a device at the step of a mark: those that hold something of it, and those
+    /// that are given something. At a motion its `watchers` may be told something besides.
+    pub fn concerned(&self, mark: &Mark, device: DeviceId) -> u64
+        ensures { (w : ℕ) → mask_has result w ≡ may_be_told self.now mark.now w device }
+    {
+        self.holders(device) | given_windows(mark, device)
+    }
+
+    /// The ids of the pointers of a device that a window holds after the step of a mark.
+    pub fn after(&self, mark: &Mark, window: u32, device: DeviceId) -> Bits32
+        requires whole { IsWhole mark.now }
+        requires channel { is_channel window ≡ true }
+        ensures { (i : ℕ) → is_in i result ≡ holds_after self.now mark.now window device i }
+    {
+        after_of(&self.states, mark, window, device)
+    }
+
+    /// What a window is told of a motion, whose mark this is; `watches` says whether the window is one of the motion's `watchers`. What
+    /// windows hold has to be listed in the last motion of the device.
+    pub fn tells(&self, motion: &Motion, mark: &Mark, window: u32, watches: bool) -> Tells
+        requires whole { IsWhole mark.now }
+        requires channel { is_channel window ≡ true }
+        ensures { (s : Scene) → Stands s self.now → IsMark self.now mark.now (rule_mark s (Moves motion.now)) → IsListed s motion.now.device
+            → watches ≡ is_watching s motion.now (changed motion.now) window
+            → IsTold result (told s (Moves motion.now) window motion.now.device) motion.now.device (s.last motion.now.device) (s.holds window motion.now.device) }
+    {
+        tells_at(&self.states, motion, mark, window, watches)
+    }
+
+    /// What a window is told of a device at a step that is no motion, whose mark this is.
+    pub fn loses(&self, mark: &Mark, window: u32, device: DeviceId) -> Tells
+        requires whole { IsWhole mark.now }
+        requires channel { is_channel window ≡ true }
+        ensures { (s : Scene) (e : Step) → Stands s self.now → IsStepOf mark.now e → IsTold result (told s e window device) device (s.last device) (s.holds window device) }
+    {
+        loses_at(&self.states, mark, window, device)
     }
 
     /// Takes the step of a mark, at a place, which is how many steps were before it.

@@ -1,0 +1,34 @@
+use Rattle.std.proofs.Common.{◌∷◌, [], length, ◌==◌, sym, ap, ◌∙◌}
+use Rattle.bits32.specs.Set.{is_in}
+use Rattle.input_types.specs.declared.motion.MotionAction.TheVariants.{Move, Outside}
+use Rattle.routing_rules.specs.Told.{listing, plain}
+use Rattle.route_split.specs.Telling.{outside_of}
+use Rattle.route_split.proofs.TellingLaws.{lost_told, kept_told, some_move, none_move}
+use Rattle.route_split.proofs.telling.tells_rest.Goals as goal
+
+pub returns-then-bits-ne0 : goal.returns-then-bits-ne0
+returns-then-bits-ne0 c last listed within =
+    lost_told c.args.motion.now c.args.watched last (λ i. is_in i c.args.before) (λ i. is_in i c.args.later) c.lost_of-lost.result (λ e. c.if-bits-ne0.true (c.bits.ensures ∙ e))
+    c.lost_of-lost.ensures listed within
+
+pub returns-then-not-is_empty : goal.returns-then-not-is_empty
+returns-then-not-is_empty c last listed within =
+    kept_told c.args.motion.now c.args.watched last (λ i. is_in i c.args.before) (λ i. is_in i c.args.later) c.lost_of-lost.result (sym c.bits.ensures ∙ c.if-bits-ne0.false) c.lost_of-lost.ensures
+    ∙ some_move c.args.motion.now.device (listing (λ i. is_in i c.args.later) c.args.motion.now.pointers) _
+    (ap (λ ps. length ps == 0) (sym c.part-moving.ensures) ∙ sym c.is_empty.ensures ∙ c.if-not-is_empty.true)
+    ∙ ap (λ ps. plain c.args.motion.now.device Move ps ∷ []) (sym c.part-moving.ensures) ∙ ap (λ m. m ∷ []) (sym c.plain.ensures)
+
+pub returns-in-Some : goal.returns-in-Some
+returns-in-Some c last listed within =
+    kept_told c.args.motion.now c.args.watched last (λ i. is_in i c.args.before) (λ i. is_in i c.args.later) c.lost_of-lost.result (sym c.bits.ensures ∙ c.if-bits-ne0.false) c.lost_of-lost.ensures
+    ∙ none_move c.args.motion.now.device (listing (λ i. is_in i c.args.later) c.args.motion.now.pointers) _
+    (ap (λ ps. length ps == 0) (sym c.part-moving.ensures) ∙ sym c.is_empty.ensures ∙ c.if-not-is_empty.false)
+    ∙ ap (outside_of c.args.motion.now.device) c.in-Some.is ∙ ap (λ ps. plain c.args.motion.now.device Outside ps ∷ []) (sym c.single.ensures)
+    ∙ ap (λ m. m ∷ []) (sym c.plain-in-Some.ensures)
+
+pub returns-in-None : goal.returns-in-None
+returns-in-None c last listed within =
+    kept_told c.args.motion.now c.args.watched last (λ i. is_in i c.args.before) (λ i. is_in i c.args.later) c.lost_of-lost.result (sym c.bits.ensures ∙ c.if-bits-ne0.false) c.lost_of-lost.ensures
+    ∙ none_move c.args.motion.now.device (listing (λ i. is_in i c.args.later) c.args.motion.now.pointers) _
+    (ap (λ ps. length ps == 0) (sym c.part-moving.ensures) ∙ sym c.is_empty.ensures ∙ c.if-not-is_empty.false)
+    ∙ ap (outside_of c.args.motion.now.device) c.in-None.is

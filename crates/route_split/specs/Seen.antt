@@ -1,0 +1,37 @@
+-- What the rules see before a motion of one device.
+use Rattle.std.specs.Prelude.{ℕ, Bool, ◌==◌, ◌||◌, ◌≡◌, List, [], Option, Some, None}
+use Rattle.window_snapshot.specs.declared.window.Window.{Window}
+use Rattle.window_snapshot.specs.Mask.{mask_has}
+use Rattle.routing_rules.specs.Scene.{Scene}
+use Rattle.touch_state.specs.Touches.{Touches, holds, any, pilfering}
+use Rattle.route_split.specs.declared.seen.Seen.{Seen}
+use Rattle.route_split.specs.Tables.{is_earlier}
+
+-- the scene in which each device is the one of this table
+abbrev pub scene_with : List Window → (reach able : ℕ) → Touches → Scene
+scene_with windows reach able t =
+    record {
+      windows = windows;
+      reach = λ d. mask_has reach;
+      able = mask_has able;
+      holds = λ w d i. holds t w i;
+      any = λ w d. any t w;
+      earlier = λ v w d. is_earlier t v w;
+      pilfering = λ w d. pilfering t w;
+      last = λ d. [];
+    }
+
+-- that of what is seen
+abbrev pub scene_at : Seen → Scene
+scene_at m = scene_with m.windows.now m.reach m.able m.table.now
+
+-- a scene has these windows, these channels that a device can reach, and these that are able to take input
+pub record Sees (s : Scene) (windows : List Window) (reach able device : ℕ) : Type 0 where
+  pub windows_are : s.windows ≡ windows
+  pub reach_is : s.reach device ≡ mask_has reach
+  pub able_is : s.able ≡ mask_has able
+
+-- a candidate is the chosen window, or one of the spies
+abbrev pub is_candidate_of : Option ℕ → (spies : ℕ → Bool) → ℕ → Bool
+is_candidate_of None spies w = spies w
+is_candidate_of (Some c) spies w = w == c || spies w

@@ -1,0 +1,176 @@
+//! Who gets a pointer that goes down.
+ghost use Rattle.std.specs.Prelude.{◌≡◌, ◌&&◌, ◌||◌, ◌==◌, not, ℕ, filter};
+ghost use Rattle.std.specs.List.{list_any};
+ghost use Rattle.window_snapshot.specs.Hits.{touched, is_spy_at};
+ghost use Rattle.window_snapshot.specs.Mask.{mask_has};
+ghost use Rattle.window_snapshot.specs.MaskOf.{mask_of};
+ghost use Rattle.window_snapshot.specs.Window.{prevents_splitting};
+ghost use Rattle.routing_rules.specs.Choice.{is_holder, sooner, earliest, is_alone, choose, chosen, takers};
+ghost use Rattle.routing_rules.specs.Scene.{shows, which};
+ghost use Rattle.route_split.specs.Seen.{scene_at, is_candidate_of};
+
+use crate::seen::{Seen, holds_any, is_earlier, is_pilfering};
+use input_types::{DeviceId, Pixel};
+use window_snapshot::{Window, mask_has, mask_with};
+
+/// The mask of the windows that get a pointer of a device that goes down at a place.
+pub(crate) fn takers(seen: &Seen, device: DeviceId, at: Pixel) -> u64
+    ensures { (w : ℕ) → mask_has result w ≡ list_any (λ v. v == w) (takers (scene_at seen.now) device at) }
+{
+    let chosen = chosen(seen, device, at);
+    let spies = spies(seen, device, at);
+    let some = some_pilfering(seen, device, chosen, spies);
+    taker_mask(seen, device, chosen, spies, some)
+}
+
+/// The mask of the spies at a place.
+fn spies(seen: &Seen, device: DeviceId, at: Pixel) -> u64
+    ensures { let s = scene_at seen.now in (c : ℕ) → mask_has result c ≡ is_spy_at s.windows (s.reach device) at.x at.y c }
+{
+    seen.windows.spies(at.x, at.y, seen.reach)
+}
+
+/// Whether the window is no spy and holds something.
+fn is_holder(seen: &Seen, device: DeviceId, window: &Window) -> bool
+    ensures { result ≡ is_holder (scene_at seen.now) device window.now }
+{
+    !window.is_spy() && holds_any(seen.table, window.channel)
+}
+
+/// Whether it prevents splitting besides.
+fn is_whole_holder(seen: &Seen, device: DeviceId, window: &Window) -> bool
+    ensures { result ≡ (is_holder (scene_at seen.now) device window.now && prevents_splitting window.now) }
+{
+    is_holder(seen, device, window) && window.prevents_splitting()
+}
+
+/// Of the best so far and a window behind it, the one that began first.
+fn sooner(seen: &Seen, device: DeviceId, best: Option<u32>, channel: u32) -> Option<u32>
+    ensures { result ≡ sooner (scene_at seen.now) device best channel }
+{
+    match best {
+        Some(first) => {
+            if is_earlier(seen.table, channel, first) {
+                Some(channel)
+            } else {
+                Some(first)
+            }
+        }
+        None => Some(channel),
+    }
+}
+
+/// The earliest holder.
+fn earliest_holder(seen: &Seen, device: DeviceId) -> Option<u32>
+    ensures { let s = scene_at seen.now in result ≡ earliest s device (which s (is_holder s device)) }
+{
+    seen.windows
+        .windows()
+        .iter()
+        .filter(|window| is_holder(seen, device, window))
+        .map(|window| window.channel)
+        .fold(None, |best, channel| sooner(seen, device, best, channel))
+}
+
+/// The earliest holder that prevents splitting.
+fn earliest_whole_holder(seen: &Seen, device: DeviceId) -> Option<u32>
+    ensures { let s = scene_at seen.now in result ≡ earliest s device (which s (λ v. is_holder s device v && prevents_splitting v)) }
+{
+    seen.windows
+        .windows()
+        .iter()
+        .filter(|window| is_whole_holder(seen, device, window))
+        .map(|window| window.channel)
+        .fold(None, |best, channel| sooner(seen, device, best, channel))
+}
+
+/// Whether the channel's window prevents splitting.
+fn shows_whole(seen: &Seen, channel: u32) -> bool
+    ensures { result ≡ shows (scene_at seen.now) prevents_splitting channel }
+{
+    seen.windows.windows().iter().any(|window| window.channel == channel
+        && window.prevents_splitting())
+}
+
+/// Whether the touched window prevents splitting and holds nothing.
+fn is_alone(seen: &Seen, device: DeviceId, touched: Option<u32>) -> bool
+    ensures { result ≡ is_alone (scene_at seen.now) device touched }
+{
+    match touched {
+        Some(channel) => shows_whole(seen, channel) && !holds_any(seen.table, channel),
+        None => false,
+    }
+}
+
+/// The choice, as a table.
+fn choose(first: Option<u32>, whole: Option<u32>, touched: Option<u32>, alone: bool) -> Option<u32>
+    ensures { result ≡ choose first whole touched alone }
+{
+    match (first, whole, touched) {
+        (None, _, _) => touched,
+        (Some(_), Some(holder), _) => Some(holder),
+        (Some(holder), None, None) => Some(holder),
+        (Some(holder), None, Some(channel)) => { if alone { Some(holder) } else { Some(channel) } }
+    }
+}
+
+/// The window that is chosen.
+fn chosen(seen: &Seen, device: DeviceId, at: Pixel) -> Option<u32>
+    ensures { result ≡ chosen (scene_at seen.now) device at }
+{
+    let first = earliest_holder(seen, device);
+    let whole = earliest_whole_holder(seen, device);
+    let touched = seen.windows.touched(at.x, at.y, seen.reach);
+    choose(first, whole, touched, is_alone(seen, device, touched))
+}
+
+/// Whether the window is the chosen one or one of these spies.
+fn is_candidate(chosen: Option<u32>, spies: u64, channel: u32) -> bool
+    ensures { result ≡ is_candidate_of chosen (mask_has spies) channel }
+{
+    match chosen {
+        Some(window) => channel == window || mask_has(spies, channel),
+        None => mask_has(spies, channel),
+    }
+}
+
+/// Whether some candidate is pilfering.
+fn some_pilfering(seen: &Seen, device: DeviceId, chosen: Option<u32>, spies: u64) -> bool
+    ensures { let s = scene_at seen.now in result ≡ list_any (λ v. is_candidate_of chosen (mask_has spies) v.channel && s.pilfering v.channel device) s.windows }
+{
+    seen.windows.windows().iter().any(|window| is_candidate(chosen, spies, window.channel)
+        && is_pilfering(seen.table, window.channel))
+}
+
+/// Whether the window gets the pointer.
+fn is_taker(
+    seen: &Seen,
+    device: DeviceId,
+    chosen: Option<u32>,
+    spies: u64,
+    some_pilfering: bool,
+    channel: u32,
+) -> bool
+    ensures { let s = scene_at seen.now in result ≡ (is_candidate_of chosen (mask_has spies) channel && (s.pilfering channel device || not some_pilfering) && s.able channel) }
+{
+    is_candidate(chosen, spies, channel)
+        && (is_pilfering(seen.table, channel) || !some_pilfering)
+        && mask_has(seen.able, channel)
+}
+
+/// The mask of those that do.
+fn taker_mask(
+    seen: &Seen,
+    device: DeviceId,
+    chosen: Option<u32>,
+    spies: u64,
+    some_pilfering: bool,
+) -> u64
+    ensures { let s = scene_at seen.now in result ≡ mask_of (filter (λ v. is_candidate_of chosen (mask_has spies) v.channel && (s.pilfering v.channel device || not some_pilfering) && s.able v.channel) s.windows) }
+{
+    seen.windows
+        .windows()
+        .iter()
+        .filter(|window| is_taker(seen, device, chosen, spies, some_pilfering, window.channel))
+        .fold(0, |mask, window| mask_with(mask, window.channel))
+}

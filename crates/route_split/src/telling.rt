@@ -1,0 +1,138 @@
+//! What a window is told of a motion.
+ghost use Rattle.std.specs.Prelude.{◌≡◌, ℕ, [], ◌∷◌, List, Bool, true, not, ◌&&◌, if◌then◌else◌};
+ghost use Rattle.bits32.specs.Set.{is_in};
+ghost use Rattle.input_types.specs.declared.pointer.Pointer.{Pointer as Listed};
+ghost use Rattle.routing_rules.specs.Scene.{Scene};
+ghost use Rattle.routing_rules.specs.Given.{changed};
+ghost use Rattle.routing_rules.specs.Told.{is_up, told_motion};
+ghost use Rattle.split_motion.specs.Split.{as_down};
+ghost use Rattle.split_motion.specs.Laws.{if_some};
+ghost use Rattle.route_split.specs.Telling.{IsTold, is_watching, told_rest, AreListed, OnlyNew};
+
+use crate::motion::changed;
+use crate::sets::{has_id, lost_of};
+use crate::tells::Tells;
+use bits32::Bits32;
+use input_types::{Motion, MotionAction, Pointer, PointerId, Pointers, PushRefused};
+use split_motion::{part, plain, split};
+
+/// What a window is told of a motion with which it goes from holding one set to holding the other.
+pub(crate) fn tells_of(motion: &Motion, before: Bits32, later: Bits32, watches: bool) -> Tells
+    ensures { (s : Scene) (w : ℕ) → watches ≡ is_watching s motion.now (changed motion.now) w
+        → AreListed (λ i. is_in i before) (λ i. is_in i later) (s.last motion.now.device)
+        → OnlyNew (changed motion.now) (λ i. is_in i before) (λ i. is_in i later)
+        → IsTold result (told_motion s motion.now (changed motion.now) w (λ i. is_in i before) (λ i. is_in i later)) motion.now.device (s.last motion.now.device) (λ i. is_in i before) }
+{
+    match changed(motion) {
+        Some(pointer) => tells_changed(motion, pointer, before, later, watches),
+        None => tells_rest(motion, before, later, None),
+    }
+}
+
+/// The same of a motion about a pointer.
+fn tells_changed(
+    motion: &Motion,
+    pointer: Pointer,
+    before: Bits32,
+    later: Bits32,
+    watches: bool,
+) -> Tells
+    requires { changed motion.now ≡ Some pointer }
+    ensures { (s : Scene) (w : ℕ) → watches ≡ is_watching s motion.now (Some pointer) w
+        → AreListed (λ i. is_in i before) (λ i. is_in i later) (s.last motion.now.device)
+        → OnlyNew (Some pointer) (λ i. is_in i before) (λ i. is_in i later)
+        → IsTold result (told_motion s motion.now (Some pointer) w (λ i. is_in i before) (λ i. is_in i later)) motion.now.device (s.last motion.now.device) (λ i. is_in i before) }
+{
+    if is_given(pointer.id, before, later) {
+        return one_of(split(&as_down(motion), later));
+    }
+    if goes_up(motion.action, pointer.id, before) {
+        return one_of(split(motion, before));
+    }
+    tells_rest(motion, before, later, watched_of(pointer, watches))
+}
+
+/// Whether the pointer with this id is given.
+fn is_given(id: PointerId, before: Bits32, later: Bits32) -> bool
+    ensures { result ≡ (is_in id later && not (is_in id before)) }
+{
+    has_id(later, id) && !has_id(before, id)
+}
+
+/// Whether the pointer with this id, which is held, goes up with the action.
+fn goes_up(action: MotionAction, id: PointerId, before: Bits32) -> bool
+    ensures { result ≡ (is_up action && is_in id before) }
+{
+    is_up(action) && has_id(before, id)
+}
+
+/// The pointer, where it is watched.
+fn watched_of(pointer: Pointer, watches: bool) -> Option<Pointer>
+    ensures { result ≡ (if watches then Some pointer else None) }
+{
+    if watches { Some(pointer) } else { None }
+}
+
+/// What it is told of pointers that are neither given nor go up: some are lost, else some move, else a pointer is outside.
+fn tells_rest(motion: &Motion, before: Bits32, later: Bits32, watched: Option<Pointer>) -> Tells
+    ensures { (last : List Listed) → AreListed (λ i. is_in i before) (λ i. is_in i later) last
+        → ((i : ℕ) → is_in i later ≡ true → is_in i before ≡ true)
+        → IsTold result (told_rest motion.now watched last (λ i. is_in i before) (λ i. is_in i later)) motion.now.device last (λ i. is_in i before) }
+{
+    let lost = lost_of(before, later);
+    if lost.bits() != 0 {
+        return Tells::Cancels { lost };
+    }
+    let moving = part(&motion.pointers, later);
+    if !moving.is_empty() {
+        return Tells::One(plain(motion.device, MotionAction::Move, moving));
+    }
+    match watched {
+        Some(pointer) => Tells::One(plain(motion.device, MotionAction::Outside, single(pointer))),
+        None => Tells::Nothing,
+    }
+}
+
+/// The motion, where there is one.
+fn one_of(motion: Option<Motion>) -> Tells
+    ensures { (d : ℕ) (last : List Listed) (before : ℕ → Bool) → IsTold result (if_some motion) d last before }
+{
+    match motion {
+        Some(told) => Tells::One(told),
+        None => Tells::Nothing,
+    }
+}
+
+/// The same motion as a down of its changed pointer.
+fn as_down(motion: &Motion) -> Motion
+    ensures { result ≡ as_down motion.now }
+{
+    Motion {
+        device: motion.device,
+        action: MotionAction::Down,
+        index: motion.index,
+        flags: motion.flags,
+        pointers: motion.pointers,
+    }
+}
+
+/// Whether it is an action with which a pointer goes up.
+fn is_up(action: MotionAction) -> bool
+    ensures { result ≡ is_up action }
+{
+    match action {
+        MotionAction::Up | MotionAction::PointerUp | MotionAction::Cancel => true,
+        _ => false,
+    }
+}
+
+/// The list of one pointer.
+fn single(pointer: Pointer) -> Pointers
+    ensures { result ≡ pointer ∷ [] }
+{
+    let mut list = Pointers::empty();
+    match list.push(pointer) {
+        Ok(()) => list,
+        Err(PushRefused::Full) | Err(PushRefused::NotRising) => unreachable!(),
+    }
+}

@@ -1,0 +1,45 @@
+//! Who watches for touches outside of it.
+ghost use Rattle.std.specs.Prelude.{◌≡◌, ℕ};
+ghost use Rattle.window_snapshot.specs.Hits.{is_watcher_at};
+ghost use Rattle.window_snapshot.specs.Mask.{mask_has};
+ghost use Rattle.routing_rules.specs.Scene.{Scene};
+ghost use Rattle.routing_rules.specs.Given.{changed};
+ghost use Rattle.routing_rules.specs.Told.{is_first};
+ghost use Rattle.route_split.specs.Seen.{Sees};
+ghost use Rattle.route_split.specs.Telling.{is_watching};
+
+use crate::motion::changed;
+use input_types::{Motion, MotionAction, Pixel};
+use window_snapshot::Snapshot;
+
+/// The mask of the windows that are told of a motion that it is outside of them, where they hold none of its pointers: at the down that
+/// begins a gesture the able watchers at its place, and else nobody. The masks are those of the channels that the device can reach, and
+/// of those that are able to take input.
+pub fn watchers(motion: &Motion, windows: &Snapshot, reach: u64, able: u64) -> u64
+    ensures { (s : Scene) → Sees s windows.now reach able motion.now.device → (w : ℕ) → mask_has result w ≡ is_watching s motion.now (changed motion.now) w }
+{
+    if !is_first(motion.action) {
+        return 0;
+    }
+    match changed(motion) {
+        Some(pointer) => able & watchers_at(windows, pointer.at, reach),
+        None => 0,
+    }
+}
+
+/// The watchers at a place.
+fn watchers_at(windows: &Snapshot, at: Pixel, reach: u64) -> u64
+    ensures { (c : ℕ) → mask_has result c ≡ is_watcher_at windows.now (mask_has reach) at.x at.y c }
+{
+    windows.watchers(at.x, at.y, reach)
+}
+
+/// Whether it is an action that begins a gesture.
+fn is_first(action: MotionAction) -> bool
+    ensures { result ≡ is_first action }
+{
+    match action {
+        MotionAction::Down => true,
+        _ => false,
+    }
+}
