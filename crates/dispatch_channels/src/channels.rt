@@ -1,7 +1,6 @@
 //! The channels.
 ghost use Rattle.std.specs.Prelude.{◌≡◌, ℕ, true, [], ◌≤◌, ◌<◌, is_ok, option_copied, OnOk, OnErr, IfOk, IsOk};
 ghost use Rattle.window_snapshot.specs.Mask.{mask_has};
-ghost use Rattle.cancel_synthesis.specs.Tracked.{Tracks};
 ghost use Rattle.anr_tracker.specs.Due.{IsFirst};
 ghost use Rattle.input_channel.specs.Order.{NoneAfter};
 ghost use Rattle.input_channel.specs.State.{next_of, received_one, received_next, let_go_of, may_finish};
@@ -14,6 +13,7 @@ use crate::heard::body_from;
 use crate::mask::{less, without};
 use crate::noted::note_all;
 use crate::settle::{able_after, finish_one, settle_all};
+use crate::tracked::track;
 use anr_tracker::Tracker;
 use cancel_synthesis::InputState;
 use dispatch_calls::{Counts, Naming};
@@ -26,8 +26,8 @@ use window_snapshot::{mask_has, mask_with};
 /// The most channels that are opened, removed ones counted.
 const MOST: usize = 64;
 
-/// All channels that were opened, removed ones too. They have the numbers 1, 2, 3 in the order of their opening, at most 64, and a mask
-/// is a set of them: bit `id - 1` stands for the channel `id`.
+/// All channels that were opened, removed ones too. They have the numbers 1, 2, 3 in the order of their opening, at
+/// most 64, and a mask is a set of them: bit `id - 1` stands for the channel `id`.
 #[derive(Drop)]
 pub struct Channels {
     channels: Vec<Channel>,
@@ -91,8 +91,8 @@ impl Channels {
         self.able
     }
 
-    /// Opens a channel, which is live and able, and answers its number; None exactly where 64 were opened. Without memory nothing
-    /// changes.
+    /// Opens a channel, which is live and able, and answers its number; None exactly where 64 were opened. Without
+    /// memory nothing changes.
     pub fn open(&mut self, limit: Limit) -> Result<Option<u32>, AllocError>
         ensures ok { IfOk result (λ number. OpensOrNot limit number self.old self.new) }
         ensures err { OnErr result (self.new ≡ self.old) }
@@ -111,7 +111,8 @@ impl Channels {
         Ok(Some(number))
     }
 
-    /// Makes room, so that the channel can be told the next `n` bodies. Without memory nothing changes but the room that it has.
+    /// Makes room, so that the channel can be told the next `n` bodies. Without memory nothing changes but the room
+    /// that it has.
     pub fn reserve(&mut self, channel: u32, n: u32) -> Result<(), AllocError>
         requires { IsOpened self.old channel }
         ensures ok { OnOk result (self.new ≡ with_room channel n self.old) }
@@ -123,8 +124,8 @@ impl Channels {
         self.inputs[place].reserve(n)
     }
 
-    /// A live channel is told a body, which is given in display pixels. The owner reads its places from the origin of the window, kept at
-    /// the ends of their type. Takes no memory.
+    /// A live channel is told a body, which is given in display pixels. The owner reads its places from the origin of
+    /// the window, kept at the ends of their type. Takes no memory.
     pub fn tell(&mut self, channel: u32, body: &Body, origin: Pixel, clock: Moment)
         requires live { mask_has self.old.live channel ≡ true }
         requires room { 1 ≤ (channel_of self.old channel).spare }
@@ -153,7 +154,8 @@ impl Channels {
         );
     }
 
-    /// The next message for the owner of a channel, which stays the next one; None exactly where all published ones are received.
+    /// The next message for the owner of a channel, which stays the next one; None exactly where all published ones
+    /// are received.
     pub fn next(&self, channel: u32) -> Option<&Message>
         requires { IsOpened self.now channel }
         ensures { option_copied result ≡ next_of (channel_of self.now channel) }
@@ -170,7 +172,8 @@ impl Channels {
         self.channels[channel as usize - 1].mark_received();
     }
 
-    /// Hands the next message of a channel to its owner; None exactly where all published ones are received. Takes no memory.
+    /// Hands the next message of a channel to its owner; None exactly where all published ones are received. Takes no
+    /// memory.
     pub fn receive(&mut self, channel: u32) -> Option<Message>
         requires { IsOpened self.old channel }
         ensures value { result ≡ next_of (channel_of self.old channel) }
@@ -179,9 +182,9 @@ impl Channels {
         self.channels[channel as usize - 1].receive()
     }
 
-    /// The owner of a channel is done with a message. What may be published then is, at the clock; and a live channel is able, where no
-    /// message of it is late. `UnknownSeq` comes exactly where the message is not received, or is finished, and then nothing changes.
-    /// Takes no memory.
+    /// The owner of a channel is done with a message. What may be published then is, at the clock; and a live channel
+    /// is able, where no message of it is late. `UnknownSeq` comes exactly where the message is not received, or is
+    /// finished, and then nothing changes. Takes no memory.
     ///
     /// The clock may not be below that at which an unfinished message of the channel was delivered.
     pub fn finish(&mut self, channel: u32, seq: u64, clock: Moment) -> Result<(), UnknownSeq>
@@ -200,8 +203,8 @@ impl Channels {
         Ok(())
     }
 
-    /// The mask of the able channels whose oldest message, of those that are published and not finished, is late at a moment. It looks at
-    /// no message, and where nobody is due at no channel.
+    /// The mask of the able channels whose oldest message, of those that are published and not finished, is late at a
+    /// moment. It looks at no message, and where nobody is due at no channel.
     pub fn late(&self, now: Moment) -> u64
         ensures { (c : ℕ) → mask_has result c ≡ is_due (due_moment self.now c) now }
     {
@@ -214,8 +217,8 @@ impl Channels {
         due_channels(&self.tracker, self.opened(), now)
     }
 
-    /// Names the channels of a mask unresponsive: notes the oldest message of each, of those that are published and not finished, and
-    /// none of them is able. Without memory nothing changes.
+    /// Names the channels of a mask unresponsive: notes the oldest message of each, of those that are published and
+    /// not finished, and none of them is able. Without memory nothing changes.
     pub fn name(&mut self, mask: u64, clock: Moment) -> Result<(), AllocError>
         ensures ok { OnOk result (self.new ≡ named_in mask clock self.old) }
         ensures err { OnErr result (self.new ≡ self.old) }
@@ -254,8 +257,8 @@ impl Channels {
         })
     }
 
-    /// The least moment at which a channel is due to be named, and the channel, the least one where several are due at it; None exactly
-    /// where no channel is due.
+    /// The least moment at which a channel is due to be named, and the channel, the least one where several are due
+    /// at it; None exactly where no channel is due.
     pub fn first_due(&self) -> Option<(u64, u32)>
         ensures { IsFirst (due_moment self.now) result }
     {
@@ -291,16 +294,5 @@ impl Channels {
         ensures { result.now ≡ self.now.namings }
     {
         &self.namings
-    }
-}
-
-/// What a window is told is tracked, where there is room for it.
-fn track(input: &mut InputState, body: &Body)
-    requires { 1 ≤ input.old.spare }
-    ensures { Tracks input.old input.new body.now }
-{
-    match input.track(body) {
-        Ok(()) => {}
-        Err(AllocError) => unreachable!(),
     }
 }
