@@ -1,5 +1,6 @@
 //! The cursor.
-ghost use Rattle.std.specs.Prelude.{◌≡◌, ◌≤◌, ◌^◌, ◌-◌, ◌+ℤ◌, ℕ, not, ◌&&◌, ◌==◌, max, List, [], ◌∷◌, IfOk, OnOk, OnErr, Option, option_map};
+ghost use Rattle.std.specs.Prelude.{◌≡◌, ◌≤◌, ◌^◌, ◌-◌, ◌+ℤ◌, ℕ, not, ◌&&◌, ◌==◌, max, List, [], ◌∷◌};
+ghost use Rattle.std.specs.Prelude.{IfOk, OnOk, OnErr, option_map};
 ghost use Rattle.std.specs.Int.{int_max, int_min};
 ghost use Rattle.std.specs.Prelude.{pos};
 ghost use Rattle.input_types.specs.declared.axis.Pixel.{Pixel as Place};
@@ -57,8 +58,8 @@ impl Model for Cursor {
 }
 
 impl Cursor {
-    /// A cursor in the middle of a display, in pixels of it as it is turned. The channels have the numbers from 1 on, and all are
-    /// live. There are no windows.
+    /// A cursor in the middle of a display, in pixels of it as it is turned. The channels have the numbers from 1 on,
+    /// and all are live. There are no windows.
     pub fn new(alloc: Global, width: u16, height: u16, channels: u32) -> Result<Cursor, AllocError>
         requires width { (1 ≤ width) × (width ≤ 16384) }
         requires height { (1 ≤ height) × (height ≤ 16384) }
@@ -174,8 +175,8 @@ impl Cursor {
         self.settle(&step, left, met)
     }
 
-    /// Tells the windows what a step does, and keeps what is after it. `left` and `met` are the corners of the windows hovered
-    /// before it and after it.
+    /// Tells the windows what a step does, and keeps what is after it. `left` and `met` are the corners of the windows
+    /// hovered before it and after it.
     fn settle(&mut self, step: &Step, left: Pixel, met: Pixel) -> Result<(), AllocError>
         ensures ok { OnOk result (self.new ≡ settled self.old step.now left met) }
         ensures err { OnErr result (self.new ≡ self.old) }

@@ -40,12 +40,13 @@ impl MotionReader {
 
     /// Takes the mouse's next event, and answers the motion of the packet that it ends, at its own moment.
     ///
-    /// A packet ends at a SYN_REPORT. One without a REL_X or REL_Y event moves nothing. After a SYN_DROPPED, by which the kernel says
-    /// that events were lost, the packet that has begun is forgotten, and what comes up to the next SYN_REPORT is passed over. A sum
-    /// that would go past an end of 64 bits stays at that end.
+    /// A packet ends at a SYN_REPORT. One without a REL_X or REL_Y event moves nothing. After a SYN_DROPPED, by which the
+    /// kernel says that events were lost, the packet that has begun is forgotten, and what comes up to the next
+    /// SYN_REPORT is passed over. A sum that would go past an end of 64 bits stays at that end.
     pub fn take(&mut self, event: &RawEvent) -> Option<CursorCall>
         ensures value { (past : List Event) → ReaderStandsFor past self.old → result ≡ motion_of past event.now }
-        ensures after { (past : List Event) → ReaderStandsFor past self.old → ReaderStandsFor (event.now ∷ past) self.new }
+        ensures after { (past : List Event) → ReaderStandsFor past self.old
+            → ReaderStandsFor (event.now ∷ past) self.new }
     {
         if self.void {
             *self = MotionReader::begun(!is_report(event));

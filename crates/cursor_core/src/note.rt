@@ -124,7 +124,8 @@ fn tell(streams: &mut [Stream], note: &Option<Note>) -> Result<(), AllocError>
 
 /// Takes back what a note has told.
 fn untell(streams: &mut [Stream], note: &Option<Note>)
-    ensures { (rows : List (List Hover)) → streams.old ≡ rows_with (note_list note.now) 1 rows → streams.new ≡ rows }
+    ensures { (rows : List (List Hover)) → streams.old ≡ rows_with (note_list note.now) 1 rows
+        → streams.new ≡ rows }
 {
     let Some(note) = note else {
         return;

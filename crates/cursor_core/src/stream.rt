@@ -1,5 +1,6 @@
 //! What one channel was told.
-ghost use Rattle.std.specs.Prelude.{◌≡◌, ◌-◌, ◌++◌, [], ◌∷◌, length, take, OnOk, OnErr, IfOk, replicate, option_map};
+ghost use Rattle.std.specs.Prelude.{◌≡◌, ◌-◌, ◌++◌, [], ◌∷◌, length, take, replicate, option_map};
+ghost use Rattle.std.specs.Prelude.{OnOk, OnErr, IfOk};
 ghost use Rattle.cursor_core.specs.Kept.{row_of};
 
 use crate::message::HoverMsg;
