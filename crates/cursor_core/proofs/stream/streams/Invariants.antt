@@ -1,0 +1,5 @@
+use Rattle.std.proofs.Common.{◌≡◌, [], replicate}
+use Rattle.cursor_core.proofs.stream.streams.Given as goal
+
+abbrev pub invariant-loop : goal.invariant-loop
+invariant-loop l = l.streams.items ≡ replicate l.counter []

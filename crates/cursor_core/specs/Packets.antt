@@ -1,0 +1,51 @@
+-- The packets of a mouse's events. Events stand with the newest first.
+use Rattle.std.specs.Prelude.{ℕ, ℤ, pos, ◌+ℤ◌, Bool, false, not, ◌&&◌, ◌||◌, nat_eq, List, [], ◌∷◌, Option, Some, None, if◌then◌else◌}
+use Rattle.std.specs.Int.{saturate_signed, w64}
+use Rattle.raw_events.specs.declared.event.RawEvent.{RawEvent}
+use Rattle.cursor_core.specs.declared.call.CursorCall.{CursorCall}
+use Rattle.cursor_core.specs.declared.call.CursorCall.TheVariants.{Moved}
+
+-- a SYN_REPORT
+abbrev pub is_report : RawEvent → Bool
+is_report e = nat_eq e.kind 0 && nat_eq e.code 0
+
+-- a SYN_DROPPED
+abbrev pub is_drop : RawEvent → Bool
+is_drop e = nat_eq e.kind 0 && nat_eq e.code 3
+
+-- what comes next is void: a drop came that was not void itself, and no SYN_REPORT since
+abbrev pub is_void : List RawEvent → Bool
+is_void [] = false
+is_void (e ∷ past) = if is_void past then not (is_report e) else is_drop e
+
+-- the packet that has begun: the events that are not void since the last packet end or drop. A packet ends at a SYN_REPORT that is not
+-- void
+abbrev pub packet : List RawEvent → List RawEvent
+packet [] = []
+packet (e ∷ past) = if is_void past || (is_report e || is_drop e) then [] else e ∷ packet past
+
+-- an EV_REL of this code; REL_X is 0 and REL_Y is 1
+abbrev pub is_rel : ℕ → RawEvent → Bool
+is_rel code e = nat_eq e.kind 2 && nat_eq e.code code
+
+-- a packet has an event that moves the mouse
+abbrev pub has_motion : List RawEvent → Bool
+has_motion [] = false
+has_motion (e ∷ es) = is_rel 0 e || (is_rel 1 e || has_motion es)
+
+-- a sum with the value of one more event, where it is of the code; a sum past an end of 64 bits stays at that end
+abbrev pub summed : ℕ → RawEvent → ℤ → ℤ
+summed code e sum = if is_rel code e then saturate_signed w64 (sum +ℤ e.value) else sum
+
+-- the sum of the values of a code
+abbrev pub sum_of : ℕ → List RawEvent → ℤ
+sum_of code [] = pos 0
+sum_of code (e ∷ es) = summed code e (sum_of code es)
+
+-- how a packet moves the mouse
+abbrev pub motion_by : ℕ → List RawEvent → Option CursorCall
+motion_by moment es = if has_motion es then Some (Moved moment (sum_of 0 es) (sum_of 1 es)) else None
+
+-- what an event adds: the motion of the packet that it ends, at its moment
+abbrev pub motion_of : List RawEvent → RawEvent → Option CursorCall
+motion_of past e = if is_void past then None else if is_report e then motion_by e.moment (packet past) else None

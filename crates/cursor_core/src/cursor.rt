@@ -1,0 +1,301 @@
+//! The cursor.
+ghost use Rattle.std.specs.Prelude.{◌≡◌, ◌≤◌, ◌^◌, ◌-◌, ◌+ℤ◌, ℕ, not, ◌&&◌, ◌==◌, max, List, [], ◌∷◌};
+ghost use Rattle.std.specs.Prelude.{IfOk, OnOk, OnErr, option_map};
+ghost use Rattle.std.specs.Int.{int_max, int_min};
+ghost use Rattle.std.specs.Prelude.{pos};
+ghost use Rattle.input_types.specs.declared.axis.Pixel.{Pixel as Place};
+ghost use Rattle.window_snapshot.specs.Hits.{touched};
+ghost use Rattle.window_snapshot.specs.Mask.{mask_has};
+ghost use Rattle.cursor_core.specs.declared.call.CursorCall.{CursorCall as Call};
+ghost use Rattle.cursor_core.specs.declared.call.CursorCall.TheVariants.{Moved, Remove, Windows};
+ghost use Rattle.cursor_core.specs.Calls.{Screen, corner_of, cursor, hovered_by};
+ghost use Rattle.cursor_core.specs.Cursor.{StandsFor, corner_after, corner_in, settled};
+ghost use Rattle.cursor_core.specs.Told.{stream_of, IsInTurns};
+
+use crate::call::CursorCall;
+use crate::message::HoverMsg;
+use crate::note::{Step, note_after, note_before, tell_both};
+use crate::stream::{Stream, row_of, streams};
+use input_types::{DisplayId, Moment, Pixel};
+use std::alloc::{AllocError, Global};
+use std::marker::Model;
+use window_snapshot::{Snapshot, mask_with};
+
+/// The corner of the display.
+const CORNER: Pixel = Pixel { x: 0, y: 0 };
+
+/// A mouse cursor on display 0, and what the windows there were told of it.
+///
+/// It keeps no list of its calls. Clauses say of which lists of calls it stands for all that later calls need.
+#[derive(Drop)]
+pub struct Cursor {
+    /// The last pixel of the display, right and down.
+    last: Pixel,
+    at: Pixel,
+    clock: Moment,
+    moved: bool,
+    live: u64,
+    windows: Snapshot,
+    hovered: Option<u32>,
+    streams: Vec<Stream>,
+}
+
+impl Model for Cursor {
+    ghost use Rattle.cursor_core.specs.Kept.{Kept};
+
+    ghost Value = { Kept };
+
+    ghost view = { λ c. record {
+      last = c.last;
+      at = c.at;
+      clock = c.clock;
+      moved = c.moved;
+      live = c.live;
+      windows = c.windows;
+      hovered = c.hovered;
+      streams = c.streams.items;
+    } };
+}
+
+impl Cursor {
+    /// A cursor in the middle of a display, in pixels of it as it is turned. The channels have the numbers from 1 on,
+    /// and all are live. There are no windows.
+    pub fn new(alloc: Global, width: u16, height: u16, channels: u32) -> Result<Cursor, AllocError>
+        requires width { (1 ≤ width) × (width ≤ 16384) }
+        requires height { (1 ≤ height) × (height ≤ 16384) }
+        requires channels { channels ≤ 64 }
+        ensures { IfOk result (λ c. StandsFor (record { width = width; height = height; channels = channels }) [] c) }
+    {
+        let streams = streams(alloc, channels)?;
+        let last = pixel(width - 1, height - 1);
+        let at = pixel(width / 2, height / 2);
+        Ok(Cursor {
+            last,
+            at,
+            clock: Moment::zero(),
+            moved: false,
+            live: first_channels(channels),
+            windows: Snapshot::empty(alloc),
+            hovered: None,
+            streams,
+        })
+    }
+
+    /// Takes a call. After want of memory all is as before.
+    pub fn apply(&mut self, call: CursorCall) -> Result<(), AllocError>
+        ensures stands { (d : Screen) (calls : List Call) → StandsFor d calls self.old
+            → OnOk result (StandsFor d (call ∷ calls) self.new) }
+        ensures turns { (d : Screen) (calls : List Call) → StandsFor d calls self.old
+            → OnOk result (IsInTurns d (call ∷ calls)) }
+        ensures err { OnErr result (self.new ≡ self.old) }
+    {
+        match call {
+            CursorCall::Moved { now, dx, dy } => self.move_by(now, dx, dy),
+            CursorCall::Windows { now, snapshot } => self.show(now, snapshot),
+            CursorCall::Remove { now, channel } => self.remove(now, channel),
+        }
+    }
+
+    /// All that a channel was told, the oldest first; `None` exactly where it is not one of the first channels.
+    pub fn stream(&self, channel: u32) -> Option<&[HoverMsg]>
+        ensures { (d : Screen) (calls : List Call) → StandsFor d calls self.now
+            → option_map (λ s. s.now) result ≡ stream_of d calls channel }
+    {
+        row_of(&self.streams, channel)
+    }
+
+    /// Where the cursor is, in pixels of the display.
+    pub fn cursor(&self) -> Pixel
+        ensures { (d : Screen) (calls : List Call) → StandsFor d calls self.now → result ≡ cursor d calls }
+    {
+        self.at
+    }
+
+    /// The mouse moves.
+    fn move_by(&mut self, now: Moment, dx: i64, dy: i64) -> Result<(), AllocError>
+        ensures stands { (d : Screen) (calls : List Call) → StandsFor d calls self.old
+            → OnOk result (StandsFor d (Moved now dx dy ∷ calls) self.new) }
+        ensures err { OnErr result (self.new ≡ self.old) }
+    {
+        let to = moved_by(&self.last, &self.at, dx, dy);
+        let step = Step {
+            moment: later(now, self.clock),
+            moved: true,
+            from: self.at,
+            to,
+            live: self.live,
+            before: self.hovered,
+            after: hovered_by(true, &self.windows, self.live, to),
+        };
+        let left = corner_in(&self.windows, step.before);
+        let met = corner_in(&self.windows, step.after);
+        self.settle(&step, left, met)
+    }
+
+    /// Other windows are shown.
+    fn show(&mut self, now: Moment, snapshot: Snapshot) -> Result<(), AllocError>
+        ensures stands { (d : Screen) (calls : List Call) → StandsFor d calls self.old
+            → OnOk result (StandsFor d (Windows now snapshot ∷ calls) self.new) }
+        ensures err { OnErr result (self.new ≡ self.old) }
+    {
+        let step = Step {
+            moment: later(now, self.clock),
+            moved: false,
+            from: self.at,
+            to: self.at,
+            live: self.live,
+            before: self.hovered,
+            after: hovered_by(self.moved, &snapshot, self.live, self.at),
+        };
+        let left = corner_after(&snapshot, &self.windows, step.before);
+        let met = corner_in(&snapshot, step.after);
+        self.settle(&step, left, met)?;
+        self.windows = snapshot;
+        Ok(())
+    }
+
+    /// A channel is closed.
+    fn remove(&mut self, now: Moment, channel: u32) -> Result<(), AllocError>
+        ensures stands { (d : Screen) (calls : List Call) → StandsFor d calls self.old
+            → OnOk result (StandsFor d (Remove now channel ∷ calls) self.new) }
+        ensures err { OnErr result (self.new ≡ self.old) }
+    {
+        let live = without(self.live, channel);
+        let step = Step {
+            moment: later(now, self.clock),
+            moved: false,
+            from: self.at,
+            to: self.at,
+            live,
+            before: self.hovered,
+            after: hovered_by(self.moved, &self.windows, live, self.at),
+        };
+        let left = corner_in(&self.windows, step.before);
+        let met = corner_in(&self.windows, step.after);
+        self.settle(&step, left, met)
+    }
+
+    /// Tells the windows what a step does, and keeps what is after it. `left` and `met` are the corners of the windows
+    /// hovered before it and after it.
+    fn settle(&mut self, step: &Step, left: Pixel, met: Pixel) -> Result<(), AllocError>
+        ensures ok { OnOk result (self.new ≡ settled self.old step.now left met) }
+        ensures err { OnErr result (self.new ≡ self.old) }
+    {
+        let first = note_before(step, left);
+        let second = note_after(step, met);
+        tell_both(&mut self.streams, &first, &second)?;
+        self.at = step.to;
+        self.clock = step.moment;
+        self.moved = step.moved || self.moved;
+        self.live = step.live;
+        self.hovered = step.after;
+        Ok(())
+    }
+}
+
+/// The pixel at a place of the display.
+fn pixel(x: u16, y: u16) -> Pixel
+    ensures { result ≡ record { x = pos x; y = pos y } }
+{
+    Pixel {
+        x: i32::from(x),
+        y: i32::from(y),
+    }
+}
+
+/// A pixel moved by so many pixels, and kept on the display that ends at `last`.
+fn moved_by(last: &Pixel, at: &Pixel, dx: i64, dy: i64) -> Pixel
+    ensures x { result.x ≡ int_max (pos 0) (int_min (at.now.x +ℤ dx) last.now.x) }
+    ensures y { result.y ≡ int_max (pos 0) (int_min (at.now.y +ℤ dy) last.now.y) }
+{
+    Pixel {
+        x: kept_on(last.x, at.x, dx),
+        y: kept_on(last.y, at.y, dy),
+    }
+}
+
+/// A coordinate moved by so many pixels, and kept on an axis that ends at `last`.
+fn kept_on(last: i32, at: i32, by: i64) -> i32
+    ensures { result ≡ int_max (pos 0) (int_min (at +ℤ by) last) }
+{
+    let to = i128::from(at) + i128::from(by);
+    if i128::from(last) < to {
+        if last < 0 { 0 } else { last }
+    } else if to < 0 {
+        0
+    } else {
+        to as i32
+    }
+}
+
+/// The later one of two moments.
+fn later(a: Moment, b: Moment) -> Moment
+    ensures { result ≡ max a b }
+{
+    if a.get() < b.get() { b } else { a }
+}
+
+/// The window that the cursor hovers over, where the mouse has moved.
+fn hovered_by(moved: bool, windows: &Snapshot, live: u64, at: Pixel) -> Option<u32>
+    ensures { result ≡ hovered_by moved windows.now (mask_has live) at }
+{
+    if !moved {
+        return None;
+    }
+    touched_at(windows, at, live & windows.on(DisplayId::zero()))
+}
+
+/// The window that a touch at a pixel would go to, of those of these channels.
+fn touched_at(windows: &Snapshot, at: Pixel, channels: u64) -> Option<u32>
+    ensures { result ≡ touched windows.now (mask_has channels) at.x at.y }
+{
+    windows.touched(at.x, at.y, channels)
+}
+
+/// The corner of a channel's window, or that of the display.
+fn corner_of(windows: &Snapshot, channel: u32) -> Pixel
+    ensures { result ≡ corner_of windows.now channel }
+{
+    match windows.origin_of(channel) {
+        Some(origin) => origin,
+        None => CORNER,
+    }
+}
+
+/// The corner of the hovered window.
+fn corner_in(windows: &Snapshot, hovered: Option<u32>) -> Pixel
+    ensures { result ≡ corner_in windows.now hovered }
+{
+    match hovered {
+        Some(channel) => corner_of(windows, channel),
+        None => CORNER,
+    }
+}
+
+/// The corner of the hovered window in the later ones of these windows that name it.
+fn corner_after(later: &Snapshot, earlier: &Snapshot, hovered: Option<u32>) -> Pixel
+    ensures { result ≡ corner_after later.now earlier.now hovered }
+{
+    match hovered {
+        Some(channel) => match later.origin_of(channel) {
+            Some(origin) => origin,
+            None => corner_of(earlier, channel),
+        },
+        None => CORNER,
+    }
+}
+
+/// The mask of the first channels.
+fn first_channels(channels: u32) -> u64
+    requires { channels ≤ 64 }
+    ensures { result ≡ 2 ^ channels - 1 }
+{
+    ((1u128 << channels) - 1) as u64
+}
+
+/// The mask without a channel.
+fn without(live: u64, channel: u32) -> u64
+    ensures { (c : ℕ) → mask_has result c ≡ (not (c == channel) && mask_has live c) }
+{
+    live & !mask_with(0, channel)
+}

@@ -1,0 +1,30 @@
+//! A mouse cursor over the windows of display 0.
+//!
+//! The cursor begins in the middle of the display. It hovers over the window that a touch there would go to, from its
+//! first motion on, and each window is told when the cursor comes, moves and goes. With the windows `left` from (0, 0)
+//! to (540, 2400) and `right` from (540, 0) to (1080, 2400) of a display of 1080 by 2400:
+//!
+//! ```text
+//! 40 to the left       left: Enter 500,1200
+//! 100 to the right     left: Exit 500,1200     right: Enter 60,1200
+//! 5000 up                                      right: Move 60,0
+//! right is not shown                           right: Exit 60,0
+//! ```
+//!
+//! Buttons, wheels and acceleration are no part of it. `Cursor` takes the motions, and `MotionReader` reads them from
+//! the raw events of a mouse.
+#![tactic(auto)]
+
+mod call;
+mod cursor;
+mod message;
+mod motion;
+mod note;
+mod stream;
+#[cfg(test)]
+mod tests;
+
+pub use call::CursorCall;
+pub use cursor::Cursor;
+pub use message::{HoverAction, HoverMsg};
+pub use motion::MotionReader;

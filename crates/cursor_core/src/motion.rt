@@ -1,0 +1,132 @@
+//! The motions of a mouse, from its raw events.
+ghost use Rattle.std.specs.Prelude.{◌≡◌, List, [], ◌∷◌, ◌&&◌, nat_eq, Some, None, if◌then◌else◌};
+ghost use Rattle.raw_events.specs.declared.event.RawEvent.{RawEvent as Event};
+ghost use Rattle.cursor_core.specs.declared.call.CursorCall.TheVariants.{Moved};
+ghost use Rattle.cursor_core.specs.Packets.{is_drop, is_rel, is_report, motion_of, summed};
+ghost use Rattle.cursor_core.specs.Reading.{ReaderStandsFor, begun, grown};
+
+use crate::call::CursorCall;
+use input_types::Moment;
+use raw_events::RawEvent;
+use raw_events::codes::{EV_SYN, SYN_DROPPED, SYN_REPORT};
+
+/// Relative axes (`EV_REL` of the kernel's `input-event-codes.h`).
+const EV_REL: u16 = 0x02;
+
+/// The way to the right since the last event.
+const REL_X: u16 = 0;
+
+/// The way down.
+const REL_Y: u16 = 1;
+
+/// Reads the motions of one mouse: the sums of each packet's REL_X and REL_Y events.
+///
+/// It keeps no list of events. Clauses say of which lists of events it stands for all that later events need.
+#[derive(Clone, Copy, Debug, PartialEq, Eq)]
+pub struct MotionReader {
+    void: bool,
+    moved: bool,
+    dx: i64,
+    dy: i64,
+}
+
+impl MotionReader {
+    /// A reader before the first event.
+    pub fn new() -> MotionReader
+        ensures { ReaderStandsFor [] result }
+    {
+        MotionReader::begun(false)
+    }
+
+    /// Takes the mouse's next event, and answers the motion of the packet that it ends, at its own moment.
+    ///
+    /// A packet ends at a SYN_REPORT. One without a REL_X or REL_Y event moves nothing. After a SYN_DROPPED, by which the
+    /// kernel says that events were lost, the packet that has begun is forgotten, and what comes up to the next
+    /// SYN_REPORT is passed over. A sum that would go past an end of 64 bits stays at that end.
+    pub fn take(&mut self, event: &RawEvent) -> Option<CursorCall>
+        ensures value { (past : List Event) → ReaderStandsFor past self.old → result ≡ motion_of past event.now }
+        ensures after { (past : List Event) → ReaderStandsFor past self.old
+            → ReaderStandsFor (event.now ∷ past) self.new }
+    {
+        if self.void {
+            *self = MotionReader::begun(!is_report(event));
+            return None;
+        }
+        if is_report(event) {
+            let motion = self.motion(event.moment);
+            *self = MotionReader::begun(false);
+            return motion;
+        }
+        if is_drop(event) {
+            *self = MotionReader::begun(true);
+            return None;
+        }
+        self.add(event);
+        None
+    }
+
+    /// A reader before the first event of a packet, or before events that are passed over.
+    fn begun(void: bool) -> MotionReader
+        ensures { result ≡ begun void }
+    {
+        MotionReader {
+            void,
+            moved: false,
+            dx: 0,
+            dy: 0,
+        }
+    }
+
+    /// The motion so far, where there is one.
+    fn motion(&self, now: Moment) -> Option<CursorCall>
+        ensures { result ≡ (if self.now.moved then Some (Moved now self.now.dx self.now.dy) else None) }
+    {
+        if !self.moved {
+            return None;
+        }
+        Some(CursorCall::Moved {
+            now,
+            dx: self.dx,
+            dy: self.dy,
+        })
+    }
+
+    /// Adds an event of the packet.
+    fn add(&mut self, event: &RawEvent)
+        ensures { self.new ≡ grown self.old event.now }
+    {
+        self.moved = is_rel(event, REL_X) || is_rel(event, REL_Y) || self.moved;
+        add_to(&mut self.dx, event, REL_X);
+        add_to(&mut self.dy, event, REL_Y);
+    }
+}
+
+/// Adds the value of an event to the sum of its axis, and that of another event to none.
+fn add_to(sum: &mut i64, event: &RawEvent, code: u16)
+    ensures { sum.new ≡ summed code event.now sum.old }
+{
+    if is_rel(event, code) {
+        *sum = sum.saturating_add(i64::from(event.value));
+    }
+}
+
+/// Whether an event is an EV_REL of this code.
+fn is_rel(event: &RawEvent, code: u16) -> bool
+    ensures { result ≡ is_rel code event.now }
+{
+    event.kind == EV_REL && event.code == code
+}
+
+/// Whether an event is a SYN_REPORT, which ends a packet.
+fn is_report(event: &RawEvent) -> bool
+    ensures { result ≡ is_report event.now }
+{
+    event.kind == EV_SYN && event.code == SYN_REPORT
+}
+
+/// Whether an event says that events were lost.
+fn is_drop(event: &RawEvent) -> bool
+    ensures { result ≡ is_drop event.now }
+{
+    event.kind == EV_SYN && event.code == SYN_DROPPED
+}

@@ -1,0 +1,56 @@
+-- What one channel is told, and the room that it has.
+use Rattle.std.proofs.Common.{◌≡◌, ℕ, zero, suc, ◌-◌, ◌<◌, ◌≤◌, Bool, true, false, not, cond, List, [], ◌∷◌, map, length, get_or, set, refl, sym, ap, ap₂, ◌∙◌, subst}
+use Rattle.std.specs.Prelude.{◌==◌}
+use Rattle.std.proofs.lemmas.List.{get_or-set_same}
+use Rattle.input_types.specs.declared.axis.Pixel.{Pixel}
+use Rattle.input_types.specs.declared.message.Body.{Body}
+use Rattle.input_channel.specs.declared.unfinished.Unfinished.{Unfinished}
+use Rattle.input_channel.specs.Order.{NoneAfter, without}
+use Rattle.input_channel.specs.State.{ChannelState, enqueued, with_spare}
+use Rattle.cancel_synthesis.specs.Tracked.{Tracked, Tracks}
+use Rattle.dispatch_channels.specs.Table.{Table, channel_of, input_of, untold, but_for_room}
+use Rattle.dispatch_channels.specs.Heard.{body_from}
+use Rattle.dispatch_channels.specs.Changes.{Tells}
+
+-- a channel and what its window was told, once both have one thing more
+pub tells : (t : Table) (c : ℕ) (body heard : Body) (o : Pixel) (clock : ℕ) (x s : ChannelState) (j i : Tracked)
+    → x ≡ channel_of t c → heard ≡ body_from o body → s ≡ enqueued heard clock x → j ≡ input_of t c → Tracks j i body → c - 1 < length t.inputs
+    → Tells c body o clock t (record t { channels = set t.channels (c - 1) s; inputs = set t.inputs (c - 1) i })
+tells t c body heard o clock x s j i from hears is was tracked within =
+    let there : get_or (set t.inputs (c - 1) i) (c - 1) untold ≡ i = get_or-set_same t.inputs (c - 1) i untold within in
+    record {
+      channels_are = ap (set t.channels (c - 1)) (is ∙ ap₂ (λ b y. enqueued b clock y) hears from);
+      inputs_are = ap (set t.inputs (c - 1)) (sym there);
+      tracks =
+          subst (λ k. Tracks (input_of t c) k body) (sym there) (subst (λ k. Tracks k i body) was tracked);
+      live_is = refl;
+      able_is = refl;
+      namings_are = refl;
+    }
+
+map_set : {A B : Type 0} (f : A → B) (xs : List A) (k : ℕ) (v d : A) → f v ≡ f (get_or xs k d) → map f (set xs k v) ≡ map f xs
+map_set f [] k v d e = refl
+map_set f (x ∷ xs) zero v d e = ap (λ y. y ∷ map f xs) e
+map_set f (x ∷ xs) (suc k) v d e = ap (λ ys. f x ∷ ys) (map_set f xs k v d e)
+
+-- more room is no change but of the room
+pub only_room : (t : Table) (c n : ℕ) (x s : ChannelState) (i : Tracked) → x ≡ channel_of t c → s ≡ with_spare n x → i ≡ input_of t c
+    → but_for_room (record t { channels = set t.channels (c - 1) s; inputs = set t.inputs (c - 1) i }) ≡ but_for_room t
+only_room t c n x s i from is same = ap₂ (λ ss is. let u : Table = record t { channels = ss; inputs = is } in u) channels inputs
+  where
+    channels : (but_for_room (record t { channels = set t.channels (c - 1) s; inputs = set t.inputs (c - 1) i })).channels ≡ (but_for_room t).channels
+    channels = map_set (λ y. let z : ChannelState = record y { spare = 0 } in z) t.channels (c - 1) s _
+        (ap (λ y. let z : ChannelState = record y { spare = 0 } in z) (is ∙ ap (with_spare n) from))
+
+    inputs : (but_for_room (record t { channels = set t.channels (c - 1) s; inputs = set t.inputs (c - 1) i })).inputs ≡ (but_for_room t).inputs
+    inputs = map_set (λ y. let z : Tracked = record y { spare = 0 } in z) t.inputs (c - 1) i _ (ap (λ y. let z : Tracked = record y { spare = 0 } in z) same)
+
+-- no message is delivered later where one is finished
+none_after_if : (clock : ℕ) (b : Bool) (u : Unfinished) (us : List Unfinished) → u.delivery ≤ clock → NoneAfter clock us
+    → NoneAfter clock (cond b (u ∷ us) us)
+none_after_if clock true u us le h = (le, h)
+none_after_if clock false u us le h = h
+
+pub none_after_without : (clock seq : ℕ) (us : List Unfinished) → NoneAfter clock us → NoneAfter clock (without seq us)
+none_after_without clock seq [] h = tt
+none_after_without clock seq (u ∷ us) h = none_after_if clock (not (u.seq == seq)) u (without seq us) h.0 (none_after_without clock seq us h.1)

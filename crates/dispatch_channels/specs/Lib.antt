@@ -1,0 +1,4 @@
+pub mod Table
+pub mod Heard
+pub mod Changes
+pub mod Whole

@@ -1,0 +1,70 @@
+-- The channels of a dispatcher as contracts see them.
+use Rattle.std.specs.Prelude.{ℕ, ◌-◌, ◌≤◌, List, [], length, map, slice_index_or, slice_set, Option}
+use Rattle.input_channel.specs.State.{ChannelState, opened_with, with_spare}
+use Rattle.cancel_synthesis.specs.Tracked.{Tracked}
+use Rattle.cancel_synthesis.specs.Tracked.{with_spare as tracked_with_spare}
+use Rattle.dispatch_calls.specs.declared.counts.Naming.{Naming}
+use Rattle.window_snapshot.specs.Mask.{mask_has}
+use Rattle.dispatch_tables.specs.Dues.{due_in}
+
+-- all channels
+pub record Table : Type 0 where
+  -- the channels in the order of their opening, that with number 1 first
+  pub channels : List ChannelState
+  -- of each, what its window was told and is not told the end of
+  pub inputs : List Tracked
+  -- the mask of those that are live
+  pub live : ℕ
+  -- the mask of those that are able to take input
+  pub able : ℕ
+  -- the namings so far
+  pub namings : List Naming
+
+-- how many channels were opened; they have the numbers from 1 to this
+abbrev pub opened : Table → ℕ
+opened t = length t.channels
+
+-- a channel that was opened has the number
+abbrev pub IsOpened : Table → ℕ → Type 0
+IsOpened t c = (1 ≤ c) × (c ≤ opened t)
+
+-- the channel with a number from 1 on, of a list of channels; one without messages where none was opened with it
+abbrev pub channel_in : List ChannelState → ℕ → ChannelState
+channel_in ss c = slice_index_or ss (c - 1) (opened_with 0)
+
+-- the same of all channels
+abbrev pub channel_of : Table → ℕ → ChannelState
+channel_of t c = channel_in t.channels c
+
+-- a window that was told nothing
+abbrev pub untold : Tracked
+untold = record { pointers = []; keys = []; spare = 0 }
+
+-- what the window of the channel with a number from 1 on was told
+abbrev pub input_of : Table → ℕ → Tracked
+input_of t c = slice_index_or t.inputs (c - 1) untold
+
+-- the channels with another one in a place
+abbrev pub with_channel : ℕ → ChannelState → Table → Table
+with_channel c s t = record t { channels = slice_set t.channels (c - 1) s }
+
+-- a channel has room for at least so many messages
+abbrev pub with_room : (channel n : ℕ) → Table → Table
+with_room c n t =
+    record t {
+      channels = slice_set t.channels (c - 1) (with_spare n (channel_of t c));
+      inputs = slice_set t.inputs (c - 1) (tracked_with_spare n (input_of t c));
+    }
+
+-- the channels as they are but for the room that they have
+abbrev pub but_for_room : Table → Table
+but_for_room t =
+    record t {
+      channels = map (λ s. let bare : ChannelState = record s { spare = 0 } in bare) t.channels;
+      inputs = map (λ i. let bare : Tracked = record i { spare = 0 } in bare) t.inputs;
+    }
+
+-- the moment at which a channel is due to be named: its limit after the delivery of its oldest message that is published and not
+-- finished, where it is able
+abbrev pub due_moment : Table → ℕ → Option ℕ
+due_moment t c = due_in (mask_has t.able c) (channel_of t c)

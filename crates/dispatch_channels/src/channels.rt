@@ -1,0 +1,298 @@
+//! The channels.
+ghost use Rattle.std.specs.Prelude.{◌≡◌, ℕ, true, [], ◌≤◌, ◌<◌, is_ok, option_copied, OnOk, OnErr, IfOk, IsOk};
+ghost use Rattle.window_snapshot.specs.Mask.{mask_has};
+ghost use Rattle.anr_tracker.specs.Due.{IsFirst};
+ghost use Rattle.input_channel.specs.Order.{NoneAfter};
+ghost use Rattle.input_channel.specs.State.{next_of, received_one, received_next, let_go_of, may_finish};
+ghost use Rattle.dispatch_history.specs.Reply.{is_due};
+ghost use Rattle.dispatch_channels.specs.Table.{opened, IsOpened, channel_of, input_of, with_channel, with_room, but_for_room, due_moment};
+ghost use Rattle.dispatch_channels.specs.Changes.{OpensOrNot, Tells, MayPublish, Settles, finished_in, named_in, removed_in, counts_in};
+
+use crate::due::{clear_all, due_channels, due_in, set_due};
+use crate::heard::body_from;
+use crate::mask::{less, without};
+use crate::noted::note_all;
+use crate::settle::{able_after, finish_one, settle_all};
+use crate::tracked::track;
+use anr_tracker::Tracker;
+use cancel_synthesis::InputState;
+use dispatch_calls::{Counts, Naming};
+use input_channel::{Channel, UnknownSeq};
+use input_types::{Body, Limit, Message, Moment, Pixel};
+use std::alloc::{AllocError, Global};
+use std::marker::Model;
+use window_snapshot::{mask_has, mask_with};
+
+/// The most channels that are opened, removed ones counted.
+const MOST: usize = 64;
+
+/// All channels that were opened, removed ones too. They have the numbers 1, 2, 3 in the order of their opening, at
+/// most 64, and a mask is a set of them: bit `id - 1` stands for the channel `id`.
+#[derive(Drop)]
+pub struct Channels {
+    channels: Vec<Channel>,
+    /// Of each channel, what its window was told and is not told the end of.
+    inputs: Vec<InputState>,
+    live: u64,
+    able: u64,
+    /// When those that are able are due to be named.
+    tracker: Tracker,
+    namings: Vec<Naming>,
+}
+
+impl Model for Channels {
+    ghost use Rattle.std.specs.Prelude.{length};
+    ghost use Rattle.dispatch_channels.specs.Table.{Table};
+    ghost use Rattle.dispatch_channels.specs.Whole.{IsWhole};
+
+    ghost Value = { Table };
+
+    ghost view = { λ t. record { channels = t.channels.items; inputs = t.inputs.items; live = t.live; able = t.able; namings = t.namings.items } };
+
+    ghost invariant = { λ t. IsWhole t.channels.items (length t.inputs.items) t.live t.able t.tracker };
+}
+
+impl Channels {
+    /// No channels.
+    pub fn new(alloc: Global) -> Channels
+        ensures { result ≡ record { channels = []; inputs = []; live = 0; able = 0; namings = [] } }
+    {
+        Channels {
+            channels: Vec::new(alloc),
+            inputs: Vec::new(alloc),
+            live: 0,
+            able: 0,
+            tracker: Tracker::new(),
+            namings: Vec::new(alloc),
+        }
+    }
+
+    /// How many channels were opened.
+    pub fn opened(&self) -> u32
+        ensures value { result ≡ opened self.now }
+        ensures few { result ≤ 64 }
+    {
+        self.channels.len() as u32
+    }
+
+    /// The mask of the channels that are live: opened, and not removed.
+    pub fn live(&self) -> u64
+        ensures value { result ≡ self.now.live }
+        ensures opened { (c : ℕ) → mask_has result c ≡ true → c ≤ opened self.now }
+    {
+        self.live
+    }
+
+    /// The mask of the channels that are able to take input. Each is live.
+    pub fn able(&self) -> u64
+        ensures value { result ≡ self.now.able }
+        ensures live { (c : ℕ) → mask_has result c ≡ true → mask_has self.now.live c ≡ true }
+    {
+        self.able
+    }
+
+    /// Opens a channel, which is live and able, and answers its number; None exactly where 64 were opened. Without
+    /// memory nothing changes.
+    pub fn open(&mut self, limit: Limit) -> Result<Option<u32>, AllocError>
+        ensures ok { IfOk result (λ number. OpensOrNot limit number self.old self.new) }
+        ensures err { OnErr result (self.new ≡ self.old) }
+    {
+        if self.channels.len() == MOST {
+            return Ok(None);
+        }
+        self.channels.reserve(1)?;
+        self.inputs.reserve(1)?;
+        let alloc = *self.channels.allocator();
+        self.channels.push_reserved(Channel::new(alloc, limit));
+        self.inputs.push_reserved(InputState::new(alloc));
+        let number = self.channels.len() as u32;
+        self.live = mask_with(self.live, number);
+        self.able = mask_with(self.able, number);
+        Ok(Some(number))
+    }
+
+    /// Makes room, so that the channel can be told the next `n` bodies. Without memory nothing changes but the room
+    /// that it has.
+    pub fn reserve(&mut self, channel: u32, n: u32) -> Result<(), AllocError>
+        requires { IsOpened self.old channel }
+        ensures ok { OnOk result (self.new ≡ with_room channel n self.old) }
+        ensures err { OnErr result (but_for_room self.new ≡ but_for_room self.old) }
+        ensures reserved { n ≤ (channel_of self.old channel).spare → n ≤ (input_of self.old channel).spare → IsOk result }
+    {
+        let place = channel as usize - 1;
+        self.channels[place].reserve(n)?;
+        self.inputs[place].reserve(n)
+    }
+
+    /// A live channel is told a body, which is given in display pixels. The owner reads its places from the origin of
+    /// the window, kept at the ends of their type. Takes no memory.
+    pub fn tell(&mut self, channel: u32, body: &Body, origin: Pixel, clock: Moment)
+        requires live { mask_has self.old.live channel ≡ true }
+        requires room { 1 ≤ (channel_of self.old channel).spare }
+        requires track_room { 1 ≤ (input_of self.old channel).spare }
+        ensures { Tells channel body.now origin clock self.old self.new }
+    {
+        let place = channel as usize - 1;
+        let _seq = self.channels[place].enqueue_reserved(body_from(origin, body), clock);
+        track(&mut self.inputs[place], body);
+    }
+
+    /// Publishes the live channels of a mask at a clock. Takes no memory.
+    ///
+    /// The clock may not be below that at which an unfinished message of them was delivered.
+    pub fn settle(&mut self, mask: u64, clock: Moment)
+        requires { MayPublish mask clock self.old }
+        ensures { Settles mask clock self.old self.new }
+    {
+        let live = mask & self.live;
+        settle_all(
+            &mut self.channels,
+            &mut self.tracker,
+            self.able,
+            live,
+            clock,
+        );
+    }
+
+    /// The next message for the owner of a channel, which stays the next one; None exactly where all published ones
+    /// are received.
+    pub fn next(&self, channel: u32) -> Option<&Message>
+        requires { IsOpened self.now channel }
+        ensures { option_copied result ≡ next_of (channel_of self.now channel) }
+    {
+        self.channels[channel as usize - 1].next()
+    }
+
+    /// The owner of a channel has the message that `next` lends.
+    pub fn mark_received(&mut self, channel: u32)
+        requires opened { IsOpened self.old channel }
+        requires published { (channel_of self.old channel).received < (channel_of self.old channel).published }
+        ensures { self.new ≡ with_channel channel (received_one (channel_of self.old channel)) self.old }
+    {
+        self.channels[channel as usize - 1].mark_received();
+    }
+
+    /// Hands the next message of a channel to its owner; None exactly where all published ones are received. Takes no
+    /// memory.
+    pub fn receive(&mut self, channel: u32) -> Option<Message>
+        requires { IsOpened self.old channel }
+        ensures value { result ≡ next_of (channel_of self.old channel) }
+        ensures state { self.new ≡ with_channel channel (received_next (channel_of self.old channel)) self.old }
+    {
+        self.channels[channel as usize - 1].receive()
+    }
+
+    /// The owner of a channel is done with a message. What may be published then is, at the clock; and a live channel
+    /// is able, where no message of it is late. `UnknownSeq` comes exactly where the message is not received, or is
+    /// finished, and then nothing changes. Takes no memory.
+    ///
+    /// The clock may not be below that at which an unfinished message of the channel was delivered.
+    pub fn finish(&mut self, channel: u32, seq: u64, clock: Moment) -> Result<(), UnknownSeq>
+        requires opened { IsOpened self.old channel }
+        requires may { NoneAfter clock (channel_of self.old channel).unfinished }
+        ensures variant { is_ok result ≡ may_finish seq (channel_of self.old channel) }
+        ensures ok { OnOk result (self.new ≡ finished_in channel seq clock self.old) }
+        ensures err { OnErr result (self.new ≡ self.old) }
+    {
+        let place = channel as usize - 1;
+        finish_one(&mut self.channels[place], seq, clock)?;
+        let is_late = self.channels[place].has_late(clock);
+        self.able = able_after(self.able, self.live, channel, is_late);
+        let due = due_in(mask_has(self.able, channel), &self.channels[place]);
+        set_due(&mut self.tracker, channel, due);
+        Ok(())
+    }
+
+    /// The mask of the able channels whose oldest message, of those that are published and not finished, is late at a
+    /// moment. It looks at no message, and where nobody is due at no channel.
+    pub fn late(&self, now: Moment) -> u64
+        ensures { (c : ℕ) → mask_has result c ≡ is_due (due_moment self.now c) now }
+    {
+        let Some((moment, _)) = self.tracker.first_due() else {
+            return 0;
+        };
+        if now.get() < moment {
+            return 0;
+        }
+        due_channels(&self.tracker, self.opened(), now)
+    }
+
+    /// Names the channels of a mask unresponsive: notes the oldest message of each, of those that are published and
+    /// not finished, and none of them is able. Without memory nothing changes.
+    pub fn name(&mut self, mask: u64, clock: Moment) -> Result<(), AllocError>
+        ensures ok { OnOk result (self.new ≡ named_in mask clock self.old) }
+        ensures err { OnErr result (self.new ≡ self.old) }
+    {
+        self.namings.reserve(self.channels.len())?;
+        note_all(&mut self.namings, &self.channels, mask, clock);
+        clear_all(&mut self.tracker, mask);
+        self.able = less(self.able, mask);
+        Ok(())
+    }
+
+    /// Removes a channel: it is not live any more, nor able. Its messages stay.
+    pub fn remove(&mut self, channel: u32)
+        requires { IsOpened self.old channel }
+        ensures { self.new ≡ removed_in channel self.old }
+    {
+        self.live = without(self.live, channel);
+        self.able = without(self.able, channel);
+        self.tracker.clear(channel);
+    }
+
+    /// How far a channel has come; None exactly where none was opened with this number.
+    pub fn counts(&self, channel: u32) -> Option<Counts>
+        ensures { result ≡ counts_in self.now channel }
+    {
+        if channel < 1 || self.opened() < channel {
+            return None;
+        }
+        let kept = &self.channels[channel as usize - 1];
+        Some(Counts {
+            sent: kept.sent(),
+            received: kept.received(),
+            finished: kept.finished(),
+            published: kept.published(),
+            live: mask_has(self.live, channel),
+        })
+    }
+
+    /// The least moment at which a channel is due to be named, and the channel, the least one where several are due
+    /// at it; None exactly where no channel is due.
+    pub fn first_due(&self) -> Option<(u64, u32)>
+        ensures { IsFirst (due_moment self.now) result }
+    {
+        self.tracker.first_due()
+    }
+
+    /// The messages of a channel, but for those that were let go.
+    pub fn messages(&self, channel: u32) -> &[Message]
+        requires { IsOpened self.now channel }
+        ensures { result.now ≡ (channel_of self.now channel).messages }
+    {
+        self.channels[channel as usize - 1].messages()
+    }
+
+    /// Drops the messages of a channel that were received. Their numbers stay in use.
+    pub fn let_go(&mut self, channel: u32)
+        requires { IsOpened self.old channel }
+        ensures { self.new ≡ with_channel channel (let_go_of (channel_of self.old channel)) self.old }
+    {
+        self.channels[channel as usize - 1].let_go();
+    }
+
+    /// What the window of a channel was told and is not told the end of, from which cancels are made.
+    pub fn input(&self, channel: u32) -> &InputState
+        requires { IsOpened self.now channel }
+        ensures { result.now ≡ input_of self.now channel }
+    {
+        &self.inputs[channel as usize - 1]
+    }
+
+    /// The namings so far, the first one first.
+    pub fn namings(&self) -> &[Naming]
+        ensures { result.now ≡ self.now.namings }
+    {
+        &self.namings
+    }
+}
