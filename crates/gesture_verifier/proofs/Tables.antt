@@ -12,7 +12,7 @@ use Rattle.input_types.specs.declared.motion.Motion.{Motion}
 use Rattle.input_types.specs.declared.message.Body.TheVariants.{Motion as MotionBody, Key}
 use Rattle.input_types.specs.Gestures.{after_motion}
 use Rattle.input_types.specs.StreamRule.{StreamState, untold, with_ids, with_repeat, after_key, after_body}
-use Rattle.gesture_verifier.proofs.Sets.{none_listed}
+use Rattle.pointers_down.proofs.Sets.{none_listed}
 use Rattle.gesture_verifier.specs.Told.{Told, state_of, is_device, ids_kept, due_at, due_kept, place_of}
 
 within : (d : ℕ) → is_device d ≡ true → (1 ≤ d) × (d ≤ 8)

@@ -10,7 +10,6 @@
 #![tactic(auto)]
 
 mod fault;
-mod held;
 mod repeats;
 mod verifier;
 

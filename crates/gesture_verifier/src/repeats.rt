@@ -4,8 +4,8 @@ ghost use Rattle.std.specs.Ordering.{nat_cmp, is_eq};
 ghost use Rattle.input_types.specs.StreamRule.{after_key};
 ghost use Rattle.gesture_verifier.specs.Told.{due_at, is_device, place_of};
 
-use crate::held::ends;
 use input_types::{KeyArgs, KeyMsg};
+use pointers_down::ends;
 use std::alloc::AllocError;
 use std::collections::BTreeMap;
 

@@ -1,11 +1,12 @@
 //! The judge of one stream.
-ghost use Rattle.std.specs.Prelude.{◌≡◌, List, [], ◌∷◌, false, true, OnOk, OnErr};
+ghost use Rattle.std.specs.Prelude.{◌≡◌, ◌<◌, ◌-◌, IsTrue, List, [], ◌∷◌, false, true, OnOk, OnErr};
+ghost use Rattle.gesture_verifier.specs.Told.{is_device};
 
 use crate::fault::{Fault, StepError};
-use crate::held::{next_held, nothing, row};
 use crate::repeats::{due, keep, next_repeat, place};
 use bits32::Bits32;
-use input_types::{Body, KeyMsg, Message, Motion};
+use input_types::{Body, DeviceId, KeyMsg, Message, Motion};
+use pointers_down::{next_held, nothing};
 use std::alloc::{AllocError, Global};
 use std::collections::BTreeMap;
 use std::marker::Model;
@@ -148,6 +149,15 @@ impl Verifier {
             Body::Motion(_) | Body::Focus(_) => None,
         }
     }
+}
+
+/// The place of a device in a table that begins with device 1.
+fn row(device: DeviceId) -> usize
+    ensures place { result ≡ device - 1 }
+    ensures device { IsTrue (is_device device) }
+    ensures range { result < 8 }
+{
+    usize::from(device.get() - 1)
 }
 
 #[cfg(test)]

@@ -3,7 +3,7 @@ use Rattle.std.proofs.Common.{◌≡◌, ℕ, ◌<◌, true, slice_get, Some, ta
 use Rattle.bits32.specs.Set.{is_in, members}
 use Rattle.input_types.specs.declared.pointer.Pointer.{Pointer}
 use Rattle.input_types.specs.Gestures.{ids_of}
-use Rattle.gesture_verifier.proofs.held.listed.Given as goal
+use Rattle.pointers_down.proofs.held.listed.Given as goal
 
 abbrev pub invariant-loop-pointer : goal.invariant-loop-pointer
 invariant-loop-pointer l = record {

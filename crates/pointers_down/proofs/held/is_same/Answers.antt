@@ -1,6 +1,6 @@
 -- Sets are equal exactly where their lists are.
-use Rattle.gesture_verifier.proofs.Sets.{same_lists}
-use Rattle.gesture_verifier.proofs.held.is_same.Goals as goal
+use Rattle.pointers_down.proofs.Sets.{same_lists}
+use Rattle.pointers_down.proofs.held.is_same.Goals as goal
 
 pub returns : goal.returns
 returns c =

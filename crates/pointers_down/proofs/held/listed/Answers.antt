@@ -3,8 +3,8 @@ use Rattle.std.proofs.Common.{◌≡◌, ◌++◌, ◌∷◌, [], length, slice_
 use Rattle.std.proofs.lemmas.Option.{slice_get_read}
 use Rattle.bits32.specs.Set.{members}
 use Rattle.input_types.specs.Pointers.{IsRising}
-use Rattle.gesture_verifier.proofs.Sets.{members_of_marked, ids_more, below_next, none_listed, none_in}
-use Rattle.gesture_verifier.proofs.held.listed.Goals as goal
+use Rattle.pointers_down.proofs.Sets.{members_of_marked, ids_more, below_next, none_listed, none_in}
+use Rattle.pointers_down.proofs.held.listed.Goals as goal
 
 pub loop-pointer-init : goal.loop-pointer-init
 loop-pointer-init c = record {

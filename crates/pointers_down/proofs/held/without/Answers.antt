@@ -4,8 +4,8 @@ use Rattle.std.proofs.lemmas.Bool.{lt-ltb}
 use Rattle.std.proofs.lemmas.Option.{slice_get_within}
 use Rattle.bits32.specs.Set.{members}
 use Rattle.bits32.proofs.Laws.{listed_in}
-use Rattle.gesture_verifier.proofs.Sets.{members_of_cleared}
-use Rattle.gesture_verifier.proofs.held.without.Goals as goal
+use Rattle.pointers_down.proofs.Sets.{members_of_cleared}
+use Rattle.pointers_down.proofs.held.without.Goals as goal
 
 pub clear-requires : goal.clear-requires
 clear-requires c = (listed_in 32 c.args.set c.from.result c.in_ok-id.id (sym c.nth.ensures ∙ c.in_ok-id.was)).0

@@ -1,21 +1,11 @@
 //! The pointers that are down on one device, as a set of their ids.
-ghost use Rattle.std.specs.Prelude.{◌≡◌, ◌<◌, ◌-◌, IsTrue, nat_lt, [], length, remove};
+ghost use Rattle.std.specs.Prelude.{◌≡◌, nat_lt, [], length, remove};
 ghost use Rattle.std.specs.Option.{option_map};
 ghost use Rattle.bits32.specs.Set.{members};
 ghost use Rattle.input_types.specs.Gestures.{ids_of, same_ids, allowed, is_end_flag, after_action, after_motion};
-ghost use Rattle.gesture_verifier.specs.Told.{is_device};
 
 use bits32::Bits32;
-use input_types::{DeviceId, FLAG_CANCELED, Motion, MotionAction, Pointers};
-
-/// The place of a device in a table that begins with device 1.
-pub fn row(device: DeviceId) -> usize
-    ensures place { result ≡ device - 1 }
-    ensures device { IsTrue (is_device device) }
-    ensures range { result < 8 }
-{
-    usize::from(device.get() - 1)
-}
+use input_types::{FLAG_CANCELED, Motion, MotionAction, Pointers};
 
 /// The ids that are down after a motion on a device where `held` are down; None where it may not come then.
 pub fn next_held(held: Bits32, motion: &Motion) -> Option<Bits32>

@@ -1,0 +1,18 @@
+//! The pointers that are down on one device, as a set of ids, after each of its motions.
+//!
+//! One table says which motion may come next, both of what a device does and of what a window is told. A second finger goes down
+//! while pointer 0 is, and then the first one goes up:
+//!
+//! ```text
+//! down    motion                      down after it
+//! {0}     POINTER_DOWN:1 0, 1         {0, 1}
+//! {0, 1}  POINTER_UP:0 0, 1           {1}
+//! {1}     MOVE 0                      None: it has to list what is down
+//! ```
+//!
+//! [`next_held`] is this table: the ids after a motion, or None exactly where the motion may not come.
+#![tactic(auto)]
+
+mod held;
+
+pub use held::{ends, next_held, nothing};
