@@ -1,72 +1,90 @@
 //! The queue of args.
-ghost use Rattle.std.specs.Prelude.{◌≡◌, ◌==◌, [], ◌∷◌, ◌++◌, drop, length, slice_get, OnErr, OnOk};
+ghost use Rattle.std.specs.Prelude.{◌≡◌, ◌==◌, ◌≤◌, [], length, slice_get, OnErr, OnOk, IsOk};
 ghost use Rattle.std.specs.Option.{option_copied};
+ghost use Rattle.reader_queue.specs.Waiting.{put_behind, with_spare, without_first};
 
 use input_types::Args;
 use std::alloc::{AllocError, Global};
 use std::collections::VecDeque;
 use std::marker::Model;
 
-/// Args that wait, the next one first. Contracts see the list.
+/// Args that wait, the next one first, and room for some more. Contracts see the list, and how many more there is room for.
 #[derive(Drop)]
 pub struct Inbound {
     waiting: VecDeque<Args>,
+    spare: usize,
 }
 
 impl Model for Inbound {
-    ghost use Rattle.std.specs.Prelude.{List};
-    ghost use Rattle.input_types.specs.declared.message.Args.{Args as Element};
+    ghost use Rattle.std.specs.Prelude.{◌+◌, ◌≤◌};
+    ghost use Rattle.std.specs.VecDeque.{deque_len, deque_capacity};
+    ghost use Rattle.reader_queue.specs.Waiting.{Waiting};
 
-    ghost Value = { List Element };
+    ghost Value = { Waiting };
 
-    ghost view = { λ q. q.waiting.items };
+    ghost view = { λ q. record { args = q.waiting.items; spare = q.spare } };
+
+    ghost invariant = { λ q. deque_len q.waiting + q.spare ≤ deque_capacity q.waiting };
 }
 
 impl Inbound {
     /// Nothing waits.
     pub fn new(alloc: Global) -> Inbound
-        ensures { result ≡ [] }
+        ensures { result ≡ record { args = []; spare = 0 } }
     {
         Inbound {
             waiting: VecDeque::new(alloc),
+            spare: 0,
         }
     }
 
-    /// Puts args behind those that wait. Without memory nothing changes.
-    pub fn push(&mut self, args: Args) -> Result<(), AllocError>
-        ensures ok { OnOk result (self.new ≡ self.old ++ args ∷ []) }
+    /// Makes room for the next `n` args. Without memory nothing changes.
+    pub fn reserve(&mut self, n: usize) -> Result<(), AllocError>
+        ensures ok { OnOk result (self.new ≡ with_spare n self.old) }
         ensures err { OnErr result (self.new ≡ self.old) }
+        ensures reserved { n ≤ self.old.spare → IsOk result }
     {
-        self.waiting.reserve(1)?;
-        self.waiting.push_back_reserved(args);
+        if self.spare < n {
+            self.waiting.reserve(n)?;
+            self.spare = n;
+        }
         Ok(())
+    }
+
+    /// Puts args behind those that wait, where room was reserved for them. Takes no memory.
+    pub fn put(&mut self, args: Args)
+        requires { 1 ≤ self.old.spare }
+        ensures { self.new ≡ put_behind args self.old }
+    {
+        self.waiting.push_back_reserved(args);
+        self.spare -= 1;
     }
 
     /// The args that are next, which stay; None exactly where nothing waits.
     pub fn first(&self) -> Option<&Args>
-        ensures { option_copied result ≡ slice_get self.now 0 }
+        ensures { option_copied result ≡ slice_get self.now.args 0 }
     {
         self.waiting.front()
     }
 
     /// Takes the args that are next; None exactly where nothing waits. Takes no memory.
     pub fn pop(&mut self) -> Option<Args>
-        ensures value { result ≡ slice_get self.old 0 }
-        ensures rest { self.new ≡ drop 1 self.old }
+        ensures value { result ≡ slice_get self.old.args 0 }
+        ensures rest { self.new ≡ without_first self.old }
     {
         self.waiting.pop_front()
     }
 
     /// How many args wait.
     pub fn len(&self) -> usize
-        ensures { result ≡ length self.now }
+        ensures { result ≡ length self.now.args }
     {
         self.waiting.len()
     }
 
     /// Whether nothing waits.
     pub fn is_empty(&self) -> bool
-        ensures { result ≡ (length self.now == 0) }
+        ensures { result ≡ (length self.now.args == 0) }
     {
         self.waiting.is_empty()
     }
@@ -85,10 +103,12 @@ mod tests {
     #[test]
     fn what_came_first_goes_first(rt: HostRuntime) -> Result<(), Fail> {
         let mut queue = Inbound::new(rt.alloc());
-        queue.push(reset(1)?)?;
-        queue.push(reset(2)?)?;
+        queue.reserve(2)?;
+        queue.put(reset(1)?);
+        queue.put(reset(2)?);
         assert_eq!(rt; queue.pop(), Some(reset(1)?));
-        queue.push(reset(3)?)?;
+        queue.reserve(1)?;
+        queue.put(reset(3)?);
         assert_eq!(rt; queue.len(), 2);
         assert_eq!(rt; queue.pop(), Some(reset(2)?));
         assert_eq!(rt; queue.pop(), Some(reset(3)?));

@@ -1,0 +1,3 @@
+pub mod Kept
+pub mod Down
+pub mod Laws

@@ -1,0 +1,127 @@
+//! What is down on each device.
+ghost use Rattle.std.specs.Prelude.{◌≡◌, ◌-◌, ◌<◌, ◌≤◌, true, [], length, OnErr, OnOk, IfOk};
+ghost use Rattle.input_types.specs.DeviceRule.{device_of};
+ghost use Rattle.device_down.specs.Down.{PlansAt, Changes, StandsFor, needs_memory};
+
+use crate::change::{Change, Inconsistent};
+use crate::device::DeviceDown;
+use input_types::{Args, DeviceId};
+use std::alloc::{AllocError, Global};
+use std::marker::Model;
+
+/// The pointers and the keys that are down on each of the devices 1 to 8.
+#[derive(Drop)]
+pub struct DevicesDown {
+    /// That of device 1 first.
+    devices: Vec<DeviceDown>,
+}
+
+impl Model for DevicesDown {
+    ghost use Rattle.std.specs.Prelude.{◌≡◌, List, length};
+    ghost use Rattle.device_down.specs.Kept.{Kept};
+
+    ghost Value = { List Kept };
+
+    ghost view = { λ d. d.devices.items };
+
+    ghost invariant = { λ d. length d.devices.items ≡ 8 };
+}
+
+impl DevicesDown {
+    /// Nothing is down.
+    pub fn new(alloc: Global) -> Result<DevicesDown, AllocError>
+        ensures { IfOk result (λ d. StandsFor [] d) }
+    {
+        let devices = untouched(alloc)?;
+        Ok(DevicesDown { devices })
+    }
+
+    /// What args change, or what is down on their device where they may not come.
+    pub fn plan(&self, args: &Args) -> Result<Change, Inconsistent>
+        ensures plan { PlansAt self.now args.now result }
+        ensures device { (1 ≤ device_of args.now) × (device_of args.now ≤ 8) }
+    {
+        let device = device_of(args);
+        match self.devices[row(device)].plan(args) {
+            Ok(becomes) => Ok(Change { device, becomes }),
+            Err(refused) => Err(refused),
+        }
+    }
+
+    /// Changes what is down. Memory is needed only where a key goes down, and without it nothing changes.
+    pub fn take(&mut self, change: &Change) -> Result<(), AllocError>
+        ensures ok { OnOk result (Changes change.now self.old self.new) }
+        ensures err { OnErr result (self.new ≡ self.old) }
+        ensures memory { OnErr result (needs_memory change.now.becomes ≡ true) }
+    {
+        self.devices[row(change.device)].take(&change.becomes)
+    }
+}
+
+/// A table in which nothing is down.
+fn untouched(alloc: Global) -> Result<Vec<DeviceDown>, AllocError>
+    ensures eight { IfOk result (λ v. length v.items ≡ 8) }
+    ensures nothing { IfOk result (λ v. StandsFor [] v.items) }
+{
+    let mut devices = Vec::with_capacity(alloc, 8)?;
+    'devices: for _ in 0..8u32 {
+        devices.push(DeviceDown::new(alloc))?;
+    }
+    Ok(devices)
+}
+
+/// The device that some args are of.
+fn device_of(args: &Args) -> DeviceId
+    ensures { result ≡ device_of args.now }
+{
+    match args {
+        Args::Motion(motion) => motion.device,
+        Args::Key(key) => key.device,
+        Args::Reset(device) => *device,
+    }
+}
+
+/// The place of a device in a table that begins with device 1.
+fn row(device: DeviceId) -> usize
+    ensures place { result ≡ device - 1 }
+    ensures device { (1 ≤ device) × (device ≤ 8) }
+    ensures range { result < 8 }
+{
+    usize::from(device.get() - 1)
+}
+
+#[cfg(test)]
+mod tests {
+    use super::*;
+    use crate::change::Becomes;
+    use input_types::KeyArgs;
+    use std::test::Fail;
+
+    #[test]
+    fn a_key_goes_down_once(rt: HostRuntime) -> Result<(), Fail> {
+        let device = DeviceId::new(8).ok_or("a device")?;
+        let mut down = DevicesDown::new(rt.alloc())?;
+        let args = Args::Key(KeyArgs {
+            device,
+            scan: 115,
+            code: 24,
+            meta: 0,
+            down: true,
+        });
+        let change = Change {
+            device,
+            becomes: Becomes::Key {
+                scan: 115,
+                down: true,
+            },
+        };
+        assert_eq!(rt; down.plan(&args), Ok(change));
+        down.take(&change)?;
+        let refused = Inconsistent {
+            pointers: 0,
+            key_down: true,
+        };
+        assert_eq!(rt; down.plan(&args), Err(refused));
+        Ok(())
+    }
+}
