@@ -49,6 +49,20 @@ impl InputState {
         }
     }
 
+    /// The pointers of a device that are down, at their last places.
+    pub fn pointers(&self, device: DeviceId) -> &Pointers
+        ensures { result.now ≡ pointers_of self.now device }
+    {
+        pointers_at(&self.pointers, device)
+    }
+
+    /// The last message of each key that is down, by device and scan code.
+    pub fn keys(&self) -> &[KeyMsg]
+        ensures { result.now ≡ self.now.keys }
+    {
+        &self.keys
+    }
+
     /// Makes room, so that the next `n` calls of `track` cannot answer want of memory. Without memory nothing changes.
     pub fn reserve(&mut self, n: u32) -> Result<(), AllocError>
         ensures ok { OnOk result (self.new ≡ with_spare n self.old) }

@@ -45,7 +45,7 @@ use Rattle.dispatch_history.specs.KeyTold.{keys_told, repeat_by, last_key}
 use Rattle.dispatch_history.specs.Said.{motion_from, place_from, motions_said, keys_said}
 
 -- all these motions are of one device
-abbrev AllOf : ℕ → List Motion → Type 0
+abbrev pub AllOf : ℕ → List Motion → Type 0
 AllOf d [] = Unit {0}
 AllOf d (m ∷ ms) = (m.device ≡ d) × AllOf d ms
 
@@ -102,7 +102,7 @@ told_motion_of s m (Some p) w b l =
     outside_of s m p w =
         if_of m.device (is_first m.action && s.able w && is_watcher_at s.windows (s.reach m.device) p.at.x p.at.y w) (plain m.device Outside (p ∷ []) ∷ []) [] (refl, tt) tt
 
-told_of : (s : Scene) (e : Step) (k : Mark) (w d : ℕ) → AllOf d (told_with s e k w d)
+pub told_of : (s : Scene) (e : Step) (k : Mark) (w d : ℕ) → AllOf d (told_with s e k w d)
 told_of s (Moves m) k w d = by_device (m.device == d) refl
   where
     by_device : (c : Bool) → (m.device == d) ≡ c → AllOf d (cond c (told_motion s m (changed m) w (s.holds w d) (after s k w d)) [])
@@ -179,7 +179,7 @@ focus_down d false true x = refl
 focus_down d false false x = refl
 
 -- over all devices
-abbrev Differ : List ℕ → Type 0
+abbrev pub Differ : List ℕ → Type 0
 Differ [] = Unit {0}
 Differ (d ∷ ds) = (list_any (λ e. e == d) ds ≡ false) × Differ ds
 
@@ -216,11 +216,11 @@ one_of_devices f d o (e ∷ ds) ids next all a h t =
           (elim (or_cases (e == d) (list_any (λ x. x == d) ds) h) [ inl y ↦ absurd (both_ways (e == d) n y) | inr k ↦ k ]) t
     ]
 
-devices_differ : Differ devices
+pub devices_differ : Differ devices
 devices_differ = (refl, (refl, (refl, (refl, (refl, (refl, (refl, (refl, tt))))))))
 
 -- a step that removes a window leaves it not live
-removes_other : (ws : List Window) (call : Call) (answer : Reply) (args : Option Args) (w : ℕ) (before : Bool) → live_after call answer w before ≡ true → Leaves (step_of ws call answer args) w
+pub removes_other : (ws : List Window) (call : Call) (answer : Reply) (args : Option Args) (w : ℕ) (before : Bool) → live_after call answer w before ≡ true → Leaves (step_of ws call answer args) w
 removes_other ws (Remove now k) Done args w before e = not-true (w == k) (and_parts (not (w == k)) before e).0
 removes_other ws (Remove now k) _ args w before e = tt
 removes_other ws (Pump now) answer (Some (MotionArgs m)) w before e = tt
