@@ -12,6 +12,7 @@ use Rattle.focus_resolver.proofs.Masks.{mask_has-without}
 use Rattle.dispatch_tables.specs.Masks.{mask_less}
 use Rattle.dispatch_tables.specs.Dues.{due_in}
 use Rattle.dispatch_channels.specs.Table.{channel_in}
+use Rattle.dispatch_channels.specs.Changes.{new_channel}
 use Rattle.dispatch_channels.specs.Whole.{DuesAre, IsWhole}
 use Rattle.dispatch_channels.proofs.Picking.{channel_low, channel_high, has-without}
 
@@ -23,7 +24,7 @@ pub channel_set_other : (ss : List ChannelState) (c k : ℕ) (s : ChannelState) 
 channel_set_other ss c k s low from other = get_or-set_other ss (c - 1) (k - 1) s (opened_with 0) (λ e. other (omega arith))
 
 -- nothing is due in a channel without messages
-due_opened : (b : Bool) (limit : ℕ) → due_in b (opened_with limit) ≡ None
+due_opened : (b : Bool) (limit : ℕ) → due_in b (new_channel limit) ≡ None
 due_opened true limit = refl
 due_opened false limit = refl
 
@@ -127,10 +128,10 @@ with_more a b mask k c h has =
 
 -- one channel more, with the next number
 pub whole_opened : (ss : List ChannelState) (inputs live able : ℕ) (dues : List (Option ℕ)) (limit number : ℕ) (more : List ChannelState) (later : ℕ)
-    → IsWhole ss inputs live able dues → length ss < 64 → number ≡ length ss + 1 → more ≡ ss ++ opened_with limit ∷ [] → later ≡ inputs + 1
+    → IsWhole ss inputs live able dues → length ss < 64 → number ≡ length ss + 1 → more ≡ ss ++ new_channel limit ∷ [] → later ≡ inputs + 1
     → IsWhole more later (mask_with live number) (mask_with able number) dues
 whole_opened ss inputs live able dues limit number more later h room is so also =
-    let size : length more ≡ length ss + 1 = ap length so ∙ length-append ss (opened_with limit ∷ []) in
+    let size : length more ≡ length ss + 1 = ap length so ∙ length-append ss (new_channel limit ∷ []) in
     record {
       as_many = omega (arith, h.as_many, also, size);
       few = omega (arith, size, room);
@@ -143,8 +144,8 @@ whole_opened ss inputs live able dues limit number more later h room is so also 
       dues_are = λ c. elim (cases_eq c number) [
         | inl new ↦
             let at : c - 1 ≡ length ss = omega (arith, new, is) in
-            let there : channel_in more c ≡ opened_with limit =
-            ap₂ (λ xs n. get_or xs n (opened_with 0)) so at ∙ get_or-append_seam ss (opened_with limit) [] (opened_with 0) in
+            let there : channel_in more c ≡ new_channel limit =
+            ap₂ (λ xs n. get_or xs n (opened_with 0)) so at ∙ get_or-append_seam ss (new_channel limit) [] (opened_with 0) in
             not_due ss inputs live able dues c h (omega (arith, new, is))
             ∙ sym (ap (due_in (mask_has (mask_with able number) c)) there ∙ due_opened (mask_has (mask_with able number) c) limit)
         | inr other ↦ others c other size
@@ -157,7 +158,7 @@ whole_opened ss inputs live able dues limit number more later h room is so also 
         ∙ sym (get_or_past ss (c - 1) (opened_with 0) (omega (arith, above)))
 
     within : (c : ℕ) → 1 ≤ c → c ≤ length ss → channel_in more c ≡ channel_in ss c
-    within c low high = ap (λ xs. channel_in xs c) so ∙ get_or_append_left ss (opened_with limit ∷ []) (opened_with 0) (c - 1) (omega (arith, low, high))
+    within c low high = ap (λ xs. channel_in xs c) so ∙ get_or_append_left ss (new_channel limit ∷ []) (opened_with 0) (c - 1) (omega (arith, low, high))
 
     split : (c : ℕ) → (c ≤ length ss) ⊎ (length ss < c)
     split c = grind arith

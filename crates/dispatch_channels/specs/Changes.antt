@@ -3,7 +3,7 @@ use Rattle.std.specs.Prelude.{◌≡◌, ℕ, ◌+◌, ◌-◌, ◌≤◌, ◌<�
 use Rattle.input_types.specs.declared.axis.Pixel.{Pixel}
 use Rattle.input_types.specs.declared.message.Body.{Body}
 use Rattle.input_channel.specs.Order.{NoneAfter}
-use Rattle.input_channel.specs.State.{ChannelState, opened_with, enqueued, published_at, finished_with, has_late}
+use Rattle.input_channel.specs.State.{ChannelState, opened_with, with_spare, enqueued, published_at, finished_with, has_late}
 use Rattle.cancel_synthesis.specs.Tracked.{Tracked, Tracks, pointers_of}
 use Rattle.dispatch_calls.specs.declared.counts.Counts.{Counts}
 use Rattle.window_snapshot.specs.Mask.{mask_has, mask_with}
@@ -13,17 +13,21 @@ use Rattle.dispatch_tables.specs.Dues.{namings_in}
 use Rattle.dispatch_channels.specs.Table.{Table, opened, channel_of, input_of}
 use Rattle.dispatch_channels.specs.Heard.{body_from}
 
--- a window was told nothing
+-- a window was told nothing, and there is room for what it is told first
 pub record IsUntold (input : Tracked) : Type 0 where
   pub pointers_are : (d : ℕ) → pointers_of input d ≡ []
   pub keys_are : input.keys ≡ []
-  pub spare_is : input.spare ≡ 0
+  pub spare_is : input.spare ≡ 1
+
+-- a channel without messages, with room for the first one
+abbrev pub new_channel : (limit : ℕ) → ChannelState
+new_channel limit = with_spare 1 (opened_with limit)
 
 -- a channel with the next number is opened with a limit, and is live and able
 pub record Opens (limit number : ℕ) (old new : Table) : Type 0 where
   pub few : opened old < 64
   pub number_is : number ≡ opened old + 1
-  pub channels_are : new.channels ≡ old.channels ++ opened_with limit ∷ []
+  pub channels_are : new.channels ≡ old.channels ++ new_channel limit ∷ []
   pub inputs_are : new.inputs ≡ old.inputs ++ input_of new number ∷ []
   pub untold : IsUntold (input_of new number)
   pub live_is : new.live ≡ mask_with old.live number

@@ -1,9 +1,9 @@
 //! The channels.
-ghost use Rattle.std.specs.Prelude.{◌≡◌, ℕ, true, [], ◌≤◌, ◌<◌, is_ok, option_copied, OnOk, OnErr, IfOk, IsOk};
-ghost use Rattle.window_snapshot.specs.Mask.{mask_has};
+ghost use Rattle.std.specs.Prelude.{◌≡◌, ℕ, true, [], ◌≤◌, ◌<◌, length, is_ok, option_copied, OnOk, OnErr, IfOk, IsOk};
+ghost use Rattle.window_snapshot.specs.Mask.{is_channel, mask_has};
 ghost use Rattle.anr_tracker.specs.Due.{IsFirst};
 ghost use Rattle.input_channel.specs.Order.{NoneAfter};
-ghost use Rattle.input_channel.specs.State.{next_of, received_one, received_next, let_go_of, may_finish};
+ghost use Rattle.input_channel.specs.State.{next_of, received_one, received_next, let_go_of, may_finish, oldest_of};
 ghost use Rattle.dispatch_history.specs.Reply.{is_due};
 ghost use Rattle.dispatch_channels.specs.Table.{opened, IsOpened, channel_of, input_of, with_channel, with_room, but_for_room, due_moment};
 ghost use Rattle.dispatch_channels.specs.Changes.{OpensOrNot, Tells, MayPublish, Settles, finished_in, named_in, removed_in, counts_in};
@@ -71,6 +71,7 @@ impl Channels {
     pub fn opened(&self) -> u32
         ensures value { result ≡ opened self.now }
         ensures few { result ≤ 64 }
+        ensures as_many { length self.now.inputs ≡ opened self.now }
     {
         self.channels.len() as u32
     }
@@ -91,8 +92,8 @@ impl Channels {
         self.able
     }
 
-    /// Opens a channel, which is live and able, and answers its number; None exactly where 64 were opened. Without
-    /// memory nothing changes.
+    /// Opens a channel, which is live and able and has room for one message, and answers its number; None exactly where 64
+    /// were opened. Without memory nothing changes.
     pub fn open(&mut self, limit: Limit) -> Result<Option<u32>, AllocError>
         ensures ok { IfOk result (λ number. OpensOrNot limit number self.old self.new) }
         ensures err { OnErr result (self.new ≡ self.old) }
@@ -103,8 +104,12 @@ impl Channels {
         self.channels.reserve(1)?;
         self.inputs.reserve(1)?;
         let alloc = *self.channels.allocator();
-        self.channels.push_reserved(Channel::new(alloc, limit));
-        self.inputs.push_reserved(InputState::new(alloc));
+        let mut channel = Channel::new(alloc, limit);
+        channel.reserve(1)?;
+        let mut input = InputState::new(alloc);
+        input.reserve(1)?;
+        self.channels.push_reserved(channel);
+        self.inputs.push_reserved(input);
         let number = self.channels.len() as u32;
         self.live = mask_with(self.live, number);
         self.able = mask_with(self.able, number);
@@ -257,12 +262,30 @@ impl Channels {
         })
     }
 
+    /// When a channel is due to be named: its limit after the delivery of its oldest message that is published and not
+    /// finished; None exactly where it is not able, or has no such message.
+    pub fn due(&self, channel: u32) -> Option<u64>
+        requires { is_channel channel ≡ true }
+        ensures { result ≡ due_moment self.now channel }
+    {
+        self.tracker.due(channel)
+    }
+
     /// The least moment at which a channel is due to be named, and the channel, the least one where several are due
     /// at it; None exactly where no channel is due.
     pub fn first_due(&self) -> Option<(u64, u32)>
         ensures { IsFirst (due_moment self.now) result }
     {
         self.tracker.first_due()
+    }
+
+    /// The number and the delivery of the oldest message of a channel that is published and not finished; None exactly
+    /// where every published message is finished.
+    pub fn oldest(&self, channel: u32) -> Option<(u64, Moment)>
+        requires { IsOpened self.now channel }
+        ensures { result ≡ oldest_of (channel_of self.now channel) }
+    {
+        self.channels[channel as usize - 1].oldest_unfinished()
     }
 
     /// The messages of a channel, but for those that were let go.
