@@ -1,0 +1,7 @@
+pub mod Saying
+pub mod Cancelling
+pub mod Ruling
+pub mod Stepping
+pub mod Hearing
+pub mod Reaching
+pub mod Rooms

@@ -1,0 +1,184 @@
+-- The windows of a mask are told, one after another, and then all are published.
+use Rattle.std.proofs.Common.{◌≡◌, ◌≢◌, ℕ, ◌≤◌, Bool, true, false, not, ◌&&◌, cond, List, refl, sym, ap, ap₂, ◌∙◌, subst, inl, inr}
+use Rattle.std.specs.Prelude.{bit_and}
+use Rattle.std.proofs.lemmas.Bool.{cases_eq, eq-eqb, ne_eqb, and_parts, both_ways}
+use Rattle.input_types.specs.declared.axis.Pixel.{Pixel}
+use Rattle.input_types.specs.declared.message.Body.{Body}
+use Rattle.input_channel.specs.State.{ChannelState, published_at}
+use Rattle.window_snapshot.specs.Mask.{mask_has, mask_with}
+use Rattle.window_snapshot.proofs.Masks.{mask_has_channel}
+use Rattle.cancel_synthesis.specs.Tracked.{Tracked}
+use Rattle.routing_rules.specs.Scene.{Scene, Step}
+use Rattle.touch_state.specs.Touches.{Touches}
+use Rattle.route_split.specs.Marking.{IsWhole}
+use Rattle.dispatch_tables.specs.Masks.{mask_less}
+use Rattle.dispatch_channels.specs.Table.{Table, channel_of, input_of}
+use Rattle.dispatch_channels.specs.Changes.{Settles}
+use Rattle.dispatch_channels.proofs.Picking.{channel_low, has-without, mask_has-and}
+use Rattle.dispatch_channels.proofs.Moved.{reached, all_reached}
+use Rattle.dispatch_round.specs.declared.round.Round.{Round}
+use Rattle.dispatch_round.specs.Bodies.{TracksAll}
+use Rattle.dispatch_round.specs.Rounds.{IsRound, HoldsPointers, AllHoldPointers, is_concerned, told_in}
+use Rattle.dispatch_round.specs.Told.{origin_at, heard, TellsAll}
+use Rattle.dispatch_round.specs.Saying.{HearsRound}
+use Rattle.dispatch_round.specs.Each.{HearsEach}
+use Rattle.dispatch_round.proofs.Saying.{heard-unfinished, heard-gone}
+use Rattle.dispatch_round.proofs.Ruling.{quiet_told}
+
+-- which windows were reached
+and_false_right : (b : Bool) → (b && false) ≡ false
+and_false_right true = refl
+and_false_right false = refl
+
+and_true_right : (b : Bool) → (b && true) ≡ b
+and_true_right true = refl
+and_true_right false = refl
+
+pub not_reached : (mask rest k : ℕ) → mask_has rest k ≡ true → reached mask rest k ≡ false
+not_reached mask rest k e = ap (λ t. mask_has mask k && not t) e ∙ and_false_right (mask_has mask k)
+
+pub reached_next : (mask rest k : ℕ) → mask_has mask k ≡ true → mask_has rest k ≡ true → reached mask (mask_less rest (mask_with 0 k)) k ≡ true
+reached_next mask rest k is e = ap₂ (λ a t. a && not t) is (has-without rest rest k k e ∙ ap₂ (λ a t. a && not t) e (eq-eqb k k refl))
+
+pub reached_other : (mask rest k c : ℕ) → mask_has rest k ≡ true → c ≢ k → reached mask (mask_less rest (mask_with 0 k)) c ≡ reached mask rest c
+reached_other mask rest k c e ne =
+    ap (λ t. mask_has mask c && not t)
+    (has-without rest rest k c e ∙ ap (λ t. mask_has rest c && not t) (ne_eqb c k ne) ∙ and_true_right (mask_has rest c))
+
+-- what is in both of two masks
+pub in_both : (a b w : ℕ) → mask_has (bit_and a b) w ≡ true → (mask_has a w ≡ true) × (mask_has b w ≡ true)
+in_both a b w has = and_parts (mask_has a w) (mask_has b w) (sym (mask_has-and a b w) ∙ has)
+
+pub both_reached : (a b rest w : ℕ) → rest ≡ 0 → mask_has a w ≡ true → mask_has b w ≡ true → reached (bit_and a b) rest w ≡ true
+both_reached a b rest w none p q =
+    ap (λ n. reached (bit_and a b) n w) none ∙ all_reached (bit_and a b) w ∙ mask_has-and a b w ∙ ap₂ (λ x y. x && y) p q
+
+-- a channel is told what is said in the round in a scene
+abbrev pub IsToldAt : Round → List Pixel → ℕ → (t v : Table) → Scene → Step → ℕ → Type 0
+IsToldAt r origins clock t v s e c =
+    (channel_of v c ≡ heard (told_in r s e c) (origin_at origins c) clock (channel_of t c))
+    × TracksAll (input_of t c) (input_of v c) (told_in r s e c)
+
+-- it is told
+pub each_next : (r : Round) (ts : List Touches) (mask rest k : ℕ) (o : Pixel) (origins : List Pixel) (clock : ℕ) (t u v : Table)
+    → mask_has rest k ≡ true → mask_has mask k ≡ true → mask_has t.live k ≡ true → o ≡ origin_at origins k
+    → HearsEach r ts (reached mask rest) origins clock t u
+    → HearsRound r ts (record { window = k; origin = o; clock = clock }) u v
+    → HearsEach r ts (reached mask (mask_less rest (mask_with 0 k))) origins clock t v
+each_next r ts mask rest k o origins clock t u v e is live from_origin p q =
+    record {
+      told = λ s f h holds c hear. elim (cases_eq c k) [
+        | inl same ↦ subst (IsToldAt r origins clock t v s f) (sym same) (here s f h holds)
+        | inr ne ↦ there s f h holds c ne (sym (reached_other mask rest k c e ne) ∙ hear)
+      ];
+      stays = λ c from no. elim (cases_eq c k) [
+        | inl same ↦ absurd (both_ways (reached mask (mask_less rest (mask_with 0 k)) c) no
+            (ap (reached mask (mask_less rest (mask_with 0 k))) same ∙ reached_next mask rest k is e))
+        | inr ne ↦
+            let before = p.stays c from (sym (reached_other mask rest k c e ne) ∙ no) in
+            ((q.told.others c from ne).0 ∙ before.0, (q.told.others c from ne).1 ∙ before.1)
+      ];
+      unfinished_is = λ c from. elim (cases_eq c k) [
+        | inl same ↦ subst (λ n. (channel_of v n).unfinished ≡ (channel_of t n).unfinished) (sym same)
+            (ap (λ s. s.unfinished) q.told.channel_is ∙ heard-unfinished q.bodies o clock (channel_of u k) ∙ p.unfinished_is k low)
+        | inr ne ↦ ap (λ s. s.unfinished) (q.told.others c from ne).0 ∙ p.unfinished_is c from
+      ];
+      gone_is = λ c from. elim (cases_eq c k) [
+        | inl same ↦ subst (λ n. (channel_of v n).gone ≡ (channel_of t n).gone) (sym same)
+            (ap (λ s. s.gone) q.told.channel_is ∙ heard-gone q.bodies o clock (channel_of u k) ∙ p.gone_is k low)
+        | inr ne ↦ ap (λ s. s.gone) (q.told.others c from ne).0 ∙ p.gone_is c from
+      ];
+      as_many = q.told.as_many ∙ p.as_many;
+      live_is = q.told.live_is ∙ p.live_is;
+      able_is = q.told.able_is ∙ p.able_is;
+      namings_are = q.told.namings_are ∙ p.namings_are;
+    }
+  where
+    low : 1 ≤ k
+    low = channel_low rest k e
+
+    still : (channel_of u k ≡ channel_of t k) × (input_of u k ≡ input_of t k)
+    still = p.stays k low (not_reached mask rest k e)
+
+    here : (s : Scene) (f : Step) → IsRound s f ts r → AllHoldPointers s t → IsToldAt r origins clock t v s f k
+    here s f h holds =
+        let says : q.bodies ≡ told_in r s f k = q.by_rules s f h (subst (HoldsPointers s k) (sym still.1) (holds k live)) in (
+          q.told.channel_is
+              ∙ ap (λ bs. heard bs o clock (channel_of u k)) says
+              ∙ ap₂ (λ x y. heard (told_in r s f k) x clock y) from_origin still.0,
+          subst (λ (i : Tracked). TracksAll i (input_of v k) (told_in r s f k)) still.1
+              (subst (λ (bs : List Body). TracksAll (input_of u k) (input_of v k) bs) says q.told.tracks),
+        )
+
+    there : (s : Scene) (f : Step) → IsRound s f ts r → AllHoldPointers s t → (c : ℕ) → c ≢ k → reached mask rest c ≡ true → IsToldAt r origins clock t v s f c
+    there s f h holds c ne hear =
+        let from : 1 ≤ c = channel_low mask c (and_parts (mask_has mask c) (not (mask_has rest c)) hear).0 in
+        let before = p.told s f h holds c hear in
+        let other = q.told.others c from ne in (
+          other.0 ∙ before.0,
+          subst (λ (i : Tracked). TracksAll (input_of t c) i (told_in r s f c)) (sym other.1) before.1,
+        )
+
+-- all were told
+pub each_last : (r : Round) (ts : List Touches) (mask rest : ℕ) (origins : List Pixel) (clock : ℕ) (t u : Table)
+    → rest ≡ 0 → HearsEach r ts (reached mask rest) origins clock t u → HearsEach r ts (mask_has mask) origins clock t u
+each_last r ts mask rest origins clock t u none p =
+    let all : (c : ℕ) → reached mask rest c ≡ mask_has mask c = λ c. ap (λ n. reached mask n c) none ∙ all_reached mask c in
+    record {
+      told = λ s e h holds c hear. p.told s e h holds c (all c ∙ hear);
+      stays = λ c from no. p.stays c from (all c ∙ no);
+      unfinished_is = p.unfinished_is;
+      gone_is = p.gone_is;
+      as_many = p.as_many;
+      live_is = p.live_is;
+      able_is = p.able_is;
+      namings_are = p.namings_are;
+    }
+
+-- what is published
+publishes : (b l : Bool) (x y : ChannelState) → b ≡ true → l ≡ true → cond (b && l) x y ≡ x
+publishes b l x y e f = ap₂ (λ a k. cond (a && k) x y) e f
+
+leaves : (b l : Bool) (x y : ChannelState) → b ≡ false → cond (b && l) x y ≡ y
+leaves b l x y e = ap (λ a. cond (a && l) x y) e
+
+only_first : (a l : Bool) → (a && l) ≡ false → l ≡ true → a ≡ false
+only_first a l none live = sym (and_true_right a) ∙ ap (λ x. a && x) (sym live) ∙ none
+
+pub tells_all : (s : Scene) (e : Step) (r : Round) (ts : List Touches) (mask : ℕ) (origins : List Pixel) (clock : ℕ) (t u v : Table)
+    → IsWhole r.mark → ((w : ℕ) → mask_has mask w ≡ (is_concerned ts r w && mask_has t.live w))
+    → HearsEach r ts (mask_has mask) origins clock t u → Settles mask clock u v → IsRound s e ts r → AllHoldPointers s t
+    → TellsAll mask (told_in r s e) origins clock t v
+tells_all s e r ts mask origins clock t u v whole is p q h holds =
+    let lives : (c : ℕ) → mask_has mask c ≡ true → mask_has t.live c ≡ true =
+    λ c has. (and_parts (is_concerned ts r c) (mask_has t.live c) (sym (is c) ∙ has)).1 in
+    record {
+      are_live = lives;
+      changes = λ c has.
+          q.channels_are c (channel_low mask c has)
+          ∙ publishes (mask_has mask c) (mask_has u.live c) _ _ has (ap (λ m. mask_has m c) p.live_is ∙ lives c has)
+          ∙ ap (published_at clock) (p.told s e h holds c has).0;
+      tracks = λ c has.
+          subst (λ (i : Tracked). TracksAll (input_of t c) i (told_in r s e c)) (sym (ap (λ is. input_of (record u { inputs = is }) c) q.inputs_are))
+          (p.told s e h holds c has).1;
+      stays = λ c from no. (
+        q.channels_are c from ∙ leaves (mask_has mask c) (mask_has u.live c) _ _ no ∙ (p.stays c from no).0,
+        ap (λ is. input_of (record u { inputs = is }) c) q.inputs_are ∙ (p.stays c from no).1,
+      );
+      quiet = λ c no live.
+          quiet_told s e ts r c h whole (mask_has_channel t.live c live)
+          (only_first (is_concerned ts r c) (mask_has t.live c) (sym (is c) ∙ no) live);
+      as_many = q.as_many ∙ p.as_many;
+      live_is = q.live_is ∙ p.live_is;
+      able_is = q.able_is ∙ p.able_is;
+      namings_are = q.namings_are ∙ p.namings_are;
+    }
+
+-- nothing is let go where channels are published
+pub settled_gone : (mask clock : ℕ) (t u : Table) → Settles mask clock t u → (c : ℕ) → 1 ≤ c → (channel_of u c).gone ≡ (channel_of t c).gone
+settled_gone mask clock t u h c low =
+    ap (λ s. s.gone) (h.channels_are c low) ∙ by_test (mask_has mask c && mask_has t.live c)
+  where
+    by_test : (b : Bool) → (cond b (published_at clock (channel_of t c)) (channel_of t c)).gone ≡ (channel_of t c).gone
+    by_test true = refl
+    by_test false = refl

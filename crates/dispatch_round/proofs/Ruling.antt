@@ -1,0 +1,212 @@
+-- What is told is what the rules say.
+use Rattle.std.proofs.Common.{◌≡◌, ◌≢◌, ◌⊎◌, ℕ, zero, suc, ◌≤◌, ◌==◌, Bool, true, false, not, ◌&&◌, ◌||◌, cond, List, [], ◌∷◌, ◌++◌, flat_map, Option, Some, None, refl, sym, ap, ap₂, ◌∙◌, arith, append-nil, inl, inr}
+use Rattle.std.specs.List.{list_any}
+use Rattle.std.proofs.lemmas.Bool.{cases_eq, eq-eqb, ne_eqb, both_ways, true≢false}
+use Rattle.bits32.specs.Set.{is_in}
+use Rattle.input_types.specs.declared.key.KeyMsg.{KeyMsg}
+use Rattle.input_types.specs.declared.motion.Motion.{Motion}
+use Rattle.input_types.specs.declared.pointer.Pointer.{Pointer}
+use Rattle.window_snapshot.specs.Mask.{is_channel, mask_has, mask_with}
+use Rattle.window_snapshot.proofs.Masks.{mask_has-with, mask_has-zero}
+use Rattle.routing_rules.specs.Scene.{Scene, Step, Moves, Rests as Resting, Removes}
+use Rattle.routing_rules.specs.Given.{changed, mark}
+use Rattle.routing_rules.specs.Told.{listing, after, cancels_of, told, told_motion, devices}
+use Rattle.routing_rules.proofs.Listings.{listing_same}
+use Rattle.cancel_synthesis.proofs.PointerEnds.{listing_twice}
+use Rattle.cancel_synthesis.specs.Tracked.{Tracked, pointers_of}
+use Rattle.touch_state.specs.Touches.{Touches}
+use Rattle.route_split.specs.declared.mark.Mark.{Mark}
+use Rattle.route_split.specs.declared.mark.Mark.TheVariants.{Rests, Give, Lift, Slip, Empty, Pilfer, Unnamed, Mute, Forget}
+use Rattle.route_split.specs.declared.tells.Tells.{Tells}
+use Rattle.route_split.specs.declared.tells.Tells.TheVariants.{Nothing, One, Cancels}
+use Rattle.route_split.specs.Tables.{Stands, holds_at}
+use Rattle.route_split.specs.Marking.{IsWhole, IsStepOf, is_forget, holds_after, may_be_told}
+use Rattle.route_split.specs.Telling.{IsTold}
+use Rattle.route_split.proofs.ToldBy.{after_is, told_cancels, nothing_told, still_held}
+use Rattle.route_split.proofs.Steps.{other_law}
+use Rattle.route_split.proofs.Quiet.{quiet_law}
+use Rattle.key_tables.specs.Focused.{change_of, change_told}
+use Rattle.dispatch_round.specs.declared.round.Round.{Round}
+use Rattle.dispatch_round.specs.Bodies.{motions_of, keys_to, bodies_of}
+use Rattle.dispatch_round.specs.Rounds.{IsStepIn, IsRound, HoldsPointers, may_take, may_hear, keyed, is_concerned, told_in}
+use Rattle.dispatch_round.specs.Saying.{lost_of, motions_by, losses}
+
+-- what was found for a device
+same_lost : (b l : Bool) → (b && l) ≡ (b && not (b && not l))
+same_lost true true = refl
+same_lost true false = refl
+same_lost false l = refl
+
+pub found_told : (x : Tells) (ms : List Motion) (d : ℕ) (last had : List Pointer) (before : ℕ → Bool)
+    → had ≡ listing before last → IsTold x ms d last before → motions_by x d had ≡ ms
+found_told Nothing ms d last had before is h = sym h
+found_told (One m) ms d last had before is h = sym h
+found_told (Cancels lost) ms d last had before is h =
+    let gone : listing (λ i. is_in i lost) (listing before last) ≡ listing (λ i. before i && not (before i && not (is_in i lost))) last =
+    listing_twice before (λ i. is_in i lost) last
+    ∙ listing_same (λ i. before i && is_in i lost) (λ i. before i && not (before i && not (is_in i lost))) last (λ i t. same_lost (before i) (is_in i lost)) in
+    ap (lost_of d lost) is
+    ∙ ap₂ (cancels_of d (listing before last)) (listing_twice before (λ i. not (is_in i lost)) last) gone
+    ∙ sym h
+
+-- what a step that is no motion takes of a device
+both_held : (b h : Bool) → (h ≡ true → b ≡ true) → (b && h) ≡ h
+both_held true h f = refl
+both_held false true f = f refl
+both_held false false f = refl
+
+pub losses_told : (s : Scene) (e : Step) (ts : List Touches) (k : Mark) (w d : ℕ) (input : Tracked)
+    → Stands s ts → IsStepOf k e → is_forget k ≡ false → pointers_of input d ≡ listing (s.holds w d) (s.last d)
+    → losses ts k w input d ≡ told s e w d
+losses_told s e ts k w d input f h stays is =
+    let now : (i : ℕ) → after s (mark s e) w d i ≡ holds_after ts k w d i = after_is s ts k (mark s e) f (other_law s ts k e f h) w d in
+    let was : (i : ℕ) → s.holds w d i ≡ holds_at ts w d i = λ i. ap (λ (g : ℕ → ℕ → ℕ → Bool). g w d i) f.holds_are in
+    let kept : listing (holds_after ts k w d) (listing (s.holds w d) (s.last d)) ≡ listing (after s (mark s e) w d) (s.last d) =
+    listing_twice (s.holds w d) (holds_after ts k w d) (s.last d)
+    ∙ listing_same (λ i. s.holds w d i && holds_after ts k w d i) (after s (mark s e) w d) (s.last d)
+    (λ i t. both_held (s.holds w d i) (holds_after ts k w d i) (λ l. was i ∙ still_held ts k e w d i h l) ∙ sym (now i)) in
+    let gone : listing (λ i. not (holds_after ts k w d i)) (listing (s.holds w d) (s.last d)) ≡ listing (λ i. s.holds w d i && not (after s (mark s e) w d i)) (s.last d) =
+    listing_twice (s.holds w d) (λ i. not (holds_after ts k w d i)) (s.last d)
+    ∙ listing_same (λ i. s.holds w d i && not (holds_after ts k w d i)) (λ i. s.holds w d i && not (after s (mark s e) w d i)) (s.last d)
+    (λ i t. ap (λ b. s.holds w d i && not b) (sym (now i))) in
+    ap (λ (had : List Pointer). cancels_of d had (listing (holds_after ts k w d) had) (listing (λ i. not (holds_after ts k w d i)) had)) is
+    ∙ ap₂ (cancels_of d (listing (s.holds w d) (s.last d))) kept gone
+    ∙ sym (told_cancels s k e w d h stays)
+
+pub takes_no_forget : (k : Mark) → may_take k ≡ true → is_forget k ≡ false
+takes_no_forget (Forget window) e = absurd (true≢false (sym e))
+takes_no_forget Rests e = refl
+takes_no_forget (Give device id windows) e = refl
+takes_no_forget (Lift device id) e = refl
+takes_no_forget (Slip device id from to) e = refl
+takes_no_forget (Empty device) e = refl
+takes_no_forget (Pilfer device window) e = refl
+takes_no_forget (Unnamed windows) e = refl
+takes_no_forget (Mute channels) e = refl
+
+-- device by device
+pub same_devices : (f g : ℕ → List Motion) → ((d : ℕ) → 1 ≤ d → d ≤ 8 → f d ≡ g d) → flat_map f devices ≡ flat_map g devices
+same_devices f g h =
+    rw (
+      h 1 (omega arith) (omega arith),
+      h 2 (omega arith) (omega arith),
+      h 3 (omega arith) (omega arith),
+      h 4 (omega arith) (omega arith),
+      h 5 (omega arith) (omega arith),
+      h 6 (omega arith) (omega arith),
+      h 7 (omega arith) (omega arith),
+      h 8 (omega arith) (omega arith),
+    ) refl
+
+one_of : (g : ℕ → List Motion) (n : ℕ) → 1 ≤ n → n ≤ 8 → flat_map (λ d. cond (n == d) (g d) []) devices ≡ g n
+one_of g zero low high = absurd (omega (arith, low))
+one_of g (suc zero) low high = append-nil (g 1)
+one_of g (suc (suc zero)) low high = append-nil (g 2)
+one_of g (suc (suc (suc zero))) low high = append-nil (g 3)
+one_of g (suc (suc (suc (suc zero)))) low high = append-nil (g 4)
+one_of g (suc (suc (suc (suc (suc zero))))) low high = append-nil (g 5)
+one_of g (suc (suc (suc (suc (suc (suc zero)))))) low high = append-nil (g 6)
+one_of g (suc (suc (suc (suc (suc (suc (suc zero))))))) low high = append-nil (g 7)
+one_of g (suc (suc (suc (suc (suc (suc (suc (suc zero)))))))) low high = append-nil (g 8)
+one_of g (suc (suc (suc (suc (suc (suc (suc (suc (suc n))))))))) low high = absurd (omega (arith, high))
+
+pub motion_told : (s : Scene) (m : Motion) (w : ℕ) → 1 ≤ m.device → m.device ≤ 8 → motions_of s (Moves m) w ≡ told s (Moves m) w m.device
+motion_told s m w low high =
+    let g : ℕ → List Motion = λ d. told_motion s m (changed m) w (s.holds w d) (after s (mark s (Moves m)) w d) in
+    one_of g m.device low high ∙ sym (ap (λ b. cond b (g m.device) []) (eq-eqb m.device m.device refl))
+
+pub found_all : (s : Scene) (e : Step) (m : Motion) (w : ℕ) (x : Tells) (had : List Pointer)
+    → e ≡ Moves m → 1 ≤ m.device → m.device ≤ 8 → had ≡ listing (s.holds w m.device) (s.last m.device)
+    → IsTold x (told s (Moves m) w m.device) m.device (s.last m.device) (s.holds w m.device)
+    → motions_by x m.device had ≡ motions_of s e w
+found_all s e m w x had is low high holds h =
+    found_told x (told s (Moves m) w m.device) m.device (s.last m.device) had (s.holds w m.device) holds h
+    ∙ sym (motion_told s m w low high)
+    ∙ sym (ap (λ f. motions_of s f w) is)
+
+pub lost_all : (s : Scene) (e : Step) (ts : List Touches) (k : Mark) (w : ℕ) (input : Tracked)
+    → Stands s ts → IsStepOf k e → may_take k ≡ true → HoldsPointers s w input → flat_map (losses ts k w input) devices ≡ motions_of s e w
+lost_all s e ts k w input f h takes holds =
+    same_devices (losses ts k w input) (told s e w)
+    (λ d low high. losses_told s e ts k w d input f h (takes_no_forget k takes) (holds d low high))
+
+rests_told : (s : Scene) (e : Step) (k : Mark) (w d : ℕ) → IsStepOf k e → may_take k ≡ false → told s e w d ≡ []
+rests_told s (Removes v) (Forget window) w d h e = refl
+rests_told s Resting Rests w d h e = refl
+rests_told s e Rests w d h none = at e h
+  where
+    at : (e : Step) → IsStepOf Rests e → told s e w d ≡ []
+    at Resting h = refl
+    at _ h = absurd h
+rests_told s e (Forget window) w d h none = nothing_told s (Forget window) e w d h refl
+rests_told s e (Give device id windows) w d h none = absurd (true≢false none)
+rests_told s e (Lift device id) w d h none = absurd (true≢false none)
+rests_told s e (Slip device id from to) w d h none = absurd (true≢false none)
+rests_told s e (Empty device) w d h none = absurd (true≢false none)
+rests_told s e (Pilfer device window) w d h none = absurd (true≢false none)
+rests_told s e (Unnamed windows) w d h none = absurd (true≢false none)
+rests_told s e (Mute channels) w d h none = absurd (true≢false none)
+
+pub none_all : (s : Scene) (e : Step) (k : Mark) (w : ℕ) → IsStepOf k e → may_take k ≡ false → [] ≡ motions_of s e w
+none_all s e k w h none = sym (same_devices (told s e w) (λ d. []) (λ d low high. rests_told s e k w d h none))
+
+-- a window that is not concerned
+neither : (a b : Bool) → (a || b) ≡ false → (a ≡ false) × (b ≡ false)
+neither true b e = absurd (both_ways true e refl)
+neither false b e = (refl, e)
+
+none_hear : (p : ℕ → Bool) (f : ℕ → List Motion) (ds : List ℕ) → list_any p ds ≡ false → ((d : ℕ) → p d ≡ false → f d ≡ []) → flat_map f ds ≡ []
+none_hear p f [] none h = refl
+none_hear p f (d ∷ ds) none h =
+    let both = neither (p d) (list_any p ds) none in
+    ap₂ (λ (xs ys : List Motion). xs ++ ys) (h d both.0) (none_hear p f ds both.1 h)
+
+quiet_motions : (s : Scene) (e : Step) (ts : List Touches) (k : Mark) (o : Option Motion) (watchers w : ℕ)
+    → Stands s ts → IsWhole k → IsStepIn s ts k o watchers e → may_hear ts k o watchers w ≡ false → motions_of s e w ≡ []
+quiet_motions s e ts k (Some m) watchers w f whole h none =
+    let both = neither (may_be_told ts k w m.device) (mask_has watchers w) none in
+    ap (λ x. motions_of s x w) h.0
+    ∙ same_devices (told s (Moves m) w) (λ d. []) (λ d low high. at d both (cases_eq m.device d))
+  where
+    here : (d : ℕ) → m.device ≡ d → may_be_told ts k w m.device ≡ false → mask_has watchers w ≡ false → told s (Moves m) w d ≡ []
+    here d same a b =
+        ap (told s (Moves m) w) (sym same)
+        ∙ (quiet_law s ts k w m.device f whole a).0 m h.1 (sym (h.3 w) ∙ b)
+
+    at : (d : ℕ) → (may_be_told ts k w m.device ≡ false) × (mask_has watchers w ≡ false) → (m.device ≡ d) ⊎ (m.device ≢ d) → told s (Moves m) w d ≡ []
+    at d both (inl same) = here d same both.0 both.1
+    at d both (inr ne) = ap (λ b. cond b (told_motion s m (changed m) w (s.holds w d) (after s (mark s (Moves m)) w d)) []) (ne_eqb m.device d ne)
+quiet_motions s e ts k None watchers w f whole h none = at (may_take k) refl
+  where
+    at : (b : Bool) → may_take k ≡ b → motions_of s e w ≡ []
+    at false rests = sym (none_all s e k w h rests)
+    at true does =
+        none_hear (may_be_told ts k w) (told s e w) devices (sym (ap (λ b. b && list_any (may_be_told ts k w) devices) does) ∙ none)
+        (λ d quiet. (quiet_law s ts k w d f whole quiet).1 e h)
+
+quiet_keys : (keys : List KeyMsg) (target w : ℕ) → is_channel w ≡ true → mask_has (keyed keys target) w ≡ false → keys_to target keys w ≡ []
+quiet_keys [] target w is none = at (w == target)
+  where
+    at : (b : Bool) → cond {A = List KeyMsg} b [] [] ≡ []
+    at true = refl
+    at false = refl
+quiet_keys (m ∷ ms) target w is none = elim (cases_eq w target) [
+  | inl same ↦ absurd (both_ways (mask_has (mask_with 0 target) w) none
+      (mask_has-with 0 target w
+      ∙ ap₂ (λ a b. a || b) (mask_has-zero w) (ap₂ (λ a b. a && b) is (eq-eqb target w (sym same)))))
+  | inr ne ↦ ap (λ b. cond b (m ∷ ms) []) (ne_eqb w target ne)
+]
+
+quiet_change : (lost gained w : ℕ) → mask_has lost w ≡ false → mask_has gained w ≡ false → change_told (change_of lost gained w) ≡ []
+quiet_change lost gained w a b =
+    ap₂ (λ x y. change_told (cond x (Some false) (cond y (Some true) None))) a b
+
+pub quiet_told : (s : Scene) (e : Step) (ts : List Touches) (r : Round) (w : ℕ)
+    → IsRound s e ts r → IsWhole r.mark → is_channel w ≡ true → is_concerned ts r w ≡ false → told_in r s e w ≡ []
+quiet_told s e ts r w h whole is none =
+    let a = neither _ (mask_has r.gained w) none in
+    let b = neither _ (mask_has r.lost w) a.0 in
+    let d = neither _ (mask_has (keyed r.keys.now r.target) w) b.0 in
+    let motions = quiet_motions s e ts r.mark _ r.watchers w h.stands whole h.step_is d.0 in
+    let keys = quiet_keys r.keys.now r.target w is d.1 in
+    ap₂ (λ ms ks. bodies_of ms ks (change_of r.lost r.gained w)) motions keys ∙ quiet_change r.lost r.gained w b.1 a.1

@@ -1,0 +1,15 @@
+use Rattle.dispatch_channels.specs.Table.{input_of}
+use Rattle.dispatch_round.proofs.Stepping.{room_for_device, losses_next}
+use Rattle.dispatch_round.proofs.motions.say_losses.Goals as goal
+
+pub say_loss-requires-clause-room : goal.say_loss-requires-clause-room
+say_loss-requires-clause-room c =
+    room_for_device c.args.to.now.window c.devices.place c.device_at.result (input_of c.args.channels.now c.args.to.now.window)
+    (input_of c.devices.channels c.args.to.now.window) c.devices.channels
+    c.devices-test.true c.device_at.ensures c.devices.invariant.1 c.devices.invariant.0
+
+pub devices-preserved : goal.devices-preserved
+devices-preserved c =
+    losses_next c.args.to.now c.args.touches.now c.args.mark.now c.devices.place c.device_at.result (input_of c.args.channels.now c.args.to.now.window)
+    c.args.channels.now c.devices.channels c.say_loss.new.channels
+    c.devices-test.true c.device_at.ensures c.devices.invariant.1 c.devices.invariant.0 c.devices.invariant.2 c.say_loss.ensures

@@ -1,0 +1,27 @@
+-- The windows of a mask are told something, one after another.
+use Rattle.std.specs.Prelude.{◌≡◌, ◌≤◌, ℕ, Bool, true, false, List}
+use Rattle.input_types.specs.declared.axis.Pixel.{Pixel}
+use Rattle.routing_rules.specs.Scene.{Scene, Step}
+use Rattle.touch_state.specs.Touches.{Touches}
+use Rattle.dispatch_channels.specs.Table.{Table, opened, channel_of, input_of}
+use Rattle.dispatch_round.specs.declared.round.Round.{Round}
+use Rattle.dispatch_round.specs.Bodies.{TracksAll}
+use Rattle.dispatch_round.specs.Rounds.{IsRound, AllHoldPointers, told_in}
+use Rattle.dispatch_round.specs.Told.{origin_at, heard}
+
+-- The channels that pass the test are told what is said in the round, in each scene; the others are as they were, and so is all else.
+pub record HearsEach
+    (r : Round) (ts : List Touches) (hear : ℕ → Bool) (origins : List Pixel) (clock : ℕ) (old new : Table) : Type 0 where
+  pub told :
+      (s : Scene) (e : Step) → IsRound s e ts r → AllHoldPointers s old
+      → (c : ℕ) → hear c ≡ true
+      → (channel_of new c ≡ heard (told_in r s e c) (origin_at origins c) clock (channel_of old c))
+      × TracksAll (input_of old c) (input_of new c) (told_in r s e c)
+  pub stays :
+      (c : ℕ) → 1 ≤ c → hear c ≡ false → (channel_of new c ≡ channel_of old c) × (input_of new c ≡ input_of old c)
+  pub unfinished_is : (c : ℕ) → 1 ≤ c → (channel_of new c).unfinished ≡ (channel_of old c).unfinished
+  pub gone_is : (c : ℕ) → 1 ≤ c → (channel_of new c).gone ≡ (channel_of old c).gone
+  pub as_many : opened new ≡ opened old
+  pub live_is : new.live ≡ old.live
+  pub able_is : new.able ≡ old.able
+  pub namings_are : new.namings ≡ old.namings

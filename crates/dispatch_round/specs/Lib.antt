@@ -1,0 +1,5 @@
+pub mod Bodies
+pub mod Rounds
+pub mod Told
+pub mod Saying
+pub mod Each

@@ -1,0 +1,75 @@
+-- One window is told something.
+use Rattle.std.specs.Prelude.{◌≡◌, ◌≢◌, ◌≤◌, ℕ, ◌-◌, not, true, List, [], ◌∷◌, length, map}
+use Rattle.std.specs.Option.{option_copied}
+use Rattle.bits32.specs.Set.{is_in}
+use Rattle.input_types.specs.declared.message.Body.{Body}
+use Rattle.input_types.specs.declared.message.Body.TheVariants.{Motion as MotionBody}
+use Rattle.input_types.specs.declared.motion.Motion.{Motion}
+use Rattle.input_types.specs.declared.pointer.Pointer.{Pointer}
+use Rattle.window_snapshot.specs.Mask.{mask_has}
+use Rattle.routing_rules.specs.Scene.{Scene, Step}
+use Rattle.routing_rules.specs.Told.{listing, cancels_of}
+use Rattle.touch_state.specs.Touches.{Touches}
+use Rattle.route_split.specs.declared.mark.Mark.{Mark}
+use Rattle.route_split.specs.declared.tells.Tells.{Tells}
+use Rattle.route_split.specs.declared.tells.Tells.TheVariants.{Nothing, One, Cancels}
+use Rattle.route_split.specs.Marking.{holds_after}
+use Rattle.cancel_synthesis.specs.Tracked.{Tracked, pointers_of}
+use Rattle.dispatch_channels.specs.Table.{Table, opened, IsOpened, channel_of, input_of}
+use Rattle.dispatch_round.specs.declared.round.Round.{Round}
+use Rattle.dispatch_round.specs.declared.listener.Listener.{Listener}
+use Rattle.dispatch_round.specs.Bodies.{TracksAll, motions_of}
+use Rattle.dispatch_round.specs.Rounds.{IsRound, HoldsPointers, told_in, most_motions}
+use Rattle.dispatch_round.specs.Told.{heard}
+
+-- a live channel has room for so many bodies more
+pub record CanHear (w n : ℕ) (t : Table) : Type 0 where
+  pub live : mask_has t.live w ≡ true
+  pub opened : IsOpened t w
+  pub room : n ≤ (channel_of t w).spare
+  pub track_room : n ≤ (input_of t w).spare
+
+-- A channel is told bodies, in order, which are tracked. All else is as before.
+pub record TellsOne (to : Listener) (bodies : List Body) (old new : Table) : Type 0 where
+  pub channel_is : channel_of new to.window ≡ heard bodies to.origin to.clock (channel_of old to.window)
+  pub tracks : TracksAll (input_of old to.window) (input_of new to.window) bodies
+  pub track_spare : (input_of new to.window).spare ≡ (input_of old to.window).spare - length bodies
+  pub others :
+      (k : ℕ) → 1 ≤ k → k ≢ to.window → (channel_of new k ≡ channel_of old k) × (input_of new k ≡ input_of old k)
+  pub as_many : opened new ≡ opened old
+  pub live_is : new.live ≡ old.live
+  pub able_is : new.able ≡ old.able
+  pub namings_are : new.namings ≡ old.namings
+
+-- of the pointers of a device those with these ids are taken from a window that has these
+abbrev pub lost_of : (d : ℕ) → (lost : ℕ) → List Pointer → List Motion
+lost_of d lost had = cancels_of d had (listing (λ i. not (is_in i lost)) had) (listing (λ i. is_in i lost) had)
+
+-- the motions that it is told, where these are its pointers of the device
+abbrev pub motions_by : Tells → (d : ℕ) → List Pointer → List Motion
+motions_by Nothing d had = []
+motions_by (One m) d had = m ∷ []
+motions_by (Cancels lost) d had = lost_of d lost had
+
+-- what it is told of a device at a step with this mark that is no motion: the cancels of what it holds no more
+abbrev pub losses : List Touches → Mark → (w : ℕ) → Tracked → (d : ℕ) → List Motion
+losses ts k w input d =
+    let had = pointers_of input d in
+    cancels_of d had (listing (holds_after ts k w d) had) (listing (λ i. not (holds_after ts k w d i)) had)
+
+-- A window is told motions, not more than there may be, and in each scene those of the rules.
+pub record HearsMotions (r : Round) (ts : List Touches) (to : Listener) (old new : Table) : Type 0 where
+  pub motions : List Motion
+  pub few : length motions ≤ most_motions (option_copied r.motion) (input_of old to.window)
+  pub told : TellsOne to (map MotionBody motions) old new
+  pub by_rules :
+      (s : Scene) (e : Step)
+      → IsRound s e ts r → HoldsPointers s to.window (input_of old to.window) → motions ≡ motions_of s e to.window
+
+-- It is told bodies, in each scene those of the round.
+pub record HearsRound (r : Round) (ts : List Touches) (to : Listener) (old new : Table) : Type 0 where
+  pub bodies : List Body
+  pub told : TellsOne to bodies old new
+  pub by_rules :
+      (s : Scene) (e : Step)
+      → IsRound s e ts r → HoldsPointers s to.window (input_of old to.window) → bodies ≡ told_in r s e to.window

@@ -1,0 +1,10 @@
+//! Who is told.
+use input_types::{Moment, Pixel};
+
+/// A window that is told something at a clock, and where it has its origin.
+#[derive(Clone, Copy)]
+pub(crate) struct Listener {
+    pub(crate) window: u32,
+    pub(crate) origin: Pixel,
+    pub(crate) clock: Moment,
+}

@@ -1,0 +1,132 @@
+//! Room for what a step tells.
+ghost use Rattle.std.specs.Prelude.{◌≡◌, ◌≤◌, ◌<◌, ◌^◌, ℕ, false, length, max, OnOk, OnErr, IfOk, IsOk};
+ghost use Rattle.key_tables.specs.Focused.{change_of, change_told};
+ghost use Rattle.std.specs.Option.{option_copied};
+ghost use Rattle.routing_rules.specs.Told.{devices};
+ghost use Rattle.dispatch_channels.specs.Table.{IsOpened, input_of, with_room, but_for_room};
+ghost use Rattle.dispatch_round.specs.Bodies.{keys_to};
+ghost use Rattle.dispatch_round.specs.Rounds.{count_of, most_motions, most_bodies, is_concerned, HasRoom, IsReady, MakesRoom};
+
+use crate::concern::concerned;
+use crate::mask::{device_at, first_of, without};
+use crate::round::Round;
+use cancel_synthesis::InputState;
+use dispatch_channels::Channels;
+use input_types::KeyMsg;
+use route_split::Touches;
+use std::alloc::AllocError;
+use window_snapshot::mask_has;
+
+/// How many pointers a window has.
+fn count_all(input: &InputState) -> usize
+    ensures value { result ≡ count_of input.now devices }
+    ensures few { result ≤ 128 }
+{
+    let mut count = 0usize;
+    'devices: for place in 0..8u8 {
+        count += input.pointers(device_at(place)).len();
+    }
+    count
+}
+
+/// The number, and at least 1.
+fn at_least_one(count: usize) -> usize
+    ensures { result ≡ max 1 count }
+{
+    if count == 0 { 1 } else { count }
+}
+
+/// The most motions that it is told in a round.
+fn most_motions(round: &Round, input: &InputState) -> usize
+    ensures value { result ≡ most_motions (option_copied round.now.motion) input.now }
+    ensures few { result ≤ 128 }
+{
+    match round.motion {
+        Some(motion) => at_least_one(input.pointers(motion.device).len()),
+        None => count_all(input),
+    }
+}
+
+/// The key messages that a window is told, where the target is told these.
+pub(crate) fn keys_to(keys: &[KeyMsg], target: u32, window: u32) -> &[KeyMsg]
+    ensures { result.now ≡ keys_to target keys.now window }
+{
+    if window == target { keys } else { &[] }
+}
+
+/// Whether a window is told that it lost the focus, or that it has it now.
+pub(crate) fn change_of(round: &Round, window: u32) -> Option<bool>
+    ensures { result ≡ change_of round.now.lost round.now.gained window }
+{
+    if mask_has(round.lost, window) {
+        Some(false)
+    } else if mask_has(round.gained, window) {
+        Some(true)
+    } else {
+        None
+    }
+}
+
+/// How many bodies tell of a change.
+fn count_of(change: Option<bool>) -> usize
+    ensures value { result ≡ length (change_told change) }
+    ensures few { result ≤ 1 }
+{
+    match change {
+        Some(_) => 1,
+        None => 0,
+    }
+}
+
+/// The most bodies that it is told; without memory for so many messages, none.
+fn most_bodies(round: &Round, channels: &Channels, window: u32) -> Result<u32, AllocError>
+    requires { IsOpened channels.now window }
+    ensures value { IfOk result (λ n. n ≡ most_bodies round.now window (input_of channels.now window)) }
+    ensures fits { length round.now.keys.now < 2 ^ 31 → IsOk result }
+{
+    let motions = most_motions(round, channels.input(window));
+    let keys = keys_to(round.keys, round.target, window).len();
+    let change = count_of(change_of(round, window));
+    match u32::try_from(motions + keys + change) {
+        Ok(count) => Ok(count),
+        Err(_) => Err(AllocError),
+    }
+}
+
+/// Makes room for what a step tells a window.
+fn make_room_in(round: &Round, channels: &mut Channels, window: u32) -> Result<(), AllocError>
+    requires { IsOpened channels.old window }
+    ensures ok { let most = most_bodies round.now window (input_of channels.old window) in
+        OnOk result (channels.new ≡ with_room window most channels.old) }
+    ensures err { OnErr result (but_for_room channels.new ≡ but_for_room channels.old) }
+    ensures reserved { length round.now.keys.now < 2 ^ 31 → HasRoom round.now channels.old window → IsOk result }
+{
+    let count = most_bodies(round, channels, window)?;
+    channels.reserve(window, count)
+}
+
+/// Makes room for all that a step tells the windows that are live, so that [`tell_all`](crate::tell_all) takes no
+/// memory. With and without memory nothing changes but the room that channels have. Where they have enough already, no
+/// memory is taken.
+pub fn make_room(
+    round: &Round,
+    touches: &Touches,
+    channels: &mut Channels,
+) -> Result<(), AllocError>
+    ensures made { OnOk result (MakesRoom touches.now round.now channels.old channels.new) }
+    ensures ready { OnOk result (IsReady touches.now round.now channels.new) }
+    ensures same { but_for_room channels.new ≡ but_for_room channels.old }
+    ensures reserved { length round.now.keys.now < 2 ^ 31 →
+        IsReady touches.now round.now channels.old → IsOk result }
+    ensures calm { ((w : ℕ) → is_concerned touches.now round.now w ≡ false) → IsOk result }
+{
+    // Its clauses say that what each window was told is kept.
+    let _opened = channels.opened();
+    let mut rest = concerned(round, touches) & channels.live();
+    while rest != 0 {
+        let window = first_of(rest);
+        make_room_in(round, channels, window)?;
+        rest = without(rest, window);
+    }
+    Ok(())
+}
