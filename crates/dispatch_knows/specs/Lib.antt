@@ -1,0 +1,14 @@
+pub mod Queue
+pub mod Shown
+pub mod Pointing
+pub mod Input
+pub mod Knows
+pub mod First
+pub mod Tracking
+pub mod Replying
+pub mod Staying
+pub mod Laws
+pub mod OwnerLaws
+pub mod Telling
+pub mod RoundLaws
+pub mod ReadLaws

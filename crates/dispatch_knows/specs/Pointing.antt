@@ -1,0 +1,48 @@
+-- What is kept of who holds which pointers, and what a step makes of it.
+use Rattle.std.specs.Prelude.{◌≡◌, ◌≤◌, ℕ, List}
+use Rattle.dispatch_calls.specs.declared.call.Call.{Call}
+use Rattle.dispatch_calls.specs.declared.reply.Reply.{Reply}
+use Rattle.touch_state.specs.Touches.{Touches}
+use Rattle.routing_rules.specs.Marks.{Mark as RuleMark}
+use Rattle.routing_rules.specs.Given.{mark}
+use Rattle.routing_rules.specs.Taking.{takes, pilfers}
+use Rattle.routing_rules.specs.Scene.{Step}
+use Rattle.routing_rules.specs.Told.{listing, told}
+use Rattle.cancel_synthesis.specs.Laws.{pointers_told}
+use Rattle.cancel_synthesis.specs.Tracked.{Tracked, pointers_of}
+use Rattle.dispatch_history.specs.History.{snapshot}
+use Rattle.dispatch_history.specs.Queue.{inbound, args_of}
+use Rattle.dispatch_history.specs.Effect.{Effect, past_of, last}
+use Rattle.dispatch_history.specs.Step.{marks, scene, step_of}
+use Rattle.route_split.specs.declared.mark.Mark.{Mark}
+use Rattle.route_split.specs.Tables.{ChangesAll}
+use Rattle.route_split.specs.Marking.{gives, taking, IsMark}
+use Rattle.route_split.specs.Following.{Follows}
+
+-- what the step with this call and reply is to the rules
+abbrev pub step_at : Call → Reply → List Effect → Step
+step_at call answer es = step_of (snapshot (past_of es)) call answer (args_of call answer (inbound (past_of es)))
+
+-- the mark that it leaves
+abbrev pub mark_at : List ℕ → Call → Reply → List Effect → RuleMark
+mark_at displays call answer es = mark (scene displays es) (step_at call answer es)
+
+-- the tables of touches stand for the effects of a history
+abbrev pub TouchesAre : List Effect → List Touches → Type 0
+TouchesAre es ts = Follows (marks es) ts
+
+-- the tables go one step on: they change by the mark of the step, at its place
+pub record TouchesGo (displays : List ℕ) (call : Call) (answer : Reply) (es : List Effect) (place : ℕ) (old new : List Touches) : Type 0 where
+  pub by : Mark
+  pub is_mark : IsMark old by (mark_at displays call answer es)
+  pub changes : ChangesAll old new (gives by) (takes (taking old by)) place (pilfers (taking old by))
+
+-- what a window was told and is not told the end of are the pointers that it holds, at their last places
+abbrev pub PointersAre : List ℕ → List Effect → ℕ → Tracked → Type 0
+PointersAre displays es w input = (d : ℕ) → 1 ≤ d → d ≤ 8 → pointers_of input d ≡ listing ((scene displays es).holds w d) (last es d)
+
+-- what a window was told goes one step on in its pointers: what the step tells it of each device is tracked
+abbrev pub PointersGo : List ℕ → Call → Reply → List Effect → ℕ → (old new : Tracked) → Type 0
+PointersGo displays call answer es w old new =
+    (d : ℕ) → 1 ≤ d → d ≤ 8
+    → pointers_of new d ≡ pointers_told (told (scene displays es) (step_at call answer es) w d) (pointers_of old d)
