@@ -1,0 +1,198 @@
+//! The dispatcher with its history.
+ghost use Rattle.std.specs.Prelude.{◌≡◌, ℕ, ◌+◌, ◌++◌, ◌≤◌, ◌<◌, ◌^◌, [], ◌∷◌, max, reverse, option_map};
+ghost use Rattle.std.specs.Prelude.{IfOk, OnOk, OnErr, IsOk, vec_len, vec_capacity};
+ghost use Rattle.dispatch_history.specs.Due.{counts, first_due, namings};
+ghost use Rattle.dispatch_history.specs.History.{clock};
+ghost use Rattle.dispatch_history.specs.Legal.{Legal, reply};
+ghost use Rattle.dispatch_tables.specs.Dues.{due_pair};
+ghost use Rattle.dispatch_core.specs.Access.{next_repeat};
+ghost use Rattle.dispatch_core.specs.Memory.{IsCalm};
+ghost use Rattle.dispatch_core.specs.Recorded.{history_of, effects_of, stream_of, with_entry, with_spare};
+ghost use Rattle.dispatch_core.specs.Recorded.{AnswersGone, IsSound, HasRoom};
+
+use crate::dispatcher::Dispatcher;
+use dispatch_calls::{Call, Counts, Entry, Naming, Reply};
+use input_types::{Displays, Message, Moment};
+use std::alloc::{AllocError, Global};
+use std::marker::Model;
+
+/// A dispatcher with its history: all its calls with their replies, and all messages that it ever told.
+///
+/// Contracts see the displays of the devices, the entries, the newest first, and for how many more of them there is
+/// room. All that can be read of it is what these entries say.
+#[derive(Drop)]
+pub struct Core {
+    dispatcher: Dispatcher,
+    entries: Vec<Entry>,
+    // For how many entries more the list has room.
+    spare: u32,
+}
+
+impl Model for Core {
+    ghost use Rattle.std.specs.Prelude.{reverse, vec_len, vec_capacity};
+    ghost use Rattle.dispatch_core.specs.Recorded.{Recorded, IsRecorded, HasRoom};
+
+    ghost Value = { Recorded };
+
+    ghost view = { λ c.
+        record { displays = c.dispatcher.displays; entries = reverse c.entries.items; spare = c.spare } };
+
+    ghost invariant = { λ c. IsRecorded (reverse c.entries.items) c.dispatcher
+        × HasRoom (vec_len c.entries) (vec_capacity c.entries) c.spare };
+}
+
+impl Core {
+    /// A dispatcher before its first call, whose devices are on these displays.
+    pub fn new(alloc: Global, displays: &Displays) -> Result<Core, AllocError>
+        ensures { IfOk result (λ c. c ≡ record { displays = displays.now; entries = []; spare = 0 }) }
+    {
+        let dispatcher = Dispatcher::new(alloc, displays)?;
+        Ok(Core {
+            dispatcher,
+            entries: Vec::new(alloc),
+            spare: 0,
+        })
+    }
+
+    /// Answers a call as the history says, and puts it with its reply behind the entries. Want of memory changes
+    /// nothing, makes no entry and drops the call.
+    ///
+    /// Where room was reserved, some calls cannot answer want of memory: owners that receive or finish, a removal, a
+    /// request that changes no focus, a tick that names nobody and a pump that is idle.
+    pub fn apply(&mut self, seat: u64, call: Call) -> Result<Reply, AllocError>
+        ensures reply { IfOk result (λ answer. answer ≡ reply self.old.displays (history_of self.old.entries) call) }
+        ensures entry { IfOk result (λ answer.
+            self.new ≡ with_entry (record { seat = seat; call = call; reply = answer }) self.old) }
+        ensures err { OnErr result (self.new ≡ self.old) }
+        ensures calm { 1 ≤ self.old.spare → IsCalm (effects_of self.old) call → IsOk result }
+
+        // The history is legal, so every stream is well-formed, and says what the window of a live channel holds.
+        // Nothing follows a removal.
+        ensures sound { IsSound self.new }
+        ensures gone { IfOk result (λ answer. AnswersGone (history_of self.old.entries) call answer) }
+    {
+        make_sure(&mut self.entries, self.spare)?;
+        match self.dispatcher.apply(&call) {
+            Ok(reply) => {
+                note(&mut self.entries, seat, call, &reply);
+                self.spare = self.spare.saturating_sub(1);
+                Ok(reply)
+            }
+            Err(error) => Err(error),
+        }
+    }
+
+    /// Makes room for the next `n` entries. Without memory nothing changes.
+    pub fn reserve(&mut self, n: u32) -> Result<(), AllocError>
+        ensures ok { OnOk result (self.new ≡ with_spare n self.old) }
+        ensures err { OnErr result (self.new ≡ self.old) }
+        ensures reserved { n ≤ self.old.spare → IsOk result }
+    {
+        if self.spare < n {
+            make_room(&mut self.entries, n as usize)?;
+            self.spare = n;
+        }
+        Ok(())
+    }
+
+    /// All messages that a channel was told, the first one first; None exactly where none was opened with this number.
+    pub fn stream(&self, channel: u32) -> Option<&[Message]>
+        ensures { option_map (λ ms. ms.now) result ≡ stream_of self.now channel }
+    {
+        self.dispatcher.messages(channel)
+    }
+
+    /// The calls with their replies, the first one first.
+    pub fn history(&self) -> &[Entry]
+        ensures entries { result.now ≡ reverse self.now.entries }
+        ensures legal { Legal self.now.displays (history_of self.now.entries) }
+    {
+        self.entries.as_slice()
+    }
+
+    /// The greatest moment that was handed in.
+    pub fn clock(&self) -> Moment
+        ensures { result ≡ clock (history_of self.now.entries) }
+    {
+        self.dispatcher.clock()
+    }
+
+    /// How far a channel has come; None exactly where none was opened with this number.
+    pub fn counts(&self, channel: u32) -> Option<Counts>
+        ensures { result ≡ counts (effects_of self.now) channel }
+    {
+        self.dispatcher.counts(channel)
+    }
+
+    /// The first moment at which a channel is due to be named unresponsive, and the least channel that is due at it.
+    pub fn first_due(&self) -> Option<(u64, u32)>
+        ensures { option_map due_pair result ≡ first_due (effects_of self.now) }
+    {
+        self.dispatcher.first_due()
+    }
+
+    /// When the next repeat of a key is due; None where there is none, and while args wait.
+    pub fn repeat_due(&self) -> Option<u64>
+        ensures { result ≡ next_repeat (effects_of self.now) }
+    {
+        self.dispatcher.repeat_due()
+    }
+
+    /// All namings so far, the first one first.
+    pub fn namings(&self) -> &[Naming]
+        ensures { result.now ≡ namings (effects_of self.now) }
+    {
+        self.dispatcher.namings()
+    }
+
+    /// The displays of the devices.
+    pub fn displays(&self) -> &Displays
+        ensures { result.now ≡ self.now.displays }
+    {
+        self.dispatcher.displays()
+    }
+}
+
+/// Makes sure of a place for one entry more, where there are so many that are sure.
+fn make_sure(entries: &mut Vec<Entry>, spare: u32) -> Result<(), AllocError>
+    requires { HasRoom (vec_len entries.old) (vec_capacity entries.old) spare }
+    ensures items { entries.new.items ≡ entries.old.items }
+    ensures room { HasRoom (vec_len entries.new) (vec_capacity entries.new) spare }
+    ensures ok { OnOk result (HasRoom (vec_len entries.new) (vec_capacity entries.new) (max 1 spare)) }
+    ensures calm { 1 ≤ spare → IsOk result }
+{
+    if spare == 0 {
+        make_room(entries, 1)?;
+    }
+    Ok(())
+}
+
+/// Makes room for some entries more.
+fn make_room(entries: &mut Vec<Entry>, n: usize) -> Result<(), AllocError>
+    ensures items { entries.new.items ≡ entries.old.items }
+    ensures len { vec_len entries.new ≡ vec_len entries.old }
+    ensures capacity { vec_capacity entries.old ≤ vec_capacity entries.new }
+    ensures ok { OnOk result (vec_len entries.new + n ≤ vec_capacity entries.new) }
+    ensures few { OnOk result (vec_len entries.new + n < 2 ^ 64) }
+{
+    // The number of entries must not end before the room does.
+    if usize::MAX - entries.len() < n {
+        return Err(AllocError);
+    }
+    entries.reserve(n)
+}
+
+/// Puts an entry behind the others, where there is room for it.
+fn note(entries: &mut Vec<Entry>, seat: u64, call: Call, reply: &Reply)
+    requires { vec_len entries.old < vec_capacity entries.old }
+    ensures items { entries.new.items
+        ≡ entries.old.items ++ record { seat = seat; call = call; reply = reply.now } ∷ [] }
+    ensures len { vec_len entries.new ≡ vec_len entries.old + 1 }
+    ensures capacity { vec_capacity entries.new ≡ vec_capacity entries.old }
+{
+    entries.push_reserved(Entry {
+        seat,
+        call,
+        reply: *reply,
+    });
+}
