@@ -1,0 +1,22 @@
+//! A core that threads share.
+//!
+//! A core answers calls one after another. Here threads call one core, each with a seat of its own, and the reply to a
+//! call is the one that the history before its place says:
+//!
+//! ```text
+//! new                                           seat 0, which has seen nothing
+//! seat 0 calls Open { limit: 5000000 }          place 0, reply Opened(1)
+//! seat 0 splits off seat 1                      which has seen 1 entry
+//! seat 1 calls Tick { now: 0 }                  place 1, reply Named(0)
+//! seat 1 calls Open { limit: 5000000 }          place 2, reply Opened(2)
+//! seat 0 looks                                  3
+//! ```
+//!
+//! So a thread that is told a place and a reply knows what the core did up to there: one history, which begins with all
+//! that its seat had seen, and in which its own calls and no others bear its number.
+#![tactic(auto)]
+
+mod calls;
+mod service;
+
+pub use service::{Seat, Service};
