@@ -1,0 +1,182 @@
+//! The split router with what its windows were told, as the plain one is used.
+ghost use Rattle.route_split.specs.Marking.{IsWhole};
+
+use bits32::Bits32;
+use cancel_synthesis::InputState;
+use input_types::{Body, DeviceId, Motion};
+use route_plain::{Said, Turn};
+use route_split::{Mark, Tells, Touches, watchers};
+use std::alloc::Global;
+use std::test::Fail;
+use window_snapshot::{Snapshot, is_channel, mask_has};
+
+/// The tables, and the input state of each of the windows 1 to 64.
+#[derive(Drop)]
+pub(crate) struct SplitSide {
+    alloc: Global,
+    touches: Touches,
+    states: Vec<InputState>,
+}
+
+impl SplitSide {
+    pub(crate) fn new(alloc: Global) -> Result<SplitSide, Fail> {
+        let mut states = Vec::new(alloc);
+        for _window in 0..64 {
+            states.push(InputState::new(alloc))?;
+        }
+        Ok(SplitSide {
+            alloc,
+            touches: Touches::new(alloc)?,
+            states,
+        })
+    }
+
+    /// The ids that a window holds of a device.
+    pub(crate) fn holds(&self, channel: u32, device: DeviceId) -> u32 {
+        if is_channel(channel) {
+            self.touches.held(channel, device).bits()
+        } else {
+            0
+        }
+    }
+
+    /// Takes a turn, of which this is the number, and answers what is said. The masks are those of the live channels
+    /// and of the able ones.
+    pub(crate) fn turn(
+        &mut self,
+        turn: &Turn,
+        windows: &Snapshot,
+        masks: (u64, u64),
+        number: u64,
+    ) -> Result<Vec<Said>, Fail> {
+        let mut said = Vec::new(self.alloc);
+        match turn {
+            Turn::Pointers(motion) => {
+                let mark = self.touches.mark(motion, windows, masks.0, masks.1);
+                let watching = watchers(motion, windows, masks.0, masks.1);
+                self.tell_motion(&mut said, motion, &mark, watching)?;
+                self.touches.take(&mark, number);
+            }
+            _ => {
+                let mark = mark_of(turn, windows);
+                self.tell_losses(&mut said, &mark)?;
+                self.touches.take(&mark, number);
+            }
+        }
+        Ok(said)
+    }
+
+    /// Tells each window of a motion.
+    fn tell_motion(
+        &mut self,
+        said: &mut Vec<Said>,
+        motion: &Motion,
+        mark: &Mark,
+        watching: u64,
+    ) -> Result<(), Fail>
+        requires { IsWhole mark.now }
+    {
+        for channel in 1..65 {
+            if is_channel(channel) {
+                let watches = mask_has(watching, channel);
+                let tells = self.touches.tells(motion, mark, channel, watches);
+                self.tell(said, channel, motion.device, &tells)?;
+            }
+        }
+        Ok(())
+    }
+
+    /// Tells each window what it loses of each device.
+    fn tell_losses(&mut self, said: &mut Vec<Said>, mark: &Mark) -> Result<(), Fail>
+        requires { IsWhole mark.now }
+    {
+        for channel in 1..65 {
+            for number in 1..9 {
+                let device = DeviceId::new(number).ok_or("a device")?;
+                if is_channel(channel) {
+                    let tells = self.touches.loses(mark, channel, device);
+                    self.tell(said, channel, device, &tells)?;
+                }
+            }
+        }
+        Ok(())
+    }
+
+    /// Tells a window what the router answered, and adds it to what is said.
+    fn tell(
+        &mut self,
+        said: &mut Vec<Said>,
+        channel: u32,
+        device: DeviceId,
+        tells: &Tells,
+    ) -> Result<(), Fail> {
+        match tells {
+            Tells::Nothing => Ok(()),
+            Tells::One(motion) => self.say(said, channel, motion),
+            Tells::Cancels { lost } => self.cancel(said, channel, device, *lost),
+        }
+    }
+
+    /// The cancels of what a window loses.
+    fn cancel(
+        &mut self,
+        said: &mut Vec<Said>,
+        channel: u32,
+        device: DeviceId,
+        lost: Bits32,
+    ) -> Result<(), Fail> {
+        if let Some(state) = self.states.get(place_of(channel)) {
+            let motions = state.cancel_pointers(device, lost)?;
+            for motion in motions.as_slice() {
+                self.say(said, channel, motion)?;
+            }
+        }
+        Ok(())
+    }
+
+    fn say(&mut self, said: &mut Vec<Said>, channel: u32, motion: &Motion) -> Result<(), Fail> {
+        if let Some(state) = self.states.get_mut(place_of(channel)) {
+            state.track(&Body::Motion(*motion))?;
+            said.push(Said {
+                channel,
+                motion: *motion,
+            })?;
+        }
+        Ok(())
+    }
+}
+
+/// The place of a channel in a list that begins with channel 1.
+fn place_of(channel: u32) -> usize {
+    channel.saturating_sub(1) as usize
+}
+
+/// The mark of a turn that is no motion.
+fn mark_of(turn: &Turn, windows: &Snapshot) -> Mark
+    ensures { IsWhole result }
+{
+    match *turn {
+        Turn::Pointers(_) => Mark::Rests,
+        Turn::Reset(device) => Mark::Empty { device },
+        Turn::Pilfer { channel, device } => pilfer_mark(channel, device),
+        Turn::Windows => Mark::Unnamed {
+            stays: windows.names(),
+        },
+        Turn::Mute { channels } => Mark::Mute { channels },
+        Turn::Forget { channel } => Mark::Forget { window: channel },
+    }
+}
+
+/// The mark of a window that pilfers.
+fn pilfer_mark(channel: u32, device: DeviceId) -> Mark
+    ensures { IsWhole result }
+{
+    if is_channel(channel) {
+        Mark::Pilfer {
+            device,
+            window: channel,
+        }
+    } else {
+        Mark::Rests
+    }
+}
