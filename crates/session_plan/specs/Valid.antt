@@ -30,9 +30,9 @@ IsKind displays (Keys layout) = Unit {0}
 abbrev pub IsDevice : ℕ → DevicePlan → Type 0
 IsDevice displays d = IsKind displays d.kind
 
--- a channel with a name of its form
+-- a channel with a name of its form, which finishes a message at most 10^15 microseconds after its receipt
 abbrev pub IsChannel : ChannelPlan → Type 0
-IsChannel c = is_name (string_bytes c.name) ≡ true
+IsChannel c = (is_name (string_bytes c.name) ≡ true) × (c.finish_after ≤ 1000000000000000)
 
 -- a lane from 1 to 8
 abbrev pub IsStep : Step → Type 0

@@ -1,0 +1,5 @@
+pub mod Events
+pub mod Making
+pub mod Numbers
+pub mod Session
+pub mod View
