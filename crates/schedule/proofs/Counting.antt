@@ -1,0 +1,54 @@
+-- What the counts of a channel that was opened say.
+use Rattle.std.proofs.Common.{◌≡◌, ℕ, ◌-◌, ◌≤◌, nat_le, true, cond, List, length, replicate, Some, None, refl, sym, ap, ◌∙◌}
+use Rattle.std.proofs.lemmas.Bool.{and_parts, leb-true}
+use Rattle.dispatch_calls.specs.declared.call.Call.TheVariants.{Receive}
+use Rattle.dispatch_calls.specs.declared.counts.Counts.{Counts}
+use Rattle.dispatch_history.specs.History.{live, opened, received, finished}
+use Rattle.dispatch_history.specs.Effect.{Effect, past_of, stream}
+use Rattle.dispatch_history.specs.Delivery.{published}
+use Rattle.dispatch_history.specs.Due.{counts}
+use Rattle.dispatch_history.specs.Plan.{Plan}
+use Rattle.dispatch_core.specs.Access.{is_opened}
+use Rattle.dispatch_core.specs.Dispatching.{Dispatching, StandsFor}
+use Rattle.schedule.specs.Receives.{receives_of}
+use Rattle.schedule.specs.State.{ScheduleState, Has}
+
+-- those of a channel that was opened
+abbrev pub count_of : List Effect → ℕ → Counts
+count_of es c =
+    record {
+      sent = length (stream es c);
+      received = received (past_of es) c;
+      finished = length (finished (past_of es) c);
+      published = published es c;
+      live = live (past_of es) c;
+    }
+
+same_some : (j k : Counts) → Some j ≡ Some k → j ≡ k
+same_some j k e = cc
+
+pub counts_are : (es : List Effect) (c : ℕ) (k : Counts) → is_opened es c ≡ true → counts es c ≡ Some k → k ≡ count_of es c
+counts_are es c k there_is e = same_some k (count_of es c) (sym e ∙ ap (λ b. cond b (Some (count_of es c)) None) there_is)
+
+-- what is still to be received of a live channel
+pub receives_are : (es : List Effect) (c n : ℕ) (k : Counts) → k ≡ count_of es c → k.live ≡ true → n ≡ k.published - k.received → replicate n (Receive c) ≡ receives_of es c
+receives_are es c n k e y count =
+    let there : live (past_of es) c ≡ true = sym (ap (λ j. j.live) e) ∙ y in
+    let many : n ≡ published es c - received (past_of es) c = count ∙ ap (λ j. j.published - j.received) e in
+    rw (there, many) refl
+
+pub opened_bounds : (es : List Effect) (c : ℕ) → is_opened es c ≡ true → (1 ≤ c) × (c ≤ opened (past_of es))
+opened_bounds es c e = let p = and_parts (nat_le 1 c) (nat_le c (opened (past_of es))) e in (leb-true 1 c p.0, leb-true c (opened (past_of es)) p.1)
+
+-- a run that lets messages go
+pub has_dispatcher : (plan : Plan) (es : List Effect) (s : ScheduleState) (d : Dispatching) → Has plan es s → StandsFor es d → d.displays ≡ s.dispatcher.displays
+    → Has plan es (record s { dispatcher = d })
+has_dispatcher plan es s d h stands same =
+    record {
+      stands = stands;
+      displays_are = same ∙ h.displays_are;
+      heard = h.heard;
+      as_many = h.as_many;
+      next_is = h.next_is;
+      calls_are = h.calls_are;
+    }

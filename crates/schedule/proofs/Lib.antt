@@ -1,0 +1,17 @@
+pub mod Soonest
+pub mod Behind
+pub mod Receiving
+pub mod Finishes
+pub mod Opening
+pub mod Rounds
+pub mod Heard
+pub mod Stepping
+pub mod Taking
+pub mod Choosing
+pub mod Going
+pub mod Advancing
+pub mod Running
+pub mod Beginning
+pub mod Written
+pub mod Counting
+pub mod Formed

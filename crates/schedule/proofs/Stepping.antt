@@ -1,0 +1,110 @@
+-- A run with one call more.
+use Rattle.std.proofs.Common.{◌≡◌, ℕ, suc, ◌+◌, ◌==◌, ◌≤◌, false, cond, List, ◌++◌, length, refl, sym, ap, ◌∙◌, subst, inl, inr, ◌⊎◌, arith}
+use Rattle.std.specs.Prelude.{Result, Ok, Err, OnOk}
+use Rattle.std.proofs.lemmas.Bool.{cases_eq, eq-eqb, ne_eqb, true≢false}
+use Rattle.dispatch_calls.specs.declared.call.Call.{Call}
+use Rattle.dispatch_calls.specs.declared.call.Call.TheVariants.{Receive}
+use Rattle.dispatch_calls.specs.declared.reply.Reply.{Reply}
+use Rattle.dispatch_calls.specs.declared.reply.Reply.TheVariants.{Got}
+use Rattle.dispatch_history.specs.Effect.{Effect, past_of}
+use Rattle.dispatch_history.specs.Effects.{step}
+use Rattle.dispatch_history.specs.Legal.{answered}
+use Rattle.dispatch_history.specs.Plan.{Plan}
+use Rattle.dispatch_history.specs.Ordered.{is_scripted, scripted}
+use Rattle.dispatch_core.specs.Dispatching.{Dispatching, StandsFor}
+use Rattle.dispatch_tables.specs.Lawful.{Lawful}
+use Rattle.dispatch_tables.specs.Channel.{Receives, Untouched, part_of}
+use Rattle.dispatch_tables.proofs.Lawfuls.{lawful_last}
+use Rattle.stream_text.specs.Spelling.{message_line}
+use Rattle.schedule.specs.Hearing.{Hears}
+use Rattle.schedule.specs.Kinds.{is_receiving}
+use Rattle.schedule.specs.Lines.{Heard, lines_at, lines_received}
+use Rattle.schedule.specs.State.{ScheduleState, Has, counted}
+use Rattle.schedule.proofs.Behind.{is_receive}
+use Rattle.schedule.proofs.Heard.{heard_same, heard_more}
+
+-- the effects are lawful for the displays of the plan
+pub lawful_of : (plan : Plan) (es : List Effect) (s : ScheduleState) → Has plan es s → Lawful plan.displays es
+lawful_of plan es s h = subst (λ ds. Lawful ds es) h.displays_are h.stands.lawful
+
+-- the dispatcher stands for one step more, by the displays of the plan
+stands_plan : (plan : Plan) (call : Call) (answer : Reply) (es : List Effect) (s : ScheduleState) (d : Dispatching) → Has plan es s
+    → StandsFor (step s.dispatcher.displays call answer es) d → StandsFor (step plan.displays call answer es) d
+stands_plan plan call answer es s d h stands = subst (λ ds. StandsFor (step ds call answer es) d) h.displays_are stands
+
+lawful_plan : (plan : Plan) (fs : List Effect) (d : Dispatching) → d.displays ≡ plan.displays → StandsFor fs d → Lawful plan.displays fs
+lawful_plan plan fs d e stands = subst (λ ds. Lawful ds fs) e stands.lawful
+
+one_more : (n k : ℕ) → k ≡ counted n → counted (k + 1) ≡ counted (suc n)
+one_more n k e = omega (arith, e)
+
+no_receive : (call : Call) (answer : Reply) (c : ℕ) → is_receiving call ≡ false → part_of call answer c ≡ Receives → ⊥
+no_receive call answer c e p =
+    let r = is_receive call answer c p in
+    true≢false (sym (ap is_receiving r.1) ∙ e)
+
+module _ (plan : Plan) (es : List Effect) (s t : ScheduleState) (h : Has plan es s) (same : t.dispatcher.displays ≡ s.dispatcher.displays) where
+  heard_all : (call : Call) (answer : Reply) → Lawful plan.displays (step plan.displays call answer es) → is_receiving call ≡ false
+      → t.lines ≡ s.lines → Heard (step plan.displays call answer es) t.lines
+  heard_all call answer l never lines =
+      subst (Heard (step plan.displays call answer es)) (sym lines)
+      (λ c low high. h.heard c low high ∙ sym (heard_same plan.displays call answer es c l (no_receive call answer c never)))
+
+  pub has_step : (call : Call) (answer : Reply) → StandsFor (step s.dispatcher.displays call answer es) t.dispatcher → is_receiving call ≡ false
+      → t.lines ≡ s.lines → t.next ≡ is_scripted call + scripted (past_of es) → t.calls ≡ counted (s.calls + 1)
+      → Has plan (answered plan.displays call es) t
+  has_step call answer stands never lines next calls =
+      let there : StandsFor (step plan.displays call answer es) t.dispatcher = stands_plan plan call answer es s t.dispatcher h stands in
+      let l : Lawful plan.displays (step plan.displays call answer es) = lawful_plan plan (step plan.displays call answer es) t.dispatcher (same ∙ h.displays_are) there in
+      subst (λ a. Has plan (step plan.displays call a es) t) (lawful_last plan.displays call answer es l).0
+      (record {
+        stands = there;
+        displays_are = same ∙ h.displays_are;
+        heard = heard_all call answer l never lines;
+        as_many = ap length lines ∙ h.as_many;
+        next_is = next;
+        calls_are = calls ∙ one_more (length es) s.calls h.calls_are;
+      })
+
+  heard_by : (answer : Reply) (c : ℕ) → Lawful plan.displays (step plan.displays (Receive c) answer es) → Hears answer c s.lines t.lines
+      → (length t.lines ≡ length s.lines) × Heard (step plan.displays (Receive c) answer es) t.lines
+  heard_by (Got m) c l hears = (hears.0, λ d low high. by_channel d low (subst (λ n. d ≤ n) hears.0 high) (cases_eq d c))
+    where
+      by_channel : (d : ℕ) → 1 ≤ d → d ≤ length s.lines → (d ≡ c) ⊎ (d ≡ c → ⊥) → lines_at t.lines d ≡ lines_received (step plan.displays (Receive c) (Got m) es) d
+      by_channel d low high (inl e) =
+          hears.1 d low high
+          ∙ ap (λ v. cond v (lines_at s.lines d ++ message_line m) (lines_at s.lines d)) (eq-eqb d c e)
+          ∙ ap (λ ls. ls ++ message_line m) (h.heard d low high)
+          ∙ subst (λ k. lines_received es k ++ message_line m ≡ lines_received (step plan.displays (Receive c) (Got m) es) k) (sym e)
+          (sym (heard_more plan.displays es c m l (rw (eq-eqb c c refl) refl)))
+      by_channel d low high (inr ne) =
+          hears.1 d low high
+          ∙ ap (λ v. cond v (lines_at s.lines d ++ message_line m) (lines_at s.lines d)) (ne_eqb d c ne)
+          ∙ h.heard d low high
+          ∙ sym (heard_same plan.displays (Receive c) (Got m) es d l (not_here (ne_eqb d c ne)))
+        where
+          not_here : (d == c) ≡ false → part_of (Receive c) (Got m) d ≡ Receives → ⊥
+          not_here f p = let u : Untouched ≡ Receives = rw f at p in cc
+  heard_by answer c l hears = (ap length hears, subst (Heard (step plan.displays (Receive c) answer es)) (sym hears) (λ d low high. h.heard d low high ∙ sym (heard_same plan.displays (Receive c) answer es d l (λ p. cc))))
+
+  pub has_received : (answer : Reply) (c : ℕ) → StandsFor (step s.dispatcher.displays (Receive c) answer es) t.dispatcher
+      → Hears answer c s.lines t.lines → t.next ≡ s.next → t.calls ≡ counted (s.calls + 1)
+      → Has plan (answered plan.displays (Receive c) es) t
+  has_received answer c stands hears next calls =
+      let there : StandsFor (step plan.displays (Receive c) answer es) t.dispatcher = stands_plan plan (Receive c) answer es s t.dispatcher h stands in
+      let l : Lawful plan.displays (step plan.displays (Receive c) answer es) = lawful_plan plan (step plan.displays (Receive c) answer es) t.dispatcher (same ∙ h.displays_are) there in
+      let lines = heard_by answer c l hears in
+      subst (λ a. Has plan (step plan.displays (Receive c) a es) t) (lawful_last plan.displays (Receive c) answer es l).0
+      (record {
+        stands = there;
+        displays_are = same ∙ h.displays_are;
+        heard = lines.1;
+        as_many = lines.0 ∙ h.as_many;
+        next_is = next ∙ h.next_is ∙ omega arith;
+        calls_are = calls ∙ one_more (length es) s.calls h.calls_are;
+      })
+
+-- what holds where a call was done, by what it ensures there
+pub on_ok : {A E : Type 0} (r : Result A E) (X Y : Type 0) → OnOk r X → (X → Y) → OnOk r Y
+on_ok (Ok a) X Y x f = f x
+on_ok (Err e) X Y x f = x

@@ -1,0 +1,22 @@
+-- One receive more, and as many as were asked for.
+use Rattle.std.proofs.Common.{◌≡◌, ◌∙◌, replicate, subst, arith}
+use Rattle.dispatch_history.specs.Ordered.{extend}
+use Rattle.dispatch_calls.specs.declared.call.Call.TheVariants.{Receive}
+use Rattle.schedule.specs.State.{Has}
+use Rattle.schedule.proofs.Receiving.{one_receive_more}
+use Rattle.schedule.proofs.schedule.Schedule.receive_many.Goals as goal
+
+pub loop-preserved : goal.loop-preserved
+loop-preserved c =
+    record {
+      has = λ plan es h.
+          subst (λ fs. Has plan fs c.receive_one.new.self) (one_receive_more plan.displays es c.args.channel c.loop.counter)
+          (c.in_ok-receive_one.ensures.after plan _ (c.loop.invariant.has plan es h));
+      calls = omega (arith, c.loop.invariant.calls, c.in_ok-receive_one.ensures.calls);
+      latest = c.receive_one.ensures.latest ∙ c.loop.invariant.latest;
+    }
+
+pub returns-clause-after : goal.returns-clause-after
+returns-clause-after c = λ plan es h.
+    let all : c.loop.counter ≡ c.args.count = omega (arith, c.loop-test.false, c.loop.auto.counter-end) in
+    subst (λ n. Has plan (extend plan.displays es (replicate n (Receive c.args.channel))) c.loop.self) all (c.loop.invariant.has plan es h)

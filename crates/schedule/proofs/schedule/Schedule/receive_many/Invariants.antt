@@ -1,0 +1,17 @@
+use Rattle.std.proofs.Common.{◌≡◌, ◌≤◌, List}
+use Rattle.std.specs.Prelude.{replicate}
+use Rattle.dispatch_calls.specs.declared.call.Call.TheVariants.{Receive}
+use Rattle.dispatch_history.specs.Effect.{Effect}
+use Rattle.dispatch_history.specs.Plan.{Plan}
+use Rattle.dispatch_history.specs.Ordered.{extend}
+use Rattle.schedule.specs.State.{Has}
+use Rattle.schedule.proofs.schedule.Schedule.receive_many.Given as goal
+
+-- the run has so many receives more
+abbrev pub invariant-loop : goal.invariant-loop
+invariant-loop l =
+    record {
+      has : (plan : Plan) (es : List Effect) → Has plan es l.initial.self → Has plan (extend plan.displays es (replicate l.counter (Receive l.channel))) l.self;
+      calls : l.initial.self.calls ≤ l.self.calls;
+      latest : l.self.latest ≡ l.initial.self.latest;
+    }

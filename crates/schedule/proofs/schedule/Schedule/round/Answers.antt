@@ -1,0 +1,13 @@
+-- One call, and all that is published is received.
+use Rattle.dispatch_history.specs.Legal.{answered}
+use Rattle.schedule.proofs.Going.{first_call, ready_again, on_ok_both}
+use Rattle.schedule.proofs.Stepping.{lawful_of}
+use Rattle.schedule.proofs.schedule.Schedule.round.Goals as goal
+
+pub returns-clause-after : goal.returns-clause-after
+returns-clause-after c = λ plan es r receiving opening next.
+    let has = c.in_ok-step.ensures.after plan es r.has receiving next in
+    let mid = answered plan.displays c.args.call.now es in
+    on_ok_both c.receive_all.result _ _ _ (c.receive_all.ensures.after plan mid has) (c.receive_all.ensures.messages plan mid has)
+    (λ all messages.
+    ready_again plan es mid c.receive_all.new.self (first_call plan.displays es c.args.call.now (lawful_of plan es _ r.has) r.caught opening) r.opened_is all messages)

@@ -1,0 +1,11 @@
+-- One call more.
+use Rattle.std.proofs.Common.{refl, sym, subst}
+use Rattle.schedule.specs.State.{Has}
+use Rattle.schedule.proofs.Stepping.{has_step}
+use Rattle.schedule.proofs.schedule.Schedule.step.Goals as goal
+
+pub returns-in-Ok-clause-after : goal.returns-in-Ok-clause-after
+returns-in-Ok-clause-after c = λ plan es h never next.
+    let before = subst (Has plan es) (sym c.self.view_is) h in
+    has_step plan es _ _ before c.apply.ensures.displays c.args.call.now c.in-Ok.field-0 ((rw c.in-Ok.is at c.apply.ensures.after) es before.stands) never refl next
+    c.saturating_add-self-inside.ensures

@@ -1,0 +1,52 @@
+-- How the next candidate is found.
+use Rattle.std.specs.Prelude.{◌≡◌, ℕ, ◌+◌, ◌==◌, nat_lt, Bool, true, false, List, [], ◌∷◌, ◌++◌, length, Option, Some, None, slice_get, if◌then◌else◌}
+use Rattle.dispatch_calls.specs.declared.call.Call.TheVariants.{Pump, Tick}
+use Rattle.dispatch_history.specs.History.{moment_of}
+use Rattle.dispatch_history.specs.Queue.{inbound}
+use Rattle.dispatch_history.specs.Effect.{Effect, past_of}
+use Rattle.dispatch_history.specs.KeyTold.{repeat_due}
+use Rattle.dispatch_history.specs.Due.{Due, first_due}
+use Rattle.dispatch_history.specs.Plan.{Plan, ChannelOf}
+use Rattle.dispatch_history.specs.Ordered.{Candidate, soonest, all_finishes, due_tick, due_repeat, round, notified}
+use Rattle.schedule.specs.declared.plan.Step.{Step}
+use Rattle.schedule.specs.Next.{fore, up_to, sooner_with, next_finish}
+use Rattle.schedule.specs.State.{ScheduleState, Ready}
+
+-- what may be done next but for steps and args, in the order that decides where moments agree
+abbrev pub dues_of : Plan → List Effect → List Candidate
+dues_of plan es =
+    all_finishes (past_of es) 1 plan.channels ++ due_tick (first_due es) ++ due_repeat (length (inbound (past_of es)) == 0) (repeat_due es)
+
+-- a moment is before that of what is due, if anything is
+abbrev pub is_before : ℕ → Option Candidate → Bool
+is_before t None = true
+is_before t (Some c) = nat_lt t c.moment
+
+-- one round of what is due up to a moment was done, or nothing is due and nothing was done
+abbrev pub Advances : Plan → ℕ → List Effect → ScheduleState → ScheduleState → Bool → Type 0
+Advances plan until es old new false = (up_to until (soonest (fore plan es)) ≡ None) × (new ≡ old)
+Advances plan until es old new true =
+    (c : Candidate) × (up_to until (soonest (fore plan es)) ≡ Some c) × (notified (past_of (round plan es c)) ≡ notified (past_of es))
+    × Ready plan (round plan es c) new
+
+-- the next finish of channels, the first of which has number c, against the soonest so far
+abbrev pub next_finishes : List Effect → ℕ → List ChannelOf → Option Candidate → Option Candidate
+next_finishes es c [] best = best
+next_finishes es c (p ∷ ps) best = next_finishes es (c + 1) ps (sooner_with best (next_finish es c p))
+
+-- the tick at a due
+abbrev pub tick_of : Due → Candidate
+tick_of d = record { moment = d.moment; calls = Tick d.moment ∷ [] }
+
+-- the repeat at a moment
+abbrev pub repeat_at : ℕ → Candidate
+repeat_at t = record { moment = t; calls = Pump t ∷ [] }
+
+-- a step, where it comes before what is due
+abbrev pub kept_first : Option Candidate → Option Step → Option Step
+kept_first due None = None
+kept_first due (Some s) = if is_before (moment_of s.call) due then Some s else None
+
+-- the next of some steps, where it comes before what is due
+abbrev pub first_step : List Step → ℕ → Option Candidate → Option Step
+first_step steps next due = kept_first due (slice_get steps next)

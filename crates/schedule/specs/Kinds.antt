@@ -1,0 +1,14 @@
+-- Kinds of calls.
+use Rattle.std.specs.Prelude.{Bool, true, false}
+use Rattle.dispatch_calls.specs.declared.call.Call.{Call}
+use Rattle.dispatch_calls.specs.declared.call.Call.TheVariants.{Open, Receive}
+
+-- the owner of a channel receives
+abbrev pub is_receiving : Call → Bool
+is_receiving (Receive channel) = true
+is_receiving call = false
+
+-- a channel is opened
+abbrev pub is_opening : Call → Bool
+is_opening (Open limit) = true
+is_opening call = false

@@ -1,0 +1,13 @@
+pub mod Run
+pub mod Next
+pub mod Planned
+pub mod Lines
+pub mod State
+pub mod DueView
+pub mod Receives
+pub mod Kinds
+pub mod Choosing
+pub mod Hearing
+pub mod Handing
+pub mod Ends
+pub mod Laws

@@ -1,0 +1,69 @@
+-- A run of a plan as contracts see it, and what it stands for.
+use Rattle.std.specs.Prelude.{◌≡◌, ℕ, ◌-◌, ◌^◌, ◌≤◌, ◌<◌, min, max, nat_lt, ◌||◌, Bool, true, List, ◌++◌, length, fold}
+use Rattle.dispatch_history.specs.History.{opened, live, received, clock}
+use Rattle.dispatch_history.specs.Effect.{Effect, past_of}
+use Rattle.dispatch_history.specs.Delivery.{published, delivery}
+use Rattle.dispatch_history.specs.Plan.{Plan, Cooked}
+use Rattle.dispatch_history.specs.Ordered.{Rounds, Ordered, received_at, scripted, notified}
+use Rattle.dispatch_core.specs.Dispatching.{Dispatching, StandsFor}
+use Rattle.schedule.specs.Lines.{Heard}
+use Rattle.schedule.specs.Run.{with_cooked, messages_in, IsWithin}
+
+-- a run: the dispatcher, the lines of what each channel's owner received, how many steps were made, how many calls, how many messages
+-- there are, and the latest moment of args
+pub record ScheduleState : Type 0 where
+  pub dispatcher : Dispatching
+  pub lines : List (List ℕ)
+  pub next : ℕ
+  pub calls : ℕ
+  pub messages : ℕ
+  pub latest : ℕ
+
+-- a number counted in 64 bits, where it stays at the greatest of them
+abbrev pub counted : ℕ → ℕ
+counted n = min n (2 ^ 64 - 1)
+
+-- it has more calls or more messages than may be
+abbrev pub is_over : ScheduleState → Bool
+is_over s = nat_lt 4000000 s.calls || nat_lt 4000000 s.messages
+
+-- it stands for these effects
+pub record Has (plan : Plan) (es : List Effect) (s : ScheduleState) : Type 0 where
+  pub stands : StandsFor es s.dispatcher
+  pub displays_are : s.dispatcher.displays ≡ plan.displays
+  pub heard : Heard es s.lines
+  pub as_many : length s.lines ≡ length plan.channels
+  pub next_is : s.next ≡ scripted (past_of es)
+  pub calls_are : s.calls ≡ counted (length es)
+
+-- what a channel's owner received was delivered when it was received, and what it did not receive is delivered now
+pub record Behind (es : List Effect) (c : ℕ) : Type 0 where
+  pub taken : (k : ℕ) → 1 ≤ k → k ≤ received (past_of es) c → received_at (past_of es) c k ≡ delivery es c k
+  pub fresh : (k : ℕ) → received (past_of es) c < k → k ≤ published es c → delivery es c k ≡ clock (past_of es)
+
+-- the owners of all live channels have received all that is published, when it was delivered
+pub record Caught (es : List Effect) : Type 0 where
+  pub all : (c : ℕ) → live (past_of es) c ≡ true → received (past_of es) c ≡ published es c
+  pub behind : (c : ℕ) → live (past_of es) c ≡ true → Behind es c
+
+-- it stands for these effects between two rounds
+pub record Ready (plan : Plan) (es : List Effect) (s : ScheduleState) : Type 0 where
+  pub has : Has plan es s
+  pub caught : Caught es
+  pub opened_is : opened (past_of es) ≡ length plan.channels
+  pub messages_are : s.messages ≡ counted (messages_in es)
+
+-- these args came so far, and what comes before them was done; a run that became too long goes no further
+pub record Ran (plan : Plan) (given : List Cooked) (s : ScheduleState) : Type 0 where
+  pub es : List Effect
+  pub ready : Ready plan es s
+  pub rounds : (later : List Cooked) → Rounds (with_cooked plan (given ++ later)) es
+  pub taken : IsWithin es → notified (past_of es) ≡ length given
+  pub latest_is : s.latest ≡ fold (λ t (a : Cooked). max t a.moment) 0 given
+
+-- the run of all of these args is done, unless it became too long
+pub record Completed (plan : Plan) (given : List Cooked) (s : ScheduleState) : Type 0 where
+  pub es : List Effect
+  pub ready : Ready plan es s
+  pub rounds : Rounds (with_cooked plan given) es
+  pub ordered : IsWithin es → Ordered (with_cooked plan given) es

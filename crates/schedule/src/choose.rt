@@ -1,0 +1,134 @@
+//! What is done next.
+ghost use Rattle.std.specs.Prelude.{IsSome, ◌≡◌, ◌≤◌, ◌<◌, ◌+◌, ◌-◌, ◌^◌, ℕ, true, false, List, [], ◌∷◌, IfOk, OnOk, None, option_map, length, map};
+ghost use Rattle.std.specs.List.{All};
+ghost use Rattle.dispatch_history.specs.Effect.{Effect, past_of};
+ghost use Rattle.dispatch_history.specs.Due.{first_due};
+ghost use Rattle.dispatch_history.specs.History.{moment_of, opened};
+ghost use Rattle.dispatch_history.specs.Ordered.{soonest};
+ghost use Rattle.dispatch_history.specs.Plan.{Plan as PlanView};
+ghost use Rattle.dispatch_core.specs.Access.{is_opened, next_repeat};
+ghost use Rattle.dispatch_core.specs.Dispatching.{StandsFor};
+ghost use Rattle.schedule.specs.Choosing.{first_step, dues_of, is_before, next_finishes, tick_of, repeat_at};
+ghost use Rattle.schedule.specs.DueView.{candidate_of};
+ghost use Rattle.schedule.specs.Next.{next_finish};
+ghost use Rattle.schedule.specs.Planned.{IsChannel, channel_of};
+ghost use Rattle.schedule.specs.State.{Caught};
+
+use crate::due::{Due, What, sooner};
+use crate::plan::{Channel, Step};
+use dispatch_calls::Call;
+use dispatch_core::Dispatcher;
+use input_types::Moment;
+
+/// The moment that a call hands in.
+pub(crate) fn moment(call: &Call) -> Moment
+    ensures { result ≡ moment_of call.now }
+{
+    match call {
+        Call::Open { .. } | Call::Receive { .. } => Moment::zero(),
+        Call::Windows { now, .. }
+        | Call::FocusOn { now, .. }
+        | Call::Notify { now, .. }
+        | Call::Pump { now }
+        | Call::Tick { now }
+        | Call::Finish { now, .. }
+        | Call::Pilfer { now, .. }
+        | Call::Remove { now, .. } => *now,
+    }
+}
+
+/// Whether a moment is before what is due, if anything is.
+pub(crate) fn is_before(at: Moment, due: Option<Due>) -> bool
+    ensures { result ≡ is_before at (option_map candidate_of due) }
+{
+    match due {
+        None => true,
+        Some(due) => at.get() < due.moment,
+    }
+}
+
+/// The next finish of a channel.
+fn next_finish(dispatcher: &Dispatcher, number: u32, channel: &Channel) -> Option<Due>
+    requires { IsChannel channel.now }
+    ensures { (es : List Effect) → StandsFor es dispatcher.now → is_opened es number ≡ true
+        → option_map candidate_of result ≡ next_finish es number (channel_of channel.now) }
+{
+    if !channel.finishes {
+        return None;
+    }
+    let counts = dispatcher.counts(number)?;
+    if !counts.live {
+        return None;
+    }
+    let (seq, delivery) = dispatcher.oldest(number)?;
+    Some(Due {
+        moment: delivery.get() + channel.finish_after,
+        what: What::Finish {
+            channel: number,
+            seq,
+        },
+    })
+}
+
+/// The next finish of all channels.
+fn next_finish_of_all(dispatcher: &Dispatcher, channels: &[Channel]) -> Option<Due>
+    requires channels { All IsChannel channels.now }
+    requires few { length channels.now ≤ 64 }
+    ensures { (es : List Effect) → StandsFor es dispatcher.now → opened (past_of es) ≡ length channels.now
+        → option_map candidate_of result ≡ next_finishes es 1 (map channel_of channels.now) None }
+{
+    let mut best = None;
+    for (place, channel) in channels.iter().enumerate() {
+        best = sooner(best, next_finish(dispatcher, place as u32 + 1, channel));
+    }
+    best
+}
+
+/// The next tick.
+fn next_tick(dispatcher: &Dispatcher) -> Option<Due>
+    ensures { (es : List Effect) → StandsFor es dispatcher.now → option_map candidate_of result ≡ option_map tick_of (first_due es) }
+{
+    let (moment, _) = dispatcher.first_due()?;
+    Some(Due {
+        moment,
+        what: What::Tick,
+    })
+}
+
+/// The next repeat.
+fn next_repeat(dispatcher: &Dispatcher) -> Option<Due>
+    ensures { (es : List Effect) → StandsFor es dispatcher.now → option_map candidate_of result ≡ option_map repeat_at (next_repeat es) }
+{
+    let moment = dispatcher.repeat_due()?;
+    Some(Due {
+        moment,
+        what: What::Repeat,
+    })
+}
+
+/// What is due next, but for steps and args.
+pub(crate) fn next_due(dispatcher: &Dispatcher, channels: &[Channel]) -> Option<Due>
+    requires channels { All IsChannel channels.now }
+    requires few { length channels.now ≤ 64 }
+    ensures { (plan : PlanView) (es : List Effect) → StandsFor es dispatcher.now → dispatcher.now.displays ≡ plan.displays → Caught es
+        → opened (past_of es) ≡ length channels.now → plan.channels ≡ map channel_of channels.now
+        → option_map candidate_of result ≡ soonest (dues_of plan es) }
+{
+    let finish = next_finish_of_all(dispatcher, channels);
+    let tick = next_tick(dispatcher);
+    let repeat = next_repeat(dispatcher);
+    sooner(sooner(finish, tick), repeat)
+}
+
+/// The next of some steps, where it comes before what is due.
+pub(crate) fn first_step(steps: &[Step], next: usize, due: Option<Due>) -> Option<&Step>
+    ensures value { option_map (λ s. s.now) result ≡ first_step steps.now next (option_map candidate_of due) }
+    ensures within { IsSome result → next < length steps.now }
+{
+    let step = steps.get(next)?;
+    if is_before(moment(&step.call), due) {
+        Some(step)
+    } else {
+        None
+    }
+}

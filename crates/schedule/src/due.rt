@@ -1,0 +1,61 @@
+//! What may be done next.
+ghost use Rattle.std.specs.Prelude.{◌≡◌, option_map};
+ghost use Rattle.schedule.specs.DueView.{candidate_of, sooner_due};
+
+use dispatch_calls::Call;
+use input_types::Moment;
+
+/// What is done.
+#[derive(Clone, Copy, Debug, PartialEq, Eq)]
+pub(crate) enum What {
+    /// The owner of a channel finishes a message.
+    Finish { channel: u32, seq: u64 },
+    /// Windows that did not answer in time are named.
+    Tick,
+    /// A key is repeated.
+    Repeat,
+}
+
+/// Something that may be done next, with the moment at which it is due.
+#[derive(Clone, Copy, Debug, PartialEq, Eq)]
+pub(crate) struct Due {
+    pub(crate) moment: u64,
+    pub(crate) what: What,
+}
+
+/// The sooner of two; of one moment the first one stays.
+pub(crate) fn sooner(best: Option<Due>, due: Option<Due>) -> Option<Due>
+    ensures { result ≡ sooner_due best due }
+{
+    match (best, due) {
+        (Some(first), Some(second)) => {
+            if second.moment < first.moment {
+                Some(second)
+            } else {
+                Some(first)
+            }
+        }
+        (None, due) => due,
+        (best, None) => best,
+    }
+}
+
+impl Due {
+    ghost use Rattle.std.specs.Prelude.{◌≡◌, ◌≤◌};
+    ghost use Rattle.schedule.specs.DueView.{call_of};
+
+    /// The call at this moment.
+    pub(crate) fn call(self, moment: Moment) -> Call
+        ensures { result ≡ call_of moment self.what }
+    {
+        match self.what {
+            What::Finish { channel, seq } => Call::Finish {
+                now: moment,
+                channel,
+                seq,
+            },
+            What::Tick => Call::Tick { now: moment },
+            What::Repeat => Call::Pump { now: moment },
+        }
+    }
+}

@@ -1,0 +1,30 @@
+//! The ordered schedule: the calls of a plan in the order of their moments.
+//!
+//! A plan has channels, steps of scripts and a moment at which it ends; args come to it one by one, in rising moment. A window's owner
+//! that finishes each message 1,000 microseconds after it took it gives, for a finger that goes down at 5,000 and up at 5,500, these rounds:
+//!
+//! ```text
+//! 5000   Notify, Pump       then Receive of the DOWN
+//! 5500   Notify, Pump       then Receive of the UP
+//! 6000   Finish of the DOWN
+//! 6500   Finish of the UP
+//! ```
+//!
+//! Of one moment a finish comes first, then a tick, a repeat of a key, a step, and args last. A [`Schedule`] drives a dispatcher so and
+//! keeps no list of what it was given or told: its contract says that the dispatcher stands for the effects of the ordered run of all
+//! args that came. The next round is found from the oldest message of each channel, since what is published is received at once.
+#![tactic(auto)]
+
+mod advance;
+mod choose;
+mod due;
+pub mod laws;
+mod open;
+mod plan;
+mod run;
+mod schedule;
+mod stream;
+mod text;
+
+pub use plan::{Channel, Plan, Step};
+pub use schedule::Schedule;

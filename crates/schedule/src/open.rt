@@ -1,0 +1,59 @@
+//! The beginning of a run.
+ghost use Rattle.std.specs.Prelude.{◌≡◌, List, [], IfOk, OnOk};
+ghost use Rattle.dispatch_calls.specs.declared.call.Call.{Call as CallView};
+ghost use Rattle.dispatch_history.specs.Effect.{Effect, past_of};
+ghost use Rattle.dispatch_history.specs.Legal.{answered};
+ghost use Rattle.dispatch_history.specs.Ordered.{scripted};
+ghost use Rattle.dispatch_history.specs.Plan.{Plan as PlanView};
+ghost use Rattle.schedule.specs.Planned.{IsRun, plan_of};
+ghost use Rattle.schedule.specs.State.{Has, Ran};
+
+use crate::plan::Plan;
+use crate::schedule::Schedule;
+use crate::stream::empty_streams;
+use dispatch_calls::Call;
+use dispatch_core::Dispatcher;
+use input_types::{Limit, Moment};
+use std::alloc::{AllocError, Global};
+
+/// A run before its first call.
+fn unopened(alloc: Global, plan: &Plan) -> Result<Schedule, AllocError>
+    ensures has { IfOk result (Has (plan_of plan.now) []) }
+    ensures messages { IfOk result (λ s. s.messages ≡ 0) }
+    ensures latest { IfOk result (λ s. s.latest ≡ 0) }
+{
+    let dispatcher = Dispatcher::new(alloc, &plan.displays)?;
+    let streams = empty_streams(alloc, plan.channels.len())?;
+    Ok(Schedule {
+        dispatcher,
+        streams,
+        next: 0,
+        calls: 0,
+        messages: 0,
+        latest: Moment::zero(),
+    })
+}
+
+impl Schedule {
+    /// A run to which no args came. Its channels are opened.
+    pub fn new(alloc: Global, plan: &Plan) -> Result<Schedule, AllocError>
+        requires { IsRun plan.now }
+        ensures { IfOk result (Ran (plan_of plan.now) []) }
+    {
+        let mut run = unopened(alloc, plan)?;
+        for channel in &plan.channels {
+            run.open(channel.limit)?;
+        }
+        Ok(run)
+    }
+
+    /// Opens a channel before anything else is done.
+    fn open(&mut self, limit: Limit) -> Result<(), AllocError>
+        ensures after { (plan : PlanView) (es : List Effect) → Has plan es self.old → scripted (past_of es) ≡ 0
+            → OnOk result (Has plan (answered plan.displays (CallView.Open limit) es) self.new) }
+        ensures messages { self.new.messages ≡ self.old.messages }
+        ensures latest { self.new.latest ≡ self.old.latest }
+    {
+        self.step(&Call::Open { limit }, 0)
+    }
+}

@@ -1,0 +1,75 @@
+//! The run from its beginning to its end.
+ghost use Rattle.std.specs.Prelude.{◌≡◌, ◌≤◌, ◌++◌, ℕ, true, false, List, [], ◌∷◌, IfOk, OnOk, IsTrue, IsFalse, length, fold, max};
+ghost use Rattle.dispatch_history.specs.Effect.{Effect};
+ghost use Rattle.dispatch_history.specs.History.{moment_of};
+ghost use Rattle.dispatch_history.specs.Ordered.{end_of};
+ghost use Rattle.dispatch_history.specs.Plan.{Plan as PlanView, Cooked};
+ghost use Rattle.schedule.specs.Planned.{IsRun, plan_of};
+ghost use Rattle.schedule.specs.Run.{IsWithin, IsTooLong, with_cooked};
+ghost use Rattle.schedule.specs.State.{Ran, Completed, is_over};
+ghost use Rattle.schedule.specs.Ends.{last_step};
+
+use crate::choose::moment;
+use crate::plan::{Plan, Step};
+use crate::schedule::Schedule;
+use input_types::{Args, Moment};
+use std::alloc::AllocError;
+
+/// The most calls of a run, and the most messages of its channels together.
+const LIMIT: u64 = 4_000_000;
+
+/// The later of two moments.
+fn later(a: Moment, b: Moment) -> Moment
+    ensures { result ≡ max a b }
+{
+    if a.get() < b.get() { b } else { a }
+}
+
+/// The latest moment of steps.
+fn last_step(steps: &[Step]) -> Moment
+    ensures { result ≡ last_step 0 steps.now }
+{
+    let mut last = Moment::zero();
+    for step in steps {
+        last = later(last, moment(&step.call));
+    }
+    last
+}
+
+impl Schedule {
+    /// Whether there are more calls or more messages than may be.
+    pub fn is_too_long(&self) -> bool
+        ensures { result ≡ is_over self.now }
+    {
+        LIMIT < self.calls || LIMIT < self.messages
+    }
+
+    /// Does all that is due before these args, and hands them in. A run that has become too long does nothing more.
+    pub fn take(&mut self, plan: &Plan, moment: Moment, args: &Args) -> Result<(), AllocError>
+        requires { IsRun plan.now }
+        ensures { (given : List Cooked) → Ran (plan_of plan.now) given self.old
+            → OnOk result (Ran (plan_of plan.now) (given ++ record { moment = moment; args = args.now } ∷ []) self.new) }
+    {
+        self.latest = later(self.latest, moment);
+        'rounds: while !self.is_too_long() {
+            if !self.advance(plan, moment)? {
+                return self.hand_in(moment, args);
+            }
+        }
+        Ok(())
+    }
+
+    /// Does all that is due up to the end, once all args came.
+    pub fn finish(&mut self, plan: &Plan) -> Result<(), AllocError>
+        requires { IsRun plan.now }
+        ensures { (given : List Cooked) → Ran (plan_of plan.now) given self.old → OnOk result (Completed (plan_of plan.now) given self.new) }
+    {
+        let end = later(plan.until, later(last_step(&plan.steps), self.latest));
+        'rounds: while !self.is_too_long() {
+            if !self.advance(plan, end)? {
+                return Ok(());
+            }
+        }
+        Ok(())
+    }
+}

@@ -1,0 +1,134 @@
+//! The run itself.
+ghost use Rattle.std.specs.Prelude.{◌≡◌, ◌≤◌, ◌<◌, ◌+◌, ◌-◌, ◌^◌, ℕ, true, false, List, [], ◌∷◌, IfOk, OnOk, replicate, length, reverse};
+ghost use Rattle.dispatch_calls.specs.declared.call.Call.{Call as CallView};
+ghost use Rattle.dispatch_history.specs.Effect.{Effect, past_of, stream};
+ghost use Rattle.dispatch_history.specs.Legal.{answered};
+ghost use Rattle.dispatch_history.specs.Ordered.{extend, is_scripted, scripted, received_all};
+ghost use Rattle.dispatch_history.specs.Plan.{Plan as PlanView};
+ghost use Rattle.dispatch_core.specs.Access.{is_opened};
+ghost use Rattle.schedule.specs.Hearing.{Hears};
+ghost use Rattle.schedule.specs.Kinds.{is_receiving};
+ghost use Rattle.schedule.specs.Receives.{receives_of};
+ghost use Rattle.schedule.specs.Run.{messages_in};
+ghost use Rattle.schedule.specs.State.{Has, counted};
+
+use crate::stream::{Stream, hear};
+use dispatch_calls::{Call, Reply};
+use dispatch_core::Dispatcher;
+use input_types::Moment;
+use std::alloc::AllocError;
+use std::marker::Model;
+
+/// A run of a plan, to which args come one by one.
+#[derive(Drop)]
+pub struct Schedule {
+    pub(crate) dispatcher: Dispatcher,
+    pub(crate) streams: Vec<Stream>,
+    /// How many steps were made.
+    pub(crate) next: usize,
+    pub(crate) calls: u64,
+    pub(crate) messages: u64,
+    /// The latest moment of args that came.
+    pub(crate) latest: Moment,
+}
+
+impl Model for Schedule {
+    ghost use Rattle.schedule.specs.State.{ScheduleState};
+
+    ghost Value = { ScheduleState };
+
+    ghost view = { λ s. record { dispatcher = s.dispatcher; lines = s.streams.items; next = s.next; calls = s.calls; messages = s.messages; latest = s.latest } };
+}
+
+impl Schedule {
+    /// One call that is no receive, after which so many steps were made.
+    pub(crate) fn step(&mut self, call: &Call, next: usize) -> Result<(), AllocError>
+        ensures after { (plan : PlanView) (es : List Effect) → Has plan es self.old → is_receiving call.now ≡ false
+            → next ≡ is_scripted call.now + scripted (past_of es) → OnOk result (Has plan (answered plan.displays call.now es) self.new) }
+        ensures calls { OnOk result (self.new.calls ≡ counted (self.old.calls + 1)) }
+        ensures messages { self.new.messages ≡ self.old.messages }
+        ensures latest { self.new.latest ≡ self.old.latest }
+    {
+        match self.dispatcher.apply(call) {
+            Ok(_) => {
+                self.next = next;
+                self.calls = self.calls.saturating_add(1);
+                Ok(())
+            }
+            Err(error) => Err(error),
+        }
+    }
+
+    /// The owner of a channel takes its next message, where there is one.
+    fn receive_one(&mut self, channel: u32) -> Result<(), AllocError>
+        ensures after { (plan : PlanView) (es : List Effect) → Has plan es self.old
+            → OnOk result (Has plan (answered plan.displays (CallView.Receive channel) es) self.new) }
+        ensures calls { OnOk result (self.old.calls ≤ self.new.calls) }
+        ensures latest { self.new.latest ≡ self.old.latest }
+    {
+        match self.dispatcher.apply(&Call::Receive { channel }) {
+            Ok(reply) => {
+                self.calls = self.calls.saturating_add(1);
+                take_in(&mut self.streams, channel, &reply)
+            }
+            Err(error) => Err(error),
+        }
+    }
+
+    /// The owner of a channel takes so many messages.
+    fn receive_many(&mut self, channel: u32, count: u64) -> Result<(), AllocError>
+        ensures after { (plan : PlanView) (es : List Effect) → Has plan es self.old
+            → OnOk result (Has plan (extend plan.displays es (replicate count (CallView.Receive channel))) self.new) }
+        ensures calls { OnOk result (self.old.calls ≤ self.new.calls) }
+        ensures latest { self.new.latest ≡ self.old.latest }
+    {
+        for _ in 0..count {
+            self.receive_one(channel)?;
+        }
+        Ok(())
+    }
+
+    /// The owner of a channel takes all that is published, and the channel lets it go. The answer is how many messages the channel has.
+    fn receive(&mut self, channel: u32) -> Result<u64, AllocError>
+        ensures after { (plan : PlanView) (es : List Effect) → Has plan es self.old → is_opened es channel ≡ true
+            → OnOk result (Has plan (extend plan.displays es (receives_of es channel)) self.new) }
+        ensures sent { (plan : PlanView) (es : List Effect) → Has plan es self.old → is_opened es channel ≡ true
+            → IfOk result (λ n. n ≡ length (stream es channel)) }
+        ensures calls { OnOk result (self.old.calls ≤ self.new.calls) }
+        ensures latest { self.new.latest ≡ self.old.latest }
+    {
+        let Some(counts) = self.dispatcher.counts(channel) else {
+            return Ok(0);
+        };
+        if counts.live {
+            self.receive_many(channel, counts.published.saturating_sub(counts.received))?;
+            self.dispatcher.let_go(channel);
+        }
+        Ok(counts.sent)
+    }
+
+    /// The owners of all live channels take all that is published.
+    pub(crate) fn receive_all(&mut self) -> Result<(), AllocError>
+        ensures after { (plan : PlanView) (es : List Effect) → Has plan es self.old → OnOk result (Has plan (received_all plan.displays es) self.new) }
+        ensures messages { (plan : PlanView) (es : List Effect) → Has plan es self.old → OnOk result (self.new.messages ≡ counted (messages_in es)) }
+        ensures calls { OnOk result (self.old.calls ≤ self.new.calls) }
+        ensures latest { self.new.latest ≡ self.old.latest }
+    {
+        let mut messages: u64 = 0;
+        for place in 0..self.dispatcher.opened() {
+            messages = messages.saturating_add(self.receive(place + 1)?);
+        }
+        self.messages = messages;
+        Ok(())
+    }
+}
+
+/// Puts what the owner of a channel is answered to its lines.
+fn take_in(streams: &mut Vec<Stream>, channel: u32, reply: &Reply) -> Result<(), AllocError>
+    ensures { OnOk result (Hears reply.now channel streams.old.items streams.new.items) }
+{
+    match reply {
+        Reply::Got(message) => hear(streams, channel, message),
+        _ => Ok(()),
+    }
+}

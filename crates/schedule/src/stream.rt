@@ -1,0 +1,78 @@
+//! What the owner of a channel received.
+ghost use Rattle.std.specs.Prelude.{◌≡◌, [], ◌++◌, ℕ, ◌≤◌, List, OnOk, OnErr, IfOk, vec_len, if◌then◌else◌, ◌==◌};
+ghost use Rattle.stream_text.specs.Spelling.{message_line};
+ghost use Rattle.schedule.specs.Lines.{lines_at};
+
+use input_types::Message;
+use std::alloc::{AllocError, Global};
+use std::marker::Model;
+use stream_text::LineWriter;
+
+/// The messages that the owner of a channel received. Their lines alone are kept, which are far shorter than they are.
+#[derive(Drop)]
+pub(crate) struct Stream {
+    lines: Vec<u8>,
+    writer: LineWriter,
+}
+
+impl Model for Stream {
+    ghost use Rattle.std.specs.Prelude.{List, ℕ};
+
+    ghost Value = { List ℕ };
+
+    ghost view = { λ s. s.lines.items };
+}
+
+impl Stream {
+    pub(crate) fn new(alloc: Global) -> Stream
+        ensures { result ≡ [] }
+    {
+        Stream {
+            lines: Vec::new(alloc),
+            writer: LineWriter::new(alloc),
+        }
+    }
+
+    pub(crate) fn lines(&self) -> &[u8]
+        ensures { result.now ≡ self.now }
+    {
+        &self.lines
+    }
+
+    /// One message more.
+    fn hear(&mut self, message: &Message) -> Result<(), AllocError>
+        ensures ok { OnOk result (self.new ≡ self.old ++ message_line message.now) }
+        ensures err { OnErr result (self.new ≡ self.old) }
+    {
+        self.writer.message(message, &mut self.lines)
+    }
+}
+
+/// A stream without messages for each of `count` channels.
+pub(crate) fn empty_streams(alloc: Global, count: usize) -> Result<Vec<Stream>, AllocError>
+    ensures len { IfOk result (λ v. vec_len v ≡ count) }
+    ensures empty { IfOk result (λ v. (c : ℕ) → lines_at v.items c ≡ []) }
+{
+    let mut streams = Vec::new(alloc);
+    for _ in 0..count {
+        streams.push(Stream::new(alloc))?;
+    }
+    Ok(streams)
+}
+
+/// The owner of a channel received one message more.
+pub(crate) fn hear(
+    streams: &mut Vec<Stream>,
+    channel: u32,
+    message: &Message,
+) -> Result<(), AllocError>
+    ensures len { vec_len streams.new ≡ vec_len streams.old }
+    ensures heard { OnOk result ((c : ℕ) → 1 ≤ c → c ≤ vec_len streams.old → lines_at streams.new.items c
+        ≡ (if c == channel then lines_at streams.old.items c ++ message_line message.now else lines_at streams.old.items c)) }
+{
+    let place = channel as usize;
+    if 1 <= place && place <= streams.len() {
+        streams[place - 1].hear(message)?;
+    }
+    Ok(())
+}
