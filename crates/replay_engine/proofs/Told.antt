@@ -1,19 +1,18 @@
 -- What a refusal that was told says of a run.
-use Rattle.std.specs.Prelude.{◌≡◌, ℕ, List, Option, Some, None, Err}
-use Rattle.std.proofs.Common.{ap, sym, inl, inr}
+use Rattle.std.specs.Prelude.{◌≡◌, ℕ, List, Option, Some, None, Err, refl}
+use Rattle.std.proofs.Common.{sym, inl, inr}
 use Rattle.outside_io.specs.Outside.{Entry, Rose}
 use Rattle.replay_engine.specs.declared.refusal.Refusal.{Refusal}
-use Rattle.replay_engine.specs.declared.refusal.Refusal.TheVariants.{Usage, Session, NotBuilt, Recording, Stream, ReadFailed, NoMemory, TooLong}
+use Rattle.replay_engine.specs.declared.refusal.Refusal.TheVariants.{Usage, Session, Recording, Stream, ReadFailed, NoMemory, TooLong}
 use Rattle.replay_engine.specs.Outcome.{ComesTo, IsComplete, RefusedBy, Said, TellsSo}
 use Rattle.replay_engine.specs.Prepared.{RefusesAll}
-use Rattle.replay_engine.specs.Program.{answer_to}
 use Rattle.replay_engine.specs.RefusalView.{IsTold, refusal_view}
 use Rattle.replay_engine.specs.Words.{form_of}
 
 -- words of no form come to the usage
 usage_comes : (told : Option (List Entry)) (words : List (List ℕ)) → form_of words ≡ None → ComesTo told words (Err (refusal_view Usage))
 usage_comes None words e = tt
-usage_comes (Some es) words e = ap (answer_to es) e
+usage_comes (Some es) words e = rw e refl
 
 -- a refusal that is neither a fault nor want of memory is what the program answers, with that status and line
 pub refused_by : (told : Option (List Entry)) (words : List (List ℕ)) (before now : ℕ) (r : Refusal) (status fb fn : ℕ) (eb en : Option (List ℕ))
@@ -22,7 +21,6 @@ pub refused_by : (told : Option (List Entry)) (words : List (List ℕ)) (before 
 refused_by told words before now Usage status fb fn eb en refuses said no4 no6 = (refusal_view Usage, sym said.0, usage_comes told words refuses, said.1)
 refused_by told words before now (Session e) status fb fn eb en refuses said no4 no6 =
     elim said [ inl s ↦ (refusal_view (Session e), sym s.0, refuses, s.1) | inr s ↦ absurd (no6 s.0) ]
-refused_by told words before now NotBuilt status fb fn eb en refuses said no4 no6 = (refusal_view NotBuilt, sym said.0, refuses, said.1)
 refused_by told words before now (Recording e) status fb fn eb en refuses said no4 no6 =
     elim said [ inl s ↦ (refusal_view (Recording e), sym s.0, refuses, s.1) | inr s ↦ absurd (no6 s.0) ]
 refused_by told words before now (Stream e) status fb fn eb en refuses said no4 no6 =
@@ -35,10 +33,9 @@ refused_by told words before now (TooLong what) status fb fn eb en refuses said 
 pub complete_refusal : (told : Option (List Entry)) (words : List (List ℕ)) (before now : ℕ) (r : Refusal) (status fb fn : ℕ) (eb en : Option (List ℕ))
     → RefusesAll told words before now r → ¬ (Rose before now) → IsTold (TellsSo fb fn eb en) r status → IsComplete told words status
 complete_refusal None words before now r status fb fn eb en refuses kept said = tt
-complete_refusal (Some es) words before now Usage status fb fn eb en refuses kept said = inl (Err (refusal_view Usage), ap (answer_to es) refuses, said.0)
+complete_refusal (Some es) words before now Usage status fb fn eb en refuses kept said = inl (Err (refusal_view Usage), usage_comes (Some es) words refuses, said.0)
 complete_refusal (Some es) words before now (Session e) status fb fn eb en refuses kept said =
     elim said [ inl s ↦ inl (Err (refusal_view (Session e)), refuses, s.0) | inr s ↦ inr s.0 ]
-complete_refusal (Some es) words before now NotBuilt status fb fn eb en refuses kept said = inl (Err (refusal_view NotBuilt), refuses, said.0)
 complete_refusal (Some es) words before now (Recording e) status fb fn eb en refuses kept said =
     elim said [ inl s ↦ inl (Err (refusal_view (Recording e)), refuses, s.0) | inr s ↦ inr s.0 ]
 complete_refusal (Some es) words before now (Stream e) status fb fn eb en refuses kept said =

@@ -2,20 +2,20 @@
 use Rattle.std.specs.Prelude.{◌≡◌, ℕ, nat_eq, ◌||◌, Bool, List, take, Option, Some, None, Result, Ok, Err, ⊤, IsTrue, ◌⊎◌}
 use Rattle.std.specs.Io.KnownBytes.{Appends}
 use Rattle.outside_io.specs.Outside.{Entry, Rose}
-use Rattle.replay_engine.specs.Program.{answer}
+use Rattle.replay_engine.specs.Program.{IsAnswer, IsAccepted}
 use Rattle.replay_engine.specs.Refused.{Refused}
 use Rattle.replay_engine.specs.Words.{Command, replay, verify}
 
--- the files lend each name that the words give
-abbrev pub LendsNames : (List ℕ → Bool) → Option Command → Type 0
-LendsNames lends None = ⊤
-LendsNames lends (Some (replay names)) = IsTrue (lends names.session) × IsTrue (lends names.events)
-LendsNames lends (Some (verify stream)) = IsTrue (lends stream)
+-- the files lend each name that the words give; that of a recording only where the session is accepted
+abbrev pub LendsNames : Option (List Entry) → (List ℕ → Bool) → Option Command → Type 0
+LendsNames told lends None = ⊤
+LendsNames told lends (Some (replay names)) = IsTrue (lends names.session) × (IsAccepted told names.session → IsTrue (lends names.events))
+LendsNames told lends (Some (verify stream)) = IsTrue (lends stream)
 
 -- where the files are told, this is what the program answers
 abbrev pub ComesTo : Option (List Entry) → List (List ℕ) → Result (List ℕ) Refused → Type 0
 ComesTo None words a = ⊤
-ComesTo (Some entries) words a = answer entries words ≡ Some a
+ComesTo (Some entries) words a = IsAnswer entries words a
 
 -- a sink whose count did not rise took exactly this line
 abbrev pub Said : ℕ → ℕ → Option (List ℕ) → Option (List ℕ) → List ℕ → Type 0
@@ -54,4 +54,4 @@ HasStatus (Err r) status = status ≡ r.status
 abbrev pub IsComplete : Option (List Entry) → List (List ℕ) → ℕ → Type 0
 IsComplete None words status = ⊤
 IsComplete (Some entries) words status =
-    ((a : Result (List ℕ) Refused) × (answer entries words ≡ Some a) × HasStatus a status) ⊎ (status ≡ 6)
+    ((a : Result (List ℕ) Refused) × IsAnswer entries words a × HasStatus a status) ⊎ (status ≡ 6)

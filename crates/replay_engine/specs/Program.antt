@@ -1,17 +1,16 @@
--- The program as a function of its words and of the files.
-use Rattle.std.specs.Prelude.{codes, ℕ, ◌+◌, nat_le, cond, List, [], ◌∷◌, length, Option, Some, None, Result, Ok, Err}
-use Rattle.std.specs.Option.{option_map, option_and_then}
+-- The program as a relation of what it answers to its words and to the files.
+use Rattle.std.specs.Prelude.{codes, ◌≡◌, ℕ, Bool, true, false, nat_le, cond, List, length, reverse, Option, Some, None, Result, Ok, Err, ⊤}
+use Rattle.std.specs.Option.{IsSomeAnd}
 use Rattle.outside_io.specs.Outside.{Entry, bytes_of}
 use Rattle.raw_events.specs.declared.event.RawEvent.{RawEvent}
 use Rattle.raw_events.specs.declared.event.LineError.{LineError}
-use Rattle.raw_events.specs.Line.{Known}
 use Rattle.raw_events.specs.Recording.{recorded}
 use Rattle.session_plan.specs.Fault.{Fault}
-use Rattle.session_plan.specs.Plan.{DeviceData, PlanData}
+use Rattle.session_plan.specs.Plan.{PlanData}
 use Rattle.session_plan.specs.Session.{session_of}
-use Rattle.replay_engine.specs.Built.{is_built}
-use Rattle.replay_engine.specs.Refused.{Refused, usage, not_built, session_refused, recording_refused, too_long}
-use Rattle.replay_engine.specs.Text.{text_for}
+use Rattle.replay_engine.specs.Devices.{devices_of}
+use Rattle.replay_engine.specs.Refused.{Refused, usage, session_refused, recording_refused, too_long}
+use Rattle.replay_engine.specs.Replayed.{Replays}
 use Rattle.replay_engine.specs.Verdict.{verdict}
 use Rattle.replay_engine.specs.Words.{Command, replay, verify, form_of}
 
@@ -28,9 +27,9 @@ stream_limit = 67108864
 abbrev pub step_limit : ℕ
 step_limit = 100000
 
--- a plan is run where it has not too many steps, and says nothing that is not built yet
+-- a plan is run where it has not too many steps
 abbrev pub runnable : PlanData → Result PlanData Refused
-runnable plan = cond (nat_le (length plan.steps) step_limit) (cond (is_built plan) (Ok plan) (Err not_built)) (Err (too_long (codes "steps")))
+runnable plan = cond (nat_le (length plan.steps) step_limit) (Ok plan) (Err (too_long (codes "steps")))
 
 abbrev pub plan_judged : Result PlanData Fault → Result PlanData Refused
 plan_judged (Ok plan) = runnable plan
@@ -40,40 +39,53 @@ plan_judged (Err fault) = Err (session_refused fault)
 abbrev pub session_judged : List ℕ → Result PlanData Refused
 session_judged bytes = cond (nat_le (length bytes) session_limit) (plan_judged (session_of bytes)) (Err (too_long (codes "session")))
 
--- the devices with their numbers, where the first of these has number `k`
-abbrev pub numbered_from : ℕ → List DeviceData → Known
-numbered_from k [] = []
-numbered_from k (d ∷ ds) = (d.path, k) ∷ numbered_from (k + 1) ds
+-- a session file is judged so
+abbrev pub SessionJudged : List ℕ → Result PlanData Refused → Type 0
+SessionJudged bytes r = session_judged bytes ≡ r
 
-abbrev pub devices_of : PlanData → Known
-devices_of plan = numbered_from 1 plan.devices
+-- the file is there, where the files are told, and is judged so
+abbrev pub Judges : {A : Type 0} → Option (List Entry) → List ℕ → (List ℕ → Result A Refused → Type 0) → Result A Refused → Type 0
+Judges None name judge r = ⊤
+Judges (Some entries) name judge r = IsSomeAnd (bytes_of entries name) (λ bytes. judge bytes r)
 
--- the text of a recording's events, or the refusal of its first refused line
-abbrev pub events_judged : PlanData → Result (List RawEvent) LineError → Result (List ℕ) Refused
-events_judged plan (Ok events) = Ok (text_for plan events)
-events_judged plan (Err error) = Err (recording_refused error)
+-- the session under this name is accepted
+abbrev pub IsAccepted : Option (List Entry) → List ℕ → Type 0
+IsAccepted told name = (plan : PlanData) × Judges told name SessionJudged (Ok plan)
 
--- the text of a recording, or why it is refused: its length is looked at first
-abbrev pub recording_judged : PlanData → List ℕ → Result (List ℕ) Refused
-recording_judged plan bytes =
-    cond (nat_le (length bytes) recording_limit) (events_judged plan (recorded (devices_of plan) bytes)) (Err (too_long (codes "recording")))
+-- what the events of a recording come to, or the refusal of its first refused line
+abbrev pub EventsJudged : PlanData → Result (List RawEvent) LineError → Result (List ℕ) Refused → Type 0
+EventsJudged plan (Ok events) a = Replays plan (reverse events) a
+EventsJudged plan (Err error) a = a ≡ Err (recording_refused error)
 
--- the answer once the session is judged: that of the recording, which has to be there
-abbrev pub answer_after : List Entry → List ℕ → Result PlanData Refused → Option (Result (List ℕ) Refused)
-answer_after entries events (Err refused) = Some (Err refused)
-answer_after entries events (Ok plan) = option_map (recording_judged plan) (bytes_of entries events)
+-- what a recording comes to whose length fits or not
+abbrev pub LengthJudged : PlanData → List ℕ → Bool → Result (List ℕ) Refused → Type 0
+LengthJudged plan bytes false a = a ≡ Err (too_long (codes "recording"))
+LengthJudged plan bytes true a = EventsJudged plan (recorded (devices_of plan) bytes) a
+
+-- what a recording comes to: its length is looked at first, then each of its lines, and then the run
+abbrev pub RecordingJudged : PlanData → List ℕ → Result (List ℕ) Refused → Type 0
+RecordingJudged plan bytes a = LengthJudged plan bytes (nat_le (length bytes) recording_limit) a
 
 -- the judgement of a stream file: its length is looked at first
 abbrev pub stream_judged : List ℕ → Result (List ℕ) Refused
 stream_judged bytes = cond (nat_le (length bytes) stream_limit) (verdict bytes) (Err (too_long (codes "stream")))
 
--- the answer to words of the form of a command: of `replay` the session is judged first
-abbrev pub answer_to : List Entry → Option Command → Option (Result (List ℕ) Refused)
-answer_to entries None = Some (Err usage)
-answer_to entries (Some (replay names)) = option_and_then (λ bytes. answer_after entries names.events (session_judged bytes)) (bytes_of entries names.session)
-answer_to entries (Some (verify stream)) = option_map stream_judged (bytes_of entries stream)
+-- a stream file is judged so
+abbrev pub StreamJudged : List ℕ → Result (List ℕ) Refused → Type 0
+StreamJudged bytes a = stream_judged bytes ≡ a
 
--- What the program answers: the text that it writes or why it refuses, from the words and the files. None where it asks for a file
--- that is not there.
-abbrev pub answer : List Entry → List (List ℕ) → Option (Result (List ℕ) Refused)
-answer entries words = answer_to entries (form_of words)
+-- the answer once the session is judged: that of the recording, which has to be there
+abbrev pub AnswersAfter : List Entry → List ℕ → Result PlanData Refused → Result (List ℕ) Refused → Type 0
+AnswersAfter entries events (Err refused) a = a ≡ Err refused
+AnswersAfter entries events (Ok plan) a = IsSomeAnd (bytes_of entries events) (λ bytes. RecordingJudged plan bytes a)
+
+-- the answer to words of the form of a command, whose files have to be there: of `replay` the session is judged first
+abbrev pub AnswersTo : List Entry → Option Command → Result (List ℕ) Refused → Type 0
+AnswersTo entries None a = a ≡ Err usage
+AnswersTo entries (Some (replay names)) a =
+    IsSomeAnd (bytes_of entries names.session) (λ bytes. AnswersAfter entries names.events (session_judged bytes) a)
+AnswersTo entries (Some (verify stream)) a = IsSomeAnd (bytes_of entries stream) (λ bytes. StreamJudged bytes a)
+
+-- what the program answers: the text that it writes or why it refuses, from the words and the files
+abbrev pub IsAnswer : List Entry → List (List ℕ) → Result (List ℕ) Refused → Type 0
+IsAnswer entries words a = AnswersTo entries (form_of words) a

@@ -1,5 +1,5 @@
 -- What reading a file to its end says.
-use Rattle.std.specs.Prelude.{◌≡◌, ℕ, ◌<◌, List, ◌++◌, length, Option, Some, None, ⊤, IsSomeAnd}
+use Rattle.std.specs.Prelude.{◌≡◌, ℕ, ◌<◌, ◌≤◌, List, ◌++◌, length, Option, Some, None, ⊤, IsSomeAnd}
 use Rattle.std.specs.Io.KnownBytes.{Consumes, IsAtEnd}
 use Rattle.outside_io.specs.Outside.{Entry, bytes_of}
 
@@ -30,3 +30,19 @@ pub record TakesPiece (left_before left_now : Option (List ℕ)) (before now : L
   pub taken : Consumes left_before left_now piece
   pub size : length piece ≡ count
   pub at_end : count ≡ 0 → IsAtEnd left_now
+
+-- a piece of `count` bytes was taken from the front of those left, and this was done with it; none only at the end
+pub record TakesWith (left_before left_now : Option (List ℕ)) (count : ℕ) (Done : List ℕ → Type 0) : Type 0 where
+  pub piece : List ℕ
+  pub taken : Consumes left_before left_now piece
+  pub size : length piece ≡ count
+  pub at_end : count ≡ 0 → IsAtEnd left_now
+  pub done : Done piece
+
+-- this was done with all bytes that were left, which are no more than `limit`
+abbrev pub WithAll : Option (List ℕ) → ℕ → (List ℕ → Type 0) → Type 0
+WithAll left limit Done = (bytes : List ℕ) × IsAll left bytes × (length bytes ≤ limit) × Done bytes
+
+-- this was done with the bytes under a name
+abbrev pub WithFile : Option (List Entry) → List ℕ → ℕ → (List ℕ → Type 0) → Type 0
+WithFile told name limit Done = (bytes : List ℕ) × IsFile told name bytes × (length bytes ≤ limit) × Done bytes

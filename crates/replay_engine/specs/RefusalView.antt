@@ -3,7 +3,7 @@ use Rattle.std.specs.Prelude.{codes, ℕ, List, ◌++◌, ◌⊎◌, Option, Som
 use Rattle.std.specs.Fmt.{decimal}
 use Rattle.session_plan.specs.ErrorLine.{error_line}
 use Rattle.replay_engine.specs.declared.refusal.Refusal.{Refusal}
-use Rattle.replay_engine.specs.declared.refusal.Refusal.TheVariants.{Usage, Session, NotBuilt, Recording, Stream, ReadFailed, NoMemory, TooLong}
+use Rattle.replay_engine.specs.declared.refusal.Refusal.TheVariants.{Usage, Session, Recording, Stream, ReadFailed, NoMemory, TooLong}
 use Rattle.replay_engine.specs.declared.refusal.StreamError.{StreamError}
 use Rattle.replay_engine.specs.declared.refusal.StreamError.TheVariants as stream
 use Rattle.replay_engine.specs.declared.refusal.Subject.TheVariants as subject
@@ -12,7 +12,6 @@ use Rattle.replay_engine.specs.Refused.{Refused, refused, recording_line}
 abbrev pub status_of : Refusal → ℕ
 status_of Usage = 2
 status_of (Session error) = 3
-status_of NotBuilt = 3
 status_of (Recording error) = 3
 status_of (Stream error) = 1
 status_of ReadFailed = 4
@@ -27,7 +26,6 @@ stream_line (stream.NotWellFormed n) = codes "stream: NotWellFormed " ++ decimal
 abbrev pub words_of : Refusal → List ℕ
 words_of Usage = codes "usage: inputflinger replay|race|check|verify|work"
 words_of (Session error) = error_line error
-words_of NotBuilt = codes "session: NotBuilt"
 words_of (Recording error) = recording_line error
 words_of (Stream error) = stream_line error
 words_of ReadFailed = codes "read failed"
@@ -36,6 +34,7 @@ words_of (TooLong subject.Session) = codes "too long: session"
 words_of (TooLong subject.Recording) = codes "too long: recording"
 words_of (TooLong subject.Steps) = codes "too long: steps"
 words_of (TooLong subject.Stream) = codes "too long: stream"
+words_of (TooLong subject.Run) = codes "too long: run"
 
 abbrev pub refusal_view : Refusal → Refused
 refusal_view r = refused (status_of r) (words_of r)
@@ -46,13 +45,13 @@ plain_line (Session error) = None
 plain_line (Recording error) = None
 plain_line (Stream error) = None
 plain_line Usage = Some (words_of Usage ++ codes "\n")
-plain_line NotBuilt = Some (words_of NotBuilt ++ codes "\n")
 plain_line ReadFailed = Some (words_of ReadFailed ++ codes "\n")
 plain_line NoMemory = Some (words_of NoMemory ++ codes "\n")
 plain_line (TooLong subject.Session) = Some (codes "too long: session\n")
 plain_line (TooLong subject.Recording) = Some (codes "too long: recording\n")
 plain_line (TooLong subject.Steps) = Some (codes "too long: steps\n")
 plain_line (TooLong subject.Stream) = Some (codes "too long: stream\n")
+plain_line (TooLong subject.Run) = Some (codes "too long: run\n")
 
 -- what was told of a refusal: its status with its line, or, where its line has to be made, that there is no memory for that
 abbrev pub IsTold : (Refused → ℕ → Type 0) → Refusal → ℕ → Type 0

@@ -17,10 +17,6 @@ refused status line = record { status = status; line = line ++ codes "\n" }
 abbrev pub usage : Refused
 usage = refused 2 (codes "usage: inputflinger replay|race|check|verify|work")
 
--- the session says something that is not built yet
-abbrev pub not_built : Refused
-not_built = refused 3 (codes "session: NotBuilt")
-
 -- the session is refused, with its key
 abbrev pub session_refused : Fault → Refused
 session_refused fault = refused 3 (line_of fault)

@@ -15,13 +15,13 @@
 //! status when it comes and what was written; `specs/Program.antt` says which text that is, as a function of the words and the files.
 #![tactic(auto)]
 
-mod built;
+mod begun;
 mod cooking;
 mod prepared;
 mod reading;
+mod recording;
 mod refusal;
-mod routing;
-mod stream;
+mod script;
 mod text;
 mod top;
 mod verdict;

@@ -1,11 +1,15 @@
 //! Reading a file to its end or its limit.
-ghost use Rattle.std.specs.Prelude.{◌≡◌, ℕ, ◌+◌, ◌<◌, ◌≤◌, ◌^◌, IfOk, OnErr, IsErrOf, IsTrue, None, length, vec_len};
+ghost use Rattle.std.specs.Prelude.{◌≡◌, ℕ, ◌+◌, ◌<◌, ◌≤◌, ◌^◌, IfOk, OnOk, OnErr, IsErrOf, IsTrue, None, length, vec_len};
 ghost use Rattle.outside_io.specs.Outside.{Rose};
-ghost use Rattle.replay_engine.specs.Reading.{IsAll, IsFile, IsLonger, IsLongFile, TakesPiece};
+ghost use Rattle.replay_engine.specs.Reading.{IsAll, IsFile, IsLonger, IsLongFile, TakesPiece, TakesWith, WithAll, WithFile};
 ghost use Rattle.replay_engine.specs.declared.reading.ReadError.TheVariants.{Failed as ReadFailed, Memory, TooLong};
+ghost use Rattle.schedule.specs.Planned.{IsRun};
+ghost use Rattle.replay_engine.specs.Recorded.{Takes};
 ghost use Rattle.replay_engine.specs.ReadErrors.{read_error_of};
 
+use crate::recording::Recording;
 use outside_io::{Failed, Files, Source, SourceRefused};
+use schedule::Plan;
 use std::alloc::{AllocError, AllocFailed, Global};
 
 /// The most bytes that one read asks for.
@@ -89,6 +93,80 @@ fn read_all<S: Source>(alloc: Global, source: &mut S, limit: usize) -> Result<Ve
         }
     }
     Err(ReadError::TooLong)
+}
+
+/// Reads a piece into the buffer and hands it to a recording, and answers its length.
+fn take_piece<S: Source>(
+    source: &mut S,
+    buffer: &mut [u8],
+    plan: &Plan,
+    recording: &mut Recording,
+) -> Result<usize, ReadError>
+    requires some { 0 < length buffer.old }
+    requires run { IsRun plan.now }
+    ensures piece { IfOk result (λ count. TakesWith (S.left source.old) (S.left source.new) count (Takes plan.now recording.old recording.new)) }
+    ensures bound { IfOk result (λ count. count ≤ length buffer.old) }
+    ensures failed { IsErrOf result ReadError.Failed → Rose (S.faults source.old) (S.faults source.new) }
+    ensures no_limit { ¬ (IsErrOf result ReadError.TooLong) }
+    ensures later { S.faults source.old ≤ S.faults source.new }
+    ensures loan { S.loan source.new ≡ S.loan source.old }
+{
+    let count = source.read(buffer)?;
+    recording.take(plan, &buffer[..count])?;
+    Ok(count)
+}
+
+/// Hands all bytes that a source has left to a recording, at most `limit`.
+fn take_all<S: Source>(
+    alloc: Global,
+    source: &mut S,
+    limit: usize,
+    plan: &Plan,
+    recording: &mut Recording,
+) -> Result<(), ReadError>
+    requires limit { limit < 2 ^ 32 }
+    requires run { IsRun plan.now }
+    ensures ok { OnOk result (WithAll (S.left source.old) limit (Takes plan.now recording.old recording.new)) }
+    ensures failed { IsErrOf result ReadError.Failed → Rose (S.faults source.old) (S.faults source.new) }
+    ensures too_long { IsErrOf result ReadError.TooLong → IsLonger (S.left source.old) limit }
+    ensures later { S.faults source.old ≤ S.faults source.new }
+    ensures loan { S.loan source.new ≡ S.loan source.old }
+{
+    let mut buffer = zeros(alloc, PIECE)?;
+    let mut total = 0;
+    'pieces: while total <= limit {
+        let room = PIECE.min(limit + 1 - total);
+        let count = take_piece(source, &mut buffer[..room], plan, recording)?;
+        if count == 0 {
+            return Ok(());
+        }
+        total += count;
+    }
+    Err(ReadError::TooLong)
+}
+
+/// Hands the bytes of a file to a recording, piece by piece, at most `limit`.
+pub(crate) fn take_file<F: Files>(
+    alloc: Global,
+    files: &mut F,
+    name: &str,
+    limit: usize,
+    plan: &Plan,
+    recording: &mut Recording,
+) -> Result<(), ReadError>
+    requires limit { limit < 2 ^ 32 }
+    requires lends { IsTrue (F.lends files.old name.now) }
+    requires free { F.lent files.old ≡ None }
+    requires run { IsRun plan.now }
+    ensures ok { OnOk result (WithFile (F.entries files.old) name.now limit (Takes plan.now recording.old recording.new)) }
+    ensures failed { IsErrOf result ReadError.Failed → Rose (F.faults files.old) (F.faults files.new) }
+    ensures too_long { IsErrOf result ReadError.TooLong → IsLongFile (F.entries files.old) name.now limit }
+    ensures later { F.faults files.old ≤ F.faults files.new }
+{
+    let mut source = files.source(name)?;
+    let taken = take_all(alloc, &mut source, limit, plan, recording);
+    files.done(source);
+    taken
 }
 
 /// The bytes of a file, at most `limit`.

@@ -20,6 +20,8 @@ pub enum Subject {
     Steps,
     /// The stream file has more bytes than 64 MiB.
     Stream,
+    /// The run has more calls or more messages than 4,000,000.
+    Run,
 }
 
 /// Why a stream file is refused. Lines are numbered from 1.
@@ -38,8 +40,6 @@ pub enum Refusal {
     Usage,
     /// The session is refused.
     Session(PlanError),
-    /// The session says something that is not built yet.
-    NotBuilt,
     /// A line of the recording is refused.
     Recording(LineError),
     /// A stream file is refused.
@@ -92,7 +92,7 @@ impl Refusal {
         match self {
             Refusal::Stream(_) => 1,
             Refusal::Usage => 2,
-            Refusal::Session(_) | Refusal::NotBuilt | Refusal::Recording(_) => 3,
+            Refusal::Session(_) | Refusal::Recording(_) => 3,
             Refusal::ReadFailed => 4,
             Refusal::NoMemory => 6,
             Refusal::TooLong(_) => 7,
@@ -105,13 +105,13 @@ impl Refusal {
     {
         match self {
             Refusal::Usage => Some("usage: inputflinger replay|race|check|verify|work\n"),
-            Refusal::NotBuilt => Some("session: NotBuilt\n"),
             Refusal::ReadFailed => Some("read failed\n"),
             Refusal::NoMemory => Some("no memory\n"),
             Refusal::TooLong(Subject::Session) => Some("too long: session\n"),
             Refusal::TooLong(Subject::Recording) => Some("too long: recording\n"),
             Refusal::TooLong(Subject::Steps) => Some("too long: steps\n"),
             Refusal::TooLong(Subject::Stream) => Some("too long: stream\n"),
+            Refusal::TooLong(Subject::Run) => Some("too long: run\n"),
             Refusal::Session(_) | Refusal::Recording(_) | Refusal::Stream(_) => None,
         }
     }

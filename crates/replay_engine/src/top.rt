@@ -53,11 +53,11 @@ fn told<E: Sink>(alloc: Global, refusal: &Refusal, err: &mut E) -> u8
 /// | 0 | the whole text was written to `out` | none |
 /// | 1 | a line of the stream file is bad, or its message may not come where it stands | `stream: BadLine 3`, `stream: NotWellFormed 3` |
 /// | 2 | the words are not of the form of a command | `usage: inputflinger replay\|race\|check\|verify\|work` |
-/// | 3 | the session or a line of the recording is refused | as `session: Missing display`, `session: NotBuilt`, `recording: BadLine 3` |
+/// | 3 | the session or a line of the recording is refused | as `session: Missing display`, `recording: BadLine 3` |
 /// | 4 | a file could not be read | `read failed` |
 /// | 5 | a part of the text could not be written | `write failed` |
 /// | 6 | want of memory | `no memory` |
-/// | 7 | a file is longer than its limit, or the session has more steps than 100,000 | `too long: session`, `too long: recording`, `too long: steps`, `too long: stream` |
+/// | 7 | a file is longer than its limit, the session has more steps than 100,000, or the run has more calls or messages than 4,000,000 | `too long: session`, `too long: recording`, `too long: stream`, `too long: steps`, `too long: run` |
 pub fn run<F: Files, O: Sink, E: Sink>(
     alloc: Global,
     words: &[String],
@@ -65,7 +65,7 @@ pub fn run<F: Files, O: Sink, E: Sink>(
     out: &mut O,
     err: &mut E,
 ) -> u8
-    requires lends { LendsNames (F.lends files.old) (form_of (map string_bytes words.now)) }
+    requires lends { LendsNames (F.entries files.old) (F.lends files.old) (form_of (map string_bytes words.now)) }
     requires free { F.lent files.old ≡ None }
 
     ensures status { IsTrue (is_status result) }

@@ -92,7 +92,7 @@ impl Judge {
     /// What is said at the end of the file.
     fn verdict(&self, alloc: Global) -> Result<Vec<u8>, Refusal>
         ensures ok { IfOk result (λ text. said self.now.broken self.now.channels self.now.messages ≡ Ok text.items) }
-        ensures err { IfErr result (Refuses (said self.now.broken self.now.channels self.now.messages)) }
+        ensures err { IfErr result (Refuses (λ r. said self.now.broken self.now.channels self.now.messages ≡ r)) }
     {
         match self.broken {
             Some(line) => Err(Refusal::Stream(StreamError::NotWellFormed { line })),
@@ -112,7 +112,7 @@ fn well_formed(alloc: Global, channels: u64, messages: u64) -> Result<Vec<u8>, A
 /// none of them is kept.
 pub fn verdict_text(alloc: Global, bytes: &[u8]) -> Result<Vec<u8>, Refusal>
     ensures ok { IfOk result (λ text. verdict bytes.now ≡ Ok text.items) }
-    ensures err { IfErr result (Refuses (verdict bytes.now)) }
+    ensures err { IfErr result (Refuses (λ r. verdict bytes.now ≡ r)) }
 {
     let mut lines = match StreamLines::new(bytes) {
         Ok(lines) => lines,

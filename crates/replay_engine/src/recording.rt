@@ -1,0 +1,164 @@
+//! A recording that is read piece by piece, and the run of what it gives.
+ghost use Rattle.std.specs.Prelude.{◌≡◌, ℕ, false, List, [], ◌∷◌, ◌++◌, map, reverse, OnOk, IfErr};
+ghost use Rattle.input_types.specs.declared.message.Args.{Args as ArgsView};
+ghost use Rattle.raw_events.specs.declared.event.RawEvent.{RawEvent as Event};
+ghost use Rattle.dispatch_history.specs.Plan.{Cooked};
+ghost use Rattle.session_plan.specs.Plan.{PlanData};
+ghost use Rattle.device_reader.specs.CookedList.{ReadersStandFor};
+ghost use Rattle.schedule.specs.Planned.{IsRun, plan_of};
+ghost use Rattle.schedule.specs.State.{Ran};
+ghost use Rattle.replay_engine.specs.Cooked.{plans_of};
+ghost use Rattle.replay_engine.specs.Devices.{devices_of};
+ghost use Rattle.replay_engine.specs.Planned.{given, script_of};
+ghost use Rattle.replay_engine.specs.Program.{EventsJudged};
+ghost use Rattle.replay_engine.specs.Recorded.{HasTaken, HasEnded, RefusesEvents, Takes, is_memory, refusal_of};
+
+use crate::refusal::Refusal;
+use device_reader::Readers;
+use input_types::{Args, Moment};
+use raw_events::{LineError, LineReader, RawEvent};
+use schedule::{Plan, Schedule};
+use std::alloc::{AllocError, Global};
+use std::marker::Model;
+
+/// A recording that is being read, and the run of what it gave so far. No list of its events is kept.
+#[derive(Drop)]
+pub(crate) struct Recording {
+    reader: LineReader,
+    readers: Readers,
+    pub(crate) schedule: Schedule,
+    /// The events of a piece.
+    events: Vec<RawEvent>,
+    /// The args of an event.
+    args: Vec<Args>,
+}
+
+impl Model for Recording {
+    ghost use Rattle.replay_engine.specs.Recorded.{RecordingState};
+
+    ghost Value = { RecordingState };
+
+    ghost view = { λ r. record { reader = r.reader; readers = r.readers; schedule = r.schedule } };
+}
+
+/// What a refused line does to a run: nothing. Want of memory is told.
+fn passed_over(error: LineError) -> Result<(), AllocError>
+    ensures { OnOk result (is_memory error ≡ false) }
+{
+    match error {
+        LineError::Memory => Err(AllocError),
+        LineError::BadLine { .. } | LineError::NoMoment { .. } | LineError::TooLong { .. } => Ok(
+            (),
+        ),
+    }
+}
+
+/// Why a recording is refused.
+fn refusal(error: LineError) -> Refusal
+    ensures { result ≡ refusal_of error }
+{
+    match error {
+        LineError::Memory => Refusal::NoMemory,
+        LineError::BadLine { .. } | LineError::NoMoment { .. } | LineError::TooLong { .. } => {
+            Refusal::Recording(error)
+        }
+    }
+}
+
+/// Hands some args to a run, at their moment.
+fn hand(
+    schedule: &mut Schedule,
+    plan: &Plan,
+    moment: Moment,
+    args: &[Args],
+) -> Result<(), AllocError>
+    requires { IsRun plan.now }
+    ensures { (before : List Cooked) → Ran (plan_of plan.now) before schedule.old → OnOk result
+        (Ran (plan_of plan.now) (before ++ map (λ a. record { moment = moment; args = a }) args.now) schedule.new) }
+{
+    for a in args {
+        schedule.take(plan, moment, a)?;
+    }
+    Ok(())
+}
+
+/// Hands to a run what the devices give for some events.
+fn cook(
+    events: &[RawEvent],
+    args: &mut Vec<Args>,
+    readers: &mut Readers,
+    schedule: &mut Schedule,
+    plan: &Plan,
+) -> Result<(), AllocError>
+    requires { IsRun plan.now }
+    ensures { (p : PlanData) (past : List Event) → plan_of plan.now ≡ script_of p → ReadersStandFor (plans_of p) past readers.old
+        → Ran (script_of p) (given p past) schedule.old → OnOk result
+        (ReadersStandFor (plans_of p) (reverse events.now ++ past) readers.new × Ran (script_of p) (given p (reverse events.now ++ past)) schedule.new) }
+{
+    for event in events {
+        args.clear();
+        let moment = readers.take(*event, args)?;
+        hand(schedule, plan, moment, args)?;
+    }
+    Ok(())
+}
+
+impl Recording {
+    /// A recording before its first byte, and a run before its first args.
+    pub(crate) fn new(
+        alloc: Global,
+        reader: LineReader,
+        readers: Readers,
+        schedule: Schedule,
+    ) -> Recording
+        ensures { result ≡ record { reader = reader; readers = readers; schedule = schedule } }
+    {
+        Recording {
+            reader,
+            readers,
+            schedule,
+            events: Vec::new(alloc),
+            args: Vec::new(alloc),
+        }
+    }
+
+    /// Takes the next piece. Once a line was refused nothing more is run.
+    pub(crate) fn take(&mut self, plan: &Plan, piece: &[u8]) -> Result<(), AllocError>
+        requires { IsRun plan.now }
+        ensures { OnOk result (Takes plan.now self.old self.new piece.now) }
+    {
+        self.events.clear();
+        match self.reader.feed(piece, &mut self.events) {
+            Ok(()) => cook(
+                &self.events,
+                &mut self.args,
+                &mut self.readers,
+                &mut self.schedule,
+                plan,
+            ),
+            Err(error) => passed_over(error),
+        }
+    }
+
+    /// Ends the recording and the run. A line that is refused is answered now.
+    pub(crate) fn end(&mut self, plan: &Plan) -> Result<(), Refusal>
+        requires { IsRun plan.now }
+        ensures ok { (p : PlanData) (bytes : List ℕ) → plan_of plan.now ≡ script_of p → HasTaken p bytes self.old → OnOk result (HasEnded p bytes self.new.schedule) }
+        ensures err { (p : PlanData) (bytes : List ℕ) → HasTaken p bytes self.old → IfErr result (RefusesEvents p bytes) }
+    {
+        self.events.clear();
+        match self.reader.finish(&mut self.events) {
+            Ok(()) => {
+                cook(
+                    &self.events,
+                    &mut self.args,
+                    &mut self.readers,
+                    &mut self.schedule,
+                    plan,
+                )?;
+                Ok(self.schedule.finish(plan)?)
+            }
+            Err(error) => Err(refusal(error)),
+        }
+    }
+}
