@@ -1,0 +1,5 @@
+pub mod Frames
+pub mod Lines
+pub mod Writing
+pub mod Sections
+pub mod Text

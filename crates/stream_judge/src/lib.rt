@@ -1,0 +1,26 @@
+//! Whether the messages of a stream file may come as they stand there.
+//!
+//! A stream file is judged in two steps: each line has to be of the grammar, and each message has to be one that its
+//! window may be told after those before it in its section. In
+//!
+//! ```text
+//! channel 1 main
+//! 1 2000 motion 1 DOWN 0@110,200
+//! 2 4000 motion 1 DOWN 0@110,200
+//! end 1 sent 2 received 2 finished 2
+//! ```
+//!
+//! the message of line 3 may not come, since the finger is down already. A line that is not of the grammar comes first,
+//! wherever it stands.
+//!
+//! `Judge` goes through the messages of one section, and `refusal` says why a file is refused once a message was found
+//! that may not come.
+#![tactic(auto)]
+
+mod error;
+mod judge;
+mod rest;
+
+pub use error::FileError;
+pub use judge::Judge;
+pub use rest::refusal;

@@ -1,0 +1,20 @@
+//! The rest of a file behind a break.
+ghost use Rattle.std.specs.Prelude.{◌≡◌};
+ghost use Rattle.stream_judge.specs.Judged.{refused_at};
+
+use crate::error::FileError;
+use stream_text::StreamLines;
+
+/// Why a file is refused, the message of whose line `line` may not come: the first bad line behind it counts, where
+/// there is one. The lines are read to their end.
+pub fn refusal(line: u64, lines: &mut StreamLines<'_>) -> FileError
+    ensures { result ≡ refused_at line lines.old.events }
+{
+    'lines: loop {
+        match lines.next() {
+            Ok(Some(_)) => {}
+            Ok(None) => return FileError::NotWellFormed { line },
+            Err(line) => return FileError::BadLine { line },
+        }
+    }
+}
