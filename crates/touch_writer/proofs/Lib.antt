@@ -1,0 +1,10 @@
+pub mod Lists
+pub mod Ids
+pub mod Optimal
+pub mod Said
+pub mod Entries
+pub mod Placed
+pub mod Digits
+pub mod Examples
+pub mod Holding
+pub mod Writing

@@ -1,0 +1,11 @@
+pub mod Rows
+pub mod Packets
+pub mod Tracks
+pub mod Contacts
+pub mod Names
+pub mod Least
+pub mod Found
+pub mod Cooks
+pub mod Digits
+pub mod Lines
+pub mod ReadBack
