@@ -1,0 +1,252 @@
+"""Sessions and recordings from a number. A case is valid, nearly valid (a valid one with a few damages), or bytes."""
+import random
+
+PATHS = ("/dev/input/event2", "/dev/input/event5", "/dev/input/event7", "/dev/input/event9")
+FLAGS = ("NOT_TOUCHABLE", "SPY", "PREVENT_SPLITTING", "SLIPPERY", "WATCH_OUTSIDE_TOUCH", "NOT_FOCUSABLE")
+LAYOUT = "key 30 A\nkey 42 SHIFT_LEFT\nkey 115 VOLUME_UP\nkey 158 BACK\n"
+SCANS = (30, 42, 115, 158, 999)
+
+
+class Case:
+    """What a number makes. `closes` says that at the end of the recording nothing is down on any device."""
+
+    def __init__(self, number):
+        self.number = number
+        self.random = random.Random(number)
+        self.kind = self.random.choices(("valid", "nearly valid", "bytes"), (7, 2, 1))[0]
+        # A plain session says nothing but displays, touch devices and the first windows.
+        self.plain = self.random.random() < 0.5
+        # Windows that lie apart and have no flags.
+        self.apart = self.random.random() < 0.25
+        self.make_session()
+        self.make_recording()
+        self.session = self.session_text(self.steps).encode()
+        self.recording = "".join(self.lines).encode()
+        if self.kind == "nearly valid":
+            if self.random.random() < 0.5:
+                self.session = damaged(self.random, self.session)
+            if self.random.random() < 0.7:
+                self.recording = damaged(self.random, self.recording)
+        elif self.kind == "bytes":
+            if self.random.random() < 0.5:
+                self.session = some_bytes(self.random)
+            self.recording = some_bytes(self.random)
+
+    def make_session(self):
+        rng = self.random
+        extents = [(rng.choice((1, 2, 100, 1080, 16384)), rng.choice((1, 3, 100, 2400, 16384))) for _ in range(3)]
+        self.displays = [e + (rng.choice((0, 0, 90, 180, 270)),) for e in extents[: 1 if self.plain else rng.randint(1, 3)]]
+        self.devices = []
+        for path in PATHS[: rng.choice((1, 1, 2, 3, 4))]:
+            kind = "touch" if self.plain or rng.random() < 0.7 else "keys"
+            low = rng.choice((0, 0, -5, -(2**31)))
+            high = rng.choice((low, low + 9, low + 1079, 2**31 - 1))
+            self.devices.append((kind, path, rng.choice((10, 10, 16, 1, 2)), low, high, rng.randrange(len(self.displays))))
+        self.channels = []
+        for k in range(rng.randint(1, 6)):
+            default = self.plain or rng.random() < 0.5
+            limit = 5000 if default else rng.choice((1, 20, 500, 600000))
+            delay = 0 if default else rng.choice((0, 1, 7000, 2000000))
+            self.channels.append(("c%d" % (k + 1), limit, delay, default or rng.random() < 0.7))
+        self.steps = [(0, 1, "windows", self.some_windows())]
+        for _ in range(0 if self.plain else rng.choice((0, 0, 1, 3, 6))):
+            self.steps.append((rng.choice((0, rng.randint(0, 2000000))), rng.randint(1, 8)) + self.some_act())
+        self.end = 0 if self.plain else rng.choice((0, 0, 3000000))
+        self.removed = {}
+        for at, _, act, what in sorted(self.steps, key=lambda s: s[0]):
+            if act == "remove":
+                self.removed.setdefault(what, at)
+
+    def some_windows(self):
+        """Channel, display, frame, flags and region of some windows, front to back."""
+        rng = self.random
+        names = [c[0] for c in self.channels]
+        rng.shuffle(names)
+        names = names[: rng.randint(1, len(names))]
+        windows = []
+        for k, name in enumerate(names):
+            display = rng.randrange(len(self.displays))
+            width, height, turned = self.displays[display]
+            if turned in (90, 270):
+                width, height = height, width
+            if self.apart:
+                frame = (width * k // len(names), 0, width * (k + 1) // len(names), height)
+                windows.append((name, display, frame, (), None))
+                continue
+            left, right = sorted((rng.randint(-10, width), rng.randint(0, width + 10)))
+            top, bottom = sorted((rng.randint(-10, height), rng.randint(0, height + 10)))
+            frame = rng.choice(((0, 0, width, height), (left, top, right, bottom)))
+            flags = [f for f in FLAGS if rng.random() < 0.15]
+            region = rng.choice((None, None, [frame], [], [(0, 0, width // 2, height), (width // 3, 0, width, height // 2)]))
+            windows.append((name, display, frame, flags, region))
+        return windows
+
+    def some_act(self):
+        rng = self.random
+        name = rng.choice(self.channels)[0]
+        act = rng.choice(("windows", "windows", "focus", "focus", "pilfer", "remove"))
+        if act == "windows":
+            return act, self.some_windows()
+        if act == "focus":
+            return act, (rng.choice((None, name, name)), rng.randrange(len(self.displays)))
+        if act == "pilfer":
+            return act, (name, rng.randint(1, len(self.devices)))
+        return act, name
+
+    def session_text(self, steps):
+        width, height, turned = self.displays[0]
+        text = "[display]\nwidth = %d\nheight = %d\nrotation = %d\n" % (width, height, turned)
+        text = ("end_us = %d\n" % self.end if self.end else "") + text
+        for display in self.displays[1:]:
+            text += "\n[[extra_display]]\nwidth = %d\nheight = %d\nrotation = %d\n" % display
+        for kind, path, slots, low, high, display in self.devices:
+            text += '\n[[device]]\nkind = "%s"\npath = "%s"\n' % (kind, path)
+            if kind == "keys":
+                text += 'layout = """%s"""\n' % LAYOUT
+            else:
+                text += "slots = %d\nx = [%d, %d]\ny = [%d, %d]\n" % (slots, low, high, low, high)
+                text += "display = %d\n" % display if display else ""
+        for name, limit, delay, finishes in self.channels:
+            text += '\n[[channel]]\nname = "%s"\n' % name
+            if (limit, delay, finishes) != (5000, 0, True):
+                text += "limit_ms = %d\nfinish_after_us = %d\nfinishes = %s\n" % (limit, delay, str(finishes).lower())
+        for at, lane, act, what in steps:
+            text += '\n[[step]]\nat_us = %d\nlane = %d\ndo = "%s"\n' % (at, lane, act) + act_text(act, what)
+        return text
+
+    def make_recording(self):
+        """Packets and keys of the devices in rising moment. Nearly all recordings end with nothing down."""
+        rng = self.random
+        self.lines = []
+        self.closes = rng.random() < 0.8
+        senders = [Touch(rng, d) if d[0] == "touch" else Keys(rng, d) for d in self.devices]
+        us = rng.choice((0, 1000, 1000000))
+        for _ in range(rng.choice((0, 1, 5, 20, 60, 200))):
+            us += rng.choice((0, 1, 1000, 8000, 8000, 60000, 700000))
+            self.lines += rng.choice(senders).send(us)
+            if rng.random() < 0.02:
+                self.lines.append(rng.choice(("add device 1: /dev/input/event2\n", "\n", '  name:     "touch"\n', line(us, "/dev/other", 3, 53, 9))))
+        for sender in senders if self.closes else ():
+            us += 8000
+            self.lines += sender.close(us)
+        if rng.random() < 0.1:
+            self.lines = [l[:-1] + "\r\n" for l in self.lines]
+
+
+class Touch:
+    """A touch device that speaks the kernel's protocol B."""
+
+    def __init__(self, rng, device):
+        self.rng = rng
+        _, self.path, self.slots, self.low, self.high, _ = device
+        self.held = {}
+        self.next = rng.choice((0, 1, 2**31 - 2000))
+        self.slot = 0
+
+    def at_slot(self, us, slot):
+        if slot == self.slot and self.rng.random() < 0.7:
+            return []
+        self.slot = slot
+        return [line(us, self.path, 3, 47, slot)]
+
+    def place(self, us):
+        rng = self.rng
+        raw = [rng.choice((rng.randint(self.low, self.high), self.low, self.high, rng.randint(-100, 2500))) for _ in range(2)]
+        return [line(us, self.path, 3, 53 + k, raw[k]) for k in range(2) if rng.random() < 0.9]
+
+    def change(self, us, slot):
+        rng = self.rng
+        lines = self.at_slot(us, slot)
+        if slot not in self.held:
+            self.held[slot] = self.next
+            self.next += 1
+            palm = [line(us, self.path, 3, 55, rng.choice((0, 2)))] if rng.random() < 0.05 else []
+            return lines + [line(us, self.path, 3, 57, self.held[slot])] + self.place(us) + palm
+        if rng.random() < 0.3:
+            del self.held[slot]
+            return lines + [line(us, self.path, 3, 57, -1)]
+        if rng.random() < 0.03:
+            return lines + [line(us, self.path, 3, 55, 2)]
+        return lines + self.place(us)
+
+    def send(self, us):
+        rng = self.rng
+        if rng.random() < 0.02:
+            self.held = {}
+            self.slot = 0
+            return [line(us, self.path, 0, 3, 0), line(us, self.path, 0, 0, 0)]
+        lines = []
+        for slot in rng.sample(range(self.slots), min(self.slots, rng.choice((1, 1, 2, 3)))):
+            lines += self.change(us, slot)
+        return lines + [line(us, self.path, 0, 0, 0)]
+
+    def close(self, us):
+        lines = []
+        for slot in sorted(self.held):
+            lines += [line(us, self.path, 3, 47, slot), line(us, self.path, 3, 57, -1)]
+        return lines + [line(us, self.path, 0, 0, 0)]
+
+
+class Keys:
+    """A device with keys."""
+
+    def __init__(self, rng, device):
+        self.rng = rng
+        self.path = device[1]
+        self.down = set()
+
+    def send(self, us):
+        scan = self.rng.choice(SCANS)
+        value = self.rng.choice((0, 1, 1, 2))
+        (self.down.add if value == 1 else self.down.discard if value == 0 else int)(scan)
+        return [line(us, self.path, 1, scan, value), line(us, self.path, 0, 0, 0)]
+
+    def close(self, us):
+        return [line(us, self.path, 1, scan, 0) for scan in sorted(self.down)] + [line(us, self.path, 0, 0, 0)]
+
+
+def act_text(act, what):
+    if act == "windows":
+        text = "windows = ["
+        for name, display, frame, flags, region in what:
+            text += '\n    { channel = "%s", display = %d, frame = %s' % (name, display, list(frame))
+            text += ", flags = [%s]" % ", ".join('"%s"' % f for f in flags) if flags else ""
+            text += ", region = %s" % [list(r) for r in region] if region is not None else ""
+            text += " },"
+        return text + "\n]\n"
+    if act == "focus":
+        return ('channel = "%s"\n' % what[0] if what[0] else "") + "display = %d\n" % what[1]
+    if act == "pilfer":
+        return 'channel = "%s"\ndevice = %d\n' % what
+    return 'channel = "%s"\n' % what
+
+
+def line(us, path, kind, code, value):
+    """An event as `getevent -t` prints it."""
+    return "[%8d.%06d] %s: %04x %04x %08x\n" % (us // 10**6, us % 10**6, path, kind, code, value % 2**32)
+
+
+def damaged(rng, text):
+    """The text with one to four damages."""
+    text = bytearray(text)
+    for _ in range(rng.randint(1, 4)):
+        at = rng.randrange(len(text) + 1)
+        kind = rng.randrange(6)
+        if kind == 0:
+            del text[at:]
+        elif kind == 1:
+            del text[at : at + rng.choice((1, 1, 4, 60))]
+        elif kind == 2:
+            text[at:at] = bytes([rng.choice(b"\n\r \t/[]09fF-\x00\xff\"=.")])
+        elif kind == 3:
+            text[at : at + 1] = bytes([rng.randrange(256)])
+        elif kind == 4:
+            text[at:at] = text[max(0, at - 50) : at]
+        else:
+            text[at:at] = rng.choice((b"4294967296", b"99999999999999999999", b"-1", b"16385", b" " * 5000))
+    return bytes(text)
+
+
+def some_bytes(rng):
+    letters = rng.choice((bytes(range(256)), b"[]0123456789.:/ abcdef\n", b"[\n=\"{},. display0123456789"))
+    return bytes(rng.choice(letters) for _ in range(rng.choice((0, 1, 50, 2000))))
