@@ -5,7 +5,7 @@ use Rattle.stream_text.specs.declared.stream_lines.Place.{Place}
 use Rattle.stream_text.specs.declared.stream_lines.Place.TheVariants.{Between}
 use Rattle.stream_text.specs.OrderText.{order_passed}
 use Rattle.stream_text.specs.StreamFile.{Event, events_behind, events_from, events_of, may_end, numbered_line, told, with_event}
-use Rattle.stream_text.specs.TextLines.{Line, lines_of}
+use Rattle.text_lines.specs.Lines.{Line, lines_of}
 use Rattle.stream_judge.specs.Judged.{Numbers}
 
 at_end : (n : ℕ) (v : Bool) → Numbers n (if v then Ok [] else Err n)

@@ -27,10 +27,12 @@ batch_line b =
     codes "batch " ++ decimal (first_seq b.samples) ++ codes "-" ++ decimal (last_seq b.samples)
     ++ codes " " ++ decimal b.device ++ codes " " ++ decimal (length b.samples) ++ codes "\n"
 
+-- the line of an item: that of a message alone, or of a batch
 abbrev pub item_line : Item → List ℕ
 item_line (One m) = one_line m.seq
 item_line (Batch b) = batch_line b
 
+-- the lines of items, one after the other
 abbrev pub item_lines : List Item → List ℕ
 item_lines [] = []
 item_lines (i ∷ is) = item_line i ++ item_lines is

@@ -11,6 +11,7 @@ use Rattle.batch_text.specs.Lines.{channel_line, items_text}
 abbrev pub section_text : ℕ → Stream → List ℕ
 section_text frame s = channel_line s.id ++ items_text (items (section_calls frame s.messages))
 
+-- the texts of sections, one after the other
 abbrev pub sections_text : ℕ → List Stream → List ℕ
 sections_text frame [] = []
 sections_text frame (s ∷ ss) = section_text frame s ++ sections_text frame ss

@@ -25,8 +25,9 @@
 //! ```
 //!
 //! A batch has the numbers of its first and its last move, its device, and how many moves it is. A file is read line by
-//! line, and no message is kept longer than it waits for its frame. Moves wait in rows that keep their room; a batch that
-//! is given out has its samples in a `Vec` of its own until its line is written, so there is one allocation a batch.
+//! line, and no message is kept longer than it waits for its frame. Moves wait in rows that keep their room; a batch
+//! that is given out has its samples in a `Vec` of its own until its line is written, so there is one allocation a
+//! batch.
 #![tactic(auto)]
 
 mod batches;

@@ -1,6 +1,8 @@
-//! What is down on each of eight devices by the args that they handed in: pointers by their ids, and keys by their scan codes.
+//! What is down on each of eight devices by the args that they handed in: pointers by their ids, and keys by their scan
+//! codes.
 //!
-//! Pointer 0 is down on device 1, and its volume up key, scan code 115. The next args are planned first, and taken then:
+//! Pointer 0 is down on device 1, and its volume up key, scan code 115. The next args are planned first, and taken
+//! then:
 //!
 //! ```text
 //! POINTER_DOWN:1 0, 1    Pointers {0, 1}
@@ -9,8 +11,8 @@
 //! reset                  Nothing is down
 //! ```
 //!
-//! [`DevicesDown::plan`] answers what args change, or what is down where they may not come by the rule of devices, and changes nothing.
-//! [`DevicesDown::take`] makes the change; it needs memory only where a key goes down.
+//! [`DevicesDown::plan`] answers what args change, or what is down where they may not come by the rule of devices, and
+//! changes nothing. [`DevicesDown::take`] makes the change; it needs memory only where a key goes down.
 #![tactic(auto)]
 
 mod change;

@@ -15,8 +15,8 @@ pub enum Call {
         now: Moment,
         snapshot: Snapshot,
     },
-    /// The focus of a display is requested for a channel, or for none. Any number may be requested. Keys go to the focused window
-    /// of the display of the last request.
+    /// The focus of a display is requested for a channel, or for none. Any number may be requested. Keys go to the
+    /// focused window of the display of the last request.
     FocusOn {
         now: Moment,
         display: DisplayId,

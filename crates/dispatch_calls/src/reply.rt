@@ -1,8 +1,8 @@
 //! Answers of the dispatcher.
 use input_types::Message;
 
-/// What a call of the dispatcher is answered. `Full`, `Inconsistent`, `Idle`, `Empty`, `Gone`, `UnknownSeq`, `NotSpy` and
-/// `NothingHeld` are refusals: they change nothing but the history and the clock.
+/// What a call of the dispatcher is answered. `Full`, `Inconsistent`, `Idle`, `Empty`, `Gone`, `UnknownSeq`, `NotSpy`
+/// and `NothingHeld` are refusals: they change nothing but the history and the clock.
 #[derive(Clone, Copy, Debug, PartialEq, Eq)]
 pub enum Reply {
     /// The channel was opened, with this number; channels are numbered 1, 2, 3 in the order of their opening.
@@ -13,8 +13,8 @@ pub enum Reply {
     Done,
     /// The args wait to be dispatched.
     Taken,
-    /// The args do not fit those of their device that were taken before. `pointers` is the set of ids that are down on the
-    /// device, as bits, and `key_down` says of a key whether its scan code is down.
+    /// The args do not fit those of their device that were taken before. `pointers` is the set of ids that are down on
+    /// the device, as bits, and `key_down` says of a key whether its scan code is down.
     Inconsistent { pointers: u32, key_down: bool },
     /// The first args that waited were dispatched.
     Dispatched,

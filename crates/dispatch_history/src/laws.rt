@@ -1,7 +1,8 @@
 //! What is proved of histories. Each function has the laws as its clauses, and does nothing.
 ghost use Rattle.dispatch_history.specs.Laws.{LegalLast, LegalMore, LegalUnique, ReplayLaw, LegalReplay, EffectsLaw, UnresponsiveStep, AbleStep, OrderedSound, OrderedComplete, OrderedUnique, QueueLaw, DeviceLaw, LiveLaw, StreamStep, SilentLaw, OnePointer, HolderLaw, FitLaw, MotionsLaw, MotionsComeLaw, FocusLaw, FocusComesLaw, KeysLaw, KeysComeLaw, HeldKeyLaw, LastKeyLaw, WholeLaw, WellFormedLaw, RemovedLaw, GoneLaw, NumbersLaw, TurnsLaw, TurnsComeLaw, KeyPlacesLaw, KeysDownLaw};
 
-/// A list of calls has exactly one legal history, its replay, and each step of it was answered as the history before it says.
+/// A list of calls has exactly one legal history, its replay, and each step of it was answered as the history before it
+/// says.
 pub fn legality()
     ensures last { LegalLast }
     ensures more { LegalMore }
@@ -11,13 +12,15 @@ pub fn legality()
     ensures past { EffectsLaw }
 {}
 
-/// Args wait in the order in which they were accepted, and keep the rule of their device, also those that were dispatched.
+/// Args wait in the order in which they were accepted, and keep the rule of their device, also those that were
+/// dispatched.
 pub fn queueing()
     ensures queue { QueueLaw }
     ensures devices { DeviceLaw }
 {}
 
-/// A step adds to the stream of each channel what it says to it, and nothing to that of a channel that is not live after it.
+/// A step adds to the stream of each channel what it says to it, and nothing to that of a channel that is not live
+/// after it.
 pub fn streaming()
     ensures live { LiveLaw }
     ensures step { StreamStep }
@@ -29,15 +32,15 @@ pub fn pointing()
     ensures { OnePointer }
 {}
 
-/// Windows that hold something are able, and shown on the display of its device; and at each moment what they hold is down, and listed
-/// by the last motion.
+/// Windows that hold something are able, and shown on the display of its device; and at each moment what they hold is
+/// down, and listed by the last motion.
 pub fn holding()
     ensures holders { HolderLaw }
     ensures fits { FitLaw }
 {}
 
-/// The motions of each device in a stream come one after the other as the rule of streams says, and leave down just the ids that the
-/// window holds.
+/// The motions of each device in a stream come one after the other as the rule of streams says, and leave down just the
+/// ids that the window holds.
 pub fn gestures()
     ensures live { MotionsLaw }
     ensures each { MotionsComeLaw }
@@ -49,8 +52,8 @@ pub fn focusing()
     ensures each { FocusComesLaw }
 {}
 
-/// The messages of each key in a stream come as they may, and leave down just the keys that the window holds, with their next repeat
-/// numbers. The last message of a held key is the one that a cancel or a repeat is made from.
+/// The messages of each key in a stream come as they may, and leave down just the keys that the window holds, with
+/// their next repeat numbers. The last message of a held key is the one that a cancel or a repeat is made from.
 pub fn keys()
     ensures live { KeysLaw }
     ensures each { KeysComeLaw }
@@ -58,29 +61,30 @@ pub fn keys()
     ensures last { LastKeyLaw }
 {}
 
-/// Who holds a key: some step gave it, and no later one took it. The list that is computed step by step tells exactly this. It has each
-/// key once, and its keys are down on their devices.
+/// Who holds a key: some step gave it, and no later one took it. The list that is computed step by step tells exactly
+/// this. It has each key once, and its keys are down on their devices.
 pub fn held_keys()
     ensures places { KeyPlacesLaw }
     ensures down { KeysDownLaw }
 {}
 
-/// Every stream is well-formed by the rule of streams, and that of a live channel says what its window holds. Its messages are numbered
-/// from 1, and their moments do not fall.
+/// Every stream is well-formed by the rule of streams, and that of a live channel says what its window holds. Its
+/// messages are numbered from 1, and their moments do not fall.
 pub fn whole()
     ensures live { WholeLaw }
     ensures each { WellFormedLaw }
     ensures numbers { NumbersLaw }
 {}
 
-/// A pointer that went down in a stream goes up or is cancelled once, unless it is still down or its channel was removed.
+/// A pointer that went down in a stream goes up or is cancelled once, unless it is still down or its channel was
+/// removed.
 pub fn turns()
     ensures live { TurnsLaw }
     ensures each { TurnsComeLaw }
 {}
 
-/// Nothing follows a removal: the channel stays removed, its stream stays as it was just before, and what is asked of it is answered with
-/// Gone.
+/// Nothing follows a removal: the channel stays removed, its stream stays as it was just before, and what is asked of
+/// it is answered with Gone.
 pub fn removal()
     ensures stream { RemovedLaw }
     ensures gone { GoneLaw }
@@ -92,7 +96,8 @@ pub fn responding()
     ensures able { AbleStep }
 {}
 
-/// A plan has at most one ordered run, and the function that makes it round by round, up to any number of rounds, finds it.
+/// A plan has at most one ordered run, and the function that makes it round by round, up to any number of rounds, finds
+/// it.
 pub fn ordering()
     ensures sound { OrderedSound }
     ensures complete { OrderedComplete }

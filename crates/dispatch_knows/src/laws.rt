@@ -28,7 +28,8 @@ pub fn inputs()
     ensures tracked { TracksAllLaw }
 {}
 
-/// What is kept before the first call stands for no call, and what stands for a history stands for it with one step more.
+/// What is kept before the first call stands for no call, and what stands for a history stands for it with one step
+/// more.
 pub fn going()
     ensures first { KnowsFirst }
     ensures step { GoesLaw }
@@ -44,7 +45,8 @@ pub fn answering()
     ensures refused { RefusedLaw }
 {}
 
-/// What stands for a history stands for it with one step more with which the owner of a channel gets or finishes a message.
+/// What stands for a history stands for it with one step more with which the owner of a channel gets or finishes a
+/// message.
 pub fn owning()
     ensures got { GotLaw }
     ensures done { DoneLaw }

@@ -11,11 +11,11 @@
 //! keying     who has the focus, and no key to repeat
 //! ```
 //!
-//! `StandsFor` of specs/Knows says that these tables are what a legal history says, and [`laws`] that each goes on with any step: who
-//! changes the tables as `Goes` says has again what stands for the history, one step longer. The calls are said in terms of what is
-//! kept alone: what each is answered (specs/Replying), those that rest (specs/Staying), those of the owners of channels
-//! (specs/OwnerLaws), and those that tell windows in a round (specs/Telling). What is read of the tables is what the history says
-//! (specs/ReadLaws).
+//! `StandsFor` of specs/Knows says that these tables are what a legal history says, and [`laws`] that each goes on with
+//! any step: who changes the tables as `Goes` says has again what stands for the history, one step longer. The calls
+//! are said in terms of what is kept alone: what each is answered (specs/Replying), those that rest (specs/Staying),
+//! those of the owners of channels (specs/OwnerLaws), and those that tell windows in a round (specs/Telling). What is
+//! read of the tables is what the history says (specs/ReadLaws).
 #![tactic(auto)]
 
 pub mod laws;

@@ -8,8 +8,8 @@ use input_types::DisplayId;
 use std::marker::Model;
 use window_snapshot::{mask_has, mask_with};
 
-/// The channels that may have the focus of each display: those that are live, and that the windows name on it with one that may
-/// have it. Bit `id - 1` of a mask stands for the channel `id`.
+/// The channels that may have the focus of each display: those that are live, and that the windows name on it with one
+/// that may have it. Bit `id - 1` of a mask stands for the channel `id`.
 #[derive(Clone, Copy, Debug, PartialEq, Eq)]
 pub struct Focusable {
     /// The masks of the displays 0 to 3.
@@ -27,9 +27,9 @@ pub struct Change {
     pub target: Option<u32>,
 }
 
-/// Which channel has the focus of each display, and to which of them keys go. The focus of a display is at the channel that was
-/// requested last for it, where that may have it; keys go to the focus of the display of the last request, or of display 0 before
-/// there was one.
+/// Which channel has the focus of each display, and to which of them keys go. The focus of a display is at the channel
+/// that was requested last for it, where that may have it; keys go to the focus of the display of the last request, or
+/// of display 0 before there was one.
 #[derive(Clone, Copy, Debug)]
 pub struct Focus {
     requested: [Option<u32>; 4],
@@ -45,7 +45,11 @@ impl Model for Focus {
 
     ghost view = { λ f. record { requested = f.requested; last = f.last; focusable = f.focusable.masks } };
 
-    ghost inverse = { λ s. record { requested = s.requested; last = s.last; focusable = record { masks = s.focusable } } };
+    ghost inverse = { λ s. record {
+      requested = s.requested;
+      last = s.last;
+      focusable = record { masks = s.focusable };
+    } };
 }
 
 /// The requested channel, where the mask of those that may have the focus has it.
@@ -99,7 +103,11 @@ impl Focus {
     /// The focus of a display is requested for a channel, or for none. Any number may be requested.
     pub fn request(&mut self, display: DisplayId, channel: Option<u32>) -> Change
         ensures state { self.new
-            ≡ record { requested = slice_set self.old.requested display channel; last = display; focusable = self.old.focusable } }
+            ≡ record {
+              requested = slice_set self.old.requested display channel;
+              last = display;
+              focusable = self.old.focusable;
+            } }
         ensures lost { IsOnlyIn result.lost (is_focused (focus_of self.old)) (is_focused (focus_of self.new)) }
         ensures gained { IsOnlyIn result.gained (is_focused (focus_of self.new)) (is_focused (focus_of self.old)) }
         ensures target { result.target ≡ target_of self.new }
@@ -112,7 +120,8 @@ impl Focus {
 
     /// The channels that may have the focus are these from now on.
     pub fn windows(&mut self, focusable: Focusable) -> Change
-        ensures state { self.new ≡ record { requested = self.old.requested; last = self.old.last; focusable = focusable.masks } }
+        ensures state { self.new
+            ≡ record { requested = self.old.requested; last = self.old.last; focusable = focusable.masks } }
         ensures lost { IsOnlyIn result.lost (is_focused (focus_of self.old)) (is_focused (focus_of self.new)) }
         ensures gained { IsOnlyIn result.gained (is_focused (focus_of self.new)) (is_focused (focus_of self.old)) }
         ensures target { result.target ≡ target_of self.new }

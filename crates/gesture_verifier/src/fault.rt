@@ -11,8 +11,8 @@ pub struct Fault {
     pub place: u64,
     /// The pointer ids that are down on the device of the motion, as bits; 0 where the message is no motion.
     pub held: u32,
-    /// The repeat number that the next down of the key of the message has to have, which may be 2^32; None where the key is up and
-    /// where the message is of no key.
+    /// The repeat number that the next down of the key of the message has to have, which may be 2^32; None where the
+    /// key is up and where the message is of no key.
     pub next_repeat: Option<u64>,
     /// Whether the window has the focus.
     pub focus: bool,

@@ -1,12 +1,12 @@
 //! A judge of the messages that one window is told.
 //!
-//! A window that is told a well-formed stream sees whole gestures: a first finger that goes down, further ones, moves, and an end
-//! for each; keys whose repeats are counted from 0; and a focus that it gets before it loses it. `Verifier` is shown the messages
-//! of a stream one by one and says at which one the stream stops to be well-formed.
+//! A window that is told a well-formed stream sees whole gestures: a first finger that goes down, further ones, moves,
+//! and an end for each; keys whose repeats are counted from 0; and a focus that it gets before it loses it. `Verifier`
+//! is shown the messages of a stream one by one and says at which one the stream stops to be well-formed.
 //!
-//! Example: after a `Down` of the pointer 0 on device 1, a second `Down` is refused. Its `Fault` says that one message was
-//! accepted (`place` 1) and that pointer 0 is down (`held` 0b1). An `Up` of that pointer is then accepted, since a message that
-//! is refused changes nothing.
+//! Example: after a `Down` of the pointer 0 on device 1, a second `Down` is refused. Its `Fault` says that one message
+//! was accepted (`place` 1) and that pointer 0 is down (`held` 0b1). An `Up` of that pointer is then accepted, since a
+//! message that is refused changes nothing.
 #![tactic(auto)]
 
 mod fault;

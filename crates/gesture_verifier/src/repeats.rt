@@ -9,8 +9,8 @@ use pointers_down::ends;
 use std::alloc::AllocError;
 use std::collections::BTreeMap;
 
-/// What is due of a key after one of its messages, where `due` is what was due before it: the next repeat number, or None where the key is
-/// up. The answer is None where the message may not come then.
+/// What is due of a key after one of its messages, where `due` is what was due before it: the next repeat number, or
+/// None where the key is up. The answer is None where the message may not come then.
 pub fn next_repeat(due: Option<u64>, message: &KeyMsg) -> Option<Option<u64>>
     ensures { result ≡ after_key due message.now }
 {
@@ -46,7 +46,8 @@ pub fn due(table: &BTreeMap<u32, u64>, place: u32) -> Option<u64>
 
 /// Keeps what is due of the key at a place, and nothing of a key that is up.
 pub fn keep(table: &mut BTreeMap<u32, u64>, place: u32, due: Option<u64>) -> Result<(), AllocError>
-    ensures kept { OnOk result ((q : ℕ) → due_at table.new.entries q ≡ cond (is_eq (nat_cmp place q)) due (due_at table.old.entries q)) }
+    ensures kept { OnOk result
+        ((q : ℕ) → due_at table.new.entries q ≡ cond (is_eq (nat_cmp place q)) due (due_at table.old.entries q)) }
     ensures err { OnErr result (table.new.entries ≡ table.old.entries) }
 {
     match due {

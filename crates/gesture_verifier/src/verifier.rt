@@ -54,14 +54,16 @@ impl Verifier {
 
     /// Accepts the next message of the stream, or says why it may not come.
     ///
-    /// `Fault` comes exactly where the stream with this message is not well-formed, and then tells what the window knew.
-    /// `Memory` comes only at a key message. An error leaves the verifier as it was.
+    /// `Fault` comes exactly where the stream with this message is not well-formed, and then tells what the window
+    /// knew. `Memory` comes only at a key message. An error leaves the verifier as it was.
     pub fn step(&mut self, message: &Message) -> Result<(), StepError>
         ensures ok { OnOk result (after_body (state_of self.old) message.now.body ≡ Some (state_of self.new)) }
-        ensures stands { (past : List Message) → StandsFor past self.old → OnOk result (StandsFor (message.now ∷ past) self.new) }
+        ensures stands { (past : List Message) → StandsFor past self.old
+            → OnOk result (StandsFor (message.now ∷ past) self.new) }
         ensures counted { OnOk result (self.new.accepted ≡ one_more self.old.accepted) }
         ensures fault { (fault : Fault) → result ≡ Err (StepError.Fault fault) → IsFault self.old message.now fault }
-        ensures breaks { (past : List Message) → StandsFor past self.old → (fault : Fault) → result ≡ Err (StepError.Fault fault) → is_well_formed (message.now ∷ past) ≡ false }
+        ensures breaks { (past : List Message) → StandsFor past self.old → (fault : Fault)
+            → result ≡ Err (StepError.Fault fault) → is_well_formed (message.now ∷ past) ≡ false }
         ensures memory { result ≡ Err StepError.Memory → is_key message.now.body ≡ true }
         ensures err { OnErr result (self.new ≡ self.old) }
     {

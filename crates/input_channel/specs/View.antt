@@ -2,6 +2,7 @@
 use Rattle.input_channel.specs.declared.channel.Channel.TheInside.{Inside}
 use Rattle.input_channel.specs.State.{ChannelState}
 
+-- what a contract sees of a channel
 abbrev pub state_of : Inside → ChannelState
 state_of c = record {
   limit = c.limit;

@@ -60,8 +60,8 @@ impl Service {
         self.turnstile.look(seat)
     }
 
-    /// A new seat, split off from that of number 0: its number is the next one, and it has seen what seat 0 has. It does
-    /// not take the turn, and today it needs no memory.
+    /// A new seat, split off from that of number 0: its number is the next one, and it has seen what seat 0 has. It
+    /// does not take the turn, and today it needs no memory.
     pub fn try_split(&self, seat: &mut Seat) -> Result<Seat, AllocError>
         requires seat { IsOf self.now seat.old }
         requires zero { (view seat.old).mine.number ≡ 0 }

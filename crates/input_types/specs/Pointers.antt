@@ -1,5 +1,5 @@
 -- Lists of pointers with rising ids, and the table that keeps one.
-use Rattle.std.specs.Prelude.{◌≡◌, ℕ, ◌-◌, ◌<◌, ◌≤◌, List, [], ◌∷◌, length, take, drop, replicate, pos}
+use Rattle.std.specs.Prelude.{ℕ, ◌<◌, List, [], ◌∷◌, pos}
 use Rattle.input_types.specs.declared.pointer.Pointer.{Pointer}
 
 -- each id is below that of the next pointer
@@ -14,13 +14,6 @@ EndsBelow [] n = Unit {0}
 EndsBelow (p ∷ []) n = p.id < n
 EndsBelow (p ∷ q ∷ ps) n = EndsBelow (q ∷ ps) n
 
--- what stands in the places of a table that are not in use
+-- what stands in the places of a list that are not in use
 abbrev pub unused : Pointer
 unused = record { id = 0; at = record { x = pos 0; y = pos 0 } }
-
--- a table of 16 places whose first `used` are a list with rising ids, and whose others are all `unused`
-pub record IsTable (items : List Pointer) (used : ℕ) : Type 0 where
-  pub whole : length items ≡ 16
-  pub within : used ≤ 16
-  pub rises : IsRising (take used items)
-  pub rest : drop used items ≡ replicate (16 - used) unused

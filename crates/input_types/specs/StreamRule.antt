@@ -25,9 +25,11 @@ after_key due m =
     if m.key.down then allowed (nat_eq m.flags 0 && nat_eq (unwrap_or due 0) m.repeat) (Some (m.repeat + 1))
     else allowed (is_some due && (is_end_flag m.flags && nat_eq m.repeat 0)) None
 
+-- the ids of one device are these, and those of the others as before
 abbrev pub with_ids : (ℕ → List ℕ) → ℕ → List ℕ → ℕ → List ℕ
 with_ids table device ids d = if nat_eq d device then ids else table d
 
+-- the next repeat of one key of a device is this, and those of the others as before
 abbrev pub with_repeat : (ℕ → ℕ → Option ℕ) → ℕ → ℕ → Option ℕ → ℕ → ℕ → Option ℕ
 with_repeat table device scan due d s = if nat_eq d device && nat_eq s scan then due else table d s
 

@@ -16,8 +16,8 @@ pub enum Rotation {
     R270,
 }
 
-/// A place in pixels, `x` to the right and `y` down. Which corner it is counted from, that of the display or that of a window,
-/// is said where it is used.
+/// A place in pixels, `x` to the right and `y` down. Which corner it is counted from, that of the display or that of a
+/// window, is said where it is used.
 #[derive(Clone, Copy, Debug, PartialEq, Eq)]
 pub struct Pixel {
     pub x: i32,

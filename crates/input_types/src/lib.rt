@@ -3,11 +3,12 @@
 //! A finger that goes down at (540, 1200) on device 1 at 12,345.1 seconds is the message
 //!
 //! ```text
-//! Message { seq: 1, moment: 12345100000, body: Motion { device: 1, action: Down, index: 0, flags: 0, pointers: [0 at (540, 1200)] } }
+//! Message { seq: 1, moment: 12345100000, body: Motion { device: 1, action: Down, index: 0, flags: 0, pointers: [0 at
+//! (540, 1200)] } }
 //! ```
 //!
-//! and its action word, as a MotionEvent carries it, is 0. All types here are `Copy` and own no memory. A list of pointers is
-//! a fixed table of 16 places, and contracts see it as the list of those that are in use.
+//! and its action word, as a MotionEvent carries it, is 0. All types here are `Copy` and own no memory. A list of
+//! pointers is a fixed table of 16 places, and contracts see it as the list of those that are in use.
 #![tactic(auto)]
 
 mod axis;

@@ -5,7 +5,8 @@ ghost use Rattle.input_types.specs.Action.{action_number};
 use crate::number::DeviceId;
 use crate::pointer::Pointers;
 
-/// The flag of a message that ends something without being meant as its end, as KeyEvent's and MotionEvent's `FLAG_CANCELED`.
+/// The flag of a message that ends something without being meant as its end, as KeyEvent's and MotionEvent's
+/// `FLAG_CANCELED`.
 pub const FLAG_CANCELED: u32 = 0x20;
 
 /// What a motion says, with MotionEvent's names.

@@ -186,7 +186,8 @@ impl Moment {
     }
 }
 
-/// How long a window may leave a message unfinished before it counts as unresponsive: 1,000 to 600,000,000 microseconds.
+/// How long a window may leave a message unfinished before it counts as unresponsive: 1,000 to 600,000,000
+/// microseconds.
 #[derive(Clone, Copy, Debug, PartialEq, Eq)]
 pub struct Limit {
     us: u64,

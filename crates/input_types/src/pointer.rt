@@ -1,9 +1,10 @@
 //! Pointers, and lists of them.
 ghost use Rattle.std.specs.Prelude.{◌≡◌, ℕ, ◌+◌, ◌<◌, ◌≤◌, ◌==◌, ◌↔◌, IsTrue, List, [], ◌∷◌, ◌++◌, length, slice_get, OnOk, OnErr};
-ghost use Rattle.input_types.specs.Pointers.{IsRising, EndsBelow};
+ghost use Rattle.input_types.specs.Pointers.{IsRising, EndsBelow, unused};
 
 use crate::axis::Pixel;
 use crate::number::PointerId;
+use short_list::{Blank, ShortList};
 use std::marker::Model;
 
 /// One pointer of a motion: its id and where it is.
@@ -22,29 +23,35 @@ pub enum PushRefused {
     NotRising,
 }
 
+impl Blank for Pointer {
+    ghost nothing = { unused };
+
+    fn blank() -> Pointer {
+        Pointer {
+            id: PointerId::zero(),
+            at: Pixel { x: 0, y: 0 },
+        }
+    }
+}
+
 /// At most 16 pointers with rising ids. Contracts see it as a list.
 #[derive(Clone, Copy, Debug, PartialEq, Eq)]
 pub struct Pointers {
-    items: [Pointer; 16],
-    used: u8,
+    list: ShortList<Pointer>,
 }
 
 impl Model for Pointers {
-    ghost use Rattle.std.specs.Prelude.{List, take, length, replicate, ◌++◌, ◌-◌};
+    ghost use Rattle.std.specs.Prelude.{List};
     ghost use Rattle.input_types.specs.declared.pointer.Pointer.{Pointer as Element};
+    ghost use Rattle.input_types.specs.Pointers.{IsRising};
 
     ghost Value = { List Element };
 
-    ghost use Rattle.input_types.specs.Pointers.{IsTable, unused};
-    ghost use Rattle.input_types.specs.Inverse.{fields_again};
+    ghost view = { λ p. p.list };
 
-    ghost view = { λ p. take p.used p.items };
+    ghost invariant = { λ p. IsRising p.list };
 
-    ghost invariant = { λ p. IsTable p.items p.used };
-
-    ghost inverse = { λ ps. record { items = ps ++ replicate (16 - length ps) unused; used = length ps } };
-
-    ghost inverse_ok = { λ p h. fields_again p h };
+    ghost inverse = { λ ps. record { list = ps } };
 }
 
 impl Pointers {
@@ -55,13 +62,8 @@ impl Pointers {
     pub fn empty() -> Pointers
         ensures { result ≡ [] }
     {
-        let unused = Pointer {
-            id: PointerId::zero(),
-            at: Pixel { x: 0, y: 0 },
-        };
         Pointers {
-            items: [unused; 16],
-            used: 0,
+            list: ShortList::empty(),
         }
     }
 
@@ -71,24 +73,21 @@ impl Pointers {
         ensures range { result ≤ 16 }
         ensures rises { IsRising self.now }
     {
-        usize::from(self.used)
+        self.list.len()
     }
 
+    /// Whether it has no pointer.
     pub fn is_empty(&self) -> bool
         ensures { result ≡ (length self.now == 0) }
     {
-        self.used == 0
+        self.list.len() == 0
     }
 
-    /// The pointer at place `i`, counted from 0; None exactly where `i` is not below `len`.
+    /// The pointer at index `i`, counted from 0; None exactly where `i` is not below `len`.
     pub fn get(&self, i: usize) -> Option<Pointer>
         ensures { result ≡ slice_get self.now i }
     {
-        if i < usize::from(self.used) {
-            Some(self.items[i])
-        } else {
-            None
-        }
+        self.list.get(i)
     }
 
     /// The pointers in use as a slice: at most 16, with rising ids.
@@ -97,28 +96,27 @@ impl Pointers {
         ensures range { length result.now ≤ 16 }
         ensures rises { IsRising result.now }
     {
-        &self.items[..usize::from(self.used)]
+        self.list.as_slice()
     }
 
     /// Puts a pointer behind the list.
     ///
-    /// `Full` comes exactly where 16 pointers stand, and else `NotRising` exactly where the last id is not below that of `p`.
-    /// The list then stays as it was.
+    /// `Full` comes exactly where 16 pointers stand, and else `NotRising` exactly where the last id is not below that
+    /// of `p`. The list then stays as it was.
     pub fn push(&mut self, p: Pointer) -> Result<(), PushRefused>
         ensures ok { OnOk result (self.new ≡ self.old ++ p ∷ []) }
         ensures full { (result ≡ Err PushRefused.Full) ↔ (length self.old ≡ 16) }
-        ensures not_rising { (result ≡ Err PushRefused.NotRising) ↔ ((length self.old < 16) × ¬ EndsBelow self.old p.id) }
+        ensures not_rising { (result ≡ Err PushRefused.NotRising)
+            ↔ ((length self.old < 16) × ¬ EndsBelow self.old p.id) }
         ensures err { OnErr result (self.new ≡ self.old) }
     {
-        let used = usize::from(self.used);
-        if used >= Self::MAX {
+        if self.list.len() >= Self::MAX {
             return Err(PushRefused::Full);
         }
-        if !ends_below(&self.items[..used], p.id) {
+        if !ends_below(self.list.as_slice(), p.id) {
             return Err(PushRefused::NotRising);
         }
-        self.items[used] = p;
-        self.used += 1;
+        self.list.push(p);
         Ok(())
     }
 }

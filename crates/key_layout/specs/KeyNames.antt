@@ -8,6 +8,7 @@ use Rattle.key_layout.specs.declared.TheConstants.{NAMES}
 abbrev pub is_name_byte : ℕ → Bool
 is_name_byte b = (nat_le 65 b && nat_le b 90) || ((nat_le 48 b && nat_le b 57) || b == 95)
 
+-- a name has capital letters, digits and underscores alone
 abbrev pub is_name : List ℕ → Bool
 is_name bs = list_all is_name_byte bs
 

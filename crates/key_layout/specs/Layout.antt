@@ -9,7 +9,7 @@ use Rattle.key_layout.specs.declared.error.LayoutError.TheVariants as errors
 use Rattle.key_layout.specs.declared.line.Line.{Line}
 use Rattle.key_layout.specs.declared.line.Line.TheVariants.{PassedOver, Key, BadLine, BadName}
 use Rattle.key_layout.specs.Line.{line_said}
-use Rattle.key_layout.specs.Text.{lines_of}
+use Rattle.text_lines.specs.Lines.{Line as TextLine, lines_of}
 
 -- keys as pairs of a scan code and its key code, in rising scan code
 abbrev pub Codes : Type 0
@@ -23,6 +23,7 @@ found_at codes scan = lookup (λ k. is_eq (nat_cmp scan k)) codes
 abbrev pub code_at : Codes → ℕ → ℕ
 code_at codes scan = unwrap_or (found_at codes scan) 0
 
+-- the one, and then the other with what it gave, unless the one is refused
 infixl 10 ◌>>=◌
 abbrev pub ◌>>=◌ : {A B : Type 0} → Result A LayoutError → (A → Result B LayoutError) → Result B LayoutError
 (Ok x) >>= f = f x
@@ -40,7 +41,7 @@ abbrev pub next_number : ℕ → ℕ
 next_number n = min (n + 1) (2 ^ 64 - 1)
 
 -- the keys so far and those of the lines from line n on, or the refusal of the first refused line
-abbrev pub codes_behind : Codes → ℕ → List (List ℕ) → Result Codes LayoutError
+abbrev pub codes_behind : Codes → ℕ → List TextLine → Result Codes LayoutError
 codes_behind codes n [] = Ok codes
 codes_behind codes n (line ∷ lines) = with_line codes n (line_said line) >>= λ more. codes_behind more (next_number n) lines
 

@@ -4,6 +4,7 @@ use Rattle.std.specs.Str.{bytes_eq}
 use Rattle.key_layout.specs.declared.line.Line.{Line}
 use Rattle.key_layout.specs.declared.line.Line.TheVariants.{PassedOver, Key, BadLine, BadName}
 use Rattle.key_layout.specs.KeyNames.{is_name, code_of_name}
+use Rattle.text_lines.specs.Lines.{Line as TextLine}
 use Rattle.key_layout.specs.Text.{word, behind_word, scan_of, content, without_comment}
 
 -- a line with this first word is about something other than keys
@@ -30,5 +31,5 @@ said bs =
     else BadLine
 
 -- what a line says
-unfoldable pub line_said : List ℕ → Line
+unfoldable pub line_said : TextLine → Line
 line_said line = said (without_comment (content line))

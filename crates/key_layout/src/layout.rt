@@ -3,13 +3,13 @@ ghost use Rattle.std.specs.Prelude.{◌≡◌};
 
 use crate::error::LayoutError;
 use crate::line::{Line, line_said};
-use crate::text::next_line;
 use std::alloc::{AllocError, Global};
 use std::collections::BTreeMap;
 use std::marker::Model;
+use text_lines::first_line;
 
-/// The key codes of a device's scan codes. A clause sees it as a list of pairs of a scan code and its key code, in rising
-/// scan code.
+/// The key codes of a device's scan codes. A clause sees it as a list of pairs of a scan code and its key code, in
+/// rising scan code.
 #[derive(Drop)]
 pub struct Layout {
     codes: BTreeMap<u16, u16>,
@@ -28,12 +28,12 @@ impl Layout {
 
     /// The layout of a text in the form of Android's `.kl` files, or the refusal of its first refused line.
     ///
-    /// Lines are numbered from 1 and end in a newline, with a carriage return before it taken away, or at the end of the
-    /// text. A `#` and all behind it is a comment. Words are separated by spaces and tabs. A line without words is passed
-    /// over, and so is one that begins with `axis`, `led`, `sensor`, `requires_kernel_config` or `key usage`. A line
-    /// `key SCAN NAME FLAGS..` gives the key code of the name to the scan code, a number from 0 to 65535 in decimal digits
-    /// or as `0x` and hexadecimal ones; flags are passed over. A name of capital letters, digits and underscores that has
-    /// no code here gives 0, and no later line may have its scan code. Any other line is refused.
+    /// Lines are numbered from 1 and end in a newline, with a carriage return before it taken away, or at the end of
+    /// the text. A `#` and all behind it is a comment. Words are separated by spaces and tabs. A line without words is
+    /// passed over, and so is one that begins with `axis`, `led`, `sensor`, `requires_kernel_config` or `key usage`. A
+    /// line `key SCAN NAME FLAGS..` gives the key code of the name to the scan code, a number from 0 to 65535 in
+    /// decimal digits or as `0x` and hexadecimal ones; flags are passed over. A name of capital letters, digits and
+    /// underscores that has no code here gives 0, and no later line may have its scan code. Any other line is refused.
     #[tactic(auto, unfolding(crate::specs::Layout::layout_of))]
     pub fn read(alloc: Global, text: &str) -> Result<Layout, LayoutError>
         ensures { Answers (λ l. l) result (layout_of text.now) }
@@ -42,10 +42,10 @@ impl Layout {
         let mut rest = text.as_bytes();
         let mut number: u64 = 1;
         'lines: while !rest.is_empty() {
-            let (line, after) = next_line(rest);
-            add_line(&mut codes, number, line_said(line))?;
+            let line = first_line(rest);
+            add_line(&mut codes, number, line_said(line.text, line.ended))?;
             number = number.saturating_add(1);
-            rest = after;
+            rest = line.rest;
         }
         Ok(Layout { codes })
     }
@@ -63,7 +63,7 @@ impl Layout {
 
 ghost use Rattle.key_layout.specs.Layout.{Answers, with_line};
 
-// Adds what a line says; on a refusal the codes do not matter any more.
+/// Adds what a line says; on a refusal the codes do not matter any more.
 fn add_line(codes: &mut BTreeMap<u16, u16>, number: u64, line: Line) -> Result<(), LayoutError>
     ensures { Answers (λ _. codes.new.entries) result (with_line codes.old.entries number line) }
 {

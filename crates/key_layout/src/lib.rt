@@ -9,8 +9,8 @@
 //! led 0x00  NUM_LOCK
 //! ```
 //!
-//! gives scan code 42 the key code 59 and scan code 30 the key code 29, and every other scan code 0. Flags behind a name
-//! and lines about lights, axes and sensors are passed over, since nothing here needs them.
+//! gives scan code 42 the key code 59 and scan code 30 the key code 29, and every other scan code 0. Flags behind a
+//! name and lines about lights, axes and sensors are passed over, since nothing here needs them.
 #![tactic(auto)]
 
 mod error;

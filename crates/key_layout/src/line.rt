@@ -70,10 +70,10 @@ fn said(bytes: &[u8]) -> Line
     }
 }
 
-/// What a line says that may have a comment, and a newline at its end.
+/// What a line says that may have a comment, and which a newline ends or not.
 #[tactic(auto, unfolding(crate::specs::Line::line_said))]
-pub(crate) fn line_said(line: &[u8]) -> Line
-    ensures { result ≡ line_said line.now }
+pub(crate) fn line_said(text: &[u8], ended: bool) -> Line
+    ensures { result ≡ line_said (text.now, ended) }
 {
-    said(without_comment(content(line)))
+    said(without_comment(content(text, ended)))
 }

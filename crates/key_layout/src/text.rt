@@ -1,41 +1,10 @@
-//! The lines of a text, the words of a line, and the numbers that words write.
+//! The words of a line, and the numbers that words write.
 ghost use Rattle.std.specs.Prelude.{◌≡◌, ◌<◌, ◌≤◌, ◌∷◌, ◌==◌, not, length};
 ghost use Rattle.std.specs.Char.{digit_value};
 ghost use Rattle.std.specs.List.{prefix_len};
-ghost use Rattle.key_layout.specs.Text.{behind_word, content, is_blank, line_len, lines_of, number, scan_of, skip_blanks, without_comment, without_last, word, word_len};
+ghost use Rattle.key_layout.specs.Text.{behind_word, content, number, scan_of, without_comment, without_last, word};
 
-fn is_blank(b: u8) -> bool
-    ensures { result ≡ is_blank b }
-{
-    b == b' ' || b == b'\t'
-}
-
-fn skip_blanks(bytes: &[u8]) -> &[u8]
-    ensures { result.now ≡ skip_blanks bytes.now }
-{
-    let mut rest = bytes;
-    while let [b, after @ ..] = rest {
-        if !is_blank(*b) {
-            return rest;
-        }
-        rest = after;
-    }
-    rest
-}
-
-fn word_len(bytes: &[u8]) -> usize
-    ensures value { result ≡ word_len bytes.now }
-    ensures within { result ≤ length bytes.now }
-{
-    let mut count = 0;
-    for b in bytes {
-        if is_blank(*b) {
-            return count;
-        }
-        count += 1;
-    }
-    count
-}
+use text_lines::{skip_blanks, word_len};
 
 /// The first word and what stands behind it; the word is empty where there is none.
 #[tactic(auto, unfolding(crate::specs::Text::word, crate::specs::Text::behind_word))]
@@ -59,6 +28,7 @@ fn value_of(b: u8) -> u8
     }
 }
 
+/// The number of at most 16 bits that digits of a base write, one digit or more.
 #[tactic(auto, unfolding(crate::specs::Text::number))]
 fn number(base: u8, digits: &[u8]) -> Option<u16>
     requires low { 1 < base }
@@ -93,30 +63,7 @@ pub(crate) fn scan_of(word: &[u8]) -> Option<u16>
     }
 }
 
-fn line_len(bytes: &[u8]) -> usize
-    ensures value { result ≡ line_len bytes.now }
-    ensures within { result ≤ length bytes.now }
-    ensures some { 0 < length bytes.now → 0 < result }
-{
-    let mut count = 0;
-    for b in bytes {
-        count += 1;
-        if *b == b'\n' {
-            return count;
-        }
-    }
-    count
-}
-
-/// The first line, with the newline that ends it, and the bytes behind it.
-pub(crate) fn next_line(bytes: &[u8]) -> (&[u8], &[u8])
-    requires { 0 < length bytes.now }
-    ensures lines { lines_of bytes.now ≡ result.0.now ∷ lines_of result.1.now }
-    ensures shorter { length result.1.now < length bytes.now }
-{
-    bytes.split_at(line_len(bytes))
-}
-
+/// A line without a carriage return at its end.
 fn without_return(line: &[u8]) -> &[u8]
     ensures { result.now ≡ without_last 13 line.now }
 {
@@ -126,16 +73,14 @@ fn without_return(line: &[u8]) -> &[u8]
     }
 }
 
-/// A line without its newline and a carriage return before it.
-pub(crate) fn content(line: &[u8]) -> &[u8]
-    ensures { result.now ≡ content line.now }
+/// A line without the carriage return before its newline.
+pub(crate) fn content(text: &[u8], ended: bool) -> &[u8]
+    ensures { result.now ≡ content (text.now, ended) }
 {
-    match line {
-        [text @ .., b'\n'] => without_return(text),
-        _ => line,
-    }
+    if ended { without_return(text) } else { text }
 }
 
+/// How many bytes stand in front of the first `#`.
 fn comment_at(line: &[u8]) -> usize
     ensures value { result ≡ prefix_len (λ b. not (b == 35)) line.now }
     ensures within { result ≤ length line.now }

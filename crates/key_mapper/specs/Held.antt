@@ -41,6 +41,7 @@ more code c n = if nat_eq c code then n + 1 else n
 abbrev pub fewer : ℕ → ℕ → ℕ → ℕ
 fewer code c n = if nat_eq c code then n - 1 else n
 
+-- one more key with this code is down, where it is a modifier
 abbrev pub with_key : Modifiers → ℕ → Modifiers
 with_key m c = record {
   alt_left = more 57 c m.alt_left;
@@ -51,6 +52,7 @@ with_key m c = record {
   ctrl_right = more 114 c m.ctrl_right;
 }
 
+-- one key less with this code is down, where it is a modifier
 abbrev pub without_key : Modifiers → ℕ → Modifiers
 without_key m c = record {
   alt_left = fewer 57 c m.alt_left;

@@ -14,7 +14,8 @@ use std::alloc::{AllocError, Global};
 use std::collections::BTreeMap;
 use std::marker::Model;
 
-/// The keys of one device that are down, by scan code. What each event costs grows with the logarithm of how many are down.
+/// The keys of one device that are down, by scan code. What each event costs grows with the logarithm of how many are
+/// down.
 #[derive(Drop)]
 pub struct Keys {
     device: DeviceId,
@@ -49,13 +50,17 @@ impl Keys {
         }
     }
 
-    /// Takes the next EV_KEY event and answers the key that it moved, with the meta bits of all keys that are down after it.
+    /// Takes the next EV_KEY event and answers the key that it moved, with the meta bits of all keys that are down
+    /// after it.
     ///
-    /// Value 1 is a press, and 0 a release. None comes exactly where the value is another one (2 is the kernel's own repeat), for a press
-    /// of a key that is down, and for a release of one that is up.
+    /// Value 1 is a press, and 0 a release. None comes exactly where the value is another one (2 is the kernel's own
+    /// repeat), for a press of a key that is down, and for a release of one that is up.
     pub fn take(&mut self, scan: u16, value: i32) -> Result<Option<KeyArgs>, AllocError>
-        ensures ok { (past : List KeyEvent) → StandsFor past self.old → IfOk result (λ key. key ≡ key_of self.old.device self.old.layout past (record { scan = scan; value = value })) }
-        ensures after { (past : List KeyEvent) → StandsFor past self.old → OnOk result (StandsFor (record { scan = scan; value = value } ∷ past) self.new) }
+        ensures ok { (past : List KeyEvent) → StandsFor past self.old
+            → IfOk result (λ key. key
+            ≡ key_of self.old.device self.old.layout past (record { scan = scan; value = value })) }
+        ensures after { (past : List KeyEvent) → StandsFor past self.old
+            → OnOk result (StandsFor (record { scan = scan; value = value } ∷ past) self.new) }
         ensures device { self.new.device ≡ self.old.device }
         ensures layout { self.new.layout ≡ self.old.layout }
         ensures err { OnErr result (self.new ≡ self.old) }
@@ -68,8 +73,11 @@ impl Keys {
     }
 
     fn press(&mut self, scan: u16) -> Result<Option<KeyArgs>, AllocError>
-        ensures ok { (past : List KeyEvent) → StandsFor past self.old → IfOk result (λ key. key ≡ key_of self.old.device self.old.layout past (record { scan = scan; value = pos 1 })) }
-        ensures after { (past : List KeyEvent) → StandsFor past self.old → OnOk result (StandsFor (record { scan = scan; value = pos 1 } ∷ past) self.new) }
+        ensures ok { (past : List KeyEvent) → StandsFor past self.old
+            → IfOk result (λ key. key
+            ≡ key_of self.old.device self.old.layout past (record { scan = scan; value = pos 1 })) }
+        ensures after { (past : List KeyEvent) → StandsFor past self.old
+            → OnOk result (StandsFor (record { scan = scan; value = pos 1 } ∷ past) self.new) }
         ensures device { self.new.device ≡ self.old.device }
         ensures layout { self.new.layout ≡ self.old.layout }
         ensures err { OnErr result (self.new ≡ self.old) }
@@ -86,8 +94,10 @@ impl Keys {
     }
 
     fn release(&mut self, scan: u16) -> Option<KeyArgs>
-        ensures ok { (past : List KeyEvent) → StandsFor past self.old → result ≡ key_of self.old.device self.old.layout past (record { scan = scan; value = pos 0 }) }
-        ensures after { (past : List KeyEvent) → StandsFor past self.old → StandsFor (record { scan = scan; value = pos 0 } ∷ past) self.new }
+        ensures ok { (past : List KeyEvent) → StandsFor past self.old
+            → result ≡ key_of self.old.device self.old.layout past (record { scan = scan; value = pos 0 }) }
+        ensures after { (past : List KeyEvent) → StandsFor past self.old
+            → StandsFor (record { scan = scan; value = pos 0 } ∷ past) self.new }
         ensures device { self.new.device ≡ self.old.device }
         ensures layout { self.new.layout ≡ self.old.layout }
     {
@@ -98,7 +108,14 @@ impl Keys {
 
     /// A key that moved, with the meta bits of the keys that are down now.
     fn moved(&self, scan: u16, code: u16, down: bool) -> KeyArgs
-        ensures { result ≡ record { device = self.now.device; scan = scan; code = code; meta = bits (counts self.now.down); down = down } }
+        ensures { result
+            ≡ record {
+              device = self.now.device;
+              scan = scan;
+              code = code;
+              meta = bits (counts self.now.down);
+              down = down;
+            } }
     {
         KeyArgs {
             device: self.device,

@@ -19,7 +19,8 @@ pub(crate) struct Modifiers {
 impl Modifiers {
     /// No key is down.
     pub fn none() -> Modifiers
-        ensures { result ≡ record { alt_left = 0; alt_right = 0; shift_left = 0; shift_right = 0; ctrl_left = 0; ctrl_right = 0 } }
+        ensures { result
+            ≡ record { alt_left = 0; alt_right = 0; shift_left = 0; shift_right = 0; ctrl_left = 0; ctrl_right = 0 } }
     {
         Modifiers {
             alt_left: 0,

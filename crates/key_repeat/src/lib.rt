@@ -8,8 +8,8 @@
 //! sent up, at 1560000                 nothing is due
 //! ```
 //!
-//! The first repeat comes half a second after the down, and each further one a twentieth of a second after the one before, as Android's
-//! `ViewConfiguration` has it by default.
+//! The first repeat comes half a second after the down, and each further one a twentieth of a second after the one
+//! before, as Android's `ViewConfiguration` has it by default.
 #![tactic(auto)]
 
 mod repeat;

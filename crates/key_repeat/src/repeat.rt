@@ -19,8 +19,8 @@ struct Sent {
     clock: Moment,
 }
 
-/// When a key that is held is to be repeated. The last key message decides; its owner calls `stop` where the window that was told no
-/// longer holds the key.
+/// When a key that is held is to be repeated. The last key message decides; its owner calls `stop` where the window
+/// that was told no longer holds the key.
 #[derive(Clone, Copy, Debug)]
 pub struct Repeat {
     last: Option<Sent>,
@@ -82,8 +82,8 @@ impl Repeat {
         self.last = None;
     }
 
-    /// When the next repeat is due, in microseconds. None where no message came since `new` or the last `stop`, where the last one was of an
-    /// up, and where its repeat number is the greatest of 32 bits.
+    /// When the next repeat is due, in microseconds. None where no message came since `new` or the last `stop`, where
+    /// the last one was of an up, and where its repeat number is the greatest of 32 bits.
     pub fn due(&self) -> Option<u64>
         ensures { result ≡ due_of self.now }
     {
@@ -95,8 +95,8 @@ impl Repeat {
         }
     }
 
-    /// The channel that the next repeat is for, and the repeat: the same down, its number one higher. None exactly where none is due at any
-    /// time.
+    /// The channel that the next repeat is for, and the repeat: the same down, its number one higher. None exactly
+    /// where none is due at any time.
     pub fn next(&self) -> Option<(u32, KeyMsg)>
         ensures { option_map (λ n. (n.0, n.1)) result ≡ next_of self.now }
     {

@@ -1,8 +1,8 @@
 //! What is proved of what is kept. Each function has the laws as its clauses, and does nothing.
 ghost use Rattle.key_tables.specs.Laws.{FocusRead, FocusRequested, FocusShown, FocusLeft, FocusMasks, FocusAtFirst, FocusTold, KeysOfTarget, KeysRise, KeysAtFirst, BodiesTracked, KeysStep, SaidParts, KeysQuiet, TargetTold, RepeatRead, RepeatStep, RepeatLeft};
 
-/// What is kept of the focus says who has it and where keys go, changes as each call says, and tells each channel what it
-/// has to know.
+/// What is kept of the focus says who has it and where keys go, changes as each call says, and tells each channel what
+/// it has to know.
 pub fn focus()
     ensures read { FocusRead }
     ensures requested { FocusRequested }

@@ -64,7 +64,8 @@ impl<'a, R: rt::Files> Files for HostFiles<'a, R> {
     /// Opens the file of this path. Each refusal of the machine is a fault.
     fn source(&mut self, name: &str) -> Result<HostSource<R::File>, SourceRefused>
         requires { loan_of self.old.lent ≡ None }
-        ensures count { self.new ≡ record { faults = faults_after (is_err result) self.old.faults; lent = is_ok result } }
+        ensures count { self.new
+            ≡ record { faults = faults_after (is_err result) self.old.faults; lent = is_ok result } }
         ensures bytes { IfOk result (λ source. GivesBytes None name.now None) }
         ensures fresh { IfOk result (λ source. source ≡ 0) }
         ensures lent { IfOk result (λ source. loan_of self.new.lent ≡ Some 0) }

@@ -96,7 +96,15 @@ impl MemFiles {
     pub fn new(files: Vec<(String, Vec<u8>)>, piece: usize, failing: Vec<u64>) -> MemFiles
         requires piece { 0 < piece }
         requires names { IsTrue (names_differ_in (map entry files.items)) }
-        ensures { result ≡ record { files = map entry files.items; piece = piece; failing = failing.items; next = 1; lent = false; faults = 0 } }
+        ensures { result
+            ≡ record {
+              files = map entry files.items;
+              piece = piece;
+              failing = failing.items;
+              next = 1;
+              lent = false;
+              faults = 0;
+            } }
     {
         MemFiles {
             files,

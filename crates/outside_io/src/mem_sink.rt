@@ -41,7 +41,8 @@ impl MemSink {
     /// Its writes are numbered from 1, and those in `failing` fail.
     pub fn new(room: Vec<u8>, piece: usize, failing: Vec<u64>) -> MemSink
         requires { 0 < piece }
-        ensures { result ≡ record { taken = []; room = vec_len room; piece = piece; failing = failing.items; next = 1; faults = 0 } }
+        ensures { result
+            ≡ record { taken = []; room = vec_len room; piece = piece; failing = failing.items; next = 1; faults = 0 } }
     {
         MemSink {
             room,

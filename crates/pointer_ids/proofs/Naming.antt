@@ -1,10 +1,8 @@
 -- Ids of a packet, finger by finger.
 use Rattle.std.specs.Prelude.{◌≡◌, ℕ, suc, ◌+◌, ◌<◌, Bool, true, false, ◌||◌, nat_eq, List, [], ◌∷◌, ◌++◌, length, drop, get_or}
-use Rattle.std.proofs.Common.{sym, ◌∙◌, ap, refl, arith, drop-cons, append_assoc, add-one}
-use Rattle.std.specs.Prelude.{◌-◌, ◌≢◌, ℤ, Option, None, is_some, if◌then◌else◌, ◌⊎◌, take, replicate}
-use Rattle.std.proofs.Common.{set, take-suc-set, drop-set-lt, drop-drop, inl, inr, eq-eqb, ne_eqb}
-use Rattle.std.proofs.lemmas.List.{length-set, drop-replicate}
-use Rattle.pointer_ids.specs.NamedTable.{IsTable, unused}
+use Rattle.std.proofs.Common.{sym, ◌∙◌, ap, refl, drop-cons, append_assoc, add-one}
+use Rattle.std.specs.Prelude.{◌≢◌, ℤ, Option, None, is_some, if◌then◌else◌, ◌⊎◌}
+use Rattle.std.proofs.Common.{inl, inr, eq-eqb, ne_eqb}
 use Rattle.std.proofs.Math.Path.{fun_ext}
 use Rattle.std.proofs.lemmas.Bool.{cases_eq}
 use Rattle.slot_accumulator.specs.declared.contacts.Contact.{Contact}
@@ -36,25 +34,6 @@ pub marked_next : (k : ℕ) (rest : List Named) (n : Named) (a b : ℕ) → is_i
 marked_next k rest n a b h =
     ap (λ t. t || has_id k rest) h ∙ or_swap (nat_eq k n.id) (is_in k a) (has_id k rest)
     ∙ ap (λ t. is_in k a || (t || has_id k rest)) (eqb_sym k n.id)
-
--- a contact put into the first place that is not in use
-pub IsTable-set : (items : List Named) (used : ℕ) (p : Named) → IsTable items used → used < 16
-    → IsTable (set items used p) (used + 1)
-IsTable-set items used p h lt =
-    let here : used < length items = omega (arith, lt, h.whole)
-    in let pushed : take (used + 1) (set items used p) ≡ take used items ++ p ∷ []
-    = ap (λ n. take n (set items used p)) (add-one used) ∙ take-suc-set items used p here
-    in let left : drop (used + 1) (set items used p) ≡ replicate (16 - (used + 1)) unused
-    = drop-set-lt (used + 1) items used p (omega arith)
-    ∙ sym (drop-drop 1 used items)
-    ∙ ap (λ xs. drop 1 xs) h.rest
-    ∙ drop-replicate 1 (16 - used) unused
-    ∙ ap (λ n. replicate n unused) (omega arith)
-    in record {
-      whole = length-set items used p ∙ h.whole;
-      within = omega (arith, lt);
-      rest = left;
-    }
 
 -- what is left of a list at one of its elements
 pub drop_item : {X : Type 0} (xs : List X) (i : ℕ) (x : X) → i < length xs → x ≡ get_or xs i x → drop i xs ≡ x ∷ drop (i + 1) xs

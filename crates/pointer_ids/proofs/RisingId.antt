@@ -1,37 +1,17 @@
 -- The pointers of a packet in rising id.
-use Rattle.std.specs.Prelude.{◌≡◌, ℕ, zero, suc, ◌+◌, ◌-◌, ◌<◌, ◌≤◌, Bool, true, false, nat_eq, nat_lt, List, [], ◌∷◌, ◌++◌, length, take, drop, replicate, Option, Some, None, find, if◌then◌else◌}
-use Rattle.std.proofs.Common.{sym, ◌∙◌, ap, subst, refl, arith, set, take-suc-set, drop-set-lt, drop-drop, add-one, length-append}
+use Rattle.std.specs.Prelude.{◌≡◌, ℕ, zero, suc, ◌+◌, ◌-◌, ◌<◌, ◌≤◌, Bool, true, false, nat_eq, nat_lt, List, [], ◌∷◌, ◌++◌, length, Option, Some, None, find, if◌then◌else◌}
+use Rattle.std.proofs.Common.{sym, ◌∙◌, ap, subst, refl, arith, length-append}
 use Rattle.std.proofs.lemmas.Bool.{eqb-true, ltb-true, ltb-false}
-use Rattle.std.proofs.lemmas.List.{length-set, drop-replicate}
 use Rattle.pointer_ids.specs.declared.named.Named.{Named}
 use Rattle.pointer_ids.specs.declared.assigned.Held.{Held}
-use Rattle.pointer_ids.specs.Assigned.{IsRising, EndsBelow, IsTable, unused}
+use Rattle.pointer_ids.specs.Assigned.{IsRising, EndsBelow}
 use Rattle.pointer_ids.specs.PointerIds.{held, joined, by_id}
 
+-- one more pointer with a greater id
 pub IsRising-append : (ps : List Held) (p : Held) → IsRising ps → EndsBelow ps p.id → IsRising (ps ++ p ∷ [])
 IsRising-append [] p h e = tt
 IsRising-append (q ∷ []) p h e = (e, tt)
 IsRising-append (q ∷ r ∷ ps) p h e = (h.0, IsRising-append (r ∷ ps) p h.1 e)
-
--- a pointer put into the first place that is not in use
-pub IsTable-set : (items : List Held) (used : ℕ) (p : Held) → IsTable items used → used < 16 → EndsBelow (take used items) p.id
-    → IsTable (set items used p) (used + 1)
-IsTable-set items used p h lt e =
-    let here : used < length items = omega (arith, lt, h.whole)
-    in let pushed : take (used + 1) (set items used p) ≡ take used items ++ p ∷ []
-    = ap (λ n. take n (set items used p)) (add-one used) ∙ take-suc-set items used p here
-    in let left : drop (used + 1) (set items used p) ≡ replicate (16 - (used + 1)) unused
-    = drop-set-lt (used + 1) items used p (omega arith)
-    ∙ sym (drop-drop 1 used items)
-    ∙ ap (λ xs. drop 1 xs) h.rest
-    ∙ drop-replicate 1 (16 - used) unused
-    ∙ ap (λ n. replicate n unused) (omega arith)
-    in record {
-      whole = length-set items used p ∙ h.whole;
-      within = omega (arith, lt);
-      rises = subst IsRising (sym pushed) (IsRising-append (take used items) p h.rises e);
-      rest = left;
-    }
 
 -- ---- pointers by id
 

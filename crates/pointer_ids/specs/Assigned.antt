@@ -1,5 +1,5 @@
--- What contracts see of the pointers of a packet, and the table that keeps them.
-use Rattle.std.specs.Prelude.{◌≡◌, ℕ, ◌-◌, ◌<◌, ◌≤◌, pos, List, [], ◌∷◌, length, take, drop, replicate}
+-- What contracts see of the pointers of a packet.
+use Rattle.std.specs.Prelude.{ℕ, ◌<◌, pos, List, [], ◌∷◌}
 use Rattle.pointer_ids.specs.declared.assigned.Held.{Held}
 
 -- the pointers of a packet in rising id, and the set of the ids that are cancelled in it
@@ -19,13 +19,6 @@ EndsBelow [] n = Unit {0}
 EndsBelow (p ∷ []) n = p.id < n
 EndsBelow (p ∷ q ∷ ps) n = EndsBelow (q ∷ ps) n
 
--- what stands in the places of a table that are not in use
+-- what stands in the places of a list that are not in use
 abbrev pub unused : Held
 unused = record { id = 0; x = pos 0; y = pos 0 }
-
--- a table of 16 places whose first `used` are a list with rising ids, and whose others are all `unused`
-pub record IsTable (items : List Held) (used : ℕ) : Type 0 where
-  pub whole : length items ≡ 16
-  pub within : used ≤ 16
-  pub rises : IsRising (take used items)
-  pub rest : drop used items ≡ replicate (16 - used) unused

@@ -1,9 +1,10 @@
 //! The pointers of a packet in the device's units.
 ghost use Rattle.std.specs.Prelude.{◌≡◌, ℕ, ◌+◌, ◌<◌, ◌≤◌, List, [], ◌∷◌, ◌++◌, length, slice_get};
-ghost use Rattle.pointer_ids.specs.Assigned.{IsRising, EndsBelow};
+ghost use Rattle.pointer_ids.specs.Assigned.{IsRising, EndsBelow, unused};
 
 use bits32::Bits32;
 use input_types::PointerId;
+use short_list::{Blank, ShortList};
 use std::marker::Model;
 
 /// A pointer and where it is in the device's units.
@@ -14,35 +15,36 @@ pub struct Held {
     pub y: i32,
 }
 
+impl Blank for Held {
+    ghost nothing = { unused };
+
+    fn blank() -> Held {
+        Held {
+            id: PointerId::zero(),
+            x: 0,
+            y: 0,
+        }
+    }
+}
+
 /// The pointers of a packet, at most 16 with rising ids, and which ids of the packet before are cancelled: fingers that
 /// became palms.
 #[derive(Clone, Copy, Debug, PartialEq, Eq)]
 pub struct Assigned {
-    items: [Held; 16],
-    used: u8,
+    list: ShortList<Held>,
     cancelled: Bits32,
 }
 
 impl Model for Assigned {
-    ghost use Rattle.std.specs.Prelude.{take, length, replicate, ◌++◌, ◌-◌};
-    ghost use Rattle.pointer_ids.specs.Assigned.{Assignment};
+    ghost use Rattle.pointer_ids.specs.Assigned.{Assignment, IsRising};
 
     ghost Value = { Assignment };
 
-    ghost use Rattle.pointer_ids.specs.Assigned.{IsTable, unused};
-    ghost use Rattle.pointer_ids.specs.AssignedInverse.{fields_again};
+    ghost view = { λ a. record { pointers = a.list; cancelled = a.cancelled } };
 
-    ghost view = { λ a. record { pointers = take a.used a.items; cancelled = a.cancelled } };
+    ghost invariant = { λ a. IsRising a.list };
 
-    ghost invariant = { λ a. IsTable a.items a.used };
-
-    ghost inverse = { λ s. record {
-      items = s.pointers ++ replicate (16 - length s.pointers) unused;
-      used = length s.pointers;
-      cancelled = s.cancelled;
-    } };
-
-    ghost inverse_ok = { λ a h. fields_again a h };
+    ghost inverse = { λ s. record { list = s.pointers; cancelled = s.cancelled } };
 }
 
 impl Assigned {
@@ -60,14 +62,8 @@ impl Assigned {
     pub(crate) fn cancelling(ids: Bits32) -> Assigned
         ensures { result ≡ record { pointers = []; cancelled = ids } }
     {
-        let unused = Held {
-            id: PointerId::zero(),
-            x: 0,
-            y: 0,
-        };
         Assigned {
-            items: [unused; 16],
-            used: 0,
+            list: ShortList::empty(),
             cancelled: ids,
         }
     }
@@ -78,18 +74,14 @@ impl Assigned {
         ensures range { result ≤ 16 }
         ensures rises { IsRising self.now.pointers }
     {
-        usize::from(self.used)
+        self.list.len()
     }
 
-    /// The pointer at place `i`, counted from 0; None exactly where `i` is not below `len`.
+    /// The pointer at index `i`, counted from 0; None exactly where `i` is not below `len`.
     pub fn get(&self, i: usize) -> Option<Held>
         ensures { result ≡ slice_get self.now.pointers i }
     {
-        if i < usize::from(self.used) {
-            Some(self.items[i])
-        } else {
-            None
-        }
+        self.list.get(i)
     }
 
     /// The pointers as a slice.
@@ -98,7 +90,7 @@ impl Assigned {
         ensures range { length result.now ≤ 16 }
         ensures rises { IsRising result.now }
     {
-        &self.items[..usize::from(self.used)]
+        self.list.as_slice()
     }
 
     /// The ids of the packet before whose fingers became palms: each goes up without being meant to.
@@ -114,7 +106,6 @@ impl Assigned {
         requires rises { EndsBelow self.old.pointers held.id }
         ensures { self.new ≡ record { pointers = self.old.pointers ++ held ∷ []; cancelled = self.old.cancelled } }
     {
-        self.items[usize::from(self.used)] = held;
-        self.used += 1;
+        self.list.push(held);
     }
 }

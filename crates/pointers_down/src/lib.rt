@@ -1,7 +1,7 @@
 //! The pointers that are down on one device, as a set of ids, after each of its motions.
 //!
-//! One table says which motion may come next, both of what a device does and of what a window is told. A second finger goes down
-//! while pointer 0 is, and then the first one goes up:
+//! One table says which motion may come next, both of what a device does and of what a window is told. A second finger
+//! goes down while pointer 0 is, and then the first one goes up:
 //!
 //! ```text
 //! down    motion                      down after it

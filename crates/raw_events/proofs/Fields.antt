@@ -7,7 +7,8 @@ use Rattle.std.specs.List.{list_all}
 use Rattle.std.specs.Str.Parse.{digits_value}
 use Rattle.std.proofs.lemmas.Bool.{and_parts, or_cases}
 use Rattle.std.proofs.lemmas.List.Folds.{list_all-append}
-use Rattle.raw_events.specs.Text.{is_blank, number, number_at}
+use Rattle.raw_events.specs.Text.{number, number_at}
+use Rattle.text_lines.specs.Blanks.{is_blank}
 use Rattle.raw_events.specs.Line.{fields_of}
 use Rattle.raw_events.specs.Front.{plain}
 

@@ -7,7 +7,8 @@ use Rattle.std.specs.Str.{byte}
 use Rattle.std.proofs.lemmas.List.{take-append-le, drop-append-le, length-append, length-drop}
 use Rattle.input_types.specs.declared.number.DeviceId.{DeviceId}
 use Rattle.raw_events.specs.declared.line.Fields.{Fields}
-use Rattle.raw_events.specs.Text.{◌>>=◌, is_blank, skip_blanks, after_blanks, after_byte, ends_in, number, number_at, word_len}
+use Rattle.raw_events.specs.Text.{◌>>=◌, after_blanks, after_byte, number, number_at}
+use Rattle.text_lines.specs.Blanks.{is_blank, skip_blanks, ends_in, word_len}
 use Rattle.raw_events.specs.Line.{Known, seconds_at, moment_at, path_at, fields_of, sender, sent, formed, judged_text}
 use Rattle.raw_events.specs.Front.{plain, TimeSays, PathSays}
 

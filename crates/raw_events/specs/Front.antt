@@ -2,7 +2,8 @@
 use Rattle.std.specs.Prelude.{ℕ, ◌≡◌, Bool, true, not, List, [], ◌∷◌, ◌++◌, Option, Some}
 use Rattle.std.specs.Str.{byte}
 use Rattle.input_types.specs.declared.number.DeviceId.{DeviceId}
-use Rattle.raw_events.specs.Text.{is_blank, after_blanks}
+use Rattle.raw_events.specs.Text.{after_blanks}
+use Rattle.text_lines.specs.Blanks.{is_blank}
 use Rattle.raw_events.specs.Line.{Known, moment_at, path_at, sender}
 
 -- no blank stands in front

@@ -10,7 +10,8 @@ use Rattle.raw_events.specs.declared.line.Fields.{Fields}
 use Rattle.raw_events.specs.declared.line.Cause.TheVariants.{BadLine, NoMoment, TooLong}
 use Rattle.raw_events.specs.declared.line.Line.{Line}
 use Rattle.raw_events.specs.declared.line.Line.TheVariants.{PassedOver, Event, Refused}
-use Rattle.raw_events.specs.Text.{◌>>=◌, skip_blanks, after_blanks, after_byte, ends_in, number_at, word_len}
+use Rattle.raw_events.specs.Text.{◌>>=◌, after_blanks, after_byte, number_at}
+use Rattle.text_lines.specs.Blanks.{skip_blanks, ends_in, word_len}
 
 -- 1 to 12 decimal digits, as many as there are
 unfoldable pub seconds_at : List ℕ → Option (ℕ × List ℕ)
@@ -83,6 +84,7 @@ formed devices bs = do
   fields ← fields_of path.1
   Some (sent (sender devices path.0) moment.0 fields)
 
+-- a line that has no reading is bad
 abbrev pub or_bad : Option Line → Line
 or_bad None = Refused BadLine
 or_bad (Some line) = line

@@ -81,6 +81,7 @@ abbrev pub closing : List ℕ → List ℕ
 closing [] = []
 closing (b ∷ bs) = 10 ∷ []
 
+-- the newline that ends a line which has begun
 abbrev pub closing_at : Place → List ℕ
 closing_at (Err error) = []
 closing_at (Ok at) = closing at.1
@@ -109,5 +110,6 @@ abbrev pub still_at : Known → Place → List ℕ → Result (List RawEvent) Li
 still_at devices (Err error) bytes = Err error
 still_at devices (Ok at) bytes = events_from devices at.0 (lines_of (at.1 ++ bytes))
 
+-- what a reader still gives where these bytes come, and then the end
 abbrev pub still : Reader → List ℕ → Result (List RawEvent) LineError
 still reader bytes = still_at reader.devices reader.place bytes

@@ -15,6 +15,7 @@ use Rattle.raw_events.specs.Line.{Known, judged}
 abbrev pub line_len : List ℕ → ℕ
 line_len bs = prefix_len (λ b. not (b == 10)) bs
 
+-- a byte in front of the first of these lines, which is a line of its own where there is none
 abbrev pub with_front : ℕ → List (List ℕ) → List (List ℕ)
 with_front b [] = (b ∷ []) ∷ []
 with_front b (line ∷ lines) = (b ∷ line) ∷ lines

@@ -6,10 +6,9 @@ ghost use Rattle.raw_events.specs.Line.{known, seconds_at, moment_at, path_at, f
 
 use crate::event::RawEvent;
 use crate::front::{Front, front_of, quick};
-use crate::text::{
-    decimal_at, digits_in_front, hex_at, past_blanks, past_byte, trim_blanks, word_in_front,
-};
+use crate::text::{decimal_at, digits_in_front, hex_at, past_blanks, past_byte};
 use input_types::{DeviceId, Moment};
+use text_lines::{skip_blanks, word_len};
 
 /// The greatest length of a line, a carriage return at its end counted.
 pub(crate) const MAX_LINE: usize = 4096;
@@ -73,10 +72,10 @@ pub(crate) fn moment(bytes: &[u8]) -> Option<(u64, &[u8])>
     ensures value { option_map (λ read. (read.0, read.1.now)) result ≡ moment_at bytes.now }
     ensures bound { IfSome result (λ read. read.0 < 10 ^ 18) }
 {
-    let (seconds, rest) = seconds(trim_blanks(bytes))?;
+    let (seconds, rest) = seconds(skip_blanks(bytes))?;
     let rest = past_byte(b'.', rest)?;
     let (fraction, rest) = decimal_at(6, rest)?;
-    let rest = past_byte(b']', trim_blanks(rest))?;
+    let rest = past_byte(b']', skip_blanks(rest))?;
     Some((seconds * 1_000_000 + fraction, rest))
 }
 
@@ -89,7 +88,7 @@ pub(crate) fn path(bytes: &[u8]) -> Option<(Option<&[u8]>, &[u8])>
     let [b'/', ..] = bytes else {
         return Some((None, bytes));
     };
-    let (word, rest) = bytes.split_at(word_in_front(bytes));
+    let (word, rest) = bytes.split_at(word_len(bytes));
     let [path @ .., b':'] = word else {
         return None;
     };
@@ -108,7 +107,7 @@ fn read_fields(bytes: &[u8]) -> Option<Fields>
     let (code, rest) = hex_at(4, rest)?;
     let rest = past_blanks(rest)?;
     let (value, rest) = hex_at(8, rest)?;
-    if !trim_blanks(rest).is_empty() {
+    if !skip_blanks(rest).is_empty() {
         return None;
     }
     Some(fields_from(kind, code, value))
@@ -201,7 +200,7 @@ pub(crate) fn judge(devices: &[(String, DeviceId)], line: &[u8]) -> Line
     if line.len() > MAX_LINE {
         return Line::Refused(Cause::TooLong);
     }
-    judge_text(devices, trim_blanks(strip_return(line)))
+    judge_text(devices, skip_blanks(strip_return(line)))
 }
 
 /// What a line says, and its front, where the front of the line before it helps to read it.
@@ -219,7 +218,7 @@ pub(crate) fn judge_next<'a>(
     if line.len() > MAX_LINE {
         return (Line::Refused(Cause::TooLong), None);
     }
-    let text = trim_blanks(strip_return(line));
+    let text = skip_blanks(strip_return(line));
     match front {
         Some(front) => judge_behind(devices, front, text),
         None => judge_alone(devices, text),

@@ -2,31 +2,11 @@
 ghost use Rattle.std.specs.Prelude.{◌≡◌, ℕ, ◌<◌, ◌≤◌, ◌^◌, length, option_map, take, drop, IfSome, Some, ◌==◌};
 ghost use Rattle.std.specs.Char.{is_digit};
 ghost use Rattle.std.specs.List.{prefix_len};
-ghost use Rattle.raw_events.specs.Text.{is_blank, skip_blanks, after_blanks, after_byte, number, number_at, word_len};
+ghost use Rattle.raw_events.specs.Text.{after_blanks, after_byte, number, number_at};
+ghost use Rattle.text_lines.specs.Blanks.{is_blank, skip_blanks, word_len};
 
 use crate::digits::value_of;
-
-#[inline(always)]
-pub(crate) fn blank(b: u8) -> bool
-    ensures { result ≡ is_blank b }
-{
-    b == b' ' || b == b'\t'
-}
-
-/// The bytes behind the blanks in front.
-#[inline(always)]
-pub(crate) fn trim_blanks(bytes: &[u8]) -> &[u8]
-    ensures { result.now ≡ skip_blanks bytes.now }
-{
-    let mut rest = bytes;
-    while let [b, after @ ..] = rest {
-        if !blank(*b) {
-            return rest;
-        }
-        rest = after;
-    }
-    rest
-}
+use text_lines::{is_blank, skip_blanks};
 
 /// The bytes behind the blanks in front, of which there is at least one.
 #[inline(always)]
@@ -35,8 +15,8 @@ pub(crate) fn past_blanks(bytes: &[u8]) -> Option<&[u8]>
 {
     match bytes {
         [b, rest @ ..] => {
-            if blank(*b) {
-                Some(trim_blanks(rest))
+            if is_blank(*b) {
+                Some(skip_blanks(rest))
             } else {
                 None
             }
@@ -132,22 +112,6 @@ pub(crate) fn digits_in_front(bytes: &[u8]) -> usize
     let mut count = 0;
     for b in bytes {
         if value_of(*b) >= 10 {
-            return count;
-        }
-        count += 1;
-    }
-    count
-}
-
-/// The length of the word in front.
-#[inline(always)]
-pub(crate) fn word_in_front(bytes: &[u8]) -> usize
-    ensures value { result ≡ word_len bytes.now }
-    ensures within { result ≤ length bytes.now }
-{
-    let mut count = 0;
-    for b in bytes {
-        if blank(*b) {
             return count;
         }
         count += 1;

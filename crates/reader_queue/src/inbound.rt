@@ -8,7 +8,8 @@ use std::alloc::{AllocError, Global};
 use std::collections::VecDeque;
 use std::marker::Model;
 
-/// Args that wait, the next one first, and room for some more. Contracts see the list, and how many more there is room for.
+/// Args that wait, the next one first, and room for some more. Contracts see the list, and how many more there is room
+/// for.
 #[derive(Drop)]
 pub struct Inbound {
     waiting: VecDeque<Args>,

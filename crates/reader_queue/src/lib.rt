@@ -10,8 +10,8 @@
 //! pop                DOWN
 //! ```
 //!
-//! Room is reserved first and used then, so that whoever changes several things at once can make sure of all memory before the first
-//! change.
+//! Room is reserved first and used then, so that whoever changes several things at once can make sure of all memory
+//! before the first change.
 //!
 //! The places of what was taken serve again, so a queue that never holds more than it once did takes no further memory.
 #![tactic(auto)]

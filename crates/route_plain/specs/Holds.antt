@@ -11,6 +11,7 @@ use Rattle.route_plain.specs.declared.hold.Pilferer.{Pilferer}
 abbrev pub pair_of : Hold → Pair
 pair_of h = record { window = h.window; device = h.device; id = h.id }
 
+-- the pairs that the rules see, in the order of the list
 abbrev pub pairs_of : List Hold → List Pair
 pairs_of hs = map pair_of hs
 

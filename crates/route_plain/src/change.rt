@@ -54,7 +54,10 @@ fn taken_by(
     some_pilfering: bool,
 ) -> Result<Vec<Hold>, AllocError>
     ensures { let s = scene_at moment.now in
-        IfOk result (λ v. v.items ≡ map (λ w. hold_from turn moment.now.holds.now (record { window = w.channel; device = device; id = id })) (filter (λ w. is_candidate_of chosen (mask_has spies) w.channel && (s.pilfering w.channel device || not some_pilfering) && s.able w.channel) s.windows)) }
+        IfOk result (λ v. v.items
+        ≡ map (λ w. hold_from turn moment.now.holds.now (record { window = w.channel; device = device; id = id }))
+        (filter (λ w. is_candidate_of chosen (mask_has spies) w.channel
+        && (s.pilfering w.channel device || not some_pilfering) && s.able w.channel) s.windows)) }
 {
     moment
         .snapshot
@@ -74,7 +77,8 @@ fn taken_by(
 
 /// The spies of the snapshot at a point.
 fn spies(moment: &Moment, device: DeviceId, at: Pixel) -> u64
-    ensures { let s = scene_at moment.now in (c : ℕ) → mask_has result c ≡ is_spy_at s.windows (s.reach device) at.x at.y c }
+    ensures { let s = scene_at moment.now in (c : ℕ)
+        → mask_has result c ≡ is_spy_at s.windows (s.reach device) at.x at.y c }
 {
     moment.snapshot.spies(at.x, at.y, moment.live)
 }
@@ -88,7 +92,8 @@ fn gained_down(
     pointer: Pointer,
 ) -> Result<Vec<Hold>, AllocError>
     ensures { let s = scene_at moment.now in
-        IfOk result (λ v. v.items ≡ map (hold_from turn moment.now.holds.now) (pairs device pointer.id (takers s device pointer.at))) }
+        IfOk result (λ v. v.items
+        ≡ map (hold_from turn moment.now.holds.now) (pairs device pointer.id (takers s device pointer.at))) }
 {
     let chosen = chosen(moment, device, pointer.at);
     let spies = spies(moment, device, pointer.at);
@@ -105,7 +110,8 @@ fn gained_slip(
     id: PointerId,
     slipped: Option<Slip>,
 ) -> Result<Vec<Hold>, AllocError>
-    ensures { IfOk result (λ v. v.items ≡ map (hold_from turn moment.now.holds.now) (slips_in device id (option_map rule_slip slipped))) }
+    ensures { IfOk result
+        (λ v. v.items ≡ map (hold_from turn moment.now.holds.now) (slips_in device id (option_map rule_slip slipped))) }
 {
     let mut gained = Vec::new(alloc);
     if let Some(slip) = slipped {
@@ -130,7 +136,8 @@ fn gained(
     slipped: Option<Slip>,
 ) -> Result<Vec<Hold>, AllocError>
     requires { option_map rule_slip slipped ≡ slip (scene_at moment.now) motion.now }
-    ensures { IfOk result (λ v. v.items ≡ map (hold_from turn moment.now.holds.now) (given (scene_at moment.now) (Moves motion.now))) }
+    ensures { IfOk result
+        (λ v. v.items ≡ map (hold_from turn moment.now.holds.now) (given (scene_at moment.now) (Moves motion.now))) }
 {
     let Some(pointer) = changed(motion) else {
         return Ok(Vec::new(alloc));
@@ -180,7 +187,8 @@ fn change_by(
     turn: u64,
     motion: &Motion,
 ) -> Result<Change, AllocError>
-    ensures { IfOk result (λ k. IsChange (scene_at moment.now) (Moves motion.now) turn moment.now.holds.now k.gained.items k.loss) }
+    ensures { IfOk result
+        (λ k. IsChange (scene_at moment.now) (Moves motion.now) turn moment.now.holds.now k.gained.items k.loss) }
 {
     let slipped = slip_of(moment, motion);
     let gained = gained(alloc, moment, turn, motion, slipped)?;
@@ -214,7 +222,8 @@ pub(crate) fn change_of(
     number: u64,
     turn: &Turn,
 ) -> Result<Change, AllocError>
-    ensures { let s = scene_at moment.now in IfOk result (λ k. IsChange s (step_of turn.now s.windows) number moment.now.holds.now k.gained.items k.loss) }
+    ensures { let s = scene_at moment.now in IfOk result
+        (λ k. IsChange s (step_of turn.now s.windows) number moment.now.holds.now k.gained.items k.loss) }
 {
     match turn {
         Turn::Pointers(motion) => change_by(alloc, moment, number, motion),

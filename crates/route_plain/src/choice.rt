@@ -59,7 +59,8 @@ fn earliest_holder(moment: &Moment, device: DeviceId) -> Option<u32>
 
 /// The earliest holder that prevents splitting.
 fn earliest_whole_holder(moment: &Moment, device: DeviceId) -> Option<u32>
-    ensures { let s = scene_at moment.now in result ≡ earliest s device (which s (λ v. is_holder s device v && prevents_splitting v)) }
+    ensures { let s = scene_at moment.now in result
+        ≡ earliest s device (which s (λ v. is_holder s device v && prevents_splitting v)) }
 {
     moment
         .snapshot
@@ -128,7 +129,8 @@ fn is_pilfering_candidate(
     spies: u64,
     channel: u32,
 ) -> bool
-    ensures { result ≡ (is_candidate_of chosen (mask_has spies) channel && (scene_at moment.now).pilfering channel device) }
+    ensures { result
+        ≡ (is_candidate_of chosen (mask_has spies) channel && (scene_at moment.now).pilfering channel device) }
 {
     is_candidate(chosen, spies, channel) && is_pilfering(moment.pilferers, channel, device)
 }
@@ -140,7 +142,8 @@ pub(crate) fn some_pilfering(
     chosen: Option<u32>,
     spies: u64,
 ) -> bool
-    ensures { let s = scene_at moment.now in result ≡ list_any (λ v. is_candidate_of chosen (mask_has spies) v.channel && s.pilfering v.channel device) s.windows }
+    ensures { let s = scene_at moment.now in result
+        ≡ list_any (λ v. is_candidate_of chosen (mask_has spies) v.channel && s.pilfering v.channel device) s.windows }
 {
     moment.snapshot.windows().iter().any(|window| is_pilfering_candidate(
         moment,
@@ -160,7 +163,9 @@ pub(crate) fn is_taker(
     some_pilfering: bool,
     channel: u32,
 ) -> bool
-    ensures { let s = scene_at moment.now in result ≡ (is_candidate_of chosen (mask_has spies) channel && (s.pilfering channel device || not some_pilfering) && s.able channel) }
+    ensures { let s = scene_at moment.now in result
+        ≡ (is_candidate_of chosen (mask_has spies) channel && (s.pilfering channel device || not some_pilfering)
+        && s.able channel) }
 {
     is_candidate(chosen, spies, channel)
         && (is_pilfering(moment.pilferers, channel, device) || !some_pilfering)

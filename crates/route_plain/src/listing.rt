@@ -80,7 +80,14 @@ pub(crate) fn about(
     flags: u32,
     pointers: &Pointers,
 ) -> Motion
-    ensures { result ≡ record { device = device; action = action; index = index_in id pointers.now; flags = flags; pointers = pointers.now } }
+    ensures { result
+        ≡ record {
+          device = device;
+          action = action;
+          index = index_in id pointers.now;
+          flags = flags;
+          pointers = pointers.now;
+        } }
 {
     Motion {
         device,

@@ -38,7 +38,12 @@ impl Model for Plain {
 
     ghost Value = { State };
 
-    ghost view = { λ p. record { turns = p.turns; holds = p.holds.items; pilferers = p.pilferers.items; last = p.last } };
+    ghost view = { λ p. record {
+      turns = p.turns;
+      holds = p.holds.items;
+      pilferers = p.pilferers.items;
+      last = p.last;
+    } };
 
     ghost invariant = { λ p. length p.last ≡ 8 };
 }
@@ -60,8 +65,8 @@ impl Plain {
     /// it. Places are display pixels; whoever sends the motions takes off the origins of the windows. There is one
     /// display: each device reaches each live window.
     ///
-    /// `snapshot` is the current one, in a `Windows` turn the new one. `live` is the mask of the live channels and `able` that of those
-    /// that are responsive besides.
+    /// `snapshot` is the current one, in a `Windows` turn the new one. `live` is the mask of the live channels and
+    /// `able` that of those that are responsive besides.
     ///
     /// The clauses hold of every turn. That nothing is said to a channel that is not live, and that each channel's
     /// motions are a stream, rests on three conditions, which the layer above keeps: a motion may come after those of

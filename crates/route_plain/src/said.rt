@@ -34,7 +34,8 @@ pub(crate) fn said_at(
     change: &Change,
 ) -> Result<Vec<Said>, AllocError>
     requires whole { length moment.now.last.now ≡ 8 }
-    requires change { let s = scene_at moment.now in IsChange s (step_of turn.now s.windows) number moment.now.holds.now change.now.gained.items change.now.loss }
+    requires change { let s = scene_at moment.now in IsChange s
+        (step_of turn.now s.windows) number moment.now.holds.now change.now.gained.items change.now.loss }
     ensures { let s = scene_at moment.now in IfOk result (λ v. v.items ≡ said_at s (step_of turn.now s.windows)) }
 {
     match turn {
@@ -53,7 +54,8 @@ fn said_of_motion(
 ) -> Result<Vec<Said>, AllocError>
     requires { length moment.now.last.now ≡ 8 }
     ensures said { let s = scene_at moment.now in
-        IfOk result (λ v. v.items ≡ said_up_to (told_moved s (mark_of s.windows change.now.gained.items change.now.loss) motion.now) 64) }
+        IfOk result (λ v. v.items
+        ≡ said_up_to (told_moved s (mark_of s.windows change.now.gained.items change.now.loss) motion.now) 64) }
     ensures device { (1 ≤ motion.now.device) × (motion.now.device ≤ 8) }
 {
     let mut out = Vec::new(alloc);
@@ -82,7 +84,10 @@ fn tell_channel(
     requires whole { length moment.now.last.now ≡ 8 }
     requires watching { watches ≡ is_watching (scene_at moment.now) motion.now (changed motion.now) channel }
     ensures { let s = scene_at moment.now in
-        OnOk result (out.new.items ≡ out.old.items ++ to_channel channel (told_moved s (mark_of s.windows change.now.gained.items change.now.loss) motion.now channel)) }
+        OnOk result (out.new.items
+        ≡ out.old.items
+        ++ to_channel channel
+        (told_moved s (mark_of s.windows change.now.gained.items change.now.loss) motion.now channel)) }
 {
     let held = held_around(moment, change, channel, motion.device);
     tell_motion(out, channel, moment, motion, &held, watches)
@@ -92,7 +97,8 @@ fn tell_channel(
 fn said_of_loss(alloc: Global, moment: &Moment, change: &Change) -> Result<Vec<Said>, AllocError>
     requires { length moment.now.last.now ≡ 8 }
     ensures { let s = scene_at moment.now in
-        IfOk result (λ v. v.items ≡ said_up_to (told_losses s (mark_of s.windows change.now.gained.items change.now.loss)) 64) }
+        IfOk result (λ v. v.items
+        ≡ said_up_to (told_losses s (mark_of s.windows change.now.gained.items change.now.loss)) 64) }
 {
     let mut out = Vec::new(alloc);
     for below in 0..64 {
@@ -110,7 +116,9 @@ fn tell_losses(
 ) -> Result<(), AllocError>
     requires { length moment.now.last.now ≡ 8 }
     ensures { let s = scene_at moment.now in
-        OnOk result (out.new.items ≡ out.old.items ++ to_channel channel (told_losses s (mark_of s.windows change.now.gained.items change.now.loss) channel)) }
+        OnOk result (out.new.items
+        ≡ out.old.items
+        ++ to_channel channel (told_losses s (mark_of s.windows change.now.gained.items change.now.loss) channel)) }
 {
     for below in 0..8 {
         let Some(device) = DeviceId::new(below + 1) else {
@@ -131,7 +139,10 @@ fn tell_loss(
 ) -> Result<(), AllocError>
     requires { length moment.now.last.now ≡ 8 }
     ensures { let s = scene_at moment.now in
-        OnOk result (out.new.items ≡ out.old.items ++ to_channel channel (told_lost s (mark_of s.windows change.now.gained.items change.now.loss) channel device)) }
+        OnOk result (out.new.items
+        ≡ out.old.items
+        ++ to_channel channel
+        (told_lost s (mark_of s.windows change.now.gained.items change.now.loss) channel device)) }
 {
     let held = held_around(moment, change, channel, device);
     let last = last_of(moment.last, device);
@@ -141,7 +152,8 @@ fn tell_loss(
 /// What a window holds of a device before and after a turn that changes this.
 fn held_around(moment: &Moment, change: &Change, window: u32, device: DeviceId) -> Held
     ensures before { (λ i. is_in i result.before) ≡ (scene_at moment.now).holds window device }
-    ensures later { let s = scene_at moment.now in (λ i. is_in i result.later) ≡ after s (mark_of s.windows change.now.gained.items change.now.loss) window device }
+    ensures later { let s = scene_at moment.now in (λ i. is_in i result.later)
+        ≡ after s (mark_of s.windows change.now.gained.items change.now.loss) window device }
 {
     let before = ids_with(Bits32::empty(), moment.holds, window, device);
     let kept = ids_kept(before, moment, &change.loss, window, device);
@@ -154,7 +166,10 @@ fn held_around(moment: &Moment, change: &Change, window: u32, device: DeviceId) 
 /// Those of the ids that a window held of a device that a loss leaves.
 fn ids_kept(before: Bits32, moment: &Moment, loss: &Loss, window: u32, device: DeviceId) -> Bits32
     requires { before ≡ ids_with 0 moment.now.holds.now window device }
-    ensures { (i : ℕ) → is_in i result ≡ (has (pairs_of moment.now.holds.now) window device i && not (takes (taking_of moment.now.snapshot.now loss.now) window device i)) }
+    ensures { (i : ℕ)
+        → is_in i result
+        ≡ (has (pairs_of moment.now.holds.now) window device i
+        && not (takes (taking_of moment.now.snapshot.now loss.now) window device i)) }
 {
     match *loss {
         Loss::None => before,
@@ -200,7 +215,8 @@ fn watching(moment: &Moment, motion: &Motion, pointer: Option<Pointer>) -> u64
 
 /// The watchers of the snapshot at a point.
 fn watchers(moment: &Moment, device: DeviceId, at: Pixel) -> u64
-    ensures { let s = scene_at moment.now in (c : ℕ) → mask_has result c ≡ is_watcher_at s.windows (s.reach device) at.x at.y c }
+    ensures { let s = scene_at moment.now in (c : ℕ)
+        → mask_has result c ≡ is_watcher_at s.windows (s.reach device) at.x at.y c }
 {
     moment.snapshot.watchers(at.x, at.y, moment.live)
 }

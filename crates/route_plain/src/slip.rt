@@ -55,7 +55,9 @@ fn is_holder_of(moment: &Moment, device: DeviceId, id: PointerId, window: &Windo
 
 /// The windows without SPY that hold the pointer.
 fn found_holders(moment: &Moment, device: DeviceId, id: PointerId) -> Found
-    ensures { let s = scene_at moment.now in result ≡ fold and_one Found.Nobody (map (λ v. v.channel) (filter (λ v. not (is_spy v) && s.holds v.channel device id) s.windows)) }
+    ensures { let s = scene_at moment.now in result
+        ≡ fold and_one Found.Nobody
+        (map (λ v. v.channel) (filter (λ v. not (is_spy v) && s.holds v.channel device id) s.windows)) }
 {
     moment
         .snapshot

@@ -35,7 +35,11 @@ pub(crate) fn tell_motion(
 ) -> Result<(), AllocError>
     requires whole { length moment.now.last.now ≡ 8 }
     requires watching { watching ≡ is_watching (scene_at moment.now) motion.now (changed motion.now) channel }
-    ensures { OnOk result (out.new.items ≡ out.old.items ++ to_channel channel (told_motion (scene_at moment.now) motion.now (changed motion.now) channel (λ i. is_in i held.now.before) (λ i. is_in i held.now.later))) }
+    ensures { OnOk result
+        (out.new.items ≡ out.old.items
+        ++ to_channel channel
+        (told_motion (scene_at moment.now) motion.now (changed motion.now) channel (λ i. is_in i held.now.before)
+        (λ i. is_in i held.now.later))) }
 {
     match changed(motion) {
         Some(pointer) => tell_changed(out, channel, moment, motion, pointer, held, watching),
@@ -51,7 +55,9 @@ pub(crate) fn tell_cancels(
     last: &Pointers,
     held: &Held,
 ) -> Result<(), AllocError>
-    ensures { OnOk result (out.new.items ≡ out.old.items ++ to_channel channel (cancels device last.now (λ i. is_in i held.now.before) (λ i. is_in i held.now.later))) }
+    ensures { OnOk result
+        (out.new.items ≡ out.old.items
+        ++ to_channel channel (cancels device last.now (λ i. is_in i held.now.before) (λ i. is_in i held.now.later))) }
 {
     if loses_some(last, held) {
         if lists_some(held.later, last) {
@@ -75,7 +81,11 @@ fn tell_changed(
 ) -> Result<(), AllocError>
     requires whole { length moment.now.last.now ≡ 8 }
     requires watching { watching ≡ is_watching (scene_at moment.now) motion.now (Some pointer) channel }
-    ensures { OnOk result (out.new.items ≡ out.old.items ++ to_channel channel (told_motion (scene_at moment.now) motion.now (Some pointer) channel (λ i. is_in i held.now.before) (λ i. is_in i held.now.later))) }
+    ensures { OnOk result
+        (out.new.items ≡ out.old.items
+        ++ to_channel channel
+        (told_motion (scene_at moment.now) motion.now (Some pointer) channel (λ i. is_in i held.now.before)
+        (λ i. is_in i held.now.later))) }
 {
     if is_given(held, pointer.id) {
         let now = listing(held.later, &motion.pointers);
@@ -106,7 +116,11 @@ fn tell_rest(
     requires { length moment.now.last.now ≡ 8 }
     ensures { let s = scene_at moment.now in
         let m = motion.now in
-        OnOk result (out.new.items ≡ out.old.items ++ to_channel channel (or_else (cancels m.device (s.last m.device) (λ i. is_in i held.now.before) (λ i. is_in i held.now.later)) (or_else (moves m.device (listing (λ i. is_in i held.now.later) m.pointers)) (outside_of m.device watched)))) }
+        OnOk result (out.new.items
+        ≡ out.old.items
+        ++ to_channel channel
+        (or_else (cancels m.device (s.last m.device) (λ i. is_in i held.now.before) (λ i. is_in i held.now.later))
+        (or_else (moves m.device (listing (λ i. is_in i held.now.later) m.pointers)) (outside_of m.device watched)))) }
 {
     let last = last_of(moment.last, motion.device);
     if loses_some(last, held) {
@@ -150,7 +164,11 @@ fn tell_ups(
     last: &Pointers,
     held: &Held,
 ) -> Result<(), AllocError>
-    ensures { OnOk result (out.new.items ≡ out.old.items ++ to_channel channel (cancelled_ups device (listing (λ i. is_in i held.now.before) last.now) (listing (λ i. is_in i held.now.before && not (is_in i held.now.later)) last.now))) }
+    ensures { OnOk result
+        (out.new.items ≡ out.old.items
+        ++ to_channel channel
+        (cancelled_ups device (listing (λ i. is_in i held.now.before) last.now)
+        (listing (λ i. is_in i held.now.before && not (is_in i held.now.later)) last.now))) }
 {
     let mut ids = held.before;
     for pointer in last.as_slice() {

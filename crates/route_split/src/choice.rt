@@ -25,7 +25,8 @@ pub(crate) fn takers(seen: &Seen, device: DeviceId, at: Pixel) -> u64
 
 /// The mask of the spies at a place.
 fn spies(seen: &Seen, device: DeviceId, at: Pixel) -> u64
-    ensures { let s = scene_at seen.now in (c : ℕ) → mask_has result c ≡ is_spy_at s.windows (s.reach device) at.x at.y c }
+    ensures { let s = scene_at seen.now in (c : ℕ)
+        → mask_has result c ≡ is_spy_at s.windows (s.reach device) at.x at.y c }
 {
     seen.windows.spies(at.x, at.y, seen.reach)
 }
@@ -74,7 +75,8 @@ fn earliest_holder(seen: &Seen, device: DeviceId) -> Option<u32>
 
 /// The earliest holder that prevents splitting.
 fn earliest_whole_holder(seen: &Seen, device: DeviceId) -> Option<u32>
-    ensures { let s = scene_at seen.now in result ≡ earliest s device (which s (λ v. is_holder s device v && prevents_splitting v)) }
+    ensures { let s = scene_at seen.now in result
+        ≡ earliest s device (which s (λ v. is_holder s device v && prevents_splitting v)) }
 {
     seen.windows
         .windows()
@@ -136,7 +138,8 @@ fn is_candidate(chosen: Option<u32>, spies: u64, channel: u32) -> bool
 
 /// Whether some candidate is pilfering.
 fn some_pilfering(seen: &Seen, device: DeviceId, chosen: Option<u32>, spies: u64) -> bool
-    ensures { let s = scene_at seen.now in result ≡ list_any (λ v. is_candidate_of chosen (mask_has spies) v.channel && s.pilfering v.channel device) s.windows }
+    ensures { let s = scene_at seen.now in result
+        ≡ list_any (λ v. is_candidate_of chosen (mask_has spies) v.channel && s.pilfering v.channel device) s.windows }
 {
     seen.windows.windows().iter().any(|window| is_candidate(chosen, spies, window.channel)
         && is_pilfering(seen.table, window.channel))
@@ -151,7 +154,9 @@ fn is_taker(
     some_pilfering: bool,
     channel: u32,
 ) -> bool
-    ensures { let s = scene_at seen.now in result ≡ (is_candidate_of chosen (mask_has spies) channel && (s.pilfering channel device || not some_pilfering) && s.able channel) }
+    ensures { let s = scene_at seen.now in result
+        ≡ (is_candidate_of chosen (mask_has spies) channel && (s.pilfering channel device || not some_pilfering)
+        && s.able channel) }
 {
     is_candidate(chosen, spies, channel)
         && (is_pilfering(seen.table, channel) || !some_pilfering)
@@ -166,7 +171,10 @@ fn taker_mask(
     spies: u64,
     some_pilfering: bool,
 ) -> u64
-    ensures { let s = scene_at seen.now in result ≡ mask_of (filter (λ v. is_candidate_of chosen (mask_has spies) v.channel && (s.pilfering v.channel device || not some_pilfering) && s.able v.channel) s.windows) }
+    ensures { let s = scene_at seen.now in result
+        ≡ mask_of (filter
+        (λ v. is_candidate_of chosen (mask_has spies) v.channel
+        && (s.pilfering v.channel device || not some_pilfering) && s.able v.channel) s.windows) }
 {
     seen.windows
         .windows()

@@ -1,7 +1,7 @@
 //! Who holds what of eight touch devices, in tables of bits, by the rules of routing.
 //!
-//! Two windows stand side by side, 1 on the left and 2 on the right. A finger, pointer 0 of device 1, is down on the left one, and a
-//! second one goes down on the right one:
+//! Two windows stand side by side, 1 on the left and 2 on the right. A finger, pointer 0 of device 1, is down on the
+//! left one, and a second one goes down on the right one:
 //!
 //! ```text
 //! mark      Give { device: 1, id: 1, windows: {2} }
@@ -9,13 +9,13 @@
 //! after it  1 holds {0}, 2 holds {1}
 //! ```
 //!
-//! A step is first planned and then taken. [`Touches::mark`] finds what a motion gives and takes; the marks of all other steps are named
-//! by [`Mark`] itself. [`Touches::tells`] and [`Touches::loses`] say what a window is told at the step, and [`Touches::concerned`] which
-//! windows can be told anything. None of these changes the tables, takes memory or fails, and neither does [`Touches::take`], with
-//! which the step is taken.
+//! A step is first planned and then taken. [`Touches::mark`] finds what a motion gives and takes; the marks of all
+//! other steps are named by [`Mark`] itself. [`Touches::tells`] and [`Touches::loses`] say what a window is told at the
+//! step, and [`Touches::concerned`] which windows can be told anything. None of these changes the tables, takes memory
+//! or fails, and neither does [`Touches::take`], with which the step is taken.
 //!
-//! The tables stand for a scene of the rules (`Stands` of specs/Tables), and for the marks of all steps so far (`Follows` of
-//! specs/Following): each mark that is taken is one mark more.
+//! The tables stand for a scene of the rules (`Stands` of specs/Tables), and for the marks of all steps so far
+//! (`Follows` of specs/Following): each mark that is taken is one mark more.
 #![tactic(auto)]
 
 mod after;

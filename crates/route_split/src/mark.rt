@@ -1,7 +1,8 @@
 //! What a step gives and takes.
 use input_types::{DeviceId, PointerId};
 
-/// What a step gives to windows and takes from them. A window goes by the number of its channel, and masks are sets of channels.
+/// What a step gives to windows and takes from them. A window goes by the number of its channel, and masks are sets of
+/// channels.
 #[derive(Clone, Copy, Debug)]
 pub enum Mark {
     /// A step that changes nothing.

@@ -23,7 +23,8 @@ pub(crate) fn changed(motion: &Motion) -> Option<Pointer>
 
 /// The mark of a pointer that goes down.
 fn give(seen: &Seen, device: DeviceId, pointer: Pointer) -> Mark
-    ensures gives { let s = scene_at seen.now in (w d i : ℕ) → has (pairs device pointer.id (takers s device pointer.at)) w d i ≡ gives result w d i }
+    ensures gives { let s = scene_at seen.now in (w d i : ℕ)
+        → has (pairs device pointer.id (takers s device pointer.at)) w d i ≡ gives result w d i }
     ensures takes { (ts : List Table) → Nothing ≡ taking ts result }
     ensures whole { IsWhole result }
 {

@@ -30,9 +30,11 @@ pub(crate) fn tells_at(
     requires tables { IsTables states.now }
     requires whole { IsWhole mark.now }
     requires channel { is_channel window ≡ true }
-    ensures { (s : Scene) → Stands s states.now → IsMark states.now mark.now (rule_mark s (Moves motion.now)) → IsListed s motion.now.device
+    ensures { (s : Scene) → Stands s states.now → IsMark states.now mark.now (rule_mark s (Moves motion.now))
+        → IsListed s motion.now.device
         → watches ≡ is_watching s motion.now (changed motion.now) window
-        → IsTold result (told s (Moves motion.now) window motion.now.device) motion.now.device (s.last motion.now.device) (s.holds window motion.now.device) }
+        → IsTold result (told s (Moves motion.now) window motion.now.device) motion.now.device
+        (s.last motion.now.device) (s.holds window motion.now.device) }
 {
     let before = held_of(states, window, motion.device);
     let later = after_of(states, mark, window, motion.device);
@@ -44,7 +46,8 @@ pub(crate) fn loses_at(states: &[TouchState], mark: &Mark, window: u32, device: 
     requires tables { IsTables states.now }
     requires whole { IsWhole mark.now }
     requires channel { is_channel window ≡ true }
-    ensures { (s : Scene) (e : Step) → Stands s states.now → IsStepOf mark.now e → IsTold result (told s e window device) device (s.last device) (s.holds window device) }
+    ensures { (s : Scene) (e : Step) → Stands s states.now → IsStepOf mark.now e
+        → IsTold result (told s e window device) device (s.last device) (s.holds window device) }
 {
     if is_forget(mark) {
         return Tells::Nothing;

@@ -56,7 +56,9 @@ fn is_holder_of(seen: &Seen, device: DeviceId, id: PointerId, window: &Window) -
 
 /// The windows without SPY that hold the pointer.
 fn found_holders(seen: &Seen, device: DeviceId, id: PointerId) -> Found
-    ensures { let s = scene_at seen.now in result ≡ fold and_one Found.Nobody (map (λ v. v.channel) (filter (λ v. not (is_spy v) && s.holds v.channel device id) s.windows)) }
+    ensures { let s = scene_at seen.now in result
+        ≡ fold and_one Found.Nobody
+        (map (λ v. v.channel) (filter (λ v. not (is_spy v) && s.holds v.channel device id) s.windows)) }
 {
     seen.windows
         .windows()
@@ -89,7 +91,8 @@ fn slips_from(seen: &Seen, device: DeviceId, from: u32, pointer: Pointer) -> Opt
     requires slippery { shows (scene_at seen.now) is_slippery from ≡ true }
     requires channel { is_channel from ≡ true }
     ensures channels { IfSome result (λ x. (is_channel x.from ≡ true) × (is_channel x.to ≡ true)) }
-    ensures slip { let s = scene_at seen.now in option_map rule_slip result ≡ slips_to s (Some from) (touched s.windows (s.reach device) pointer.at.x pointer.at.y) }
+    ensures slip { let s = scene_at seen.now in option_map rule_slip result
+        ≡ slips_to s (Some from) (touched s.windows (s.reach device) pointer.at.x pointer.at.y) }
 {
     match seen.windows.touched(pointer.at.x, pointer.at.y, seen.reach) {
         Some(to) => {
@@ -106,7 +109,9 @@ fn slips_from(seen: &Seen, device: DeviceId, from: u32, pointer: Pointer) -> Opt
 /// From the one holder of a pointer to the window at its place, where it may slip there.
 fn slips(seen: &Seen, device: DeviceId, pointer: Pointer) -> Option<Way>
     ensures channels { IfSome result (λ x. (is_channel x.from ≡ true) × (is_channel x.to ≡ true)) }
-    ensures slip { let s = scene_at seen.now in option_map rule_slip result ≡ slips_to s (only (holders_of s device pointer.id)) (touched s.windows (s.reach device) pointer.at.x pointer.at.y) }
+    ensures slip { let s = scene_at seen.now in option_map rule_slip result
+        ≡ slips_to s (only (holders_of s device pointer.id))
+        (touched s.windows (s.reach device) pointer.at.x pointer.at.y) }
 {
     match only_holder(seen, device, pointer.id) {
         Some(from) => {

@@ -42,7 +42,8 @@ pub(crate) fn index_of(device: DeviceId) -> usize
 pub(crate) fn take_mark(states: &mut [TouchState], mark: &Mark, place: u64)
     requires tables { IsTables states.old }
     requires whole { IsWhole mark.now }
-    ensures { ChangesAll states.old states.new (gives mark.now) (takes (taking states.old mark.now)) place (pilfers (taking states.old mark.now)) }
+    ensures { ChangesAll states.old states.new (gives mark.now) (takes (taking states.old mark.now)) place
+        (pilfers (taking states.old mark.now)) }
 {
     match *mark {
         Mark::Rests => {}
@@ -83,7 +84,8 @@ pub(crate) fn alone(window: u32) -> u64
 /// Gives a pointer of a device to windows.
 fn give(states: &mut [TouchState], device: DeviceId, id: PointerId, windows: u64, place: u64)
     requires { IsTables states.old }
-    ensures { ChangesAll states.old states.new (λ w d i. d == device && of_mask windows id w i) (λ w d i. d == device && none w i) place (λ w d. d == device && nobody w) }
+    ensures { ChangesAll states.old states.new (λ w d i. d == device && of_mask windows id w i)
+        (λ w d i. d == device && none w i) place (λ w d. d == device && nobody w) }
 {
     states[index_of(device)].down(id, windows, place);
 }
@@ -91,7 +93,9 @@ fn give(states: &mut [TouchState], device: DeviceId, id: PointerId, windows: u64
 /// Takes a pointer of a device from all windows.
 fn lift(states: &mut [TouchState], device: DeviceId, id: PointerId)
     requires { IsTables states.old }
-    ensures { (place : ℕ) → ChangesAll states.old states.new (λ w d i. d == device && none w i) (λ w d i. d == device && of_all id w i) place (λ w d. d == device && nobody w) }
+    ensures { (place : ℕ)
+        → ChangesAll states.old states.new (λ w d i. d == device && none w i)
+        (λ w d i. d == device && of_all id w i) place (λ w d. d == device && nobody w) }
 {
     states[index_of(device)].up(id);
 }
@@ -101,7 +105,8 @@ fn slip(states: &mut [TouchState], device: DeviceId, id: PointerId, from: u32, t
     requires tables { IsTables states.old }
     requires from_is { is_channel from ≡ true }
     requires to_is { is_channel to ≡ true }
-    ensures { ChangesAll states.old states.new (λ w d i. d == device && one to id w i) (λ w d i. d == device && one from id w i) place (λ w d. d == device && nobody w) }
+    ensures { ChangesAll states.old states.new (λ w d i. d == device && one to id w i)
+        (λ w d i. d == device && one from id w i) place (λ w d. d == device && nobody w) }
 {
     states[index_of(device)].moved(id, from, to, place);
 }
@@ -109,16 +114,22 @@ fn slip(states: &mut [TouchState], device: DeviceId, id: PointerId, from: u32, t
 /// Takes all pointers of a device from all windows.
 fn empty(states: &mut [TouchState], device: DeviceId)
     requires { IsTables states.old }
-    ensures { (place : ℕ) → ChangesAll states.old states.new (λ w d i. d == device && none w i) (λ w d i. d == device && true) place (λ w d. d == device && nobody w) }
+    ensures { (place : ℕ)
+        → ChangesAll states.old states.new (λ w d i. d == device && none w i) (λ w d i. d == device && true) place
+        (λ w d. d == device && nobody w) }
 {
     states[index_of(device)].reset();
 }
 
-/// Takes what a window holds of a device from all other windows, which it pilfers from then on where it holds something.
+/// Takes what a window holds of a device from all other windows, which it pilfers from then on where it holds
+/// something.
 fn pilfer_of(states: &mut [TouchState], device: DeviceId, window: u32)
     requires tables { IsTables states.old }
     requires channel { is_channel window ≡ true }
-    ensures { (place : ℕ) → ChangesAll states.old states.new (λ w d i. d == device && none w i) (λ w d i. d == device && pilfered (table_of states.old device) window w i) place (λ w d. d == device && w == window) }
+    ensures { (place : ℕ)
+        → ChangesAll states.old states.new (λ w d i. d == device && none w i)
+        (λ w d i. d == device && pilfered (table_of states.old device) window w i) place
+        (λ w d. d == device && w == window) }
 {
     pilfer_one(&mut states[index_of(device)], window);
 }
@@ -136,7 +147,8 @@ fn pilfer_one(state: &mut TouchState, window: u32)
 /// Takes everything from these windows.
 fn drop_all(states: &mut [TouchState], dropped: u64)
     requires { IsTables states.old }
-    ensures { (place : ℕ) → ChangesAll states.old states.new (λ w d i. none w i) (λ w d i. mask_has dropped w) place (λ w d. nobody w) }
+    ensures { (place : ℕ)
+        → ChangesAll states.old states.new (λ w d i. none w i) (λ w d i. mask_has dropped w) place (λ w d. nobody w) }
 {
     for number in 0..8 {
         drop_windows(&mut states[number], dropped);

@@ -21,7 +21,9 @@ pub(crate) fn tells_of(motion: &Motion, before: Bits32, later: Bits32, watches: 
     ensures { (s : Scene) (w : ℕ) → watches ≡ is_watching s motion.now (changed motion.now) w
         → AreListed (λ i. is_in i before) (λ i. is_in i later) (s.last motion.now.device)
         → OnlyNew (changed motion.now) (λ i. is_in i before) (λ i. is_in i later)
-        → IsTold result (told_motion s motion.now (changed motion.now) w (λ i. is_in i before) (λ i. is_in i later)) motion.now.device (s.last motion.now.device) (λ i. is_in i before) }
+        → IsTold result
+        (told_motion s motion.now (changed motion.now) w (λ i. is_in i before) (λ i. is_in i later)) motion.now.device
+        (s.last motion.now.device) (λ i. is_in i before) }
 {
     match changed(motion) {
         Some(pointer) => tells_changed(motion, pointer, before, later, watches),
@@ -41,7 +43,9 @@ fn tells_changed(
     ensures { (s : Scene) (w : ℕ) → watches ≡ is_watching s motion.now (Some pointer) w
         → AreListed (λ i. is_in i before) (λ i. is_in i later) (s.last motion.now.device)
         → OnlyNew (Some pointer) (λ i. is_in i before) (λ i. is_in i later)
-        → IsTold result (told_motion s motion.now (Some pointer) w (λ i. is_in i before) (λ i. is_in i later)) motion.now.device (s.last motion.now.device) (λ i. is_in i before) }
+        → IsTold result
+        (told_motion s motion.now (Some pointer) w (λ i. is_in i before) (λ i. is_in i later)) motion.now.device
+        (s.last motion.now.device) (λ i. is_in i before) }
 {
     if is_given(pointer.id, before, later) {
         return one_of(split(&as_down(motion), later));
@@ -73,11 +77,14 @@ fn watched_of(pointer: Pointer, watches: bool) -> Option<Pointer>
     if watches { Some(pointer) } else { None }
 }
 
-/// What it is told of pointers that are neither given nor go up: some are lost, else some move, else a pointer is outside.
+/// What it is told of pointers that are neither given nor go up: some are lost, else some move, else a pointer is
+/// outside.
 fn tells_rest(motion: &Motion, before: Bits32, later: Bits32, watched: Option<Pointer>) -> Tells
     ensures { (last : List Listed) → AreListed (λ i. is_in i before) (λ i. is_in i later) last
         → ((i : ℕ) → is_in i later ≡ true → is_in i before ≡ true)
-        → IsTold result (told_rest motion.now watched last (λ i. is_in i before) (λ i. is_in i later)) motion.now.device last (λ i. is_in i before) }
+        → IsTold result
+        (told_rest motion.now watched last (λ i. is_in i before) (λ i. is_in i later)) motion.now.device last
+        (λ i. is_in i before) }
 {
     let lost = lost_of(before, later);
     if lost.bits() != 0 {

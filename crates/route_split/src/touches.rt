@@ -26,7 +26,8 @@ use std::marker::Model;
 use touch_state::TouchState;
 use window_snapshot::Snapshot;
 
-/// Which of the windows 1 to 64 hold which pointers of the devices 1 to 8, since when, and which of them are pilfering which device.
+/// Which of the windows 1 to 64 hold which pointers of the devices 1 to 8, since when, and which of them are pilfering
+/// which device.
 #[derive(Drop)]
 pub struct Touches {
     /// The state of each device, that of device 1 first.
@@ -74,10 +75,12 @@ impl Touches {
         self.states[index_of(device)].holders()
     }
 
-    /// The mark of a motion: who gets a pointer that goes down, from whom one goes that goes up, and between which windows one slips.
-    /// The masks are those of the channels that the device can reach, and of those that are able to take input.
+    /// The mark of a motion: who gets a pointer that goes down, from whom one goes that goes up, and between which
+    /// windows one slips. The masks are those of the channels that the device can reach, and of those that are able to
+    /// take input.
     pub fn mark(&self, motion: &Motion, windows: &Snapshot, reach: u64, able: u64) -> Mark
-        ensures mark { (s : Scene) → Stands s self.now → Sees s windows.now reach able motion.now.device → IsMark self.now result (rule_mark s (Moves motion.now)) }
+        ensures mark { (s : Scene) → Stands s self.now → Sees s windows.now reach able motion.now.device
+            → IsMark self.now result (rule_mark s (Moves motion.now)) }
         ensures whole { IsWhole result }
     {
         let seen = Seen {
@@ -89,8 +92,8 @@ impl Touches {
         mark_of(&seen, motion)
     }
 
-    /// The mask of the windows that may be told something of a device at the step of a mark: those that hold something of it, and those
-    /// that are given something. At a motion its `watchers` may be told something besides.
+    /// The mask of the windows that may be told something of a device at the step of a mark: those that hold something
+    /// of it, and those that are given something. At a motion its `watchers` may be told something besides.
     pub fn concerned(&self, mark: &Mark, device: DeviceId) -> u64
         ensures { (w : ℕ) → mask_has result w ≡ may_be_told self.now mark.now w device }
     {
@@ -106,14 +109,16 @@ impl Touches {
         after_of(&self.states, mark, window, device)
     }
 
-    /// What a window is told of a motion, whose mark this is; `watches` says whether the window is one of the motion's `watchers`. What
-    /// windows hold has to be listed in the last motion of the device.
+    /// What a window is told of a motion, whose mark this is; `watches` says whether the window is one of the motion's
+    /// `watchers`. What windows hold has to be listed in the last motion of the device.
     pub fn tells(&self, motion: &Motion, mark: &Mark, window: u32, watches: bool) -> Tells
         requires whole { IsWhole mark.now }
         requires channel { is_channel window ≡ true }
-        ensures { (s : Scene) → Stands s self.now → IsMark self.now mark.now (rule_mark s (Moves motion.now)) → IsListed s motion.now.device
+        ensures { (s : Scene) → Stands s self.now → IsMark self.now mark.now (rule_mark s (Moves motion.now))
+            → IsListed s motion.now.device
             → watches ≡ is_watching s motion.now (changed motion.now) window
-            → IsTold result (told s (Moves motion.now) window motion.now.device) motion.now.device (s.last motion.now.device) (s.holds window motion.now.device) }
+            → IsTold result (told s (Moves motion.now) window motion.now.device) motion.now.device
+            (s.last motion.now.device) (s.holds window motion.now.device) }
     {
         tells_at(&self.states, motion, mark, window, watches)
     }
@@ -122,7 +127,8 @@ impl Touches {
     pub fn loses(&self, mark: &Mark, window: u32, device: DeviceId) -> Tells
         requires whole { IsWhole mark.now }
         requires channel { is_channel window ≡ true }
-        ensures { (s : Scene) (e : Step) → Stands s self.now → IsStepOf mark.now e → IsTold result (told s e window device) device (s.last device) (s.holds window device) }
+        ensures { (s : Scene) (e : Step) → Stands s self.now → IsStepOf mark.now e
+            → IsTold result (told s e window device) device (s.last device) (s.holds window device) }
     {
         loses_at(&self.states, mark, window, device)
     }
@@ -130,7 +136,8 @@ impl Touches {
     /// Takes the step of a mark, at a place, which is how many steps were before it.
     pub fn take(&mut self, mark: &Mark, place: u64)
         requires { IsWhole mark.now }
-        ensures { ChangesAll self.old self.new (gives mark.now) (takes (taking self.old mark.now)) place (pilfers (taking self.old mark.now)) }
+        ensures { ChangesAll self.old self.new (gives mark.now) (takes (taking self.old mark.now)) place
+            (pilfers (taking self.old mark.now)) }
     {
         take_mark(&mut self.states, mark, place);
     }

@@ -12,11 +12,12 @@ use crate::motion::changed;
 use input_types::{Motion, MotionAction, Pixel};
 use window_snapshot::Snapshot;
 
-/// The mask of the windows that are told of a motion that it is outside of them, where they hold none of its pointers: at the down that
-/// begins a gesture the able watchers at its place, and else nobody. The masks are those of the channels that the device can reach, and
-/// of those that are able to take input.
+/// The mask of the windows that are told of a motion that it is outside of them, where they hold none of its pointers:
+/// at the down that begins a gesture the able watchers at its place, and else nobody. The masks are those of the
+/// channels that the device can reach, and of those that are able to take input.
 pub fn watchers(motion: &Motion, windows: &Snapshot, reach: u64, able: u64) -> u64
-    ensures { (s : Scene) → Sees s windows.now reach able motion.now.device → (w : ℕ) → mask_has result w ≡ is_watching s motion.now (changed motion.now) w }
+    ensures { (s : Scene) → Sees s windows.now reach able motion.now.device → (w : ℕ)
+        → mask_has result w ≡ is_watching s motion.now (changed motion.now) w }
 {
     if !is_first(motion.action) {
         return 0;

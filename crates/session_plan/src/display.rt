@@ -86,7 +86,8 @@ fn display(alloc: Global, document: &Value) -> Result<Display, PlanError>
 
 /// The displays that these tables tell of, from display 1 on.
 fn each_display(alloc: Global, tables: &[Value]) -> Result<Vec<Display>, PlanError>
-    ensures value { Gives (λ v. v.items) result (each (λ k found d. display_of (ExtraDisplay k) d) 1 [] (map view tables.now)) }
+    ensures value { Gives
+        (λ v. v.items) result (each (λ k found d. display_of (ExtraDisplay k) d) 1 [] (map view tables.now)) }
     ensures len { IfOk result (λ v. length v.items ≡ length tables.now) }
     ensures valid { IfOk result (λ v. All IsDisplay v.items) }
 {

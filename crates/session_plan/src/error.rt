@@ -5,8 +5,8 @@ ghost use Rattle.session_plan.specs.declared.error.PlanError.TheVariants.{Memory
 use key_layout::LayoutError;
 use std::alloc::{AllocError, AllocFailed, Global};
 
-/// Why a session file is refused: the first refusal in the order in which keys are read. A key is written as its path, with
-/// the entries of arrays of tables counted from 1, as `device[1].slots`.
+/// Why a session file is refused: the first refusal in the order in which keys are read. A key is written as its path,
+/// with the entries of arrays of tables counted from 1, as `device[1].slots`.
 #[derive(Debug, Drop)]
 pub enum PlanError {
     /// The bytes are no TOML table.
@@ -34,8 +34,8 @@ pub enum PlanError {
 impl PlanError {
     ghost use Rattle.session_plan.specs.ErrorLine.{error_line};
 
-    /// The line that says why the session is refused, as `session: OutOfRange display.width 0`, without a newline at its end.
-    /// Want of memory is no refusal, and its line is empty.
+    /// The line that says why the session is refused, as `session: OutOfRange display.width 0`, without a newline at
+    /// its end. Want of memory is no refusal, and its line is empty.
     pub fn line(&self, alloc: Global) -> Result<String, AllocError>
         ensures { IfOk result (λ line. string_bytes line ≡ error_line self.now) }
     {

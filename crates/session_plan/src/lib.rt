@@ -23,11 +23,11 @@
 //! ```
 //!
 //! is a plan with one touch device of ten slots, channel 1 named `main`, and one step at moment 0 that shows its window
-//! over the whole display. `Plan::read` gives the plan of the bytes of a file, or the first refusal with its key, such as
-//! `step[1].windows[1].frame`. Keys are read in this order: `display`, `extra_display`, `end_us`, all devices, all channels,
-//! all steps. For each key, one that has to be there and is not is `Missing`; a value of another kind, or a malformed one, is
-//! `Wrong`; a number or a count outside its range is `OutOfRange`; a name that is not known is `UnknownName`. Other keys are
-//! not looked at.
+//! over the whole display. `Plan::read` gives the plan of the bytes of a file, or the first refusal with its key, such
+//! as `step[1].windows[1].frame`. Keys are read in this order: `display`, `extra_display`, `end_us`, all devices, all
+//! channels, all steps. For each key, one that has to be there and is not is `Missing`; a value of another kind, or a
+//! malformed one, is `Wrong`; a number or a count outside its range is `OutOfRange`; a name that is not known is
+//! `UnknownName`. Other keys are not looked at.
 //!
 //! | key | kind, and its default where it may be absent | range |
 //! |---|---|---|
@@ -63,8 +63,8 @@
 //! | `step[k].channel` (pilfer, remove) | text | the name of a channel |
 //! | `step[k].device` (pilfer) | integer | 1 to the number of devices |
 //!
-//! An array is of another kind also where an element of it is. Numbers of an array that are out of order are `Wrong`, also
-//! where they are out of range.
+//! An array is of another kind also where an element of it is. Numbers of an array that are out of order are `Wrong`,
+//! also where they are out of range.
 #![tactic(auto)]
 
 mod channel;

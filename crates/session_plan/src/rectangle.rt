@@ -127,7 +127,8 @@ fn each_rect(
     key: &str,
     values: &[Value],
 ) -> Result<Vec<Rect>, PlanError>
-    ensures value { Gives (λ v. v.items) result (each (λ k found d. rect_of (key_of place key.now) d) 1 [] (map view values.now)) }
+    ensures value { Gives
+        (λ v. v.items) result (each (λ k found d. rect_of (key_of place key.now) d) 1 [] (map view values.now)) }
     ensures len { IfOk result (λ v. length v.items ≡ length values.now) }
     ensures ordered { IfOk result (λ v. first_bad v.items ≡ None) }
 {

@@ -47,7 +47,8 @@ fn focused_channel(
     value: Option<&Value>,
 ) -> Result<Option<u32>, PlanError>
     requires { length channels.now ≤ 64 }
-    ensures { Gives (λ c. c) result (focused_channel (map channel_view channels.now) k (option_map (λ v. view v.now) value.entry)) }
+    ensures { Gives
+        (λ c. c) result (focused_channel (map channel_view channels.now) k (option_map (λ v. view v.now) value.entry)) }
 {
     let Some(value) = value else {
         return Ok(None);
@@ -116,7 +117,8 @@ fn act(
     requires few_devices { devices ≤ 8 }
     requires some_display { 1 ≤ displays }
     requires few_displays { displays ≤ 4 }
-    ensures { Gives (λ a. a) result (act_of (map channel_view channels.now) devices displays k word.now (view table.now)) }
+    ensures { Gives
+        (λ a. a) result (act_of (map channel_view channels.now) devices displays k word.now (view table.now)) }
 {
     if word == "windows" {
         let snapshot = windows(alloc, channels, displays, k, table)?;
@@ -152,7 +154,8 @@ fn step(
     requires few_devices { devices ≤ 8 }
     requires some_display { 1 ≤ displays }
     requires few_displays { displays ≤ 4 }
-    ensures value { Gives (λ s. s) result (step_of (map channel_view channels.now) devices displays k (view table.now)) }
+    ensures value { Gives
+        (λ s. s) result (step_of (map channel_view channels.now) devices displays k (view table.now)) }
     ensures valid { IfOk result IsStep }
 {
     let place = Place::Step(k);
@@ -184,7 +187,9 @@ fn each_step(
     requires few_devices { devices ≤ 8 }
     requires some_display { 1 ≤ displays }
     requires few_displays { displays ≤ 4 }
-    ensures value { Gives (λ v. v.items) result (each (λ k found d. step_of (map channel_view channels.now) devices displays k d) 1 [] (map view tables.now)) }
+    ensures value { Gives
+        (λ v. v.items) result
+        (each (λ k found d. step_of (map channel_view channels.now) devices displays k d) 1 [] (map view tables.now)) }
     ensures valid { IfOk result (λ v. All IsStep v.items) }
 {
     let mut steps = Vec::new(alloc);
@@ -218,7 +223,8 @@ pub(crate) fn steps(
     requires few_devices { devices ≤ 8 }
     requires some_display { 1 ≤ displays }
     requires few_displays { displays ≤ 4 }
-    ensures value { Gives (λ v. v.items) result (steps_of (map channel_view channels.now) devices displays (view document.now)) }
+    ensures value { Gives
+        (λ v. v.items) result (steps_of (map channel_view channels.now) devices displays (view document.now)) }
     ensures valid { IfOk result (λ v. All IsStep v.items) }
     ensures rising { IfOk result (λ v. IsNonDecreasingBy (λ s. s.at) v.items) }
 {

@@ -42,7 +42,8 @@ fn window(
     requires few { length channels.now ≤ 64 }
     requires some_display { 1 ≤ displays }
     requires few_displays { displays ≤ 4 }
-    ensures value { Gives (λ w. w) result (window_of (map channel_view channels.now) displays place found.now (view table.now)) }
+    ensures value { Gives
+        (λ w. w) result (window_of (map channel_view channels.now) displays place found.now (view table.now)) }
     ensures new { IfOk result (λ w. is_named found.now w.channel ≡ false) }
 {
     let name = text_at(alloc, place, "channel", table)?;
@@ -77,7 +78,10 @@ fn each_window(
     requires few { length channels.now ≤ 64 }
     requires some_display { 1 ≤ displays }
     requires few_displays { displays ≤ 4 }
-    ensures value { Gives (λ v. v.items) result (each (λ j found d. window_of (map channel_view channels.now) displays (WindowPlace k j) found d) 1 [] (map view tables.now)) }
+    ensures value { Gives
+        (λ v. v.items) result
+        (each (λ j found d. window_of (map channel_view channels.now) displays (WindowPlace k j) found d) 1 []
+        (map view tables.now)) }
     ensures len { IfOk result (λ v. length v.items ≡ length tables.now) }
     ensures distinct { IfOk result (λ v. first_twice v.items ≡ None) }
 {

@@ -1,8 +1,9 @@
 //! Sessions and what is read from them.
 //!
-//! Standard input is a list of cases. A case is the bytes of a session file, and then a line that begins with `=> ` and has
-//! what `Plan::read` is to answer: the line of the refusal, or the plan in the words of `plan_text`, or `cuts`, which wants a plan
-//! or a refusal for each prefix of the session. A case that is answered otherwise is printed, and at the end how many were not.
+//! Standard input is a list of cases. A case is the bytes of a session file, and then a line that begins with `=> ` and
+//! has what `Plan::read` is to answer: the line of the refusal, or the plan in the words of `plan_text`, or `cuts`,
+//! which wants a plan or a refusal for each prefix of the session. A case that is answered otherwise is printed, and at
+//! the end how many were not.
 #![tactic(auto)]
 
 use input_types::{DeviceId, DisplayId, Rotation};

@@ -1,47 +1,28 @@
 -- Lists of contacts, slot by slot.
-use Rattle.std.specs.Prelude.{◌≡◌, ◌≢◌, ℕ, zero, suc, ◌+◌, ◌-◌, ◌<◌, ◌≤◌, Bool, true, false, not, ◌||◌, ◌&&◌, ℤ, pos, negsuc, nat_eq, ◌≤ℤ◌, List, [], ◌∷◌, ◌++◌, length, take, drop, replicate, if◌then◌else◌, int_le}
+use Rattle.std.specs.Prelude.{◌≡◌, ◌≢◌, ℕ, zero, suc, ◌<◌, ◌≤◌, Bool, true, false, not, ◌||◌, ◌&&◌, ℤ, pos, negsuc, nat_eq, ◌≤ℤ◌, List, [], ◌∷◌, ◌++◌, length, take, if◌then◌else◌, int_le}
 use Rattle.std.specs.List.{list_any}
 use Rattle.std.specs.Ordering.{int_eq}
-use Rattle.std.proofs.Common.{sym, ◌∙◌, ap, subst, refl, arith, set, take-suc-set, drop-set-lt, drop-drop, add-one, length-append, take-suc, get_or-take, length-take-le}
-use Rattle.std.proofs.lemmas.List.{length-set, drop-replicate}
+use Rattle.std.proofs.Common.{sym, ◌∙◌, ap, refl, arith, length-append, take-suc, get_or-take, length-take-le}
 use Rattle.std.proofs.lemmas.List.Folds.{list_any-append}
 use Rattle.std.proofs.lemmas.Bool.{eqb-true}
 use Rattle.std.proofs.lemmas.Bool.Decides.{Decides-int_eq}
 use Rattle.std.proofs.Common.{rules}
 use Rattle.slot_accumulator.specs.declared.contacts.Contact.{Contact}
 use Rattle.slot_accumulator.specs.declared.slots.Row.{Row}
-use Rattle.slot_accumulator.specs.Contacts.{IsBefore, IsBeforeAll, AreContacts, Joins, IsTable, unused, has_tracking}
+use Rattle.slot_accumulator.specs.Contacts.{IsBefore, IsBeforeAll, AreContacts, Joins, has_tracking}
 use Rattle.slot_accumulator.specs.SlotContacts.{lower_has, holds, has_palm_tool, holds_palm, palm_below, contact, contacts_of, is_palm, no_row, row_in}
 use Rattle.slot_accumulator.specs.SlotValues.{current, is_abs, is_report, is_slot, row, value}
+use Rattle.slot_accumulator.specs.Table.{is_kept}
 use Rattle.raw_events.specs.declared.event.RawEvent.{RawEvent}
 
 IsBeforeAll-append : (c : Contact) (cs : List Contact) (d : Contact) → IsBeforeAll c cs → IsBefore c d → IsBeforeAll c (cs ++ d ∷ [])
 IsBeforeAll-append c [] d h b = (b, tt)
 IsBeforeAll-append c (e ∷ es) d h b = (h.0, IsBeforeAll-append c es d h.1 b)
 
-AreContacts-append : (cs : List Contact) (d : Contact) → AreContacts cs → Joins cs d → AreContacts (cs ++ d ∷ [])
+-- one more contact that joins the list
+pub AreContacts-append : (cs : List Contact) (d : Contact) → AreContacts cs → Joins cs d → AreContacts (cs ++ d ∷ [])
 AreContacts-append [] d h j = (j, tt, tt)
 AreContacts-append (c ∷ cs) d h j = (h.0, IsBeforeAll-append c cs d h.1 j.0, AreContacts-append cs d h.2 j.1)
-
--- a contact put into the first place that is not in use
-pub IsTable-set : (items : List Contact) (used : ℕ) (c : Contact) → IsTable items used → used < 16 → Joins (take used items) c
-    → IsTable (set items used c) (used + 1)
-IsTable-set items used c h lt j =
-    let here : used < length items = omega (arith, lt, h.whole)
-    in let pushed : take (used + 1) (set items used c) ≡ take used items ++ c ∷ []
-    = ap (λ n. take n (set items used c)) (add-one used) ∙ take-suc-set items used c here
-    in let left : drop (used + 1) (set items used c) ≡ replicate (16 - (used + 1)) unused
-    = drop-set-lt (used + 1) items used c (omega arith)
-    ∙ sym (drop-drop 1 used items)
-    ∙ ap (λ xs. drop 1 xs) h.rest
-    ∙ drop-replicate 1 (16 - used) unused
-    ∙ ap (λ n. replicate n unused) (omega arith)
-    in record {
-      whole = length-set items used c ∙ h.whole;
-      within = omega (arith, lt);
-      contacts = subst AreContacts (sym pushed) (AreContacts-append (take used items) c h.contacts j);
-      rest = left;
-    }
 
 -- ---- slots in rising order
 
@@ -195,6 +176,13 @@ lower_any rows (suc n) t le =
     ∙ sym (ap (λ xs. list_any (λ (r : Row). int_eq r.tracking t) xs) (take-suc rows n no_row (omega (arith, le)))
     ∙ list_any-append (λ (r : Row). int_eq r.tracking t) (take n rows) (row_in rows n ∷ [])
     ∙ tracked_or (list_any (λ (r : Row). int_eq r.tracking t) (take n rows)) (int_eq (row_in rows n).tracking t))
+
+-- one more tracking id is kept
+pub pushed_kept : (palms : List ℤ) (x t : ℤ) (after : List ℤ) → after ≡ palms ++ x ∷ [] → is_kept after t ≡ (is_kept palms t || int_eq x t)
+pushed_kept palms x t after is =
+    ap (λ xs. is_kept xs t) is
+    ∙ list_any-append (λ y. int_eq y t) palms (x ∷ [])
+    ∙ tracked_or (is_kept palms t) (int_eq x t)
 
 no_more : (kept z q : Bool) → kept ≡ (kept || ((z && false) && q))
 no_more true z q = refl

@@ -1,5 +1,5 @@
--- Lists of contacts, and the table that keeps one.
-use Rattle.std.specs.Prelude.{◌≡◌, ℕ, ◌-◌, ◌<◌, ◌≤◌, ◌≢◌, Bool, false, ℤ, pos, List, [], ◌∷◌, length, take, drop, replicate, ◌≤ℤ◌}
+-- Lists of contacts.
+use Rattle.std.specs.Prelude.{◌<◌, ◌≢◌, Bool, false, ℤ, pos, List, [], ◌∷◌, ◌≤ℤ◌}
 use Rattle.std.specs.List.{list_any}
 use Rattle.std.specs.Ordering.{int_eq}
 use Rattle.slot_accumulator.specs.declared.contacts.Contact.{Contact}
@@ -28,13 +28,6 @@ abbrev pub Joins : List Contact → Contact → Type 0
 Joins [] d = pos 0 ≤ℤ d.tracking
 Joins (c ∷ cs) d = IsBefore c d × Joins cs d
 
--- what stands in the places of a table that are not in use
+-- what stands in the places of a list that are not in use
 abbrev pub unused : Contact
 unused = record { slot = 0; tracking = pos 0; x = pos 0; y = pos 0; palm = false }
-
--- a table of 16 places whose first `used` are a list of contacts, and whose others are all `unused`
-pub record IsTable (items : List Contact) (used : ℕ) : Type 0 where
-  pub whole : length items ≡ 16
-  pub within : used ≤ 16
-  pub contacts : AreContacts (take used items)
-  pub rest : drop used items ≡ replicate (16 - used) unused

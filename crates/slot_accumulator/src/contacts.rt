@@ -1,7 +1,8 @@
 //! Contacts, and lists of them.
 ghost use Rattle.std.specs.Prelude.{◌≡◌, ℕ, ◌+◌, ◌<◌, ◌≤◌, List, [], ◌∷◌, ◌++◌, length, slice_get};
-ghost use Rattle.slot_accumulator.specs.Contacts.{AreContacts, Joins, has_tracking};
+ghost use Rattle.slot_accumulator.specs.Contacts.{AreContacts, Joins, has_tracking, unused};
 
+use short_list::{Blank, ShortList};
 use std::marker::Model;
 
 /// What touches a device: the slot that holds it, its tracking id, where it is in the device's units, and whether it is
@@ -15,29 +16,38 @@ pub struct Contact {
     pub palm: bool,
 }
 
+impl Blank for Contact {
+    ghost nothing = { unused };
+
+    fn blank() -> Contact {
+        Contact {
+            slot: 0,
+            tracking: 0,
+            x: 0,
+            y: 0,
+            palm: false,
+        }
+    }
+}
+
 /// At most 16 contacts in rising slot, whose tracking ids are not negative and differ. Contracts see it as a list.
 #[derive(Clone, Copy, Debug, PartialEq, Eq)]
 pub struct Contacts {
-    items: [Contact; 16],
-    used: u8,
+    list: ShortList<Contact>,
 }
 
 impl Model for Contacts {
-    ghost use Rattle.std.specs.Prelude.{List, take, length, replicate, ◌++◌, ◌-◌};
+    ghost use Rattle.std.specs.Prelude.{List};
     ghost use Rattle.slot_accumulator.specs.declared.contacts.Contact.{Contact as Element};
+    ghost use Rattle.slot_accumulator.specs.Contacts.{AreContacts};
 
     ghost Value = { List Element };
 
-    ghost use Rattle.slot_accumulator.specs.Contacts.{IsTable, unused};
-    ghost use Rattle.slot_accumulator.specs.Inverse.{fields_again};
+    ghost view = { λ c. c.list };
 
-    ghost view = { λ c. take c.used c.items };
+    ghost invariant = { λ c. AreContacts c.list };
 
-    ghost invariant = { λ c. IsTable c.items c.used };
-
-    ghost inverse = { λ cs. record { items = cs ++ replicate (16 - length cs) unused; used = length cs } };
-
-    ghost inverse_ok = { λ c h. fields_again c h };
+    ghost inverse = { λ cs. record { list = cs } };
 }
 
 impl Contacts {
@@ -48,16 +58,8 @@ impl Contacts {
     pub fn empty() -> Contacts
         ensures { result ≡ [] }
     {
-        let unused = Contact {
-            slot: 0,
-            tracking: 0,
-            x: 0,
-            y: 0,
-            palm: false,
-        };
         Contacts {
-            items: [unused; 16],
-            used: 0,
+            list: ShortList::empty(),
         }
     }
 
@@ -67,18 +69,14 @@ impl Contacts {
         ensures range { result ≤ 16 }
         ensures contacts { AreContacts self.now }
     {
-        usize::from(self.used)
+        self.list.len()
     }
 
-    /// The contact at place `i`, counted from 0; None exactly where `i` is not below `len`.
+    /// The contact at index `i`, counted from 0; None exactly where `i` is not below `len`.
     pub fn get(&self, i: usize) -> Option<Contact>
         ensures { result ≡ slice_get self.now i }
     {
-        if i < usize::from(self.used) {
-            Some(self.items[i])
-        } else {
-            None
-        }
+        self.list.get(i)
     }
 
     /// The contacts as a slice.
@@ -86,7 +84,7 @@ impl Contacts {
         ensures value { result.now ≡ self.now }
         ensures range { length result.now ≤ 16 }
     {
-        &self.items[..usize::from(self.used)]
+        self.list.as_slice()
     }
 
     /// Puts a contact behind the list.
@@ -95,8 +93,7 @@ impl Contacts {
         requires joins { Joins self.old contact }
         ensures { self.new ≡ self.old ++ contact ∷ [] }
     {
-        self.items[usize::from(self.used)] = contact;
-        self.used += 1;
+        self.list.push(contact);
     }
 }
 

@@ -1,5 +1,5 @@
 //! The slots of a device.
-ghost use Rattle.std.specs.Prelude.{◌≡◌, ℕ, ◌+◌, ◌<◌, ◌≤◌, List, [], ◌∷◌, MatchOption, ℤ, Bool, pos, false, not, ◌&&◌};
+ghost use Rattle.std.specs.Prelude.{◌≡◌, ℕ, ◌+◌, ◌<◌, ◌≤◌, List, [], ◌∷◌, ◌++◌, MatchOption, ℤ, Bool, pos, false, not, ◌&&◌};
 ghost use Rattle.std.specs.Prelude.{◌||◌, int_le, length};
 ghost use Rattle.std.specs.List.{list_any};
 ghost use Rattle.std.specs.Ordering.{int_eq};
@@ -11,7 +11,7 @@ ghost use Rattle.slot_accumulator.specs.SlotContacts.{contact as contact_of, con
 ghost use Rattle.slot_accumulator.specs.SlotContacts.{palm_below, row_in, StandsFor};
 
 use crate::contacts::{Contact, Contacts, tracked};
-use crate::palms::Palms;
+use crate::palms::{Palms, is_kept};
 use crate::report::is_report;
 use raw_events::RawEvent;
 use raw_events::codes::{
@@ -48,7 +48,7 @@ impl Model for Slots {
 
     ghost view = { λ s. record { slots = s.slots; current = s.current; rows = s.rows; palms = s.palms } };
 
-    ghost invariant = { λ s. IsTable s.slots s.rows s.palms };
+    ghost invariant = { λ s. IsTable s.slots s.rows };
 
     ghost inverse = { λ t. record { rows = t.rows; palms = t.palms; current = t.current; slots = t.slots } };
 }
@@ -72,7 +72,7 @@ impl Slots {
         };
         Slots {
             rows: [row; 16],
-            palms: Palms::none(),
+            palms: Palms::empty(),
             current: 0,
             slots,
         }
@@ -100,7 +100,8 @@ impl Slots {
             return;
         }
         if let Some(at) = place(self.current) {
-            self.rows[at] = written(&self.rows[at], &event);
+            let row = self.rows[at];
+            self.rows[at] = written(&row, &event);
         }
     }
 
@@ -158,14 +159,11 @@ fn written(row: &Row, event: &RawEvent) -> Row
 
 /// The tracking ids of the palms among the contacts of some slots, given those of the packet before.
 fn palms(rows: &[Row], before: &Palms) -> Palms
-    requires rows { length rows.now ≤ 16 }
-    requires before { (before.now.used ≤ 16) × (length before.now.items ≡ 16) }
-    ensures kept { (tracking : ℤ) → is_kept result tracking ≡ palm_below (row_in rows.now)
+    requires { length rows.now ≤ 16 }
+    ensures { (tracking : ℤ) → is_kept result tracking ≡ palm_below (row_in rows.now)
         (λ t. is_kept before.now t) (length rows.now) tracking }
-    ensures places { length result.items ≡ 16 }
-    ensures used { result.used ≤ 16 }
 {
-    let mut palms = Palms::none();
+    let mut palms = Palms::empty();
     for (slot, row) in rows.iter().enumerate() {
         if is_palm(row, rows.split_at(slot).0, before) {
             note(&mut palms, row);
@@ -174,23 +172,20 @@ fn palms(rows: &[Row], before: &Palms) -> Palms
     palms
 }
 
-/// Keeps the tracking id of a slot.
+/// Notes the tracking id of a slot.
 fn note(palms: &mut Palms, row: &Row)
-    requires { (palms.old.used < 16) × (length palms.old.items ≡ 16) }
-    ensures kept { (other : ℤ) → is_kept palms.new other ≡ (is_kept palms.old other || int_eq row.now.tracking other) }
-    ensures places { length palms.new.items ≡ 16 }
-    ensures used { palms.new.used ≡ palms.old.used + 1 }
+    requires { length palms.old < 16 }
+    ensures { palms.new ≡ palms.old ++ row.now.tracking ∷ [] }
 {
     palms.push(row.tracking);
 }
 
 /// Whether a slot holds a contact that is a palm, given the lower slots and the palms of the packet before.
 fn is_palm(row: &Row, lower: &[Row], before: &Palms) -> bool
-    requires { (before.now.used ≤ 16) × (length before.now.items ≡ 16) }
     ensures { result ≡ ((has_palm_tool row.now || is_kept before.now row.now.tracking)
         && (int_le (pos 0) row.now.tracking && not (list_any (λ r. int_eq r.tracking row.now.tracking) lower.now))) }
 {
-    (row.tool == MT_TOOL_PALM || before.has(row.tracking))
+    (row.tool == MT_TOOL_PALM || is_kept(before, row.tracking))
         && (row.tracking >= 0 && !any_has(lower, row.tracking))
 }
 
@@ -213,7 +208,6 @@ fn is_contact(row: &Row, lower: &[Contact]) -> bool
 
 /// The contact that a slot holds.
 fn contact(slot: u8, row: &Row, palms: &Palms) -> Contact
-    requires { (palms.now.used ≤ 16) × (length palms.now.items ≡ 16) }
     ensures { result ≡ contact_of (λ t. is_kept palms.now t) slot row.now }
 {
     Contact {
@@ -221,6 +215,6 @@ fn contact(slot: u8, row: &Row, palms: &Palms) -> Contact
         tracking: row.tracking,
         x: row.x,
         y: row.y,
-        palm: palms.has(row.tracking),
+        palm: is_kept(palms, row.tracking),
     }
 }

@@ -6,7 +6,6 @@ pub mod OrderLines
 pub mod OrderPassed
 pub mod OrderReading
 pub mod OrderTexts
-pub mod TextLines
 pub mod Numbers
 pub mod Pointers
 pub mod Streams

@@ -9,7 +9,7 @@ use Rattle.stream_text.specs.Order.{finish_line, head_spelling, number_alone, or
 use Rattle.stream_text.specs.OrderHistory.{order_of_history}
 use Rattle.stream_text.specs.OrderText.{head_of, order_of, order_passed}
 use Rattle.stream_text.specs.Spelling.{labeled}
-use Rattle.stream_text.specs.TextLines.{lines_of}
+use Rattle.text_lines.specs.Lines.{lines_of}
 
 -- each form of a line
 pub spelled : order_spelling (Reader ∷ Script 8 ∷ Pump ∷ Tick ∷ Receive 4294967295 ∷ Finish 1 18446744073709551615 ∷ [])

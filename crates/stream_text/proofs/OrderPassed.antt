@@ -7,7 +7,7 @@ use Rattle.std.proofs.lemmas.List.Elements.{recursion_from_All}
 use Rattle.stream_text.specs.declared.order_line.OrderLine.{OrderLine}
 use Rattle.stream_text.specs.Order.{IsLine, head_spelling, line_spelling, lines_spelling, order_spelling}
 use Rattle.stream_text.specs.OrderText.{IsOrder, lines_passed, order_passed, passed_behind}
-use Rattle.stream_text.specs.TextLines.{Line, lines_of}
+use Rattle.text_lines.specs.Lines.{Line, lines_of}
 use Rattle.stream_text.proofs.OrderLines.{head_again, line_again}
 use Rattle.stream_text.proofs.OrderReading.{all_passed}
 use Rattle.stream_text.proofs.OrderTexts.{head_no_newline, line_no_newline, lines_again, not_zero}

@@ -3,7 +3,7 @@ use Rattle.std.proofs.Common.{◌≡◌, ℕ, ◌++◌, ◌∷◌, [], List, Som
 use Rattle.std.proofs.lemmas.List.{append_assoc, append-nil}
 use Rattle.stream_text.specs.declared.order_line.OrderLine.{OrderLine}
 use Rattle.stream_text.specs.OrderText.{lines_from, lines_passed, with_line}
-use Rattle.stream_text.specs.TextLines.{Line}
+use Rattle.text_lines.specs.Lines.{Line}
 
 abbrev pub behind : List OrderLine → Result (List OrderLine) ℕ → Result (List OrderLine) ℕ
 behind front (Ok lines) = Ok (front ++ lines)

@@ -12,7 +12,7 @@ use Rattle.stream_text.specs.declared.order_line.OrderLine.TheVariants.{Reader, 
 use Rattle.stream_text.specs.Order.{IsLine, head_spelling, line_spelling, lines_spelling, order_line_of, order_spelling}
 use Rattle.stream_text.specs.OrderText.{behind_head, head_of, lines_from, order_in, order_of, with_line}
 use Rattle.stream_text.specs.Spelling.{labeled}
-use Rattle.stream_text.specs.TextLines.{Line, lines_of, with_front}
+use Rattle.text_lines.specs.Lines.{Line, lines_of, with_front}
 use Rattle.stream_text.proofs.Numbers.{chosen}
 use Rattle.stream_text.proofs.OrderLines.{head_again, head_only, line_again, line_only}
 use Rattle.stream_text.proofs.OrderReading.{no_lines}

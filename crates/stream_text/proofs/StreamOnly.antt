@@ -17,7 +17,7 @@ use Rattle.stream_text.specs.declared.stream_lines.Place.TheVariants.{Between, S
 use Rattle.stream_text.specs.Number.{◌>>=◌}
 use Rattle.stream_text.specs.Order.{IsLine, head_spelling, line_spelling, lines_spelling, order_spelling, order_line_of}
 use Rattle.stream_text.specs.OrderText.{head_of, lines_passed, order_passed, passed_behind}
-use Rattle.stream_text.specs.TextLines.{Line, lines_of, with_front}
+use Rattle.text_lines.specs.Lines.{Line, lines_of, with_front}
 use Rattle.stream_text.specs.Spelling.{end_line, message_lines}
 use Rattle.stream_text.specs.MessageLine.{message_words}
 use Rattle.stream_text.specs.StreamLine.{channel_words, end_words, line_of, naming_words, SpellsLine}

@@ -13,7 +13,7 @@ use Rattle.stream_text.specs.declared.stream_lines.Place.{Place}
 use Rattle.stream_text.specs.declared.stream_lines.Place.TheVariants.{Between, Section as InSection, Namings}
 use Rattle.stream_text.specs.Number.{◌>>=◌}
 use Rattle.stream_text.specs.OrderText.{head_of, order_passed, passed_behind}
-use Rattle.stream_text.specs.TextLines.{Line, lines_of}
+use Rattle.text_lines.specs.Lines.{Line, lines_of}
 use Rattle.stream_text.specs.Spelling.{channel_line, end_line, labeled, message_line, message_lines, naming_line, numbered, body}
 use Rattle.stream_text.specs.MessageLine.{message_words}
 use Rattle.stream_text.specs.StreamLine.{channel_words, end_words, naming_words, IsId, SpellsLine}

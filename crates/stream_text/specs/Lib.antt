@@ -3,7 +3,6 @@ pub mod Number
 pub mod Order
 pub mod OrderHistory
 pub mod OrderText
-pub mod TextLines
 pub mod MessageLine
 pub mod StreamLine
 pub mod StreamFile

@@ -52,6 +52,7 @@ abbrev pub flags_by : Option (List ℕ) → List ℕ → ℕ × List ℕ
 flags_by (Some rest) bs = (32, rest)
 flags_by None bs = (0, bs)
 
+-- the flags of a motion: ` canceled` is FLAG_CANCELED, and nothing is 0
 unfoldable pub flags_at : List ℕ → ℕ × List ℕ
 flags_at bs = flags_by (after (codes " canceled") bs) bs
 
@@ -95,6 +96,7 @@ way_by None bs = do
   rest ← after (codes " ") (flags_at up).1
   Some (false, (flags_at up).0, rest)
 
+-- which way a key goes, with its flags: `DOWN` alone, or `UP`, behind which ` canceled` may stand
 unfoldable pub way_at : List ℕ → Option (Bool × ℕ × List ℕ)
 way_at bs = way_by (after (codes " DOWN ") bs) bs
 
@@ -156,6 +158,7 @@ HavePlaces least (p ∷ ps) = (least ≤ p.id) × (p.id ≤ 31) × IsI32 p.at.x 
 abbrev pub HasFlag : ℕ → Type 0
 HasFlag flags = (flags ≡ 0) ⊎ (flags ≡ 32)
 
+-- a motion that has a spelling: its numbers are in their ranges, an index stands where the action has one, and its flags are 0 or FLAG_CANCELED
 pub record SpelledMotion (m : Motion) : Type 0 where
   pub device : (1 ≤ m.device) × (m.device ≤ 8)
   pub index : HasIndex m.action m.index (length m.pointers)
@@ -168,6 +171,7 @@ abbrev pub HasKeyFlag : Bool → ℕ → Type 0
 HasKeyFlag true flags = flags ≡ 0
 HasKeyFlag false flags = HasFlag flags
 
+-- a key message that has a spelling: its numbers are in their ranges, and FLAG_CANCELED stands with an up alone
 pub record SpelledKey (m : KeyMsg) : Type 0 where
   pub device : (1 ≤ m.key.device) × (m.key.device ≤ 8)
   pub scan : m.key.scan < 2 ^ 16
@@ -176,6 +180,7 @@ pub record SpelledKey (m : KeyMsg) : Type 0 where
   pub flags : HasKeyFlag m.key.down m.flags
   pub repeat : m.repeat < 2 ^ 32
 
+-- what a message says has a spelling
 abbrev pub SpelledBody : Body → Type 0
 SpelledBody (MotionBody m) = SpelledMotion m
 SpelledBody (Key m) = SpelledKey m

@@ -40,6 +40,7 @@ negative read = if read.0 == 0 then None else Some (negsuc (read.0 - 1), read.1)
 unfoldable pub negative_at : List ℕ → Option (ℤ × List ℕ)
 negative_at bs = number_at 2147483648 bs >>= negative
 
+-- a number that is at most the greatest one of 32 bits with a sign
 unfoldable pub positive_at : List ℕ → Option (ℤ × List ℕ)
 positive_at bs = number_at 2147483647 bs >>= λ read. Some (pos read.0, read.1)
 

@@ -15,6 +15,7 @@ line_spelling Tick = codes "k"
 line_spelling (Receive channel) = labeled (codes "g ") channel
 line_spelling (Finish channel seq) = labeled (codes "f ") channel ++ labeled (codes " ") seq
 
+-- the lines of an order, each with its newline
 abbrev pub lines_spelling : List OrderLine → List ℕ
 lines_spelling [] = []
 lines_spelling (line ∷ lines) = line_spelling line ++ codes "\n" ++ lines_spelling lines

@@ -6,7 +6,7 @@ use Rattle.stream_text.specs.declared.order_error.OrderError.TheVariants as erro
 use Rattle.stream_text.specs.declared.order_line.OrderLine.{OrderLine}
 use Rattle.stream_text.specs.Number.{◌>>=◌, after}
 use Rattle.stream_text.specs.Order.{IsLine, number_alone, order_line_of}
-use Rattle.stream_text.specs.TextLines.{Line, lines_of}
+use Rattle.text_lines.specs.Lines.{Line, lines_of}
 
 -- how many lines follow a first line, given without its newline
 unfoldable pub head_of : List ℕ → Option ℕ
@@ -30,6 +30,7 @@ abbrev pub behind_head : Option ℕ → List Line → Result (List OrderLine) �
 behind_head None lines = Err 1
 behind_head (Some n) lines = lines_from 2 n lines
 
+-- the order that these lines begin with, or the number of the first line that is bad or missing
 abbrev pub order_in : List Line → Result (List OrderLine) ℕ
 order_in [] = Err 1
 order_in (line ∷ lines) = behind_head (head_of line.0) lines

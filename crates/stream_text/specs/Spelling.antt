@@ -36,6 +36,7 @@ action PointerUp index = indexed (codes "POINTER_UP") index
 unfoldable pub pointer : ℕ → ℤ → ℤ → List ℕ
 pointer id x y = codes " " ++ decimal id ++ codes "@" ++ signed_decimal x ++ codes "," ++ signed_decimal y
 
+-- the pointers of a motion, each behind a space
 abbrev pub pointers : List Pointer → List ℕ
 pointers [] = []
 pointers (p ∷ ps) = pointer p.id p.at.x p.at.y ++ pointers ps
@@ -52,6 +53,7 @@ key_end down flags repeat = cond down (codes " DOWN ") (codes " UP" ++ canceled 
 unfoldable pub key : ℕ → ℕ → ℕ → ℕ → List ℕ
 key device scan code meta = labeled (codes "key ") device ++ labeled (codes " ") scan ++ labeled (codes " ") code ++ labeled (codes " ") meta
 
+-- what a message says: a motion, a key, or a change of the focus
 abbrev pub body : Body → List ℕ
 body (MotionBody m) = motion m
 body (Key m) = key m.key.device m.key.scan m.key.code m.key.meta ++ key_end m.key.down m.flags m.repeat
@@ -65,6 +67,7 @@ numbered seq moment = decimal seq ++ codes " " ++ decimal moment ++ codes " "
 abbrev pub message_line : Message → List ℕ
 message_line m = numbered m.seq m.moment ++ body m.body ++ codes "\n"
 
+-- the lines of messages, one after the other
 abbrev pub message_lines : List Message → List ℕ
 message_lines [] = []
 message_lines (m ∷ ms) = message_line m ++ message_lines ms

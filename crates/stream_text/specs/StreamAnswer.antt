@@ -14,6 +14,7 @@ use Rattle.stream_text.specs.StreamFile.{Event, Stream, messages_of, streams_in,
 abbrev pub stream_seen : StreamChannel → Stream
 stream_seen c = record { id = c.id; first_line = c.first_line; messages = c.messages.items }
 
+-- what a contract sees of a stream file: its streams in order
 abbrev pub seen : StreamFile → List Stream
 seen file = map stream_seen file.channels.items
 

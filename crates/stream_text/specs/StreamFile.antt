@@ -6,7 +6,7 @@ use Rattle.stream_text.specs.declared.stream_line.StreamLine.TheVariants.{Channe
 use Rattle.stream_text.specs.declared.stream_lines.Place.{Place}
 use Rattle.stream_text.specs.declared.stream_lines.Place.TheVariants.{Between, Section, Namings}
 use Rattle.stream_text.specs.Number.{◌>>=◌}
-use Rattle.stream_text.specs.TextLines.{Line, lines_of}
+use Rattle.text_lines.specs.Lines.{Line, lines_of}
 use Rattle.stream_text.specs.OrderText.{order_passed}
 use Rattle.stream_text.specs.StreamLine.{line_of}
 
@@ -82,6 +82,7 @@ abbrev pub with_message : StreamLine → List Told → List Told
 with_message (Message m) ms = m ∷ ms
 with_message _ ms = []
 
+-- the messages up to the next line that is none
 abbrev pub messages_of : List Event → List Told
 messages_of [] = []
 messages_of (event ∷ events) = with_message event.1 (messages_of events)
@@ -91,6 +92,7 @@ abbrev pub with_section : Event → List Told → List Stream → List Stream
 with_section (n, Channel id) ms streams = record { id = id; first_line = n + 1; messages = ms } ∷ streams
 with_section (n, _) ms streams = streams
 
+-- the streams of the sections in order
 abbrev pub streams_of : List Event → List Stream
 streams_of [] = []
 streams_of (event ∷ events) = with_section event (messages_of events) (streams_of events)

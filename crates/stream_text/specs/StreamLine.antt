@@ -58,10 +58,12 @@ line_of bs =
 unfoldable pub channel_words : ℕ → List ℕ → List ℕ
 channel_words id name = codes "channel " ++ decimal id ++ codes " " ++ name
 
+-- the last line of a section, without its newline
 unfoldable pub end_words : ℕ → ℕ → ℕ → ℕ → List ℕ
 end_words id sent received finished =
     labeled (codes "end ") id ++ labeled (codes " sent ") sent ++ labeled (codes " received ") received ++ labeled (codes " finished ") finished
 
+-- the line of a naming, without its newline
 unfoldable pub naming_words : ℕ → ℕ → ℕ → List ℕ
 naming_words clock id seq = labeled (codes "anr ") clock ++ labeled (codes " ") id ++ labeled (codes " ") seq
 

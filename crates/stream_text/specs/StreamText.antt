@@ -23,13 +23,16 @@ pub record Naming : Type 0 where
   pub id : ℕ
   pub seq : ℕ
 
+-- the text of a section: its first line, its messages, its last line
 unfoldable pub section_text : Section → List ℕ
 section_text s = channel_line s.id s.name ++ message_lines s.messages ++ end_line s.id (length s.messages) s.received s.finished
 
+-- the texts of sections, one after the other
 abbrev pub sections_text : List Section → List ℕ
 sections_text [] = []
 sections_text (s ∷ ss) = section_text s ++ sections_text ss
 
+-- the lines of namings, one after the other
 abbrev pub namings_text : List Naming → List ℕ
 namings_text [] = []
 namings_text (n ∷ ns) = naming_line n.clock n.id n.seq ++ namings_text ns
@@ -39,6 +42,7 @@ abbrev pub front_text : Option (List OrderLine) → List ℕ
 front_text None = []
 front_text (Some order) = order_spelling order
 
+-- the text of a stream file: an order that may be absent, the sections, the namings
 unfoldable pub stream_text : Option (List OrderLine) → List Section → List Naming → List ℕ
 stream_text order sections namings = front_text order ++ (sections_text sections ++ namings_text namings)
 
@@ -47,6 +51,7 @@ abbrev pub AreNumbered : ℕ → List Message → Type 0
 AreNumbered k [] = Unit {0}
 AreNumbered k (m ∷ ms) = (m.seq ≡ k) × HasSpelling m × AreNumbered (k + 1) ms
 
+-- a section that has a text: its numbers are in their ranges, and its messages are numbered from 1
 pub record IsSection (s : Section) : Type 0 where
   pub id : IsId s.id
   pub name : is_name s.name ≡ true
@@ -55,14 +60,17 @@ pub record IsSection (s : Section) : Type 0 where
   pub received : s.received < 2 ^ 64
   pub finished : s.finished < 2 ^ 64
 
+-- each of these sections has a text
 abbrev pub AreSections : List Section → Type 0
 AreSections [] = Unit {0}
 AreSections (s ∷ ss) = IsSection s × AreSections ss
 
+-- the numbers of each of these namings are in their ranges
 abbrev pub AreNamings : List Naming → Type 0
 AreNamings [] = Unit {0}
 AreNamings (n ∷ ns) = (n.clock ≤ 1000000000000000000) × IsId n.id × (n.seq < 2 ^ 64) × AreNamings ns
 
+-- no order, or one that has a text
 abbrev pub MayBeOrder : Option (List OrderLine) → Type 0
 MayBeOrder None = Unit {0}
 MayBeOrder (Some order) = IsOrder order

@@ -16,6 +16,7 @@ abbrev pub sections_of : ℕ → List (List ℕ) → List Effect → List ℕ
 sections_of k [] es = []
 sections_of k (name ∷ names) es = channel_section k name (reverse (stream es k)) (unwrap_or (counts es k) unopened) ++ sections_of (k + 1) names es
 
+-- the lines of namings, one after the other
 abbrev pub naming_lines : List Naming → List ℕ
 naming_lines [] = []
 naming_lines (n ∷ ns) = naming_line n.clock n.channel n.seq ++ naming_lines ns

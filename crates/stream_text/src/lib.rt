@@ -1,15 +1,17 @@
 //! The texts of the service: what windows were told, and in which order the calls were made.
 //!
-//! The second message of channel 1, told at 2,000 microseconds, that pointer 0 moved to (110, 200) while pointer 1 stayed, is the line
+//! The second message of channel 1, told at 2,000 microseconds, that pointer 0 moved to (110, 200) while pointer 1
+//! stayed, is the line
 //!
 //! ```text
 //! 2 2000 motion 1 MOVE 0@110,200 1@300,400
 //! ```
 //!
-//! Numbers are decimal without leading zeros, words are separated by one space, and each line ends in a newline. Each message has one
-//! spelling: the definitions stand in `specs/Spelling.antt`.
+//! Numbers are decimal without leading zeros, words are separated by one space, and each line ends in a newline. Each
+//! message has one spelling: the definitions stand in `specs/Spelling.antt`.
 //!
-//! An order names the calls of a run, one a line, behind a line that says how many they are: `specs/Order.antt` and `specs/OrderText.antt`.
+//! An order names the calls of a run, one a line, behind a line that says how many they are: `specs/Order.antt` and
+//! `specs/OrderText.antt`.
 //!
 //! A stream file has the streams of some channels, as any program may write it:
 //!
@@ -20,8 +22,8 @@
 //! end 1 sent 2 received 2 finished 2
 //! ```
 //!
-//! An order may stand in front, and namings may stand behind the sections. `StreamLines` goes through such a file line by line and takes no
-//! memory; `StreamReader` answers its streams.
+//! An order may stand in front, and namings may stand behind the sections. `StreamLines` goes through such a file line
+//! by line and takes no memory; `StreamReader` answers its streams.
 #![tactic(auto)]
 
 mod line;
@@ -37,7 +39,6 @@ mod stream_error;
 mod stream_file;
 mod stream_line;
 mod stream_lines;
-mod text_lines;
 
 pub use message::{LineWriter, message_text};
 pub use order::{Order, order_text};

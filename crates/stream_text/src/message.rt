@@ -89,7 +89,8 @@ fn add_key(
 }
 
 fn add_direction(text: &mut Vec<u8>, down: bool, flags: u32) -> Result<(), AllocError>
-    ensures { IfOk result (λ _. text.new.items ≡ text.old.items ++ cond down (codes " DOWN ") (codes " UP" ++ canceled flags ++ codes " ")) }
+    ensures { IfOk result (λ _. text.new.items
+        ≡ text.old.items ++ cond down (codes " DOWN ") (codes " UP" ++ canceled flags ++ codes " ")) }
 {
     if down {
         return add_word(text, " DOWN ");
@@ -175,8 +176,8 @@ impl LineWriter {
 
     /// Appends the line of a message. After want of memory `out` is as before.
     ///
-    /// A motion or the up of a key whose flags are `FLAG_CANCELED` has ` canceled` in it; other flags, the index of an action that has
-    /// none, and the flags of a key's down have no spelling and are not told.
+    /// A motion or the up of a key whose flags are `FLAG_CANCELED` has ` canceled` in it; other flags, the index of an
+    /// action that has none, and the flags of a key's down have no spelling and are not told.
     pub fn message(&mut self, message: &Message, out: &mut Vec<u8>) -> Result<(), AllocError>
         ensures ok { OnOk result (out.new.items ≡ out.old.items ++ message_line message.now) }
         ensures err { OnErr result (out.new.items ≡ out.old.items) }
@@ -242,7 +243,9 @@ mod tests {
         let text = told(rt.alloc(), Body::Motion(motion))?;
         assert_eq!(rt;
             text.as_slice(),
-            b"> 18446744073709551615 1000000000000000000 motion 8 POINTER_UP:1 canceled 0@-7,5 31@2147483647,5\n".as_slice()
+            b"> 18446744073709551615 1000000000000000000 motion 8 \
+                POINTER_UP:1 canceled 0@-7,5 31@2147483647,5\n"
+                .as_slice()
         );
         Ok(())
     }

@@ -79,7 +79,8 @@ fn flags(bytes: &[u8]) -> (u32, &[u8])
 
 #[tactic(auto, unfolding(crate::specs::MessageLine::pointer_at))]
 fn pointer(least: u8, bytes: &[u8]) -> Option<(u8, Pixel, &[u8])>
-    ensures value { option_map (λ read. (record { id = read.0; at = read.1 }, read.2.now)) result ≡ pointer_at least bytes.now }
+    ensures value { option_map (λ read. (record { id = read.0; at = read.1 }, read.2.now)) result
+        ≡ pointer_at least bytes.now }
     ensures id { IfSome result (λ read. (least ≤ read.0) × (read.0 ≤ 31)) }
 {
     let (id, rest) = labeled(" ", 31, bytes)?;

@@ -4,9 +4,9 @@ ghost use Rattle.std.specs.Prelude.{◌≡◌, ℕ, ◌+◌, codes, List, [], �
 use crate::line::{add_labeled, add_word};
 use crate::order_error::OrderError;
 use crate::order_line::{OrderLine, add_order_line, order_line, read_head};
-use crate::text_lines::first_line;
 use std::alloc::{AllocError, Global};
 use std::marker::Model;
+use text_lines::first_line;
 
 /// Calls, one after another. Contracts see it as a list; its script lanes are 1 to 8.
 #[derive(Drop)]
@@ -42,7 +42,8 @@ impl Order {
         }
     }
 
-    /// Puts a line behind the others. The lane of a `Script` line has to be 1 to 8. After want of memory the order is as before.
+    /// Puts a line behind the others. The lane of a `Script` line has to be 1 to 8. After want of memory the order is
+    /// as before.
     pub fn push(&mut self, line: OrderLine) -> Result<(), AllocError>
         requires { HasLane line }
         ensures ok { OnOk result (self.new ≡ self.old ++ line ∷ []) }
@@ -73,10 +74,12 @@ impl Order {
         self.lines.get(i).copied()
     }
 
-    /// The order in front of a text: a line `order N`, and then N lines, each `r`, `s LANE`, `p`, `k`, `g CHANNEL` or `f CHANNEL SEQ`.
+    /// The order in front of a text: a line `order N`, and then N lines, each `r`, `s LANE`, `p`, `k`, `g CHANNEL` or
+    /// `f CHANNEL SEQ`.
     ///
-    /// Numbers are decimal, without leading zeros: N and SEQ have 64 bits, CHANNEL 32, and LANE is 1 to 8. Whatever follows is passed over,
-    /// and the last line may lack its newline. The refusal is that of the first line that has not its form or is missing.
+    /// Numbers are decimal, without leading zeros: N and SEQ have 64 bits, CHANNEL 32, and LANE is 1 to 8. Whatever
+    /// follows is passed over, and the last line may lack its newline. The refusal is that of the first line that has
+    /// not its form or is missing.
     pub fn read(alloc: Global, bytes: &[u8]) -> Result<Order, OrderError>
         ensures exact { Answers (λ o. o) result (order_of bytes.now) }
 
@@ -84,7 +87,8 @@ impl Order {
         ensures spelled { IfOk result (λ o. IsOrder o × BeginsWith (bytes.now ++ codes "\n") (order_spelling o)) }
 
         // An order whose text stands in front is read, whatever follows.
-        ensures again { (o : List OrderLine) → IsOrder o → BeginsWith (bytes.now ++ codes "\n") (order_spelling o) → Answers (λ o. o) result (Ok o) }
+        ensures again { (o : List OrderLine) → IsOrder o
+            → BeginsWith (bytes.now ++ codes "\n") (order_spelling o) → Answers (λ o. o) result (Ok o) }
     {
         Order::read_all(alloc, bytes)
     }
@@ -123,7 +127,7 @@ impl Order {
 
 ghost use Rattle.stream_text.specs.Order.{head_spelling, lines_spelling, order_spelling};
 ghost use Rattle.stream_text.specs.OrderText.{order_of, order_passed};
-ghost use Rattle.stream_text.specs.TextLines.{lines_of};
+ghost use Rattle.text_lines.specs.Lines.{lines_of};
 
 fn add_lines(text: &mut Vec<u8>, lines: &[OrderLine]) -> Result<(), AllocError>
     ensures { IfOk result (λ _. text.new.items ≡ text.old.items ++ lines_spelling lines.now) }
@@ -153,7 +157,8 @@ pub fn order_text(order: &Order, out: &mut Vec<u8>) -> Result<(), AllocError>
     ensures again { (rest : List ℕ) → order_of (order_spelling order.now ++ rest) ≡ Ok order.now }
 
     // In front of other lines it is passed over.
-    ensures passed { (rest : List ℕ) → order_passed (lines_of (order_spelling order.now ++ rest)) ≡ Ok (length order.now + 2, lines_of rest) }
+    ensures passed { (rest : List ℕ)
+        → order_passed (lines_of (order_spelling order.now ++ rest)) ≡ Ok (length order.now + 2, lines_of rest) }
 {
     let mut text = Vec::new(*out.allocator());
     add_order(&mut text, order.lines.as_slice())?;

@@ -7,7 +7,8 @@ use std::alloc::AllocError;
 /// Why an order is not read. Lines are numbered from 1.
 #[derive(Clone, Copy, Debug, PartialEq, Eq)]
 pub enum OrderError {
-    /// The line has not its form, or is missing: the first such one. A missing line has the number one past the last line there.
+    /// The line has not its form, or is missing: the first such one. A missing line has the number one past the last
+    /// line there.
     BadLine { line: u64 },
 
     /// Want of memory.

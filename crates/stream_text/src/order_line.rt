@@ -90,7 +90,8 @@ fn finish(bytes: &[u8]) -> Option<OrderLine>
     })
 }
 
-/// How many lines follow the first line of an order, given without its newline; None exactly where it has not the form of one.
+/// How many lines follow the first line of an order, given without its newline; None exactly where it has not the form
+/// of one.
 #[tactic(auto, unfolding(crate::specs::OrderText::head_of))]
 pub(crate) fn read_head(line: &[u8]) -> Option<u64>
     ensures { result ≡ head_of line.now }

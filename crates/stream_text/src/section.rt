@@ -46,8 +46,8 @@ fn add_naming(text: &mut Vec<u8>, clock: u64, channel: u32, seq: u64) -> Result<
     add_word(text, "\n")
 }
 
-/// Appends the section of a channel: its number and name, a line for each message of its stream, and how many of them were sent, received
-/// and finished. After want of memory `out` is as before.
+/// Appends the section of a channel: its number and name, a line for each message of its stream, and how many of them
+/// were sent, received and finished. After want of memory `out` is as before.
 pub fn channel_text(
     id: u32,
     name: &str,
@@ -75,8 +75,8 @@ pub fn channel_line_text(id: u32, name: &str, out: &mut Vec<u8>) -> Result<(), A
     out.extend_from_slice(&text)
 }
 
-/// Appends the last line of a channel's section: how many messages were sent, received and finished. After want of memory `out` is as
-/// before.
+/// Appends the last line of a channel's section: how many messages were sent, received and finished. After want of
+/// memory `out` is as before.
 pub fn end_line_text(
     id: u32,
     sent: u64,
@@ -92,8 +92,8 @@ pub fn end_line_text(
     out.extend_from_slice(&text)
 }
 
-/// Appends the line of a naming: at `clock` the channel was named unresponsive for its message `seq`. After want of memory `out` is as
-/// before.
+/// Appends the line of a naming: at `clock` the channel was named unresponsive for its message `seq`. After want of
+/// memory `out` is as before.
 pub fn naming_text(
     clock: Moment,
     channel: u32,

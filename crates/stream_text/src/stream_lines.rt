@@ -4,8 +4,8 @@ ghost use Rattle.stream_text.specs.StreamFile.{Goes, Unread, events_from, events
 
 use crate::order_front::pass_order;
 use crate::stream_line::StreamLine;
-use crate::text_lines::{FirstLine, first_line};
 use std::marker::Model;
+use text_lines::{FirstLine, first_line};
 
 /// Where a stream file stands between two lines.
 #[derive(Clone, Copy)]
@@ -80,7 +80,8 @@ fn tell(place: Place, line: FirstLine<'_>) -> Option<(StreamLine, Place)>
     Some((says, next))
 }
 
-/// Reads a stream file line by line, and takes no memory. Contracts see the lines that are left, or which of them is the first bad one.
+/// Reads a stream file line by line, and takes no memory. Contracts see the lines that are left, or which of them is
+/// the first bad one.
 #[derive(Drop)]
 pub struct StreamLines<'a> {
     place: Place,
@@ -90,19 +91,22 @@ pub struct StreamLines<'a> {
 
 impl<'a> Model for StreamLines<'a> {
     ghost use Rattle.std.specs.Prelude.{◌+◌, ◌^◌, ◌<◌, length};
-    ghost use Rattle.stream_text.specs.TextLines.{lines_of};
+    ghost use Rattle.text_lines.specs.Lines.{lines_of};
     ghost use Rattle.stream_text.specs.StreamFile.{Unread, events_from};
 
     ghost Value = { Unread };
 
-    ghost view = { λ l. record { left = length l.rest.now; events = events_from l.place l.number (lines_of l.rest.now) } };
+    ghost view = { λ l. record {
+      left = length l.rest.now;
+      events = events_from l.place l.number (lines_of l.rest.now);
+    } };
 
     ghost invariant = { λ l. l.number + length l.rest.now < 2 ^ 64 };
 }
 
 impl<'a> StreamLines<'a> {
-    /// The lines of a stream file behind the order text that may stand in front, which is passed over. It answers the number of a bad or
-    /// missing line of the order.
+    /// The lines of a stream file behind the order text that may stand in front, which is passed over. It answers the
+    /// number of a bad or missing line of the order.
     #[tactic(auto, unfolding(crate::specs::StreamFile::events_of))]
     pub fn new(bytes: &'a [u8]) -> Result<StreamLines<'a>, u64>
         ensures ok { IfOk result (λ lines. events_of bytes.now ≡ lines.events) }
@@ -117,8 +121,8 @@ impl<'a> StreamLines<'a> {
         })
     }
 
-    /// The next line with its number, or None at the end of the file. A line that has not its form or may not stand there, or that is missing
-    /// because a section does not end, is answered by its number.
+    /// The next line with its number, or None at the end of the file. A line that has not its form or may not stand
+    /// there, or that is missing because a section does not end, is answered by its number.
     pub fn next(&mut self) -> Result<Option<(u64, StreamLine)>, u64>
         ensures lines { Goes self.old result self.new }
         ensures range { IfOk result (λ line. IfSome line (λ event. event.0 + 1 < 2 ^ 64)) }

@@ -72,7 +72,8 @@ impl Gestures {
         given: &mut Vec<T>,
         now: &Assigned,
     ) -> Result<(), AllocError>
-        ensures ok { OnOk result (given.new.items ≡ given.old.items ++ map T.of_motion (packet_motions self.old now.now)) }
+        ensures ok { OnOk result
+            (given.new.items ≡ given.old.items ++ map T.of_motion (packet_motions self.old now.now)) }
         ensures after { OnOk result (self.new ≡ after_packet self.old now.now) }
         ensures err { OnErr result (self.new ≡ self.old) }
         ensures given { OnErr result (given.new.items ≡ given.old.items) }

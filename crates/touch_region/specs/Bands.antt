@@ -21,6 +21,7 @@ bands_hold rows x y = list_any (λ r. is_between r.top y r.bottom && spans_hold 
 abbrev pub columns_of : Rect → Span
 columns_of rect = record { from = rect.left; until = rect.right }
 
+-- the rows of a rectangle
 abbrev pub rows_of : Rect → Span
 rows_of rect = record { from = rect.top; until = rect.bottom }
 

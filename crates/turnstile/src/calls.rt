@@ -61,7 +61,8 @@ impl<M: Machine> Turnstile<M> {
 
     // Frees the lock, with which the slot goes home, and wakes one who waits.
     fn free(&self, token: &mut Token<M>)
-        requires { (token.old.table_id ≡ self.now.table.shared.table_id) × Holding M.legal M.setup M.history token.old.me }
+        requires { (token.old.table_id ≡ self.now.table.shared.table_id)
+            × Holding M.legal M.setup M.history token.old.me }
         ensures same { token.new.table_id ≡ token.old.table_id }
         ensures freed { token.new.me ≡ (freed token.old.me.0, []) }
     {
@@ -79,7 +80,8 @@ impl<M: Machine> Turnstile<M> {
         number: u64,
         call: M::Call,
     ) -> Result<Placed<M::Reply>, AllocError>
-        requires turn { (token.old.table_id ≡ self.now.table.shared.table_id) × Holding M.legal M.setup M.history token.old.me }
+        requires turn { (token.old.table_id ≡ self.now.table.shared.table_id)
+            × Holding M.legal M.setup M.history token.old.me }
         requires number { number ≡ token.old.me.0.mine.number }
         ensures same { token.new.table_id ≡ token.old.table_id }
         ensures served { Served M.legal M.history token.old.me call result token.new.me }

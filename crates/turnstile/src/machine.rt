@@ -26,7 +26,8 @@ pub trait Machine {
     fn step(&mut self, seat: u64, call: Self::Call) -> Result<Self::Reply, AllocError>
         requires { legal (setup self.old) (history self.old) }
         ensures legal { legal (setup self.new) (history self.new) }
-        ensures history { MatchResult result (λ r. history self.new ≡ (seat, call, r) ∷ history self.old) (λ _. history self.new ≡ history self.old) }
+        ensures history { MatchResult result (λ r. history self.new ≡ (seat, call, r) ∷ history self.old)
+            (λ _. history self.new ≡ history self.old) }
         ensures setup { setup self.new ≡ setup self.old };
 
     /// How many entries the history has.

@@ -1,5 +1,5 @@
-//! The turnstile, tried on machines that count: calls of one thread, calls beside a step that is held open, and calls of
-//! two threads at once. What is printed does not depend on how the threads are scheduled.
+//! The turnstile, tried on machines that count: calls of one thread, calls beside a step that is held open, and calls
+//! of two threads at once. What is printed does not depend on how the threads are scheduled.
 #![tactic(auto)]
 
 ghost use Rattle.std.specs.Prelude.{◌≡◌, ◌+◌, ◌<◌, ◌≤◌, IfOk};

@@ -7,8 +7,8 @@ ghost use Rattle.routing_rules.specs.Scene.{stays};
 
 use window_snapshot::{Snapshot, Window, mask_has, mask_with};
 
-/// The mask of the windows that stay: the next snapshot names them, and not on another display than the one before did. A window that
-/// the one before did not name stays where the next one names it.
+/// The mask of the windows that stay: the next snapshot names them, and not on another display than the one before did.
+/// A window that the one before did not name stays where the next one names it.
 pub fn staying(before: &Snapshot, next: &Snapshot) -> u64
     ensures { (c : ℕ) → mask_has result c ≡ (is_channel c && stays before.now next.now c) }
 {
@@ -17,7 +17,8 @@ pub fn staying(before: &Snapshot, next: &Snapshot) -> u64
 
 /// The mask of those windows that the next snapshot does not have where they were.
 fn missed(before: &[Window], next: &Snapshot) -> u64
-    ensures { result ≡ mask_of (filter (λ v. not (is_channel v.channel && is_shown_on next.now v.display v.channel)) before.now) }
+    ensures { result
+        ≡ mask_of (filter (λ v. not (is_channel v.channel && is_shown_on next.now v.display v.channel)) before.now) }
 {
     before
         .iter()

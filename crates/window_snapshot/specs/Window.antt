@@ -7,21 +7,27 @@ use Rattle.window_snapshot.specs.declared.window.Window.{Window}
 abbrev pub has_flag : Window → ℕ → Bool
 has_flag w flag = bit_and w.flags.bits flag == flag
 
+-- without NOT_TOUCHABLE
 abbrev pub is_touchable : Window → Bool
 is_touchable w = not (has_flag w 1)
 
+-- without NOT_FOCUSABLE
 abbrev pub is_focusable : Window → Bool
 is_focusable w = not (has_flag w 2)
 
+-- with WATCH_OUTSIDE_TOUCH
 abbrev pub watches_outside : Window → Bool
 watches_outside w = has_flag w 4
 
+-- with SLIPPERY
 abbrev pub is_slippery : Window → Bool
 is_slippery w = has_flag w 8
 
+-- with SPY
 abbrev pub is_spy : Window → Bool
 is_spy w = has_flag w 16
 
+-- with PREVENT_SPLITTING
 abbrev pub prevents_splitting : Window → Bool
 prevents_splitting w = has_flag w 32
 

@@ -3,8 +3,8 @@ ghost use Rattle.std.specs.Prelude.{⊤, [], ◌∷◌, codes};
 
 use bitflags::{Flag, Flags};
 
-/// What a window asks of the dispatcher, as a set of flags. Names and bits are this project's own choice; the meanings are
-/// those of the input configuration that Android's windows have.
+/// What a window asks of the dispatcher, as a set of flags. Names and bits are this project's own choice; the meanings
+/// are those of the input configuration that Android's windows have.
 ///
 /// A value may carry bits that are no flag. Nothing looks at them.
 #[derive(Clone, Copy, PartialEq, Eq, Debug)]

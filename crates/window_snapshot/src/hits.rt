@@ -11,8 +11,8 @@ use crate::snapshot::Snapshot;
 use crate::window::Window;
 
 impl Snapshot {
-    /// The channel of the touched window at a point of the display: the first from the front that is no spy, is touchable,
-    /// has a channel in the mask `live` and has the point in its region.
+    /// The channel of the touched window at a point of the display: the first from the front that is no spy, is
+    /// touchable, has a channel in the mask `live` and has the point in its region.
     pub fn touched(&self, x: i32, y: i32, live: u64) -> Option<u32>
         ensures { result ≡ touched self.now (mask_has live) x y }
     {
@@ -22,8 +22,9 @@ impl Snapshot {
         }
     }
 
-    /// The mask of the spies at a point of the display: the windows with SPY that are touchable, have a channel in the mask
-    /// `live`, have the point in their region, and stand in front of the touched window, or anywhere where nothing is touched.
+    /// The mask of the spies at a point of the display: the windows with SPY that are touchable, have a channel in the
+    /// mask `live`, have the point in their region, and stand in front of the touched window, or anywhere where nothing
+    /// is touched.
     pub fn spies(&self, x: i32, y: i32, live: u64) -> u64
         ensures { (c : ℕ) → mask_has result c ≡ is_spy_at self.now (mask_has live) x y c }
     {
@@ -34,9 +35,9 @@ impl Snapshot {
         }
     }
 
-    /// The mask of the watchers at a point of the display: the windows with WATCH_OUTSIDE_TOUCH that have a channel in the
-    /// mask `live` and stand in front of the touched window. Nobody watches where nothing is touched. The region of a watcher
-    /// does not matter.
+    /// The mask of the watchers at a point of the display: the windows with WATCH_OUTSIDE_TOUCH that have a channel in
+    /// the mask `live` and stand in front of the touched window. Nobody watches where nothing is touched. The region of
+    /// a watcher does not matter.
     pub fn watchers(&self, x: i32, y: i32, live: u64) -> u64
         ensures { (c : ℕ) → mask_has result c ≡ is_watcher_at self.now (mask_has live) x y c }
     {

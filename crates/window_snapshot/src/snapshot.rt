@@ -61,8 +61,8 @@ impl Snapshot {
         }
     }
 
-    /// The snapshot of these windows, front to back. More than 64 are refused before any of them is looked at; then the first
-    /// whose channel stands before is refused.
+    /// The snapshot of these windows, front to back. More than 64 are refused before any of them is looked at; then the
+    /// first whose channel stands before is refused.
     pub fn new(windows: Vec<Window>) -> Result<Snapshot, SnapshotError>
         ensures { result ≡ snapshot_of windows.items }
     {
@@ -150,7 +150,8 @@ impl Snapshot {
         }
     }
 
-    /// The left top corner of the frame of the channel's window, in display pixels; `None` where it names no such channel.
+    /// The left top corner of the frame of the channel's window, in display pixels; `None` where it names no such
+    /// channel.
     pub fn origin_of(&self, channel: u32) -> Option<Pixel>
         ensures { result ≡ origin_of self.now channel }
     {

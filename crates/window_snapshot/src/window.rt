@@ -15,8 +15,8 @@ pub struct Window {
     pub channel: u32,
     /// The display that it is on. Its pixels are those of this display.
     pub display: DisplayId,
-    /// Where the window is, in display pixels. Its left and top edges alone matter: they are the origin of what the window is
-    /// told.
+    /// Where the window is, in display pixels. Its left and top edges alone matter: they are the origin of what the
+    /// window is told.
     pub frame: Rect,
     /// Where the window can be touched, in display pixels.
     pub region: Region,

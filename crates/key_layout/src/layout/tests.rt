@@ -2,8 +2,8 @@ use super::*;
 use std::alloc::AllocError;
 use std::test::Fail;
 
-// A layout in the form of Android's Generic.kl, of some 800 lines: digits, letters, keys that have no code here, and between
-// them comments, lines without words, and lines about something other than keys.
+// A layout in the form of Android's Generic.kl, of some 800 lines: digits, letters, keys that have no code here, and
+// between them comments, lines without words, and lines about something other than keys.
 fn long_layout(alloc: Global) -> Result<String, AllocError> {
     let mut text = String::from_str(alloc, "# Generic key layout\r\n\r\nkey 1     ESCAPE\r\n")?;
     for scan in 2u32..700 {

@@ -7,6 +7,5 @@ use Rattle.slot_accumulator.proofs.slots.palms.Given as goal
 abbrev pub invariant-loop-slot : goal.invariant-loop-slot
 invariant-loop-slot l = record {
   kept : (t : ℤ) → is_kept l.palms t ≡ palm_below (row_in l.rows) (λ i. is_kept l.before i) l.slot t;
-  places : length l.palms.items ≡ 16;
-  few : l.palms.used ≤ l.slot;
+  few : length l.palms ≤ l.slot;
 }

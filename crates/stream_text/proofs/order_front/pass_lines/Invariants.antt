@@ -1,6 +1,6 @@
 use Rattle.std.proofs.Common.{◌≡◌, ◌+◌, ◌≤◌, length}
 use Rattle.stream_text.specs.OrderText.{lines_passed}
-use Rattle.stream_text.specs.TextLines.{lines_of}
+use Rattle.text_lines.specs.Lines.{lines_of}
 use Rattle.stream_text.proofs.order_front.pass_lines.Given as goal
 
 abbrev pub invariant-lines : goal.invariant-lines

@@ -1,10 +1,9 @@
--- The pointer goes into the first place that is not in use.
-use Rattle.std.proofs.Common.{arith, refl}
-use Rattle.input_types.proofs.Rising.{IsTable-set}
+-- The ids still rise, since the last one is below that of the pointer.
+use Rattle.std.proofs.Common.{refl}
+use Rattle.input_types.proofs.Rising.{IsRising-append}
 use Rattle.input_types.proofs.pointer.Pointers.push.Goals as goal
 
 pub invariant_of-self : goal.invariant_of-self
 invariant_of-self c =
-    rw c.from-used.ensures
-    (IsTable-set c.self.inside.items c.self.inside.used c.args.p c.self.invariant (omega (arith, c.from-used.ensures, c.if-used-ge-MAX.false))
-    (rw (← c.from-used.ensures) (c.if-not-ends_below.ensures.0 refl)))
+    rw c.push.ensures
+    (IsRising-append c.self.inside.list c.args.p c.self.invariant (rw (← c.as_slice.ensures.value) (c.if-not-ends_below.ensures.0 refl)))

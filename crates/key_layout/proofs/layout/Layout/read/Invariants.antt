@@ -1,6 +1,6 @@
 use Rattle.std.proofs.Common.{◌≡◌, [], length}
 use Rattle.key_layout.specs.Layout.{codes_behind}
-use Rattle.key_layout.specs.Text.{lines_of}
+use Rattle.text_lines.specs.Lines.{lines_of}
 use Rattle.key_layout.proofs.layout.Layout.read.Given as goal
 
 -- the codes so far, and then those of the lines that are left, are all

@@ -28,7 +28,7 @@ returns-then-is_report-clause-state c = λ past h.
     record {
       current_is = before.current_is ∙ sym (report_current past c.args.event ends);
       rows_are = λ s lt. before.rows_are s lt ∙ sym (report_rows past c.args.event s ends);
-      palms_are = λ t. c.palms-self-inside.ensures.kept t
+      palms_are = λ t. c.palms-self-inside.ensures t
           ∙ ap (λ xs. palm_below (row_in xs) (λ i. is_kept c.self.inside.palms i) (length xs) t)
           (c.split_at.ensures.front ∙ ap (λ n. take n c.self.inside.rows) c.from.ensures)
           ∙ palms_noted c.self.inside.rows (λ i. is_kept c.self.inside.palms i) c.self.inside.slots past c.args.event t ends

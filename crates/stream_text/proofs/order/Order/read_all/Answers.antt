@@ -1,6 +1,6 @@
 use Rattle.std.proofs.Common.{◌≡◌, arith}
 use Rattle.stream_text.specs.OrderText.{lines_from, order_of}
-use Rattle.stream_text.specs.TextLines.{lines_of}
+use Rattle.text_lines.specs.Lines.{lines_of}
 use Rattle.stream_text.proofs.OrderReading.{all_read}
 use Rattle.stream_text.proofs.order.Order.read_all.Goals as goal
 

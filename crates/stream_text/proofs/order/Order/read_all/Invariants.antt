@@ -1,6 +1,6 @@
 use Rattle.std.proofs.Common.{◌≡◌, ◌+◌, ◌≤◌, length}
 use Rattle.stream_text.specs.OrderText.{lines_from}
-use Rattle.stream_text.specs.TextLines.{lines_of}
+use Rattle.text_lines.specs.Lines.{lines_of}
 use Rattle.stream_text.proofs.OrderReading.{behind}
 use Rattle.stream_text.proofs.order.Order.read_all.Given as goal
 

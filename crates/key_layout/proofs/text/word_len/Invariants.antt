@@ -1,9 +1,0 @@
-use Rattle.std.proofs.Common.{◌≡◌, ◌+◌, drop}
-use Rattle.key_layout.specs.Text.{word_len}
-use Rattle.key_layout.proofs.text.word_len.Given as goal
-
-abbrev pub invariant-loop-b : goal.invariant-loop-b
-invariant-loop-b l = record {
-  place : l.count ≡ l.b-index;
-  rest : l.count + word_len (drop l.b-index l.bytes) ≡ word_len l.bytes;
-}

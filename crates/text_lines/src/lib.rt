@@ -1,0 +1,11 @@
+//! Texts as lines, and lines as words: what recordings, key layouts and stream files have in common.
+//!
+//! A text of the bytes `a b`, a newline and `c` has two lines: `a b`, which a newline ends, and `c`, which none does.
+//! The first line has two words, with one blank between them.
+#![tactic(auto)]
+
+mod blanks;
+mod lines;
+
+pub use blanks::{is_blank, skip_blanks, word_len};
+pub use lines::{FirstLine, first_line};
