@@ -1,10 +1,10 @@
 -- What comes first after a change of the map.
-use Rattle.std.specs.Prelude.{◌≡◌, ◌≢◌, ◌⊎◌, ℕ, zero, suc, ◌-◌, ◌<◌, ◌≤◌, Bool, true, false, List, length, get_or, replicate, Option, Some, None, nat_le, if◌then◌else◌, if◌then◌else◌}
+use Rattle.std.specs.Prelude.{◌≡◌, ◌≢◌, ◌⊎◌, ℕ, zero, suc, ◌-◌, ◌<◌, ◌≤◌, max, Bool, true, false, List, length, get_or, replicate, Option, Some, None, nat_le, if◌then◌else◌, if◌then◌else◌}
 use Rattle.std.proofs.Common.{refl, sym, ◌∙◌, ap, arith, inl, inr, set, get_or-set_same, get_or-set_other}
 use Rattle.std.proofs.lemmas.List.{get_or-replicate, get_or_past, length-set, length-replicate}
-use Rattle.std.proofs.lemmas.Bool.{cases_eq}
+use Rattle.std.proofs.lemmas.Bool.{cases_eq, eqb-false}
 use Rattle.std.proofs.lemmas.Bool.Decides.{nat_tests}
-use Rattle.anr_tracker.specs.Due.{due_of, IsFirst, IsTable, is_before, is_put_off, sooner_of}
+use Rattle.anr_tracker.specs.Due.{due_of, IsFirst, IsTable, is_before, is_of, is_put_off, sooner_of}
 
 -- the map with the channels up to a number
 abbrev pub due_up_to : ℕ → (ℕ → Option ℕ) → ℕ → Option ℕ
@@ -82,6 +82,20 @@ first_with f g m c None here others first h = (here, λ q at. only f g m c q.0 q
 first_with f g m c (Some p) here others first h =
     chosen f g m c p here others first (not_put_off m c p.0 p.1 h) (is_before (m, c) p) refl
 
+-- what came first stays, once another channel is not due
+pub first_without : (f g : ℕ → Option ℕ) (c : ℕ) (first : Option (ℕ × ℕ)) → g c ≡ None → ((i : ℕ) → i ≢ c → g i ≡ f i)
+    → is_of first c ≡ false → IsFirst f first → IsFirst g first
+first_without f g c None gone others away first = λ k. elim (cases_eq k c) [
+  | inl same ↦ ap g same ∙ gone
+  | inr other ↦ others k other ∙ first k
+]
+first_without f g c (Some p) gone others away first =
+    (others p.1 (eqb-false p.1 c away) ∙ first.0, λ q at. still q at (cases_eq q.1 c))
+  where
+    still : (q : ℕ × ℕ) → g q.1 ≡ Some q.0 → (q.1 ≡ c) ⊎ (q.1 ≢ c) → is_before q p ≡ false
+    still q at (inl same) = let there : g q.1 ≡ g c = ap g same in cc
+    still q at (inr other) = first.1 q (sym (others q.1 other) ∙ at)
+
 -- at most one pair comes first
 pub one_first : (due : ℕ → Option ℕ) (a b : Option (ℕ × ℕ)) → IsFirst due a → IsFirst due b → a ≡ b
 one_first due None None a b = refl
@@ -125,13 +139,33 @@ due-set_other dues c x low zero other = refl
 due-set_other dues c x low (suc k) other =
     get_or-set_other dues (c - 1) k x None (λ same. other (omega arith))
 
-pub none-table : IsTable (replicate 64 None) None
-none-table = record { whole = refl; first_is = due-none 64 }
+pub none-table : IsTable (replicate 64 None) None 0
+none-table = record { whole = refl; first_is = due-none 64; top_in = omega arith; none_above = λ c above. due-none 64 c }
+
+-- a number that is not below another one is not that one
+not_low : (a b : ℕ) → a < b → b ≢ a
+not_low a b lt same = absurd (omega (arith, lt, same))
+
+-- above a channel that is due none is due that was not due before
+pub none_over : (dues : List (Option ℕ)) (x : Option ℕ) (c top : ℕ) → 1 ≤ c → c ≤ max top c
+    → ((k : ℕ) → top < k → due_of dues k ≡ None)
+    → (k : ℕ) → max top c < k → due_of (set dues (c - 1) x) k ≡ None
+none_over dues x c top low up none k above =
+    due-set_other dues c x low k (not_low c k (omega (arith, up, above))) ∙ none k (omega (arith, above))
+
+-- nor is one due above, once a channel is not
+pub none_left : (dues : List (Option ℕ)) (c top : ℕ) → 1 ≤ c → c ≤ length dues → ((k : ℕ) → top < k → due_of dues k ≡ None)
+    → (k : ℕ) → top < k → due_of (set dues (c - 1) None) k ≡ None
+none_left dues c top low high none k above = elim (cases_eq k c) [
+  | inl same ↦ rw same (due-set_same dues c None low high)
+  | inr other ↦ due-set_other dues c None low k other ∙ none k above
+]
 
 -- the table once a channel is due, where that does not put off what came first
-pub table_with : (dues : List (Option ℕ)) (first : Option (ℕ × ℕ)) (m c : ℕ) → IsTable dues first → 1 ≤ c → c ≤ 64
-    → is_put_off first (m, c) ≡ false → IsTable (set dues (c - 1) (Some m)) (Some (sooner_of first (m, c)))
-table_with dues first m c h low high stays = record {
+pub table_with : (dues : List (Option ℕ)) (first : Option (ℕ × ℕ)) (top m c : ℕ) → IsTable dues first top → 1 ≤ c
+    → c ≤ 64 → is_put_off first (m, c) ≡ false
+    → IsTable (set dues (c - 1) (Some m)) (Some (sooner_of first (m, c))) (max top c)
+table_with dues first top m c h low high stays = record {
   whole = length-set dues (c - 1) (Some m) ∙ h.whole;
   first_is =
       first_with (due_of dues) (due_of (set dues (c - 1) (Some m))) m c first
@@ -139,4 +173,27 @@ table_with dues first m c h low high stays = record {
       (due-set_other dues c (Some m) low)
       h.first_is
       stays;
+  top_in = omega (arith, h.top_in, high);
+  none_above = none_over dues (Some m) c top low (omega arith) h.none_above;
 }
+
+-- the table once a channel is not due, with what comes first in it
+pub table_left : (dues : List (Option ℕ)) (first later : Option (ℕ × ℕ)) (top c : ℕ) → IsTable dues first top → 1 ≤ c
+    → c ≤ 64 → IsFirst (due_of (set dues (c - 1) None)) later → IsTable (set dues (c - 1) None) later top
+table_left dues first later top c h low high is = record {
+  whole = length-set dues (c - 1) None ∙ h.whole;
+  first_is = is;
+  top_in = h.top_in;
+  none_above = none_left dues c top low (omega (arith, high, h.whole)) h.none_above;
+}
+
+-- where it is not that what came first is of this channel
+pub table_without : (dues : List (Option ℕ)) (first : Option (ℕ × ℕ)) (top c : ℕ) → IsTable dues first top → 1 ≤ c
+    → c ≤ 64 → is_of first c ≡ false → IsTable (set dues (c - 1) None) first top
+table_without dues first top c h low high away =
+    table_left dues first first top c h low high
+    (first_without (due_of dues) (due_of (set dues (c - 1) None)) c first
+    (due-set_same dues c None low (omega (arith, high, h.whole)))
+    (due-set_other dues c None low)
+    away
+    h.first_is)

@@ -1,5 +1,5 @@
 -- Which channel is due first.
-use Rattle.std.specs.Prelude.{◌≡◌, ℕ, zero, suc, Bool, false, ◌&&◌, ◌||◌, nat_eq, nat_lt, List, length, slice_index_or, Option, Some, None, if◌then◌else◌}
+use Rattle.std.specs.Prelude.{◌≡◌, ◌<◌, ◌≤◌, ℕ, zero, suc, Bool, false, ◌&&◌, ◌||◌, nat_eq, nat_lt, List, length, slice_index_or, Option, Some, None, if◌then◌else◌}
 
 -- when a channel is due, by a table that begins with channel 1
 abbrev pub due_of : List (Option ℕ) → ℕ → Option ℕ
@@ -16,6 +16,11 @@ abbrev pub IsFirst : (ℕ → Option ℕ) → Option (ℕ × ℕ) → Type 0
 IsFirst due None = (c : ℕ) → due c ≡ None
 IsFirst due (Some p) = (due p.1 ≡ Some p.0) × ((q : ℕ × ℕ) → due q.1 ≡ Some q.0 → is_before q p ≡ false)
 
+-- what comes first is of this channel
+abbrev pub is_of : Option (ℕ × ℕ) → ℕ → Bool
+is_of None c = false
+is_of (Some p) c = nat_eq p.1 c
+
 -- the channel that came first is due at a later moment now
 abbrev pub is_put_off : Option (ℕ × ℕ) → ℕ × ℕ → Bool
 is_put_off None q = false
@@ -26,7 +31,9 @@ abbrev pub sooner_of : Option (ℕ × ℕ) → ℕ × ℕ → ℕ × ℕ
 sooner_of None q = q
 sooner_of (Some p) q = if is_before q p then q else p
 
--- a table of 64 channels, and what comes first in it
-pub record IsTable (dues : List (Option ℕ)) (first : Option (ℕ × ℕ)) : Type 0 where
+-- a table of 64 channels, what comes first in it, and a channel above which none is due
+pub record IsTable (dues : List (Option ℕ)) (first : Option (ℕ × ℕ)) (top : ℕ) : Type 0 where
   pub whole : length dues ≡ 64
   pub first_is : IsFirst (due_of dues) first
+  pub top_in : top ≤ 64
+  pub none_above : (c : ℕ) → top < c → due_of dues c ≡ None

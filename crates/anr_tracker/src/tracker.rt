@@ -1,6 +1,6 @@
 //! The map from channels to due moments.
-ghost use Rattle.std.specs.Prelude.{◌≡◌, ◌-◌, ◌≤◌, None, Some, replicate, slice_set};
-ghost use Rattle.anr_tracker.specs.Due.{due_of, IsFirst, is_before, is_put_off, sooner_of};
+ghost use Rattle.std.specs.Prelude.{◌≡◌, ℕ, ◌-◌, ◌<◌, ◌≤◌, None, Some, replicate, slice_set};
+ghost use Rattle.anr_tracker.specs.Due.{due_of, IsFirst, is_before, is_of, is_put_off, sooner_of};
 
 use std::marker::Model;
 
@@ -11,6 +11,8 @@ use std::marker::Model;
 pub struct Tracker {
     dues: [Option<u64>; 64],
     first: Option<(u64, u32)>,
+    /// Above this channel none was ever due, so the first pair is looked for up to it.
+    top: u32,
 }
 
 impl Model for Tracker {
@@ -21,7 +23,7 @@ impl Model for Tracker {
 
     ghost view = { λ t. t.dues };
 
-    ghost invariant = { λ t. IsTable t.dues t.first };
+    ghost invariant = { λ t. IsTable t.dues t.first t.top };
 }
 
 impl Tracker {
@@ -32,6 +34,7 @@ impl Tracker {
         Tracker {
             dues: none_due(),
             first: None,
+            top: 0,
         }
     }
 
@@ -41,8 +44,9 @@ impl Tracker {
         ensures { self.new ≡ slice_set self.old (channel - 1) (Some due) }
     {
         self.dues[channel as usize - 1] = Some(due);
+        self.top = self.top.max(channel);
         if is_put_off(self.first, (due, channel)) {
-            self.first = first_of(&self.dues);
+            self.first = first_of(&self.dues, self.top);
         } else {
             self.first = Some(sooner(self.first, (due, channel)));
         }
@@ -54,10 +58,9 @@ impl Tracker {
         ensures { self.new ≡ slice_set self.old (channel - 1) None }
     {
         self.dues[channel as usize - 1] = None;
-        self.first = match self.first {
-            Some(first) if first.1 == channel => first_of(&self.dues),
-            first => first,
-        };
+        if is_of(self.first, channel) {
+            self.first = first_of(&self.dues, self.top);
+        }
     }
 
     /// When the channel is due.
@@ -82,6 +85,16 @@ fn none_due() -> [Option<u64>; 64]
     ensures { result ≡ replicate 64 None }
 {
     [None; 64]
+}
+
+/// Whether what comes first is of the channel.
+fn is_of(first: Option<(u64, u32)>, channel: u32) -> bool
+    ensures { result ≡ is_of first channel }
+{
+    match first {
+        Some(first) => first.1 == channel,
+        None => false,
+    }
 }
 
 /// Whether the channel that came first is now due later.
@@ -111,14 +124,16 @@ fn precedes(pair: (u64, u32), other: (u64, u32)) -> bool
     pair.0 < other.0 || (pair.0 == other.0 && pair.1 < other.1)
 }
 
-/// The pair that comes first, looked for in the whole table.
-fn first_of(dues: &[Option<u64>; 64]) -> Option<(u64, u32)>
+/// The pair that comes first, looked for up to a channel above which none is due.
+fn first_of(dues: &[Option<u64>; 64], top: u32) -> Option<(u64, u32)>
+    requires top { top ≤ 64 }
+    requires none_above { (c : ℕ) → top < c → due_of dues.now c ≡ None }
     ensures { IsFirst (due_of dues.now) result }
 {
     let mut first = None;
-    for i in 0..64 {
-        if let Some(due) = dues[i] {
-            first = Some(sooner(first, (due, i as u32 + 1)));
+    for i in 0..top {
+        if let Some(due) = dues[i as usize] {
+            first = Some(sooner(first, (due, i + 1)));
         }
     }
     first

@@ -29,7 +29,7 @@ fn call_of(alloc: Global, line: &[u8], numbers: &[u64]) -> Option<Call> {
     }
 }
 
-/// What a call is answered.
+/// What a call is answered. A call for which memory is wanted is dropped, and the next ones go on.
 fn answer(
     alloc: Global,
     core: &mut Core,
@@ -39,7 +39,7 @@ fn answer(
     match call {
         Some(call) => match core.apply(0, call) {
             Ok(reply) => say_reply(alloc, &reply, out),
-            Err(error) => Err(error),
+            Err(AllocError) => say(out, "no memory"),
         },
         None => say(out, "not read"),
     }
@@ -63,6 +63,7 @@ fn tell(
             None => say(out, "not read"),
         },
         (b"clock", []) => say_moment(alloc, Some(core.clock().get()), out),
+        (b"entries", []) => say_moment(alloc, Some(core.history().len() as u64), out),
         (b"due", []) => say_due(alloc, core.first_due(), out),
         (b"repeat", []) => say_moment(alloc, core.repeat_due(), out),
         _ => answer(alloc, core, call_of(alloc, line, numbers), out),
@@ -79,8 +80,10 @@ fn step(alloc: Global, core: &mut Core, line: &[u8], out: &mut Vec<u8>) -> Resul
         return say(out, "begun");
     }
     if let (b"reserve", [n]) = (first_word(line), numbers.as_slice()) {
-        core.reserve(u32::try_from(*n).unwrap_or(0))?;
-        return say(out, "done");
+        return match core.reserve(u32::try_from(*n).unwrap_or(0)) {
+            Ok(()) => say(out, "done"),
+            Err(AllocError) => say(out, "no memory"),
+        };
     }
     tell(alloc, core, line, &numbers, out)
 }

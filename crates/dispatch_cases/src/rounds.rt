@@ -34,14 +34,12 @@ fn at(finger: u8, round: u64) -> Pixel {
 /// The fingers 0 to `last`, where they are in a round.
 fn fingers(last: u8, round: u64) -> Pointers {
     let mut pointers = Pointers::empty();
-    for finger in 0..16u8 {
-        if finger <= last {
-            if let Some(id) = PointerId::new(finger) {
-                let _ = pointers.push(Pointer {
-                    id,
-                    at: at(finger, round),
-                });
-            }
+    for finger in 0..=last {
+        if let Some(id) = PointerId::new(finger) {
+            let _ = pointers.push(Pointer {
+                id,
+                at: at(finger, round),
+            });
         }
     }
     pointers

@@ -47,7 +47,13 @@ impl Model for Channels {
 
     ghost Value = { Table };
 
-    ghost view = { λ t. record { channels = t.channels.items; inputs = t.inputs.items; live = t.live; able = t.able; namings = t.namings.items } };
+    ghost view = { λ t. record {
+      channels = t.channels.items;
+      inputs = t.inputs.items;
+      live = t.live;
+      able = t.able;
+      namings = t.namings.items;
+    } };
 
     ghost invariant = { λ t. IsWhole t.channels.items (length t.inputs.items) t.live t.able t.tracker };
 }
@@ -92,11 +98,12 @@ impl Channels {
         self.able
     }
 
-    /// Opens a channel, which is live and able and has room for one message, and answers its number; None exactly where 64
-    /// were opened. Without memory nothing changes.
+    /// Opens a channel, which is live and able and has room for one message, and answers its number; None exactly where
+    /// 64 were opened. Without memory nothing changes.
     pub fn open(&mut self, limit: Limit) -> Result<Option<u32>, AllocError>
         ensures ok { IfOk result (λ number. OpensOrNot limit number self.old self.new) }
         ensures err { OnErr result (self.new ≡ self.old) }
+        ensures full { opened self.old ≡ 64 → IsOk result }
     {
         if self.channels.len() == MOST {
             return Ok(None);
@@ -122,7 +129,8 @@ impl Channels {
         requires { IsOpened self.old channel }
         ensures ok { OnOk result (self.new ≡ with_room channel n self.old) }
         ensures err { OnErr result (but_for_room self.new ≡ but_for_room self.old) }
-        ensures reserved { n ≤ (channel_of self.old channel).spare → n ≤ (input_of self.old channel).spare → IsOk result }
+        ensures reserved { n ≤ (channel_of self.old channel).spare → n ≤ (input_of self.old channel).spare
+            → IsOk result }
     {
         let place = channel as usize - 1;
         self.channels[place].reserve(n)?;

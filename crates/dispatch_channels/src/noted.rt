@@ -47,7 +47,8 @@ fn note(namings: &mut Vec<Naming>, naming: Option<Naming>)
 pub(crate) fn note_all(namings: &mut Vec<Naming>, channels: &[Channel], mask: u64, clock: Moment)
     requires room { vec_len namings.old + length channels.now ≤ vec_capacity namings.old }
     requires few { length channels.now ≤ 64 }
-    ensures { namings.new.items ≡ namings.old.items ++ namings_in clock mask (channel_in channels.now) (length channels.now) }
+    ensures { namings.new.items
+        ≡ namings.old.items ++ namings_in clock mask (channel_in channels.now) (length channels.now) }
 {
     for (place, channel) in channels.iter().enumerate() {
         let number = place as u32 + 1;

@@ -27,8 +27,11 @@ pub(crate) fn settle_one(
     requires to { channel ≤ length channels.old }
     requires few { channel ≤ 64 }
     requires may { NoneAfter clock (channel_in channels.old channel).unfinished }
-    ensures channels { channels.new ≡ slice_set channels.old (channel - 1) (published_at clock (channel_in channels.old channel)) }
-    ensures dues { tracker.new ≡ slice_set tracker.old (channel - 1) (due_in (mask_has able channel) (published_at clock (channel_in channels.old channel))) }
+    ensures channels { channels.new
+        ≡ slice_set channels.old (channel - 1) (published_at clock (channel_in channels.old channel)) }
+    ensures dues { tracker.new
+        ≡ slice_set tracker.old (channel - 1)
+        (due_in (mask_has able channel) (published_at clock (channel_in channels.old channel))) }
 {
     let kept = &mut channels[channel as usize - 1];
     kept.publish(clock);
@@ -72,7 +75,9 @@ pub(crate) fn settle_all(
     requires places { length tracker.old ≡ 64 }
     requires dues { DuesAre tracker.old able channels.old }
     requires may { (c : ℕ) → mask_has mask c ≡ true → NoneAfter clock (channel_in channels.old c).unfinished }
-    ensures channels { (c : ℕ) → 1 ≤ c → channel_in channels.new c ≡ (if mask_has mask c then published_at clock (channel_in channels.old c) else channel_in channels.old c) }
+    ensures channels { (c : ℕ) → 1 ≤ c
+        → channel_in channels.new c
+        ≡ (if mask_has mask c then published_at clock (channel_in channels.old c) else channel_in channels.old c) }
     ensures places { length tracker.new ≡ 64 }
     ensures dues { DuesAre tracker.new able channels.new }
 {

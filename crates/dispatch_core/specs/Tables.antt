@@ -1,7 +1,7 @@
 -- The tables, and the histories that they stand for.
 use Rattle.std.specs.Prelude.{◌≡◌, ◌≤◌, ◌<◌, ◌-◌, ◌^◌, ℕ, max, Bool, true, false, List, slice_get, Option}
 use Rattle.dispatch_calls.specs.declared.call.Call.{Call}
-use Rattle.dispatch_calls.specs.declared.call.Call.TheVariants.{Notify, Pump}
+use Rattle.dispatch_calls.specs.declared.call.Call.TheVariants.{Notify, Pump, Receive, Finish, Remove}
 use Rattle.dispatch_calls.specs.declared.reply.Reply.{Reply}
 use Rattle.input_types.specs.declared.message.Args.{Args}
 use Rattle.dispatch_channels.specs.Table.{Table, channel_of, but_for_room}
@@ -75,6 +75,13 @@ abbrev pub is_routed : Call → Bool
 is_routed (Notify now args) = false
 is_routed (Pump now) = false
 is_routed call = true
+
+-- the call is one of the owner of a channel, or removes one
+abbrev pub is_owned : Call → Bool
+is_owned (Receive channel) = true
+is_owned (Finish now channel seq) = true
+is_owned (Remove now channel) = true
+is_owned call = false
 
 -- all tables went one step on: whatever they stood for, they stand for it with this step more
 pub record GoesOn (call : Call) (answer : Reply) (old new : Tables) : Type 0 where

@@ -1,5 +1,5 @@
 //! How each call is answered.
-ghost use Rattle.std.specs.Prelude.{◌≡◌, ◌<◌, ◌^◌, true, List, None, Some, slice_get, if◌then◌else◌};
+ghost use Rattle.std.specs.Prelude.{◌≡◌, ◌<◌, ◌^◌, true, false, List, None, Some, slice_get, if◌then◌else◌};
 ghost use Rattle.std.specs.Prelude.{IfOk, OnOk, OnErr, IsOk, IfSome};
 ghost use Rattle.dispatch_calls.specs.declared.call.Call.TheVariants.{Notify, Pump};
 ghost use Rattle.dispatch_history.specs.Effect.{Effect};
@@ -9,7 +9,7 @@ ghost use Rattle.dispatch_round.specs.Rounds.{IsTimely};
 ghost use Rattle.dispatch_calls.specs.declared.reply.Reply.TheVariants.{Inconsistent, Dispatched, Repeated, Idle};
 ghost use Rattle.dispatch_core.specs.Memory.{IsCalm, MayCount};
 ghost use Rattle.dispatch_core.specs.Needing.{NeedsNone};
-ghost use Rattle.dispatch_core.specs.Tables.{StandsFor, MayStep, GoesAs, Pumps, GoesOn, is_routed};
+ghost use Rattle.dispatch_core.specs.Tables.{StandsFor, MayStep, GoesAs, Pumps, GoesOn, is_routed, is_owned};
 ghost use Rattle.dispatch_core.specs.Tables.{SameButRoom, SameAll};
 
 use crate::carry::rest;
@@ -37,6 +37,7 @@ pub(crate) fn apply(tables: &mut Tables, call: &Call) -> Result<Reply, AllocErro
     match call {
         Call::Notify { now, args } => notify(tables, *now, args),
         Call::Pump { now } => pump(tables, *now),
+        Call::Receive { .. } | Call::Finish { .. } | Call::Remove { .. } => Ok(own(tables, call)),
         _ => route(tables, call),
     }
 }
@@ -150,10 +151,38 @@ fn idle_reply(is_due: bool) -> Reply
     if is_due { Reply::Repeated } else { Reply::Idle }
 }
 
+/// The owner of a channel asks something, or a channel is removed. Takes no memory.
+fn own(tables: &mut Tables, call: &Call) -> Reply
+    requires step { MayStep tables.old }
+    requires owned { is_owned call.now ≡ true }
+    ensures { GoesOn call.now result tables.old tables.new }
+{
+    let now = moment_of(call);
+    let clock = later(tables.queueing.clock(), now);
+    let place = tables.queueing.place();
+    tables.queueing.step(now);
+    answer_owner(&mut tables.routing, call, place, clock)
+}
+
+/// How a call of an owner is answered, and a removal.
+fn answer_owner(routing: &mut Routing, call: &Call, place: u64, clock: Moment) -> Reply
+    requires timely { IsTimely clock routing.old.channels }
+    requires owned { is_owned call.now ≡ true }
+    ensures { GoesAs call.now result place clock routing.old routing.new }
+{
+    match call {
+        Call::Receive { channel } => receive(routing, *channel, place, clock),
+        Call::Finish { channel, seq, .. } => finish(routing, *channel, *seq, place, clock),
+        Call::Remove { channel, .. } => remove(routing, *channel, place, clock),
+        _ => unreachable!(),
+    }
+}
+
 /// Any other call.
 fn route(tables: &mut Tables, call: &Call) -> Result<Reply, AllocError>
     requires step { MayStep tables.old }
     requires routed { is_routed call.now ≡ true }
+    requires not_owned { is_owned call.now ≡ false }
     ensures ok { IfOk result (λ answer. GoesOn call.now answer tables.old tables.new) }
     ensures err { OnErr result (SameAll tables.old tables.new) }
     ensures calm { (es : List Effect) → StandsFor es tables.old → IsCalm es call.now → IsOk result }
@@ -196,6 +225,7 @@ fn answer(
 ) -> Result<Reply, AllocError>
     requires timely { IsTimely clock routing.old.channels }
     requires routed { is_routed call.now ≡ true }
+    requires not_owned { is_owned call.now ≡ false }
     ensures ok { IfOk result (λ answer. GoesAs call.now answer place clock routing.old routing.new) }
     ensures err { OnErr result (SameButRoom routing.old routing.new) }
     ensures calm { NeedsNone call.now clock routing.old → IsOk result }
@@ -209,14 +239,11 @@ fn answer(
             ..
         } => request(routing, *display, *channel, place, clock),
         Call::Tick { .. } => tick(routing, place, clock),
-        Call::Receive { channel } => Ok(receive(routing, *channel, place, clock)),
-        Call::Finish { channel, seq, .. } => Ok(finish(routing, *channel, *seq, place, clock)),
         Call::Pilfer {
             channel,
             device,
             ..
         } => pilfer(routing, *channel, *device, place, clock),
-        Call::Remove { channel, .. } => Ok(remove(routing, *channel, place, clock)),
-        Call::Notify { .. } | Call::Pump { .. } => unreachable!(),
+        _ => unreachable!(),
     }
 }

@@ -25,9 +25,9 @@ pub(crate) fn receive(routing: &mut Routing, channel: u32, place: u64, clock: Mo
     let Some(next) = routing.channels.next(channel) else {
         return Reply::Empty;
     };
-    let message = *next;
+    let reply = Reply::Got(*next);
     routing.channels.mark_received(channel);
-    Reply::Got(message)
+    reply
 }
 
 /// The owner of a channel is done with a message.

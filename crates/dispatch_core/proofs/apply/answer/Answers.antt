@@ -26,15 +26,3 @@ pub returns-in-Pilfer-clause-ok : goal.returns-in-Pilfer-clause-ok
 returns-in-Pilfer-clause-ok c =
     if_ok _ _ c.pilfer.result c.pilfer.ensures.ok
     (λ a g. as_at _ c.args.call.now _ a c.args.place c.args.clock c.args.routing.now c.pilfer.new.routing c.in-Pilfer.is g)
-
-pub returns-in-Receive-clause-ok : goal.returns-in-Receive-clause-ok
-returns-in-Receive-clause-ok c =
-    as_at _ c.args.call.now 0 c.receive.result c.args.place c.args.clock c.args.routing.now c.receive.new.routing c.in-Receive.is c.receive.ensures
-
-pub returns-in-Finish-clause-ok : goal.returns-in-Finish-clause-ok
-returns-in-Finish-clause-ok c =
-    as_at _ c.args.call.now _ c.finish.result c.args.place c.args.clock c.args.routing.now c.finish.new.routing c.in-Finish.is c.finish.ensures
-
-pub returns-in-Remove-clause-ok : goal.returns-in-Remove-clause-ok
-returns-in-Remove-clause-ok c =
-    as_at _ c.args.call.now _ c.remove.result c.args.place c.args.clock c.args.routing.now c.remove.new.routing c.in-Remove.is c.remove.ensures
