@@ -1,6 +1,7 @@
 pub mod Soonest
 pub mod Behind
 pub mod Receiving
+pub mod More
 pub mod Finishes
 pub mod Opening
 pub mod Rounds

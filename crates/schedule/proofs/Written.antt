@@ -1,5 +1,6 @@
 -- The lines of a whole stream.
 use Rattle.std.proofs.Common.{◌≡◌, ℕ, ◌+◌, ◌<◌, List, [], ◌∷◌, ◌++◌, length, take, drop, get_or, refl, sym, ap, ◌∙◌, append_assoc, append-nil, add-one, take-suc}
+use Rattle.std.proofs.Math.Seq.{take-append_seam}
 use Rattle.std.proofs.lemmas.List.{take-append-drop}
 use Rattle.input_types.specs.declared.message.Message.{Message}
 use Rattle.dispatch_calls.specs.declared.counts.Naming.{Naming}
@@ -50,3 +51,7 @@ section_is text t1 t2 t3 t4 head lines left all end a b c d e =
   where
     regroup : (((text ++ head) ++ lines) ++ left) ++ end ≡ text ++ (head ++ (lines ++ left) ++ end)
     regroup = simp append_assoc
+
+-- what was appended is taken back
+pub taken_back : (old more new : List ℕ) (n : ℕ) → new ≡ old ++ more → n ≡ length old → take n new ≡ old
+taken_back old more new n e count = ap (take n) e ∙ ap (λ k. take k (old ++ more)) count ∙ take-append_seam old more

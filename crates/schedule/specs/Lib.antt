@@ -1,8 +1,10 @@
 pub mod Run
 pub mod Next
 pub mod Planned
+pub mod Printing
 pub mod Lines
 pub mod State
+pub mod More
 pub mod DueView
 pub mod Receives
 pub mod Kinds

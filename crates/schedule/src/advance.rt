@@ -10,6 +10,7 @@ ghost use Rattle.schedule.specs.Next.{fore};
 ghost use Rattle.schedule.specs.Kinds.{is_receiving, is_opening};
 ghost use Rattle.schedule.specs.Handing.{handing, single};
 ghost use Rattle.schedule.specs.Planned.{IsRun, plan_of};
+ghost use Rattle.schedule.specs.More.{ComesTo};
 ghost use Rattle.schedule.specs.State.{Ready};
 
 use crate::choose::{first_step, moment, next_due};
@@ -21,11 +22,15 @@ use input_types::{Args, Moment};
 use std::alloc::AllocError;
 
 impl Schedule {
-    /// One round: a call that is no opening and no receive, after which so many steps were made, and then all that is published is received.
+    /// One round: a call that is no opening and no receive, after which so many steps were made, and then all that is
+    /// published is received.
     fn round(&mut self, call: &Call, next: usize) -> Result<(), AllocError>
-        ensures after { (plan : PlanView) (es : List Effect) → Ready plan es self.old → is_receiving call.now ≡ false → is_opening call.now ≡ false
-            → next ≡ is_scripted call.now + scripted (past_of es) → OnOk result (Ready plan (round plan es (single call.now)) self.new) }
+        ensures after { (plan : PlanView) (es : List Effect) → Ready plan es self.old → is_receiving call.now ≡ false
+            → is_opening call.now ≡ false
+            → next ≡ is_scripted call.now + scripted (past_of es)
+            → OnOk result (Ready plan (round plan es (single call.now)) self.new) }
         ensures calls { OnOk result (self.old.calls < 2 ^ 64 - 1 → self.old.calls < self.new.calls) }
+        ensures more { (es : List Effect) → ComesTo es self.old.dispatcher → ComesTo es self.new.dispatcher }
         ensures latest { self.new.latest ≡ self.old.latest }
     {
         self.step(call, next)?;
@@ -35,7 +40,9 @@ impl Schedule {
     /// The round that hands in args.
     pub(crate) fn hand_in(&mut self, moment: Moment, args: &Args) -> Result<(), AllocError>
         ensures after { (plan : PlanView) (es : List Effect) → Ready plan es self.old
-            → OnOk result (Ready plan (round plan es (handing (record { moment = moment; args = args.now }))) self.new) }
+            → OnOk result (Ready plan
+            (round plan es (handing (record { moment = moment; args = args.now }))) self.new) }
+        ensures more { (es : List Effect) → ComesTo es self.old.dispatcher → ComesTo es self.new.dispatcher }
         ensures latest { self.new.latest ≡ self.old.latest }
     {
         let notify = Call::Notify {
@@ -51,8 +58,10 @@ impl Schedule {
     fn advance_step(&mut self, call: &Call, until: Moment) -> Result<bool, AllocError>
         requires { self.old.next < 2 ^ 64 - 1 }
         ensures after { (plan : PlanView) (es : List Effect) → Ready plan es self.old → is_scripted call.now ≡ 1
-            → soonest (fore plan es) ≡ Some (single call.now) → IfOk result (λ b. Advances plan until es self.old self.new b) }
+            → soonest (fore plan es) ≡ Some (single call.now)
+            → IfOk result (λ b. Advances plan until es self.old self.new b) }
         ensures calls { IfOk result (λ b. b ≡ true → self.old.calls < 2 ^ 64 - 1 → self.old.calls < self.new.calls) }
+        ensures more { (es : List Effect) → ComesTo es self.old.dispatcher → ComesTo es self.new.dispatcher }
         ensures latest { self.new.latest ≡ self.old.latest }
     {
         if until.get() < moment(call).get() {
@@ -66,8 +75,10 @@ impl Schedule {
     /// The round of what is due, where it is due up to a moment.
     fn advance_due(&mut self, due: Option<Due>, until: Moment) -> Result<bool, AllocError>
         ensures after { (plan : PlanView) (es : List Effect) → Ready plan es self.old
-            → soonest (fore plan es) ≡ option_map candidate_of due → IfOk result (λ b. Advances plan until es self.old self.new b) }
+            → soonest (fore plan es) ≡ option_map candidate_of due
+            → IfOk result (λ b. Advances plan until es self.old self.new b) }
         ensures calls { IfOk result (λ b. b ≡ true → self.old.calls < 2 ^ 64 - 1 → self.old.calls < self.new.calls) }
+        ensures more { (es : List Effect) → ComesTo es self.old.dispatcher → ComesTo es self.new.dispatcher }
         ensures latest { self.new.latest ≡ self.old.latest }
     {
         let Some(due) = due else {
@@ -85,8 +96,10 @@ impl Schedule {
     /// One round, where something is due up to a moment, but for args.
     pub(crate) fn advance(&mut self, plan: &Plan, until: Moment) -> Result<bool, AllocError>
         requires { IsRun plan.now }
-        ensures after { (es : List Effect) → Ready (plan_of plan.now) es self.old → IfOk result (λ b. Advances (plan_of plan.now) until es self.old self.new b) }
+        ensures after { (es : List Effect) → Ready (plan_of plan.now) es self.old
+            → IfOk result (λ b. Advances (plan_of plan.now) until es self.old self.new b) }
         ensures calls { IfOk result (λ b. b ≡ true → self.old.calls < 2 ^ 64 - 1 → self.old.calls < self.new.calls) }
+        ensures more { (es : List Effect) → ComesTo es self.old.dispatcher → ComesTo es self.new.dispatcher }
         ensures latest { self.new.latest ≡ self.old.latest }
     {
         let due = next_due(&self.dispatcher, &plan.channels);

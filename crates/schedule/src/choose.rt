@@ -86,7 +86,8 @@ fn next_finish_of_all(dispatcher: &Dispatcher, channels: &[Channel]) -> Option<D
 
 /// The next tick.
 fn next_tick(dispatcher: &Dispatcher) -> Option<Due>
-    ensures { (es : List Effect) → StandsFor es dispatcher.now → option_map candidate_of result ≡ option_map tick_of (first_due es) }
+    ensures { (es : List Effect) → StandsFor es dispatcher.now
+        → option_map candidate_of result ≡ option_map tick_of (first_due es) }
 {
     let (moment, _) = dispatcher.first_due()?;
     Some(Due {
@@ -97,7 +98,8 @@ fn next_tick(dispatcher: &Dispatcher) -> Option<Due>
 
 /// The next repeat.
 fn next_repeat(dispatcher: &Dispatcher) -> Option<Due>
-    ensures { (es : List Effect) → StandsFor es dispatcher.now → option_map candidate_of result ≡ option_map repeat_at (next_repeat es) }
+    ensures { (es : List Effect) → StandsFor es dispatcher.now
+        → option_map candidate_of result ≡ option_map repeat_at (next_repeat es) }
 {
     let moment = dispatcher.repeat_due()?;
     Some(Due {
@@ -110,7 +112,8 @@ fn next_repeat(dispatcher: &Dispatcher) -> Option<Due>
 pub(crate) fn next_due(dispatcher: &Dispatcher, channels: &[Channel]) -> Option<Due>
     requires channels { All IsChannel channels.now }
     requires few { length channels.now ≤ 64 }
-    ensures { (plan : PlanView) (es : List Effect) → StandsFor es dispatcher.now → dispatcher.now.displays ≡ plan.displays → Caught es
+    ensures { (plan : PlanView) (es : List Effect) → StandsFor es dispatcher.now
+        → dispatcher.now.displays ≡ plan.displays → Caught es
         → opened (past_of es) ≡ length channels.now → plan.channels ≡ map channel_of channels.now
         → option_map candidate_of result ≡ soonest (dues_of plan es) }
 {

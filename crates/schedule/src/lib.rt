@@ -1,7 +1,8 @@
 //! The ordered schedule: the calls of a plan in the order of their moments.
 //!
-//! A plan has channels, steps of scripts and a moment at which it ends; args come to it one by one, in rising moment. A window's owner
-//! that finishes each message 1,000 microseconds after it took it gives, for a finger that goes down at 5,000 and up at 5,500, these rounds:
+//! A plan has channels, steps of scripts and a moment at which it ends; args come to it one by one, in rising moment. A
+//! window's owner that finishes each message 1,000 microseconds after it took it gives, for a finger that goes down at
+//! 5,000 and up at 5,500, these rounds:
 //!
 //! ```text
 //! 5000   Notify, Pump       then Receive of the DOWN
@@ -10,9 +11,10 @@
 //! 6500   Finish of the UP
 //! ```
 //!
-//! Of one moment a finish comes first, then a tick, a repeat of a key, a step, and args last. A [`Schedule`] drives a dispatcher so and
-//! keeps no list of what it was given or told: its contract says that the dispatcher stands for the effects of the ordered run of all
-//! args that came. The next round is found from the oldest message of each channel, since what is published is received at once.
+//! Of one moment a finish comes first, then a tick, a repeat of a key, a step, and args last. A [`Schedule`] drives a
+//! dispatcher so and keeps no list of what it was given or told: its contract says that the dispatcher stands for the
+//! effects of the ordered run of all args that came. The next round is found from the oldest message of each channel,
+//! since what is published is received at once.
 #![tactic(auto)]
 
 mod advance;
@@ -20,6 +22,7 @@ mod choose;
 mod due;
 pub mod laws;
 mod open;
+mod pieces;
 mod plan;
 mod run;
 mod schedule;
@@ -28,3 +31,4 @@ mod text;
 
 pub use plan::{Channel, Plan, Step};
 pub use schedule::Schedule;
+pub use text::add_all_namings;

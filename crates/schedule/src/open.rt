@@ -3,7 +3,7 @@ ghost use Rattle.std.specs.Prelude.{◌≡◌, List, [], IfOk, OnOk};
 ghost use Rattle.dispatch_calls.specs.declared.call.Call.{Call as CallView};
 ghost use Rattle.dispatch_history.specs.Effect.{Effect, past_of};
 ghost use Rattle.dispatch_history.specs.Legal.{answered};
-ghost use Rattle.dispatch_history.specs.Ordered.{scripted};
+ghost use Rattle.dispatch_history.specs.Ordered.{begun, scripted};
 ghost use Rattle.dispatch_history.specs.Plan.{Plan as PlanView};
 ghost use Rattle.schedule.specs.Planned.{IsRun, plan_of};
 ghost use Rattle.schedule.specs.State.{Has, Ran};
@@ -39,6 +39,17 @@ impl Schedule {
     pub fn new(alloc: Global, plan: &Plan) -> Result<Schedule, AllocError>
         requires { IsRun plan.now }
         ensures { IfOk result (Ran (plan_of plan.now) []) }
+    {
+        let run = Schedule::begin(alloc, plan)?;
+        Ok(run)
+    }
+
+    /// A run whose channels are opened, of which any order may be made.
+    pub fn begin(alloc: Global, plan: &Plan) -> Result<Schedule, AllocError>
+        requires { IsRun plan.now }
+        ensures has { IfOk result (Has (plan_of plan.now) (begun (plan_of plan.now))) }
+        ensures messages { IfOk result (λ s. s.messages ≡ 0) }
+        ensures latest { IfOk result (λ s. s.latest ≡ 0) }
     {
         let mut run = unopened(alloc, plan)?;
         for channel in &plan.channels {

@@ -6,7 +6,8 @@ ghost use Rattle.dispatch_history.specs.Ordered.{end_of};
 ghost use Rattle.dispatch_history.specs.Plan.{Plan as PlanView, Cooked};
 ghost use Rattle.schedule.specs.Planned.{IsRun, plan_of};
 ghost use Rattle.schedule.specs.Run.{IsWithin, IsTooLong, with_cooked};
-ghost use Rattle.schedule.specs.State.{Ran, Completed, is_over};
+ghost use Rattle.schedule.specs.More.{ComesTo};
+ghost use Rattle.schedule.specs.State.{Ran, Completed, Ready, is_over};
 ghost use Rattle.schedule.specs.Ends.{last_step};
 
 use crate::choose::moment;
@@ -37,18 +38,31 @@ fn last_step(steps: &[Step]) -> Moment
 }
 
 impl Schedule {
-    /// Whether there are more calls or more messages than may be.
-    pub fn is_too_long(&self) -> bool
+    /// Whether more calls or more messages are counted than may be.
+    fn is_over(&self) -> bool
         ensures { result ≡ is_over self.now }
     {
         LIMIT < self.calls || LIMIT < self.messages
     }
 
+    /// Whether there are more than 4,000,000 calls, or more than 4,000,000 messages of all channels together.
+    pub fn is_too_long(&self) -> bool
+        ensures over { result ≡ is_over self.now }
+        ensures too_long { (plan : PlanView) (es : List Effect) → Ready plan es self.now → result ≡ true
+            → IsTooLong es }
+        ensures within { (plan : PlanView) (es : List Effect) → Ready plan es self.now → result ≡ false → IsWithin es }
+    {
+        self.is_over()
+    }
+
     /// Does all that is due before these args, and hands them in. A run that has become too long does nothing more.
+    /// After want of memory the dispatcher stands for what was done up to then, and nothing else is said of the run.
     pub fn take(&mut self, plan: &Plan, moment: Moment, args: &Args) -> Result<(), AllocError>
         requires { IsRun plan.now }
-        ensures { (given : List Cooked) → Ran (plan_of plan.now) given self.old
-            → OnOk result (Ran (plan_of plan.now) (given ++ record { moment = moment; args = args.now } ∷ []) self.new) }
+        ensures ran { (given : List Cooked) → Ran (plan_of plan.now) given self.old
+            → OnOk result (Ran (plan_of plan.now)
+            (given ++ record { moment = moment; args = args.now } ∷ []) self.new) }
+        ensures more { (es : List Effect) → ComesTo es self.old.dispatcher → ComesTo es self.new.dispatcher }
     {
         self.latest = later(self.latest, moment);
         'rounds: while !self.is_too_long() {
@@ -59,10 +73,13 @@ impl Schedule {
         Ok(())
     }
 
-    /// Does all that is due up to the end, once all args came.
+    /// Does all that is due up to the end, once all args came. After want of memory the dispatcher stands for what was
+    /// done up to then, and nothing else is said of the run.
     pub fn finish(&mut self, plan: &Plan) -> Result<(), AllocError>
         requires { IsRun plan.now }
-        ensures { (given : List Cooked) → Ran (plan_of plan.now) given self.old → OnOk result (Completed (plan_of plan.now) given self.new) }
+        ensures completed { (given : List Cooked) → Ran (plan_of plan.now) given self.old
+            → OnOk result (Completed (plan_of plan.now) given self.new) }
+        ensures more { (es : List Effect) → ComesTo es self.old.dispatcher → ComesTo es self.new.dispatcher }
     {
         let end = later(plan.until, later(last_step(&plan.steps), self.latest));
         'rounds: while !self.is_too_long() {

@@ -10,6 +10,7 @@ ghost use Rattle.schedule.specs.Hearing.{Hears};
 ghost use Rattle.schedule.specs.Kinds.{is_receiving};
 ghost use Rattle.schedule.specs.Receives.{receives_of};
 ghost use Rattle.schedule.specs.Run.{messages_in};
+ghost use Rattle.schedule.specs.More.{ComesTo};
 ghost use Rattle.schedule.specs.State.{Has, counted};
 
 use crate::stream::{Stream, hear};
@@ -37,16 +38,32 @@ impl Model for Schedule {
 
     ghost Value = { ScheduleState };
 
-    ghost view = { λ s. record { dispatcher = s.dispatcher; lines = s.streams.items; next = s.next; calls = s.calls; messages = s.messages; latest = s.latest } };
+    ghost view = { λ s. record {
+      dispatcher = s.dispatcher;
+      lines = s.streams.items;
+      next = s.next;
+      calls = s.calls;
+      messages = s.messages;
+      latest = s.latest;
+    } };
 }
 
 impl Schedule {
+    /// How many steps were made.
+    pub fn steps_made(&self) -> usize
+        ensures { result ≡ self.now.next }
+    {
+        self.next
+    }
+
     /// One call that is no receive, after which so many steps were made.
-    pub(crate) fn step(&mut self, call: &Call, next: usize) -> Result<(), AllocError>
+    pub fn step(&mut self, call: &Call, next: usize) -> Result<(), AllocError>
         ensures after { (plan : PlanView) (es : List Effect) → Has plan es self.old → is_receiving call.now ≡ false
-            → next ≡ is_scripted call.now + scripted (past_of es) → OnOk result (Has plan (answered plan.displays call.now es) self.new) }
+            → next ≡ is_scripted call.now + scripted (past_of es)
+            → OnOk result (Has plan (answered plan.displays call.now es) self.new) }
         ensures calls { OnOk result (self.new.calls ≡ counted (self.old.calls + 1)) }
         ensures messages { self.new.messages ≡ self.old.messages }
+        ensures more { (es : List Effect) → ComesTo es self.old.dispatcher → ComesTo es self.new.dispatcher }
         ensures latest { self.new.latest ≡ self.old.latest }
     {
         match self.dispatcher.apply(call) {
@@ -64,6 +81,7 @@ impl Schedule {
         ensures after { (plan : PlanView) (es : List Effect) → Has plan es self.old
             → OnOk result (Has plan (answered plan.displays (CallView.Receive channel) es) self.new) }
         ensures calls { OnOk result (self.old.calls ≤ self.new.calls) }
+        ensures more { (es : List Effect) → ComesTo es self.old.dispatcher → ComesTo es self.new.dispatcher }
         ensures latest { self.new.latest ≡ self.old.latest }
     {
         match self.dispatcher.apply(&Call::Receive { channel }) {
@@ -75,11 +93,22 @@ impl Schedule {
         }
     }
 
+    /// The owner of a channel takes its next message, where there is one, and the channel lets it go.
+    pub fn receive_next(&mut self, channel: u32) -> Result<(), AllocError>
+        ensures { (plan : PlanView) (es : List Effect) → Has plan es self.old
+            → OnOk result (Has plan (answered plan.displays (CallView.Receive channel) es) self.new) }
+    {
+        self.receive_one(channel)?;
+        self.dispatcher.let_go(channel);
+        Ok(())
+    }
+
     /// The owner of a channel takes so many messages.
     fn receive_many(&mut self, channel: u32, count: u64) -> Result<(), AllocError>
         ensures after { (plan : PlanView) (es : List Effect) → Has plan es self.old
             → OnOk result (Has plan (extend plan.displays es (replicate count (CallView.Receive channel))) self.new) }
         ensures calls { OnOk result (self.old.calls ≤ self.new.calls) }
+        ensures more { (es : List Effect) → ComesTo es self.old.dispatcher → ComesTo es self.new.dispatcher }
         ensures latest { self.new.latest ≡ self.old.latest }
     {
         for _ in 0..count {
@@ -88,13 +117,15 @@ impl Schedule {
         Ok(())
     }
 
-    /// The owner of a channel takes all that is published, and the channel lets it go. The answer is how many messages the channel has.
+    /// The owner of a channel takes all that is published, and the channel lets it go. The answer is how many messages
+    /// the channel has.
     fn receive(&mut self, channel: u32) -> Result<u64, AllocError>
         ensures after { (plan : PlanView) (es : List Effect) → Has plan es self.old → is_opened es channel ≡ true
             → OnOk result (Has plan (extend plan.displays es (receives_of es channel)) self.new) }
         ensures sent { (plan : PlanView) (es : List Effect) → Has plan es self.old → is_opened es channel ≡ true
             → IfOk result (λ n. n ≡ length (stream es channel)) }
         ensures calls { OnOk result (self.old.calls ≤ self.new.calls) }
+        ensures more { (es : List Effect) → ComesTo es self.old.dispatcher → ComesTo es self.new.dispatcher }
         ensures latest { self.new.latest ≡ self.old.latest }
     {
         let Some(counts) = self.dispatcher.counts(channel) else {
@@ -109,9 +140,12 @@ impl Schedule {
 
     /// The owners of all live channels take all that is published.
     pub(crate) fn receive_all(&mut self) -> Result<(), AllocError>
-        ensures after { (plan : PlanView) (es : List Effect) → Has plan es self.old → OnOk result (Has plan (received_all plan.displays es) self.new) }
-        ensures messages { (plan : PlanView) (es : List Effect) → Has plan es self.old → OnOk result (self.new.messages ≡ counted (messages_in es)) }
+        ensures after { (plan : PlanView) (es : List Effect) → Has plan es self.old
+            → OnOk result (Has plan (received_all plan.displays es) self.new) }
+        ensures messages { (plan : PlanView) (es : List Effect) → Has plan es self.old
+            → OnOk result (self.new.messages ≡ counted (messages_in es)) }
         ensures calls { OnOk result (self.old.calls ≤ self.new.calls) }
+        ensures more { (es : List Effect) → ComesTo es self.old.dispatcher → ComesTo es self.new.dispatcher }
         ensures latest { self.new.latest ≡ self.old.latest }
     {
         let mut messages: u64 = 0;

@@ -6,6 +6,7 @@ ghost use Rattle.schedule.specs.Lines.{lines_at};
 use input_types::Message;
 use std::alloc::{AllocError, Global};
 use std::marker::Model;
+use std::mem;
 use stream_text::LineWriter;
 
 /// The messages that the owner of a channel received. Their lines alone are kept, which are far shorter than they are.
@@ -33,10 +34,13 @@ impl Stream {
         }
     }
 
-    pub(crate) fn lines(&self) -> &[u8]
-        ensures { result.now ≡ self.now }
+    /// Takes the lines out.
+    pub(crate) fn take_lines(&mut self) -> Vec<u8>
+        ensures value { result.items ≡ self.old }
+        ensures none { self.new ≡ [] }
     {
-        &self.lines
+        let alloc = *self.lines.allocator();
+        mem::replace(&mut self.lines, Vec::new(alloc))
     }
 
     /// One message more.
@@ -68,7 +72,8 @@ pub(crate) fn hear(
 ) -> Result<(), AllocError>
     ensures len { vec_len streams.new ≡ vec_len streams.old }
     ensures heard { OnOk result ((c : ℕ) → 1 ≤ c → c ≤ vec_len streams.old → lines_at streams.new.items c
-        ≡ (if c == channel then lines_at streams.old.items c ++ message_line message.now else lines_at streams.old.items c)) }
+        ≡ (if c == channel then lines_at streams.old.items c
+        ++ message_line message.now else lines_at streams.old.items c)) }
 {
     let place = channel as usize;
     if 1 <= place && place <= streams.len() {

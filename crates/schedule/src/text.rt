@@ -1,35 +1,21 @@
 //! The streams text of a run.
-ghost use Rattle.std.specs.Prelude.{◌≡◌, ◌≤◌, ◌<◌, ◌-◌, ◌^◌, ◌++◌, ℕ, true, [], List, IfOk, OnOk, drop, reverse, length};
+ghost use Rattle.std.specs.Prelude.{◌≡◌, ◌++◌, ℕ, true, List, OnOk, OnErr, drop, reverse, length, take};
 ghost use Rattle.std.specs.Option.{unwrap_or};
 ghost use Rattle.dispatch_core.specs.Access.{gone, is_opened};
 ghost use Rattle.dispatch_core.specs.Dispatching.{StandsFor};
 ghost use Rattle.dispatch_history.specs.Due.{counts, namings};
 ghost use Rattle.dispatch_history.specs.Effect.{Effect, stream};
 ghost use Rattle.dispatch_history.specs.Plan.{Plan as PlanView};
-ghost use Rattle.schedule.specs.Lines.{lines_at};
-ghost use Rattle.schedule.specs.State.{Ready};
-ghost use Rattle.stream_text.specs.Spelling.{channel_section, message_lines};
+ghost use Rattle.schedule.specs.State.{Has};
+ghost use Rattle.stream_text.specs.Spelling.{message_lines};
 ghost use Rattle.stream_text.specs.StreamsHistory.{naming_lines, unopened};
 
 use crate::schedule::Schedule;
-use crate::stream::Stream;
 use dispatch_calls::{Counts, Naming};
 use dispatch_core::Dispatcher;
 use input_types::Message;
 use std::alloc::AllocError;
-use stream_text::{channel_line_text, end_line_text, message_text, naming_text};
-
-/// The lines of a channel.
-fn lines_of(streams: &[Stream], channel: u32) -> &[u8]
-    ensures { 1 ≤ channel → result.now ≡ lines_at streams.now channel }
-{
-    let place = channel as usize;
-    if 1 <= place && place <= streams.len() {
-        streams[place - 1].lines()
-    } else {
-        b""
-    }
-}
+use stream_text::{message_text, naming_text};
 
 /// Appends the lines of messages.
 fn add_messages(messages: &[Message], text: &mut Vec<u8>) -> Result<(), AllocError>
@@ -42,9 +28,14 @@ fn add_messages(messages: &[Message], text: &mut Vec<u8>) -> Result<(), AllocErr
 }
 
 /// Appends the lines of the messages of a channel that were not let go.
-fn add_left(dispatcher: &Dispatcher, channel: u32, text: &mut Vec<u8>) -> Result<(), AllocError>
+pub(crate) fn add_left(
+    dispatcher: &Dispatcher,
+    channel: u32,
+    text: &mut Vec<u8>,
+) -> Result<(), AllocError>
     ensures { (es : List Effect) → StandsFor es dispatcher.now → is_opened es channel ≡ true
-        → OnOk result (text.new.items ≡ text.old.items ++ message_lines (drop (gone dispatcher.now channel) (reverse (stream es channel)))) }
+        → OnOk result (text.new.items
+        ≡ text.old.items ++ message_lines (drop (gone dispatcher.now channel) (reverse (stream es channel)))) }
 {
     match dispatcher.messages(channel) {
         Some(messages) => add_messages(messages, text),
@@ -53,7 +44,7 @@ fn add_left(dispatcher: &Dispatcher, channel: u32, text: &mut Vec<u8>) -> Result
 }
 
 /// How far a channel has come; of one that was never opened nothing.
-fn counts_of(dispatcher: &Dispatcher, channel: u32) -> Counts
+pub(crate) fn counts_of(dispatcher: &Dispatcher, channel: u32) -> Counts
     ensures { (es : List Effect) → StandsFor es dispatcher.now → result ≡ unwrap_or (counts es channel) unopened }
 {
     match dispatcher.counts(channel) {
@@ -68,9 +59,10 @@ fn counts_of(dispatcher: &Dispatcher, channel: u32) -> Counts
     }
 }
 
-/// Appends the lines of namings.
-fn add_all_namings(namings: &[Naming], text: &mut Vec<u8>) -> Result<(), AllocError>
-    ensures { OnOk result (text.new.items ≡ text.old.items ++ naming_lines namings.now) }
+/// Appends the lines of namings, or as many of them as memory serves for.
+fn append_namings(namings: &[Naming], text: &mut Vec<u8>) -> Result<(), AllocError>
+    ensures ok { OnOk result (text.new.items ≡ text.old.items ++ naming_lines namings.now) }
+    ensures front { take (length text.old.items) text.new.items ≡ text.old.items }
 {
     for naming in namings {
         naming_text(naming.clock, naming.channel, naming.seq, text)?;
@@ -78,31 +70,24 @@ fn add_all_namings(namings: &[Naming], text: &mut Vec<u8>) -> Result<(), AllocEr
     Ok(())
 }
 
-impl Schedule {
-    /// Appends the section of a channel with this name: what it was told, and how far its owner has come. The messages that its owner
-    /// received are let go.
-    pub fn add_section(
-        &mut self,
-        channel: u32,
-        name: &str,
-        text: &mut Vec<u8>,
-    ) -> Result<(), AllocError>
-        ensures section { (plan : PlanView) (es : List Effect) → Ready plan es self.old → is_opened es channel ≡ true
-            → OnOk result (text.new.items ≡ text.old.items ++ channel_section channel name.now (reverse (stream es channel)) (unwrap_or (counts es channel) unopened)) }
-        ensures ready { (plan : PlanView) (es : List Effect) → Ready plan es self.old → Ready plan es self.new }
-    {
-        self.dispatcher.let_go(channel);
-        let counts = counts_of(&self.dispatcher, channel);
-        channel_line_text(channel, name, text)?;
-        text.extend_from_slice(lines_of(&self.streams, channel))?;
-        add_left(&self.dispatcher, channel, text)?;
-        end_line_text(channel, counts.sent, counts.received, counts.finished, text)
+/// Appends the lines of namings. After want of memory `text` is as before.
+pub fn add_all_namings(namings: &[Naming], text: &mut Vec<u8>) -> Result<(), AllocError>
+    ensures ok { OnOk result (text.new.items ≡ text.old.items ++ naming_lines namings.now) }
+    ensures err { OnErr result (text.new.items ≡ text.old.items) }
+{
+    let start = text.len();
+    if let Err(error) = append_namings(namings, text) {
+        text.truncate(start);
+        return Err(error);
     }
+    Ok(())
+}
 
-    /// Appends a line for each time that a channel was named unresponsive.
-    pub fn add_namings(&self, text: &mut Vec<u8>) -> Result<(), AllocError>
-        ensures { (plan : PlanView) (es : List Effect) → Ready plan es self.now → OnOk result (text.new.items ≡ text.old.items ++ naming_lines (namings es)) }
+impl Schedule {
+    /// The times that a channel was named unresponsive, the first one first.
+    pub fn namings(&self) -> &[Naming]
+        ensures { (plan : PlanView) (es : List Effect) → Has plan es self.now → result.now ≡ namings es }
     {
-        add_all_namings(self.dispatcher.namings(), text)
+        self.dispatcher.namings()
     }
 }

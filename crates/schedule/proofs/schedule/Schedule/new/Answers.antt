@@ -1,38 +1,11 @@
--- One channel more, and all of them.
-use Rattle.std.proofs.Common.{◌≡◌, ◌∙◌, ◌<◌, ◌≤◌, List, length, get_or, ap, subst, arith}
+-- The channels are opened, and nothing else was done.
+use Rattle.std.proofs.Common.{arith}
 use Rattle.std.proofs.lemmas.List.{length-map}
-use Rattle.schedule.specs.declared.plan.Channel.{Channel}
 use Rattle.schedule.specs.Planned.{plan_of, channel_of}
-use Rattle.schedule.specs.State.{Has}
-use Rattle.schedule.proofs.Beginning.{opened_first, none_scripted, one_opened, all_opened, begins}
+use Rattle.schedule.proofs.Beginning.{begins}
 use Rattle.schedule.proofs.schedule.Schedule.new.Goals as goal
-
-pub loop-channel-preserved : goal.loop-channel-preserved
-loop-channel-preserved c =
-    let ds = c.args.plan.now.displays in
-    let cs : List Channel = c.args.plan.now.channels.items in
-    let i = c.loop-channel.channel-index in
-    let within : c.loop-channel.channel-index < length c.args.plan.now.channels.items =
-    subst (λ (xs : List Channel). c.loop-channel.channel-index < length xs) c.deref-channel-items.ensures.value c.loop-channel-test.true in
-    let is : c.channel-item.result ≡ get_or c.args.plan.now.channels.items c.loop-channel.channel-index c.channel-item.result =
-    subst (λ (xs : List Channel). c.channel-item.result ≡ get_or xs c.loop-channel.channel-index c.channel-item.result) c.deref-channel-items.ensures.value c.channel-item.is in
-    record {
-      has = subst (λ fs. Has (plan_of c.args.plan.now) fs c.open.new.self) (one_opened c.args.plan.now.displays c.args.plan.now.channels.items c.loop-channel.channel-index c.channel-item.result within is)
-          (c.in_ok-open.ensures.after (plan_of c.args.plan.now) (opened_first c.args.plan.now.displays c.args.plan.now.channels.items c.loop-channel.channel-index) c.loop-channel.invariant.has
-          (none_scripted c.args.plan.now.displays c.args.plan.now.channels.items c.loop-channel.channel-index (omega (arith, within)) c.requires.few));
-      messages = c.open.ensures.messages ∙ c.loop-channel.invariant.messages;
-      latest = c.open.ensures.latest ∙ c.loop-channel.invariant.latest;
-    }
 
 pub returns : goal.returns
 returns c =
-    let past : length c.args.plan.now.channels.items ≤ c.loop-channel.channel-index =
-    subst (λ (xs : List Channel). length xs ≤ c.loop-channel.channel-index) c.deref-channel-items.ensures.value c.loop-channel-test.false in
-    let within : c.loop-channel.channel-index ≤ length c.args.plan.now.channels.items =
-    subst (λ (xs : List Channel). c.loop-channel.channel-index ≤ length xs) c.deref-channel-items.ensures.value c.loop-channel.auto.channel-index-end in
-    let all : c.loop-channel.channel-index ≡ length c.args.plan.now.channels.items = omega (arith, past, within) in
-    begins (plan_of c.args.plan.now) c.loop-channel.run (omega (arith, length-map c.args.plan.now.channels.items channel_of, c.requires.few))
-    (subst (λ fs. Has (plan_of c.args.plan.now) fs c.loop-channel.run)
-    (ap (opened_first c.args.plan.now.displays c.args.plan.now.channels.items) all ∙ all_opened c.args.plan.now.displays c.args.plan.now.channels.items)
-    c.loop-channel.invariant.has)
-    c.loop-channel.invariant.messages c.loop-channel.invariant.latest
+    begins (plan_of c.args.plan.now) _ (omega (arith, length-map c.args.plan.now.channels.items channel_of, c.requires.few))
+    c.in_ok-run.ensures.has c.in_ok-run.ensures.messages c.in_ok-run.ensures.latest

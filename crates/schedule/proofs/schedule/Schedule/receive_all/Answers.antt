@@ -24,6 +24,7 @@ loop-place-preserved c =
           (c.in_ok-receive.ensures.sent plan _ (c.loop-place.invariant.has plan es h)
           (is_opened_next plan es c.args.self.now c.loop-place.place h c.opened-place-end.result count c.loop-place-test.true));
       calls = omega (arith, c.loop-place.invariant.calls, c.in_ok-receive.ensures.calls);
+      more = λ es k. c.receive.ensures.more es (c.loop-place.invariant.more es k);
       latest = c.receive.ensures.latest ∙ c.loop-place.invariant.latest;
     }
 

@@ -5,6 +5,7 @@ use Rattle.dispatch_history.specs.Effects.{channels}
 use Rattle.dispatch_history.specs.Plan.{Plan}
 use Rattle.dispatch_history.specs.Ordered.{extend}
 use Rattle.schedule.specs.Receives.{receives_to}
+use Rattle.schedule.specs.More.{ComesTo}
 use Rattle.schedule.specs.State.{Has, counted}
 use Rattle.schedule.proofs.schedule.Schedule.receive_all.Given as goal
 
@@ -15,5 +16,6 @@ invariant-loop-place l =
       has : (plan : Plan) (es : List Effect) → Has plan es l.initial.self → Has plan (extend plan.displays es (receives_to es l.place)) l.self;
       messages : (plan : Plan) (es : List Effect) → Has plan es l.initial.self → l.messages ≡ counted (sum_by (λ c. length (stream es c)) (channels l.place));
       calls : l.initial.self.calls ≤ l.self.calls;
+      more : (es : List Effect) → ComesTo es l.initial.self.dispatcher → ComesTo es l.self.dispatcher;
       latest : l.self.latest ≡ l.initial.self.latest;
     }

@@ -13,6 +13,7 @@ loop-preserved c =
           subst (λ fs. Has plan fs c.receive_one.new.self) (one_receive_more plan.displays es c.args.channel c.loop.counter)
           (c.in_ok-receive_one.ensures.after plan _ (c.loop.invariant.has plan es h));
       calls = omega (arith, c.loop.invariant.calls, c.in_ok-receive_one.ensures.calls);
+      more = λ es k. c.receive_one.ensures.more es (c.loop.invariant.more es k);
       latest = c.receive_one.ensures.latest ∙ c.loop.invariant.latest;
     }
 

@@ -1,7 +1,10 @@
 -- One receive more.
 use Rattle.std.proofs.Common.{refl, sym, subst}
-use Rattle.schedule.specs.State.{Has}
+use Rattle.schedule.specs.State.{Has, ScheduleState}
 use Rattle.schedule.proofs.Stepping.{has_received, on_ok}
+use Rattle.dispatch_calls.specs.declared.call.Call.TheVariants.{Receive}
+use Rattle.schedule.specs.More.{ComesTo}
+use Rattle.schedule.proofs.More.{one_more}
 use Rattle.schedule.proofs.schedule.Schedule.receive_one.Goals as goal
 
 pub returns-in-Ok-clause-after : goal.returns-in-Ok-clause-after
@@ -10,3 +13,12 @@ returns-in-Ok-clause-after c = λ plan es h.
     on_ok c.take_in.result _ _ c.take_in.ensures
     (λ hears. has_received plan es _ _ before c.apply.ensures.displays c.in-Ok.reply c.args.channel ((rw c.in-Ok.is at c.apply.ensures.after) es before.stands) hears refl
     c.saturating_add-self-inside.ensures)
+
+pub returns-in-Ok-clause-more : goal.returns-in-Ok-clause-more
+returns-in-Ok-clause-more c = λ es k.
+    one_more es _ _ (Receive c.args.channel) c.in-Ok.reply c.apply.ensures.displays (rw c.in-Ok.is at c.apply.ensures.after)
+    (subst (λ (s : ScheduleState). ComesTo es s.dispatcher) (sym c.self.view_is) k)
+
+pub returns-clause-more : goal.returns-clause-more
+returns-clause-more c = λ es k.
+    subst (ComesTo es) (sym c.in-Err.ensures.err) (subst (λ (s : ScheduleState). ComesTo es s.dispatcher) (sym c.self.view_is) k)

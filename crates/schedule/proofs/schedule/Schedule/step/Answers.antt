@@ -1,7 +1,9 @@
 -- One call more.
 use Rattle.std.proofs.Common.{refl, sym, subst}
-use Rattle.schedule.specs.State.{Has}
+use Rattle.schedule.specs.State.{Has, ScheduleState}
 use Rattle.schedule.proofs.Stepping.{has_step}
+use Rattle.schedule.specs.More.{ComesTo}
+use Rattle.schedule.proofs.More.{one_more}
 use Rattle.schedule.proofs.schedule.Schedule.step.Goals as goal
 
 pub returns-in-Ok-clause-after : goal.returns-in-Ok-clause-after
@@ -9,3 +11,12 @@ returns-in-Ok-clause-after c = λ plan es h never next.
     let before = subst (Has plan es) (sym c.self.view_is) h in
     has_step plan es _ _ before c.apply.ensures.displays c.args.call.now c.in-Ok.field-0 ((rw c.in-Ok.is at c.apply.ensures.after) es before.stands) never refl next
     c.saturating_add-self-inside.ensures
+
+pub returns-in-Ok-clause-more : goal.returns-in-Ok-clause-more
+returns-in-Ok-clause-more c = λ es k.
+    one_more es _ _ c.args.call.now c.in-Ok.field-0 c.apply.ensures.displays (rw c.in-Ok.is at c.apply.ensures.after)
+    (subst (λ (s : ScheduleState). ComesTo es s.dispatcher) (sym c.self.view_is) k)
+
+pub returns-in-Err-clause-more : goal.returns-in-Err-clause-more
+returns-in-Err-clause-more c = λ es k.
+    subst (ComesTo es) (sym c.in-Err.ensures.err) (subst (λ (s : ScheduleState). ComesTo es s.dispatcher) (sym c.self.view_is) k)

@@ -1,6 +1,6 @@
 use Rattle.std.proofs.Common.{◌≡◌, ◌++◌, take}
 use Rattle.stream_text.specs.StreamsHistory.{naming_lines}
-use Rattle.schedule.proofs.text.add_all_namings.Given as goal
+use Rattle.schedule.proofs.text.append_namings.Given as goal
 
 -- the lines of the namings so far stand behind the text
 abbrev pub invariant-loop-naming : goal.invariant-loop-naming

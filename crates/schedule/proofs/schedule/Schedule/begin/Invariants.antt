@@ -2,7 +2,7 @@ use Rattle.std.proofs.Common.{◌≡◌}
 use Rattle.schedule.specs.Planned.{plan_of}
 use Rattle.schedule.specs.State.{Has}
 use Rattle.schedule.proofs.Beginning.{opened_first}
-use Rattle.schedule.proofs.schedule.Schedule.new.Given as goal
+use Rattle.schedule.proofs.schedule.Schedule.begin.Given as goal
 
 -- the first channels are opened
 abbrev pub invariant-loop-channel : goal.invariant-loop-channel

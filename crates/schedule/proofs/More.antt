@@ -1,0 +1,37 @@
+-- A run with one call more, and one that lets messages go.
+use Rattle.std.proofs.Common.{◌≡◌, List, [], ◌∷◌, ◌++◌, sym, ap, ◌∙◌, subst}
+use Rattle.dispatch_calls.specs.declared.call.Call.{Call}
+use Rattle.dispatch_calls.specs.declared.reply.Reply.{Reply}
+use Rattle.dispatch_history.specs.Effect.{Effect}
+use Rattle.dispatch_history.specs.Effects.{step}
+use Rattle.dispatch_history.specs.Ordered.{extend}
+use Rattle.dispatch_core.specs.Dispatching.{Dispatching, StandsFor}
+use Rattle.dispatch_tables.specs.Lawful.{Lawful}
+use Rattle.dispatch_tables.proofs.Lawfuls.{lawful_last}
+use Rattle.schedule.specs.More.{ComesTo}
+use Rattle.schedule.proofs.Receiving.{extend_append}
+
+pub one_more : (es : List Effect) (d later : Dispatching) (call : Call) (answer : Reply) → later.displays ≡ d.displays
+    → ((fs : List Effect) → StandsFor fs d → StandsFor (step d.displays call answer fs) later) → ComesTo es d → ComesTo es later
+one_more es d later call answer same goes k =
+    let fs = extend d.displays es k.calls in
+    let stands = goes fs k.stands in
+    let l : Lawful d.displays (step d.displays call answer (extend d.displays es k.calls)) =
+    subst (λ ds. Lawful ds (step d.displays call answer (extend d.displays es k.calls))) same stands.lawful in
+    record {
+      calls = k.calls ++ call ∷ [];
+      stands =
+          subst (λ gs. StandsFor gs later)
+          (ap (λ a. step d.displays call a (extend d.displays es k.calls)) (lawful_last d.displays call answer (extend d.displays es k.calls) l).0
+          ∙ sym (extend_append d.displays es k.calls (call ∷ []))
+          ∙ ap (λ ds. extend ds es (k.calls ++ call ∷ [])) (sym same))
+          stands;
+    }
+
+pub same_more : (es : List Effect) (d later : Dispatching) → later.displays ≡ d.displays
+    → ((fs : List Effect) → StandsFor fs d → StandsFor fs later) → ComesTo es d → ComesTo es later
+same_more es d later same goes k =
+    record {
+      calls = k.calls;
+      stands = subst (λ ds. StandsFor (extend ds es k.calls) later) (sym same) (goes (extend d.displays es k.calls) k.stands);
+    }

@@ -1,0 +1,52 @@
+-- The head, the lines, what was not received, and the end; the other channels keep theirs.
+use Rattle.std.proofs.Common.{◌≡◌, ◌∙◌, ◌++◌, ◌≤◌, length, drop, reverse, refl, sym, ap, subst, arith, append_assoc}
+use Rattle.std.specs.Option.{unwrap_or}
+use Rattle.std.proofs.lemmas.Result.{on_ok_weaker}
+use Rattle.dispatch_history.specs.Due.{counts}
+use Rattle.dispatch_history.specs.Effect.{past_of, stream}
+use Rattle.dispatch_history.specs.History.{received}
+use Rattle.stream_text.specs.Spelling.{channel_line, message_lines}
+use Rattle.stream_text.specs.StreamsHistory.{unopened}
+use Rattle.schedule.specs.Lines.{lines_received}
+use Rattle.schedule.specs.Printing.{Prints, end_of}
+use Rattle.schedule.proofs.Counting.{opened_bounds}
+use Rattle.schedule.proofs.Written.{lines_split, section_is}
+use Rattle.schedule.proofs.schedule.Schedule.take_section.Goals as goal
+
+pub returns-clause-section : goal.returns-clause-section
+returns-clause-section c = λ plan es r there_is within.
+    let before = subst (Prints plan es c.args.channel) (sym c.self.view_is) r in
+    let stands = c.let_go.ensures.stays es before.stands in
+    let at = opened_bounds es c.args.channel there_is in
+    let low : c.args.channel ≤ c.args.channel = omega arith in
+    let high : c.args.channel ≤ length c.self.inside.streams.items = omega (arith, within, before.as_many) in
+    let told = reverse (stream es c.args.channel) in
+    let left = message_lines (drop (received (past_of es) c.args.channel) told) in
+    let heard : c.take_lines.result.items ≡ lines_received es c.args.channel =
+    c.take_lines.ensures.value at.0 ∙ before.heard c.args.channel at.0 low high in
+    let end = end_of c.args.channel (unwrap_or (counts es c.args.channel) unopened) in
+    let rest : c.in_ok-rest_text.field-0.items ≡ left ++ end =
+    c.in_ok-rest_text.ensures es stands there_is ∙ ap (λ n. message_lines (drop n told) ++ end) (c.let_go.ensures.gone es before.stands there_is) in
+    on_ok_weaker c.push-3.result
+    (λ e.
+    section_is c.args.text.now c.push.new.self c.push-2.new.self (c.push-2.new.self ++ left) c.push-3.new.self
+    (channel_line c.args.channel c.args.name.now) (lines_received es c.args.channel) left (message_lines told) end
+    (c.in_ok-push.ensures.ok ∙ ap (λ ls. c.args.text.now ++ ls) c.in_ok-head_text.ensures)
+    (c.in_ok-push-2.ensures.ok ∙ ap (λ ls. c.push.new.self ++ ls) heard)
+    refl
+    (e ∙ ap (λ ls. c.push-2.new.self ++ ls) rest ∙ sym (append_assoc c.push-2.new.self left end))
+    (lines_split (received (past_of es) c.args.channel) told))
+    c.push-3.ensures.ok
+
+pub returns-clause-after : goal.returns-clause-after
+returns-clause-after c = λ plan es r.
+    let before = subst (Prints plan es c.args.channel) (sym c.self.view_is) r in
+    on_ok_weaker c.push-3.result
+    (λ e. record {
+      stands = c.let_go.ensures.stays es before.stands;
+      heard = λ d one le high.
+          c.take_lines.ensures.others d one (λ same. omega (arith, le, same))
+          ∙ before.heard d one (omega (arith, le)) (rw (← c.take_lines.ensures.len) high);
+      as_many = c.take_lines.ensures.len ∙ before.as_many;
+    })
+    c.push-3.ensures.ok

@@ -1,0 +1,19 @@
+-- A run that is being printed.
+use Rattle.std.specs.Prelude.{◌≡◌, ℕ, ◌≤◌, List, length}
+use Rattle.dispatch_history.specs.Effect.{Effect}
+use Rattle.dispatch_history.specs.Plan.{Plan}
+use Rattle.dispatch_calls.specs.declared.counts.Counts.{Counts}
+use Rattle.stream_text.specs.Spelling.{end_line}
+use Rattle.dispatch_core.specs.Dispatching.{StandsFor}
+use Rattle.schedule.specs.Lines.{lines_at, lines_received}
+use Rattle.schedule.specs.State.{ScheduleState}
+
+-- the last line of a channel's section, with how far the channel has come
+abbrev pub end_of : ℕ → Counts → List ℕ
+end_of c k = end_line c k.sent k.received k.finished
+
+-- It stands for these effects, but for the lines of the channels below channel k, which were taken out.
+pub record Prints (plan : Plan) (es : List Effect) (k : ℕ) (s : ScheduleState) : Type 0 where
+  pub stands : StandsFor es s.dispatcher
+  pub heard : (c : ℕ) → 1 ≤ c → k ≤ c → c ≤ length s.lines → lines_at s.lines c ≡ lines_received es c
+  pub as_many : length s.lines ≡ length plan.channels

@@ -1,0 +1,79 @@
+//! The pieces of a text.
+ghost use Rattle.std.specs.Prelude.{◌≡◌, ◌++◌, [], OnOk, OnErr};
+ghost use Rattle.text_pieces.specs.Joined.{joined};
+
+use std::alloc::{AllocError, Global};
+use std::marker::Model;
+use std::mem;
+
+/// The most bytes of two pieces that are made one, 64 KiB: a short text is one piece.
+const SHORT: usize = 65536;
+
+/// A text in pieces. Contracts see its bytes.
+#[derive(Drop)]
+pub struct Pieces {
+    before: Vec<Vec<u8>>,
+    last: Vec<u8>,
+}
+
+impl Model for Pieces {
+    ghost use Rattle.std.specs.Prelude.{◌++◌, List, ℕ};
+    ghost use Rattle.text_pieces.specs.Joined.{joined};
+
+    ghost Value = { List ℕ };
+
+    ghost view = { λ p. joined p.before.items ++ p.last.items };
+}
+
+impl Pieces {
+    /// A text without a byte.
+    pub fn new(alloc: Global) -> Pieces
+        ensures { result ≡ [] }
+    {
+        Pieces {
+            before: Vec::new(alloc),
+            last: Vec::new(alloc),
+        }
+    }
+
+    /// The text of one piece.
+    pub fn of(alloc: Global, piece: Vec<u8>) -> Pieces
+        ensures { result ≡ piece.items }
+    {
+        Pieces {
+            before: Vec::new(alloc),
+            last: piece,
+        }
+    }
+
+    /// Puts a piece behind the others. After want of memory the text is as before.
+    pub fn push(&mut self, piece: Vec<u8>) -> Result<(), AllocError>
+        ensures ok { OnOk result (self.new ≡ self.old ++ piece.items) }
+        ensures err { OnErr result (self.new ≡ self.old) }
+    {
+        if self.last.len() + piece.len() <= SHORT {
+            self.last.extend_from_slice(&piece)
+        } else {
+            self.begin(piece)
+        }
+    }
+
+    /// Puts a piece of its own behind the others.
+    #[tactic(auto, using(crate::proofs::OneMore::joined_more))]
+    fn begin(&mut self, piece: Vec<u8>) -> Result<(), AllocError>
+        ensures ok { OnOk result (self.new ≡ self.old ++ piece.items) }
+        ensures err { OnErr result (self.new ≡ self.old) }
+    {
+        self.before.reserve(1)?;
+        let last = mem::replace(&mut self.last, piece);
+        self.before.push(last)?;
+        Ok(())
+    }
+
+    /// The pieces before the last one, in their order, and the last one.
+    pub fn parts(&self) -> (&[Vec<u8>], &[u8])
+        ensures { joined result.0.now ++ result.1.now ≡ self.now }
+    {
+        (&self.before, &self.last)
+    }
+}
