@@ -1,0 +1,4 @@
+pub mod Left
+pub mod Behind
+pub mod Coming
+pub mod Examples

@@ -1,0 +1,29 @@
+-- The steps that are left of each lane.
+use Rattle.std.specs.Prelude.{◌≡◌, ℕ, ◌+◌, ◌==◌, ◌<◌, if◌then◌else◌, List, [], ◌∷◌, length, drop, map, slice_get, slice_index_or, Option, Some, None}
+use Rattle.dispatch_calls.specs.declared.call.Call.{Call}
+use Rattle.dispatch_history.specs.Plan.{ScriptStep}
+use Rattle.schedule.specs.declared.plan.Step.{Step}
+use Rattle.schedule.specs.Planned.{step_of}
+
+-- the calls of the steps of a lane
+abbrev pub calls_of_lane : ℕ → List ScriptStep → List Call
+calls_of_lane l [] = []
+calls_of_lane l (s ∷ ss) = if s.lane == l then s.call ∷ calls_of_lane l ss else calls_of_lane l ss
+
+-- where the next step of a lane is looked for
+abbrev pub place_of : List ℕ → ℕ → ℕ
+place_of places l = slice_index_or places l 0
+
+-- What is left of some steps has the same calls of each lane as the steps from the lane's place on.
+abbrev pub IsLeft : List ScriptStep → List ScriptStep → List ℕ → Type 0
+IsLeft steps left places = (l : ℕ) → l < 256 → calls_of_lane l left ≡ calls_of_lane l (drop (place_of places l) steps)
+
+-- the calls of the steps of a lane from a place on
+abbrev pub calls_from : List Step → ℕ → ℕ → List Call
+calls_from steps l at = calls_of_lane l (drop at (map step_of steps))
+
+-- The place of the next step of a lane from a place on, behind which the other steps of the lane stand; None where it has none there.
+abbrev pub Finds : List Step → ℕ → ℕ → Option ℕ → Type 0
+Finds steps l from None = calls_from steps l from ≡ []
+Finds steps l from (Some at) =
+    (at < length steps) × ((x : Step) → slice_get steps at ≡ Some x → calls_from steps l from ≡ x.call ∷ calls_from steps l (at + 1))

@@ -1,0 +1,4 @@
+pub mod Planned
+pub mod Lanes
+pub mod State
+pub mod Following

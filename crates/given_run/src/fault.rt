@@ -1,0 +1,24 @@
+//! Why an order cannot be made.
+ghost use Rattle.std.specs.Prelude.{◌≡◌};
+ghost use Rattle.given_run.specs.declared.fault.Fault.TheVariants.{Memory};
+
+use std::alloc::AllocError;
+
+/// Why an order cannot be made.
+#[derive(Clone, Copy, Debug, PartialEq, Eq)]
+pub enum Fault {
+    /// A line asks for args or for a step that the plan does not have: the first such one, which has so many lines
+    /// before it.
+    NoStep { before: usize },
+
+    /// Want of memory.
+    Memory,
+}
+
+impl From<AllocError> for Fault {
+    ghost from_gives = { λ _ e. e ≡ Memory };
+
+    fn from(_error: AllocError) -> Fault {
+        Fault::Memory
+    }
+}
