@@ -1,0 +1,102 @@
+-- Words, and the commands that they give.
+use Rattle.std.specs.Prelude.{codes, ◌≡◌, [], ◌∷◌, Some, None, refl}
+use Rattle.command_words.specs.Command.{replay, check, verify, work, batch, hover, emit}
+use Rattle.command_words.specs.Forms.{batch_of, check_of, command_with, emit_of, form_of, hover_of, number_of, recorded_of, replay_of, value_of, verify_of, work_of}
+use Rattle.command_words.specs.Value.{number}
+
+pub no_words : form_of [] ≡ None
+unfolding form_of
+no_words = refl
+
+-- a session and its recording, in any order and in both spellings; each once and nothing else
+pub replays :
+    (form_of (codes "replay" ∷ codes "--session" ∷ codes "a" ∷ codes "--events" ∷ codes "b" ∷ []) ≡ Some (replay (record { session = codes "a"; events = codes "b" })))
+    × (form_of (codes "replay" ∷ codes "--events=b" ∷ codes "--session=a" ∷ []) ≡ Some (replay (record { session = codes "a"; events = codes "b" })))
+    × (form_of (codes "replay" ∷ codes "--session" ∷ codes "a" ∷ codes "--session" ∷ codes "b" ∷ codes "--events" ∷ codes "c" ∷ []) ≡ None)
+    × (form_of (codes "replay" ∷ codes "--session" ∷ codes "a" ∷ codes "--session" ∷ codes "b" ∷ []) ≡ None)
+    × (form_of (codes "replay" ∷ codes "--session" ∷ codes "a" ∷ []) ≡ None)
+    × (form_of (codes "replay" ∷ codes "--session" ∷ codes "a" ∷ codes "--events" ∷ []) ≡ None)
+    × (form_of (codes "replay" ∷ codes "--session" ∷ codes "a" ∷ codes "--events" ∷ codes "b" ∷ codes "c" ∷ []) ≡ None)
+    × (form_of (codes "replay" ∷ codes "--session" ∷ codes "a" ∷ codes "--events" ∷ codes "b" ∷ codes "--order" ∷ codes "c" ∷ []) ≡ None)
+    × (form_of (codes "replay" ∷ codes "a" ∷ codes "b" ∷ []) ≡ None)
+unfolding form_of command_with value_of recorded_of replay_of
+replays = (refl, refl, refl, refl, refl, refl, refl, refl, refl)
+
+-- both spellings in one command
+pub checks :
+    (form_of (codes "check" ∷ codes "--order=o" ∷ codes "--session" ∷ codes "s" ∷ codes "--events=e" ∷ []) ≡ Some (check (record { session = codes "s"; events = codes "e" }) (codes "o")))
+    × (form_of (codes "check" ∷ codes "--session" ∷ codes "s" ∷ codes "--events" ∷ codes "e" ∷ []) ≡ None)
+unfolding form_of command_with value_of recorded_of check_of
+checks = (refl, refl)
+
+-- the first `=` parts, and a value is not empty and does not begin with a hyphen
+pub verifies :
+    (form_of (codes "verify" ∷ codes "--stream" ∷ codes "s" ∷ []) ≡ Some (verify (codes "s")))
+    × (form_of (codes "verify" ∷ codes "--stream=a=b" ∷ []) ≡ Some (verify (codes "a=b")))
+    × (form_of (codes "verify" ∷ codes "--stream" ∷ codes "a=b" ∷ []) ≡ Some (verify (codes "a=b")))
+    × (form_of (codes "verify" ∷ codes "--stream==" ∷ []) ≡ Some (verify (codes "=")))
+    × (form_of (codes "verify" ∷ codes "--stream=a-b" ∷ []) ≡ Some (verify (codes "a-b")))
+    × (form_of (codes "verify" ∷ codes "--stream" ∷ []) ≡ None)
+    × (form_of (codes "verify" ∷ codes "--stream=" ∷ []) ≡ None)
+    × (form_of (codes "verify" ∷ codes "--stream" ∷ codes "" ∷ []) ≡ None)
+    × (form_of (codes "verify" ∷ codes "--stream" ∷ codes "-s" ∷ []) ≡ None)
+    × (form_of (codes "verify" ∷ codes "--stream=-s" ∷ []) ≡ None)
+    × (form_of (codes "verify" ∷ codes "stream" ∷ codes "s" ∷ []) ≡ None)
+    × (form_of (codes "verify" ∷ codes "-stream" ∷ codes "s" ∷ []) ≡ None)
+    × (form_of (codes "verify" ∷ codes "--stream" ∷ codes "s" ∷ codes "s" ∷ []) ≡ None)
+    × (form_of (codes "verify" ∷ codes "--session" ∷ codes "s" ∷ []) ≡ None)
+unfolding form_of command_with value_of verify_of
+verifies = (refl, refl, refl, refl, refl, refl, refl, refl, refl, refl, refl, refl, refl, refl)
+
+-- numbers are of 1 to 10 decimal digits, leading zeros allowed, and in their ranges
+pub works :
+    (form_of (codes "work" ∷ codes "--seed" ∷ codes "0" ∷ codes "--packets" ∷ codes "1" ∷ []) ≡ Some (work 0 1))
+    × (form_of (codes "work" ∷ codes "--packets=200000" ∷ codes "--seed=4294967295" ∷ []) ≡ Some (work 4294967295 200000))
+    × (form_of (codes "work" ∷ codes "--seed" ∷ codes "0000000007" ∷ codes "--packets" ∷ codes "0000000010" ∷ []) ≡ Some (work 7 10))
+    × (form_of (codes "work" ∷ codes "--seed" ∷ codes "00000000007" ∷ codes "--packets" ∷ codes "1" ∷ []) ≡ None)
+    × (form_of (codes "work" ∷ codes "--seed" ∷ codes "4294967296" ∷ codes "--packets" ∷ codes "1" ∷ []) ≡ None)
+    × (form_of (codes "work" ∷ codes "--seed" ∷ codes "0" ∷ codes "--packets" ∷ codes "0" ∷ []) ≡ None)
+    × (form_of (codes "work" ∷ codes "--seed" ∷ codes "0" ∷ codes "--packets" ∷ codes "200001" ∷ []) ≡ None)
+    × (form_of (codes "work" ∷ codes "--seed" ∷ codes "-1" ∷ codes "--packets" ∷ codes "1" ∷ []) ≡ None)
+    × (form_of (codes "work" ∷ codes "--seed" ∷ codes "+1" ∷ codes "--packets" ∷ codes "1" ∷ []) ≡ None)
+    × (form_of (codes "work" ∷ codes "--seed" ∷ codes "0x1" ∷ codes "--packets" ∷ codes "1" ∷ []) ≡ None)
+    × (form_of (codes "work" ∷ codes "--seed=" ∷ codes "--packets" ∷ codes "1" ∷ []) ≡ None)
+unfolding form_of command_with value_of number number_of work_of
+works = (refl, refl, refl, refl, refl, refl, refl, refl, refl, refl, refl)
+
+-- a frame is 1 to 1,000,000,000 long
+pub batches :
+    (form_of (codes "batch" ∷ codes "--frame" ∷ codes "1" ∷ codes "--stream" ∷ codes "s" ∷ []) ≡ Some (batch (codes "s") 1))
+    × (form_of (codes "batch" ∷ codes "--stream" ∷ codes "s" ∷ codes "--frame=1000000000" ∷ []) ≡ Some (batch (codes "s") 1000000000))
+    × (form_of (codes "batch" ∷ codes "--stream" ∷ codes "s" ∷ codes "--frame" ∷ codes "0" ∷ []) ≡ None)
+    × (form_of (codes "batch" ∷ codes "--stream" ∷ codes "s" ∷ codes "--frame" ∷ codes "1000000001" ∷ []) ≡ None)
+unfolding form_of command_with value_of number number_of batch_of
+batches = (refl, refl, refl, refl)
+
+-- the path of a mouse begins with a slash and has no space or tab
+pub hovers :
+    (form_of (codes "hover" ∷ codes "--mouse" ∷ codes "/m" ∷ codes "--events" ∷ codes "e" ∷ codes "--session" ∷ codes "s" ∷ []) ≡ Some (hover (record { session = codes "s"; events = codes "e" }) (codes "/m")))
+    × (form_of (codes "hover" ∷ codes "--session" ∷ codes "s" ∷ codes "--events" ∷ codes "e" ∷ codes "--mouse=/" ∷ []) ≡ Some (hover (record { session = codes "s"; events = codes "e" }) (codes "/")))
+    × (form_of (codes "hover" ∷ codes "--session" ∷ codes "s" ∷ codes "--events" ∷ codes "e" ∷ codes "--mouse" ∷ codes "m" ∷ []) ≡ None)
+    × (form_of (codes "hover" ∷ codes "--session" ∷ codes "s" ∷ codes "--events" ∷ codes "e" ∷ codes "--mouse=/m n" ∷ []) ≡ None)
+unfolding form_of command_with value_of recorded_of hover_of
+hovers = (refl, refl, refl, refl)
+
+-- a channel is 1 to 64, a device 1 to 8
+pub emits :
+    (form_of (codes "emit" ∷ codes "--device=8" ∷ codes "--stream" ∷ codes "s" ∷ codes "--channel" ∷ codes "64" ∷ []) ≡ Some (emit (codes "s") 64 8))
+    × (form_of (codes "emit" ∷ codes "--stream" ∷ codes "s" ∷ codes "--channel" ∷ codes "1" ∷ codes "--device" ∷ codes "1" ∷ []) ≡ Some (emit (codes "s") 1 1))
+    × (form_of (codes "emit" ∷ codes "--stream" ∷ codes "s" ∷ codes "--channel" ∷ codes "0" ∷ codes "--device" ∷ codes "1" ∷ []) ≡ None)
+    × (form_of (codes "emit" ∷ codes "--stream" ∷ codes "s" ∷ codes "--channel" ∷ codes "65" ∷ codes "--device" ∷ codes "1" ∷ []) ≡ None)
+    × (form_of (codes "emit" ∷ codes "--stream" ∷ codes "s" ∷ codes "--channel" ∷ codes "1" ∷ codes "--device" ∷ codes "0" ∷ []) ≡ None)
+    × (form_of (codes "emit" ∷ codes "--stream" ∷ codes "s" ∷ codes "--channel" ∷ codes "1" ∷ codes "--device" ∷ codes "9" ∷ []) ≡ None)
+unfolding form_of command_with value_of number number_of emit_of
+emits = (refl, refl, refl, refl, refl, refl)
+
+-- words of no command
+pub others :
+    (form_of (codes "play" ∷ codes "--session" ∷ codes "a" ∷ codes "--events" ∷ codes "b" ∷ []) ≡ None)
+    × (form_of (codes "--stream" ∷ codes "s" ∷ []) ≡ None)
+    × (form_of (codes "verify=s" ∷ []) ≡ None)
+unfolding form_of command_with value_of
+others = (refl, refl, refl)

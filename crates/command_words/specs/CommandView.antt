@@ -1,0 +1,26 @@
+-- What contracts see of a command and of an option.
+use Rattle.std.specs.Prelude.{}
+use Rattle.command_words.specs.declared.command.Command.{Command as Parsed}
+use Rattle.command_words.specs.declared.command.Command.TheVariants.{Replay, Check, Verify, Work, Batch, Hover, Emit}
+use Rattle.command_words.specs.declared.command.Recorded.{Recorded as Names}
+use Rattle.command_words.specs.declared.options.Given.{Given as Spelled}
+use Rattle.command_words.specs.Command.{Command, Recorded, replay, check, verify, work, batch, hover, emit}
+use Rattle.command_words.specs.Given.{Given}
+
+-- the names of a run's files, as bytes
+abbrev pub recorded_view : Names → Recorded
+recorded_view names = record { session = names.session.now; events = names.events.now }
+
+-- a command with its names of files, as bytes
+abbrev pub command_view : Parsed → Command
+command_view (Replay recorded) = replay (recorded_view recorded)
+command_view (Check recorded order) = check (recorded_view recorded) order.now
+command_view (Verify stream) = verify stream.now
+command_view (Work seed packets) = work seed packets
+command_view (Batch stream frame) = batch stream.now frame
+command_view (Hover recorded mouse) = hover (recorded_view recorded) mouse.now
+command_view (Emit stream channel device) = emit stream.now channel device
+
+-- an option as bytes
+abbrev pub given_view : Spelled → Given
+given_view option = record { name = option.name.now; value = option.value.now }

@@ -1,0 +1,37 @@
+-- What the value of an option has to be.
+use Rattle.std.specs.Prelude.{ℕ, ◌==◌, nat_le, Bool, false, not, ◌&&◌, ◌||◌, if◌then◌else◌, List, [], ◌∷◌, length, Option, Some, None}
+use Rattle.std.specs.Char.{is_ascii_digit}
+use Rattle.std.specs.List.{list_all}
+use Rattle.std.specs.Str.{byte}
+use Rattle.std.specs.Str.Parse.{digits_value}
+
+-- a value is not empty and does not begin with `-`
+abbrev pub is_value : List ℕ → Bool
+is_value [] = false
+is_value (b ∷ bs) = not (b == byte "-")
+
+-- the only value, where there is one and it may be one
+abbrev pub only : List (List ℕ) → Option (List ℕ)
+only (value ∷ []) = if is_value value then Some value else None
+only _ = None
+
+-- a path begins with a slash and has no space or tab
+abbrev pub is_path : List ℕ → Bool
+is_path [] = false
+is_path (b ∷ bs) = b == byte "/" && list_all (λ c. not (c == 32 || c == 9)) bs
+
+-- a value that is a path
+abbrev pub path : List ℕ → Option (List ℕ)
+path value = if is_path value then Some value else None
+
+-- 1 to 10 decimal digits, and nothing else
+abbrev pub is_numeral : List ℕ → Bool
+is_numeral value = (nat_le 1 (length value) && nat_le (length value) 10) && list_all is_ascii_digit value
+
+-- n, where it is in a range
+abbrev pub within : ℕ → ℕ → ℕ → Option ℕ
+within low high n = if nat_le low n && nat_le n high then Some n else None
+
+-- the number from low to high that a value writes in 1 to 10 decimal digits, leading zeros allowed
+unfoldable pub number : ℕ → ℕ → List ℕ → Option ℕ
+number low high value = if is_numeral value then within low high (digits_value 10 value) else None

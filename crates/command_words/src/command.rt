@@ -1,0 +1,194 @@
+//! The commands and their forms.
+ghost use Rattle.std.specs.Prelude.{◌≡◌, ◌≤◌, ◌<◌, ◌^◌, IfSome, length, map, option_map, string_bytes};
+ghost use Rattle.command_words.specs.Command.{InRanges};
+ghost use Rattle.command_words.specs.CommandView.{command_view, recorded_view};
+ghost use Rattle.command_words.specs.Forms.{batch_of, check_of, command_with, emit_of, form_of, hover_of, number_of, recorded_of, replay_of, value_of, verify_of, work_of};
+
+use crate::number::number;
+use crate::options::Options;
+use crate::value::is_path;
+use input_types::DeviceId;
+
+/// The names of the files that a run reads.
+#[derive(Clone, Copy)]
+pub struct Recorded<'a> {
+    pub session: &'a str,
+    pub events: &'a str,
+}
+
+/// A command with what its options say.
+#[derive(Clone, Copy)]
+pub enum Command<'a> {
+    /// Prints what each window is told for a recording.
+    Replay(Recorded<'a>),
+    /// Prints what each window is told in the order that a file gives.
+    Check {
+        recorded: Recorded<'a>,
+        order: &'a str,
+    },
+    /// Judges printed streams.
+    Verify {
+        stream: &'a str,
+    },
+    /// Runs a recording made from a seed, of 1 to 200,000 packets.
+    Work {
+        seed: u32,
+        packets: u32,
+    },
+    /// Prints the batches that an application takes with each frame, which lasts 1 to 1,000,000,000.
+    Batch {
+        stream: &'a str,
+        frame: u64,
+    },
+    /// Prints the hover events of a mouse. Its path begins with a slash and has no space or tab.
+    Hover {
+        recorded: Recorded<'a>,
+        mouse: &'a str,
+    },
+    /// Prints a recording that gives what a device did in the stream of a channel, which is 1 to 64.
+    Emit {
+        stream: &'a str,
+        channel: u32,
+        device: DeviceId,
+    },
+}
+
+/// The number from `low` to `high` that an option says.
+#[tactic(auto, unfolding(crate::specs::Forms::number_of))]
+fn number_of(options: &Options<'_>, name: &str, low: u64, high: u64) -> Option<u64>
+    requires { high < 2 ^ 32 }
+    ensures value { result ≡ number_of (value_of options.now) name.now low high }
+    ensures range { IfSome result (λ n. (low ≤ n) × (n ≤ high)) }
+{
+    let value = options.value(name)?;
+    number(low, high, value)
+}
+
+/// The names of a session and a recording.
+#[tactic(auto, unfolding(crate::specs::Forms::recorded_of))]
+fn recorded_of<'a>(options: &Options<'a>) -> Option<Recorded<'a>>
+    ensures { option_map recorded_view result ≡ recorded_of (value_of options.now) }
+{
+    let session = options.value("--session")?;
+    let events = options.value("--events")?;
+    Some(Recorded { session, events })
+}
+
+/// `replay`, with the files of a run.
+#[tactic(auto, unfolding(crate::specs::Forms::replay_of))]
+fn replay_of<'a>(options: &Options<'a>) -> Option<Command<'a>>
+    ensures value { option_map command_view result ≡ replay_of (value_of options.now) }
+    ensures ranges { IfSome result (λ c. InRanges (command_view c)) }
+{
+    let recorded = recorded_of(options)?;
+    Some(Command::Replay(recorded))
+}
+
+/// `check`, with an order file beside them.
+#[tactic(auto, unfolding(crate::specs::Forms::check_of))]
+fn check_of<'a>(options: &Options<'a>) -> Option<Command<'a>>
+    ensures value { option_map command_view result ≡ check_of (value_of options.now) }
+    ensures ranges { IfSome result (λ c. InRanges (command_view c)) }
+{
+    let recorded = recorded_of(options)?;
+    let order = options.value("--order")?;
+    Some(Command::Check { recorded, order })
+}
+
+/// `verify`, with a stream file.
+#[tactic(auto, unfolding(crate::specs::Forms::verify_of))]
+fn verify_of<'a>(options: &Options<'a>) -> Option<Command<'a>>
+    ensures value { option_map command_view result ≡ verify_of (value_of options.now) }
+    ensures ranges { IfSome result (λ c. InRanges (command_view c)) }
+{
+    let stream = options.value("--stream")?;
+    Some(Command::Verify { stream })
+}
+
+/// `work`, with a seed of 32 bits and 1 to 200,000 packets.
+#[tactic(auto, unfolding(crate::specs::Forms::work_of))]
+fn work_of<'a>(options: &Options<'a>) -> Option<Command<'a>>
+    ensures value { option_map command_view result ≡ work_of (value_of options.now) }
+    ensures ranges { IfSome result (λ c. InRanges (command_view c)) }
+{
+    let seed = number_of(options, "--seed", 0, 4_294_967_295)? as u32;
+    let packets = number_of(options, "--packets", 1, 200_000)? as u32;
+    Some(Command::Work { seed, packets })
+}
+
+/// `batch`, with a stream file and a frame of 1 to 1,000,000,000.
+#[tactic(auto, unfolding(crate::specs::Forms::batch_of))]
+fn batch_of<'a>(options: &Options<'a>) -> Option<Command<'a>>
+    ensures value { option_map command_view result ≡ batch_of (value_of options.now) }
+    ensures ranges { IfSome result (λ c. InRanges (command_view c)) }
+{
+    let stream = options.value("--stream")?;
+    let frame = number_of(options, "--frame", 1, 1_000_000_000)?;
+    Some(Command::Batch { stream, frame })
+}
+
+/// `hover`, with the files of a run and the path of a mouse.
+#[tactic(auto, unfolding(crate::specs::Forms::hover_of))]
+fn hover_of<'a>(options: &Options<'a>) -> Option<Command<'a>>
+    ensures value { option_map command_view result ≡ hover_of (value_of options.now) }
+    ensures ranges { IfSome result (λ c. InRanges (command_view c)) }
+{
+    let recorded = recorded_of(options)?;
+    let mouse = options.value("--mouse")?;
+    if is_path(mouse) {
+        Some(Command::Hover { recorded, mouse })
+    } else {
+        None
+    }
+}
+
+/// `emit`, with a stream file, a channel of 1 to 64 and a device of 1 to 8.
+#[tactic(auto, unfolding(crate::specs::Forms::emit_of))]
+fn emit_of<'a>(options: &Options<'a>) -> Option<Command<'a>>
+    ensures value { option_map command_view result ≡ emit_of (value_of options.now) }
+    ensures ranges { IfSome result (λ c. InRanges (command_view c)) }
+{
+    let stream = options.value("--stream")?;
+    let channel = number_of(options, "--channel", 1, 64)? as u32;
+    let device = DeviceId::new(number_of(options, "--device", 1, 8)? as u8)?;
+    Some(Command::Emit {
+        stream,
+        channel,
+        device,
+    })
+}
+
+/// The command with a name, where the options are as many as it has and say what they are to.
+#[tactic(auto, unfolding(crate::specs::Forms::command_with))]
+fn command_with<'a>(name: &str, options: &Options<'a>) -> Option<Command<'a>>
+    ensures value { option_map command_view result ≡ command_with name.now (length options.now) (value_of options.now) }
+    ensures ranges { IfSome result (λ c. InRanges (command_view c)) }
+{
+    match (name, options.len()) {
+        ("replay", 2) => replay_of(options),
+        ("check", 3) => check_of(options),
+        ("verify", 1) => verify_of(options),
+        ("work", 2) => work_of(options),
+        ("batch", 2) => batch_of(options),
+        ("hover", 3) => hover_of(options),
+        ("emit", 3) => emit_of(options),
+        _ => None,
+    }
+}
+
+/// The command that words give. The first names it, and the others are each of its options once, in any order, as
+/// `--name value` or `--name=value`, and nothing else. A value is not empty and does not begin with `-`, and a number
+/// has 1 to 10 decimal digits. None where the words are of the form of no command.
+#[tactic(auto, unfolding(crate::specs::Forms::form_of))]
+pub fn command_of(words: &[String]) -> Option<Command<'_>>
+    ensures value { option_map command_view result ≡ form_of (map string_bytes words.now) }
+    ensures ranges { IfSome result (λ c. InRanges (command_view c)) }
+{
+    match words {
+        [name, rest @ ..] => {
+            let options = Options::of(rest)?;
+            command_with(name.as_str(), &options)
+        }
+        [] => None,
+    }
+}
