@@ -9,7 +9,7 @@ use Rattle.cursor_core.specs.declared.message.HoverAction.{HoverAction}
 use Rattle.cursor_core.specs.declared.message.HoverAction.TheVariants.{Enter, Move, Exit}
 use Rattle.cursor_core.specs.declared.message.HoverMsg.{HoverMsg}
 use Rattle.cursor_core.specs.Calls.{Screen, cursor}
-use Rattle.cursor_core.specs.Packets.{motion_of, summed}
+use Rattle.cursor_core.specs.Packets.{latest, motion_of, summed}
 use Rattle.cursor_core.specs.Told.{stream, was_removed}
 
 -- a window of a channel that can be touched all over its frame
@@ -115,6 +115,17 @@ button_moves_nothing = refl
 -- what comes between a SYN_DROPPED and the end of its packet moves nothing, and neither does what came before it
 pub drop_moves_nothing : motion_of (event 2 0 (pos 1) ∷ event 0 3 (pos 0) ∷ event 2 0 (pos 1) ∷ []) (event 0 0 (pos 0)) ≡ None
 drop_moves_nothing = refl
+
+-- a packet counts at the moment of its SYN_REPORT, and at that of a packet before it where that is greater, be it one that moves nothing
+abbrev report : ℕ → RawEvent
+report moment = record { device = 1; moment = moment; kind = 0; code = 0; value = pos 0 }
+
+pub late_packet : motion_of (event 2 0 (pos 7) ∷ report 9000 ∷ []) (report 6000) ≡ Some (Moved 9000 (pos 7) (pos 0))
+late_packet = refl
+
+-- the SYN_REPORT that ends what is void ends no packet
+pub void_end : latest (report 9000 ∷ event 0 3 (pos 0) ∷ report 4000 ∷ []) ≡ 4000
+void_end = refl
 
 -- sums stay at their ends
 pub sum_at_its_end : summed 0 (event 2 0 (pos 1)) (pos 9223372036854775807) ≡ pos 9223372036854775807

@@ -5,4 +5,5 @@ pub mod Noted
 pub mod Next
 pub mod Turns
 pub mod Reading
+pub mod Whole
 pub mod Examples

@@ -6,3 +6,4 @@ pub mod Notes
 pub mod Cursor
 pub mod Packets
 pub mod Reading
+pub mod Sums

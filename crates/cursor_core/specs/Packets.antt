@@ -1,5 +1,5 @@
 -- The packets of a mouse's events. Events stand with the newest first.
-use Rattle.std.specs.Prelude.{ℕ, ℤ, pos, ◌+ℤ◌, Bool, false, not, ◌&&◌, ◌||◌, nat_eq, List, [], ◌∷◌, Option, Some, None, if◌then◌else◌}
+use Rattle.std.specs.Prelude.{ℕ, ℤ, pos, ◌+ℤ◌, max, Bool, false, not, ◌&&◌, ◌||◌, nat_eq, List, [], ◌∷◌, Option, Some, None, if◌then◌else◌}
 use Rattle.std.specs.Int.{saturate_signed, w64}
 use Rattle.raw_events.specs.declared.event.RawEvent.{RawEvent}
 use Rattle.cursor_core.specs.declared.call.CursorCall.{CursorCall}
@@ -46,6 +46,15 @@ sum_of code (e ∷ es) = summed code e (sum_of code es)
 abbrev pub motion_by : ℕ → List RawEvent → Option CursorCall
 motion_by moment es = if has_motion es then Some (Moved moment (sum_of 0 es) (sum_of 1 es)) else None
 
--- what an event adds: the motion of the packet that it ends, at its moment
+-- an event that comes behind others ends a packet: it is a SYN_REPORT that is not void
+abbrev pub is_end : List RawEvent → RawEvent → Bool
+is_end past e = not (is_void past) && is_report e
+
+-- the greatest moment of a packet so far, which is that of its SYN_REPORT; 0 at first
+abbrev pub latest : List RawEvent → ℕ
+latest [] = 0
+latest (e ∷ past) = if is_end past e then max e.moment (latest past) else latest past
+
+-- what an event adds: the motion of the packet that it ends, at the packet's moment, or at that of an earlier packet where that is greater
 abbrev pub motion_of : List RawEvent → RawEvent → Option CursorCall
-motion_of past e = if is_void past then None else if is_report e then motion_by e.moment (packet past) else None
+motion_of past e = if is_end past e then motion_by (latest (e ∷ past)) (packet past) else None

@@ -1,4 +1,7 @@
 //! What happens to a cursor.
+ghost use Rattle.std.specs.Prelude.{◌≡◌, max};
+ghost use Rattle.cursor_core.specs.Calls.{moment_of};
+
 use input_types::Moment;
 use window_snapshot::Snapshot;
 
@@ -11,4 +14,24 @@ pub enum CursorCall {
     Windows { now: Moment, snapshot: Snapshot },
     /// A channel is closed for good. Of a channel that is not live it changes nothing but the clock.
     Remove { now: Moment, channel: u32 },
+}
+
+impl CursorCall {
+    /// The moment that it hands in.
+    pub fn moment(&self) -> Moment
+        ensures { result ≡ moment_of self.now }
+    {
+        match self {
+            CursorCall::Moved { now, .. }
+            | CursorCall::Windows { now, .. }
+            | CursorCall::Remove { now, .. } => *now,
+        }
+    }
+}
+
+/// The later one of two moments.
+pub(crate) fn later(a: Moment, b: Moment) -> Moment
+    ensures { result ≡ max a b }
+{
+    if a.get() < b.get() { b } else { a }
 }

@@ -1,5 +1,5 @@
 //! The cursor.
-ghost use Rattle.std.specs.Prelude.{◌≡◌, ◌≤◌, ◌^◌, ◌-◌, ◌+ℤ◌, ℕ, not, ◌&&◌, ◌==◌, max, List, [], ◌∷◌};
+ghost use Rattle.std.specs.Prelude.{◌≡◌, ◌≤◌, ◌^◌, ◌-◌, ◌+ℤ◌, ℕ, not, ◌&&◌, ◌==◌, List, [], ◌∷◌};
 ghost use Rattle.std.specs.Prelude.{IfOk, OnOk, OnErr, option_map};
 ghost use Rattle.std.specs.Int.{int_max, int_min};
 ghost use Rattle.std.specs.Prelude.{pos};
@@ -12,7 +12,7 @@ ghost use Rattle.cursor_core.specs.Calls.{Screen, corner_of, cursor, hovered_by}
 ghost use Rattle.cursor_core.specs.Cursor.{StandsFor, corner_after, corner_in, settled};
 ghost use Rattle.cursor_core.specs.Told.{stream_of, IsInTurns};
 
-use crate::call::CursorCall;
+use crate::call::{CursorCall, later};
 use crate::message::HoverMsg;
 use crate::note::{Step, note_after, note_before, tell_both};
 use crate::stream::{Stream, row_of, streams};
@@ -226,13 +226,6 @@ fn kept_on(last: i32, at: i32, by: i64) -> i32
     } else {
         to as i32
     }
-}
-
-/// The later one of two moments.
-fn later(a: Moment, b: Moment) -> Moment
-    ensures { result ≡ max a b }
-{
-    if a.get() < b.get() { b } else { a }
 }
 
 /// The window that the cursor hovers over, where the mouse has moved.

@@ -21,6 +21,7 @@ mod message;
 mod motion;
 mod note;
 mod stream;
+mod sums;
 #[cfg(test)]
 mod tests;
 
@@ -28,3 +29,4 @@ pub use call::CursorCall;
 pub use cursor::Cursor;
 pub use message::{HoverAction, HoverMsg};
 pub use motion::MotionReader;
+pub use sums::sums_are_whole;

@@ -5,7 +5,7 @@ ghost use Rattle.cursor_core.specs.declared.call.CursorCall.TheVariants.{Moved};
 ghost use Rattle.cursor_core.specs.Packets.{is_drop, is_rel, is_report, motion_of, summed};
 ghost use Rattle.cursor_core.specs.Reading.{ReaderStandsFor, begun, grown};
 
-use crate::call::CursorCall;
+use crate::call::{CursorCall, later};
 use input_types::Moment;
 use raw_events::RawEvent;
 use raw_events::codes::{EV_SYN, SYN_DROPPED, SYN_REPORT};
@@ -28,6 +28,8 @@ pub struct MotionReader {
     moved: bool,
     dx: i64,
     dy: i64,
+    /// The greatest moment of a packet.
+    latest: Moment,
 }
 
 impl MotionReader {
@@ -35,13 +37,14 @@ impl MotionReader {
     pub fn new() -> MotionReader
         ensures { ReaderStandsFor [] result }
     {
-        MotionReader::begun(false)
+        MotionReader::begun(false, Moment::zero())
     }
 
-    /// Takes the mouse's next event, and answers the motion of the packet that it ends, at its own moment.
+    /// Takes the mouse's next event, and answers the motion of the packet that it ends: at the moment of its
+    /// SYN_REPORT, or at that of an earlier packet where that is greater.
     ///
-    /// A packet ends at a SYN_REPORT. One without a REL_X or REL_Y event moves nothing. After a SYN_DROPPED, by which the
-    /// kernel says that events were lost, the packet that has begun is forgotten, and what comes up to the next
+    /// A packet ends at a SYN_REPORT. One without a REL_X or REL_Y event moves nothing. After a SYN_DROPPED, by which
+    /// the kernel says that events were lost, the packet that has begun is forgotten, and what comes up to the next
     /// SYN_REPORT is passed over. A sum that would go past an end of 64 bits stays at that end.
     pub fn take(&mut self, event: &RawEvent) -> Option<CursorCall>
         ensures value { (past : List Event) → ReaderStandsFor past self.old → result ≡ motion_of past event.now }
@@ -49,16 +52,17 @@ impl MotionReader {
             → ReaderStandsFor (event.now ∷ past) self.new }
     {
         if self.void {
-            *self = MotionReader::begun(!is_report(event));
+            *self = MotionReader::begun(!is_report(event), self.latest);
             return None;
         }
         if is_report(event) {
-            let motion = self.motion(event.moment);
-            *self = MotionReader::begun(false);
+            let latest = later(event.moment, self.latest);
+            let motion = self.motion(latest);
+            *self = MotionReader::begun(false, latest);
             return motion;
         }
         if is_drop(event) {
-            *self = MotionReader::begun(true);
+            *self = MotionReader::begun(true, self.latest);
             return None;
         }
         self.add(event);
@@ -66,14 +70,15 @@ impl MotionReader {
     }
 
     /// A reader before the first event of a packet, or before events that are passed over.
-    fn begun(void: bool) -> MotionReader
-        ensures { result ≡ begun void }
+    fn begun(void: bool, latest: Moment) -> MotionReader
+        ensures { result ≡ begun void latest }
     {
         MotionReader {
             void,
             moved: false,
             dx: 0,
             dy: 0,
+            latest,
         }
     }
 

@@ -1,0 +1,103 @@
+//! The steps of a session, for a cursor.
+ghost use Rattle.std.specs.Prelude.{◌≡◌, ◌≤◌, ◌<◌, ◌+◌, ◌-◌, ◌^◌, ℕ, List, ◌++◌, drop, length, option_map, slice_get, IsSome, None, OnOk};
+ghost use Rattle.std.specs.List.Sorted.{IsNonDecreasingBy};
+ghost use Rattle.cursor_core.specs.declared.call.CursorCall.{CursorCall as Call};
+ghost use Rattle.cursor_core.specs.Calls.{Screen, moment_of};
+ghost use Rattle.cursor_core.specs.Cursor.{StandsFor};
+ghost use Rattle.hover_text.specs.Running.{HasMade, due_of};
+ghost use Rattle.hover_text.specs.Schedule.{act_calls, placed};
+
+use crate::hover::Hover;
+use cursor_core::{Cursor, CursorCall};
+use input_types::Moment;
+use session_plan::{Act, Step};
+use std::alloc::AllocError;
+
+/// Does what an act at a moment says, where it is of windows or removes a channel.
+fn act_on(cursor: &mut Cursor, now: Moment, act: &Act) -> Result<(), AllocError>
+    ensures { (d : Screen) (calls : List Call) → StandsFor d calls cursor.old
+        → OnOk result (StandsFor d (act_calls now act.now ++ calls) cursor.new) }
+{
+    match act {
+        Act::Windows(snapshot) => {
+            let snapshot = snapshot.copy()?;
+            cursor.apply(CursorCall::Windows { now, snapshot })
+        }
+        Act::Remove { channel } => cursor.apply(CursorCall::Remove {
+            now,
+            channel: *channel,
+        }),
+        Act::FocusOn { .. } | Act::Pilfer { .. } => Ok(()),
+    }
+}
+
+impl Hover {
+    /// Makes the next step.
+    fn make(&mut self, step: &Step) -> Result<(), AllocError>
+        requires { self.old.next < 2 ^ 64 - 1 }
+        ensures cursor { (d : Screen) (calls : List Call) → StandsFor d calls self.old.cursor
+            → OnOk result (StandsFor d (act_calls step.now.at step.now.act ++ calls) self.new.cursor) }
+        ensures next { OnOk result (self.new.next ≡ self.old.next + 1) }
+        ensures reader { self.new.reader ≡ self.old.reader }
+    {
+        act_on(&mut self.cursor, step.at, &step.act)?;
+        self.next += 1;
+        Ok(())
+    }
+
+    /// The next step, where one is left.
+    fn next_of<'a>(&self, steps: &'a [Step]) -> Option<&'a Step>
+        ensures value { option_map (λ s. s.now) result ≡ slice_get steps.now self.now.next }
+        ensures within { IsSome result → self.now.next < length steps.now }
+    {
+        steps.get(self.next)
+    }
+
+    /// The next step, where it is not behind a moment.
+    fn due<'a>(&self, steps: &'a [Step], moment: Moment) -> Option<&'a Step>
+        ensures value { option_map (λ s. s.now) result ≡ due_of moment (slice_get steps.now self.now.next) }
+        ensures within { IsSome result → self.now.next < length steps.now }
+    {
+        let step = self.next_of(steps)?;
+        if step.at.get() <= moment.get() {
+            Some(step)
+        } else {
+            None
+        }
+    }
+
+    /// Makes the steps up to a moment.
+    fn steps_up_to(&mut self, steps: &[Step], moment: Moment) -> Result<(), AllocError>
+        ensures made { (d : Screen) (all : List Call) (t : ℕ) → HasMade d steps.now all t self.old → t ≤ moment
+            → OnOk result (HasMade d steps.now all moment self.new) }
+        ensures left { OnOk result (due_of moment (slice_get steps.now self.new.next) ≡ None) }
+        ensures reader { self.new.reader ≡ self.old.reader }
+    {
+        'steps: while let Some(step) = self.due(steps, moment) {
+            self.make(step)?;
+        }
+        Ok(())
+    }
+
+    /// Takes a motion, and before it makes the steps up to its moment.
+    pub(crate) fn run_to(&mut self, steps: &[Step], motion: CursorCall) -> Result<(), AllocError>
+        ensures made { (d : Screen) (all : List Call) (t : ℕ) → HasMade d steps.now all t self.old
+            → t ≤ moment_of motion → IsNonDecreasingBy (λ s. s.at) steps.now
+            → OnOk result (HasMade d steps.now (placed motion all) (moment_of motion) self.new) }
+        ensures reader { self.new.reader ≡ self.old.reader }
+    {
+        self.steps_up_to(steps, motion.moment())?;
+        self.cursor.apply(motion)
+    }
+
+    /// Makes the steps that are left.
+    pub(crate) fn rest(&mut self, steps: &[Step]) -> Result<(), AllocError>
+        ensures { (d : Screen) (all : List Call) (t : ℕ) → HasMade d steps.now all t self.old
+            → OnOk result (StandsFor d all self.new.cursor) }
+    {
+        'steps: while let Some(step) = self.next_of(steps) {
+            self.make(step)?;
+        }
+        Ok(())
+    }
+}
