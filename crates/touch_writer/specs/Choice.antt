@@ -27,6 +27,7 @@ IsNotAfter [] ys = Unit {0}
 IsNotAfter (x ∷ xs) [] = ⊥
 IsNotAfter (x ∷ xs) (y ∷ ys) = (x < y) ⊎ ((x ≡ y) × IsNotAfter xs ys)
 
+-- a slot that keeps its contact has it at the wanted position, and one whose contact is not wanted holds none
 abbrev pub stays : Place → Option Want → Place
 stays p None = record { x = p.x; y = p.y; holds = None }
 stays p (Some w) = record { x = w.x; y = w.y; holds = p.holds }

@@ -38,6 +38,7 @@ abbrev pub packet : ℕ → ℕ → ℕ → List Place → List Place → List R
 packet device moment current old new =
     map (λ c. abs device moment c) (changes (place_at current old) (place_at current new) ++ others current 0 old new) ++ report device moment ∷ []
 
+-- there is no change
 abbrev pub is_empty : List (ℕ × ℤ) → Bool
 is_empty [] = true
 is_empty (c ∷ cs) = false

@@ -23,6 +23,7 @@ vacant = record { x = pos 0; y = pos 0; holds = None }
 abbrev pub place_at : ℕ → List Place → Place
 place_at s places = get_or places s vacant
 
+-- the tracking id of a contact, and -1 of none
 abbrev pub tracking_of : Option Touch → ℤ
 tracking_of None = negsuc 0
 tracking_of (Some t) = t.tracking
@@ -31,6 +32,7 @@ tracking_of (Some t) = t.tracking
 abbrev pub tracking : Place → ℤ
 tracking p = tracking_of p.holds
 
+-- there is a contact, and it has this pointer id
 abbrev pub has_id : ℕ → Option Touch → Bool
 has_id i None = false
 has_id i (Some t) = nat_eq t.id i
@@ -45,6 +47,7 @@ abbrev pub news : List Place → List Want → List Want
 news places [] = []
 news places (w ∷ ws) = if is_held w.id places then news places ws else w ∷ news places ws
 
+-- where a contact is wanted, if there is one and it is
 abbrev pub wanted_again : Option Touch → List Want → Option Want
 wanted_again None want = None
 wanted_again (Some t) want = wanted t.id want

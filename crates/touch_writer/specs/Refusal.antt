@@ -21,6 +21,7 @@ abbrev pub unassignable : List Place → ℕ → List Want → Option ℕ
 unassignable places count [] = None
 unassignable places count (w ∷ ws) = if is_assignable places count w.id then unassignable places count ws else Some w.id
 
+-- an id that cannot be assigned comes before tracking ids that are spent
 abbrev pub id_or_spent : Option ℕ → Bool → Option WriteError
 id_or_spent (Some id) spent = Some (NotAssignable id)
 id_or_spent None spent = if spent then Some Spent else None

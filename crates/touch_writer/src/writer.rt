@@ -32,7 +32,12 @@ impl Model for Writer {
 
     ghost Value = { State };
 
-    ghost view = { λ w. record { device = w.device; current = w.current; places = take w.slots w.rows; used = w.used } };
+    ghost view = { λ w. record {
+      device = w.device;
+      current = w.current;
+      places = take w.slots w.rows;
+      used = w.used;
+    } };
 
     ghost invariant = { λ w. IsWriter w.rows w.slots w.current w.used };
 }

@@ -1,7 +1,7 @@
 //! Packets of a writer as lines of a recording, and behind each packet the pointers that cooking assigns from it.
 //!
-//! Two fingers come one after the other and go, and a tap comes twice to the same place. More contacts than slots and an
-//! id that cooking would not give are refused.
+//! Two fingers come one after the other and go, and a tap comes twice to the same place. More contacts than slots and
+//! an id that cooking would not give are refused.
 #![tactic(auto)]
 
 ghost use Rattle.std.specs.Prelude.{◌≡◌, ◌<◌, ◌≤◌};

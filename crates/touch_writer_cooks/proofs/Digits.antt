@@ -6,7 +6,8 @@ use Rattle.std.specs.Str.Parse.{AllDigits, digits_value_after, digits_value}
 use Rattle.std.proofs.Common.{sym, ◌∙◌, ap, refl, arith, inl, inr, ne_eqb}
 use Rattle.std.proofs.lemmas.Bool.{cases_lt, lt-ltb, le-ltb}
 use Rattle.std.proofs.lemmas.List.{length-append}
-use Rattle.raw_events.specs.Text.{is_blank, skip_blanks, number_at}
+use Rattle.raw_events.specs.Text.{number_at}
+use Rattle.text_lines.specs.Blanks.{is_blank, skip_blanks}
 use Rattle.raw_events.specs.Line.{seconds_at}
 use Rattle.touch_writer.specs.EventText.{digit, digits}
 

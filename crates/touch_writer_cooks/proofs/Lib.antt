@@ -9,3 +9,4 @@ pub mod Cooks
 pub mod Digits
 pub mod Lines
 pub mod ReadBack
+pub mod Examples

@@ -7,7 +7,8 @@ use Rattle.std.specs.Int.{cast_signed, w32}
 use Rattle.std.proofs.Common.{sym, ◌∙◌, ap, refl, arith}
 use Rattle.std.proofs.lemmas.List.{append-nil, length-append, length-replicate}
 use Rattle.std.proofs.lemmas.Bool.{and_parts}
-use Rattle.raw_events.specs.Text.{◌>>=◌, is_blank, skip_blanks, after_blanks, ends_in, number_at}
+use Rattle.raw_events.specs.Text.{◌>>=◌, after_blanks, number_at}
+use Rattle.text_lines.specs.Blanks.{is_blank, skip_blanks, ends_in}
 use Rattle.raw_events.specs.Line.{Known, moment_at, path_at, fields_of, device_at, sender}
 use Rattle.raw_events.specs.Recording.{lines_of, with_front}
 use Rattle.touch_writer_cooks.specs.Reading.{is_inside}

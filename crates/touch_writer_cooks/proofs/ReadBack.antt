@@ -9,7 +9,7 @@ use Rattle.std.proofs.lemmas.Bool.{le-ltb}
 use Rattle.std.proofs.lemmas.List.{length-append}
 use Rattle.std.proofs.lemmas.Fmt.{decimal_is_IsNumeral, length-decimal-le}
 use Rattle.raw_events.specs.declared.event.RawEvent.{RawEvent}
-use Rattle.raw_events.specs.Text.{is_blank, skip_blanks, ends_in}
+use Rattle.text_lines.specs.Blanks.{is_blank, skip_blanks, ends_in}
 use Rattle.raw_events.specs.Line.{Known, moment_at, path_at, fields_of, sent, formed, judged_text, judged}
 use Rattle.raw_events.specs.Recording.{lines_of, events_from, next_number, with_line, recorded}
 use Rattle.touch_writer.specs.EventText.{digit, digits, in_eight, stamp, fields, event_line}

@@ -5,7 +5,7 @@ use Rattle.std.specs.Str.{byte}
 use Rattle.std.specs.Int.{w32}
 use Rattle.std.specs.Int.RustNames.{FitsSigned}
 use Rattle.raw_events.specs.declared.event.RawEvent.{RawEvent}
-use Rattle.raw_events.specs.Text.{is_blank}
+use Rattle.text_lines.specs.Blanks.{is_blank}
 use Rattle.raw_events.specs.Line.{Known, device_at}
 use Rattle.raw_events.specs.Recording.{recorded}
 use Rattle.touch_writer.specs.EventText.{event_line}
@@ -33,6 +33,7 @@ pub record IsEventOf (devices : Known) (path : List ℕ) (e : RawEvent) : Type 0
   pub code : e.code < 65536
   pub value : FitsSigned w32 e.value
 
+-- each of these events is one of this path, with numbers in their ranges
 abbrev pub AreEventsOf : Known → List ℕ → List RawEvent → Type 0
 AreEventsOf devices path [] = Unit {0}
 AreEventsOf devices path (e ∷ es) = IsEventOf devices path e × AreEventsOf devices path es

@@ -1,0 +1,11 @@
+pub mod Placed
+pub mod Ties
+pub mod Rising
+pub mod Steps
+pub mod Keeping
+pub mod Lines
+pub mod Once
+pub mod Spelled
+pub mod InRange
+pub mod Recording
+pub mod Examples

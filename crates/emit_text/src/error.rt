@@ -1,0 +1,67 @@
+//! Why a stream is not written as a recording.
+ghost use Rattle.std.specs.Prelude.{◌≡◌};
+ghost use Rattle.emit_text.specs.declared.error.EmitError.TheVariants.{Memory};
+ghost use Rattle.emit_text.specs.Refusals.{file_refusal, packet_refusal};
+
+use std::alloc::AllocError;
+use stream_judge::FileError;
+use touch_writer::WriteError;
+
+/// Why a stream is not written as a recording. Lines are numbered from 1.
+#[derive(Clone, Copy, Debug, PartialEq, Eq)]
+pub enum EmitError {
+    /// The line is not of the grammar of stream files, or is missing: the first such one.
+    BadLine { line: u64 },
+
+    /// The message of the line may not come after those before it in its section: the first such one.
+    NotWellFormed { line: u64 },
+
+    /// No section is of the channel.
+    NoChannel,
+
+    /// The motion of the line has a moment that no event of a recording has.
+    TooLate { line: u64 },
+
+    /// The motion of the line has a pointer with an id that cooking would not give it.
+    NotAssignable { line: u64 },
+
+    /// No slots or no tracking ids are left at the line. It does not come where a file has at most 64 MiB.
+    Spent { line: u64 },
+
+    /// The recording has more than 33,554,432 bytes.
+    TooLong,
+
+    /// Want of memory.
+    Memory,
+}
+
+impl From<AllocError> for EmitError {
+    ghost from_gives = { λ _ e. e ≡ Memory };
+
+    fn from(_error: AllocError) -> EmitError {
+        EmitError::Memory
+    }
+}
+
+impl From<FileError> for EmitError {
+    ghost from_gives = { λ error e. e ≡ file_refusal error };
+
+    fn from(error: FileError) -> EmitError {
+        match error {
+            FileError::BadLine { line } => EmitError::BadLine { line },
+            FileError::NotWellFormed { line } => EmitError::NotWellFormed { line },
+            FileError::Memory => EmitError::Memory,
+        }
+    }
+}
+
+/// Why a motion's packet is refused, which stands in this line.
+pub(crate) fn packet_refusal(line: u64, error: WriteError) -> EmitError
+    ensures { result ≡ packet_refusal line error }
+{
+    match error {
+        WriteError::NotAssignable { .. } => EmitError::NotAssignable { line },
+        WriteError::TooMany | WriteError::Spent => EmitError::Spent { line },
+        WriteError::Memory => EmitError::Memory,
+    }
+}
