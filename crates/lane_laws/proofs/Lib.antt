@@ -1,0 +1,17 @@
+pub mod Listing
+pub mod Following
+pub mod Orders
+pub mod Spelled
+pub mod Tallies
+pub mod Numbers
+pub mod Restful
+pub mod Pairs
+pub mod Staying
+pub mod Settles
+pub mod Owning
+pub mod Gathering
+pub mod Deeds
+pub mod Firsts
+pub mod Along
+pub mod Races
+pub mod Examples

@@ -1,0 +1,70 @@
+-- Calls at moment 0 that bring no repeat of a key.
+use Rattle.std.proofs.Common.{◌≡◌, ℕ, ◌&&◌, Bool, true, false, cond, List, [], ◌∷◌, ◌++◌, map, filter, Option, Some, None, refl, sym, ap, ap₂, subst, ◌∙◌, inl, inr, ◌⊎◌}
+use Rattle.std.proofs.lemmas.Bool.{eq-eqb}
+use Rattle.input_types.specs.declared.key.KeyArgs.{KeyArgs}
+use Rattle.input_types.specs.declared.key.KeyMsg.{KeyMsg}
+use Rattle.focus_resolver.specs.Resolver.{is_at}
+use Rattle.key_repeat.specs.Due.{Sent, due_of}
+use Rattle.dispatch_calls.specs.declared.call.Call.{Call}
+use Rattle.dispatch_calls.specs.declared.reply.Reply.{Reply}
+use Rattle.dispatch_history.specs.History.{clock, live}
+use Rattle.dispatch_history.specs.Queue.{inbound, args_of}
+use Rattle.dispatch_history.specs.Effect.{Effect, past_of}
+use Rattle.dispatch_history.specs.Effects.{step}
+use Rattle.dispatch_history.specs.Delivery.{able}
+use Rattle.dispatch_history.specs.Focus.{is_target, key_target}
+use Rattle.dispatch_history.specs.Keys.{ends, loses_all, keys}
+use Rattle.dispatch_history.specs.KeyTold.{key_cancelled, keys_told, last_key, repeat_by, repeat_due, while_held}
+use Rattle.dispatch_tables.specs.Lawful.{Lawful}
+use Rattle.key_tables.specs.Held.{key_messages}
+use Rattle.key_tables.specs.Repeats.{repeat_after, repeat_next}
+use Rattle.key_tables.proofs.Repeating.{repeat_step, repeat_left}
+
+-- what is kept once keys were cancelled: nothing, or what was kept where there were none
+cancelled : (now t : ℕ) (ks : List KeyArgs) (last : Option Sent) → (repeat_after now t (map key_cancelled ks) last ≡ None) ⊎ (repeat_after now t (map key_cancelled ks) last ≡ last)
+cancelled now t [] last = inr refl
+cancelled now t (k ∷ ks) last =
+    elim (cancelled now t ks None) [ inl e ↦ inl e | inr e ↦ inl e ]
+
+-- a step that dispatches no args and repeats no key tells of keys only that they are cancelled
+told_cancels : (call : Call) (answer : Reply) (es : List Effect) (w : ℕ) → args_of call answer (inbound (past_of es)) ≡ None
+    → repeat_by ((call, answer) ∷ past_of es) (last_key es) w ≡ [] → (ks : List KeyArgs) × (key_messages call answer es w ≡ map key_cancelled ks)
+told_cancels call answer es w no_args no_repeat =
+    let hears = is_target (past_of es) w && able es w in
+    let loses = loses_all ((call, answer) ∷ past_of es) (past_of es) w in (
+      cond loses (keys es w) (filter (ends None) (keys es w)),
+      ap₂ (λ o ms. keys_told o hears loses (keys es w) ++ ms) no_args no_repeat ∙ nothing (keys_told None hears loses (keys es w)),
+    )
+  where
+    nothing : (ms : List KeyMsg) → ms ++ [] ≡ ms
+    nothing [] = refl
+    nothing (m ∷ ms) = ap (λ xs. m ∷ xs) (nothing ms)
+
+-- after it the same repeat is due, or none
+pub due_after : (ds : List ℕ) (call : Call) (answer : Reply) (es : List Effect) → Lawful ds (step ds call answer es) → args_of call answer (inbound (past_of es)) ≡ None
+    → ((w : ℕ) → repeat_by ((call, answer) ∷ past_of es) (last_key es) w ≡ [])
+    → (repeat_due (step ds call answer es) ≡ None) ⊎ (repeat_due (step ds call answer es) ≡ repeat_due es)
+due_after ds call answer es l no_args no_repeat = by_target (key_target (past_of es)) refl
+  where
+    last : Option Sent
+    last = while_held es (last_key es)
+
+    next : List Effect
+    next = step ds call answer es
+
+    kept : (o : Option Sent) → o ≡ while_held next (last_key next) → (o ≡ None) ⊎ (o ≡ last) → (repeat_due next ≡ None) ⊎ (repeat_due next ≡ repeat_due es)
+    kept o is (inl e) = inl (ap due_of (sym is ∙ e))
+    kept o is (inr e) = inr (ap due_of (sym is ∙ e))
+
+    by_target : (o : Option ℕ) → key_target (past_of es) ≡ o → (repeat_due next ≡ None) ⊎ (repeat_due next ≡ repeat_due es)
+    by_target None e = kept last (repeat_left ds call answer es last l e refl) (inr refl)
+    by_target (Some t) e =
+        let at : is_target (past_of es) t ≡ true = ap (λ o. is_at o t) e ∙ eq-eqb t t refl in
+        let now = clock (past_of next) in
+        let told = told_cancels call answer es t no_args (no_repeat t) in
+        kept (repeat_next (live (past_of next) t) now t (key_messages call answer es t) last) (repeat_step ds call answer es t last l at refl) (by_live now told.0 told.1 (live (past_of next) t))
+      where
+        by_live : (now : ℕ) (ks : List KeyArgs) → key_messages call answer es t ≡ map key_cancelled ks → (b : Bool)
+            → (repeat_next b now t (key_messages call answer es t) last ≡ None) ⊎ (repeat_next b now t (key_messages call answer es t) last ≡ last)
+        by_live now ks is false = inl refl
+        by_live now ks is true = subst (λ ms. (repeat_after now t ms last ≡ None) ⊎ (repeat_after now t ms last ≡ last)) (sym is) (cancelled now t ks last)

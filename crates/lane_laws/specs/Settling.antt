@@ -1,0 +1,40 @@
+-- How the caller settles a core that no lane calls any more.
+use Rattle.std.specs.Prelude.{ℕ, ◌+◌, ◌==◌, ◌&&◌, Bool, [], ◌∷◌, if◌then◌else◌}
+use Rattle.dispatch_calls.specs.declared.call.Call.{Call}
+use Rattle.dispatch_calls.specs.declared.call.Call.TheVariants.{Pump, Tick, Receive, Finish}
+use Rattle.dispatch_calls.specs.declared.reply.Reply.{Reply}
+use Rattle.dispatch_calls.specs.declared.reply.Reply.TheVariants.{Idle, Got}
+use Rattle.dispatch_history.specs.History.{History}
+
+-- where the caller stands: it pumps, or ticks next, or takes from this channel next, or finishes a message of it first, or it made another
+-- call than was due
+pub data Settling : Type 0 where
+  pumps_out : Settling
+  looks : Settling
+  takes_from : (channel : ℕ) → Settling
+  owes_to : (channel seq : ℕ) → Settling
+  strays : Settling
+
+module _ (finishing : ℕ → Bool) where
+  -- after an idle answer to a pump it ticks, after any other it pumps again
+  abbrev pub after_pump : Reply → Settling
+  after_pump Idle = looks
+  after_pump reply = pumps_out
+
+  -- after a message of a channel that finishes it finishes that, and takes from the channel until it gets none
+  abbrev pub after_take : ℕ → Reply → Settling
+  after_take c (Got m) = if finishing c then owes_to c m.seq else takes_from c
+  after_take c reply = takes_from (c + 1)
+
+  -- one call, at moment 0
+  abbrev pub settling_then : Settling → Call → Reply → Settling
+  settling_then pumps_out (Pump now) reply = if now == 0 then after_pump reply else strays
+  settling_then looks (Tick now) reply = if now == 0 then takes_from 1 else strays
+  settling_then (takes_from c) (Receive d) reply = if d == c then after_take c reply else strays
+  settling_then (owes_to c seq) (Finish now d s) reply = if now == 0 && d == c && s == seq then takes_from c else strays
+  settling_then stage call reply = strays
+
+  -- where the caller stands after these calls, newest first
+  abbrev pub settling : History → Settling
+  settling [] = pumps_out
+  settling (e ∷ h) = settling_then (settling h) e.0 e.1

@@ -1,0 +1,15 @@
+//! What is proved of races. Each function has laws as its clauses, and does nothing.
+ghost use Rattle.lane_laws.specs.Laws.{CountsLaw, OrderLaw, RaceLaw};
+
+/// What the lanes of a race leave behind, once it is settled, is a race: the opens, args and steps that were to be
+/// made, each in its own order, and nothing is left to do.
+pub fn racing()
+    ensures { RaceLaw }
+{}
+
+/// Who follows the printed order of a race makes its very calls. The order asks for each args and each step of a lane
+/// once.
+pub fn ordering()
+    ensures calls { OrderLaw }
+    ensures counts { CountsLaw }
+{}
