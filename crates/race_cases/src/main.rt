@@ -1,0 +1,115 @@
+//! Races whose lanes a gate holds at a turn. What is printed does not depend on how the threads are scheduled.
+//!
+//! That two lanes meet shows that they run beside each other; that one lane is ahead where the other is held shows that
+//! the history is in the order in which the threads made their calls.
+#![tactic(auto)]
+
+mod gates;
+mod made;
+
+use dispatch_calls::Call;
+use dispatch_core::Core;
+use gates::{Flag, Meeting, Place, Until};
+use input_service::Service;
+use input_types::Displays;
+use made::{channel, cooked, scripts};
+use replay_actors::{Gate, Lanes, NoGate, RaceEnd, open_channels, run_lanes};
+use std::alloc::Global;
+use std::io;
+use std::sync::Wait;
+use std::thread::Threads;
+
+/// A race with a gate.
+fn race<R: Threads + Wait + Sync, G: Gate + Sync>(
+    rt: &R,
+    alloc: Global,
+    gate: &G,
+) -> io::Result<RaceEnd> {
+    let core = Core::new(alloc, &Displays::new())?;
+    let (service, mut seat) = Service::new(alloc, core)?;
+    let channels = [channel()?, channel()?];
+    open_channels(rt, &service, &mut seat, &channels)?;
+    let lanes = Lanes {
+        cooked: cooked(alloc)?,
+        scripts: scripts(alloc)?,
+        channels: 2,
+        finishing: 3,
+    };
+    Ok(run_lanes(rt, alloc, service, seat, lanes, gate)?)
+}
+
+/// How many args were handed in before the first windows.
+fn args_before_windows(core: &Core) -> u64 {
+    let mut count = 0u64;
+    for entry in core.history() {
+        match entry.call {
+            Call::Windows { .. } => return count,
+            Call::Notify { .. } => count = count.saturating_add(1),
+            _ => {}
+        }
+    }
+    count
+}
+
+/// Prints how far the channels have come.
+fn print_counts<R: Print>(rt: &R, core: &Core) -> io::Result<()> {
+    for channel in 1..3 {
+        if let Some(counts) = core.counts(channel) {
+            println!(rt;
+                "channel {channel}: sent {} received {} finished {}",
+                counts.sent, counts.received, counts.finished
+            )?;
+        }
+    }
+    Ok(())
+}
+
+/// The reader and the script wait for each other at their first calls.
+fn meeting<R: Threads + Wait + Print + Sync>(rt: &R, alloc: Global) -> io::Result<()> {
+    let gate = Meeting {
+        places: (Place { lane: 0, turn: 0 }, Place { lane: 2, turn: 0 }),
+        flags: (Flag::new(), Flag::new()),
+    };
+    race(rt, alloc, &gate)?;
+    println!(rt; "the reader and the script meet: {}", gate.held())
+}
+
+/// The script is held until the reader has handed in two args.
+fn reader_first<R: Threads + Wait + Print + Sync>(rt: &R, alloc: Global) -> io::Result<()> {
+    let gate = Until {
+        held: Place { lane: 2, turn: 0 },
+        awaited: Place { lane: 0, turn: 2 },
+        flag: Flag::new(),
+    };
+    let end = race(rt, alloc, &gate)?;
+    println!(rt;
+        "the script is held: {}, at least two args before the windows: {}",
+        gate.held(),
+        2 <= args_before_windows(&end.core)
+    )
+}
+
+/// The reader is held until the script has shown the windows.
+fn script_first<R: Threads + Wait + Print + Sync>(rt: &R, alloc: Global) -> io::Result<()> {
+    let gate = Until {
+        held: Place { lane: 0, turn: 0 },
+        awaited: Place { lane: 2, turn: 1 },
+        flag: Flag::new(),
+    };
+    let end = race(rt, alloc, &gate)?;
+    println!(rt;
+        "the reader is held: {}, args before the windows: {}",
+        gate.held(),
+        args_before_windows(&end.core)
+    )?;
+    print_counts(rt, &end.core)
+}
+
+fn main(rt: HostRuntime) -> io::Result<()> {
+    let alloc = rt.alloc();
+    meeting(&rt, alloc)?;
+    reader_first(&rt, alloc)?;
+    script_first(&rt, alloc)?;
+    let end = race(&rt, alloc, &NoGate)?;
+    println!(&rt; "one seat for the script: {:?}", end.script_seats)
+}

@@ -1,0 +1,5 @@
+pub mod Calls
+pub mod Ended
+pub mod Own
+pub mod Settled
+pub mod Opened

@@ -1,0 +1,5 @@
+pub mod Lane
+pub mod Parts
+pub mod Jobs
+pub mod Plans
+pub mod Opening

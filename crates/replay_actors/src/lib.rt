@@ -1,0 +1,33 @@
+//! A race: a reader, a dispatcher, scripts and applications as threads that share one core.
+//!
+//! The caller has opened two channels, the second of which is a window's, and has a seat of number 0. Lanes are beside
+//! each other, each with a seat of its own, so that no two runs need to go alike. One may begin so:
+//!
+//! ```text
+//! seat 3, a script        Windows { now: 0, snapshot: [2 at [0, 0, 1080, 2400]] }            Done
+//! seat 1, the reader      Notify { now: 1000, args: Motion(1 Down 0@540,1200) }              Taken
+//! seat 4, applications    Receive { channel: 1 }                                             Empty
+//! seat 2, the dispatcher  Pump { now: 0 }                                                    Dispatched
+//! seat 5, applications    Receive { channel: 2 }                                             Got(1 1000 Motion(..))
+//! seat 2, the dispatcher  Tick { now: 0 }                                                    Named(0)
+//! seat 5, applications    Finish { now: 0, channel: 2, seq: 1 }                              Done
+//! ```
+//!
+//! Once all lanes have ended the caller does what is left to do. Whatever the order was, [`run_lanes`] says what holds
+//! of the whole history: each lane's calls are there in the lane's order, no others are, and nothing is left to do.
+#![tactic(auto)]
+
+mod answered;
+mod gate;
+mod job;
+mod lane;
+mod opening;
+mod part;
+mod planned;
+mod race;
+mod run;
+
+pub use gate::{Gate, NoGate};
+pub use opening::open_channels;
+pub use part::{Lanes, RaceEnd};
+pub use run::run_lanes;

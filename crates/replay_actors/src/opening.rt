@@ -1,0 +1,61 @@
+//! The channels of a race, which its caller opens before it begins.
+ghost use Rattle.std.specs.Prelude.{◌≡◌, ◌+◌, ◌<◌, ◌≤◌, [], ◌∷◌, OnOk, length, map, reverse};
+ghost use Rattle.turnstile.specs.Seats.{view};
+ghost use Rattle.dispatch_history.specs.Given.{opens};
+ghost use Rattle.schedule.specs.Planned.{channel_of};
+ghost use Rattle.input_service.specs.Services.{IsOf};
+ghost use Rattle.lane_laws.specs.Lanes.{calls_made};
+ghost use Rattle.lane_laws.specs.Raced.{OnlyOpens};
+ghost use Rattle.replay_actors.specs.Opening.{IsCaller, Opens};
+
+use dispatch_calls::Call;
+use input_service::{Seat, Service};
+use input_types::Limit;
+use schedule::Channel;
+use std::alloc::AllocError;
+use std::sync::Wait;
+
+/// Opens one channel more.
+fn open_one<R: Wait>(
+    rt: &R,
+    service: &Service,
+    seat: &mut Seat,
+    limit: Limit,
+) -> Result<(), AllocError>
+    requires of { IsOf service.now seat.old }
+    requires caller { IsCaller (view seat.old) }
+    requires few { OnlyOpens (view seat.old).mine.own × (length (view seat.old).mine.own < 64) }
+    ensures of { IsOf service.now seat.new }
+    ensures caller { IsCaller (view seat.new) }
+    ensures setup { (view seat.new).setup ≡ (view seat.old).setup }
+    ensures opened { OnOk result (Opens limit (view seat.old) (view seat.new)) }
+{
+    service.call(rt, seat, Call::Open { limit })?;
+    Ok(())
+}
+
+/// Opens the channels of a race in their order, by the seat of number 0 before it is split. Without memory only some
+/// are opened.
+#[tactic(auto, using(crate::proofs::Opened::opens_next))]
+pub fn open_channels<R: Wait>(
+    rt: &R,
+    service: &Service,
+    seat: &mut Seat,
+    channels: &[Channel],
+) -> Result<(), AllocError>
+    requires of { IsOf service.now seat.old }
+    requires caller { IsCaller (view seat.old) }
+    requires new { (view seat.old).mine.own ≡ [] }
+    requires few { length channels.now ≤ 64 }
+    ensures of { IsOf service.now seat.new }
+    ensures caller { IsCaller (view seat.new) }
+    ensures setup { (view seat.new).setup ≡ (view seat.old).setup }
+    ensures opened { OnOk result (OnlyOpens (view seat.new).mine.own) }
+    ensures each { OnOk result (length (view seat.new).mine.own ≡ length channels.now) }
+    ensures calls { OnOk result (calls_made (view seat.new).mine.own ≡ reverse (opens (map channel_of channels.now))) }
+{
+    'channels: for channel in channels {
+        open_one(rt, service, seat, channel.limit)?;
+    }
+    Ok(())
+}
