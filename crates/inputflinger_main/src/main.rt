@@ -17,11 +17,19 @@ fn words(rt: &HostRuntime, alloc: Global) -> io::Result<Vec<String>> {
 
 fn main(rt: HostRuntime) -> ExitCode {
     let alloc = rt.alloc();
+    let mut err = HostSink::new(rt.stderr());
+    let words = match words(&rt, alloc) {
+        Ok(words) => words,
+        Err(error) => {
+            if error.kind() == io::ErrorKind::OutOfMemory {
+                return ExitCode::from(replay_engine::no_memory(&mut err));
+            }
 
-    // Words that are no text are those of no command.
-    let words = words(&rt, alloc).unwrap_or(Vec::new(alloc));
+            // Words that are no text are those of no command.
+            Vec::new(alloc)
+        }
+    };
     let mut files = HostFiles::new(&rt);
     let mut out = HostSink::new(rt.stdout());
-    let mut err = HostSink::new(rt.stderr());
     ExitCode::from(replay_engine::run(alloc, &words, &mut files, &mut out, &mut err))
 }

@@ -1,5 +1,5 @@
 -- The beginning of a run, and what its end is judged to be.
-use Rattle.std.proofs.Common.{◌≡◌, ℕ, ◌<◌, ◌≤◌, Bool, true, false, List, [], Option, None, Some, Result, Ok, Err, sym, subst, refl, length, map, nat_le, arith}
+use Rattle.std.proofs.Common.{◌≡◌, ℕ, ◌<◌, ◌≤◌, Bool, true, false, List, [], Option, None, Some, Result, Ok, Err, sym, subst, refl, length, map, nat_le, cond, codes, arith}
 use Rattle.std.proofs.lemmas.Bool.{le-leb, leb-true}
 use Rattle.std.proofs.lemmas.List.{reverse-reverse}
 use Rattle.std.specs.Option.{IsSomeAnd}
@@ -20,18 +20,19 @@ use Rattle.session_plan.specs.View.{channel_view, device_view, plan_view}
 use Rattle.schedule.specs.declared.plan.Plan.{Plan as RunPlan}
 use Rattle.schedule.specs.Planned.{plan_of, channel_of as run_channel, step_of as run_step}
 use Rattle.schedule.specs.State.{ScheduleState, Ran}
-use Rattle.replay_engine.specs.declared.refusal.Refusal.{Refusal}
-use Rattle.replay_engine.specs.declared.refusal.Refusal.TheVariants.{Usage, Session as SessionOf, Recording, Stream, ReadFailed, NoMemory, TooLong}
-use Rattle.replay_engine.specs.declared.refusal.Subject.TheVariants as subject
+use Rattle.replay_engine.specs.declared.statuses.Refusal.{Refusal}
+use Rattle.replay_engine.specs.declared.statuses.Refusal.TheVariants.{Usage, Session as SessionOf, Recording, Order, Stream, ReadFailed, NoMemory, TooLong}
+use Rattle.replay_engine.specs.declared.statuses.Subject.TheVariants as subject
 use Rattle.replay_engine.specs.Cooked.{plans_of}
 use Rattle.replay_engine.specs.Devices.{devices_of}
 use Rattle.replay_engine.specs.Planned.{channel_of, script_of, step_of}
-use Rattle.replay_engine.specs.Prepared.{Refuses, RefusesFile}
-use Rattle.replay_engine.specs.Program.{EventsJudged, Judges, LengthJudged, RecordingJudged}
+use Rattle.replay_engine.specs.Judged.{Answer, After, IfTold}
+use Rattle.replay_engine.specs.Program.{RecordingAnswers, RunAnswers, events_judged, lines_judged}
+use Rattle.replay_engine.specs.Refusing.{RefusesSo}
 use Rattle.replay_engine.specs.Reading.{IsFile, IsLongFile}
 use Rattle.replay_engine.specs.Recorded.{HasEnded, HasTaken, RefusesEvents}
 use Rattle.replay_engine.specs.RefusalView.{refusal_view}
-use Rattle.replay_engine.specs.Refused.{Refused}
+use Rattle.replay_engine.specs.Refused.{too_long}
 use Rattle.replay_engine.specs.Replayed.{Replays}
 
 pub same_script : (session : Session) (run : RunPlan) → run.displays ≡ device_displays (map device_view session.devices.items)
@@ -52,59 +53,46 @@ fresh p run reader readers schedule devices d n stand is ran =
       ran = subst (λ (r : Plan). Ran r [] schedule) is ran;
     }
 
-pub judged : (p : PlanData) (bytes : List ℕ) (s : ScheduleState) (a : Result (List ℕ) Refused) (ended : HasEnded p bytes s) → Replays p ended.past a
-    → EventsJudged p (recorded (devices_of p) bytes) a
+-- what the events of all lines come to is what the recording comes to
+pub judged : (p : PlanData) (bytes : List ℕ) (s : ScheduleState) (a : Answer) (ended : HasEnded p bytes s) → Replays p ended.past a
+    → After (RunAnswers p) (lines_judged (recorded (devices_of p) bytes)) a
 judged p bytes s a ended r =
-    subst (λ (x : Result (List RawEvent) LineError). EventsJudged p x a) (sym ended.read)
+    subst (λ (x : Result (List RawEvent) LineError). After (RunAnswers p) (lines_judged x) a) (sym ended.read)
     (subst (λ (xs : List RawEvent). Replays p xs a) (sym (reverse-reverse ended.past)) r)
 
-pub refuses_judged : (p : PlanData) (bytes : List ℕ) (s : ScheduleState) (ended : HasEnded p bytes s) (r : Refusal) → Refuses (Replays p ended.past) r
-    → Refuses (EventsJudged p (recorded (devices_of p) bytes)) r
-refuses_judged p bytes s ended Usage h = absurd h
-refuses_judged p bytes s ended (SessionOf e) h = judged p bytes s (Err (refusal_view (SessionOf e))) ended h
-refuses_judged p bytes s ended (Recording e) h = judged p bytes s (Err (refusal_view (Recording e))) ended h
-refuses_judged p bytes s ended (Stream e) h = judged p bytes s (Err (refusal_view (Stream e))) ended h
-refuses_judged p bytes s ended ReadFailed h = absurd h
-refuses_judged p bytes s ended NoMemory h = tt
-refuses_judged p bytes s ended (TooLong what) h = judged p bytes s (Err (refusal_view (TooLong what))) ended h
-
-pub refuses_events : (p : PlanData) (bytes : List ℕ) (r : Refusal) → RefusesEvents p bytes r → Refuses (EventsJudged p (recorded (devices_of p) bytes)) r
+pub refuses_events : (p : PlanData) (bytes : List ℕ) (r : Refusal) → RefusesEvents p bytes r
+    → RefusesSo (λ x. After (RunAnswers p) (lines_judged (recorded (devices_of p) bytes)) (Err x)) r
 refuses_events p bytes Usage h = absurd h
 refuses_events p bytes (SessionOf e) h = absurd h
-refuses_events p bytes (Recording e) h = subst (λ (x : Result (List RawEvent) LineError). EventsJudged p x (Err (refusal_view (Recording e)))) (sym h) refl
+refuses_events p bytes (Recording e) h =
+    subst (λ (x : Result (List RawEvent) LineError). After (RunAnswers p) (lines_judged x) (Err (refusal_view (Recording e)))) (sym h) refl
+refuses_events p bytes (Order e) h = absurd h
 refuses_events p bytes (Stream e) h = absurd h
 refuses_events p bytes ReadFailed h = absurd h
 refuses_events p bytes NoMemory h = tt
 refuses_events p bytes (TooLong what) h = absurd h
 
-pub file_judged : (told : Option (List Entry)) (name bytes : List ℕ) (p : PlanData) (a : Result (List ℕ) Refused) → IsFile told name bytes → length bytes ≤ 33554432
-    → EventsJudged p (recorded (devices_of p) bytes) a → Judges told name (RecordingJudged p) a
+-- a file that is no longer than it may be is judged by its lines
+pub file_judged : (told : Option (List Entry)) (name bytes : List ℕ) (p : PlanData) (a : Answer) → IsFile told name bytes → length bytes ≤ 33554432
+    → After (RunAnswers p) (lines_judged (recorded (devices_of p) bytes)) a → IfTold told (λ es. RecordingAnswers es name p a)
 file_judged None name bytes p a file short h = tt
 file_judged (Some es) name bytes p a file short h =
-    subst (λ (o : Option (List ℕ)). IsSomeAnd o (λ bs. RecordingJudged p bs a)) (sym file)
-    (subst (λ (b : Bool). LengthJudged p bytes b a) (sym (le-leb (length bytes) 33554432 short)) h)
-
-pub refuses_file : (told : Option (List Entry)) (name bytes : List ℕ) (p : PlanData) (before now : ℕ) (r : Refusal) → IsFile told name bytes → length bytes ≤ 33554432
-    → Refuses (EventsJudged p (recorded (devices_of p) bytes)) r → RefusesFile told name (RecordingJudged p) before now r
-refuses_file told name bytes p before now Usage file short h = absurd h
-refuses_file told name bytes p before now (SessionOf e) file short h = file_judged told name bytes p (Err (refusal_view (SessionOf e))) file short h
-refuses_file told name bytes p before now (Recording e) file short h = file_judged told name bytes p (Err (refusal_view (Recording e))) file short h
-refuses_file told name bytes p before now (Stream e) file short h = file_judged told name bytes p (Err (refusal_view (Stream e))) file short h
-refuses_file told name bytes p before now ReadFailed file short h = absurd h
-refuses_file told name bytes p before now NoMemory file short h = tt
-refuses_file told name bytes p before now (TooLong what) file short h = file_judged told name bytes p (Err (refusal_view (TooLong what))) file short h
+    subst (λ (o : Option (List ℕ)). IsSomeAnd o (λ bs. After (RunAnswers p) (events_judged (devices_of p) bs) a)) (sym file)
+    (subst (λ (b : Bool). After (RunAnswers p) (cond b (lines_judged (recorded (devices_of p) bytes)) (Err (too_long (codes "recording")))) a)
+    (sym (le-leb (length bytes) 33554432 short)) h)
 
 longer : (bs : List ℕ) (b : Bool) → nat_le (length bs) 33554432 ≡ b → 33554432 < length bs → b ≡ false
 longer bs false e h = refl
 longer bs true e h = absurd (omega (arith, h, leb-true (length bs) 33554432 e))
 
 long_one : (p : PlanData) (o : Option (List ℕ)) → IsSomeAnd o (λ bs. 33554432 < length bs)
-    → IsSomeAnd o (λ bs. RecordingJudged p bs (Err (refusal_view (TooLong subject.Recording))))
+    → IsSomeAnd o (λ bs. After (RunAnswers p) (events_judged (devices_of p) bs) (Err (refusal_view (TooLong subject.Recording))))
 long_one p None h = absurd h
 long_one p (Some bs) h =
-    subst (λ (b : Bool). LengthJudged p bs b (Err (refusal_view (TooLong subject.Recording)))) (sym (longer bs (nat_le (length bs) 33554432) refl h)) refl
+    subst (λ (b : Bool). After (RunAnswers p) (cond b (lines_judged (recorded (devices_of p) bs)) (Err (too_long (codes "recording")))) (Err (refusal_view (TooLong subject.Recording))))
+    (sym (longer bs (nat_le (length bs) 33554432) refl h)) refl
 
 pub long_judged : (told : Option (List Entry)) (name : List ℕ) (p : PlanData) → IsLongFile told name 33554432
-    → Judges told name (RecordingJudged p) (Err (refusal_view (TooLong subject.Recording)))
+    → IfTold told (λ es. RecordingAnswers es name p (Err (refusal_view (TooLong subject.Recording))))
 long_judged None name p h = tt
 long_judged (Some es) name p h = long_one p (bytes_of es name) h

@@ -6,18 +6,15 @@ use Rattle.std.specs.Option.{unwrap_or}
 use Rattle.dispatch_history.specs.Due.{counts}
 use Rattle.dispatch_history.specs.Effect.{Effect, past_of, stream}
 use Rattle.dispatch_history.specs.History.{opened}
-use Rattle.dispatch_history.specs.Plan.{Plan}
 use Rattle.session_plan.specs.declared.plan.ChannelPlan.{ChannelPlan}
 use Rattle.session_plan.specs.View.{channel_view}
 use Rattle.stream_text.specs.Spelling.{channel_section}
 use Rattle.stream_text.specs.StreamsHistory.{sections_of, unopened}
 use Rattle.dispatch_core.specs.Access.{is_opened}
-use Rattle.schedule.specs.State.{ScheduleState, Ready}
 use Rattle.replay_engine.proofs.Newest.{left_with_next}
 
-pub opened_at : (plan : Plan) (es : List Effect) (s : ScheduleState) (i : ℕ) → Ready plan es s → i < length plan.channels → is_opened es (i + 1) ≡ true
-opened_at plan es s i ready within =
-    rw (le-leb 1 (i + 1) (omega arith), le-leb (i + 1) (opened (past_of es)) (omega (arith, within, ready.opened_is))) refl
+pub opened_at : (es : List Effect) (i : ℕ) → i < opened (past_of es) → is_opened es (i + 1) ≡ true
+opened_at es i within = rw (le-leb 1 (i + 1) (omega arith), le-leb (i + 1) (opened (past_of es)) (omega (arith, within))) refl
 
 -- the section of the next channel, and those that are left
 pub section_next : (es : List Effect) (cs : List ChannelPlan) (i : ℕ) (c : ChannelPlan) (before after all : List ℕ) → i < length cs → c ≡ get_or cs i c

@@ -8,7 +8,7 @@ use Rattle.stream_text.specs.declared.stream_line.StreamLine.TheVariants.{Channe
 use Rattle.stream_text.specs.declared.stream_lines.Place.{Place}
 use Rattle.stream_text.specs.declared.stream_lines.Place.TheVariants.{Between, Section, Namings}
 use Rattle.stream_text.specs.Number.{◌>>=◌}
-use Rattle.stream_text.specs.TextLines.{Line, lines_of}
+use Rattle.text_lines.specs.Lines.{Line, lines_of}
 use Rattle.stream_text.specs.StreamLine.{line_of}
 use Rattle.stream_text.specs.StreamFile.{Event, follow, may_end, told, with_event, numbered_line, events_from, events_behind, events_of, messages_of, streams_of, streams_in, Unread, Goes}
 use Rattle.stream_text.specs.OrderText.{order_passed}

@@ -1,13 +1,13 @@
 -- What a refusal that was told says of a run.
 use Rattle.std.specs.Prelude.{◌≡◌, ℕ, List, Option, Some, None, Err, refl}
-use Rattle.std.proofs.Common.{sym, inl, inr}
+use Rattle.std.proofs.Common.{sym, inl, inr, arith}
 use Rattle.outside_io.specs.Outside.{Entry, Rose}
-use Rattle.replay_engine.specs.declared.refusal.Refusal.{Refusal}
-use Rattle.replay_engine.specs.declared.refusal.Refusal.TheVariants.{Usage, Session, Recording, Stream, ReadFailed, NoMemory, TooLong}
-use Rattle.replay_engine.specs.Outcome.{ComesTo, IsComplete, RefusedBy, Said, TellsSo}
-use Rattle.replay_engine.specs.Prepared.{RefusesAll}
+use Rattle.replay_engine.specs.declared.statuses.Refusal.{Refusal}
+use Rattle.replay_engine.specs.declared.statuses.Refusal.TheVariants.{Usage, Session, Recording, Order, Stream, ReadFailed, NoMemory, TooLong}
+use Rattle.replay_engine.specs.Outcome.{ComesTo, IsComplete, RefusedBy, Said, SaidTooLong, TellsSo}
+use Rattle.replay_engine.specs.Refusing.{RefusesAll}
 use Rattle.replay_engine.specs.RefusalView.{IsTold, refusal_view}
-use Rattle.replay_engine.specs.Words.{form_of}
+use Rattle.command_words.specs.Forms.{form_of}
 
 -- words of no form come to the usage
 usage_comes : (told : Option (List Entry)) (words : List (List ℕ)) → form_of words ≡ None → ComesTo told words (Err (refusal_view Usage))
@@ -23,6 +23,8 @@ refused_by told words before now (Session e) status fb fn eb en refuses said no4
     elim said [ inl s ↦ (refusal_view (Session e), sym s.0, refuses, s.1) | inr s ↦ absurd (no6 s.0) ]
 refused_by told words before now (Recording e) status fb fn eb en refuses said no4 no6 =
     elim said [ inl s ↦ (refusal_view (Recording e), sym s.0, refuses, s.1) | inr s ↦ absurd (no6 s.0) ]
+refused_by told words before now (Order e) status fb fn eb en refuses said no4 no6 =
+    elim said [ inl s ↦ (refusal_view (Order e), sym s.0, refuses, s.1) | inr s ↦ absurd (no6 s.0) ]
 refused_by told words before now (Stream e) status fb fn eb en refuses said no4 no6 =
     elim said [ inl s ↦ (refusal_view (Stream e), sym s.0, refuses, s.1) | inr s ↦ absurd (no6 s.0) ]
 refused_by told words before now ReadFailed status fb fn eb en refuses said no4 no6 = absurd (no4 said.0)
@@ -38,8 +40,21 @@ complete_refusal (Some es) words before now (Session e) status fb fn eb en refus
     elim said [ inl s ↦ inl (Err (refusal_view (Session e)), refuses, s.0) | inr s ↦ inr s.0 ]
 complete_refusal (Some es) words before now (Recording e) status fb fn eb en refuses kept said =
     elim said [ inl s ↦ inl (Err (refusal_view (Recording e)), refuses, s.0) | inr s ↦ inr s.0 ]
+complete_refusal (Some es) words before now (Order e) status fb fn eb en refuses kept said =
+    elim said [ inl s ↦ inl (Err (refusal_view (Order e)), refuses, s.0) | inr s ↦ inr s.0 ]
 complete_refusal (Some es) words before now (Stream e) status fb fn eb en refuses kept said =
     elim said [ inl s ↦ inl (Err (refusal_view (Stream e)), refuses, s.0) | inr s ↦ inr s.0 ]
 complete_refusal (Some es) words before now ReadFailed status fb fn eb en refuses kept said = absurd (kept refuses)
 complete_refusal (Some es) words before now NoMemory status fb fn eb en refuses kept said = inr said.0
 complete_refusal (Some es) words before now (TooLong what) status fb fn eb en refuses kept said = inl (Err (refusal_view (TooLong what)), refuses, said.0)
+
+-- a refusal with status 7 tells what is too long
+pub too_long_said : (r : Refusal) (status fb fn : ℕ) (eb en : Option (List ℕ)) → IsTold (TellsSo fb fn eb en) r status → status ≡ 7 → SaidTooLong fb fn eb en
+too_long_said Usage status fb fn eb en said seven = absurd (omega (arith, said.0, seven))
+too_long_said (Session e) status fb fn eb en said seven = elim said [ inl s ↦ absurd (omega (arith, s.0, seven)) | inr s ↦ absurd (omega (arith, s.0, seven)) ]
+too_long_said (Recording e) status fb fn eb en said seven = elim said [ inl s ↦ absurd (omega (arith, s.0, seven)) | inr s ↦ absurd (omega (arith, s.0, seven)) ]
+too_long_said (Order e) status fb fn eb en said seven = elim said [ inl s ↦ absurd (omega (arith, s.0, seven)) | inr s ↦ absurd (omega (arith, s.0, seven)) ]
+too_long_said (Stream e) status fb fn eb en said seven = elim said [ inl s ↦ absurd (omega (arith, s.0, seven)) | inr s ↦ absurd (omega (arith, s.0, seven)) ]
+too_long_said ReadFailed status fb fn eb en said seven = absurd (omega (arith, said.0, seven))
+too_long_said NoMemory status fb fn eb en said seven = absurd (omega (arith, said.0, seven))
+too_long_said (TooLong what) status fb fn eb en said seven = (what, said.1)

@@ -24,12 +24,14 @@ break_at past n (Message m) = if is_well_formed (m ∷ past) then None else Some
 break_at past n (End id sent received finished) = None
 break_at past n (Naming clock id seq) = None
 
+-- how many sections a line begins
 abbrev pub channels_at : StreamLine → ℕ
 channels_at (Channel id) = 1
 channels_at (Message m) = 0
 channels_at (End id sent received finished) = 0
 channels_at (Naming clock id seq) = 0
 
+-- how many messages a line tells
 abbrev pub messages_at : StreamLine → ℕ
 messages_at (Channel id) = 0
 messages_at (Message m) = 1
@@ -59,10 +61,12 @@ abbrev pub breaks : List Told → List Event → Option ℕ
 breaks past [] = None
 breaks past (e ∷ es) = option_or (break_at past e.0 e.1) (breaks (told_after past e.1) es)
 
+-- how many sections these lines begin
 abbrev pub channels_left : List Event → ℕ
 channels_left [] = 0
 channels_left (e ∷ es) = channels_at e.1 + channels_left es
 
+-- how many messages these lines tell
 abbrev pub messages_left : List Event → ℕ
 messages_left [] = 0
 messages_left (e ∷ es) = messages_at e.1 + messages_left es

@@ -1,21 +1,35 @@
 -- What a run comes to: how its status, its text and its line go with what the program answers.
-use Rattle.std.specs.Prelude.{◌≡◌, ℕ, nat_eq, ◌||◌, Bool, List, take, Option, Some, None, Result, Ok, Err, ⊤, IsTrue, ◌⊎◌}
+use Rattle.std.specs.Prelude.{◌≡◌, ℕ, nat_eq, ◌||◌, Bool, List, take, Option, Some, None, Ok, Err, ⊤, IsTrue, ◌⊎◌}
 use Rattle.std.specs.Io.KnownBytes.{Appends}
 use Rattle.outside_io.specs.Outside.{Entry, Rose}
-use Rattle.replay_engine.specs.Program.{IsAnswer, IsAccepted}
-use Rattle.replay_engine.specs.Refused.{Refused}
-use Rattle.replay_engine.specs.Words.{Command, replay, verify}
+use Rattle.replay_engine.specs.declared.statuses.Subject.{Subject}
+use Rattle.replay_engine.specs.Judged.{Answer, IfTold}
+use Rattle.replay_engine.specs.Program.{AnswersTo, AreAccepted, IsAnswer, IsAccepted}
+use Rattle.replay_engine.specs.Refused.{Refused, too_long}
+use Rattle.replay_engine.specs.RefusalView.{subject_word}
+use Rattle.command_words.specs.Command.{Command, replay, check, verify, work, batch, hover, emit}
 
--- the files lend each name that the words give; that of a recording only where the session is accepted
+-- The files lend each name that the words give: that of a recording only where the session is accepted, and that of an order file only
+-- where both are.
 abbrev pub LendsNames : Option (List Entry) → (List ℕ → Bool) → Option Command → Type 0
 LendsNames told lends None = ⊤
-LendsNames told lends (Some (replay names)) = IsTrue (lends names.session) × (IsAccepted told names.session → IsTrue (lends names.events))
+LendsNames told lends (Some (replay files)) = IsTrue (lends files.session) × (IsAccepted told files.session → IsTrue (lends files.events))
+LendsNames told lends (Some (check files order)) =
+    IsTrue (lends files.session) × (IsAccepted told files.session → IsTrue (lends files.events))
+    × (AreAccepted told files.session files.events → IsTrue (lends order))
 LendsNames told lends (Some (verify stream)) = IsTrue (lends stream)
+LendsNames told lends (Some (work seed packets)) = ⊤
+LendsNames told lends (Some (batch stream frame)) = IsTrue (lends stream)
+LendsNames told lends (Some (hover files mouse)) = IsTrue (lends files.session) × (IsAccepted told files.session → IsTrue (lends files.events))
+LendsNames told lends (Some (emit stream channel device)) = IsTrue (lends stream)
 
 -- where the files are told, this is what the program answers
-abbrev pub ComesTo : Option (List Entry) → List (List ℕ) → Result (List ℕ) Refused → Type 0
-ComesTo None words a = ⊤
-ComesTo (Some entries) words a = IsAnswer entries words a
+abbrev pub ComesTo : Option (List Entry) → List (List ℕ) → Answer → Type 0
+ComesTo told words a = IfTold told (λ entries. IsAnswer entries words a)
+
+-- where the files are told, this is the answer to a command
+abbrev pub Answers : Option (List Entry) → Command → Answer → Type 0
+Answers told command a = IfTold told (λ entries. AnswersTo entries (Some command) a)
 
 -- a sink whose count did not rise took exactly this line
 abbrev pub Said : ℕ → ℕ → Option (List ℕ) → Option (List ℕ) → List ℕ → Type 0
@@ -37,6 +51,11 @@ WroteFront told words before now = (text : List ℕ) × ComesTo told words (Ok t
 abbrev pub RefusedBy : Option (List Entry) → List (List ℕ) → ℕ → (List ℕ → Type 0) → Type 0
 RefusedBy told words status said = (r : Refused) × (r.status ≡ status) × ComesTo told words (Err r) × said r.line
 
+-- a sink whose count did not rise took one of the lines that say what is too long
+abbrev pub SaidTooLong : ℕ → ℕ → Option (List ℕ) → Option (List ℕ) → Type 0
+SaidTooLong faults_before faults_now before now =
+    (what : Subject) × Said faults_before faults_now before now (too_long (subject_word what)).line
+
 -- this status, and its line where the sink had no fault
 abbrev pub TellsSo : ℕ → ℕ → Option (List ℕ) → Option (List ℕ) → Refused → ℕ → Type 0
 TellsSo faults_before faults_now before now r status = (status ≡ r.status) × Said faults_before faults_now before now r.line
@@ -46,7 +65,7 @@ abbrev pub is_status : ℕ → Bool
 is_status n = nat_eq n 0 || nat_eq n 1 || nat_eq n 2 || nat_eq n 3 || nat_eq n 4 || nat_eq n 5 || nat_eq n 6 || nat_eq n 7
 
 -- the status of an answer: 0 for a text, which is written where no fault of the output arose
-abbrev pub HasStatus : Result (List ℕ) Refused → ℕ → Type 0
+abbrev pub HasStatus : Answer → ℕ → Type 0
 HasStatus (Ok text) status = status ≡ 0
 HasStatus (Err r) status = status ≡ r.status
 
@@ -54,4 +73,4 @@ HasStatus (Err r) status = status ≡ r.status
 abbrev pub IsComplete : Option (List Entry) → List (List ℕ) → ℕ → Type 0
 IsComplete None words status = ⊤
 IsComplete (Some entries) words status =
-    ((a : Result (List ℕ) Refused) × IsAnswer entries words a × HasStatus a status) ⊎ (status ≡ 6)
+    ((a : Answer) × IsAnswer entries words a × HasStatus a status) ⊎ (status ≡ 6)

@@ -1,8 +1,8 @@
 -- Why a file was not read.
 use Rattle.outside_io.specs.declared.outside.SourceRefused.{SourceRefused}
 use Rattle.outside_io.specs.declared.outside.SourceRefused.TheVariants as refused
-use Rattle.replay_engine.specs.declared.reading.ReadError.{ReadError}
-use Rattle.replay_engine.specs.declared.reading.ReadError.TheVariants.{Failed, Memory}
+use Rattle.replay_engine.specs.declared.files.ReadError.{ReadError}
+use Rattle.replay_engine.specs.declared.files.ReadError.TheVariants.{Failed, Memory}
 
 -- a source that was refused
 abbrev pub read_error_of : SourceRefused → ReadError

@@ -14,8 +14,8 @@ use Rattle.schedule.specs.State.{ScheduleState, Ran, Completed}
 use Rattle.replay_engine.specs.Cooked.{plans_of}
 use Rattle.replay_engine.specs.Devices.{devices_of}
 use Rattle.replay_engine.specs.Planned.{given, script_of}
-use Rattle.replay_engine.specs.declared.refusal.Refusal.{Refusal}
-use Rattle.replay_engine.specs.declared.refusal.Refusal.TheVariants.{Recording, NoMemory}
+use Rattle.replay_engine.specs.declared.statuses.Refusal.{Refusal}
+use Rattle.replay_engine.specs.declared.statuses.Refusal.TheVariants.{Recording, NoMemory}
 
 -- the reader of lines, the readers of the devices, and the run
 pub record RecordingState : Type 0 where

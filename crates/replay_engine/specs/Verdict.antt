@@ -18,6 +18,7 @@ abbrev pub first_break : List Stream → Option ℕ
 first_break [] = None
 first_break (s ∷ ss) = option_or (break_from s.first_line [] s.messages) (first_break ss)
 
+-- how many messages these streams have
 abbrev pub messages_in : List Stream → ℕ
 messages_in [] = 0
 messages_in (s ∷ ss) = length s.messages + messages_in ss

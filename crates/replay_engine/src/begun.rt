@@ -1,5 +1,6 @@
 //! A run that has begun: from a session's plan to its text.
-ghost use Rattle.std.specs.Prelude.{◌≡◌, ℕ, ◌+◌, ◌≤◌, List, [], map, reverse, string_bytes, IsTrue, None, Ok, IfOk, IfErr, length};
+ghost use Rattle.std.specs.Prelude.{◌≡◌, ℕ, ◌+◌, ◌≤◌, List, [], map, reverse, string_bytes, IsTrue, None, Ok, Err};
+ghost use Rattle.std.specs.Prelude.{IfOk, IfErr, length};
 ghost use Rattle.outside_io.specs.Outside.{Rose};
 ghost use Rattle.raw_events.specs.Line.{known};
 ghost use Rattle.raw_events.specs.Recording.{recorded};
@@ -9,29 +10,36 @@ ghost use Rattle.session_plan.specs.Valid.{IsPlan};
 ghost use Rattle.session_plan.specs.View.{channel_view, plan_view};
 ghost use Rattle.schedule.specs.Planned.{IsRun, plan_of};
 ghost use Rattle.schedule.specs.State.{Completed};
-ghost use Rattle.replay_engine.specs.Begun.{BeginsWith};
+ghost use Rattle.replay_engine.specs.Begun.{BeginsWith, IsPlanned};
 ghost use Rattle.replay_engine.specs.Devices.{devices_of};
 ghost use Rattle.replay_engine.specs.Planned.{given, names_of, script_of};
-ghost use Rattle.replay_engine.specs.Prepared.{Refuses, RefusesFile};
-ghost use Rattle.replay_engine.specs.Program.{EventsJudged, Judges, RecordingJudged};
+ghost use Rattle.replay_engine.specs.Judged.{After, IfTold};
+ghost use Rattle.replay_engine.specs.Program.{RecordingAnswers, RunAnswers, lines_judged};
+ghost use Rattle.replay_engine.specs.Refusing.{Refuses, RefusesSo};
 ghost use Rattle.replay_engine.specs.Recorded.{HasTaken};
 ghost use Rattle.replay_engine.specs.Replayed.{Replays};
 
 use crate::cooking::{device_number, readers_of};
-use crate::reading::{ReadError, take_file};
+use crate::files::{ReadError, take_file};
+use crate::inputs::RECORDING_LIMIT;
+use crate::plan::{run_channels, run_steps};
 use crate::recording::Recording;
-use crate::refusal::{Refusal, Subject};
-use crate::script::{run_channels, run_steps};
-use crate::text::text_of;
+use crate::statuses::{Refusal, Subject};
+use crate::texts::text_of;
 use input_types::DeviceId;
 use outside_io::Files;
 use raw_events::LineReader;
 use schedule::{Plan, Schedule};
 use session_plan::{ChannelPlan, Plan as Session};
 use std::alloc::{AllocError, Global};
+use text_pieces::Pieces;
 
-/// The most bytes of a recording: 32 MiB.
-const RECORDING_LIMIT: usize = 33554432;
+/// A session as the plan of a run, with the names of its channels.
+#[derive(Drop)]
+pub(crate) struct Planned {
+    pub(crate) channels: Vec<ChannelPlan>,
+    pub(crate) plan: Plan,
+}
 
 /// A run that has begun.
 #[derive(Drop)]
@@ -42,7 +50,10 @@ pub(crate) struct Begun {
 }
 
 /// The devices' paths with their numbers.
-fn numbered_devices(alloc: Global, plan: &Session) -> Result<Vec<(String, DeviceId)>, AllocError>
+pub(crate) fn numbered_devices(
+    alloc: Global,
+    plan: &Session,
+) -> Result<Vec<(String, DeviceId)>, AllocError>
     requires { IsPlan plan.now }
     ensures { IfOk result (λ v. known v.items ≡ devices_of (plan_view plan.now)) }
 {
@@ -56,6 +67,23 @@ fn numbered_devices(alloc: Global, plan: &Session) -> Result<Vec<(String, Device
     Ok(devices)
 }
 
+/// The plan of a session's run.
+pub(crate) fn plan_run(alloc: Global, session: Session) -> Result<Planned, AllocError>
+    requires { IsPlan session }
+    ensures { IfOk result (IsPlanned (plan_view session)) }
+{
+    let plan = Plan {
+        displays: session.device_displays(),
+        channels: run_channels(alloc, &session.channels)?,
+        steps: run_steps(alloc, session.steps)?,
+        until: session.end,
+    };
+    Ok(Planned {
+        channels: session.channels,
+        plan,
+    })
+}
+
 /// Begins the run of a session.
 pub(crate) fn begin(alloc: Global, session: Session) -> Result<Begun, AllocError>
     requires { IsPlan session }
@@ -63,16 +91,11 @@ pub(crate) fn begin(alloc: Global, session: Session) -> Result<Begun, AllocError
 {
     let reader = LineReader::new(numbered_devices(alloc, &session)?)?;
     let readers = readers_of(alloc, &session)?;
-    let plan = Plan {
-        displays: session.device_displays(),
-        channels: run_channels(alloc, &session.channels)?,
-        steps: run_steps(alloc, session.steps)?,
-        until: session.end,
-    };
-    let schedule = Schedule::new(alloc, &plan)?;
+    let planned = plan_run(alloc, session)?;
+    let schedule = Schedule::new(alloc, &planned.plan)?;
     Ok(Begun {
-        channels: session.channels,
-        plan,
+        channels: planned.channels,
+        plan: planned.plan,
         recording: Recording::new(alloc, reader, readers, schedule),
     })
 }
@@ -82,12 +105,14 @@ fn done_text(
     alloc: Global,
     channels: &[ChannelPlan],
     schedule: &mut Schedule,
-) -> Result<Vec<u8>, Refusal>
+) -> Result<Pieces, Refusal>
     requires { length channels.now ≤ 64 }
-    ensures ok { (p : PlanData) (past : List Event) → map channel_view channels.now ≡ p.channels → Completed (script_of p) (given p past) schedule.old
-        → IfOk result (λ text. Replays p past (Ok text.items)) }
-    ensures err { (p : PlanData) (past : List Event) → map channel_view channels.now ≡ p.channels → Completed (script_of p) (given p past) schedule.old
-        → IfErr result (Refuses (Replays p past)) }
+    ensures ok { (p : PlanData) (past : List Event) → map channel_view channels.now ≡ p.channels
+        → Completed (script_of p) (given p past) schedule.old
+        → IfOk result (λ text. Replays p past (Ok text)) }
+    ensures err { (p : PlanData) (past : List Event) → map channel_view channels.now ≡ p.channels
+        → Completed (script_of p) (given p past) schedule.old
+        → IfErr result (RefusesSo (λ r. Replays p past (Err r))) }
 {
     if schedule.is_too_long() {
         return Err(Refusal::TooLong(Subject::Run));
@@ -96,13 +121,17 @@ fn done_text(
 }
 
 /// Ends the recording, and makes the text.
-fn ended_text(alloc: Global, begun: Begun) -> Result<Vec<u8>, Refusal>
+fn ended_text(alloc: Global, begun: Begun) -> Result<Pieces, Refusal>
     requires run { IsRun begun.plan }
     requires few { length begun.channels.items ≤ 64 }
-    ensures ok { (p : PlanData) (bytes : List ℕ) → map channel_view begun.channels.items ≡ p.channels → plan_of begun.plan ≡ script_of p
-        → HasTaken p bytes begun.recording → IfOk result (λ text. EventsJudged p (recorded (devices_of p) bytes) (Ok text.items)) }
-    ensures err { (p : PlanData) (bytes : List ℕ) → map channel_view begun.channels.items ≡ p.channels → plan_of begun.plan ≡ script_of p
-        → HasTaken p bytes begun.recording → IfErr result (Refuses (EventsJudged p (recorded (devices_of p) bytes))) }
+    ensures ok { (p : PlanData) (bytes : List ℕ) → map channel_view begun.channels.items ≡ p.channels
+        → plan_of begun.plan ≡ script_of p
+        → HasTaken p bytes begun.recording
+        → IfOk result (λ text. After (RunAnswers p) (lines_judged (recorded (devices_of p) bytes)) (Ok text)) }
+    ensures err { (p : PlanData) (bytes : List ℕ) → map channel_view begun.channels.items ≡ p.channels
+        → plan_of begun.plan ≡ script_of p
+        → HasTaken p bytes begun.recording
+        → IfErr result (RefusesSo (λ r. After (RunAnswers p) (lines_judged (recorded (devices_of p) bytes)) (Err r))) }
 {
     let mut recording = begun.recording;
     match recording.end(&begun.plan) {
@@ -117,13 +146,16 @@ pub(crate) fn recording_text<F: Files>(
     files: &mut F,
     begun: Begun,
     name: &str,
-) -> Result<Vec<u8>, Refusal>
+) -> Result<Pieces, Refusal>
     requires lends { IsTrue (F.lends files.old name.now) }
     requires free { F.lent files.old ≡ None }
     requires run { IsRun begun.plan }
     requires few { length begun.channels.items ≤ 64 }
-    ensures ok { (p : PlanData) → BeginsWith p begun → IfOk result (λ text. Judges (F.entries files.old) name.now (RecordingJudged p) (Ok text.items)) }
-    ensures err { (p : PlanData) → BeginsWith p begun → IfErr result (RefusesFile (F.entries files.old) name.now (RecordingJudged p) (F.faults files.old) (F.faults files.new)) }
+    ensures ok { (p : PlanData) → BeginsWith p begun
+        → IfOk result (λ text. IfTold (F.entries files.old) (λ es. RecordingAnswers es name.now p (Ok text))) }
+    ensures err { (p : PlanData) → BeginsWith p begun
+        → IfErr result (Refuses (λ r. IfTold (F.entries files.old)
+        (λ es. RecordingAnswers es name.now p (Err r))) (F.faults files.old) (F.faults files.new)) }
     ensures later { F.faults files.old ≤ F.faults files.new }
 {
     let mut begun = begun;

@@ -1,6 +1,10 @@
-//! The top call: `replay`, from the bytes of a session and of a recording to the bytes of the streams text, and `verify`, a judge of such texts.
+//! The top call of the program: `replay`, from the bytes of a session and of a recording to the bytes of the streams
+//! text; `check`, the same in an
+//! order that a file gives; `work`, a session made from a number; `verify`, a judge of such texts; `batch`, `hover`
+//! and `emit`.
 //!
-//! A recording in which tracking id 45 comes at (540, 1200) and goes again, on a display with the window `main` over it, gives
+//! A recording in which tracking id 45 comes at (540, 1200) and goes again, on a display with the window `main` over
+//! it, gives
 //!
 //! ```text
 //! channel 1 main
@@ -11,24 +15,27 @@
 //!
 //! Given this text, `verify` says `well formed 1 2`.
 //!
-//! [`run`] reads the files, refuses what it does not accept with a status and a line, and writes the text. Its contract says for each
-//! status when it comes and what was written; `specs/Program.antt` says which text that is, as a function of the words and the files.
+//! [`run`] reads the files, refuses what it does not accept with a status and a line, and writes the text. Its
+//! contract says for each
+//! status when it comes and what was written; `specs/Program.antt` says which text that is, as a function of the words
+//! and the files.
 #![tactic(auto)]
 
 mod begun;
+mod commands;
 mod cooking;
-mod prepared;
-mod reading;
+mod files;
+mod inputs;
+mod order;
+mod plan;
 mod recording;
-mod refusal;
-mod script;
-mod text;
+mod runs;
+mod statuses;
+mod streams;
+mod texts;
 mod top;
 mod verdict;
-mod words;
+mod work;
 mod writing;
 
-pub use top::run;
-
-#[cfg(test)]
-mod tests;
+pub use top::{no_memory, run};

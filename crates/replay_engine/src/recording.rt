@@ -1,5 +1,5 @@
 //! A recording that is read piece by piece, and the run of what it gives.
-ghost use Rattle.std.specs.Prelude.{◌≡◌, ℕ, false, List, [], ◌∷◌, ◌++◌, map, reverse, OnOk, IfErr};
+ghost use Rattle.std.specs.Prelude.{◌≡◌, ℕ, ◌+◌, false, List, [], ◌∷◌, ◌++◌, length, map, reverse, OnOk, IfOk, IfErr};
 ghost use Rattle.input_types.specs.declared.message.Args.{Args as ArgsView};
 ghost use Rattle.raw_events.specs.declared.event.RawEvent.{RawEvent as Event};
 ghost use Rattle.dispatch_history.specs.Plan.{Cooked};
@@ -10,10 +10,9 @@ ghost use Rattle.schedule.specs.State.{Ran};
 ghost use Rattle.replay_engine.specs.Cooked.{plans_of};
 ghost use Rattle.replay_engine.specs.Devices.{devices_of};
 ghost use Rattle.replay_engine.specs.Planned.{given, script_of};
-ghost use Rattle.replay_engine.specs.Program.{EventsJudged};
 ghost use Rattle.replay_engine.specs.Recorded.{HasTaken, HasEnded, RefusesEvents, Takes, is_memory, refusal_of};
 
-use crate::refusal::Refusal;
+use crate::statuses::Refusal;
 use device_reader::Readers;
 use input_types::{Args, Moment};
 use raw_events::{LineError, LineReader, RawEvent};
@@ -54,7 +53,7 @@ fn passed_over(error: LineError) -> Result<(), AllocError>
 }
 
 /// Why a recording is refused.
-fn refusal(error: LineError) -> Refusal
+pub(crate) fn recording_refusal(error: LineError) -> Refusal
     ensures { result ≡ refusal_of error }
 {
     match error {
@@ -82,6 +81,44 @@ fn hand(
     Ok(())
 }
 
+/// What the devices give for an event, and its moment.
+pub(crate) fn cook_event(
+    event: RawEvent,
+    args: &mut Vec<Args>,
+    readers: &mut Readers,
+) -> Result<Moment, AllocError>
+    ensures given { (p : PlanData) (past : List Event) → ReadersStandFor (plans_of p) past readers.old
+        → IfOk result (λ m. given p (event ∷ past) ≡ given p past ++ map
+        (λ a. record { moment = m; args = a }) args.new.items) }
+    ensures after { (p : PlanData) (past : List Event) → ReadersStandFor (plans_of p) past readers.old
+        → OnOk result (ReadersStandFor (plans_of p) (event ∷ past) readers.new) }
+{
+    args.clear();
+    let moment = readers.take(event, args)?;
+    Ok(moment)
+}
+
+/// Hands to a run what the devices give for an event.
+pub(crate) fn cook_one(
+    event: RawEvent,
+    args: &mut Vec<Args>,
+    readers: &mut Readers,
+    schedule: &mut Schedule,
+    plan: &Plan,
+) -> Result<(), AllocError>
+    requires { IsRun plan.now }
+    ensures ran { (p : PlanData) (past : List Event) → plan_of plan.now ≡ script_of p
+        → ReadersStandFor (plans_of p) past readers.old
+        → Ran (script_of p) (given p past) schedule.old → OnOk result
+        (ReadersStandFor (plans_of p) (event ∷ past) readers.new
+        × Ran (script_of p) (given p (event ∷ past)) schedule.new) }
+    ensures count { (p : PlanData) (past : List Event) → ReadersStandFor (plans_of p) past readers.old
+        → OnOk result (length (given p (event ∷ past)) ≡ length (given p past) + length args.new.items) }
+{
+    let moment = cook_event(event, args, readers)?;
+    hand(schedule, plan, moment, args)
+}
+
 /// Hands to a run what the devices give for some events.
 fn cook(
     events: &[RawEvent],
@@ -91,14 +128,14 @@ fn cook(
     plan: &Plan,
 ) -> Result<(), AllocError>
     requires { IsRun plan.now }
-    ensures { (p : PlanData) (past : List Event) → plan_of plan.now ≡ script_of p → ReadersStandFor (plans_of p) past readers.old
+    ensures { (p : PlanData) (past : List Event) → plan_of plan.now ≡ script_of p
+        → ReadersStandFor (plans_of p) past readers.old
         → Ran (script_of p) (given p past) schedule.old → OnOk result
-        (ReadersStandFor (plans_of p) (reverse events.now ++ past) readers.new × Ran (script_of p) (given p (reverse events.now ++ past)) schedule.new) }
+        (ReadersStandFor (plans_of p) (reverse events.now ++ past) readers.new
+        × Ran (script_of p) (given p (reverse events.now ++ past)) schedule.new) }
 {
     for event in events {
-        args.clear();
-        let moment = readers.take(*event, args)?;
-        hand(schedule, plan, moment, args)?;
+        cook_one(*event, args, readers, schedule, plan)?;
     }
     Ok(())
 }
@@ -143,8 +180,10 @@ impl Recording {
     /// Ends the recording and the run. A line that is refused is answered now.
     pub(crate) fn end(&mut self, plan: &Plan) -> Result<(), Refusal>
         requires { IsRun plan.now }
-        ensures ok { (p : PlanData) (bytes : List ℕ) → plan_of plan.now ≡ script_of p → HasTaken p bytes self.old → OnOk result (HasEnded p bytes self.new.schedule) }
-        ensures err { (p : PlanData) (bytes : List ℕ) → HasTaken p bytes self.old → IfErr result (RefusesEvents p bytes) }
+        ensures ok { (p : PlanData) (bytes : List ℕ) → plan_of plan.now ≡ script_of p → HasTaken p bytes self.old
+            → OnOk result (HasEnded p bytes self.new.schedule) }
+        ensures err { (p : PlanData) (bytes : List ℕ) → HasTaken p bytes self.old
+            → IfErr result (RefusesEvents p bytes) }
     {
         self.events.clear();
         match self.reader.finish(&mut self.events) {
@@ -158,7 +197,7 @@ impl Recording {
                 )?;
                 Ok(self.schedule.finish(plan)?)
             }
-            Err(error) => Err(refusal(error)),
+            Err(error) => Err(recording_refusal(error)),
         }
     }
 }

@@ -1,12 +1,12 @@
 //! What `verify` answers of a stream file.
-ghost use Rattle.std.specs.Prelude.{◌≡◌, ℕ, ◌+◌, ◌^◌, ◌<◌, List, ◌∷◌, Ok, None, IfOk, IfErr, OnOk};
+ghost use Rattle.std.specs.Prelude.{◌≡◌, ℕ, ◌+◌, ◌^◌, ◌<◌, List, ◌∷◌, Ok, Err, None, IfOk, IfErr, OnOk};
 ghost use Rattle.std.specs.Option.{option_or};
 ghost use Rattle.input_types.specs.declared.message.Message.{Message as Told};
 ghost use Rattle.replay_engine.specs.Judging.{Knows, Takes, break_at};
-ghost use Rattle.replay_engine.specs.Prepared.{Refuses};
+ghost use Rattle.replay_engine.specs.Refusing.{RefusesSo};
 ghost use Rattle.replay_engine.specs.Verdict.{said, verdict};
 
-use crate::refusal::{Refusal, StreamError};
+use crate::statuses::{Refusal, StreamError};
 use gesture_verifier::{StepError, Verifier};
 use input_types::Message;
 use std::alloc::{AllocError, Global};
@@ -29,7 +29,8 @@ impl Model for Judge {
 
     ghost Value = { Known };
 
-    ghost view = { λ j. record { tables = j.verifier; broken = j.broken; channels = j.channels; messages = j.messages } };
+    ghost view = { λ j.
+        record { tables = j.verifier; broken = j.broken; channels = j.channels; messages = j.messages } };
 }
 
 impl Judge {
@@ -51,7 +52,8 @@ impl Judge {
     /// Takes the next line, whose number this is.
     fn take(&mut self, alloc: Global, number: u64, line: &StreamLine) -> Result<(), Refusal>
         requires room { (self.old.channels + 1 < 2 ^ 64) × (self.old.messages + 1 < 2 ^ 64) }
-        ensures ok { (past : List Told) → Knows past self.old → OnOk result (Takes past number line.now self.old self.new) }
+        ensures ok { (past : List Told) → Knows past self.old
+            → OnOk result (Takes past number line.now self.old self.new) }
         ensures err { IfErr result (λ e. e ≡ Refusal.NoMemory) }
     {
         match line {
@@ -72,7 +74,9 @@ impl Judge {
     /// Judges the message of a line, unless there was a break before it.
     fn judge(&mut self, number: u64, message: &Message) -> Result<(), Refusal>
         ensures knows { (past : List Told) → Knows past self.old → OnOk result (Knows (message.now ∷ past) self.new) }
-        ensures broken { (past : List Told) → Knows past self.old → OnOk result (self.new.broken ≡ option_or self.old.broken (break_at past number (StreamLine.Message message.now))) }
+        ensures broken { (past : List Told) → Knows past self.old
+            → OnOk result (self.new.broken
+            ≡ option_or self.old.broken (break_at past number (StreamLine.Message message.now))) }
         ensures counts { (self.new.channels ≡ self.old.channels) × (self.new.messages ≡ self.old.messages) }
         ensures err { IfErr result (λ e. e ≡ Refusal.NoMemory) }
     {
@@ -92,7 +96,7 @@ impl Judge {
     /// What is said at the end of the file.
     fn verdict(&self, alloc: Global) -> Result<Vec<u8>, Refusal>
         ensures ok { IfOk result (λ text. said self.now.broken self.now.channels self.now.messages ≡ Ok text.items) }
-        ensures err { IfErr result (Refuses (λ r. said self.now.broken self.now.channels self.now.messages ≡ r)) }
+        ensures err { IfErr result (RefusesSo (λ r. said self.now.broken self.now.channels self.now.messages ≡ Err r)) }
     {
         match self.broken {
             Some(line) => Err(Refusal::Stream(StreamError::NotWellFormed { line })),
@@ -108,11 +112,12 @@ fn well_formed(alloc: Global, channels: u64, messages: u64) -> Result<Vec<u8>, A
     Ok(line.into_bytes())
 }
 
-/// The text for a stream file's bytes: how many channels and messages it has, where it is well-formed. Its lines are judged one by one, and
+/// The text for a stream file's bytes: how many channels and messages it has, where it is well-formed. Its lines are
+/// judged one by one, and
 /// none of them is kept.
 pub fn verdict_text(alloc: Global, bytes: &[u8]) -> Result<Vec<u8>, Refusal>
     ensures ok { IfOk result (λ text. verdict bytes.now ≡ Ok text.items) }
-    ensures err { IfErr result (Refuses (λ r. verdict bytes.now ≡ r)) }
+    ensures err { IfErr result (RefusesSo (λ r. verdict bytes.now ≡ Err r)) }
 {
     let mut lines = match StreamLines::new(bytes) {
         Ok(lines) => lines,

@@ -1,28 +1,16 @@
 -- A run that has begun is that of the session.
-use Rattle.std.proofs.Common.{◌∙◌, List, ap, refl, map, arith}
-use Rattle.session_plan.specs.View.{channel_view, plan_view}
-use Rattle.session_plan.specs.declared.plan.ChannelPlan.{ChannelPlan}
-use Rattle.schedule.specs.declared.plan.Plan.{Plan as RunPlan}
-use Rattle.replay_engine.specs.Planned.{channel_of}
-use Rattle.replay_engine.proofs.Begins.{fresh, same_script}
+use Rattle.session_plan.specs.View.{plan_view}
+use Rattle.replay_engine.proofs.Begins.{fresh}
 use Rattle.replay_engine.proofs.begun.begin.Goals as goal
 
 pub returns : goal.returns
 returns c =
-    let session = c.args.session
-    in let run : RunPlan = record { displays = c.device_displays.result; channels = c.in_ok-run_channels.field-0; steps = c.in_ok-run_steps.field-0; until = c.args.session.end }
-    in let script = same_script session run c.device_displays.ensures
-    (c.in_ok-run_channels.ensures.value ∙ ap (λ (cs : List ChannelPlan). map channel_of (map channel_view cs)) c.deref.ensures.value)
-    c.in_ok-run_steps.ensures.value refl
+    let planned = c.in_ok-planned.ensures
     in record {
-      run = record {
-        few = omega (arith, c.in_ok-run_channels.ensures.len, c.deref.ensures.len, c.requires.few_channels);
-        channels = c.in_ok-run_channels.ensures.valid;
-        steps = c.in_ok-run_steps.ensures.valid;
-      };
-      few = c.requires.few_channels;
-      channels = refl;
-      script = script;
+      run = planned.run;
+      few = planned.few;
+      channels = planned.channels;
+      script = planned.script;
       taken = rw c.new-3.ensures
-          (fresh (plan_view session) run c.in_ok-reader.reader c.in_ok-readers.readers c.in_ok-schedule.schedule _ c.in_ok-numbered_devices.ensures c.in_ok-reader.ensures c.in_ok-readers.ensures script c.in_ok-schedule.ensures);
+          (fresh (plan_view c.args.session) c.in_ok-planned.planned.plan c.in_ok-reader.reader c.in_ok-readers.readers c.in_ok-schedule.schedule _ c.in_ok-numbered_devices.ensures c.in_ok-reader.ensures c.in_ok-readers.ensures planned.script c.in_ok-schedule.ensures);
     }

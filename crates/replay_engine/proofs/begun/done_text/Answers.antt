@@ -12,7 +12,7 @@ use Rattle.replay_engine.proofs.begun.done_text.Goals as goal
 pub returns : goal.returns
 returns c = record {
   ok = λ p past same completed.
-      let within = is_within (script_of p) completed.es c.args.schedule.now completed.ready (sym c.is_too_long.ensures ∙ c.if-is_too_long.false)
+      let within = is_within (script_of p) completed.es c.args.schedule.now completed.ready (sym c.is_too_long.ensures.over ∙ c.if-is_too_long.false)
       in let many : length c.args.channels.now ≡ length (map channel_of p.channels)
       = sym (length-map c.args.channels.now channel_view) ∙ ap length same ∙ sym (length-map p.channels channel_of)
       in record {
@@ -20,7 +20,7 @@ returns c = record {
         ordered = completed.ordered within;
         within = within;
         whole = lawful_whole c.args.schedule.now.dispatcher.displays completed.es completed.ready.has.stands.lawful completed.ready.has.stands.rise;
-        text_is = c.in_ok-text_of.ensures (script_of p) completed.es completed.ready many
+        text_is = c.in_ok-text_of.ensures (script_of p) completed.es completed.ready.has completed.ready.opened_is many
             ∙ ap (λ (cs : List ChannelData). streams_text (map (λ d. d.name) cs) completed.es) same;
       };
   err = λ p past same completed. tt;
@@ -31,7 +31,7 @@ returns-then-is_too_long-clause-err c = λ p past same completed. (
   record {
     es = completed.es;
     rounds = completed.rounds;
-    too_many = is_overrun (script_of p) completed.es c.args.schedule.now completed.ready (sym c.is_too_long.ensures ∙ c.if-is_too_long.true);
+    too_many = is_overrun (script_of p) completed.es c.args.schedule.now completed.ready (sym c.is_too_long.ensures.over ∙ c.if-is_too_long.true);
   },
   refl,
 )

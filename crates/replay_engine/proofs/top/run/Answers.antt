@@ -1,7 +1,7 @@
 -- A refusal that was told is what the program answers, or want of memory.
 use Rattle.std.proofs.Common.{arith, ℕ, map, string_bytes, subst}
 use Rattle.replay_engine.specs.Outcome.{RefusedBy, Said}
-use Rattle.replay_engine.proofs.Told.{refused_by, complete_refusal}
+use Rattle.replay_engine.proofs.Told.{refused_by, complete_refusal, too_long_said}
 use Rattle.replay_engine.proofs.top.run.Goals as goal
 
 pub returns-clause-usage : goal.returns-clause-usage
@@ -24,3 +24,6 @@ returns-clause-refused g c = λ three.
 
 pub returns-clause-complete : goal.returns-clause-complete
 returns-clause-complete g c = λ kept written. complete_refusal (g.F.Files.entries c.args.files.now) (map string_bytes c.args.words.now) (g.F.Files.faults c.args.files.now) (g.F.Files.faults c.prepared.new.files) c.in-Err.refusal _ _ _ _ _ c.in-Err.ensures.err kept c.told.ensures
+
+pub returns-clause-too_long_line : goal.returns-clause-too_long_line
+returns-clause-too_long_line g c = λ seven. too_long_said c.in-Err.refusal _ _ _ _ _ c.told.ensures seven

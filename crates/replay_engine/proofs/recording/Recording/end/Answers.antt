@@ -14,12 +14,12 @@ returns-in_ok-finish-in-Ok-clause-ok c = λ p bytes run taken.
     (subst (λ (xs : List RawEvent). Does (Ok tt) (finished c.self.inside.reader) c.self.inside.reader c.finish.new.self xs c.finish.new.out.items) c.clear.ensures.items c.in-Ok.ensures)
     c.deref.ensures.value
     (λ past stand ran. (c.in_ok-cook-in-Ok.ensures p past run stand ran).1)
-    c.in_ok-finish-in-Ok.ensures
+    c.in_ok-finish-in-Ok.ensures.completed
 
 pub returns-in-Err : goal.returns-in-Err
 returns-in-Err c = record {
   ok = λ p bytes run taken. tt;
-  err = λ p bytes taken. rw c.refusal.ensures
+  err = λ p bytes taken. rw c.recording_refusal.ensures
       (end_refuses p bytes (record { reader = c.self.inside.reader; readers = c.self.inside.readers; schedule = c.self.inside.schedule })
       c.finish.new.self c.clear.new.self.items c.finish.new.out.items c.in-Err.error c.in-Err.ensures (subst (HasTaken p bytes) (sym c.self.view_is) taken));
 }

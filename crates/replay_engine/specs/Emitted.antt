@@ -1,0 +1,27 @@
+-- What `emit` answers of a stream file.
+use Rattle.std.specs.Prelude.{codes, ◌≡◌, ℕ, List, Result, Ok, Err}
+use Rattle.emit_text.specs.declared.error.EmitError.{EmitError}
+use Rattle.emit_text.specs.declared.error.EmitError.TheVariants.{BadLine, NotWellFormed, NoChannel, TooLate, NotAssignable, Spent, TooLong, Memory}
+use Rattle.emit_text.specs.Emitted.{IsEmitted}
+use Rattle.replay_engine.specs.Judged.{Answer}
+use Rattle.replay_engine.specs.Refused.{Refused, bad_stream_line, not_well_formed, no_channel, too_late, not_assignable, refused, too_long}
+
+-- why a stream is not written as a recording; a writer is never spent by a file that may be read
+abbrev pub emit_refused : EmitError → Refused
+emit_refused (BadLine n) = bad_stream_line n
+emit_refused (NotWellFormed n) = not_well_formed n
+emit_refused NoChannel = no_channel
+emit_refused (TooLate n) = too_late n
+emit_refused (NotAssignable n) = not_assignable n
+emit_refused (Spent n) = refused 6 (codes "no memory")
+emit_refused TooLong = too_long (codes "run")
+emit_refused Memory = refused 6 (codes "no memory")
+
+-- the text of a recording, or why there is none
+abbrev pub emit_answer : Result (List ℕ) EmitError → Answer
+emit_answer (Ok text) = Ok text
+emit_answer (Err error) = Err (emit_refused error)
+
+-- the recording of a device in a channel of a stream file
+abbrev pub EmitAnswers : ℕ → ℕ → List ℕ → Answer → Type 0
+EmitAnswers channel device bytes a = (r : Result (List ℕ) EmitError) × IsEmitted bytes channel device r × (emit_answer r ≡ a)

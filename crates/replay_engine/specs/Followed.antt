@@ -1,0 +1,53 @@
+-- What `check` answers of an order file.
+use Rattle.std.specs.Prelude.{codes, ◌≡◌, ℕ, ◌+◌, nat_le, cond, List, length, map, reverse, Result, Ok, Err}
+use Rattle.raw_events.specs.declared.event.RawEvent.{RawEvent}
+use Rattle.dispatch_calls.specs.declared.call.Call.{Call}
+use Rattle.dispatch_history.specs.Given as history
+use Rattle.dispatch_history.specs.Legal.{run}
+use Rattle.given_run.specs.Planned.{line_of}
+use Rattle.session_plan.specs.DeviceDisplays.{device_displays}
+use Rattle.session_plan.specs.Plan.{PlanData}
+use Rattle.stream_text.specs.declared.order_line.OrderLine.{OrderLine}
+use Rattle.stream_text.specs.OrderText.{order_of}
+use Rattle.stream_text.specs.StreamsHistory.{streams_text}
+use Rattle.replay_engine.specs.Judged.{Answer}
+use Rattle.replay_engine.specs.Planned.{given, names_of, run_of}
+use Rattle.replay_engine.specs.Refused.{Refused, bad_order_line, no_step, too_long}
+
+-- the most bytes of an order file, 64 MiB
+abbrev pub order_limit : ℕ
+order_limit = 67108864
+
+-- the most args of a recording that is checked
+abbrev pub given_limit : ℕ
+given_limit = 20000
+
+-- the most lines of an order that is run
+abbrev pub line_limit : ℕ
+line_limit = 8000000
+
+-- the lines of an order, or the refusal of its first bad or missing line
+abbrev pub order_lines : Result (List OrderLine) ℕ → Result (List OrderLine) Refused
+order_lines (Ok lines) = Ok lines
+order_lines (Err n) = Err (bad_order_line n)
+
+-- the lines of an order file, or why it is refused: its length is looked at first, and then each of its lines
+abbrev pub order_judged : List ℕ → Result (List OrderLine) Refused
+order_judged bytes = cond (nat_le (length bytes) order_limit) (order_lines (order_of bytes)) (Err (too_long (codes "order")))
+
+-- The streams text of a session after these calls; or the line that asks for a step that does not exist, which stands behind the first
+-- line of the file and so many others.
+abbrev pub steps_judged : PlanData → Result (List Call) ℕ → Answer
+steps_judged plan (Ok calls) = Ok (streams_text (names_of plan) (run (device_displays plan.devices) (reverse calls)))
+steps_judged plan (Err before) = Err (no_step (before + 2))
+
+-- what an order comes to for a session and the events of a recording, the newest first: neither the args nor the lines may be too many
+abbrev pub followed : PlanData → List RawEvent → List OrderLine → Answer
+followed plan past lines =
+    cond (nat_le (length (given plan past)) given_limit)
+    (cond (nat_le (length lines) line_limit) (steps_judged plan (history.given (run_of plan past) (map line_of lines))) (Err (too_long (codes "run"))))
+    (Err (too_long (codes "run")))
+
+-- what an order comes to for the events of a recording, which stand in their order
+abbrev pub OrderAnswers : PlanData → List RawEvent → List OrderLine → Answer → Type 0
+OrderAnswers plan events lines a = followed plan (reverse events) lines ≡ a
