@@ -1,0 +1,173 @@
+//! The cases: of each command a run that comes to a text and one that is refused.
+use crate::failing::{add_case, add_pieces};
+use crate::runs::{Call, Case, Files};
+use crate::texts::{
+    FINGER, FINGERS, FOURTH, HALVES, MOUSE, MOVES, ONE_HALF, ORDER, REPLACED, SESSION, STEP, TAP,
+    TIMELESS, TIMELESS_MOUSE, TWO_DOWNS, TWO_FINGERS,
+};
+use std::io;
+
+/// The words of commands.
+const REPLAY: &str = "replay --session session --events events";
+
+const CHECK: &str = "check --session session --events events --order order";
+
+const VERIFY: &str = "verify --stream stream";
+
+const WORK: &str = "work --seed 0 --packets 1";
+
+const BATCH: &str = "batch --stream stream --frame 8000";
+
+const HOVER: &str = "hover --session session --events events --mouse /dev/input/event3";
+
+const EMIT: &str = "emit --stream stream --channel 1 --device 1";
+
+/// A run that comes to a text: each read and each write fails in turn.
+fn told<'a>(name: &'a str, words: &'a str, files: Files<'a>) -> Case<'a> {
+    Case {
+        name,
+        words,
+        files,
+        failing: &[Call::Read, Call::Write],
+    }
+}
+
+/// A run that is refused for a file: each read and each telling fails in turn.
+fn refused<'a>(name: &'a str, words: &'a str, files: Files<'a>) -> Case<'a> {
+    Case {
+        name,
+        words,
+        files,
+        failing: &[Call::Read, Call::Tell],
+    }
+}
+
+/// A run that comes to no judgement: each telling fails in turn.
+fn stopped<'a>(name: &'a str, words: &'a str, files: Files<'a>) -> Case<'a> {
+    Case {
+        name,
+        words,
+        files,
+        failing: &[Call::Tell],
+    }
+}
+
+/// Adds these cases.
+fn add_each(text: &mut Vec<u8>, cases: &[Case]) -> io::Result<()> {
+    for case in cases {
+        add_case(text, case)?;
+    }
+    Ok(())
+}
+
+/// Adds a tap, by reads of any length, and what stands behind it.
+fn add_taps(text: &mut Vec<u8>) -> io::Result<()> {
+    let tap = told(
+        "a tap",
+        REPLAY,
+        &[("session", &[SESSION, STEP]), ("events", &[TAP, "\r\n"])],
+    );
+    add_case(text, &tap)?;
+    add_pieces(text, &tap, 1)?;
+    add_pieces(text, &tap, 7)?;
+    add_pieces(text, &tap, 65536)?;
+    let cases = [
+        told(
+            "no last newline",
+            REPLAY,
+            &[("session", &[SESSION, STEP]), ("events", &[TAP])],
+        ),
+        told(
+            "a finger behind it",
+            REPLAY,
+            &[("session", &[SESSION, STEP]), ("events", &[TAP, FINGER])],
+        ),
+    ];
+    add_each(text, &cases)
+}
+
+/// Adds replays without an event, and those that come to no text.
+fn add_nothing(text: &mut Vec<u8>) -> io::Result<()> {
+    let cases = [
+        told(
+            "nothing recorded",
+            REPLAY,
+            &[("session", &[SESSION]), ("events", &[])],
+        ),
+        refused("no display", REPLAY, &[("session", &[]), ("events", &[])]),
+        refused(
+            "no moment",
+            REPLAY,
+            &[("session", &[SESSION]), ("events", &[TIMELESS])],
+        ),
+        stopped("no recording", REPLAY, &[("session", &[SESSION])]),
+        stopped("no session", REPLAY, &[("events", &[])]),
+        stopped(
+            "no name",
+            "replay --session session --events",
+            &[("session", &[SESSION])],
+        ),
+    ];
+    add_each(text, &cases)
+}
+
+/// Adds commands on a stream file.
+fn add_streams(text: &mut Vec<u8>) -> io::Result<()> {
+    let cases = [
+        told("two fingers judged", VERIFY, &[("stream", &[TWO_FINGERS])]),
+        refused("two downs judged", VERIFY, &[("stream", &[TWO_DOWNS])]),
+        told("moves in batches", BATCH, &[("stream", &[MOVES])]),
+        refused("two downs in batches", BATCH, &[("stream", &[TWO_DOWNS])]),
+        told("two fingers written", EMIT, &[("stream", &[TWO_FINGERS])]),
+        refused(
+            "a replaced finger written",
+            EMIT,
+            &[("stream", &[REPLACED])],
+        ),
+    ];
+    add_each(text, &cases)
+}
+
+/// Adds runs of an order, of a number, and of a mouse.
+fn add_runs(text: &mut Vec<u8>) -> io::Result<()> {
+    let cases = [
+        told(
+            "an order",
+            CHECK,
+            &[
+                ("session", &[HALVES]),
+                ("events", &[FINGERS]),
+                ("order", &[ORDER]),
+            ],
+        ),
+        refused(
+            "a fourth motion",
+            CHECK,
+            &[
+                ("session", &[HALVES]),
+                ("events", &[FINGERS]),
+                ("order", &[FOURTH]),
+            ],
+        ),
+        told("a generated packet", WORK, &[]),
+        told(
+            "a mouse",
+            HOVER,
+            &[("session", &[HALVES, ONE_HALF]), ("events", &[MOUSE])],
+        ),
+        refused(
+            "a mouse without a moment",
+            HOVER,
+            &[("session", &[HALVES]), ("events", &[TIMELESS_MOUSE])],
+        ),
+    ];
+    add_each(text, &cases)
+}
+
+/// Adds all cases.
+pub(crate) fn add_all(text: &mut Vec<u8>) -> io::Result<()> {
+    add_taps(text)?;
+    add_nothing(text)?;
+    add_streams(text)?;
+    add_runs(text)
+}

@@ -1,0 +1,26 @@
+//! Whole runs of the program's commands over files and streams in memory, of which each call is made to fail in turn.
+//!
+//! Standard output has, for each case, the status that it ends with and the bytes that its two streams take, and then
+//! how many calls of a kind were made to fail, one in each run:
+//!
+//! - a read: status 4, nothing written, and `read failed`;
+//! - a write: status 5, the eight bytes of each write before it, and `write failed`;
+//! - a telling, which is a write of the line for standard error: the status and the text as without it.
+//!
+//! They end with the first run that makes fewer calls, which comes to what a run without a fault comes to. A read gives
+//! at most 128 bytes and a write takes at most eight. So a file of n bytes has a call that opens it, one for each 128
+//! bytes or the rest of them, and one that sees its end; a text of n bytes has a write for each eight or the rest.
+#![tactic(auto)]
+
+mod cases;
+mod failing;
+mod runs;
+mod texts;
+
+use std::io;
+
+fn main(rt: HostRuntime) -> io::Result<()> {
+    let mut text = Vec::new(rt.alloc());
+    cases::add_all(&mut text)?;
+    rt.stdout().write_all(&text)
+}

@@ -1,0 +1,124 @@
+//! A run over files and streams in memory.
+ghost use Rattle.std.specs.Prelude.{◌<◌};
+
+use outside_io::{MemFiles, MemSink, names_differ};
+use std::alloc::{AllocError, Global};
+use std::io;
+use std::io::ErrorKind;
+
+/// The most bytes that a write takes.
+const TAKEN: usize = 8;
+
+/// How much there is room for in a stream.
+const ROOM: usize = 4096;
+
+/// Files by their names, each in parts.
+pub(crate) type Files<'a> = &'a [(&'a str, &'a [&'a str])];
+
+/// What is run: the words behind the program's name, and the files that there are. Calls of these kinds fail in turn.
+#[derive(Clone, Copy)]
+pub(crate) struct Case<'a> {
+    pub name: &'a str,
+    pub words: &'a str,
+    pub files: Files<'a>,
+    pub failing: &'a [Call],
+}
+
+/// A kind of calls of the outside.
+#[derive(Clone, Copy, PartialEq, Eq)]
+pub(crate) enum Call {
+    Read,
+    Write,
+    Tell,
+}
+
+/// The one call that fails: the first of its kind has number 1.
+#[derive(Clone, Copy)]
+pub(crate) struct Fault {
+    pub call: Call,
+    pub number: u64,
+}
+
+/// What a run came to.
+#[derive(Drop, PartialEq, Eq)]
+pub(crate) struct Ran {
+    pub status: u8,
+    pub out: Vec<u8>,
+    pub err: Vec<u8>,
+}
+
+/// That many bytes.
+fn zeros(alloc: Global, len: usize) -> Result<Vec<u8>, AllocError> {
+    vec![in alloc; 0; len]
+}
+
+/// The words that stand in a line.
+fn words_of(alloc: Global, line: &str) -> Result<Vec<String>, AllocError> {
+    let mut words = Vec::new(alloc);
+    for word in line.split_whitespace() {
+        words.push(String::from_str(alloc, word)?)?;
+    }
+    Ok(words)
+}
+
+/// The bytes of a file in parts.
+fn joined(alloc: Global, parts: &[&str]) -> Result<Vec<u8>, AllocError> {
+    let mut bytes = Vec::new(alloc);
+    for part in parts {
+        bytes.extend_from_slice(part.as_bytes())?;
+    }
+    Ok(bytes)
+}
+
+/// The files with their bytes.
+fn files_of(alloc: Global, files: Files) -> Result<Vec<(String, Vec<u8>)>, AllocError> {
+    let mut whole = Vec::new(alloc);
+    for file in files {
+        whole.push((String::from_str(alloc, file.0)?, joined(alloc, file.1)?))?;
+    }
+    Ok(whole)
+}
+
+/// The numbers of the calls of a kind that fail.
+fn listed(alloc: Global, fault: Option<Fault>, call: Call) -> Result<Vec<u64>, AllocError> {
+    let mut numbers = Vec::new(alloc);
+    if let Some(fault) = fault {
+        if fault.call == call {
+            numbers.push(fault.number)?;
+        }
+    }
+    Ok(numbers)
+}
+
+/// Runs the program where a read gives at most `piece` bytes.
+pub(crate) fn run_case(
+    alloc: Global,
+    case: &Case,
+    piece: usize,
+    fault: Option<Fault>,
+) -> io::Result<Ran>
+    requires { 0 < piece }
+{
+    let files = files_of(alloc, case.files)?;
+    if !names_differ(&files) {
+        return Err(ErrorKind::InvalidInput.into());
+    }
+    let words = words_of(alloc, case.words)?;
+    let mut files = MemFiles::new(files, piece, listed(alloc, fault, Call::Read)?);
+    let mut out = MemSink::new(
+        zeros(alloc, ROOM)?,
+        TAKEN,
+        listed(alloc, fault, Call::Write)?,
+    );
+    let mut err = MemSink::new(
+        zeros(alloc, ROOM)?,
+        TAKEN,
+        listed(alloc, fault, Call::Tell)?,
+    );
+    let status = replay_engine::run(alloc, &words, &mut files, &mut out, &mut err);
+    Ok(Ran {
+        status,
+        out: Vec::from_slice(alloc, out.taken())?,
+        err: Vec::from_slice(alloc, err.taken())?,
+    })
+}
