@@ -108,21 +108,3 @@ impl Bits32 {
         self.bits
     }
 }
-
-#[cfg(test)]
-mod tests {
-    use super::Bits32;
-
-    #[test]
-    fn two_fingers(rt: HostRuntime) {
-        let mut fingers = Bits32::empty();
-        fingers.mark(0);
-        fingers.mark(2);
-        assert!(rt; fingers.has(2));
-        assert_eq!(rt; fingers.count(), 2);
-        assert_eq!(rt; fingers.first_unmarked(), Some(1));
-        assert_eq!(rt; fingers.nth(1), Some(2));
-        fingers.clear(0);
-        assert_eq!(rt; fingers.bits(), 4);
-    }
-}

@@ -20,7 +20,5 @@ mod keys;
 pub mod laws;
 mod pointers;
 mod state;
-#[cfg(test)]
-mod tests;
 
 pub use state::InputState;

@@ -11,7 +11,8 @@ use Rattle.window_snapshot.specs.Named.{is_shown_on, origin as corner_of_frame, 
 use Rattle.window_snapshot.proofs.Told.{touched_is_live}
 use Rattle.cursor_core.specs.declared.call.CursorCall.{CursorCall}
 use Rattle.cursor_core.specs.declared.call.CursorCall.TheVariants.{Moved, Windows, Remove}
-use Rattle.cursor_core.specs.Calls.{Screen, corner, corner_of, cursor, has_moved, hovered, hovered_by, live, or_origin, origin, windows}
+use Rattle.cursor_core.specs.Calls.{Screen, corner_of, cursor, has_moved, hovered, hovered_by, live, origin, windows}
+use Rattle.window_snapshot.specs.Origins.{corner, or_origin}
 use Rattle.cursor_core.specs.Told.{is_at}
 
 pub at_is : (o : Option ℕ) (w : ℕ) → is_at o w ≡ true → o ≡ Some w

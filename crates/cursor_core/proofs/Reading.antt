@@ -5,7 +5,8 @@ use Rattle.std.proofs.lemmas.Bool.{and_parts, and_right, eqb-true}
 use Rattle.raw_events.specs.declared.event.RawEvent.{RawEvent}
 use Rattle.cursor_core.specs.declared.call.CursorCall.TheVariants.{Moved}
 use Rattle.cursor_core.specs.declared.motion.MotionReader.{MotionReader}
-use Rattle.cursor_core.specs.Packets.{has_motion, is_drop, is_rel, is_report, is_void, latest, motion_by, motion_of, packet, sum_of, summed}
+use Rattle.cursor_core.specs.Packets.{has_motion, is_rel, latest, motion_by, motion_of, packet, sum_of, summed}
+use Rattle.raw_events.specs.Packets.{is_drop, is_report, is_void}
 use Rattle.cursor_core.specs.Reading.{ReaderStandsFor, begun, grown}
 
 -- an empty packet has begun

@@ -5,7 +5,8 @@ use Rattle.std.specs.Int.{saturate_signed, w64}
 use Rattle.std.proofs.lemmas.Int.{ints}
 use Rattle.std.proofs.lemmas.List.{length-reverse, reverse-append}
 use Rattle.raw_events.specs.declared.event.RawEvent.{RawEvent}
-use Rattle.cursor_core.specs.Packets.{is_drop, is_rel, is_report, is_void, packet, sum_of, summed}
+use Rattle.cursor_core.specs.Packets.{is_rel, packet, sum_of, summed}
+use Rattle.raw_events.specs.Packets.{is_drop, is_report, is_void}
 use Rattle.cursor_core.specs.Sums.{AreI32, IsI32, total_of}
 
 -- a number that is not past an end of 64 bits stays

@@ -1,5 +1,5 @@
 -- What the calls of a cursor say. Lists of calls stand with the newest first; what is before a call is the tail.
-use Rattle.std.specs.Prelude.{ℕ, ℤ, pos, ◌+ℤ◌, ◌-◌, ◌/◌, max, nat_le, nat_lt, Bool, true, false, not, ◌==◌, ◌&&◌, ◌||◌, if◌then◌else◌, List, [], ◌∷◌, Option, Some, None}
+use Rattle.std.specs.Prelude.{ℕ, ℤ, pos, ◌+ℤ◌, ◌-◌, ◌/◌, max, nat_le, nat_lt, Bool, true, false, not, ◌==◌, ◌&&◌, ◌||◌, if◌then◌else◌, List, [], ◌∷◌, Option, None}
 use Rattle.std.specs.Int.{int_max, int_min}
 use Rattle.input_types.specs.declared.axis.Pixel.{Pixel}
 use Rattle.window_snapshot.specs.declared.window.Window.{Window}
@@ -7,6 +7,7 @@ use Rattle.window_snapshot.specs.Hits.{touched}
 use Rattle.window_snapshot.specs.Named.{origin_of, is_shown_on}
 use Rattle.cursor_core.specs.declared.call.CursorCall.{CursorCall}
 use Rattle.cursor_core.specs.declared.call.CursorCall.TheVariants.{Moved, Windows, Remove}
+use Rattle.window_snapshot.specs.Origins.{corner, or_origin}
 
 -- where a cursor is used: the extents of display 0 as it is turned, and how many channels are live at first, with the numbers from 1 on
 pub record Screen : Type 0 where
@@ -72,15 +73,6 @@ live_after (Remove now k) c before = not (c == k) && before
 abbrev pub live : ℕ → List CursorCall → ℕ → Bool
 live n [] c = nat_lt 0 c && nat_le c n
 live n (call ∷ calls) c = live_after call c (live n calls c)
-
--- the corner of the display
-abbrev pub corner : Pixel
-corner = record { x = pos 0; y = pos 0 }
-
--- an origin, or else the one before
-abbrev pub or_origin : Option Pixel → Pixel → Pixel
-or_origin None before = before
-or_origin (Some p) before = p
 
 -- a snapshot that names a window says its origin
 abbrev pub origin_after : CursorCall → ℕ → Pixel → Pixel

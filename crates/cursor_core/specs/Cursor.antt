@@ -6,7 +6,8 @@ use Rattle.window_snapshot.specs.Mask.{mask_has}
 use Rattle.window_snapshot.specs.Named.{origin_of}
 use Rattle.cursor_core.specs.declared.call.CursorCall.{CursorCall}
 use Rattle.cursor_core.specs.declared.note.Step.{Step}
-use Rattle.cursor_core.specs.Calls.{Screen, clock, corner, corner_of, cursor, has_moved, hovered, live, or_origin, windows}
+use Rattle.cursor_core.specs.Calls.{Screen, clock, corner_of, cursor, has_moved, hovered, live, windows}
+use Rattle.window_snapshot.specs.Origins.{corner, or_origin}
 use Rattle.cursor_core.specs.Kept.{Kept}
 use Rattle.cursor_core.specs.Notes.{note_after, note_before, noted}
 use Rattle.cursor_core.specs.Rows.{rows_from, rows_with}

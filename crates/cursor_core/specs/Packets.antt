@@ -4,19 +4,7 @@ use Rattle.std.specs.Int.{saturate_signed, w64}
 use Rattle.raw_events.specs.declared.event.RawEvent.{RawEvent}
 use Rattle.cursor_core.specs.declared.call.CursorCall.{CursorCall}
 use Rattle.cursor_core.specs.declared.call.CursorCall.TheVariants.{Moved}
-
--- a SYN_REPORT
-abbrev pub is_report : RawEvent → Bool
-is_report e = nat_eq e.kind 0 && nat_eq e.code 0
-
--- a SYN_DROPPED
-abbrev pub is_drop : RawEvent → Bool
-is_drop e = nat_eq e.kind 0 && nat_eq e.code 3
-
--- what comes next is void: a drop came that was not void itself, and no SYN_REPORT since
-abbrev pub is_void : List RawEvent → Bool
-is_void [] = false
-is_void (e ∷ past) = if is_void past then not (is_report e) else is_drop e
+use Rattle.raw_events.specs.Packets.{is_report, is_drop, is_void}
 
 -- the packet that has begun: the events that are not void since the last packet end or drop. A packet ends at a SYN_REPORT that is not
 -- void

@@ -2,7 +2,8 @@
 use Rattle.std.specs.Prelude.{◌≡◌, ℕ, pos, Bool, false, ◌||◌, List}
 use Rattle.raw_events.specs.declared.event.RawEvent.{RawEvent}
 use Rattle.cursor_core.specs.declared.motion.MotionReader.{MotionReader}
-use Rattle.cursor_core.specs.Packets.{has_motion, is_rel, is_void, latest, packet, sum_of, summed}
+use Rattle.cursor_core.specs.Packets.{has_motion, is_rel, latest, packet, sum_of, summed}
+use Rattle.raw_events.specs.Packets.{is_void}
 
 -- a reader stands for these events: it knows whether what comes is void, the sums of the packet that has begun, and the greatest moment of a
 -- packet

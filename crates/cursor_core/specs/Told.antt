@@ -1,6 +1,5 @@
 -- What each window is told.
-use Rattle.std.specs.Prelude.{◌≡◌, ℕ, ◌-ℤ◌, nat_le, nat_lt, Bool, true, false, ◌==◌, ◌&&◌, ◌||◌, if◌then◌else◌, List, [], ◌∷◌, ◌++◌, Option, Some, None, option_map}
-use Rattle.std.specs.Int.{saturate_signed, w32}
+use Rattle.std.specs.Prelude.{◌≡◌, ℕ, nat_le, nat_lt, Bool, true, false, ◌==◌, ◌&&◌, ◌||◌, if◌then◌else◌, List, [], ◌∷◌, ◌++◌, Option, Some, None, option_map}
 use Rattle.std.specs.Option.{option_to_list}
 use Rattle.input_types.specs.declared.axis.Pixel.{Pixel}
 use Rattle.cursor_core.specs.declared.call.CursorCall.{CursorCall}
@@ -9,6 +8,7 @@ use Rattle.cursor_core.specs.declared.message.HoverAction.{HoverAction}
 use Rattle.cursor_core.specs.declared.message.HoverAction.TheVariants.{Enter, Move, Exit}
 use Rattle.cursor_core.specs.declared.message.HoverMsg.{HoverMsg}
 use Rattle.cursor_core.specs.Calls.{Screen, clock, cursor, hovered, is_motion, live, origin}
+use Rattle.window_snapshot.specs.Origins.{place_from}
 
 -- the hovered window is this one
 abbrev pub is_at : Option ℕ → ℕ → Bool
@@ -29,10 +29,6 @@ abbrev pub place : HoverAction → Pixel → Pixel → Pixel
 place Enter before after = after
 place Move before after = after
 place Exit before after = before
-
--- a place counted from an origin, kept at the ends of its type
-abbrev pub place_from : Pixel → Pixel → Pixel
-place_from o at = record { x = saturate_signed w32 (at.x -ℤ o.x); y = saturate_signed w32 (at.y -ℤ o.y) }
 
 -- the message of an action at a place of the display, to a window with this origin
 abbrev pub message : ℕ → HoverAction → Pixel → Pixel → HoverMsg

@@ -22,8 +22,6 @@ mod motion;
 mod note;
 mod stream;
 mod sums;
-#[cfg(test)]
-mod tests;
 
 pub use call::CursorCall;
 pub use cursor::Cursor;

@@ -1,6 +1,7 @@
 //! What a window is told of the cursor.
 ghost use Rattle.std.specs.Prelude.{◌≡◌};
-ghost use Rattle.cursor_core.specs.Told.{change, message, place_from};
+ghost use Rattle.cursor_core.specs.Told.{change, message};
+ghost use Rattle.window_snapshot.specs.Origins.{place_from};
 
 use input_types::{Moment, Pixel};
 

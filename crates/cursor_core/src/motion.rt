@@ -2,7 +2,8 @@
 ghost use Rattle.std.specs.Prelude.{◌≡◌, List, [], ◌∷◌, ◌&&◌, nat_eq, Some, None, if◌then◌else◌};
 ghost use Rattle.raw_events.specs.declared.event.RawEvent.{RawEvent as Event};
 ghost use Rattle.cursor_core.specs.declared.call.CursorCall.TheVariants.{Moved};
-ghost use Rattle.cursor_core.specs.Packets.{is_drop, is_rel, is_report, motion_of, summed};
+ghost use Rattle.cursor_core.specs.Packets.{is_rel, motion_of, summed};
+ghost use Rattle.raw_events.specs.Packets.{is_drop, is_report};
 ghost use Rattle.cursor_core.specs.Reading.{ReaderStandsFor, begun, grown};
 
 use crate::call::{CursorCall, later};

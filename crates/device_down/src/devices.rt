@@ -89,39 +89,3 @@ fn row(device: DeviceId) -> usize
 {
     usize::from(device.get() - 1)
 }
-
-#[cfg(test)]
-mod tests {
-    use super::*;
-    use crate::change::Becomes;
-    use input_types::KeyArgs;
-    use std::test::Fail;
-
-    #[test]
-    fn a_key_goes_down_once(rt: HostRuntime) -> Result<(), Fail> {
-        let device = DeviceId::new(8).ok_or("a device")?;
-        let mut down = DevicesDown::new(rt.alloc())?;
-        let args = Args::Key(KeyArgs {
-            device,
-            scan: 115,
-            code: 24,
-            meta: 0,
-            down: true,
-        });
-        let change = Change {
-            device,
-            becomes: Becomes::Key {
-                scan: 115,
-                down: true,
-            },
-        };
-        assert_eq!(rt; down.plan(&args), Ok(change));
-        down.take(&change)?;
-        let refused = Inconsistent {
-            pointers: 0,
-            key_down: true,
-        };
-        assert_eq!(rt; down.plan(&args), Err(refused));
-        Ok(())
-    }
-}

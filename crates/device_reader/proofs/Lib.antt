@@ -1,5 +1,6 @@
 pub mod Drops
 pub mod Packet
+pub mod TouchRule
 pub mod Rule
 pub mod Examples
 pub mod All

@@ -5,7 +5,7 @@ use Rattle.input_types.specs.declared.pointer.Pointer.{Pointer}
 use Rattle.input_types.specs.declared.key.KeyArgs.{KeyArgs}
 use Rattle.input_types.specs.declared.message.Args.{Args}
 use Rattle.input_types.specs.declared.message.Args.TheVariants.{Key, Reset}
-use Rattle.slot_accumulator.specs.SlotValues.{is_report}
+use Rattle.raw_events.specs.Packets.{is_report, is_drop, is_void}
 use Rattle.slot_accumulator.specs.SlotContacts.{contacts_at, StandsFor as SlotsStandFor}
 use Rattle.pointer_ids.specs.PointerIds.{named_after, is_cancelled, assigned}
 use Rattle.touch_mapper.specs.Cooking.{Cooking}
@@ -17,7 +17,7 @@ use Rattle.device_reader.specs.declared.touch.Touch.{Touch}
 use Rattle.device_reader.specs.declared.reader.Kind.{Kind}
 use Rattle.device_reader.specs.declared.reader.Kind.TheVariants as kinds
 use Rattle.device_reader.specs.Reading.{Reading}
-use Rattle.device_reader.specs.Packets.{is_drop, is_void, since_drop, packets, is_key, key_event, key_events}
+use Rattle.device_reader.specs.Packets.{since_drop, packets, is_key, key_event, key_events}
 
 -- a touch device: its number, how many slots it has, and how its positions become pixels
 pub record TouchPlan : Type 0 where

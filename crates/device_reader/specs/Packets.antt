@@ -1,19 +1,10 @@
 -- The packets of a device's events, and the key events among them. Events stand with the newest first.
-use Rattle.std.specs.Prelude.{ℕ, Bool, false, not, ◌&&◌, nat_eq, List, [], ◌∷◌, if◌then◌else◌}
+use Rattle.std.specs.Prelude.{ℕ, Bool, nat_eq, List, [], ◌∷◌, if◌then◌else◌}
 use Rattle.raw_events.specs.declared.event.RawEvent.{RawEvent}
 use Rattle.slot_accumulator.specs.declared.contacts.Contact.{Contact}
-use Rattle.slot_accumulator.specs.SlotValues.{is_report}
+use Rattle.raw_events.specs.Packets.{is_report, is_drop, is_void}
 use Rattle.slot_accumulator.specs.SlotContacts.{contacts_at}
 use Rattle.key_mapper.specs.Key.{KeyEvent}
-
--- a SYN_DROPPED
-abbrev pub is_drop : RawEvent → Bool
-is_drop e = nat_eq e.kind 0 && nat_eq e.code 3
-
--- what comes next is void: a drop came, and no SYN_REPORT since
-abbrev pub is_void : List RawEvent → Bool
-is_void [] = false
-is_void (e ∷ past) = if is_void past then not (is_report e) else is_drop e
 
 -- the events that are not void, since the last drop
 abbrev pub since_drop : List RawEvent → List RawEvent

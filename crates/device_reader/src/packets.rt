@@ -1,6 +1,6 @@
 //! The event that says that events were lost.
 ghost use Rattle.std.specs.Prelude.{◌≡◌};
-ghost use Rattle.device_reader.specs.Packets.{is_drop as drops};
+ghost use Rattle.raw_events.specs.Packets.{is_drop as drops};
 
 use raw_events::RawEvent;
 use raw_events::codes::{EV_SYN, SYN_DROPPED};

@@ -178,6 +178,3 @@ fn reset(kind: &mut Kind)
         Kind::Keys(keys) => keys.reset(),
     }
 }
-
-#[cfg(test)]
-mod tests;

@@ -3,7 +3,7 @@ use Rattle.std.proofs.Common.{◌≡◌, ℕ, zero, suc, ◌<◌, List, [], ◌�
 use Rattle.input_types.specs.declared.axis.Pixel.{Pixel}
 use Rattle.input_types.specs.declared.pointer.Pointer.{Pointer}
 use Rattle.input_types.specs.Pointers.{IsRising, EndsBelow}
-use Rattle.dispatch_history.specs.Said.{place_from}
+use Rattle.window_snapshot.specs.Origins.{place_from}
 
 -- a pointer whose place is counted from an origin
 abbrev pub counted : Pixel → Pointer → Pointer

@@ -1,12 +1,13 @@
 //! The channels.
 ghost use Rattle.std.specs.Prelude.{◌≡◌, ℕ, true, [], ◌≤◌, ◌<◌, length, is_ok, option_copied, OnOk, OnErr, IfOk, IsOk};
-ghost use Rattle.window_snapshot.specs.Mask.{is_channel, mask_has};
-ghost use Rattle.anr_tracker.specs.Due.{IsFirst};
+ghost use Rattle.window_snapshot.specs.Mask.{mask_has};
 ghost use Rattle.input_channel.specs.Order.{NoneAfter};
-ghost use Rattle.input_channel.specs.State.{next_of, received_one, received_next, let_go_of, may_finish, oldest_of};
+ghost use Rattle.input_channel.specs.State.{next_of, received_one, received_next, let_go_of, may_finish};
 ghost use Rattle.dispatch_history.specs.Reply.{is_due};
 ghost use Rattle.dispatch_channels.specs.Table.{opened, IsOpened, channel_of, input_of, with_channel, with_room, but_for_room, due_moment};
-ghost use Rattle.dispatch_channels.specs.Changes.{OpensOrNot, Tells, MayPublish, Settles, finished_in, named_in, removed_in, counts_in};
+ghost use Rattle.dispatch_channels.specs.Changes.{OpensOrNot, Tells, MayPublish, Settles, finished_in, named_in, removed_in};
+
+mod asked;
 
 use crate::due::{clear_all, due_channels, due_in, set_due};
 use crate::heard::body_from;
@@ -16,7 +17,7 @@ use crate::settle::{able_after, finish_one, settle_all};
 use crate::tracked::track;
 use anr_tracker::Tracker;
 use cancel_synthesis::InputState;
-use dispatch_calls::{Counts, Naming};
+use dispatch_calls::Naming;
 use input_channel::{Channel, UnknownSeq};
 use input_types::{Body, Limit, Message, Moment, Pixel};
 use std::alloc::{AllocError, Global};
@@ -253,77 +254,11 @@ impl Channels {
         self.tracker.clear(channel);
     }
 
-    /// How far a channel has come; None exactly where none was opened with this number.
-    pub fn counts(&self, channel: u32) -> Option<Counts>
-        ensures { result ≡ counts_in self.now channel }
-    {
-        if channel < 1 || self.opened() < channel {
-            return None;
-        }
-        let kept = &self.channels[channel as usize - 1];
-        Some(Counts {
-            sent: kept.sent(),
-            received: kept.received(),
-            finished: kept.finished(),
-            published: kept.published(),
-            live: mask_has(self.live, channel),
-        })
-    }
-
-    /// When a channel is due to be named: its limit after the delivery of its oldest message that is published and not
-    /// finished; None exactly where it is not able, or has no such message.
-    pub fn due(&self, channel: u32) -> Option<u64>
-        requires { is_channel channel ≡ true }
-        ensures { result ≡ due_moment self.now channel }
-    {
-        self.tracker.due(channel)
-    }
-
-    /// The least moment at which a channel is due to be named, and the channel, the least one where several are due
-    /// at it; None exactly where no channel is due.
-    pub fn first_due(&self) -> Option<(u64, u32)>
-        ensures { IsFirst (due_moment self.now) result }
-    {
-        self.tracker.first_due()
-    }
-
-    /// The number and the delivery of the oldest message of a channel that is published and not finished; None exactly
-    /// where every published message is finished.
-    pub fn oldest(&self, channel: u32) -> Option<(u64, Moment)>
-        requires { IsOpened self.now channel }
-        ensures { result ≡ oldest_of (channel_of self.now channel) }
-    {
-        self.channels[channel as usize - 1].oldest_unfinished()
-    }
-
-    /// The messages of a channel, but for those that were let go.
-    pub fn messages(&self, channel: u32) -> &[Message]
-        requires { IsOpened self.now channel }
-        ensures { result.now ≡ (channel_of self.now channel).messages }
-    {
-        self.channels[channel as usize - 1].messages()
-    }
-
     /// Drops the messages of a channel that were received. Their numbers stay in use.
     pub fn let_go(&mut self, channel: u32)
         requires { IsOpened self.old channel }
         ensures { self.new ≡ with_channel channel (let_go_of (channel_of self.old channel)) self.old }
     {
         self.channels[channel as usize - 1].let_go();
-    }
-
-    /// What the window of a channel was told and is not told the end of, from which cancels are made.
-    pub fn input(&self, channel: u32) -> &InputState
-        requires { IsOpened self.now channel }
-        ensures { result.now ≡ input_of self.now channel }
-    {
-        &self.inputs[channel as usize - 1]
-    }
-
-    /// The namings so far, the first one first.
-    pub fn namings(&self) -> &[Naming]
-        ensures { result.now ≡ self.now.namings }
-    {
-        &self.namings
     }
 }

@@ -1,7 +1,8 @@
 //! What the owner of a channel reads of what its window is told.
 ghost use Rattle.std.specs.Prelude.{◌≡◌, ◌∷◌, [], ◌++◌, ◌<◌, ◌≤◌, map, length};
 ghost use Rattle.input_types.specs.Pointers.{EndsBelow};
-ghost use Rattle.dispatch_history.specs.Said.{motion_from, place_from};
+ghost use Rattle.dispatch_history.specs.Said.{motion_from};
+ghost use Rattle.window_snapshot.specs.Origins.{place_from};
 ghost use Rattle.dispatch_channels.specs.Heard.{body_from};
 
 use input_types::{Body, Motion, Pixel, Pointer, Pointers, PushRefused};

@@ -27,8 +27,6 @@ mod heard;
 mod mask;
 mod noted;
 mod settle;
-#[cfg(test)]
-mod tests;
 mod tracked;
 
 pub use channels::Channels;

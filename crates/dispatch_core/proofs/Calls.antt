@@ -17,7 +17,7 @@ use Rattle.route_split.specs.declared.mark.Mark.{Mark}
 use Rattle.route_split.specs.Marking.{IsMark}
 use Rattle.route_split.specs.Seen.{Sees}
 use Rattle.route_split.specs.Tables.{Stands}
-use Rattle.route_split.specs.Telling.{is_watching}
+use Rattle.routing_rules.specs.Watching.{is_watching}
 use Rattle.dispatch_calls.specs.declared.call.Call.{Call}
 use Rattle.dispatch_calls.specs.declared.call.Call.TheVariants.{Pump}
 use Rattle.dispatch_calls.specs.declared.reply.Reply.{Reply}

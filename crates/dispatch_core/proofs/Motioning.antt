@@ -12,7 +12,7 @@ use Rattle.route_split.specs.declared.mark.Mark.{Mark}
 use Rattle.route_split.specs.Marking.{IsMark}
 use Rattle.route_split.specs.Seen.{Sees}
 use Rattle.route_split.specs.Tables.{Stands}
-use Rattle.route_split.specs.Telling.{is_watching}
+use Rattle.routing_rules.specs.Watching.{is_watching}
 use Rattle.dispatch_calls.specs.declared.reply.Reply.TheVariants.{Dispatched}
 use Rattle.dispatch_channels.proofs.Picking.{mask_has-and}
 use Rattle.dispatch_round.specs.declared.round.Round.{Round}

@@ -5,7 +5,7 @@ use Rattle.std.proofs.lemmas.Bool.{cases_eq, eq-eqb, ne_eqb}
 use Rattle.input_types.specs.declared.axis.Pixel.{Pixel}
 use Rattle.window_snapshot.specs.declared.window.Window.{Window}
 use Rattle.window_snapshot.specs.Named.{origin}
-use Rattle.dispatch_history.specs.Origin.{corner}
+use Rattle.window_snapshot.specs.Origins.{corner}
 use Rattle.dispatch_knows.specs.Shown.{origin_at}
 use Rattle.dispatch_core.specs.Showing.{origins_from}
 

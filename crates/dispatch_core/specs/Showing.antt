@@ -3,7 +3,7 @@ use Rattle.std.specs.Prelude.{◌≡◌, ◌≤◌, ℕ, List}
 use Rattle.input_types.specs.declared.axis.Pixel.{Pixel}
 use Rattle.window_snapshot.specs.declared.window.Window.{Window}
 use Rattle.window_snapshot.specs.Named.{origin_of}
-use Rattle.dispatch_history.specs.Origin.{or_origin}
+use Rattle.window_snapshot.specs.Origins.{or_origin}
 use Rattle.dispatch_knows.specs.Shown.{Shown, origin_at}
 
 -- the origin of a channel's window, where these windows are shown: theirs, or else the one before

@@ -1,6 +1,6 @@
 //! The windows that are shown, and the origin of each channel's window.
 ghost use Rattle.std.specs.Prelude.{◌≡◌, ◌≤◌, ℕ, [], ◌∷◌, replicate};
-ghost use Rattle.dispatch_history.specs.Origin.{corner};
+ghost use Rattle.window_snapshot.specs.Origins.{corner};
 ghost use Rattle.dispatch_knows.specs.Shown.{origin_at};
 ghost use Rattle.dispatch_core.specs.Showing.{Shows, origins_from};
 

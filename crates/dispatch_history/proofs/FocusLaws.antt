@@ -25,7 +25,8 @@ use Rattle.dispatch_history.specs.Step.{scene, step_of}
 use Rattle.dispatch_history.specs.Laws.{FocusLaw, FocusComesLaw}
 use Rattle.dispatch_history.proofs.LegalLaws.{effects_law}
 use Rattle.dispatch_history.proofs.StreamLaws.{stream_step, silent_law}
-use Rattle.dispatch_history.proofs.MotionLaws.{live_said, unopened, new_channel, shifted}
+use Rattle.dispatch_history.proofs.ToldMotions.{shifted}
+use Rattle.dispatch_history.proofs.MotionLaws.{live_said, unopened, new_channel}
 
 -- what bodies do to what is known of something
 unfoldable pub bodies_after : {X : Type 0} → (Body → Option X → Option X) → List Body → Option X → Option X

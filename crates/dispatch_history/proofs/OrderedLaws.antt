@@ -18,7 +18,7 @@ pub ordered_sound : OrderedSound
 ordered_sound plan n e = (rounds_are n plan (begun plan) start, e)
 
 -- after some number of rounds the function is where the relation is
-reached : (plan : Plan) (es : List Effect) → Rounds plan es → (n : ℕ) × ((m : ℕ) → ordered (n + m) plan ≡ rounds m plan es)
+pub reached : (plan : Plan) (es : List Effect) → Rounds plan es → (n : ℕ) × ((m : ℕ) → ordered (n + m) plan ≡ rounds m plan es)
 reached plan es start = (0, λ m. ap (λ k. ordered k plan) (omega arith))
 reached plan es (next {es = before} {c = c} r e) =
     let k = reached plan before r in (
@@ -32,7 +32,7 @@ ordered_complete plan es o =
     (k.0 + 0, k.1 0)
 
 -- where nothing is chosen, more rounds change nothing
-stays : (m : ℕ) (plan : Plan) (es : List Effect) → chosen plan es ≡ None → rounds m plan es ≡ es
+pub stays : (m : ℕ) (plan : Plan) (es : List Effect) → chosen plan es ≡ None → rounds m plan es ≡ es
 stays zero plan es e = refl
 stays (suc m) plan es e = ap (rounds_with plan (λ later. rounds m plan later) es) e
 

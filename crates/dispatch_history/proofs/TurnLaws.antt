@@ -24,7 +24,8 @@ use Rattle.dispatch_history.specs.Effect.{Effect, past_of, stream, told_on, told
 use Rattle.dispatch_history.specs.Effects.{effects, said_at}
 use Rattle.dispatch_history.specs.Step.{scene, step_of}
 use Rattle.dispatch_history.specs.Focus.{has_focus, focus_told}
-use Rattle.dispatch_history.specs.Said.{motions_said, keys_said, place_from}
+use Rattle.dispatch_history.specs.Said.{motions_said, keys_said}
+use Rattle.window_snapshot.specs.Origins.{place_from}
 use Rattle.dispatch_history.specs.Legal.{Legal}
 use Rattle.dispatch_history.specs.PointerOf.{AllRise}
 use Rattle.dispatch_history.specs.Known.{told_pointer}
@@ -32,7 +33,8 @@ use Rattle.dispatch_history.specs.Laws.{TurnsLaw, TurnsComeLaw}
 use Rattle.dispatch_history.proofs.LegalLaws.{effects_law}
 use Rattle.dispatch_history.proofs.FitLaws.{step_facts, fit_law}
 use Rattle.dispatch_history.proofs.StreamLaws.{stream_step, silent_law}
-use Rattle.dispatch_history.proofs.MotionLaws.{live_said, shifted, motions_law, motions_come}
+use Rattle.dispatch_history.proofs.ToldMotions.{shifted}
+use Rattle.dispatch_history.proofs.MotionLaws.{live_said, motions_law, motions_come}
 use Rattle.dispatch_history.proofs.Turns.{AllApart, BodyApart, turns}
 
 -- motions that list different ids

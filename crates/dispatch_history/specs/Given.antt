@@ -13,6 +13,11 @@ abbrev pub next_of_lane : ℕ → List ScriptStep → Option Call
 next_of_lane l [] = None
 next_of_lane l (s ∷ ss) = if s.lane == l then Some s.call else next_of_lane l ss
 
+-- the calls of the steps of a lane, in order
+abbrev pub calls_of_lane : ℕ → List ScriptStep → List Call
+calls_of_lane l [] = []
+calls_of_lane l (s ∷ ss) = if s.lane == l then s.call ∷ calls_of_lane l ss else calls_of_lane l ss
+
 -- the steps that are left once the next one of a lane is made
 abbrev pub without_next : ℕ → List ScriptStep → List ScriptStep
 without_next l [] = []
@@ -33,6 +38,25 @@ next_args (a ∷ later) = Some (Notify a.moment a.args)
 abbrev pub without_first : List Cooked → List Cooked
 without_first [] = []
 without_first (a ∷ later) = later
+
+-- the call of a line, where these args and steps are left
+abbrev pub call_of : Line → List Cooked → List ScriptStep → Option Call
+call_of ReaderLine cs ss = next_args cs
+call_of (ScriptLine l) cs ss = next_of_lane l ss
+call_of PumpLine cs ss = Some (Pump 0)
+call_of TickLine cs ss = Some (Tick 0)
+call_of (ReceiveLine c) cs ss = Some (Receive c)
+call_of (FinishLine c seq) cs ss = Some (Finish 0 c seq)
+
+-- the args that are left after a line
+abbrev pub args_after : Line → List Cooked → List Cooked
+args_after ReaderLine cs = without_first cs
+args_after line cs = cs
+
+-- the steps that are left after it
+abbrev pub steps_after : Line → List ScriptStep → List ScriptStep
+steps_after (ScriptLine l) ss = without_next l ss
+steps_after line ss = ss
 
 -- The calls of some lines, behind n lines, with what is left of the args and of the steps: a reader's line takes the next args
 -- and a script's line the next step of its lane, both at their moments, and the other lines hand in moment 0. The first line

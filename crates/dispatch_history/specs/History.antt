@@ -7,7 +7,7 @@ use Rattle.dispatch_calls.specs.declared.call.Call.{Call}
 use Rattle.dispatch_calls.specs.declared.call.Call.TheVariants.{Open, Windows, FocusOn, Notify, Pump, Tick, Receive, Finish, Pilfer, Remove}
 use Rattle.dispatch_calls.specs.declared.reply.Reply.{Reply}
 use Rattle.dispatch_calls.specs.declared.reply.Reply.TheVariants.{Opened, Done, Got}
-use Rattle.dispatch_history.specs.Origin.{corner, or_origin}
+use Rattle.window_snapshot.specs.Origins.{corner, or_origin}
 
 -- a history
 abbrev pub History : Type 0

@@ -1,4 +1,3 @@
-pub mod Origin
 pub mod History
 pub mod Queue
 pub mod Effect

@@ -1,6 +1,5 @@
 -- What a channel is told at a step.
-use Rattle.std.specs.Prelude.{ℕ, ◌-ℤ◌, ◌&&◌, List, [], ◌++◌, map, flat_map, Option, if◌then◌else◌}
-use Rattle.std.specs.Int.{saturate_signed, w32}
+use Rattle.std.specs.Prelude.{ℕ, ◌&&◌, List, [], ◌++◌, map, flat_map, Option, if◌then◌else◌}
 use Rattle.input_types.specs.declared.axis.Pixel.{Pixel}
 use Rattle.input_types.specs.declared.message.Args.{Args}
 use Rattle.input_types.specs.declared.message.Body.{Body}
@@ -15,10 +14,7 @@ use Rattle.dispatch_history.specs.Delivery.{able}
 use Rattle.dispatch_history.specs.Focus.{has_focus, is_target, focus_told}
 use Rattle.dispatch_history.specs.Keys.{keys, loses_all}
 use Rattle.dispatch_history.specs.KeyTold.{keys_told, repeat_by, last_key}
-
--- a place counted from an origin, kept at the ends of its type
-abbrev pub place_from : Pixel → Pixel → Pixel
-place_from o at = record { x = saturate_signed w32 (at.x -ℤ o.x); y = saturate_signed w32 (at.y -ℤ o.y) }
+use Rattle.window_snapshot.specs.Origins.{place_from}
 
 -- a motion whose places are counted from an origin
 abbrev pub motion_from : Pixel → Motion → Motion

@@ -15,7 +15,7 @@ use Rattle.dispatch_history.specs.Effect.{past_of}
 use Rattle.dispatch_history.specs.Effects.{step}
 use Rattle.dispatch_history.specs.Focus.{has_focus, focus_told}
 use Rattle.dispatch_history.specs.Step.{scene}
-use Rattle.dispatch_history.proofs.MotionLaws.{AllOf, told_of, Differ, devices_differ}
+use Rattle.dispatch_history.proofs.ToldMotions.{AllOf, told_of, Differ, devices_differ}
 use Rattle.key_tables.specs.Held.{key_messages}
 use Rattle.key_tables.proofs.Tracking.{bodies_tracked_law}
 use Rattle.dispatch_knows.specs.Pointing.{step_at}

@@ -1,7 +1,7 @@
 -- What is kept before the first call.
 use Rattle.std.specs.Prelude.{◌≡◌, ℕ, [], replicate, None}
 use Rattle.device_down.specs.Down.{StandsFor as StandsDown}
-use Rattle.dispatch_history.specs.Origin.{corner}
+use Rattle.window_snapshot.specs.Origins.{corner}
 use Rattle.route_split.specs.Tables.{table_of, IsFresh}
 use Rattle.dispatch_knows.specs.Shown.{origin_at}
 use Rattle.dispatch_knows.specs.Knows.{Kept}

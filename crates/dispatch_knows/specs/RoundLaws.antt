@@ -18,7 +18,7 @@ use Rattle.route_split.specs.declared.mark.Mark.TheVariants.{Rests, Empty, Pilfe
 use Rattle.route_split.specs.Marking.{IsMark}
 use Rattle.route_split.specs.Seen.{Sees}
 use Rattle.route_split.specs.Tables.{Stands}
-use Rattle.route_split.specs.Telling.{is_watching}
+use Rattle.routing_rules.specs.Watching.{is_watching}
 use Rattle.input_channel.specs.Order.{NoneAfter}
 use Rattle.input_types.specs.Displays.{device_display}
 use Rattle.dispatch_calls.specs.declared.call.Call.{Call}

@@ -14,7 +14,8 @@ use Rattle.touch_state.specs.Touches.{Touches}
 use Rattle.route_split.specs.declared.tells.Tells.{Tells}
 use Rattle.route_split.specs.Tables.{Stands}
 use Rattle.route_split.specs.Marking.{IsMark}
-use Rattle.route_split.specs.Telling.{IsTold, IsListed, is_watching}
+use Rattle.route_split.specs.Telling.{IsTold, IsListed}
+use Rattle.routing_rules.specs.Watching.{is_watching}
 use Rattle.key_tables.specs.Focused.{change_of, change_told}
 use Rattle.dispatch_channels.specs.Table.{Table, input_of}
 use Rattle.dispatch_round.specs.declared.round.Round.{Round}

@@ -15,7 +15,8 @@ use Rattle.route_split.specs.declared.mark.Mark.{Mark}
 use Rattle.route_split.specs.declared.mark.Mark.TheVariants.{Rests, Forget}
 use Rattle.route_split.specs.Marking.{IsMark, IsStepOf, may_be_told}
 use Rattle.route_split.specs.Tables.{Stands}
-use Rattle.route_split.specs.Telling.{IsListed, is_watching}
+use Rattle.route_split.specs.Telling.{IsListed}
+use Rattle.routing_rules.specs.Watching.{is_watching}
 use Rattle.input_channel.specs.State.{with_spare}
 use Rattle.cancel_synthesis.specs.Tracked.{Tracked, pointers_of}
 use Rattle.cancel_synthesis.specs.Tracked.{with_spare as tracked_with_spare}

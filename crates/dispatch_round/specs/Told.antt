@@ -4,7 +4,7 @@ use Rattle.input_types.specs.declared.axis.Pixel.{Pixel}
 use Rattle.input_types.specs.declared.message.Body.{Body}
 use Rattle.window_snapshot.specs.Mask.{mask_has}
 use Rattle.input_channel.specs.State.{ChannelState, published_at}
-use Rattle.dispatch_history.specs.Origin.{corner}
+use Rattle.window_snapshot.specs.Origins.{corner}
 use Rattle.dispatch_tables.specs.Channel.{enqueued_all}
 use Rattle.dispatch_channels.specs.Heard.{body_from}
 use Rattle.dispatch_channels.specs.Table.{Table, opened, channel_of, input_of}

@@ -17,7 +17,8 @@ use Rattle.dispatch_tables.specs.Lawful.{Lawful}
 use Rattle.dispatch_tables.specs.Channel.{channel_at, counts_of}
 use Rattle.dispatch_tables.proofs.Waiting.{with_delivery}
 use Rattle.dispatch_tables.proofs.Channels.{sound}
-use Rattle.dispatch_tables.proofs.Kept.{has_seq_law, channel_law}
+use Rattle.dispatch_tables.proofs.Unfinished.{has_seq_law}
+use Rattle.dispatch_tables.proofs.Kept.{channel_law}
 
 slice_get-drop : {X : Type 0} (xs : List X) (g n : ℕ) → slice_get (drop g xs) n ≡ slice_get xs (g + n)
 slice_get-drop xs zero n = let same : n ≡ 0 + n = omega arith in ap (slice_get xs) same

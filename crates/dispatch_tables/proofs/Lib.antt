@@ -4,10 +4,12 @@ pub mod Parts
 pub mod Stepping
 pub mod Lawfuls
 pub mod Channels
+pub mod Unfinished
 pub mod Kept
 pub mod Unopened
 pub mod Answering
 pub mod Masking
+pub mod AbleMasks
 pub mod Ables
 pub mod Duties
 pub mod Keeping

@@ -222,28 +222,3 @@ impl Channel {
         self.kept.let_go(count as usize);
     }
 }
-
-#[cfg(test)]
-mod tests {
-    use super::*;
-    use std::test::Fail;
-
-    #[test]
-    fn later_messages_may_be_finished_first(rt: HostRuntime) -> Result<(), Fail> {
-        let limit = Limit::new(5_000_000).ok_or("a limit")?;
-        let mut channel = Channel::new(rt.alloc(), limit);
-        channel.reserve(1)?;
-        assert_eq!(rt; channel.enqueue(Body::Focus(true), Moment::zero())?, 1);
-        assert_eq!(rt; channel.enqueue(Body::Focus(false), Moment::zero())?, 2);
-        channel.publish(Moment::zero());
-        let first = channel.receive().ok_or("a message")?;
-        assert_eq!(rt; (first.seq, first.body), (1, Body::Focus(true)));
-        assert_eq!(rt; channel.finish(2), Err(UnknownSeq));
-        channel.mark_received();
-        channel.let_go();
-        assert_eq!(rt; channel.messages().len(), 0);
-        assert_eq!(rt; channel.finish(2), Ok(()));
-        assert_eq!(rt; channel.oldest_unfinished(), Some((1, Moment::zero())));
-        Ok(())
-    }
-}

@@ -67,22 +67,3 @@ impl Motion {
         u32::from(self.action.number()) + 256 * u32::from(self.index)
     }
 }
-
-#[cfg(test)]
-mod tests {
-    use super::*;
-
-    // MotionEvent.getAction() of an ACTION_POINTER_DOWN of the second pointer is 0x0105.
-    #[test]
-    fn index_stands_in_the_second_byte(rt: HostRuntime) -> Result<(), std::test::Fail> {
-        let motion = Motion {
-            device: DeviceId::new(1).ok_or("a device")?,
-            action: MotionAction::PointerDown,
-            index: 1,
-            flags: 0,
-            pointers: Pointers::empty(),
-        };
-        assert_eq!(rt; motion.action_word(), 0x0105);
-        Ok(())
-    }
-}

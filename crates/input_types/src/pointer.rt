@@ -130,36 +130,3 @@ fn ends_below(pointers: &[Pointer], id: PointerId) -> bool
         Some(last) => last.id.get() < id.get(),
     }
 }
-
-#[cfg(test)]
-mod tests {
-    use super::*;
-
-    fn pointer(n: u8) -> Pointer {
-        Pointer {
-            id: PointerId::new(n).unwrap_or(PointerId::zero()),
-            at: Pixel { x: 7, y: -7 },
-        }
-    }
-
-    #[test]
-    fn sixteen_pointers_are_taken_and_no_more(rt: HostRuntime) {
-        let mut pointers = Pointers::empty();
-        for n in 0..16 {
-            assert_eq!(rt; pointers.push(pointer(n)), Ok(()));
-        }
-        assert_eq!(rt; pointers.len(), 16);
-        assert_eq!(rt; pointers.get(15), Some(pointer(15)));
-        assert_eq!(rt; pointers.get(16), None);
-        assert_eq!(rt; pointers.push(pointer(16)), Err(PushRefused::Full));
-    }
-
-    #[test]
-    fn ids_rise(rt: HostRuntime) {
-        let mut pointers = Pointers::empty();
-        assert_eq!(rt; pointers.push(pointer(3)), Ok(()));
-        assert_eq!(rt; pointers.push(pointer(3)), Err(PushRefused::NotRising));
-        assert_eq!(rt; pointers.push(pointer(31)), Ok(()));
-        assert_eq!(rt; pointers.as_slice().len(), 2);
-    }
-}

@@ -88,6 +88,3 @@ impl Clone for Layout {
         })
     }
 }
-
-#[cfg(test)]
-mod tests;

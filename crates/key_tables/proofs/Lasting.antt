@@ -20,7 +20,8 @@ use Rattle.key_tables.specs.Held.{Above, Rising, AllLast, key_messages}
 use Rattle.key_tables.specs.Laws.{KeysAtFirst, KeysStep}
 use Rattle.key_tables.proofs.Rising.{other_way, above_all, rising_filter, keys_rise}
 use Rattle.key_tables.proofs.Saying.{key_bodies, said_keys}
-use Rattle.key_tables.proofs.Tracking.{keys_in, filter_keys, keys_stepped, dead_keys}
+use Rattle.key_tables.proofs.KeysLeft.{keys_in, filter_keys}
+use Rattle.key_tables.proofs.Tracking.{keys_stepped, dead_keys}
 
 -- what is known of the last message of each key, after one message more, and after some
 abbrev Last : Type 0

@@ -3,7 +3,9 @@ pub mod Focusing
 pub mod Holders
 pub mod Rising
 pub mod Saying
+pub mod KeysLeft
 pub mod Tracking
 pub mod Lasting
 pub mod Telling
+pub mod LastSent
 pub mod Repeating

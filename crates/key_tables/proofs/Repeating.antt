@@ -1,141 +1,32 @@
 -- What is kept of the last key message, step by step.
-use Rattle.std.proofs.Common.{◌≡◌, ℕ, zero, suc, ◌≤◌, ◌==◌, ◌&&◌, ◌||◌, Bool, true, false, not, cond, List, [], ◌∷◌, ◌++◌, map, flat_map, Option, Some, None, refl, sym, ap, ap₂, ◌∙◌, subst, inl, inr, arith, ◌≢◌}
+use Rattle.std.proofs.Common.{◌≡◌, ℕ, ◌==◌, ◌&&◌, ◌||◌, Bool, true, false, not, cond, List, [], ◌∷◌, map, Option, Some, None, refl, sym, ap, ap₂, ◌∙◌, subst, inl, inr}
 use Rattle.std.specs.List.{list_any}
-use Rattle.std.proofs.lemmas.Bool.{cases_Bool, cases_eq, both_ways, eqb-true, eq-eqb}
+use Rattle.std.proofs.lemmas.Bool.{cases_Bool, both_ways, eqb-true, eq-eqb}
 use Rattle.input_types.specs.declared.key.KeyArgs.{KeyArgs}
 use Rattle.input_types.specs.declared.key.KeyMsg.{KeyMsg}
-use Rattle.input_types.specs.declared.message.Body.{Body}
-use Rattle.input_types.specs.declared.message.Body.TheVariants.{Motion as MotionBody, Key as KeyBody, Focus as FocusBody}
 use Rattle.focus_resolver.specs.Resolver.{is_at}
 use Rattle.key_repeat.specs.Due.{Sent}
 use Rattle.cancel_synthesis.specs.Tracked.{with_key as keep, without_key as forget, keys_after}
 use Rattle.cancel_synthesis.specs.Laws.{keys_told as tracked}
 use Rattle.dispatch_calls.specs.declared.call.Call.{Call}
 use Rattle.dispatch_calls.specs.declared.reply.Reply.{Reply}
-use Rattle.dispatch_history.specs.History.{History, clock, live, opened}
-use Rattle.dispatch_history.specs.Effect.{Effect, Told, past_of}
-use Rattle.dispatch_history.specs.Effects.{channels, step, said_at}
+use Rattle.dispatch_history.specs.History.{clock, live}
+use Rattle.dispatch_history.specs.Effect.{Effect, past_of}
+use Rattle.dispatch_history.specs.Effects.{step}
 use Rattle.dispatch_history.specs.Focus.{is_target, key_target}
 use Rattle.dispatch_history.specs.Keys.{same_key, is_before, keys}
-use Rattle.dispatch_history.specs.KeyTold.{key_as_is, key_in, last_key, while_held}
+use Rattle.dispatch_history.specs.KeyTold.{key_as_is, last_key, while_held}
 use Rattle.dispatch_history.specs.Delivery.{able}
-use Rattle.dispatch_history.proofs.StreamLaws.{live_law}
 use Rattle.dispatch_tables.specs.Lawful.{Lawful}
 use Rattle.dispatch_tables.proofs.Lawfuls.{lawful_last}
 use Rattle.key_tables.specs.Held.{key_messages}
 use Rattle.key_tables.specs.Repeats.{RepeatIs, repeat_after, repeat_next}
 use Rattle.key_tables.specs.Laws.{RepeatStep, RepeatLeft}
 use Rattle.key_tables.proofs.Holders.{keys_of_target}
-use Rattle.key_tables.proofs.Saying.{key_bodies, said_keys}
-use Rattle.key_tables.proofs.Tracking.{keys_in, keys_stepped, dead_keys}
+use Rattle.key_tables.proofs.KeysLeft.{keys_in}
+use Rattle.key_tables.proofs.Tracking.{keys_stepped, dead_keys}
 use Rattle.key_tables.proofs.Telling.{keys_quiet, one_target}
-
--- the last of some messages that a channel was told at a clock, or else the one before
-abbrev sent_in : (now w : ℕ) → List KeyMsg → Option Sent → Option Sent
-sent_in now w [] before = before
-sent_in now w (m ∷ ms) before = sent_in now w ms (Some (record { channel = w; key = m; clock = now }))
-
-abbrev tell : (ℕ → List Body) → ℕ → List Told
-tell f w = map (λ b. record { channel = w; body = b }) (f w)
-
-in_one : (now w : ℕ) (bs : List Body) (o : Option Sent) → key_in now (map (λ b. record { channel = w; body = b }) bs) o ≡ sent_in now w (key_bodies bs) o
-in_one now w [] o = refl
-in_one now w (KeyBody m ∷ bs) o = in_one now w bs (Some (record { channel = w; key = m; clock = now }))
-in_one now w (MotionBody m ∷ bs) o = in_one now w bs o
-in_one now w (FocusBody b ∷ bs) o = in_one now w bs o
-
-in_both : (now : ℕ) (xs ys : List Told) (o : Option Sent) → key_in now (xs ++ ys) o ≡ key_in now ys (key_in now xs o)
-in_both now [] ys o = refl
-in_both now (x ∷ xs) ys o = in_both now xs ys _
-
-sent_twice : (now w : ℕ) (ms : List KeyMsg) (o : Option Sent) → sent_in now w ms (sent_in now w ms o) ≡ sent_in now w ms o
-sent_twice now w [] o = refl
-sent_twice now w (m ∷ ms) o = refl
-
--- where at most one channel is told of keys, the last message is that of this one
-in_all : (now : ℕ) (f : ℕ → List Body) (t : ℕ) → ((w : ℕ) → (w == t) ≡ false → key_bodies (f w) ≡ []) → (ws : List ℕ) (o : Option Sent)
-    → key_in now (flat_map (tell f) ws) o ≡ cond (list_any (λ w. w == t) ws) (sent_in now t (key_bodies (f t)) o) o
-in_all now f t quiet [] o = refl
-in_all now f t quiet (w ∷ ws) o =
-    in_both now (tell f w) (flat_map (tell f) ws) o
-    ∙ ap (key_in now (flat_map (tell f) ws)) (in_one now w (f w) o)
-    ∙ by_channel (w == t) refl (λ p. in_all now f t quiet ws p)
-  where
-    own : (b : Bool) → cond b (sent_in now t (key_bodies (f t)) (sent_in now t (key_bodies (f t)) o)) (sent_in now t (key_bodies (f t)) o) ≡ sent_in now t (key_bodies (f t)) o
-    own true = sent_twice now t (key_bodies (f t)) o
-    own false = refl
-
-    by_channel : (b : Bool) → (w == t) ≡ b
-        → ((p : Option Sent) → key_in now (flat_map (tell f) ws) p ≡ cond (list_any (λ v. v == t) ws) (sent_in now t (key_bodies (f t)) p) p)
-        → key_in now (flat_map (tell f) ws) (sent_in now w (key_bodies (f w)) o) ≡ cond (b || list_any (λ v. v == t) ws) (sent_in now t (key_bodies (f t)) o) o
-    by_channel true e more =
-        ap (λ v. key_in now (flat_map (tell f) ws) (sent_in now v (key_bodies (f v)) o)) (eqb-true w t e)
-        ∙ more (sent_in now t (key_bodies (f t)) o)
-        ∙ own (list_any (λ v. v == t) ws)
-    by_channel false e more =
-        ap (λ ms. key_in now (flat_map (tell f) ws) (sent_in now w ms o)) (quiet w e) ∙ more o
-
-any_append : (p : ℕ → Bool) (xs ys : List ℕ) → list_any p (xs ++ ys) ≡ (list_any p xs || list_any p ys)
-any_append p [] ys = refl
-any_append p (x ∷ xs) ys = first (p x) (any_append p xs ys)
-  where
-    first : (b : Bool) → list_any p (xs ++ ys) ≡ (list_any p xs || list_any p ys) → (b || list_any p (xs ++ ys)) ≡ ((b || list_any p xs) || list_any p ys)
-    first true e = refl
-    first false e = e
-
-in_channels : (t n : ℕ) → 1 ≤ t → t ≤ n → list_any (λ w. w == t) (channels n) ≡ true
-in_channels t zero one le = absurd (omega (arith, one, le))
-in_channels t (suc n) one le =
-    any_append (λ w. w == t) (channels n) (suc n ∷ [])
-    ∙ elim (cases_eq (suc n) t) [
-      | inl e ↦ ap (λ b. list_any (λ w. w == t) (channels n) || (b || false)) (eq-eqb (suc n) t e) ∙ or_true (list_any (λ w. w == t) (channels n))
-      | inr ne ↦ ap (λ b. b || ((suc n == t) || false)) (in_channels t n one (below ne))
-    ]
-  where
-    or_true : (b : Bool) → (b || true) ≡ true
-    or_true true = refl
-    or_true false = refl
-
-    below : suc n ≢ t → t ≤ n
-    below ne = omega (arith, le, ne)
-
--- the last key message after a step that tells of keys nobody but one channel
-last_next : (ds : List ℕ) (call : Call) (answer : Reply) (es : List Effect) (t : ℕ) → Lawful ds (step ds call answer es)
-    → ((w : ℕ) → (w == t) ≡ false → key_messages call answer es w ≡ [])
-    → last_key (step ds call answer es)
-    ≡ sent_in (clock ((call, answer) ∷ past_of es)) t (cond (live ((call, answer) ∷ past_of es) t) (key_messages call answer es t) []) (last_key es)
-last_next ds call answer es t l quiet =
-    in_all now f t silent (channels (opened after)) (last_key es)
-    ∙ ap (λ ms. cond (list_any (λ w. w == t) (channels (opened after))) (sent_in now t ms (last_key es)) (last_key es)) (said_keys ds call answer es t)
-    ∙ by_live (live after t) refl
-  where
-    after : History
-    after = (call, answer) ∷ past_of es
-
-    now : ℕ
-    now = clock after
-
-    f : ℕ → List Body
-    f w = said_at ds call answer es w
-
-    silent : (w : ℕ) → (w == t) ≡ false → key_bodies (f w) ≡ []
-    silent w e = said_keys ds call answer es w ∙ by_either (live after w)
-      where
-        by_either : (b : Bool) → cond b (key_messages call answer es w) [] ≡ []
-        by_either true = quiet w e
-        by_either false = refl
-
-    by_live : (b : Bool) → live after t ≡ b
-        → cond (list_any (λ w. w == t) (channels (opened after))) (sent_in now t (cond b (key_messages call answer es t) []) (last_key es)) (last_key es)
-        ≡ sent_in now t (cond b (key_messages call answer es t) []) (last_key es)
-    by_live true e =
-        let r = live_law ds after t l.legal e in
-        ap (λ b. cond b (sent_in now t (key_messages call answer es t) (last_key es)) (last_key es)) (in_channels t (opened after) r.0 r.1)
-    by_live false e = same (list_any (λ w. w == t) (channels (opened after)))
-      where
-        same : (b : Bool) → cond b (last_key es) (last_key es) ≡ last_key es
-        same true = refl
-        same false = refl
+use Rattle.key_tables.proofs.LastSent.{sent_in, last_next}
 
 own_key : (k : KeyArgs) → same_key k k ≡ true
 own_key k = ap₂ (λ a b. a && b) (eq-eqb k.device k.device refl) (eq-eqb k.scan k.scan refl)

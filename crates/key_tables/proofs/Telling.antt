@@ -30,7 +30,8 @@ use Rattle.key_tables.specs.Held.{key_messages, one_told, target_told}
 use Rattle.key_tables.specs.Repeats.{RepeatIs}
 use Rattle.key_tables.specs.Laws.{KeysQuiet, TargetTold, RepeatRead}
 use Rattle.key_tables.proofs.Holders.{keys_of_target}
-use Rattle.key_tables.proofs.Tracking.{keys_in, cancels_of, device_cancels_of, due_held, pump_stays}
+use Rattle.key_tables.proofs.KeysLeft.{keys_in, cancels_of, device_cancels_of}
+use Rattle.key_tables.proofs.Tracking.{due_held, pump_stays}
 
 -- a window that holds a key is the key target
 pub holder_is_target : (ds : List ℕ) (es : List Effect) (k : KeyArgs) (w : ℕ) → Lawful ds es → list_any (same_key k) (keys es w) ≡ true → is_target (past_of es) w ≡ true

@@ -33,6 +33,3 @@ pub use host_sink::HostSink;
 pub use mem_files::{MemFiles, MemSource, names_differ};
 pub use mem_sink::MemSink;
 pub use outside::{Failed, Files, Sink, Source, SourceRefused};
-
-#[cfg(test)]
-mod tests;

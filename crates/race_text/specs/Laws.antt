@@ -7,7 +7,7 @@ use Rattle.dispatch_history.specs.Legal.{run, replay}
 use Rattle.dispatch_history.specs.Plan.{Plan}
 use Rattle.dispatch_history.specs.Settled.{Settled}
 use Rattle.lane_laws.specs.Laws.{RaceOf}
-use Rattle.lane_laws.specs.Orders.{line_of}
+use Rattle.stream_text.specs.OrderAsks.{line_of}
 use Rattle.stream_text.specs.Order.{order_spelling}
 use Rattle.stream_text.specs.OrderHistory.{order_of_history}
 use Rattle.stream_text.specs.StreamsHistory.{streams_text}

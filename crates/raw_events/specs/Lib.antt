@@ -4,3 +4,4 @@ pub mod Recording
 pub mod Pieces
 pub mod Kept
 pub mod Front
+pub mod Packets

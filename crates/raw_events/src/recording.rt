@@ -45,6 +45,3 @@ pub fn read_pieces(
     reader.finish(&mut events)?;
     Ok(events)
 }
-
-#[cfg(test)]
-mod tests;

@@ -90,30 +90,3 @@ impl Inbound {
         self.waiting.is_empty()
     }
 }
-
-#[cfg(test)]
-mod tests {
-    use super::*;
-    use input_types::DeviceId;
-    use std::test::Fail;
-
-    fn reset(device: u8) -> Result<Args, Fail> {
-        Ok(Args::Reset(DeviceId::new(device).ok_or("a device")?))
-    }
-
-    #[test]
-    fn what_came_first_goes_first(rt: HostRuntime) -> Result<(), Fail> {
-        let mut queue = Inbound::new(rt.alloc());
-        queue.reserve(2)?;
-        queue.put(reset(1)?);
-        queue.put(reset(2)?);
-        assert_eq!(rt; queue.pop(), Some(reset(1)?));
-        queue.reserve(1)?;
-        queue.put(reset(3)?);
-        assert_eq!(rt; queue.len(), 2);
-        assert_eq!(rt; queue.pop(), Some(reset(2)?));
-        assert_eq!(rt; queue.pop(), Some(reset(3)?));
-        assert_eq!(rt; queue.pop(), None);
-        Ok(())
-    }
-}

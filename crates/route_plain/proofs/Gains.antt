@@ -9,10 +9,9 @@ use Rattle.window_snapshot.specs.Hits.{is_spy_at}
 use Rattle.routing_rules.specs.Pairs.{Pair}
 use Rattle.routing_rules.specs.Scene.{Scene, which}
 use Rattle.routing_rules.specs.Given.{pairs}
-use Rattle.routing_rules.specs.Choice.{is_candidate, is_target, takers, chosen}
+use Rattle.routing_rules.specs.Choice.{is_candidate, is_target, takers, chosen, is_candidate_of}
 use Rattle.route_plain.specs.declared.hold.Hold.{Hold}
 use Rattle.route_plain.specs.Holds.{pairs_of}
-use Rattle.route_plain.specs.Choosing.{is_candidate_of}
 use Rattle.route_plain.specs.Route.{hold_from}
 
 same_candidate : (s : Scene) (d : ℕ) (at : Pixel) (spies : ℕ → Bool) → ((w : ℕ) → spies w ≡ is_spy_at s.windows (s.reach d) at.x at.y w)

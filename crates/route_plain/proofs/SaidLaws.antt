@@ -19,7 +19,8 @@ use Rattle.route_plain.specs.declared.turn.Turn.TheVariants.{Pointers, Reset, Pi
 use Rattle.route_plain.specs.Holds.{pairs_of}
 use Rattle.route_plain.specs.Loss.{mark_of}
 use Rattle.route_plain.specs.Route.{step_of, to_channel, said_up_to, said_at}
-use Rattle.route_plain.specs.Telling.{is_watching, outside_of, told_moved, told_lost, told_losses}
+use Rattle.route_plain.specs.Telling.{told_moved, told_lost, told_losses}
+use Rattle.routing_rules.specs.Watching.{is_watching, outside_of}
 use Rattle.route_plain.specs.Changing.{IsChange}
 use Rattle.route_plain.proofs.Gains.{pairs_of-gained}
 use Rattle.route_plain.proofs.Listings.{or_else-nil}

@@ -16,7 +16,8 @@ use Rattle.route_plain.specs.declared.hold.Hold.{Hold}
 use Rattle.route_plain.specs.declared.loss.Loss.{Loss}
 use Rattle.route_plain.specs.Holds.{pairs_of, channels_with}
 use Rattle.route_plain.specs.Loss.{mark_of}
-use Rattle.route_plain.specs.Telling.{is_watching, told_moved}
+use Rattle.route_plain.specs.Telling.{told_moved}
+use Rattle.routing_rules.specs.Watching.{is_watching}
 
 listing_none : (f : ℕ → Bool) (ps : List Pointer) → ((i : ℕ) → f i ≡ false) → listing f ps ≡ []
 listing_none f [] n = refl

@@ -4,7 +4,6 @@ pub mod Loss
 pub mod Route
 pub mod Telling
 pub mod Moment
-pub mod Choosing
 pub mod Slipping
 pub mod Changing
 pub mod Laws

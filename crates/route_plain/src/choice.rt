@@ -1,13 +1,12 @@
 //! Who gets a pointer that goes down.
 ghost use Rattle.std.specs.Prelude.{◌≡◌, ◌&&◌, ◌||◌, not, ℕ, map, filter, IfOk};
 ghost use Rattle.std.specs.List.{list_any};
-ghost use Rattle.routing_rules.specs.Choice.{is_holder, sooner, earliest, is_alone, choose, chosen};
+ghost use Rattle.routing_rules.specs.Choice.{is_holder, sooner, earliest, is_alone, choose, chosen, is_candidate_of};
 ghost use Rattle.routing_rules.specs.Scene.{shows, which};
 ghost use Rattle.window_snapshot.specs.Mask.{mask_has};
 ghost use Rattle.window_snapshot.specs.Window.{prevents_splitting};
 ghost use Rattle.window_snapshot.specs.Hits.{touched};
 ghost use Rattle.route_plain.specs.Moment.{scene_at};
-ghost use Rattle.route_plain.specs.Choosing.{is_candidate_of};
 
 use crate::hold::{holds_any, is_earlier, is_pilfering};
 use crate::moment::Moment;

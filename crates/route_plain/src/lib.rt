@@ -30,8 +30,6 @@ mod plain;
 mod said;
 mod slip;
 mod telling;
-#[cfg(test)]
-mod tests;
 mod turn;
 
 pub use hold::{Hold, Pilferer};

@@ -12,7 +12,8 @@ ghost use Rattle.route_plain.specs.Holds.{pairs_of, ids_with};
 ghost use Rattle.route_plain.specs.Loss.{taking_of, mark_of};
 ghost use Rattle.route_plain.specs.Moment.{scene_at};
 ghost use Rattle.route_plain.specs.Route.{to_channel, said_up_to, said_at, holds_left, step_of};
-ghost use Rattle.route_plain.specs.Telling.{is_watching, told_moved, told_lost, told_losses};
+ghost use Rattle.route_plain.specs.Telling.{told_moved, told_lost, told_losses};
+ghost use Rattle.routing_rules.specs.Watching.{is_watching};
 
 use crate::change::{Change, changed};
 use crate::hold::{Hold, channels_with, ids_with, is_of, with_id};

@@ -6,7 +6,7 @@ ghost use Rattle.routing_rules.specs.Given.{changed};
 ghost use Rattle.routing_rules.specs.Told.{listing, cancelled_ups, cancels, moves, or_else, told_motion};
 ghost use Rattle.route_plain.specs.Moment.{scene_at};
 ghost use Rattle.route_plain.specs.Route.{to_channel};
-ghost use Rattle.route_plain.specs.Telling.{is_watching, outside_of};
+ghost use Rattle.routing_rules.specs.Watching.{is_watching, outside_of};
 
 use crate::change::changed;
 use crate::hold::has_id;

@@ -14,14 +14,13 @@ use Rattle.window_snapshot.specs.Hits.{is_spy_at}
 use Rattle.window_snapshot.proofs.Masks.{mask_has-live, mask_has_channel}
 use Rattle.window_snapshot.proofs.Naming.{named_passes}
 use Rattle.routing_rules.specs.Scene.{Scene}
-use Rattle.routing_rules.specs.Choice.{is_candidate, is_target, chosen, takers}
+use Rattle.routing_rules.specs.Choice.{is_candidate, is_target, chosen, takers, is_candidate_of}
 use Rattle.routing_rules.specs.Given.{pairs}
 use Rattle.routing_rules.specs.Pairs.{has}
 use Rattle.routing_rules.specs.Slip.{only, holders_of}
 use Rattle.touch_state.specs.Touches.{Touches, holds}
 use Rattle.touch_state.proofs.Sets.{and_false}
 use Rattle.route_split.specs.declared.slip.Found.TheVariants.{Nobody, Several}
-use Rattle.route_split.specs.Seen.{is_candidate_of}
 use Rattle.route_split.specs.Slipping.{and_one, the_one}
 use Rattle.route_split.proofs.Changing.{held_channel}
 

@@ -16,7 +16,8 @@ use Rattle.route_split.specs.declared.mark.Mark.{Mark}
 use Rattle.route_split.specs.declared.mark.Mark.TheVariants.{Rests, Give, Lift, Slip, Empty, Pilfer, Unnamed, Mute, Forget}
 use Rattle.route_split.specs.Tables.{table_of, any_at}
 use Rattle.route_split.specs.Marking.{gives, taking, holds_after, is_given_some, is_forget, IsWhole, IsMark, IsStepOf}
-use Rattle.route_split.specs.Telling.{is_watching, QuietLaw}
+use Rattle.route_split.specs.Telling.{QuietLaw}
+use Rattle.routing_rules.specs.Watching.{is_watching}
 use Rattle.route_split.proofs.Steps.{other_law}
 use Rattle.route_split.proofs.TellingLaws.{none_listed}
 use Rattle.route_split.proofs.ToldBy.{after_is, told_cancels, nothing_told}

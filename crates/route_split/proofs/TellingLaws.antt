@@ -16,7 +16,8 @@ use Rattle.split_motion.specs.Split.{part_about, part_of, split_of, as_down}
 use Rattle.split_motion.specs.Laws.{if_some}
 use Rattle.split_motion.proofs.SplitLaws.{given_law}
 use Rattle.touch_state.proofs.Sets.{some_in}
-use Rattle.route_split.specs.Telling.{is_watching, outside_of, AreListed, OnlyNew, told_rest}
+use Rattle.route_split.specs.Telling.{AreListed, OnlyNew, told_rest}
+use Rattle.routing_rules.specs.Watching.{is_watching, outside_of}
 
 -- a pointer that is given
 pub given_told : (s : Scene) (m : Motion) (p : Pointer) (w : ℕ) (before later : ℕ → Bool) → changed m ≡ Some p → (later p.id && not (before p.id)) ≡ true

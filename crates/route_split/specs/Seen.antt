@@ -1,5 +1,5 @@
 -- What the rules see before a motion of one device.
-use Rattle.std.specs.Prelude.{ℕ, Bool, ◌==◌, ◌||◌, ◌≡◌, List, [], Option, Some, None}
+use Rattle.std.specs.Prelude.{ℕ, ◌≡◌, List, []}
 use Rattle.window_snapshot.specs.declared.window.Window.{Window}
 use Rattle.window_snapshot.specs.Mask.{mask_has}
 use Rattle.routing_rules.specs.Scene.{Scene}
@@ -30,8 +30,3 @@ pub record Sees (s : Scene) (windows : List Window) (reach able device : ℕ) : 
   pub windows_are : s.windows ≡ windows
   pub reach_is : s.reach device ≡ mask_has reach
   pub able_is : s.able ≡ mask_has able
-
--- a candidate is the chosen window, or one of the spies
-abbrev pub is_candidate_of : Option ℕ → (spies : ℕ → Bool) → ℕ → Bool
-is_candidate_of None spies w = spies w
-is_candidate_of (Some c) spies w = w == c || spies w

@@ -3,34 +3,23 @@ use Rattle.std.specs.Prelude.{ℕ, Bool, true, false, not, ◌&&◌, ◌==◌, �
 use Rattle.std.specs.List.{list_any}
 use Rattle.bits32.specs.Set.{is_in}
 use Rattle.input_types.specs.declared.motion.Motion.{Motion}
-use Rattle.input_types.specs.declared.motion.MotionAction.TheVariants.{Outside}
 use Rattle.input_types.specs.declared.pointer.Pointer.{Pointer}
-use Rattle.window_snapshot.specs.Hits.{is_watcher_at}
 use Rattle.routing_rules.specs.Scene.{Scene, Step, Moves}
 use Rattle.routing_rules.specs.Given.{changed, mark}
-use Rattle.routing_rules.specs.Told.{plain, cancels, listing, moves, or_else, is_first, told}
+use Rattle.routing_rules.specs.Told.{cancels, listing, moves, or_else, told}
 use Rattle.touch_state.specs.Touches.{Touches}
 use Rattle.route_split.specs.declared.mark.Mark.{Mark}
 use Rattle.route_split.specs.declared.tells.Tells.{Tells}
 use Rattle.route_split.specs.declared.tells.Tells.TheVariants.{Nothing, One, Cancels}
 use Rattle.route_split.specs.Tables.{Stands}
 use Rattle.route_split.specs.Marking.{IsWhole, IsMark, IsStepOf, may_be_told}
+use Rattle.routing_rules.specs.Watching.{is_watching, outside_of}
 
 -- these are the motions that it stands for, where the window holds the ids `before` of device d, whose last places these are
 abbrev pub IsTold : Tells → List Motion → (d : ℕ) → (last : List Pointer) → (before : ℕ → Bool) → Type 0
 IsTold Nothing ms d last before = ms ≡ []
 IsTold (One m) ms d last before = ms ≡ m ∷ []
 IsTold (Cancels lost) ms d last before = ms ≡ cancels d last before (λ i. before i && not (is_in i lost))
-
--- the window watches for touches outside of it, where this pointer begins a gesture
-abbrev pub is_watching : Scene → Motion → Option Pointer → ℕ → Bool
-is_watching s m None w = false
-is_watching s m (Some p) w = is_first m.action && s.able w && is_watcher_at s.windows (s.reach m.device) p.at.x p.at.y w
-
--- a window is told that a pointer is outside, where there is one
-abbrev pub outside_of : ℕ → Option Pointer → List Motion
-outside_of d None = []
-outside_of d (Some p) = plain d Outside (p ∷ []) ∷ []
 
 -- what windows hold of a device is listed in its last motion
 abbrev pub IsListed : Scene → ℕ → Type 0

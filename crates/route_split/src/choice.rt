@@ -5,9 +5,9 @@ ghost use Rattle.window_snapshot.specs.Hits.{touched, is_spy_at};
 ghost use Rattle.window_snapshot.specs.Mask.{mask_has};
 ghost use Rattle.window_snapshot.specs.MaskOf.{mask_of};
 ghost use Rattle.window_snapshot.specs.Window.{prevents_splitting};
-ghost use Rattle.routing_rules.specs.Choice.{is_holder, sooner, earliest, is_alone, choose, chosen, takers};
+ghost use Rattle.routing_rules.specs.Choice.{is_holder, sooner, earliest, is_alone, choose, chosen, takers, is_candidate_of};
 ghost use Rattle.routing_rules.specs.Scene.{shows, which};
-ghost use Rattle.route_split.specs.Seen.{scene_at, is_candidate_of};
+ghost use Rattle.route_split.specs.Seen.{scene_at};
 
 use crate::seen::{Seen, holds_any, is_earlier, is_pilfering};
 use input_types::{DeviceId, Pixel};

@@ -8,7 +8,8 @@ ghost use Rattle.routing_rules.specs.Given.{changed, mark as rule_mark};
 ghost use Rattle.routing_rules.specs.Told.{told, cancels};
 ghost use Rattle.route_split.specs.Tables.{IsTables, Stands};
 ghost use Rattle.route_split.specs.Marking.{IsWhole, IsMark, IsStepOf, is_forget};
-ghost use Rattle.route_split.specs.Telling.{IsTold, IsListed, is_watching};
+ghost use Rattle.route_split.specs.Telling.{IsTold, IsListed};
+ghost use Rattle.routing_rules.specs.Watching.{is_watching};
 
 use crate::after::{after_of, held_of};
 use crate::mark::Mark;

@@ -7,7 +7,8 @@ ghost use Rattle.routing_rules.specs.Given.{changed};
 ghost use Rattle.routing_rules.specs.Told.{is_up, told_motion};
 ghost use Rattle.split_motion.specs.Split.{as_down};
 ghost use Rattle.split_motion.specs.Laws.{if_some};
-ghost use Rattle.route_split.specs.Telling.{IsTold, is_watching, told_rest, AreListed, OnlyNew};
+ghost use Rattle.route_split.specs.Telling.{IsTold, told_rest, AreListed, OnlyNew};
+ghost use Rattle.routing_rules.specs.Watching.{is_watching};
 
 use crate::motion::changed;
 use crate::sets::{has_id, lost_of};

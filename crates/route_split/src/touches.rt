@@ -7,7 +7,8 @@ ghost use Rattle.routing_rules.specs.Scene.{Scene, Step, Moves};
 ghost use Rattle.routing_rules.specs.Given.{changed, mark as rule_mark};
 ghost use Rattle.routing_rules.specs.Told.{told};
 ghost use Rattle.route_split.specs.Seen.{Sees};
-ghost use Rattle.route_split.specs.Telling.{IsTold, IsListed, is_watching};
+ghost use Rattle.route_split.specs.Telling.{IsTold, IsListed};
+ghost use Rattle.routing_rules.specs.Watching.{is_watching};
 ghost use Rattle.route_split.specs.Tables.{table_of, any_at, holds_at, Stands, IsFresh, ChangesAll};
 ghost use Rattle.route_split.specs.Marking.{gives, taking, IsWhole, IsMark, IsStepOf, holds_after, may_be_told};
 
@@ -41,7 +42,8 @@ impl Model for Touches {
     ghost use Rattle.routing_rules.specs.Given.{changed, mark as rule_mark};
     ghost use Rattle.routing_rules.specs.Told.{told};
     ghost use Rattle.route_split.specs.Seen.{Sees};
-    ghost use Rattle.route_split.specs.Telling.{IsTold, IsListed, is_watching};
+    ghost use Rattle.route_split.specs.Telling.{IsTold, IsListed};
+    ghost use Rattle.routing_rules.specs.Watching.{is_watching};
     ghost use Rattle.route_split.specs.Tables.{IsTables};
 
     ghost Value = { List Table };

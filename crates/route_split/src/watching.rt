@@ -6,7 +6,7 @@ ghost use Rattle.routing_rules.specs.Scene.{Scene};
 ghost use Rattle.routing_rules.specs.Given.{changed};
 ghost use Rattle.routing_rules.specs.Told.{is_first};
 ghost use Rattle.route_split.specs.Seen.{Sees};
-ghost use Rattle.route_split.specs.Telling.{is_watching};
+ghost use Rattle.routing_rules.specs.Watching.{is_watching};
 
 use crate::motion::changed;
 use input_types::{Motion, MotionAction, Pixel};

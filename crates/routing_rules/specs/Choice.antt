@@ -45,6 +45,11 @@ chosen s d at =
     let t = touched s.windows (s.reach d) at.x at.y in
     choose first whole t (is_alone s d t)
 
+-- a candidate is the chosen window, or one of these spies
+abbrev pub is_candidate_of : Option ℕ → (spies : ℕ → Bool) → ℕ → Bool
+is_candidate_of None spies w = spies w
+is_candidate_of (Some c) spies w = w == c || spies w
+
 -- a candidate is the chosen window, or a spy at the place
 abbrev pub is_candidate : Scene → ℕ → Pixel → Option ℕ → ℕ → Bool
 is_candidate s d at None w = is_spy_at s.windows (s.reach d) at.x at.y w

@@ -8,4 +8,5 @@ pub mod Choice
 pub mod Slip
 pub mod Given
 pub mod Told
+pub mod Watching
 pub mod Fits

@@ -6,7 +6,8 @@ use Rattle.std.proofs.lemmas.Bool.{cases_eq, eq-eqb, ne_eqb}
 use Rattle.std.proofs.lemmas.List.{map-append, map-set, get_or-map, get_or-set_same, get_or-set_other, length-map}
 use Rattle.dispatch_calls.specs.declared.call.Call.{Call}
 use Rattle.dispatch_history.specs.Plan.{ScriptStep}
-use Rattle.lane_laws.specs.Orders.{calls_of_lane, AreLanes}
+use Rattle.lane_laws.specs.Orders.{AreLanes}
+use Rattle.dispatch_history.specs.Given.{calls_of_lane}
 use Rattle.schedule.specs.declared.plan.Step.{Step}
 use Rattle.schedule.specs.Planned.{step_of, IsStep}
 use Rattle.std.specs.List.{All}

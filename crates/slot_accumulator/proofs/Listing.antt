@@ -11,7 +11,8 @@ use Rattle.slot_accumulator.specs.declared.contacts.Contact.{Contact}
 use Rattle.slot_accumulator.specs.declared.slots.Row.{Row}
 use Rattle.slot_accumulator.specs.Contacts.{IsBefore, IsBeforeAll, AreContacts, Joins, has_tracking}
 use Rattle.slot_accumulator.specs.SlotContacts.{lower_has, holds, has_palm_tool, holds_palm, palm_below, contact, contacts_of, is_palm, no_row, row_in}
-use Rattle.slot_accumulator.specs.SlotValues.{current, is_abs, is_report, is_slot, row, value}
+use Rattle.slot_accumulator.specs.SlotValues.{current, is_abs, is_slot, row, value}
+use Rattle.raw_events.specs.Packets.{is_report}
 use Rattle.slot_accumulator.specs.Table.{is_kept}
 use Rattle.raw_events.specs.declared.event.RawEvent.{RawEvent}
 

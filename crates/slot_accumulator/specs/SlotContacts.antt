@@ -5,7 +5,8 @@ use Rattle.raw_events.specs.declared.event.RawEvent.{RawEvent}
 use Rattle.slot_accumulator.specs.declared.contacts.Contact.{Contact}
 use Rattle.slot_accumulator.specs.declared.slots.Row.{Row}
 use Rattle.slot_accumulator.specs.Table.{Table, is_kept}
-use Rattle.slot_accumulator.specs.SlotValues.{current, is_report, row}
+use Rattle.slot_accumulator.specs.SlotValues.{current, row}
+use Rattle.raw_events.specs.Packets.{is_report}
 
 -- a slot below `n` has this tracking id
 abbrev pub lower_has : (ℕ → Row) → ℕ → ℤ → Bool

@@ -4,10 +4,6 @@ use Rattle.std.specs.Prelude.{ℕ, Bool, false, ℤ, pos, negsuc, List, [], ◌�
 use Rattle.raw_events.specs.declared.event.RawEvent.{RawEvent}
 use Rattle.slot_accumulator.specs.declared.slots.Row.{Row}
 
--- a SYN_REPORT, which ends a packet
-abbrev pub is_report : RawEvent → Bool
-is_report e = nat_eq e.kind 0 && nat_eq e.code 0
-
 -- an EV_ABS event of this code
 abbrev pub is_abs : ℕ → RawEvent → Bool
 is_abs code e = nat_eq e.kind 3 && nat_eq e.code code

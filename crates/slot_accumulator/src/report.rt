@@ -1,6 +1,6 @@
 //! The event that ends a packet.
 ghost use Rattle.std.specs.Prelude.{◌≡◌};
-ghost use Rattle.slot_accumulator.specs.SlotValues.{is_report as ends_packet};
+ghost use Rattle.raw_events.specs.Packets.{is_report as ends_packet};
 
 use raw_events::RawEvent;
 use raw_events::codes::{EV_SYN, SYN_REPORT};

@@ -9,6 +9,8 @@ pub mod OrderTexts
 pub mod Numbers
 pub mod Pointers
 pub mod Streams
+pub mod PartTexts
+pub mod MotionTexts
 pub mod MessageTexts
 pub mod LineTexts
 pub mod StreamExamples

@@ -18,7 +18,8 @@ use Rattle.stream_text.specs.Spelling.{body, labeled, numbered}
 use Rattle.stream_text.specs.MessageLine.{labeled_at, message_of, message_words, HasSpelling}
 use Rattle.stream_text.specs.StreamLine.{channel_at, channel_of, channel_words, end_of, end_words, is_name, line_of, naming_of, naming_words, IsId, SpellsLine}
 use Rattle.stream_text.proofs.Numbers.{after_only, bind_some, number_again, number_only}
-use Rattle.stream_text.proofs.MessageTexts.{by_word, labeled_again, labeled_front, labeled_only, message_again, message_only, none_of, not_zero, regroup, whole_only}
+use Rattle.stream_text.proofs.PartTexts.{by_word, labeled_again, labeled_front, labeled_only, none_of, not_zero, regroup, whole_only}
+use Rattle.stream_text.proofs.MessageTexts.{message_again, message_only}
 
 channel_again : (n : ℕ) (rest : List ℕ) → IsId n → NoDigit rest → channel_at (decimal n ++ rest) ≡ Some (n, rest)
 unfolding channel_at

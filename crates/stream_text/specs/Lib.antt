@@ -2,6 +2,7 @@ pub mod Spelling
 pub mod Number
 pub mod Order
 pub mod OrderHistory
+pub mod OrderAsks
 pub mod OrderText
 pub mod MessageLine
 pub mod StreamLine

@@ -107,35 +107,3 @@ pub fn naming_text(
     add_naming(&mut text, clock.get(), channel, seq)?;
     out.extend_from_slice(&text)
 }
-
-#[cfg(test)]
-mod tests {
-    use super::*;
-    use input_types::Body;
-    use std::test::Fail;
-
-    #[test]
-    fn a_section_and_a_naming(rt: HostRuntime) -> Result<(), Fail> {
-        let moment = Moment::new(6000000).ok_or("a moment")?;
-        let stream = [Message {
-            seq: 1,
-            moment,
-            body: Body::Focus(true),
-        }];
-        let counts = Counts {
-            sent: 1,
-            received: 1,
-            finished: 0,
-            published: 1,
-            live: true,
-        };
-        let mut out = Vec::new(rt.alloc());
-        channel_text(64, "main", &stream, counts, &mut out)?;
-        naming_text(moment, 64, 1, &mut out)?;
-        assert_eq!(rt;
-            out.as_slice(),
-            b"channel 64 main\n1 6000000 focus 1\nend 64 sent 1 received 1 finished 0\nanr 6000000 64 1\n".as_slice()
-        );
-        Ok(())
-    }
-}

@@ -128,25 +128,3 @@ impl StreamReader {
         streams(alloc, bytes)
     }
 }
-
-#[cfg(test)]
-mod tests {
-    use super::*;
-    use std::test::Fail;
-
-    const TEXT: &[u8] =
-        b"order 1\np\nchannel 2 main\n1 7 focus 1\nend 2 sent 1 received 0 finished 0\nanr 8 2 1\n";
-
-    #[test]
-    fn a_section_behind_an_order_is_read(rt: HostRuntime) -> Result<(), Fail> {
-        let Ok(file) = StreamReader::read(rt.alloc(), TEXT) else {
-            return Err(Fail::new("it is read"));
-        };
-        assert_eq!(rt; file.channels.len(), 1);
-        let channel = file.channels.first().ok_or("a channel")?;
-        assert_eq!(rt; channel.id, 2);
-        assert_eq!(rt; channel.first_line, 4);
-        assert_eq!(rt; channel.messages.len(), 1);
-        Ok(())
-    }
-}

@@ -138,21 +138,3 @@ fn read_line(line: &[u8]) -> Option<StreamLine>
     let message = message(line)?;
     Some(StreamLine::Message(message))
 }
-
-#[cfg(test)]
-mod tests {
-    use super::*;
-
-    #[test]
-    fn a_naming_is_read(rt: HostRuntime) {
-        let naming = StreamLine::Naming {
-            clock: Moment::zero(),
-            id: 64,
-            seq: 18446744073709551615,
-        };
-        assert_eq!(rt;
-            StreamLine::read(b"anr 0 64 18446744073709551615"),
-            Some(naming)
-        );
-    }
-}

@@ -93,36 +93,3 @@ impl Gestures {
         self.last = Pointers::empty();
     }
 }
-
-#[cfg(test)]
-mod tests {
-    use super::*;
-    use input_types::{Axis, Moment, MotionAction, Rotation};
-    use pointer_ids::Ids;
-    use raw_events::RawEvent;
-    use raw_events::codes::{ABS_MT_TRACKING_ID, EV_ABS};
-    use slot_accumulator::Slots;
-    use std::test::Fail;
-
-    #[test]
-    fn a_finger_goes_down(rt: HostRuntime) -> Result<(), Fail> {
-        let device = DeviceId::new(1).ok_or("a device")?;
-        let axis = Axis { min: 0, max: 4095 };
-        let cook = Cook::new(axis, axis, 1080, 2400, Rotation::R0).ok();
-        let mut slots = Slots::new(2);
-        slots.take(RawEvent {
-            device,
-            moment: Moment::zero(),
-            kind: EV_ABS,
-            code: ABS_MT_TRACKING_ID,
-            value: 45,
-        });
-        let pointers = Ids::new().assign(&slots.contacts());
-        let mut gestures = Gestures::new(device, cook.ok_or("a display")?);
-        let motions = gestures.next(rt.alloc(), &pointers)?;
-        assert_eq!(rt; motions.len(), 1);
-        assert_eq!(rt; motions[0].action, MotionAction::Down);
-        assert_eq!(rt; motions[0].pointers.len(), 1);
-        Ok(())
-    }
-}

@@ -2,6 +2,7 @@ pub mod Lists
 pub mod Ids
 pub mod Optimal
 pub mod Said
+pub mod Choices
 pub mod Entries
 pub mod Placed
 pub mod Digits

@@ -6,3 +6,4 @@ pub mod Named
 pub mod Snapshot
 pub mod Window
 pub mod WindowList
+pub mod Origins

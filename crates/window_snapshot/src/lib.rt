@@ -14,8 +14,6 @@ mod flags;
 mod hits;
 mod mask;
 mod snapshot;
-#[cfg(test)]
-mod tests;
 mod window;
 
 pub use flags::WindowFlags;

@@ -1,5 +1,5 @@
 use Rattle.std.proofs.Common.{◌≡◌, map, take}
-use Rattle.dispatch_history.specs.Said.{place_from}
+use Rattle.window_snapshot.specs.Origins.{place_from}
 use Rattle.dispatch_channels.proofs.heard.pointers_from.Given as goal
 
 -- the pointers so far, counted from the origin

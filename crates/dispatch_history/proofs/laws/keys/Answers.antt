@@ -1,4 +1,5 @@
-use Rattle.dispatch_history.proofs.KeyLaws.{keys_law, keys_come, held_key_law, last_key_law}
+use Rattle.dispatch_history.proofs.KeysKnown.{last_key_law}
+use Rattle.dispatch_history.proofs.KeyLaws.{keys_law, keys_come, held_key_law}
 use Rattle.dispatch_history.proofs.laws.keys.Goals as goal
 
 pub returns : goal.returns

@@ -3,7 +3,7 @@ use Rattle.window_snapshot.specs.Mask.{mask_has}
 use Rattle.routing_rules.specs.Given.{changed}
 use Rattle.route_plain.specs.Holds.{channels_with}
 use Rattle.route_plain.specs.Moment.{scene_at}
-use Rattle.route_plain.specs.Telling.{is_watching}
+use Rattle.routing_rules.specs.Watching.{is_watching}
 use Rattle.route_plain.proofs.Silence.{unconcerned, one_of_64}
 use Rattle.route_plain.proofs.SaidLaws.{said_none, said_step}
 use Rattle.route_plain.proofs.said.said_of_motion.Goals as goal

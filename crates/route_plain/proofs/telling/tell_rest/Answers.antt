@@ -4,7 +4,7 @@ use Rattle.input_types.specs.declared.motion.Motion.{Motion}
 use Rattle.input_types.specs.declared.motion.MotionAction.TheVariants.{Move}
 use Rattle.bits32.specs.Set.{is_in}
 use Rattle.routing_rules.specs.Told.{plain, listing, moves, or_else}
-use Rattle.route_plain.specs.Telling.{outside_of}
+use Rattle.routing_rules.specs.Watching.{outside_of}
 use Rattle.route_plain.proofs.Sayings.{lost_first, then_rest, moves_first, none_moves, say_same}
 use Rattle.route_plain.proofs.telling.tell_rest.Goals as goal
 

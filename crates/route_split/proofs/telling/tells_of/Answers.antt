@@ -1,7 +1,8 @@
 use Rattle.std.proofs.Common.{sym, ap, ◌∙◌, subst}
 use Rattle.bits32.specs.Set.{is_in}
 use Rattle.routing_rules.specs.Told.{told_motion}
-use Rattle.route_split.specs.Telling.{IsTold, is_watching, OnlyNew}
+use Rattle.route_split.specs.Telling.{IsTold, OnlyNew}
+use Rattle.routing_rules.specs.Watching.{is_watching}
 use Rattle.route_split.proofs.TellingLaws.{none_told}
 use Rattle.route_split.proofs.telling.tells_of.Goals as goal
 

@@ -2,7 +2,7 @@ use Rattle.std.proofs.Common.{◌∷◌, [], length, ◌==◌, sym, ap, ◌∙�
 use Rattle.bits32.specs.Set.{is_in}
 use Rattle.input_types.specs.declared.motion.MotionAction.TheVariants.{Move, Outside}
 use Rattle.routing_rules.specs.Told.{listing, plain}
-use Rattle.route_split.specs.Telling.{outside_of}
+use Rattle.routing_rules.specs.Watching.{outside_of}
 use Rattle.route_split.proofs.TellingLaws.{lost_told, kept_told, some_move, none_move}
 use Rattle.route_split.proofs.telling.tells_rest.Goals as goal
 

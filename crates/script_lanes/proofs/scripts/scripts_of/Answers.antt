@@ -2,7 +2,8 @@ use Rattle.std.proofs.Common.{◌≡◌, ◌+◌, ◌++◌, ◌∙◌, ap, sym, 
 use Rattle.std.specs.Prelude.{vec_len}
 use Rattle.std.proofs.lemmas.Iterator.Adapters.{YieldsList-from_vec}
 use Rattle.std.proofs.lemmas.Iterator.Consumers.{YieldsList-end}
-use Rattle.lane_laws.specs.Orders.{calls_of_lane, AreLanes}
+use Rattle.lane_laws.specs.Orders.{AreLanes}
+use Rattle.dispatch_history.specs.Given.{calls_of_lane}
 use Rattle.schedule.specs.Planned.{step_of}
 use Rattle.script_lanes.specs.Scripts.{calls_of_all, call_for}
 use Rattle.script_lanes.proofs.Dealing.{lane_more, lanes_are, as_they_are, all_scripted, steps_scripted}

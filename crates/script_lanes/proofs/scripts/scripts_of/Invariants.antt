@@ -1,6 +1,6 @@
 use Rattle.std.proofs.Common.{◌≡◌, ◌<◌, ◌+◌, ℕ, map}
 use Rattle.std.specs.Prelude.{vec_len}
-use Rattle.lane_laws.specs.Orders.{calls_of_lane}
+use Rattle.dispatch_history.specs.Given.{calls_of_lane}
 use Rattle.schedule.specs.Planned.{step_of}
 use Rattle.script_lanes.specs.Scripts.{calls_at}
 use Rattle.script_lanes.proofs.scripts.scripts_of.Given as goal

@@ -7,7 +7,8 @@ use Rattle.touch_writer.specs.declared.table.Best.{Best}
 use Rattle.touch_writer.specs.Places.{kept}
 use Rattle.touch_writer.specs.Choice.{remains, arrives}
 use Rattle.touch_writer.specs.Search.{blank, cost, IsBest}
-use Rattle.touch_writer.proofs.Entries.{read_again, few_events, entry_events, entry_none, entry_kept, none_left, IsPair, both_ways, comes_here, comes_later}
+use Rattle.touch_writer.proofs.Choices.{entry_none, entry_kept, IsPair}
+use Rattle.touch_writer.proofs.Entries.{read_again, few_events, entry_events, none_left, both_ways, comes_here, comes_later}
 use Rattle.touch_writer.proofs.table.entry.Goals.{then-left-eq0-via-then-left-eq0, then-left-eq0-via-else-left-eq0+then-is_some}
 use Rattle.touch_writer.proofs.table.entry.Goals as goal
 

@@ -2,7 +2,8 @@
 use Rattle.std.specs.Prelude.{◌≡◌, List, [], ◌∷◌, true, false}
 use Rattle.std.proofs.Common.{sym, ◌∙◌, ap, subst}
 use Rattle.raw_events.specs.declared.event.RawEvent.{RawEvent}
-use Rattle.device_reader.specs.Packets.{is_drop, is_void, since_drop}
+use Rattle.device_reader.specs.Packets.{since_drop}
+use Rattle.raw_events.specs.Packets.{is_drop, is_void}
 use Rattle.device_reader.specs.Cooked.{KindStandsFor}
 use Rattle.device_reader.specs.Reading.{Reading}
 use Rattle.device_reader.proofs.Drops.{void_after, none_after}

@@ -1,5 +1,5 @@
 use Rattle.std.proofs.Common.{◌-◌, ap, ◌∙◌}
-use Rattle.dispatch_history.specs.Origin.{corner}
+use Rattle.window_snapshot.specs.Origins.{corner}
 use Rattle.dispatch_channels.specs.Table.{opened}
 use Rattle.dispatch_knows.specs.Shown.{origin_at}
 use Rattle.dispatch_knows.proofs.Starting.{knows_first}

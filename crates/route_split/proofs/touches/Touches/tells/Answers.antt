@@ -5,7 +5,8 @@ use Rattle.routing_rules.specs.Told.{told}
 use Rattle.touch_state.specs.Touches.{Touches}
 use Rattle.route_split.specs.Tables.{Stands}
 use Rattle.route_split.specs.Marking.{IsMark}
-use Rattle.route_split.specs.Telling.{IsTold, IsListed, is_watching}
+use Rattle.route_split.specs.Telling.{IsTold, IsListed}
+use Rattle.routing_rules.specs.Watching.{is_watching}
 use Rattle.route_split.proofs.touches.Touches.tells.Goals as goal
 
 pub returns : goal.returns

@@ -2,7 +2,8 @@
 use Rattle.std.specs.Prelude.{◌≡◌, pos}
 use Rattle.std.specs.Prelude.{true, length, take}
 use Rattle.std.proofs.Common.{rules, arith, sym, ◌∙◌, ap, subst}
-use Rattle.slot_accumulator.specs.SlotValues.{current, is_report, row_after}
+use Rattle.slot_accumulator.specs.SlotValues.{current, row_after}
+use Rattle.raw_events.specs.Packets.{is_report}
 use Rattle.slot_accumulator.specs.Table.{Table, is_kept}
 use Rattle.slot_accumulator.specs.SlotContacts.{StandsFor, is_palm, palm_below, row_in}
 use Rattle.slot_accumulator.proofs.Rows.{written_there}
