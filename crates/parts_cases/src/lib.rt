@@ -14,4 +14,6 @@
 #[cfg(test)]
 mod part_tests;
 #[cfg(test)]
+mod queue_tests;
+#[cfg(test)]
 mod touch_tests;
