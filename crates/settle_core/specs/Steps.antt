@@ -11,7 +11,7 @@ use Rattle.dispatch_history.specs.Reply.{is_due}
 use Rattle.dispatch_core.specs.Machine.{called, steps}
 use Rattle.dispatch_core.specs.Recorded.{Recorded}
 use Rattle.lane_laws.specs.Race.{Each}
-use Rattle.lane_laws.specs.Settling.{Settling, settling}
+use Rattle.lane_laws.specs.Settling.{Settling, strays, settling}
 use Rattle.turnstile.specs.History.{Entry as Called}
 
 -- Since the start the caller, number 0, made these calls, and stands so.
@@ -21,6 +21,15 @@ pub record Came (finishing : ℕ → Bool) (start : Recorded) (stage : Settling)
   pub of_caller : Each (λ e. e.0 ≡ 0) since
   pub stands : settling finishing (steps since) ≡ stage
   pub displays_are : now.displays ≡ start.displays
+
+-- the caller made no other call than was due
+abbrev pub IsOnWay : Settling → Type 0
+IsOnWay strays = ⊥
+IsOnWay stage = Unit {0}
+
+-- Since the start the caller made calls that were due, and no others, however far it came.
+abbrev pub CameSome : (finishing : ℕ → Bool) → (start now : Recorded) → Type 0
+CameSome finishing start now = (stage : Settling) × IsOnWay stage × Came finishing start stage now
 
 -- how many pumps more find something to do: one for each args that wait, and one for a repeat that is due; args may make a repeat due
 abbrev pub pumps_left : List ℕ → History → ℕ

@@ -1,8 +1,8 @@
 //! Settling.
 ghost use Rattle.std.specs.Prelude.{◌≡◌, ◌+◌, OnOk, OnErr};
 ghost use Rattle.dispatch_core.specs.Recorded.{IsSound};
-ghost use Rattle.lane_laws.specs.Settling.{Settling, takes_from};
-ghost use Rattle.settle_core.specs.Steps.{Came};
+ghost use Rattle.lane_laws.specs.Settling.{takes_from};
+ghost use Rattle.settle_core.specs.Steps.{Came, CameSome};
 ghost use Rattle.window_snapshot.specs.Mask.{mask_has};
 
 use crate::pumping::{look, pump_out};
@@ -16,7 +16,7 @@ use window_snapshot::mask_has;
 /// channels in the mask `finishing` finish each message that they are given. Without memory only some of this is done.
 pub fn settle(core: &mut Core, channels: u32, finishing: u64) -> Result<(), AllocError>
     ensures settled { OnOk result (Came (mask_has finishing) core.old (takes_from (channels + 1)) core.new) }
-    ensures err { OnErr result ((stage : Settling) × Came (mask_has finishing) core.old stage core.new) }
+    ensures err { OnErr result (CameSome (mask_has finishing) core.old core.new) }
     ensures sound { IsSound core.new }
 {
     pump_out(core)?;

@@ -1,8 +1,8 @@
 //! Receives until a channel has nothing more.
 ghost use Rattle.std.specs.Prelude.{◌≡◌, ◌<◌, ◌+◌, ℕ, Bool, true, IfOk, OnOk, OnErr, if◌then◌else◌};
 ghost use Rattle.dispatch_core.specs.Recorded.{Recorded, history_of, IsSound};
-ghost use Rattle.lane_laws.specs.Settling.{Settling, takes_from, owes_to};
-ghost use Rattle.settle_core.specs.Steps.{Came, untaken};
+ghost use Rattle.lane_laws.specs.Settling.{takes_from, owes_to};
+ghost use Rattle.settle_core.specs.Steps.{Came, CameSome, untaken};
 
 use crate::pumping::CALLER;
 use dispatch_calls::{Call, Reply};
@@ -19,7 +19,7 @@ fn take(core: &mut Core, channel: u32, finishes: bool) -> Result<bool, AllocErro
         → untaken core.new.displays (history_of core.new.entries) channel
         < untaken core.old.displays (history_of core.old.entries) channel) }
     ensures err { (f : ℕ → Bool) (start : Recorded) → f channel ≡ finishes → Came f start (takes_from channel) core.old
-        → OnErr result ((stage : Settling) × Came f start stage core.new) }
+        → OnErr result (CameSome f start core.new) }
     ensures sound { IsSound core.new }
 {
     match core.apply(CALLER, Call::Receive { channel }) {
@@ -61,7 +61,7 @@ pub(crate) fn take_all(core: &mut Core, channel: u32, finishes: bool) -> Result<
     ensures came { (f : ℕ → Bool) (start : Recorded) → f channel ≡ finishes → Came f start (takes_from channel) core.old
         → OnOk result (Came f start (takes_from (channel + 1)) core.new) }
     ensures err { (f : ℕ → Bool) (start : Recorded) → f channel ≡ finishes → Came f start (takes_from channel) core.old
-        → OnErr result ((stage : Settling) × Came f start stage core.new) }
+        → OnErr result (CameSome f start core.new) }
     ensures sound { IsSound core.new }
 {
     'taking: while take(core, channel, finishes)? {}

@@ -1,5 +1,6 @@
 //! The judge of one section.
-ghost use Rattle.std.specs.Prelude.{◌≡◌, List, [], IfOk, OnErr};
+ghost use Rattle.std.specs.Prelude.{◌≡◌, true, List, [], IfOk, OnErr};
+ghost use Rattle.gesture_verifier.specs.Faults.{is_key};
 ghost use Rattle.input_types.specs.declared.message.Message.{Message as Told};
 
 use gesture_verifier::{StepError, Verifier};
@@ -39,6 +40,7 @@ impl Judge {
         ensures ok { (messages : List Told) → HasPassed messages self.old
             → IfOk result (λ may. Passes messages message.now may self.new) }
         ensures err { OnErr result (self.new ≡ self.old) }
+        ensures memory { OnErr result (is_key message.now.body ≡ true) }
     {
         match self.verifier.step(message) {
             Ok(()) => Ok(true),

@@ -1,8 +1,8 @@
 use Rattle.std.proofs.Common.{◌∙◌, subst, sym, arith}
 use Rattle.std.proofs.lemmas.Bool.{true≢false}
 use Rattle.dispatch_calls.specs.declared.call.Call.TheVariants.{Receive}
-use Rattle.lane_laws.specs.Settling.{Settling, owes_to}
-use Rattle.settle_core.specs.Steps.{Came}
+use Rattle.lane_laws.specs.Settling.{owes_to}
+use Rattle.settle_core.specs.Steps.{Came, CameSome}
 use Rattle.settle_core.proofs.Coming.{Called, on_err, take_owes, take_more, take_none, take_left}
 use Rattle.settle_core.proofs.taking.take.Goals as goal
 
@@ -10,8 +10,9 @@ pub returns-in_err-finish-in-Got-clause-err : goal.returns-in_err-finish-in-Got-
 returns-in_err-finish-in-Got-clause-err c =
     let is = subst (λ r. Called (Receive c.args.channel) r c.args.core.now c.apply.new.self) c.in-Got.is c.in-Ok.ensures.entry in
     λ f start on came.
-    on_err c.from_residual.result ((stage : Settling) × Came f start stage c.finish.new.core) (
+    on_err c.from_residual.result (CameSome f start c.finish.new.core) (
       owes_to c.args.channel c.in-Got.message.seq,
+      tt,
       subst (Came f start (owes_to c.args.channel c.in-Got.message.seq)) (sym c.in_err-finish-in-Got.ensures.err)
           (take_owes f start c.args.core.now c.apply.new.self c.args.channel c.in-Got.message is (on ∙ c.if-finishes.true) came),
     )
