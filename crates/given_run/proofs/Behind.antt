@@ -1,37 +1,27 @@
 -- The calls of a given order, line by line.
-use mathlib.Core.List.{reverse-cons}
-use Rattle.std.proofs.Common.{◌≡◌, ℕ, ◌+◌, true, List, [], ◌∷◌, ◌++◌, length, drop, map, reverse, Some, None, refl, sym, ap, ◌∙◌, subst, append_assoc, append-nil}
+use Rattle.std.proofs.Common.{◌≡◌, ℕ, ◌+◌, true, List, [], ◌∷◌, length, drop, map, reverse, Some, None, refl, sym, ap, ◌∙◌, subst, append-nil}
 use Rattle.std.specs.Prelude.{Result, Ok, Err, slice_get}
 use Rattle.std.proofs.lemmas.List.{drop-map, drop_more}
 use Rattle.std.proofs.lemmas.Option.{get_or_from_slice_get, slice_get_within}
 use Rattle.dispatch_calls.specs.declared.call.Call.{Call}
 use Rattle.dispatch_history.specs.Effect.{Effect, past_of}
-use Rattle.dispatch_history.specs.Given.{given, opens, after_opens, line_calls, then_rest}
+use Rattle.dispatch_history.specs.Given.{given, opens, after_opens, line_calls, then_rest, call_of, args_after, steps_after}
 use Rattle.dispatch_history.specs.History.{opened}
 use Rattle.dispatch_history.specs.Legal.{answered, run}
 use Rattle.dispatch_history.specs.Ordered.{begun, extend}
-use Rattle.dispatch_history.specs.Plan.{Plan, Cooked, ScriptStep, Line, ReaderLine, ScriptLine, PumpLine, TickLine, ReceiveLine, FinishLine}
+use Rattle.dispatch_history.specs.Plan.{Plan, Cooked, ScriptStep, Line}
 use Rattle.schedule.proofs.Receiving.{extend_append}
 use Rattle.schedule.specs.State.{ScheduleState, Has}
-use Rattle.given_run.specs.Following.{call_of, args_after, steps_after, Comes, Makes, Follows}
-use Rattle.given_run.specs.Planned.{line_of}
+use Rattle.given_run.specs.Following.{Comes, Makes, Follows}
+use Rattle.stream_text.specs.OrderAsks.{line_of}
 use Rattle.given_run.specs.State.{GivenState}
 use Rattle.stream_text.specs.declared.order_line.OrderLine.{OrderLine}
+use Rattle.dispatch_history.proofs.GivenLines.{line_then, extend_run}
 
 -- the effects of calls behind those before, where there are calls
 abbrev pub effects_of : List ℕ → List Effect → Result (List Call) ℕ → Result (List Effect) ℕ
 effects_of ds es (Ok calls) = Ok (extend ds es calls)
 effects_of ds es (Err n) = Err n
-
--- the calls of a line and of those behind it
-pub line_then : (n : ℕ) (cs : List Cooked) (ss : List ScriptStep) (line : Line) (lines : List Line)
-    → line_calls n cs ss (line ∷ lines) ≡ then_rest (call_of line cs ss) n (line_calls (n + 1) (args_after line cs) (steps_after line ss) lines)
-line_then n cs ss ReaderLine lines = refl
-line_then n cs ss (ScriptLine l) lines = refl
-line_then n cs ss PumpLine lines = refl
-line_then n cs ss TickLine lines = refl
-line_then n cs ss (ReceiveLine c) lines = refl
-line_then n cs ss (FinishLine c seq) lines = refl
 
 call_first : (ds : List ℕ) (es : List Effect) (call : Call) (n : ℕ) (r : Result (List Call) ℕ)
     → effects_of ds es (then_rest (Some call) n r) ≡ effects_of ds (answered ds call es) r
@@ -91,12 +81,6 @@ along_stops plan lines n line s a here none =
     (a.all_is ∙ ap (λ ls. effects_of plan.displays a.es (line_calls n a.cs a.ss ls)) here
     ∙ ap (effects_of plan.displays a.es) (line_then n a.cs a.ss line (drop (n + 1) lines))
     ∙ ap (λ o. effects_of plan.displays a.es (then_rest o n (line_calls (n + 1) (args_after line a.cs) (steps_after line a.ss) (drop (n + 1) lines)))) none)
-
-extend_run : (ds : List ℕ) (before calls : List Call) → extend ds (run ds before) calls ≡ run ds (reverse calls ++ before)
-extend_run ds before [] = refl
-extend_run ds before (call ∷ calls) =
-    extend_run ds (call ∷ before) calls
-    ∙ ap (run ds) (sym (ap (λ xs. xs ++ before) (reverse-cons call calls) ∙ append_assoc (reverse calls) (call ∷ []) before))
 
 abbrev done : List Effect → Result (List Effect) ℕ
 done es = Ok es

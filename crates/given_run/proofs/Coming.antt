@@ -6,7 +6,7 @@ use Rattle.dispatch_calls.specs.declared.call.Call.{Call}
 use Rattle.dispatch_calls.specs.declared.call.Call.TheVariants.{Open, Windows, FocusOn, Notify, Pump, Tick, Receive, Finish, Pilfer, Remove}
 use Rattle.dispatch_calls.specs.declared.reply.Reply.{Reply}
 use Rattle.dispatch_history.specs.Effect.{Effect, past_of}
-use Rattle.dispatch_history.specs.Given.{next_args, without_first}
+use Rattle.dispatch_history.specs.Given.{next_args, without_first, call_of, args_after, steps_after}
 use Rattle.dispatch_history.specs.History.{History, opened}
 use Rattle.dispatch_history.specs.Legal.{answered}
 use Rattle.dispatch_history.specs.Ordered.{begun, is_scripted}
@@ -16,7 +16,7 @@ use Rattle.schedule.specs.Kinds.{is_opening}
 use Rattle.schedule.specs.State.{Has, ScheduleState}
 use Rattle.schedule.proofs.Opening.{fresh_begun}
 use Rattle.given_run.specs.declared.cooked.Cooked.{Cooked as Handed}
-use Rattle.given_run.specs.Following.{Comes, Makes, call_of, args_after, steps_after}
+use Rattle.given_run.specs.Following.{Comes, Makes}
 use Rattle.given_run.specs.Lanes.{IsLeft}
 use Rattle.given_run.specs.Planned.{cooked_of}
 use Rattle.given_run.specs.State.{GivenState}

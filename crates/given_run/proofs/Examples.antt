@@ -13,7 +13,7 @@ use Rattle.dispatch_history.specs.Plan.{Plan, Cooked}
 use Rattle.dispatch_history.proofs.Worked.{one_display, window, at, motion}
 use Rattle.schedule.specs.Lines.{lines_received}
 use Rattle.stream_text.specs.declared.order_line.OrderLine.TheVariants.{Reader, Script, Pump, Tick, Receive, Finish}
-use Rattle.given_run.specs.Planned.{line_of}
+use Rattle.stream_text.specs.OrderAsks.{line_of}
 
 abbrev finger : Plan → Plan
 finger plan = record plan { cooked = touched 1000000 ∷ touched 1010000 ∷ [] }

@@ -4,11 +4,11 @@ use Rattle.std.specs.Prelude.{slice_set, replicate}
 use Rattle.std.proofs.lemmas.Bool.{cases_eq, eq-eqb, ne_eqb}
 use Rattle.std.proofs.lemmas.List.{drop-map, drop_all, drop_more, get_or-set_same, get_or-set_other, get_or-replicate}
 use Rattle.dispatch_calls.specs.declared.call.Call.{Call}
-use Rattle.dispatch_history.specs.Given.{next_of_lane, without_next}
+use Rattle.dispatch_history.specs.Given.{next_of_lane, without_next, calls_of_lane}
 use Rattle.dispatch_history.specs.Plan.{ScriptStep}
 use Rattle.schedule.specs.declared.plan.Step.{Step}
 use Rattle.schedule.specs.Planned.{step_of}
-use Rattle.given_run.specs.Lanes.{calls_of_lane, place_of, IsLeft}
+use Rattle.given_run.specs.Lanes.{place_of, IsLeft}
 
 abbrev pub first : List Call → Option Call
 first [] = None

@@ -1,37 +1,17 @@
 -- How far a given order was followed, and what it came to.
-use Rattle.std.specs.Prelude.{◌≡◌, ℕ, ◌+◌, ◌≤◌, Bool, true, false, List, drop, length, reverse, Option, Some, None, Result, Ok, Err}
+use Rattle.std.specs.Prelude.{◌≡◌, ℕ, ◌+◌, ◌≤◌, Bool, true, false, List, drop, length, reverse, Some, None, Result, Ok, Err}
 use Rattle.dispatch_calls.specs.declared.call.Call.{Call}
-use Rattle.dispatch_calls.specs.declared.call.Call.TheVariants.{Pump, Tick, Receive, Finish}
 use Rattle.dispatch_history.specs.Effect.{Effect, past_of}
-use Rattle.dispatch_history.specs.Given.{given, next_args, next_of_lane, without_first, without_next}
+use Rattle.dispatch_history.specs.Given.{given, call_of, args_after, steps_after}
 use Rattle.dispatch_history.specs.History.{opened}
 use Rattle.dispatch_history.specs.Legal.{answered, run}
 use Rattle.dispatch_history.specs.Ordered.{scripted}
-use Rattle.dispatch_history.specs.Plan.{Plan, Cooked, ScriptStep, Line, ReaderLine, ScriptLine, PumpLine, TickLine, ReceiveLine, FinishLine}
+use Rattle.dispatch_history.specs.Plan.{Plan, Cooked, ScriptStep, Line}
 use Rattle.schedule.specs.State.{ScheduleState, Has}
 use Rattle.given_run.specs.declared.fault.Fault.{Fault}
 use Rattle.given_run.specs.declared.fault.Fault.TheVariants.{NoStep, Memory}
 use Rattle.given_run.specs.Lanes.{IsLeft}
 use Rattle.given_run.specs.State.{GivenState}
-
--- the call of a line, where these args and steps are left
-abbrev pub call_of : Line → List Cooked → List ScriptStep → Option Call
-call_of ReaderLine cs ss = next_args cs
-call_of (ScriptLine l) cs ss = next_of_lane l ss
-call_of PumpLine cs ss = Some (Pump 0)
-call_of TickLine cs ss = Some (Tick 0)
-call_of (ReceiveLine c) cs ss = Some (Receive c)
-call_of (FinishLine c seq) cs ss = Some (Finish 0 c seq)
-
--- the args that are left after a line
-abbrev pub args_after : Line → List Cooked → List Cooked
-args_after ReaderLine cs = without_first cs
-args_after line cs = cs
-
--- the steps that are left after it
-abbrev pub steps_after : Line → List ScriptStep → List ScriptStep
-steps_after (ScriptLine l) ss = without_next l ss
-steps_after line ss = ss
 
 -- After n lines of an order a run stands for these effects, and these args and steps are left.
 pub record Comes (plan : Plan) (n : ℕ) (es : List Effect) (cs : List Cooked) (ss : List ScriptStep) (s : GivenState) : Type 0 where

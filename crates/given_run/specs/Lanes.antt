@@ -1,14 +1,10 @@
 -- The steps that are left of each lane.
-use Rattle.std.specs.Prelude.{◌≡◌, ℕ, ◌+◌, ◌==◌, ◌<◌, if◌then◌else◌, List, [], ◌∷◌, length, drop, map, slice_get, slice_index_or, Option, Some, None}
+use Rattle.std.specs.Prelude.{◌≡◌, ℕ, ◌+◌, ◌<◌, List, [], ◌∷◌, length, drop, map, slice_get, slice_index_or, Option, Some, None}
 use Rattle.dispatch_calls.specs.declared.call.Call.{Call}
 use Rattle.dispatch_history.specs.Plan.{ScriptStep}
 use Rattle.schedule.specs.declared.plan.Step.{Step}
 use Rattle.schedule.specs.Planned.{step_of}
-
--- the calls of the steps of a lane
-abbrev pub calls_of_lane : ℕ → List ScriptStep → List Call
-calls_of_lane l [] = []
-calls_of_lane l (s ∷ ss) = if s.lane == l then s.call ∷ calls_of_lane l ss else calls_of_lane l ss
+use Rattle.dispatch_history.specs.Given.{calls_of_lane}
 
 -- where the next step of a lane is looked for
 abbrev pub place_of : List ℕ → ℕ → ℕ

@@ -1,7 +1,8 @@
 //! The run of a given order.
 ghost use Rattle.std.specs.Prelude.{map};
 ghost use Rattle.given_run.specs.Following.{Follows};
-ghost use Rattle.given_run.specs.Planned.{line_of, whole_plan};
+ghost use Rattle.given_run.specs.Planned.{whole_plan};
+ghost use Rattle.stream_text.specs.OrderAsks.{line_of};
 ghost use Rattle.schedule.specs.Planned.{IsRun};
 
 use crate::cooked::Cooked;

@@ -7,7 +7,8 @@ ghost use Rattle.dispatch_history.specs.Ordered.{begun, is_scripted};
 ghost use Rattle.dispatch_history.specs.Plan.{Plan as PlanView, Cooked as CookedView, ReaderLine, ScriptLine, ScriptStep};
 ghost use Rattle.stream_text.specs.declared.order_line.OrderLine.{OrderLine as LineView};
 ghost use Rattle.given_run.specs.Following.{Comes, Makes};
-ghost use Rattle.given_run.specs.Planned.{cooked_of, line_of, whole_plan};
+ghost use Rattle.given_run.specs.Planned.{cooked_of, whole_plan};
+ghost use Rattle.stream_text.specs.OrderAsks.{line_of};
 ghost use Rattle.schedule.specs.Kinds.{is_opening, is_receiving};
 ghost use Rattle.schedule.specs.Planned.{IsRun, step_of};
 
@@ -15,7 +16,7 @@ use crate::cooked::Cooked;
 use crate::lanes::Lanes;
 use dispatch_calls::Call;
 use input_types::Moment;
-use schedule::{Plan, Schedule};
+use schedule::{Lines, Plan, Schedule};
 use std::alloc::{AllocError, Global};
 use std::marker::Model;
 use stream_text::{Order, OrderLine};
@@ -44,7 +45,7 @@ impl Progress {
         ensures { (cooked : List Cooked) → IfOk result (Comes (whole_plan plan.now cooked) 0
             (begun (whole_plan plan.now cooked)) (map cooked_of cooked) (map step_of plan.now.steps.items)) }
     {
-        let run = Schedule::begin(alloc, plan)?;
+        let run = Schedule::begin(alloc, plan, Lines::Kept)?;
         let lanes = Lanes::new(alloc)?;
         Ok(Progress {
             run,

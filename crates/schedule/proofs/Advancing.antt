@@ -7,6 +7,7 @@ use Rattle.dispatch_history.specs.History.{moment_of}
 use Rattle.dispatch_history.specs.Effect.{Effect, past_of}
 use Rattle.dispatch_history.specs.Plan.{Plan}
 use Rattle.dispatch_history.specs.Ordered.{Candidate, soonest, round, is_scripted, is_notified, scripted}
+use Rattle.schedule.specs.declared.keeping.Lines.{Lines}
 use Rattle.schedule.specs.declared.due.What.{What}
 use Rattle.schedule.specs.declared.due.What.TheVariants as whats
 use Rattle.std.specs.List.{All}
@@ -19,7 +20,7 @@ use Rattle.schedule.specs.DueView.{call_of}
 use Rattle.schedule.specs.Handing.{single}
 use Rattle.schedule.specs.Kinds.{is_receiving, is_opening}
 use Rattle.schedule.specs.Next.{fore, up_to}
-use Rattle.schedule.specs.State.{ScheduleState, Ready}
+use Rattle.schedule.specs.State.{ScheduleState, ReadyWith}
 use Rattle.schedule.proofs.Going.{first_call, single_notified}
 use Rattle.schedule.proofs.Rounds.{within}
 use Rattle.schedule.proofs.Stepping.{lawful_of}
@@ -57,12 +58,12 @@ due_single t (whats.Finish channel seq) = refl
 due_single t whats.Tick = refl
 due_single t whats.Repeat = refl
 
-pub advances : (plan : Plan) (es : List Effect) (s t : ScheduleState) (until : ℕ) (call : Call) → Ready plan es s → Plain call
-    → soonest (fore plan es) ≡ Some (single call) → moment_of call ≤ until → Ready plan (round plan es (single call)) t → Advances plan until es s t true
-advances plan es s t until call r p first le again = (
+pub advances : (how : Lines) (plan : Plan) (es : List Effect) (s t : ScheduleState) (until : ℕ) (call : Call) → ReadyWith how plan es s → Plain call
+    → soonest (fore plan es) ≡ Some (single call) → moment_of call ≤ until → ReadyWith how plan (round plan es (single call)) t → Advances how plan until es s t true
+advances how plan es s t until call r p first le again = (
   single call,
   ap (up_to until) first ∙ within until (single call) le,
-  single_notified plan.displays es call (first_call plan.displays es call (lawful_of plan es s r.has) r.caught p.opens_not).lawful p.notifies_not,
+  single_notified plan.displays es call (first_call plan.displays es call (lawful_of how plan es s r.has) r.caught p.opens_not).lawful p.notifies_not,
   again,
 )
 

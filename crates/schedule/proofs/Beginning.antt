@@ -11,10 +11,11 @@ use Rattle.dispatch_history.specs.Legal.{answered}
 use Rattle.dispatch_history.specs.Plan.{Plan, ChannelOf}
 use Rattle.dispatch_history.specs.Given.{opens}
 use Rattle.dispatch_history.specs.Ordered.{extend, begun, scripted, start}
+use Rattle.schedule.specs.declared.keeping.Lines.{Lines}
 use Rattle.schedule.specs.declared.plan.Channel.{Channel}
 use Rattle.schedule.specs.Planned.{channel_of}
 use Rattle.schedule.specs.Run.{messages_in}
-use Rattle.schedule.specs.State.{ScheduleState, Has, Ran}
+use Rattle.schedule.specs.State.{ScheduleState, HasWith, RanWith}
 use Rattle.schedule.proofs.Going.{sum_agree}
 use Rattle.schedule.proofs.Opening.{Fresh, fresh_start, fresh_more, fresh_begun, fresh_caught}
 use Rattle.schedule.proofs.Receiving.{extend_append}
@@ -48,8 +49,8 @@ no_messages : (ds : List ℕ) (es : List Effect) (n : ℕ) → Fresh ds es n →
 no_messages ds es n h = sum_agree (λ c. length (stream es c)) (λ c. 0) (opened (past_of es)) (λ c. ap length (h.no_stream c)) ∙ none_summed (channels (opened (past_of es)))
 
 -- the run begins
-pub begins : (plan : Plan) (s : ScheduleState) → length plan.channels ≤ 64 → Has plan (begun plan) s → s.messages ≡ 0 → s.latest ≡ 0 → Ran plan [] s
-begins plan s few has messages latest =
+pub begins : (how : Lines) (plan : Plan) (s : ScheduleState) → length plan.channels ≤ 64 → HasWith how plan (begun plan) s → s.messages ≡ 0 → s.latest ≡ 0 → RanWith how plan [] s
+begins how plan s few has messages latest =
     let f = fresh_begun plan few in
     record {
       es = begun plan;

@@ -1,6 +1,6 @@
 -- What the counts of a channel that was opened say.
-use Rattle.std.proofs.Common.{◌≡◌, ℕ, ◌-◌, ◌≤◌, nat_le, true, cond, List, length, replicate, Some, None, refl, sym, ap, ◌∙◌}
-use Rattle.std.proofs.lemmas.Bool.{and_parts, leb-true}
+use Rattle.std.proofs.Common.{◌≡◌, ℕ, ◌-◌, ◌≤◌, nat_le, Bool, true, false, cond, List, [], length, replicate, Some, None, refl, sym, ap, ◌∙◌}
+use Rattle.std.proofs.lemmas.Bool.{and_from, and_parts, le-leb, leb-true}
 use Rattle.dispatch_calls.specs.declared.call.Call.TheVariants.{Receive}
 use Rattle.dispatch_calls.specs.declared.counts.Counts.{Counts}
 use Rattle.dispatch_history.specs.History.{live, opened, received, finished}
@@ -8,10 +8,13 @@ use Rattle.dispatch_history.specs.Effect.{Effect, past_of, stream}
 use Rattle.dispatch_history.specs.Delivery.{published}
 use Rattle.dispatch_history.specs.Due.{counts}
 use Rattle.dispatch_history.specs.Plan.{Plan}
+use Rattle.dispatch_tables.specs.Lawful.{Lawful}
+use Rattle.dispatch_tables.proofs.Ables.{live_number}
 use Rattle.dispatch_core.specs.Access.{is_opened}
 use Rattle.dispatch_core.specs.Dispatching.{Dispatching, StandsFor}
+use Rattle.schedule.specs.declared.keeping.Lines.{Lines}
 use Rattle.schedule.specs.Receives.{receives_of}
-use Rattle.schedule.specs.State.{ScheduleState, Has}
+use Rattle.schedule.specs.State.{ScheduleState, HasWith}
 
 -- those of a channel that was opened
 abbrev pub count_of : List Effect → ℕ → Counts
@@ -30,6 +33,27 @@ same_some j k e = cc
 pub counts_are : (es : List Effect) (c : ℕ) (k : Counts) → is_opened es c ≡ true → counts es c ≡ Some k → k ≡ count_of es c
 counts_are es c k there_is e = same_some k (count_of es c) (sym e ∙ ap (λ b. cond b (Some (count_of es c)) None) there_is)
 
+-- a channel with counts was opened
+pub counts_opened : (es : List Effect) (c : ℕ) (k : Counts) → counts es c ≡ Some k → is_opened es c ≡ true
+counts_opened es c k e = by_test (is_opened es c) e
+  where
+    by_test : (b : Bool) → cond b (Some (count_of es c)) None ≡ Some k → b ≡ true
+    by_test true f = refl
+    by_test false f = absurd (cc f)
+
+-- of one without counts nothing is to be received
+pub counts_none : (ds : List ℕ) (es : List Effect) (c : ℕ) → Lawful ds es → counts es c ≡ None → receives_of es c ≡ []
+counts_none ds es c l e = by_live (live (past_of es) c) refl
+  where
+    not_opened : is_opened es c ≡ true → ⊥
+    not_opened o = let f : Some (count_of es c) ≡ None = sym (ap (λ b. cond b (Some (count_of es c)) None) o) ∙ e in cc
+
+    by_live : (b : Bool) → live (past_of es) c ≡ b → cond b (replicate (published es c - received (past_of es) c) (Receive c)) [] ≡ []
+    by_live true y =
+        let r = live_number ds es c l y in
+        absurd (not_opened (and_from (nat_le 1 c) (nat_le c (opened (past_of es))) (le-leb 1 c r.0) (le-leb c (opened (past_of es)) r.1)))
+    by_live false y = refl
+
 -- what is still to be received of a live channel
 pub receives_are : (es : List Effect) (c n : ℕ) (k : Counts) → k ≡ count_of es c → k.live ≡ true → n ≡ k.published - k.received → replicate n (Receive c) ≡ receives_of es c
 receives_are es c n k e y count =
@@ -41,9 +65,9 @@ pub opened_bounds : (es : List Effect) (c : ℕ) → is_opened es c ≡ true →
 opened_bounds es c e = let p = and_parts (nat_le 1 c) (nat_le c (opened (past_of es))) e in (leb-true 1 c p.0, leb-true c (opened (past_of es)) p.1)
 
 -- a run that lets messages go
-pub has_dispatcher : (plan : Plan) (es : List Effect) (s : ScheduleState) (d : Dispatching) → Has plan es s → StandsFor es d → d.displays ≡ s.dispatcher.displays
-    → Has plan es (record s { dispatcher = d })
-has_dispatcher plan es s d h stands same =
+pub has_dispatcher : (how : Lines) (plan : Plan) (es : List Effect) (s : ScheduleState) (d : Dispatching) → HasWith how plan es s → StandsFor es d → d.displays ≡ s.dispatcher.displays
+    → HasWith how plan es (record s { dispatcher = d })
+has_dispatcher how plan es s d h stands same =
     record {
       stands = stands;
       displays_are = same ∙ h.displays_are;

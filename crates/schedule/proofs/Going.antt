@@ -17,10 +17,11 @@ use Rattle.dispatch_history.specs.Ordered.{received_all, round, is_notified, not
 use Rattle.dispatch_history.proofs.StreamLaws.{removed_live}
 use Rattle.dispatch_tables.specs.Lawful.{Lawful}
 use Rattle.dispatch_tables.proofs.Lawfuls.{lawful_step}
+use Rattle.schedule.specs.declared.keeping.Lines.{Lines}
 use Rattle.schedule.specs.Handing.{handing}
 use Rattle.schedule.specs.Kinds.{is_opening}
 use Rattle.schedule.specs.Run.{messages_in}
-use Rattle.schedule.specs.State.{ScheduleState, Has, Behind, Caught, Ready, counted}
+use Rattle.schedule.specs.State.{ScheduleState, HasWith, Behind, Caught, ReadyWith, counted}
 use Rattle.schedule.proofs.Behind.{behind_step}
 use Rattle.schedule.proofs.Receiving.{TookTo, took_to, caught_after}
 
@@ -94,9 +95,9 @@ messages_same ds mid l =
     ∙ sum_agree (λ c. length (stream (received_all ds mid) c)) (λ c. length (stream mid c)) (opened (past_of mid)) (λ c. ap length (t.stream_is c))
 
 -- a run that received all is ready again
-pub ready_again : (plan : Plan) (es mid : List Effect) (s : ScheduleState) → Between plan.displays es mid → opened (past_of es) ≡ length plan.channels
-    → Has plan (received_all plan.displays mid) s → s.messages ≡ counted (messages_in mid) → Ready plan (received_all plan.displays mid) s
-ready_again plan es mid s b opened has messages =
+pub ready_again : (how : Lines) (plan : Plan) (es mid : List Effect) (s : ScheduleState) → Between plan.displays es mid → opened (past_of es) ≡ length plan.channels
+    → HasWith how plan (received_all plan.displays mid) s → s.messages ≡ counted (messages_in mid) → ReadyWith how plan (received_all plan.displays mid) s
+ready_again how plan es mid s b opened has messages =
     record {
       has = has;
       caught = caught_after plan.displays mid b.lawful b.behind;

@@ -10,6 +10,7 @@ pub mod Stepping
 pub mod Taking
 pub mod Choosing
 pub mod Going
+pub mod OneFinish
 pub mod Advancing
 pub mod Running
 pub mod Beginning

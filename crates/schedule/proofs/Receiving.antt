@@ -149,7 +149,7 @@ receiving_of ds es c l =
     ]) refl
 
 -- and of one channel more
-receives_next : (es : List Effect) (n : ℕ) → receives_to es (suc n) ≡ receives_to es n ++ receives_of es (suc n)
+pub receives_next : (es : List Effect) (n : ℕ) → receives_to es (suc n) ≡ receives_to es n ++ receives_of es (suc n)
 receives_next es n = flat_map-append (receives_of es) (channels n) (suc n ∷ []) ∙ ap (λ xs. receives_to es n ++ xs) (append-nil (receives_of es (suc n)))
 
 -- the owners of the channels 1 to n have received all

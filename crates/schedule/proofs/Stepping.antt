@@ -16,21 +16,22 @@ use Rattle.dispatch_tables.specs.Lawful.{Lawful}
 use Rattle.dispatch_tables.specs.Channel.{Receives, Untouched, part_of}
 use Rattle.dispatch_tables.proofs.Lawfuls.{lawful_last}
 use Rattle.stream_text.specs.Spelling.{message_line}
+use Rattle.schedule.specs.declared.keeping.Lines.{Lines}
 use Rattle.schedule.specs.Hearing.{Hears}
 use Rattle.schedule.specs.Kinds.{is_receiving}
 use Rattle.schedule.specs.Lines.{Heard, lines_at, lines_received}
-use Rattle.schedule.specs.State.{ScheduleState, Has, counted}
+use Rattle.schedule.specs.State.{ScheduleState, HasWith, counted}
 use Rattle.schedule.proofs.Behind.{is_receive}
 use Rattle.schedule.proofs.Heard.{heard_same, heard_more}
 
 -- the effects are lawful for the displays of the plan
-pub lawful_of : (plan : Plan) (es : List Effect) (s : ScheduleState) → Has plan es s → Lawful plan.displays es
-lawful_of plan es s h = subst (λ ds. Lawful ds es) h.displays_are h.stands.lawful
+pub lawful_of : (how : Lines) (plan : Plan) (es : List Effect) (s : ScheduleState) → HasWith how plan es s → Lawful plan.displays es
+lawful_of how plan es s h = subst (λ ds. Lawful ds es) h.displays_are h.stands.lawful
 
 -- the dispatcher stands for one step more, by the displays of the plan
-stands_plan : (plan : Plan) (call : Call) (answer : Reply) (es : List Effect) (s : ScheduleState) (d : Dispatching) → Has plan es s
+stands_plan : (how : Lines) (plan : Plan) (call : Call) (answer : Reply) (es : List Effect) (s : ScheduleState) (d : Dispatching) → HasWith how plan es s
     → StandsFor (step s.dispatcher.displays call answer es) d → StandsFor (step plan.displays call answer es) d
-stands_plan plan call answer es s d h stands = subst (λ ds. StandsFor (step ds call answer es) d) h.displays_are stands
+stands_plan how plan call answer es s d h stands = subst (λ ds. StandsFor (step ds call answer es) d) h.displays_are stands
 
 lawful_plan : (plan : Plan) (fs : List Effect) (d : Dispatching) → d.displays ≡ plan.displays → StandsFor fs d → Lawful plan.displays fs
 lawful_plan plan fs d e stands = subst (λ ds. Lawful ds fs) e stands.lawful
@@ -43,7 +44,7 @@ no_receive call answer c e p =
     let r = is_receive call answer c p in
     true≢false (sym (ap is_receiving r.1) ∙ e)
 
-module _ (plan : Plan) (es : List Effect) (s t : ScheduleState) (h : Has plan es s) (same : t.dispatcher.displays ≡ s.dispatcher.displays) where
+module _ (how : Lines) (plan : Plan) (es : List Effect) (s t : ScheduleState) (h : HasWith how plan es s) (same : t.dispatcher.displays ≡ s.dispatcher.displays) where
   heard_all : (call : Call) (answer : Reply) → Lawful plan.displays (step plan.displays call answer es) → is_receiving call ≡ false
       → t.lines ≡ s.lines → Heard (step plan.displays call answer es) t.lines
   heard_all call answer l never lines =
@@ -52,11 +53,11 @@ module _ (plan : Plan) (es : List Effect) (s t : ScheduleState) (h : Has plan es
 
   pub has_step : (call : Call) (answer : Reply) → StandsFor (step s.dispatcher.displays call answer es) t.dispatcher → is_receiving call ≡ false
       → t.lines ≡ s.lines → t.next ≡ is_scripted call + scripted (past_of es) → t.calls ≡ counted (s.calls + 1)
-      → Has plan (answered plan.displays call es) t
+      → HasWith how plan (answered plan.displays call es) t
   has_step call answer stands never lines next calls =
-      let there : StandsFor (step plan.displays call answer es) t.dispatcher = stands_plan plan call answer es s t.dispatcher h stands in
+      let there : StandsFor (step plan.displays call answer es) t.dispatcher = stands_plan how plan call answer es s t.dispatcher h stands in
       let l : Lawful plan.displays (step plan.displays call answer es) = lawful_plan plan (step plan.displays call answer es) t.dispatcher (same ∙ h.displays_are) there in
-      subst (λ a. Has plan (step plan.displays call a es) t) (lawful_last plan.displays call answer es l).0
+      subst (λ a. HasWith how plan (step plan.displays call a es) t) (lawful_last plan.displays call answer es l).0
       (record {
         stands = there;
         displays_are = same ∙ h.displays_are;
@@ -89,12 +90,12 @@ module _ (plan : Plan) (es : List Effect) (s t : ScheduleState) (h : Has plan es
 
   pub has_received : (answer : Reply) (c : ℕ) → StandsFor (step s.dispatcher.displays (Receive c) answer es) t.dispatcher
       → Hears answer c s.lines t.lines → t.next ≡ s.next → t.calls ≡ counted (s.calls + 1)
-      → Has plan (answered plan.displays (Receive c) es) t
+      → HasWith how plan (answered plan.displays (Receive c) es) t
   has_received answer c stands hears next calls =
-      let there : StandsFor (step plan.displays (Receive c) answer es) t.dispatcher = stands_plan plan (Receive c) answer es s t.dispatcher h stands in
+      let there : StandsFor (step plan.displays (Receive c) answer es) t.dispatcher = stands_plan how plan (Receive c) answer es s t.dispatcher h stands in
       let l : Lawful plan.displays (step plan.displays (Receive c) answer es) = lawful_plan plan (step plan.displays (Receive c) answer es) t.dispatcher (same ∙ h.displays_are) there in
       let lines = heard_by answer c l hears in
-      subst (λ a. Has plan (step plan.displays (Receive c) a es) t) (lawful_last plan.displays (Receive c) answer es l).0
+      subst (λ a. HasWith how plan (step plan.displays (Receive c) a es) t) (lawful_last plan.displays (Receive c) answer es l).0
       (record {
         stands = there;
         displays_are = same ∙ h.displays_are;
@@ -108,3 +109,8 @@ module _ (plan : Plan) (es : List Effect) (s t : ScheduleState) (h : Has plan es
 pub on_ok : {A E : Type 0} (r : Result A E) (X Y : Type 0) → OnOk r X → (X → Y) → OnOk r Y
 on_ok (Ok a) X Y x f = f x
 on_ok (Err e) X Y x f = x
+
+-- what holds anyway
+pub on_ok_any : {A E : Type 0} (r : Result A E) (X : Type 0) → X → OnOk r X
+on_ok_any (Ok a) X x = x
+on_ok_any (Err e) X x = tt

@@ -9,8 +9,9 @@ use Rattle.dispatch_history.specs.Effects.{channels}
 use Rattle.dispatch_history.specs.Plan.{Plan}
 use Rattle.dispatch_history.specs.Ordered.{extend, received_all}
 use Rattle.dispatch_core.specs.Access.{is_opened}
+use Rattle.schedule.specs.declared.keeping.Lines.{Lines}
 use Rattle.schedule.specs.Receives.{receives_of, receives_to}
-use Rattle.schedule.specs.State.{ScheduleState, Has, counted}
+use Rattle.schedule.specs.State.{ScheduleState, HasWith, counted}
 use Rattle.schedule.proofs.Receiving.{TookTo, took_to, one_channel_more}
 use Rattle.schedule.proofs.Stepping.{lawful_of}
 
@@ -18,9 +19,9 @@ use Rattle.schedule.proofs.Stepping.{lawful_of}
 abbrev pub behind_first : Plan → List Effect → ℕ → List Effect
 behind_first plan es n = extend plan.displays es (receives_to es n)
 
-module _ (plan : Plan) (es : List Effect) (s : ScheduleState) (n : ℕ) (h : Has plan es s) where
+module _ (how : Lines) (plan : Plan) (es : List Effect) (s : ScheduleState) (n : ℕ) (h : HasWith how plan es s) where
   took : TookTo plan.displays es (behind_first plan es n) n
-  took = took_to plan.displays es n (lawful_of plan es s h)
+  took = took_to plan.displays es n (lawful_of how plan es s h)
 
   pub is_opened_next : (count : ℕ) → count ≡ opened (past_of es) → n < count → is_opened (behind_first plan es n) (n + 1) ≡ true
   is_opened_next count e lt =
@@ -29,12 +30,12 @@ module _ (plan : Plan) (es : List Effect) (s : ScheduleState) (n : ℕ) (h : Has
       let high : nat_le (n + 1) (opened (past_of (behind_first plan es n))) ≡ true = grind (arith, nat_tests) in
       rw (low, high) refl
 
-  pub channel_more : (t : ScheduleState) → Has plan (extend plan.displays (behind_first plan es n) (receives_of (behind_first plan es n) (n + 1))) t
-      → Has plan (behind_first plan es (n + 1)) t
+  pub channel_more : (t : ScheduleState) → HasWith how plan (extend plan.displays (behind_first plan es n) (receives_of (behind_first plan es n) (n + 1))) t
+      → HasWith how plan (behind_first plan es (n + 1)) t
   channel_more t k =
-      subst (λ m. Has plan (behind_first plan es m) t) (sym (add-one n))
-      (subst (λ fs. Has plan fs t) (one_channel_more plan.displays es n took)
-      (subst (λ m. Has plan (extend plan.displays (behind_first plan es n) (receives_of (behind_first plan es n) m)) t) (add-one n) k))
+      subst (λ m. HasWith how plan (behind_first plan es m) t) (sym (add-one n))
+      (subst (λ fs. HasWith how plan fs t) (one_channel_more plan.displays es n took)
+      (subst (λ m. HasWith how plan (extend plan.displays (behind_first plan es n) (receives_of (behind_first plan es n) m)) t) (add-one n) k))
 
   pub messages_more : (messages sent : ℕ) → messages ≡ counted (sum_by (λ c. length (stream es c)) (channels n))
       → sent ≡ length (stream (behind_first plan es n) (n + 1))
@@ -52,13 +53,13 @@ module _ (plan : Plan) (es : List Effect) (s : ScheduleState) (n : ℕ) (h : Has
       last m = omega arith
 
 -- all channels
-pub all_received : (plan : Plan) (es : List Effect) (count : ℕ) (t : ScheduleState) → count ≡ opened (past_of es)
-    → Has plan (behind_first plan es count) t → Has plan (received_all plan.displays es) t
-all_received plan es count t e h = subst (λ m. Has plan (behind_first plan es m) t) e h
+pub all_received : (how : Lines) (plan : Plan) (es : List Effect) (count : ℕ) (t : ScheduleState) → count ≡ opened (past_of es)
+    → HasWith how plan (behind_first plan es count) t → HasWith how plan (received_all plan.displays es) t
+all_received how plan es count t e h = subst (λ m. HasWith how plan (behind_first plan es m) t) e h
 
 -- how many messages there are is no part of what a run stands for
-pub has_with : (plan : Plan) (es : List Effect) (s : ScheduleState) (messages : ℕ) → Has plan es s → Has plan es (record s { messages = messages })
-has_with plan es s messages h =
+pub has_with : (how : Lines) (plan : Plan) (es : List Effect) (s : ScheduleState) (messages : ℕ) → HasWith how plan es s → HasWith how plan es (record s { messages = messages })
+has_with how plan es s messages h =
     record {
       stands = h.stands;
       displays_are = h.displays_are;

@@ -8,9 +8,10 @@ use Rattle.dispatch_history.specs.KeyTold.{repeat_due}
 use Rattle.dispatch_history.specs.Due.{Due, first_due}
 use Rattle.dispatch_history.specs.Plan.{Plan, ChannelOf}
 use Rattle.dispatch_history.specs.Ordered.{Candidate, soonest, all_finishes, due_tick, due_repeat, round, notified}
+use Rattle.schedule.specs.declared.keeping.Lines.{Lines}
 use Rattle.schedule.specs.declared.plan.Step.{Step}
 use Rattle.schedule.specs.Next.{fore, up_to, sooner_with, next_finish}
-use Rattle.schedule.specs.State.{ScheduleState, Ready}
+use Rattle.schedule.specs.State.{ScheduleState, ReadyWith}
 
 -- what may be done next but for steps and args, in the order that decides where moments agree
 abbrev pub dues_of : Plan → List Effect → List Candidate
@@ -23,11 +24,11 @@ is_before t None = true
 is_before t (Some c) = nat_lt t c.moment
 
 -- one round of what is due up to a moment was done, or nothing is due and nothing was done
-abbrev pub Advances : Plan → ℕ → List Effect → ScheduleState → ScheduleState → Bool → Type 0
-Advances plan until es old new false = (up_to until (soonest (fore plan es)) ≡ None) × (new ≡ old)
-Advances plan until es old new true =
+abbrev pub Advances : Lines → Plan → ℕ → List Effect → ScheduleState → ScheduleState → Bool → Type 0
+Advances how plan until es old new false = (up_to until (soonest (fore plan es)) ≡ None) × (new ≡ old)
+Advances how plan until es old new true =
     (c : Candidate) × (up_to until (soonest (fore plan es)) ≡ Some c) × (notified (past_of (round plan es c)) ≡ notified (past_of es))
-    × Ready plan (round plan es c) new
+    × ReadyWith how plan (round plan es c) new
 
 -- the next finish of channels, the first of which has number c, against the soonest so far
 abbrev pub next_finishes : List Effect → ℕ → List ChannelOf → Option Candidate → Option Candidate

@@ -6,7 +6,9 @@ use Rattle.dispatch_history.specs.Delivery.{published, delivery}
 use Rattle.dispatch_history.specs.Plan.{Plan, Cooked}
 use Rattle.dispatch_history.specs.Ordered.{Rounds, Ordered, received_at, scripted, notified}
 use Rattle.dispatch_core.specs.Dispatching.{Dispatching, StandsFor}
-use Rattle.schedule.specs.Lines.{Heard}
+use Rattle.schedule.specs.declared.keeping.Lines.{Lines}
+use Rattle.schedule.specs.declared.keeping.Lines.TheVariants.{Kept}
+use Rattle.schedule.specs.Lines.{Heard, texts}
 use Rattle.schedule.specs.Run.{with_cooked, messages_in, IsWithin}
 
 -- a run: the dispatcher, the lines of what each channel's owner received, how many steps were made, how many calls, how many messages
@@ -27,12 +29,12 @@ counted n = min n (2 ^ 64 - 1)
 abbrev pub is_over : ScheduleState → Bool
 is_over s = nat_lt 4000000 s.calls || nat_lt 4000000 s.messages
 
--- it stands for these effects
-pub record Has (plan : Plan) (es : List Effect) (s : ScheduleState) : Type 0 where
+-- it stands for these effects, and of what each channel's owner received it has the lines, or none where messages are only counted
+pub record HasWith (how : Lines) (plan : Plan) (es : List Effect) (s : ScheduleState) : Type 0 where
   pub stands : StandsFor es s.dispatcher
   pub displays_are : s.dispatcher.displays ≡ plan.displays
   pub heard : Heard es s.lines
-  pub as_many : length s.lines ≡ length plan.channels
+  pub as_many : length s.lines ≡ texts how (length plan.channels)
   pub next_is : s.next ≡ scripted (past_of es)
   pub calls_are : s.calls ≡ counted (length es)
 
@@ -47,23 +49,39 @@ pub record Caught (es : List Effect) : Type 0 where
   pub behind : (c : ℕ) → live (past_of es) c ≡ true → Behind es c
 
 -- it stands for these effects between two rounds
-pub record Ready (plan : Plan) (es : List Effect) (s : ScheduleState) : Type 0 where
-  pub has : Has plan es s
+pub record ReadyWith (how : Lines) (plan : Plan) (es : List Effect) (s : ScheduleState) : Type 0 where
+  pub has : HasWith how plan es s
   pub caught : Caught es
   pub opened_is : opened (past_of es) ≡ length plan.channels
   pub messages_are : s.messages ≡ counted (messages_in es)
 
 -- these args came so far, and what comes before them was done; a run that became too long goes no further
-pub record Ran (plan : Plan) (given : List Cooked) (s : ScheduleState) : Type 0 where
+pub record RanWith (how : Lines) (plan : Plan) (given : List Cooked) (s : ScheduleState) : Type 0 where
   pub es : List Effect
-  pub ready : Ready plan es s
+  pub ready : ReadyWith how plan es s
   pub rounds : (later : List Cooked) → Rounds (with_cooked plan (given ++ later)) es
   pub taken : IsWithin es → notified (past_of es) ≡ length given
   pub latest_is : s.latest ≡ fold (λ t (a : Cooked). max t a.moment) 0 given
 
 -- the run of all of these args is done, unless it became too long
-pub record Completed (plan : Plan) (given : List Cooked) (s : ScheduleState) : Type 0 where
+pub record CompletedWith (how : Lines) (plan : Plan) (given : List Cooked) (s : ScheduleState) : Type 0 where
   pub es : List Effect
-  pub ready : Ready plan es s
+  pub ready : ReadyWith how plan es s
   pub rounds : Rounds (with_cooked plan given) es
   pub ordered : IsWithin es → Ordered (with_cooked plan given) es
+
+-- it stands for these effects and has the lines
+abbrev pub Has : Plan → List Effect → ScheduleState → Type 0
+Has plan es s = HasWith Kept plan es s
+
+-- it stands for these effects between two rounds and has the lines
+abbrev pub Ready : Plan → List Effect → ScheduleState → Type 0
+Ready plan es s = ReadyWith Kept plan es s
+
+-- these args came so far to a run that has the lines
+abbrev pub Ran : Plan → List Cooked → ScheduleState → Type 0
+Ran plan given s = RanWith Kept plan given s
+
+-- the run of all of these args is done and has the lines, unless it became too long
+abbrev pub Completed : Plan → List Cooked → ScheduleState → Type 0
+Completed plan given s = CompletedWith Kept plan given s

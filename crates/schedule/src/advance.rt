@@ -2,8 +2,10 @@
 ghost use Rattle.std.specs.Prelude.{Some, option_map, ◌≡◌, ◌≤◌, ◌<◌, ◌+◌, ◌-◌, ◌^◌, ◌++◌, ℕ, true, false, List, [], ◌∷◌, IfOk, OnOk, None, map, max};
 ghost use Rattle.dispatch_history.specs.Effect.{Effect, past_of};
 ghost use Rattle.dispatch_history.specs.Legal.{answered};
-ghost use Rattle.dispatch_history.specs.Ordered.{soonest, is_scripted, is_notified, round, scripted};
+ghost use Rattle.dispatch_history.specs.Ordered.{soonest, is_scripted, is_notified, round, scripted, extend, received_all};
+ghost use Rattle.dispatch_tables.specs.Lawful.{Lawful};
 ghost use Rattle.dispatch_history.specs.Plan.{Plan as PlanView, Cooked};
+ghost use Rattle.schedule.specs.declared.keeping.Lines.{Lines};
 ghost use Rattle.schedule.specs.Choosing.{Advances};
 ghost use Rattle.schedule.specs.DueView.{candidate_of};
 ghost use Rattle.schedule.specs.Next.{fore};
@@ -11,7 +13,9 @@ ghost use Rattle.schedule.specs.Kinds.{is_receiving, is_opening};
 ghost use Rattle.schedule.specs.Handing.{handing, single};
 ghost use Rattle.schedule.specs.Planned.{IsRun, plan_of};
 ghost use Rattle.schedule.specs.More.{ComesTo};
-ghost use Rattle.schedule.specs.State.{Ready};
+ghost use Rattle.schedule.specs.Receives.{receives_of};
+ghost use Rattle.schedule.specs.Run.{messages_in};
+ghost use Rattle.schedule.specs.State.{Caught, HasWith, ReadyWith, counted};
 
 use crate::choose::{first_step, moment, next_due};
 use crate::due::Due;
@@ -25,22 +29,57 @@ impl Schedule {
     /// One round: a call that is no opening and no receive, after which so many steps were made, and then all that is
     /// published is received.
     fn round(&mut self, call: &Call, next: usize) -> Result<(), AllocError>
-        ensures after { (plan : PlanView) (es : List Effect) → Ready plan es self.old → is_receiving call.now ≡ false
+        ensures after { (how : Lines) (plan : PlanView) (es : List Effect) → ReadyWith how plan es self.old
+            → is_receiving call.now ≡ false
             → is_opening call.now ≡ false
             → next ≡ is_scripted call.now + scripted (past_of es)
-            → OnOk result (Ready plan (round plan es (single call.now)) self.new) }
+            → OnOk result (ReadyWith how plan (round plan es (single call.now)) self.new) }
         ensures calls { OnOk result (self.old.calls < 2 ^ 64 - 1 → self.old.calls < self.new.calls) }
         ensures more { (es : List Effect) → ComesTo es self.old.dispatcher → ComesTo es self.new.dispatcher }
         ensures latest { self.new.latest ≡ self.old.latest }
     {
         self.step(call, next)?;
-        self.receive_all()
+        self.receive_after(call)
+    }
+
+    /// The owners of live channels take all that is published after a call. After a finish that is the owner of its
+    /// channel alone.
+    fn receive_after(&mut self, call: &Call) -> Result<(), AllocError>
+        ensures after { (how : Lines) (plan : PlanView) (es : List Effect) → Lawful plan.displays es → Caught es
+            → HasWith how plan (answered plan.displays call.now es) self.old
+            → OnOk result
+            (HasWith how plan (received_all plan.displays (answered plan.displays call.now es)) self.new) }
+        ensures messages { (how : Lines) (plan : PlanView) (es : List Effect) → Lawful plan.displays es
+            → HasWith how plan (answered plan.displays call.now es) self.old
+            → self.old.messages ≡ counted (messages_in es)
+            → OnOk result (self.new.messages ≡ counted (messages_in (answered plan.displays call.now es))) }
+        ensures calls { OnOk result (self.old.calls ≤ self.new.calls) }
+        ensures more { (es : List Effect) → ComesTo es self.old.dispatcher → ComesTo es self.new.dispatcher }
+        ensures latest { self.new.latest ≡ self.old.latest }
+    {
+        match call {
+            Call::Finish { channel, .. } => self.receive_on(*channel),
+            _ => self.receive_all(),
+        }
+    }
+
+    /// The owner of a channel takes all that is published on it.
+    fn receive_on(&mut self, channel: u32) -> Result<(), AllocError>
+        ensures after { (how : Lines) (plan : PlanView) (es : List Effect) → HasWith how plan es self.old
+            → OnOk result (HasWith how plan (extend plan.displays es (receives_of es channel)) self.new) }
+        ensures messages { self.new.messages ≡ self.old.messages }
+        ensures calls { OnOk result (self.old.calls ≤ self.new.calls) }
+        ensures more { (es : List Effect) → ComesTo es self.old.dispatcher → ComesTo es self.new.dispatcher }
+        ensures latest { self.new.latest ≡ self.old.latest }
+    {
+        self.receive(channel)?;
+        Ok(())
     }
 
     /// The round that hands in args.
     pub(crate) fn hand_in(&mut self, moment: Moment, args: &Args) -> Result<(), AllocError>
-        ensures after { (plan : PlanView) (es : List Effect) → Ready plan es self.old
-            → OnOk result (Ready plan
+        ensures after { (how : Lines) (plan : PlanView) (es : List Effect) → ReadyWith how plan es self.old
+            → OnOk result (ReadyWith how plan
             (round plan es (handing (record { moment = moment; args = args.now }))) self.new) }
         ensures more { (es : List Effect) → ComesTo es self.old.dispatcher → ComesTo es self.new.dispatcher }
         ensures latest { self.new.latest ≡ self.old.latest }
@@ -57,9 +96,10 @@ impl Schedule {
     /// The round of a step at this moment, which is due up to a moment or is not.
     fn advance_step(&mut self, call: &Call, until: Moment) -> Result<bool, AllocError>
         requires { self.old.next < 2 ^ 64 - 1 }
-        ensures after { (plan : PlanView) (es : List Effect) → Ready plan es self.old → is_scripted call.now ≡ 1
+        ensures after { (how : Lines) (plan : PlanView) (es : List Effect) → ReadyWith how plan es self.old
+            → is_scripted call.now ≡ 1
             → soonest (fore plan es) ≡ Some (single call.now)
-            → IfOk result (λ b. Advances plan until es self.old self.new b) }
+            → IfOk result (λ b. Advances how plan until es self.old self.new b) }
         ensures calls { IfOk result (λ b. b ≡ true → self.old.calls < 2 ^ 64 - 1 → self.old.calls < self.new.calls) }
         ensures more { (es : List Effect) → ComesTo es self.old.dispatcher → ComesTo es self.new.dispatcher }
         ensures latest { self.new.latest ≡ self.old.latest }
@@ -74,9 +114,9 @@ impl Schedule {
 
     /// The round of what is due, where it is due up to a moment.
     fn advance_due(&mut self, due: Option<Due>, until: Moment) -> Result<bool, AllocError>
-        ensures after { (plan : PlanView) (es : List Effect) → Ready plan es self.old
+        ensures after { (how : Lines) (plan : PlanView) (es : List Effect) → ReadyWith how plan es self.old
             → soonest (fore plan es) ≡ option_map candidate_of due
-            → IfOk result (λ b. Advances plan until es self.old self.new b) }
+            → IfOk result (λ b. Advances how plan until es self.old self.new b) }
         ensures calls { IfOk result (λ b. b ≡ true → self.old.calls < 2 ^ 64 - 1 → self.old.calls < self.new.calls) }
         ensures more { (es : List Effect) → ComesTo es self.old.dispatcher → ComesTo es self.new.dispatcher }
         ensures latest { self.new.latest ≡ self.old.latest }
@@ -96,8 +136,8 @@ impl Schedule {
     /// One round, where something is due up to a moment, but for args.
     pub(crate) fn advance(&mut self, plan: &Plan, until: Moment) -> Result<bool, AllocError>
         requires { IsRun plan.now }
-        ensures after { (es : List Effect) → Ready (plan_of plan.now) es self.old
-            → IfOk result (λ b. Advances (plan_of plan.now) until es self.old self.new b) }
+        ensures after { (how : Lines) (es : List Effect) → ReadyWith how (plan_of plan.now) es self.old
+            → IfOk result (λ b. Advances how (plan_of plan.now) until es self.old self.new b) }
         ensures calls { IfOk result (λ b. b ≡ true → self.old.calls < 2 ^ 64 - 1 → self.old.calls < self.new.calls) }
         ensures more { (es : List Effect) → ComesTo es self.old.dispatcher → ComesTo es self.new.dispatcher }
         ensures latest { self.new.latest ≡ self.old.latest }

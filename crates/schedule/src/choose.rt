@@ -56,11 +56,11 @@ fn next_finish(dispatcher: &Dispatcher, number: u32, channel: &Channel) -> Optio
     if !channel.finishes {
         return None;
     }
+    let (seq, delivery) = dispatcher.oldest(number)?;
     let counts = dispatcher.counts(number)?;
     if !counts.live {
         return None;
     }
-    let (seq, delivery) = dispatcher.oldest(number)?;
     Some(Due {
         moment: delivery.get() + channel.finish_after,
         what: What::Finish {

@@ -14,12 +14,14 @@
 //! Of one moment a finish comes first, then a tick, a repeat of a key, a step, and args last. A [`Schedule`] drives a
 //! dispatcher so and keeps no list of what it was given or told: its contract says that the dispatcher stands for the
 //! effects of the ordered run of all args that came. The next round is found from the oldest message of each channel,
-//! since what is published is received at once.
+//! since what is published is received at once. Where a run keeps its [`Lines`], each message is written as it is
+//! received, and the text of the run is made of these; a run that only counts them goes the same way, and has no text.
 #![tactic(auto)]
 
 mod advance;
 mod choose;
 mod due;
+mod keeping;
 pub mod laws;
 mod open;
 mod pieces;
@@ -29,6 +31,7 @@ mod schedule;
 mod stream;
 mod text;
 
+pub use keeping::Lines;
 pub use plan::{Channel, Plan, Step};
 pub use schedule::Schedule;
 pub use text::add_all_namings;

@@ -5,9 +5,11 @@ ghost use Rattle.dispatch_history.specs.Effect.{Effect, past_of};
 ghost use Rattle.dispatch_history.specs.Legal.{answered};
 ghost use Rattle.dispatch_history.specs.Ordered.{begun, scripted};
 ghost use Rattle.dispatch_history.specs.Plan.{Plan as PlanView};
+ghost use Rattle.schedule.specs.declared.keeping.Lines.{Lines as LinesView};
 ghost use Rattle.schedule.specs.Planned.{IsRun, plan_of};
-ghost use Rattle.schedule.specs.State.{Has, Ran};
+ghost use Rattle.schedule.specs.State.{HasWith, RanWith};
 
+use crate::keeping::Lines;
 use crate::plan::Plan;
 use crate::schedule::Schedule;
 use crate::stream::empty_streams;
@@ -16,14 +18,14 @@ use dispatch_core::Dispatcher;
 use input_types::{Limit, Moment};
 use std::alloc::{AllocError, Global};
 
-/// A run before its first call.
-fn unopened(alloc: Global, plan: &Plan) -> Result<Schedule, AllocError>
-    ensures has { IfOk result (Has (plan_of plan.now) []) }
+/// A run before its first call, with its lines kept or not.
+fn unopened(alloc: Global, plan: &Plan, lines: Lines) -> Result<Schedule, AllocError>
+    ensures has { IfOk result (HasWith lines (plan_of plan.now) []) }
     ensures messages { IfOk result (λ s. s.messages ≡ 0) }
     ensures latest { IfOk result (λ s. s.latest ≡ 0) }
 {
     let dispatcher = Dispatcher::new(alloc, &plan.displays)?;
-    let streams = empty_streams(alloc, plan.channels.len())?;
+    let streams = empty_streams(alloc, lines.texts(plan.channels.len()))?;
     Ok(Schedule {
         dispatcher,
         streams,
@@ -35,23 +37,23 @@ fn unopened(alloc: Global, plan: &Plan) -> Result<Schedule, AllocError>
 }
 
 impl Schedule {
-    /// A run to which no args came. Its channels are opened.
-    pub fn new(alloc: Global, plan: &Plan) -> Result<Schedule, AllocError>
+    /// A run to which no args came, with its lines kept or not. Its channels are opened.
+    pub fn new(alloc: Global, plan: &Plan, lines: Lines) -> Result<Schedule, AllocError>
         requires { IsRun plan.now }
-        ensures { IfOk result (Ran (plan_of plan.now) []) }
+        ensures { IfOk result (RanWith lines (plan_of plan.now) []) }
     {
-        let run = Schedule::begin(alloc, plan)?;
+        let run = Schedule::begin(alloc, plan, lines)?;
         Ok(run)
     }
 
-    /// A run whose channels are opened, of which any order may be made.
-    pub fn begin(alloc: Global, plan: &Plan) -> Result<Schedule, AllocError>
+    /// A run whose channels are opened, of which any order may be made, with its lines kept or not.
+    pub fn begin(alloc: Global, plan: &Plan, lines: Lines) -> Result<Schedule, AllocError>
         requires { IsRun plan.now }
-        ensures has { IfOk result (Has (plan_of plan.now) (begun (plan_of plan.now))) }
+        ensures has { IfOk result (HasWith lines (plan_of plan.now) (begun (plan_of plan.now))) }
         ensures messages { IfOk result (λ s. s.messages ≡ 0) }
         ensures latest { IfOk result (λ s. s.latest ≡ 0) }
     {
-        let mut run = unopened(alloc, plan)?;
+        let mut run = unopened(alloc, plan, lines)?;
         for channel in &plan.channels {
             run.open(channel.limit)?;
         }
@@ -60,8 +62,9 @@ impl Schedule {
 
     /// Opens a channel before anything else is done.
     fn open(&mut self, limit: Limit) -> Result<(), AllocError>
-        ensures after { (plan : PlanView) (es : List Effect) → Has plan es self.old → scripted (past_of es) ≡ 0
-            → OnOk result (Has plan (answered plan.displays (CallView.Open limit) es) self.new) }
+        ensures after { (how : LinesView) (plan : PlanView) (es : List Effect) → HasWith how plan es self.old
+            → scripted (past_of es) ≡ 0
+            → OnOk result (HasWith how plan (answered plan.displays (CallView.Open limit) es) self.new) }
         ensures messages { self.new.messages ≡ self.old.messages }
         ensures latest { self.new.latest ≡ self.old.latest }
     {

@@ -6,9 +6,10 @@ ghost use Rattle.dispatch_core.specs.Dispatching.{StandsFor};
 ghost use Rattle.dispatch_history.specs.Due.{counts};
 ghost use Rattle.dispatch_history.specs.Effect.{Effect, stream};
 ghost use Rattle.dispatch_history.specs.Plan.{Plan as PlanView};
+ghost use Rattle.schedule.specs.declared.keeping.Lines.{Lines};
 ghost use Rattle.schedule.specs.Lines.{lines_at};
 ghost use Rattle.schedule.specs.Printing.{Prints, end_of};
-ghost use Rattle.schedule.specs.State.{Has};
+ghost use Rattle.schedule.specs.State.{HasWith};
 ghost use Rattle.stream_text.specs.Spelling.{channel_line, channel_section, message_lines};
 ghost use Rattle.stream_text.specs.StreamsHistory.{unopened};
 
@@ -90,7 +91,7 @@ impl Schedule {
 
     /// Appends the last line of a channel's section: how far its owner has come.
     pub fn add_end(&self, channel: u32, text: &mut Vec<u8>) -> Result<(), AllocError>
-        ensures { (plan : PlanView) (es : List Effect) → Has plan es self.now
+        ensures { (how : Lines) (plan : PlanView) (es : List Effect) → HasWith how plan es self.now
             → OnOk result (text.new.items ≡ text.old.items ++ end_of channel (unwrap_or (counts es channel) unopened)) }
     {
         add_end(&self.dispatcher, channel, text)

@@ -4,10 +4,11 @@ ghost use Rattle.dispatch_history.specs.Effect.{Effect};
 ghost use Rattle.dispatch_history.specs.History.{moment_of};
 ghost use Rattle.dispatch_history.specs.Ordered.{end_of};
 ghost use Rattle.dispatch_history.specs.Plan.{Plan as PlanView, Cooked};
+ghost use Rattle.schedule.specs.declared.keeping.Lines.{Lines};
 ghost use Rattle.schedule.specs.Planned.{IsRun, plan_of};
 ghost use Rattle.schedule.specs.Run.{IsWithin, IsTooLong, with_cooked};
 ghost use Rattle.schedule.specs.More.{ComesTo};
-ghost use Rattle.schedule.specs.State.{Ran, Completed, Ready, is_over};
+ghost use Rattle.schedule.specs.State.{RanWith, CompletedWith, ReadyWith, is_over};
 ghost use Rattle.schedule.specs.Ends.{last_step};
 
 use crate::choose::moment;
@@ -48,9 +49,11 @@ impl Schedule {
     /// Whether there are more than 4,000,000 calls, or more than 4,000,000 messages of all channels together.
     pub fn is_too_long(&self) -> bool
         ensures over { result ≡ is_over self.now }
-        ensures too_long { (plan : PlanView) (es : List Effect) → Ready plan es self.now → result ≡ true
+        ensures too_long { (how : Lines) (plan : PlanView) (es : List Effect) → ReadyWith how plan es self.now
+            → result ≡ true
             → IsTooLong es }
-        ensures within { (plan : PlanView) (es : List Effect) → Ready plan es self.now → result ≡ false → IsWithin es }
+        ensures within { (how : Lines) (plan : PlanView) (es : List Effect) → ReadyWith how plan es self.now
+            → result ≡ false → IsWithin es }
     {
         self.is_over()
     }
@@ -59,8 +62,8 @@ impl Schedule {
     /// After want of memory the dispatcher stands for what was done up to then, and nothing else is said of the run.
     pub fn take(&mut self, plan: &Plan, moment: Moment, args: &Args) -> Result<(), AllocError>
         requires { IsRun plan.now }
-        ensures ran { (given : List Cooked) → Ran (plan_of plan.now) given self.old
-            → OnOk result (Ran (plan_of plan.now)
+        ensures ran { (how : Lines) (given : List Cooked) → RanWith how (plan_of plan.now) given self.old
+            → OnOk result (RanWith how (plan_of plan.now)
             (given ++ record { moment = moment; args = args.now } ∷ []) self.new) }
         ensures more { (es : List Effect) → ComesTo es self.old.dispatcher → ComesTo es self.new.dispatcher }
     {
@@ -77,8 +80,8 @@ impl Schedule {
     /// done up to then, and nothing else is said of the run.
     pub fn finish(&mut self, plan: &Plan) -> Result<(), AllocError>
         requires { IsRun plan.now }
-        ensures completed { (given : List Cooked) → Ran (plan_of plan.now) given self.old
-            → OnOk result (Completed (plan_of plan.now) given self.new) }
+        ensures completed { (how : Lines) (given : List Cooked) → RanWith how (plan_of plan.now) given self.old
+            → OnOk result (CompletedWith how (plan_of plan.now) given self.new) }
         ensures more { (es : List Effect) → ComesTo es self.old.dispatcher → ComesTo es self.new.dispatcher }
     {
         let end = later(plan.until, later(last_step(&plan.steps), self.latest));

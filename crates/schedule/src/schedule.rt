@@ -6,12 +6,13 @@ ghost use Rattle.dispatch_history.specs.Legal.{answered};
 ghost use Rattle.dispatch_history.specs.Ordered.{extend, is_scripted, scripted, received_all};
 ghost use Rattle.dispatch_history.specs.Plan.{Plan as PlanView};
 ghost use Rattle.dispatch_core.specs.Access.{is_opened};
+ghost use Rattle.schedule.specs.declared.keeping.Lines.{Lines};
 ghost use Rattle.schedule.specs.Hearing.{Hears};
 ghost use Rattle.schedule.specs.Kinds.{is_receiving};
 ghost use Rattle.schedule.specs.Receives.{receives_of};
 ghost use Rattle.schedule.specs.Run.{messages_in};
 ghost use Rattle.schedule.specs.More.{ComesTo};
-ghost use Rattle.schedule.specs.State.{Has, counted};
+ghost use Rattle.schedule.specs.State.{HasWith, counted};
 
 use crate::stream::{Stream, hear};
 use dispatch_calls::{Call, Reply};
@@ -58,9 +59,10 @@ impl Schedule {
 
     /// One call that is no receive, after which so many steps were made.
     pub fn step(&mut self, call: &Call, next: usize) -> Result<(), AllocError>
-        ensures after { (plan : PlanView) (es : List Effect) → Has plan es self.old → is_receiving call.now ≡ false
+        ensures after { (how : Lines) (plan : PlanView) (es : List Effect) → HasWith how plan es self.old
+            → is_receiving call.now ≡ false
             → next ≡ is_scripted call.now + scripted (past_of es)
-            → OnOk result (Has plan (answered plan.displays call.now es) self.new) }
+            → OnOk result (HasWith how plan (answered plan.displays call.now es) self.new) }
         ensures calls { OnOk result (self.new.calls ≡ counted (self.old.calls + 1)) }
         ensures messages { self.new.messages ≡ self.old.messages }
         ensures more { (es : List Effect) → ComesTo es self.old.dispatcher → ComesTo es self.new.dispatcher }
@@ -78,8 +80,9 @@ impl Schedule {
 
     /// The owner of a channel takes its next message, where there is one.
     fn receive_one(&mut self, channel: u32) -> Result<(), AllocError>
-        ensures after { (plan : PlanView) (es : List Effect) → Has plan es self.old
-            → OnOk result (Has plan (answered plan.displays (CallView.Receive channel) es) self.new) }
+        ensures after { (how : Lines) (plan : PlanView) (es : List Effect) → HasWith how plan es self.old
+            → OnOk result (HasWith how plan (answered plan.displays (CallView.Receive channel) es) self.new) }
+        ensures messages { self.new.messages ≡ self.old.messages }
         ensures calls { OnOk result (self.old.calls ≤ self.new.calls) }
         ensures more { (es : List Effect) → ComesTo es self.old.dispatcher → ComesTo es self.new.dispatcher }
         ensures latest { self.new.latest ≡ self.old.latest }
@@ -95,8 +98,8 @@ impl Schedule {
 
     /// The owner of a channel takes its next message, where there is one, and the channel lets it go.
     pub fn receive_next(&mut self, channel: u32) -> Result<(), AllocError>
-        ensures { (plan : PlanView) (es : List Effect) → Has plan es self.old
-            → OnOk result (Has plan (answered plan.displays (CallView.Receive channel) es) self.new) }
+        ensures { (how : Lines) (plan : PlanView) (es : List Effect) → HasWith how plan es self.old
+            → OnOk result (HasWith how plan (answered plan.displays (CallView.Receive channel) es) self.new) }
     {
         self.receive_one(channel)?;
         self.dispatcher.let_go(channel);
@@ -105,8 +108,10 @@ impl Schedule {
 
     /// The owner of a channel takes so many messages.
     fn receive_many(&mut self, channel: u32, count: u64) -> Result<(), AllocError>
-        ensures after { (plan : PlanView) (es : List Effect) → Has plan es self.old
-            → OnOk result (Has plan (extend plan.displays es (replicate count (CallView.Receive channel))) self.new) }
+        ensures after { (how : Lines) (plan : PlanView) (es : List Effect) → HasWith how plan es self.old
+            → OnOk result
+            (HasWith how plan (extend plan.displays es (replicate count (CallView.Receive channel))) self.new) }
+        ensures messages { self.new.messages ≡ self.old.messages }
         ensures calls { OnOk result (self.old.calls ≤ self.new.calls) }
         ensures more { (es : List Effect) → ComesTo es self.old.dispatcher → ComesTo es self.new.dispatcher }
         ensures latest { self.new.latest ≡ self.old.latest }
@@ -117,13 +122,33 @@ impl Schedule {
         Ok(())
     }
 
+    /// The owner of a channel takes so many messages, and the channel lets go of them. Of none nothing is done.
+    fn receive_left(&mut self, channel: u32, count: u64) -> Result<(), AllocError>
+        ensures after { (how : Lines) (plan : PlanView) (es : List Effect) → HasWith how plan es self.old
+            → OnOk result
+            (HasWith how plan (extend plan.displays es (replicate count (CallView.Receive channel))) self.new) }
+        ensures messages { self.new.messages ≡ self.old.messages }
+        ensures calls { OnOk result (self.old.calls ≤ self.new.calls) }
+        ensures more { (es : List Effect) → ComesTo es self.old.dispatcher → ComesTo es self.new.dispatcher }
+        ensures latest { self.new.latest ≡ self.old.latest }
+    {
+        if count == 0 {
+            return Ok(());
+        }
+        self.receive_many(channel, count)?;
+        self.dispatcher.let_go(channel);
+        Ok(())
+    }
+
     /// The owner of a channel takes all that is published, and the channel lets it go. The answer is how many messages
     /// the channel has.
-    fn receive(&mut self, channel: u32) -> Result<u64, AllocError>
-        ensures after { (plan : PlanView) (es : List Effect) → Has plan es self.old → is_opened es channel ≡ true
-            → OnOk result (Has plan (extend plan.displays es (receives_of es channel)) self.new) }
-        ensures sent { (plan : PlanView) (es : List Effect) → Has plan es self.old → is_opened es channel ≡ true
+    pub(crate) fn receive(&mut self, channel: u32) -> Result<u64, AllocError>
+        ensures after { (how : Lines) (plan : PlanView) (es : List Effect) → HasWith how plan es self.old
+            → OnOk result (HasWith how plan (extend plan.displays es (receives_of es channel)) self.new) }
+        ensures sent { (how : Lines) (plan : PlanView) (es : List Effect) → HasWith how plan es self.old
+            → is_opened es channel ≡ true
             → IfOk result (λ n. n ≡ length (stream es channel)) }
+        ensures messages { self.new.messages ≡ self.old.messages }
         ensures calls { OnOk result (self.old.calls ≤ self.new.calls) }
         ensures more { (es : List Effect) → ComesTo es self.old.dispatcher → ComesTo es self.new.dispatcher }
         ensures latest { self.new.latest ≡ self.old.latest }
@@ -132,17 +157,16 @@ impl Schedule {
             return Ok(0);
         };
         if counts.live {
-            self.receive_many(channel, counts.published.saturating_sub(counts.received))?;
-            self.dispatcher.let_go(channel);
+            self.receive_left(channel, counts.published.saturating_sub(counts.received))?;
         }
         Ok(counts.sent)
     }
 
     /// The owners of all live channels take all that is published.
     pub(crate) fn receive_all(&mut self) -> Result<(), AllocError>
-        ensures after { (plan : PlanView) (es : List Effect) → Has plan es self.old
-            → OnOk result (Has plan (received_all plan.displays es) self.new) }
-        ensures messages { (plan : PlanView) (es : List Effect) → Has plan es self.old
+        ensures after { (how : Lines) (plan : PlanView) (es : List Effect) → HasWith how plan es self.old
+            → OnOk result (HasWith how plan (received_all plan.displays es) self.new) }
+        ensures messages { (how : Lines) (plan : PlanView) (es : List Effect) → HasWith how plan es self.old
             → OnOk result (self.new.messages ≡ counted (messages_in es)) }
         ensures calls { OnOk result (self.old.calls ≤ self.new.calls) }
         ensures more { (es : List Effect) → ComesTo es self.old.dispatcher → ComesTo es self.new.dispatcher }

@@ -6,7 +6,8 @@ ghost use Rattle.dispatch_core.specs.Dispatching.{StandsFor};
 ghost use Rattle.dispatch_history.specs.Due.{counts, namings};
 ghost use Rattle.dispatch_history.specs.Effect.{Effect, stream};
 ghost use Rattle.dispatch_history.specs.Plan.{Plan as PlanView};
-ghost use Rattle.schedule.specs.State.{Has};
+ghost use Rattle.schedule.specs.declared.keeping.Lines.{Lines};
+ghost use Rattle.schedule.specs.State.{HasWith};
 ghost use Rattle.stream_text.specs.Spelling.{message_lines};
 ghost use Rattle.stream_text.specs.StreamsHistory.{naming_lines, unopened};
 
@@ -86,7 +87,8 @@ pub fn add_all_namings(namings: &[Naming], text: &mut Vec<u8>) -> Result<(), All
 impl Schedule {
     /// The times that a channel was named unresponsive, the first one first.
     pub fn namings(&self) -> &[Naming]
-        ensures { (plan : PlanView) (es : List Effect) → Has plan es self.now → result.now ≡ namings es }
+        ensures { (how : Lines) (plan : PlanView) (es : List Effect) → HasWith how plan es self.now
+            → result.now ≡ namings es }
     {
         self.dispatcher.namings()
     }

@@ -6,7 +6,8 @@ use Rattle.std.proofs.lemmas.Option.{slice_get-get_or}
 use Rattle.stream_text.specs.declared.order_line.OrderLine.{OrderLine}
 use Rattle.stream_text.specs.declared.order_line.OrderLine.TheVariants.{Pump}
 use Rattle.given_run.specs.Following.{Follows, Makes}
-use Rattle.given_run.specs.Planned.{line_of, whole_plan}
+use Rattle.given_run.specs.Planned.{whole_plan}
+use Rattle.stream_text.specs.OrderAsks.{line_of}
 use Rattle.given_run.proofs.Behind.{along_ends, along_first, along_next, along_stops, line_here}
 use Rattle.given_run.proofs.follow.followed.Goals as goal
 

@@ -1,5 +1,6 @@
 use Rattle.std.proofs.Common.{map}
-use Rattle.given_run.specs.Planned.{line_of, whole_plan}
+use Rattle.given_run.specs.Planned.{whole_plan}
+use Rattle.stream_text.specs.OrderAsks.{line_of}
 use Rattle.given_run.proofs.Behind.{Along}
 use Rattle.given_run.proofs.follow.followed.Given as goal
 

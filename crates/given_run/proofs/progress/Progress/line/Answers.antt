@@ -4,7 +4,8 @@ use Rattle.std.specs.Prelude.{IfOk, true}
 use Rattle.dispatch_calls.specs.declared.call.Call.TheVariants.{Finish, Pump, Receive, Tick}
 use Rattle.dispatch_history.specs.Plan.{FinishLine, PumpLine, TickLine}
 use Rattle.given_run.specs.Following.{Makes}
-use Rattle.given_run.specs.Planned.{line_of, whole_plan}
+use Rattle.given_run.specs.Planned.{whole_plan}
+use Rattle.stream_text.specs.OrderAsks.{line_of}
 use Rattle.given_run.proofs.Coming.{made_at}
 use Rattle.given_run.proofs.progress.Progress.line.Goals as goal
 

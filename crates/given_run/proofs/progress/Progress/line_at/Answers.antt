@@ -3,7 +3,8 @@ use Rattle.std.proofs.Common.{◌≡◌, ◌∙◌, sym, subst}
 use Rattle.std.specs.Prelude.{IfOk, Some}
 use Rattle.stream_text.specs.declared.order_line.OrderLine.{OrderLine}
 use Rattle.given_run.specs.Following.{Makes}
-use Rattle.given_run.specs.Planned.{line_of, whole_plan}
+use Rattle.given_run.specs.Planned.{whole_plan}
+use Rattle.stream_text.specs.OrderAsks.{line_of}
 use Rattle.given_run.proofs.progress.Progress.line_at.Goals as goal
 
 same : (x y : OrderLine) → Some x ≡ Some y → x ≡ y

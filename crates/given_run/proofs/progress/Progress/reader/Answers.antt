@@ -5,6 +5,7 @@ use Rattle.dispatch_calls.specs.declared.call.Call.TheVariants.{Notify}
 use Rattle.dispatch_history.specs.Effect.{past_of}
 use Rattle.dispatch_history.specs.Given.{without_first}
 use Rattle.dispatch_history.specs.Ordered.{scripted}
+use Rattle.schedule.specs.declared.keeping.Lines.TheVariants.{Kept}
 use Rattle.given_run.specs.Following.{Comes}
 use Rattle.given_run.proofs.Coming.{args_next, one_more}
 use Rattle.given_run.proofs.progress.Progress.reader.Goals as goal
@@ -19,6 +20,6 @@ returns c = λ plan n es cs ss h are.
       Notify c.in-Some.next.now.moment c.in-Some.next.now.args,
       first.0,
       one_more plan n es cs (without_first cs) ss ss _ _ (Notify c.in-Some.next.now.moment c.in-Some.next.now.args) before refl
-          (c.in_ok-step.ensures.after plan es before.has refl made)
+          (c.in_ok-step.ensures.after Kept plan es before.has refl made)
           (first.1 ∙ sym (ap (drop (c.self.inside.taken + 1)) are)) before.steps_are,
     )

@@ -4,6 +4,7 @@ use Rattle.std.specs.List.{All}
 use Rattle.dispatch_history.specs.Effect.{past_of}
 use Rattle.dispatch_history.specs.Given.{without_next}
 use Rattle.dispatch_history.specs.Ordered.{is_scripted, scripted}
+use Rattle.schedule.specs.declared.keeping.Lines.TheVariants.{Kept}
 use Rattle.schedule.specs.Planned.{IsStep, step_of}
 use Rattle.schedule.proofs.Advancing.{scripted_plain}
 use Rattle.given_run.specs.Following.{Comes}
@@ -26,7 +27,7 @@ returns c = λ cooked n es cs ss h.
       c.in-Some.step.now.call,
       sym (c.in-Some.ensures.step ss left),
       one_more plan n es cs cs ss (without_next c.args.lane ss) _ _ c.in-Some.step.now.call before p.opens_not
-          (c.in_ok-step.ensures.after plan es before.has p.receives_not next)
+          (c.in_ok-step.ensures.after Kept plan es before.has p.receives_not next)
           before.args_are
           (subst (λ xs. IsLeft (map step_of xs) (without_next c.args.lane ss) c.next.new.self) c.deref.ensures.value (c.in-Some.ensures.left ss left)),
     )

@@ -2,7 +2,7 @@
 use Rattle.std.proofs.Common.{◌≡◌, ◌∙◌, ◌<◌, ◌≤◌, List, length, get_or, ap, subst, arith}
 use Rattle.schedule.specs.declared.plan.Channel.{Channel}
 use Rattle.schedule.specs.Planned.{plan_of}
-use Rattle.schedule.specs.State.{Has}
+use Rattle.schedule.specs.State.{HasWith}
 use Rattle.schedule.proofs.Beginning.{opened_first, none_scripted, one_opened, all_opened}
 use Rattle.schedule.proofs.schedule.Schedule.begin.Goals as goal
 
@@ -16,8 +16,8 @@ loop-channel-preserved c =
     let is : c.channel-item.result ≡ get_or c.args.plan.now.channels.items c.loop-channel.channel-index c.channel-item.result =
     subst (λ (xs : List Channel). c.channel-item.result ≡ get_or xs c.loop-channel.channel-index c.channel-item.result) c.deref-channel-items.ensures.value c.channel-item.is in
     record {
-      has = subst (λ fs. Has (plan_of c.args.plan.now) fs c.open.new.self) (one_opened c.args.plan.now.displays c.args.plan.now.channels.items c.loop-channel.channel-index c.channel-item.result within is)
-          (c.in_ok-open.ensures.after (plan_of c.args.plan.now) (opened_first c.args.plan.now.displays c.args.plan.now.channels.items c.loop-channel.channel-index) c.loop-channel.invariant.has
+      has = subst (λ fs. HasWith c.args.lines (plan_of c.args.plan.now) fs c.open.new.self) (one_opened c.args.plan.now.displays c.args.plan.now.channels.items c.loop-channel.channel-index c.channel-item.result within is)
+          (c.in_ok-open.ensures.after c.args.lines (plan_of c.args.plan.now) (opened_first c.args.plan.now.displays c.args.plan.now.channels.items c.loop-channel.channel-index) c.loop-channel.invariant.has
           (none_scripted c.args.plan.now.displays c.args.plan.now.channels.items c.loop-channel.channel-index (omega (arith, within)) c.requires.few));
       messages = c.open.ensures.messages ∙ c.loop-channel.invariant.messages;
       latest = c.open.ensures.latest ∙ c.loop-channel.invariant.latest;
@@ -30,6 +30,6 @@ returns-clause-has c =
     let within : c.loop-channel.channel-index ≤ length c.args.plan.now.channels.items =
     subst (λ (xs : List Channel). c.loop-channel.channel-index ≤ length xs) c.deref-channel-items.ensures.value c.loop-channel.auto.channel-index-end in
     let all : c.loop-channel.channel-index ≡ length c.args.plan.now.channels.items = omega (arith, past, within) in
-    subst (λ fs. Has (plan_of c.args.plan.now) fs c.loop-channel.run)
+    subst (λ fs. HasWith c.args.lines (plan_of c.args.plan.now) fs c.loop-channel.run)
     (ap (opened_first c.args.plan.now.displays c.args.plan.now.channels.items) all ∙ all_opened c.args.plan.now.displays c.args.plan.now.channels.items)
     c.loop-channel.invariant.has

@@ -1,6 +1,6 @@
 use Rattle.std.proofs.Common.{◌≡◌}
 use Rattle.schedule.specs.Planned.{plan_of}
-use Rattle.schedule.specs.State.{Has}
+use Rattle.schedule.specs.State.{HasWith}
 use Rattle.schedule.proofs.Beginning.{opened_first}
 use Rattle.schedule.proofs.schedule.Schedule.begin.Given as goal
 
@@ -8,7 +8,7 @@ use Rattle.schedule.proofs.schedule.Schedule.begin.Given as goal
 abbrev pub invariant-loop-channel : goal.invariant-loop-channel
 invariant-loop-channel l =
     record {
-      has : Has (plan_of l.plan) (opened_first l.plan.displays l.plan.channels.items l.channel-index) l.run;
+      has : HasWith l.fn.lines (plan_of l.plan) (opened_first l.plan.displays l.plan.channels.items l.channel-index) l.run;
       messages : l.run.messages ≡ 0;
       latest : l.run.latest ≡ 0;
     }

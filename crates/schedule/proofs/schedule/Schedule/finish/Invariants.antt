@@ -2,10 +2,11 @@ use Rattle.std.proofs.Common.{◌≡◌, ◌-◌, List}
 use Rattle.dispatch_history.specs.Effect.{Effect}
 use Rattle.dispatch_history.specs.Plan.{Cooked}
 use Rattle.dispatch_history.specs.Ordered.{end_of}
+use Rattle.schedule.specs.declared.keeping.Lines.{Lines}
 use Rattle.schedule.specs.Planned.{plan_of}
 use Rattle.schedule.specs.Run.{with_cooked}
 use Rattle.schedule.specs.More.{ComesTo}
-use Rattle.schedule.specs.State.{Ran}
+use Rattle.schedule.specs.State.{RanWith}
 use Rattle.schedule.proofs.Running.{Closing}
 use Rattle.schedule.proofs.schedule.Schedule.finish.Given as goal
 
@@ -13,8 +14,8 @@ use Rattle.schedule.proofs.schedule.Schedule.finish.Given as goal
 abbrev pub invariant-rounds : goal.invariant-rounds
 invariant-rounds l =
     record {
-      closing : (given : List Cooked) → Ran (plan_of l.plan) given l.fn.self
-          → Closing (plan_of l.plan) given l.self × (l.end ≡ end_of (with_cooked (plan_of l.plan) given));
+      closing : (how : Lines) (given : List Cooked) → RanWith how (plan_of l.plan) given l.fn.self
+          → Closing how (plan_of l.plan) given l.self × (l.end ≡ end_of (with_cooked (plan_of l.plan) given));
       more : (es : List Effect) → ComesTo es l.fn.self.dispatcher → ComesTo es l.self.dispatcher;
     }
 

@@ -4,22 +4,22 @@ use Rattle.dispatch_calls.specs.declared.call.Call.TheVariants.{Notify, Pump}
 use Rattle.dispatch_history.specs.Effect.{past_of}
 use Rattle.dispatch_history.specs.Legal.{answered}
 use Rattle.dispatch_history.specs.Ordered.{scripted}
-use Rattle.schedule.specs.State.{Has}
+use Rattle.schedule.specs.State.{HasWith}
 use Rattle.schedule.proofs.Going.{first_call, second_call, clock_twice, ready_again, on_ok_both}
 use Rattle.schedule.proofs.Stepping.{lawful_of}
 use Rattle.schedule.proofs.schedule.Schedule.hand_in.Goals as goal
 
 pub returns-clause-after : goal.returns-clause-after
-returns-clause-after c = λ plan es r.
+returns-clause-after c = λ how plan es r.
     let t = c.args.moment in
     let a = c.args.args.now in
     let one = answered plan.displays (Notify t a) es in
     let two = answered plan.displays (Pump t) one in
-    let before = subst (Has plan es) (sym c.step.view_is) r.has in
-    let has = c.in_ok-step.ensures.after plan es r.has refl (let n : c.step.inside.next ≡ 0 + scripted (past_of es) = omega (arith, before.next_is) in n) in
-    let again = subst (Has plan one) (sym c.step-3.view_is) has in
-    let both = c.in_ok-step-2.ensures.after plan one has refl (let n : c.step-3.inside.next ≡ 0 + scripted (past_of one) = omega (arith, again.next_is) in n) in
-    let first = first_call plan.displays es (Notify t a) (lawful_of plan es _ r.has) r.caught refl in
-    on_ok_both c.receive_all.result _ _ _ (c.receive_all.ensures.after plan two both) (c.receive_all.ensures.messages plan two both)
+    let before = subst (HasWith how plan es) (sym c.step.view_is) r.has in
+    let has = c.in_ok-step.ensures.after how plan es r.has refl (let n : c.step.inside.next ≡ 0 + scripted (past_of es) = omega (arith, before.next_is) in n) in
+    let again = subst (HasWith how plan one) (sym c.step-3.view_is) has in
+    let both = c.in_ok-step-2.ensures.after how plan one has refl (let n : c.step-3.inside.next ≡ 0 + scripted (past_of one) = omega (arith, again.next_is) in n) in
+    let first = first_call plan.displays es (Notify t a) (lawful_of how plan es _ r.has) r.caught refl in
+    on_ok_both c.receive_all.result _ _ _ (c.receive_all.ensures.after how plan two both) (c.receive_all.ensures.messages how plan two both)
     (λ all messages.
-    ready_again plan es two c.receive_all.new.self (second_call plan.displays es one (Pump t) first refl (clock_twice t es plan.displays a)) r.opened_is all messages)
+    ready_again how plan es two c.receive_all.new.self (second_call plan.displays es one (Pump t) first refl (clock_twice t es plan.displays a)) r.opened_is all messages)

@@ -4,7 +4,7 @@ use Rattle.schedule.proofs.Running.{not_over, over}
 use Rattle.schedule.proofs.schedule.Schedule.is_too_long.Goals as goal
 
 pub returns-clause-too_long : goal.returns-clause-too_long
-returns-clause-too_long c = λ plan es r e. over plan es c.args.self.now r (sym c.is_over.ensures ∙ e)
+returns-clause-too_long c = λ how plan es r e. over how plan es c.args.self.now r (sym c.is_over.ensures ∙ e)
 
 pub returns-clause-within : goal.returns-clause-within
-returns-clause-within c = λ plan es r e. not_over plan es c.args.self.now r (sym c.is_over.ensures ∙ e)
+returns-clause-within c = λ how plan es r e. not_over how plan es c.args.self.now r (sym c.is_over.ensures ∙ e)

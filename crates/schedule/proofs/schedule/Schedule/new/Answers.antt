@@ -7,5 +7,5 @@ use Rattle.schedule.proofs.schedule.Schedule.new.Goals as goal
 
 pub returns : goal.returns
 returns c =
-    begins (plan_of c.args.plan.now) _ (omega (arith, length-map c.args.plan.now.channels.items channel_of, c.requires.few))
+    begins c.args.lines (plan_of c.args.plan.now) _ (omega (arith, length-map c.args.plan.now.channels.items channel_of, c.requires.few))
     c.in_ok-run.ensures.has c.in_ok-run.ensures.messages c.in_ok-run.ensures.latest

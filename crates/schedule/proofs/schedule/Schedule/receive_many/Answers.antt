@@ -2,22 +2,23 @@
 use Rattle.std.proofs.Common.{◌≡◌, ◌∙◌, replicate, subst, arith}
 use Rattle.dispatch_history.specs.Ordered.{extend}
 use Rattle.dispatch_calls.specs.declared.call.Call.TheVariants.{Receive}
-use Rattle.schedule.specs.State.{Has}
+use Rattle.schedule.specs.State.{HasWith}
 use Rattle.schedule.proofs.Receiving.{one_receive_more}
 use Rattle.schedule.proofs.schedule.Schedule.receive_many.Goals as goal
 
 pub loop-preserved : goal.loop-preserved
 loop-preserved c =
     record {
-      has = λ plan es h.
-          subst (λ fs. Has plan fs c.receive_one.new.self) (one_receive_more plan.displays es c.args.channel c.loop.counter)
-          (c.in_ok-receive_one.ensures.after plan _ (c.loop.invariant.has plan es h));
+      has = λ how plan es h.
+          subst (λ fs. HasWith how plan fs c.receive_one.new.self) (one_receive_more plan.displays es c.args.channel c.loop.counter)
+          (c.in_ok-receive_one.ensures.after how plan _ (c.loop.invariant.has how plan es h));
+      messages = c.receive_one.ensures.messages ∙ c.loop.invariant.messages;
       calls = omega (arith, c.loop.invariant.calls, c.in_ok-receive_one.ensures.calls);
       more = λ es k. c.receive_one.ensures.more es (c.loop.invariant.more es k);
       latest = c.receive_one.ensures.latest ∙ c.loop.invariant.latest;
     }
 
 pub returns-clause-after : goal.returns-clause-after
-returns-clause-after c = λ plan es h.
+returns-clause-after c = λ how plan es h.
     let all : c.loop.counter ≡ c.args.count = omega (arith, c.loop-test.false, c.loop.auto.counter-end) in
-    subst (λ n. Has plan (extend plan.displays es (replicate n (Receive c.args.channel))) c.loop.self) all (c.loop.invariant.has plan es h)
+    subst (λ n. HasWith how plan (extend plan.displays es (replicate n (Receive c.args.channel))) c.loop.self) all (c.loop.invariant.has how plan es h)

@@ -4,15 +4,17 @@ use Rattle.dispatch_calls.specs.declared.call.Call.TheVariants.{Receive}
 use Rattle.dispatch_history.specs.Effect.{Effect}
 use Rattle.dispatch_history.specs.Plan.{Plan}
 use Rattle.dispatch_history.specs.Ordered.{extend}
+use Rattle.schedule.specs.declared.keeping.Lines.{Lines}
 use Rattle.schedule.specs.More.{ComesTo}
-use Rattle.schedule.specs.State.{Has}
+use Rattle.schedule.specs.State.{HasWith}
 use Rattle.schedule.proofs.schedule.Schedule.receive_many.Given as goal
 
 -- the run has so many receives more
 abbrev pub invariant-loop : goal.invariant-loop
 invariant-loop l =
     record {
-      has : (plan : Plan) (es : List Effect) → Has plan es l.initial.self → Has plan (extend plan.displays es (replicate l.counter (Receive l.channel))) l.self;
+      has : (how : Lines) (plan : Plan) (es : List Effect) → HasWith how plan es l.initial.self → HasWith how plan (extend plan.displays es (replicate l.counter (Receive l.channel))) l.self;
+      messages : l.self.messages ≡ l.initial.self.messages;
       calls : l.initial.self.calls ≤ l.self.calls;
       more : (es : List Effect) → ComesTo es l.initial.self.dispatcher → ComesTo es l.self.dispatcher;
       latest : l.self.latest ≡ l.initial.self.latest;

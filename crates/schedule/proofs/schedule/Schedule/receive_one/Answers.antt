@@ -1,6 +1,6 @@
 -- One receive more.
 use Rattle.std.proofs.Common.{refl, sym, subst}
-use Rattle.schedule.specs.State.{Has, ScheduleState}
+use Rattle.schedule.specs.State.{HasWith, ScheduleState}
 use Rattle.schedule.proofs.Stepping.{has_received, on_ok}
 use Rattle.dispatch_calls.specs.declared.call.Call.TheVariants.{Receive}
 use Rattle.schedule.specs.More.{ComesTo}
@@ -8,10 +8,10 @@ use Rattle.schedule.proofs.More.{one_more}
 use Rattle.schedule.proofs.schedule.Schedule.receive_one.Goals as goal
 
 pub returns-in-Ok-clause-after : goal.returns-in-Ok-clause-after
-returns-in-Ok-clause-after c = λ plan es h.
-    let before = subst (Has plan es) (sym c.self.view_is) h in
+returns-in-Ok-clause-after c = λ how plan es h.
+    let before = subst (HasWith how plan es) (sym c.self.view_is) h in
     on_ok c.take_in.result _ _ c.take_in.ensures
-    (λ hears. has_received plan es _ _ before c.apply.ensures.displays c.in-Ok.reply c.args.channel ((rw c.in-Ok.is at c.apply.ensures.after) es before.stands) hears refl
+    (λ hears. has_received how plan es _ _ before c.apply.ensures.displays c.in-Ok.reply c.args.channel ((rw c.in-Ok.is at c.apply.ensures.after) es before.stands) hears refl
     c.saturating_add-self-inside.ensures)
 
 pub returns-in-Ok-clause-more : goal.returns-in-Ok-clause-more

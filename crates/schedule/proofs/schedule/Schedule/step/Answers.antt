@@ -1,15 +1,15 @@
 -- One call more.
 use Rattle.std.proofs.Common.{refl, sym, subst}
-use Rattle.schedule.specs.State.{Has, ScheduleState}
+use Rattle.schedule.specs.State.{HasWith, ScheduleState}
 use Rattle.schedule.proofs.Stepping.{has_step}
 use Rattle.schedule.specs.More.{ComesTo}
 use Rattle.schedule.proofs.More.{one_more}
 use Rattle.schedule.proofs.schedule.Schedule.step.Goals as goal
 
 pub returns-in-Ok-clause-after : goal.returns-in-Ok-clause-after
-returns-in-Ok-clause-after c = λ plan es h never next.
-    let before = subst (Has plan es) (sym c.self.view_is) h in
-    has_step plan es _ _ before c.apply.ensures.displays c.args.call.now c.in-Ok.field-0 ((rw c.in-Ok.is at c.apply.ensures.after) es before.stands) never refl next
+returns-in-Ok-clause-after c = λ how plan es h never next.
+    let before = subst (HasWith how plan es) (sym c.self.view_is) h in
+    has_step how plan es _ _ before c.apply.ensures.displays c.args.call.now c.in-Ok.field-0 ((rw c.in-Ok.is at c.apply.ensures.after) es before.stands) never refl next
     c.saturating_add-self-inside.ensures
 
 pub returns-in-Ok-clause-more : goal.returns-in-Ok-clause-more

@@ -3,35 +3,35 @@ use Rattle.std.proofs.Common.{◌≡◌, ◌∙◌, false, sym, subst}
 use Rattle.dispatch_history.specs.Plan.{Cooked}
 use Rattle.schedule.specs.Choosing.{Advances}
 use Rattle.schedule.specs.Planned.{plan_of}
-use Rattle.schedule.specs.State.{Ready, is_over}
+use Rattle.schedule.specs.State.{ReadyWith, is_over}
 use Rattle.schedule.proofs.Running.{coming_next, coming_done, coming_over}
 use Rattle.schedule.proofs.Stepping.{on_ok}
 use Rattle.schedule.proofs.schedule.Schedule.take.Goals as goal
 
 pub returns-then-not-branch-clause-ran : goal.returns-then-not-branch-clause-ran
-returns-then-not-branch-clause-ran c = λ given r.
+returns-then-not-branch-clause-ran c = λ how given r.
     let plan = plan_of c.args.plan.now in
     let a : Cooked = record { moment = c.args.moment; args = c.args.args.now } in
-    let h = c.rounds.invariant.coming given r in
+    let h = c.rounds.invariant.coming how given r in
     let over : is_over c.rounds.self ≡ false = sym c.is_too_long.ensures.over ∙ c.rounds-test.true in
-    let none = subst (Advances plan c.args.moment h.es c.rounds.self c.advance.new.self) c.if-not-branch.true (c.in_ok-advance.ensures.after h.es h.ready) in
-    on_ok c.hand_in.result _ _ (c.hand_in.ensures.after plan h.es (subst (Ready plan h.es) (sym none.1) h.ready))
-    (λ ready. coming_done plan given a c.rounds.self c.advance.new.self c.hand_in.new.self h over none ready (c.hand_in.ensures.latest ∙ c.advance.ensures.latest))
+    let none = subst (Advances how plan c.args.moment h.es c.rounds.self c.advance.new.self) c.if-not-branch.true (c.in_ok-advance.ensures.after how h.es h.ready) in
+    on_ok c.hand_in.result _ _ (c.hand_in.ensures.after how plan h.es (subst (ReadyWith how plan h.es) (sym none.1) h.ready))
+    (λ ready. coming_done how plan given a c.rounds.self c.advance.new.self c.hand_in.new.self h over none ready (c.hand_in.ensures.latest ∙ c.advance.ensures.latest))
 
 pub rounds-preserved : goal.rounds-preserved
 rounds-preserved c =
     record {
-      coming = λ given r.
+      coming = λ how given r.
           let plan = plan_of c.args.plan.now in
           let a : Cooked = record { moment = c.args.moment; args = c.args.args.now } in
-          let h = c.rounds.invariant.coming given r in
+          let h = c.rounds.invariant.coming how given r in
           let over : is_over c.rounds.self ≡ false = sym c.is_too_long.ensures.over ∙ c.rounds-test.true in
-          coming_next plan given a c.rounds.self c.advance.new.self h over
-          (subst (Advances plan c.args.moment h.es c.rounds.self c.advance.new.self) c.if-not-branch.false (c.in_ok-advance.ensures.after h.es h.ready)) c.advance.ensures.latest;
+          coming_next how plan given a c.rounds.self c.advance.new.self h over
+          (subst (Advances how plan c.args.moment h.es c.rounds.self c.advance.new.self) c.if-not-branch.false (c.in_ok-advance.ensures.after how h.es h.ready)) c.advance.ensures.latest;
       more = λ es k. c.advance.ensures.more es (c.rounds.invariant.more es k);
     }
 
 pub returns-clause-ran : goal.returns-clause-ran
-returns-clause-ran c = λ given r.
-    coming_over (plan_of c.args.plan.now) given (record { moment = c.args.moment; args = c.args.args.now }) c.rounds.self (c.rounds.invariant.coming given r)
+returns-clause-ran c = λ how given r.
+    coming_over how (plan_of c.args.plan.now) given (record { moment = c.args.moment; args = c.args.args.now }) c.rounds.self (c.rounds.invariant.coming how given r)
     (sym c.is_too_long.ensures.over ∙ c.rounds-test.false)

@@ -1,9 +1,10 @@
 use Rattle.std.proofs.Common.{◌-◌, List}
 use Rattle.dispatch_history.specs.Effect.{Effect}
 use Rattle.dispatch_history.specs.Plan.{Cooked}
+use Rattle.schedule.specs.declared.keeping.Lines.{Lines}
 use Rattle.schedule.specs.Planned.{plan_of}
 use Rattle.schedule.specs.More.{ComesTo}
-use Rattle.schedule.specs.State.{Ran}
+use Rattle.schedule.specs.State.{RanWith}
 use Rattle.schedule.proofs.Running.{Coming}
 use Rattle.schedule.proofs.schedule.Schedule.take.Given as goal
 
@@ -11,7 +12,7 @@ use Rattle.schedule.proofs.schedule.Schedule.take.Given as goal
 abbrev pub invariant-rounds : goal.invariant-rounds
 invariant-rounds l =
     record {
-      coming : (given : List Cooked) → Ran (plan_of l.plan) given l.fn.self → Coming (plan_of l.plan) given (record { moment = l.moment; args = l.args }) l.self;
+      coming : (how : Lines) (given : List Cooked) → RanWith how (plan_of l.plan) given l.fn.self → Coming how (plan_of l.plan) given (record { moment = l.moment; args = l.args }) l.self;
       more : (es : List Effect) → ComesTo es l.fn.self.dispatcher → ComesTo es l.self.dispatcher;
     }
 
