@@ -1,7 +1,7 @@
 -- Words, and the commands that they give.
 use Rattle.std.specs.Prelude.{codes, ◌≡◌, [], ◌∷◌, Some, None, refl}
-use Rattle.command_words.specs.Command.{replay, check, verify, work, batch, hover, emit}
-use Rattle.command_words.specs.Forms.{batch_of, check_of, command_with, emit_of, form_of, hover_of, number_of, recorded_of, replay_of, value_of, verify_of, work_of}
+use Rattle.command_words.specs.Command.{replay, race, check, verify, work, batch, hover, emit}
+use Rattle.command_words.specs.Forms.{batch_of, check_of, command_with, emit_of, form_of, hover_of, number_of, race_of, recorded_of, replay_of, value_of, verify_of, work_of}
 use Rattle.command_words.specs.Value.{number}
 
 pub no_words : form_of [] ≡ None
@@ -21,6 +21,14 @@ pub replays :
     × (form_of (codes "replay" ∷ codes "a" ∷ codes "b" ∷ []) ≡ None)
 unfolding form_of command_with value_of recorded_of replay_of
 replays = (refl, refl, refl, refl, refl, refl, refl, refl, refl)
+
+-- a race has the words of a replay, and its own name
+pub races :
+    (form_of (codes "race" ∷ codes "--events=b" ∷ codes "--session" ∷ codes "a" ∷ []) ≡ Some (race (record { session = codes "a"; events = codes "b" })))
+    × (form_of (codes "race" ∷ codes "--session" ∷ codes "a" ∷ []) ≡ None)
+    × (form_of (codes "race" ∷ codes "--session" ∷ codes "a" ∷ codes "--events" ∷ codes "b" ∷ codes "--order" ∷ codes "c" ∷ []) ≡ None)
+unfolding form_of command_with value_of recorded_of race_of
+races = (refl, refl, refl)
 
 -- both spellings in one command
 pub checks :

@@ -7,10 +7,11 @@ pub record Recorded : Type 0 where
   pub session : List ℕ
   pub events : List ℕ
 
--- The commands. `check` has an order file beside those of a run, `verify`, `batch` and `emit` have a stream file, `work` has
+-- The commands. `replay` and `race` have the files of a run, `check` has an order file beside them, `verify`, `batch` and `emit` have a stream file, `work` has
 -- a seed and how many packets, `batch` the length of a frame, `hover` the path of a mouse, `emit` a channel and a device.
 pub data Command : Type 0 where
   replay : Recorded → Command
+  race : Recorded → Command
   check : Recorded → List ℕ → Command
   verify : List ℕ → Command
   work : ℕ → ℕ → Command

@@ -1,10 +1,10 @@
 -- What contracts see of a command and of an option.
 use Rattle.std.specs.Prelude.{}
 use Rattle.command_words.specs.declared.command.Command.{Command as Parsed}
-use Rattle.command_words.specs.declared.command.Command.TheVariants.{Replay, Check, Verify, Work, Batch, Hover, Emit}
+use Rattle.command_words.specs.declared.command.Command.TheVariants.{Replay, Race, Check, Verify, Work, Batch, Hover, Emit}
 use Rattle.command_words.specs.declared.command.Recorded.{Recorded as Names}
 use Rattle.command_words.specs.declared.options.Given.{Given as Spelled}
-use Rattle.command_words.specs.Command.{Command, Recorded, replay, check, verify, work, batch, hover, emit}
+use Rattle.command_words.specs.Command.{Command, Recorded, replay, race, check, verify, work, batch, hover, emit}
 use Rattle.command_words.specs.Given.{Given}
 
 -- the names of a run's files, as bytes
@@ -14,6 +14,7 @@ recorded_view names = record { session = names.session.now; events = names.event
 -- a command with its names of files, as bytes
 abbrev pub command_view : Parsed → Command
 command_view (Replay recorded) = replay (recorded_view recorded)
+command_view (Race recorded) = race (recorded_view recorded)
 command_view (Check recorded order) = check (recorded_view recorded) order.now
 command_view (Verify stream) = verify stream.now
 command_view (Work seed packets) = work seed packets

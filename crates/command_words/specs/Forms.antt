@@ -1,6 +1,6 @@
 -- The forms of the commands.
 use Rattle.std.specs.Prelude.{codes, ℕ, ◌==◌, ◌&&◌, if◌then◌else◌, List, [], ◌∷◌, length, bytes_eq, Option, Some, None, option_map}
-use Rattle.command_words.specs.Command.{Command, Recorded, replay, check, verify, work, batch, hover, emit}
+use Rattle.command_words.specs.Command.{Command, Recorded, replay, race, check, verify, work, batch, hover, emit}
 use Rattle.command_words.specs.Given.{Given}
 use Rattle.command_words.specs.Options.{options_of, values_of}
 use Rattle.command_words.specs.Value.{number, only, path}
@@ -30,6 +30,10 @@ recorded_of value = do
 -- `replay`, with the files of a run
 unfoldable pub replay_of : (List ℕ → Option (List ℕ)) → Option Command
 replay_of value = option_map replay (recorded_of value)
+
+-- `race`, with the files of a run
+unfoldable pub race_of : (List ℕ → Option (List ℕ)) → Option Command
+race_of value = option_map race (recorded_of value)
 
 -- `check`, with an order file beside them
 unfoldable pub check_of : (List ℕ → Option (List ℕ)) → Option Command
@@ -75,6 +79,7 @@ emit_of value = do
 unfoldable pub command_with : List ℕ → ℕ → (List ℕ → Option (List ℕ)) → Option Command
 command_with name count value =
     if bytes_eq name (codes "replay") && count == 2 then replay_of value
+    else if bytes_eq name (codes "race") && count == 2 then race_of value
     else if bytes_eq name (codes "check") && count == 3 then check_of value
     else if bytes_eq name (codes "verify") && count == 1 then verify_of value
     else if bytes_eq name (codes "work") && count == 2 then work_of value

@@ -2,7 +2,7 @@
 ghost use Rattle.std.specs.Prelude.{◌≡◌, ◌≤◌, ◌<◌, ◌^◌, IfSome, length, map, option_map, string_bytes};
 ghost use Rattle.command_words.specs.Command.{InRanges};
 ghost use Rattle.command_words.specs.CommandView.{command_view, recorded_view};
-ghost use Rattle.command_words.specs.Forms.{batch_of, check_of, command_with, emit_of, form_of, hover_of, number_of, recorded_of, replay_of, value_of, verify_of, work_of};
+ghost use Rattle.command_words.specs.Forms.{batch_of, check_of, command_with, emit_of, form_of, hover_of, number_of, race_of, recorded_of, replay_of, value_of, verify_of, work_of};
 
 use crate::number::number;
 use crate::options::Options;
@@ -21,6 +21,8 @@ pub struct Recorded<'a> {
 pub enum Command<'a> {
     /// Prints what each window is told for a recording.
     Replay(Recorded<'a>),
+    /// Prints an order that threads took, and what each window is told in it.
+    Race(Recorded<'a>),
     /// Prints what each window is told in the order that a file gives.
     Check {
         recorded: Recorded<'a>,
@@ -82,6 +84,16 @@ fn replay_of<'a>(options: &Options<'a>) -> Option<Command<'a>>
 {
     let recorded = recorded_of(options)?;
     Some(Command::Replay(recorded))
+}
+
+/// `race`, with the files of a run.
+#[tactic(auto, unfolding(crate::specs::Forms::race_of))]
+fn race_of<'a>(options: &Options<'a>) -> Option<Command<'a>>
+    ensures value { option_map command_view result ≡ race_of (value_of options.now) }
+    ensures ranges { IfSome result (λ c. InRanges (command_view c)) }
+{
+    let recorded = recorded_of(options)?;
+    Some(Command::Race(recorded))
 }
 
 /// `check`, with an order file beside them.
@@ -166,6 +178,7 @@ fn command_with<'a>(name: &str, options: &Options<'a>) -> Option<Command<'a>>
 {
     match (name, options.len()) {
         ("replay", 2) => replay_of(options),
+        ("race", 2) => race_of(options),
         ("check", 3) => check_of(options),
         ("verify", 1) => verify_of(options),
         ("work", 2) => work_of(options),
