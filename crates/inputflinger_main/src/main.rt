@@ -2,6 +2,7 @@
 #![tactic(auto)]
 
 use outside_io::{HostFiles, HostSink};
+use replay_engine::NoGate;
 use std::alloc::{AllocError, Global};
 use std::process::ExitCode;
 use std::{env, io};
@@ -31,5 +32,5 @@ fn main(rt: HostRuntime) -> ExitCode {
     };
     let mut files = HostFiles::new(&rt);
     let mut out = HostSink::new(rt.stdout());
-    ExitCode::from(replay_engine::run(alloc, &words, &mut files, &mut out, &mut err))
+    ExitCode::from(replay_engine::run(&rt, alloc, &words, &mut files, &mut out, &mut err, &NoGate))
 }

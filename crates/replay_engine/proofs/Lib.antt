@@ -2,6 +2,7 @@ pub mod Answering
 pub mod Begins
 pub mod Bounds
 pub mod EndLines
+pub mod Finishing
 pub mod KnownEnd
 pub mod Newest
 pub mod NextGiven
@@ -11,6 +12,7 @@ pub mod Orders
 pub mod Outcomes
 pub mod Overruns
 pub mod Parts
+pub mod RaceTexts
 pub mod Readers
 pub mod Ties
 pub mod Told

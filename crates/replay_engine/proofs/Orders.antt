@@ -5,7 +5,8 @@ use Rattle.raw_events.specs.declared.event.RawEvent.{RawEvent}
 use Rattle.dispatch_history.specs.Given as history
 use Rattle.dispatch_history.specs.Plan.{Plan, Cooked}
 use Rattle.given_run.specs.declared.cooked.Cooked.{Cooked as GivenArgs}
-use Rattle.given_run.specs.Planned.{cooked_of, line_of, whole_plan}
+use Rattle.given_run.specs.Planned.{cooked_of, whole_plan}
+use Rattle.stream_text.specs.OrderAsks.{line_of}
 use Rattle.schedule.specs.declared.plan.Plan.{Plan as RunPlan}
 use Rattle.schedule.specs.Planned.{plan_of}
 use Rattle.session_plan.specs.Plan.{PlanData}

@@ -12,7 +12,8 @@ use Rattle.text_lines.specs.Lines.{Line, lines_of}
 use Rattle.stream_text.specs.StreamLine.{line_of}
 use Rattle.stream_text.specs.StreamFile.{Event, follow, may_end, told, with_event, numbered_line, events_from, events_behind, events_of, messages_of, streams_of, streams_in, Unread, Goes}
 use Rattle.stream_text.specs.OrderText.{order_passed}
-use Rattle.replay_engine.specs.Verdict.{break_from, first_break, messages_in, judged, verdict}
+use Rattle.replay_engine.specs.Verdict.{messages_in, judged, verdict}
+use Rattle.stream_judge.specs.Breaks.{break_from, first_break}
 use Rattle.replay_engine.specs.Judging.{told_after, break_at, channels_at, messages_at, Known, Takes, breaks, channels_left, messages_left, judged_on}
 
 -- The lines that are left say of their streams what the streams say: behind these messages of the section that is open, or behind none.

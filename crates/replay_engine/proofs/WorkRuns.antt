@@ -8,8 +8,9 @@ use Rattle.dispatch_history.specs.Effects.{effects}
 use Rattle.dispatch_history.specs.History.{History}
 use Rattle.dispatch_history.specs.Ordered.{Rounds, is_notified, notified}
 use Rattle.dispatch_history.specs.Plan.{Plan, Cooked}
+use Rattle.schedule.specs.declared.keeping.Lines.TheVariants.{Counted}
 use Rattle.schedule.specs.Run.{IsWithin, with_cooked, run_limit}
-use Rattle.schedule.specs.State.{ScheduleState, Ran, counted}
+use Rattle.schedule.specs.State.{ScheduleState, RanWith, counted}
 
 one_at_most : (call : Call) → is_notified call ≤ 1
 one_at_most (Notify now args) = omega arith
@@ -24,11 +25,11 @@ effects_long displays [] = refl
 effects_long displays (e ∷ h) = ap suc (effects_long displays h)
 
 -- the rounds of the args that came so far
-pub rounds_so_far : (plan : Plan) (given : List Cooked) (s : ScheduleState) (r : Ran plan given s) → Rounds (with_cooked plan given) r.es
+pub rounds_so_far : (plan : Plan) (given : List Cooked) (s : ScheduleState) (r : RanWith Counted plan given s) → Rounds (with_cooked plan given) r.es
 rounds_so_far plan given s r = subst (λ (cs : List Cooked). Rounds (with_cooked plan cs) r.es) (append-nil given) (r.rounds [])
 
 -- a run within its limits was given no more args than it may have calls
-pub counted_exactly : (plan : Plan) (given : List Cooked) (s : ScheduleState) (r : Ran plan given s) → IsWithin r.es → counted (length given) ≡ length given
+pub counted_exactly : (plan : Plan) (given : List Cooked) (s : ScheduleState) (r : RanWith Counted plan given s) → IsWithin r.es → counted (length given) ≡ length given
 unfolding run_limit
 counted_exactly plan given s r within =
     let lawful = r.ready.has.stands.lawful in

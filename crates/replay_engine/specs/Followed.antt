@@ -4,7 +4,7 @@ use Rattle.raw_events.specs.declared.event.RawEvent.{RawEvent}
 use Rattle.dispatch_calls.specs.declared.call.Call.{Call}
 use Rattle.dispatch_history.specs.Given as history
 use Rattle.dispatch_history.specs.Legal.{run}
-use Rattle.given_run.specs.Planned.{line_of}
+use Rattle.stream_text.specs.OrderAsks.{line_of}
 use Rattle.session_plan.specs.DeviceDisplays.{device_displays}
 use Rattle.session_plan.specs.Plan.{PlanData}
 use Rattle.stream_text.specs.declared.order_line.OrderLine.{OrderLine}
@@ -18,7 +18,7 @@ use Rattle.replay_engine.specs.Refused.{Refused, bad_order_line, no_step, too_lo
 abbrev pub order_limit : ℕ
 order_limit = 67108864
 
--- the most args of a recording that is checked
+-- the most args of a recording that is checked or raced
 abbrev pub given_limit : ℕ
 given_limit = 20000
 

@@ -12,6 +12,8 @@ pub mod Planned
 pub mod Program
 pub mod ReadErrors
 pub mod Reading
+pub mod Races
+pub mod RaceEnds
 pub mod Recorded
 pub mod Refused
 pub mod RefusalView

@@ -7,13 +7,14 @@ use Rattle.replay_engine.specs.Judged.{Answer, IfTold}
 use Rattle.replay_engine.specs.Program.{AnswersTo, AreAccepted, IsAnswer, IsAccepted}
 use Rattle.replay_engine.specs.Refused.{Refused, too_long}
 use Rattle.replay_engine.specs.RefusalView.{subject_word}
-use Rattle.command_words.specs.Command.{Command, replay, check, verify, work, batch, hover, emit}
+use Rattle.command_words.specs.Command.{Command, replay, race, check, verify, work, batch, hover, emit}
 
 -- The files lend each name that the words give: that of a recording only where the session is accepted, and that of an order file only
 -- where both are.
 abbrev pub LendsNames : Option (List Entry) → (List ℕ → Bool) → Option Command → Type 0
 LendsNames told lends None = ⊤
 LendsNames told lends (Some (replay files)) = IsTrue (lends files.session) × (IsAccepted told files.session → IsTrue (lends files.events))
+LendsNames told lends (Some (race files)) = IsTrue (lends files.session) × (IsAccepted told files.session → IsTrue (lends files.events))
 LendsNames told lends (Some (check files order)) =
     IsTrue (lends files.session) × (IsAccepted told files.session → IsTrue (lends files.events))
     × (AreAccepted told files.session files.events → IsTrue (lends order))
@@ -22,6 +23,11 @@ LendsNames told lends (Some (work seed packets)) = ⊤
 LendsNames told lends (Some (batch stream frame)) = IsTrue (lends stream)
 LendsNames told lends (Some (hover files mouse)) = IsTrue (lends files.session) × (IsAccepted told files.session → IsTrue (lends files.events))
 LendsNames told lends (Some (emit stream channel device)) = IsTrue (lends stream)
+
+-- a command that starts no threads, or none
+abbrev pub IsAlone : Option Command → Type 0
+IsAlone (Some (race files)) = ⊥
+IsAlone command = ⊤
 
 -- where the files are told, this is what the program answers
 abbrev pub ComesTo : Option (List Entry) → List (List ℕ) → Answer → Type 0

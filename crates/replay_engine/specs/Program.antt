@@ -13,12 +13,13 @@ use Rattle.replay_engine.specs.Emitted.{EmitAnswers}
 use Rattle.replay_engine.specs.Followed.{OrderAnswers, order_judged}
 use Rattle.replay_engine.specs.Hovered.{HoverAnswers, mouse_alone}
 use Rattle.replay_engine.specs.Judged.{Answer, IsJudged, Reads}
+use Rattle.replay_engine.specs.Races.{RaceAnswers}
 use Rattle.replay_engine.specs.Refused.{Refused, usage, session_refused, recording_refused, too_long}
 use Rattle.replay_engine.specs.Replayed.{Replays}
 use Rattle.replay_engine.specs.Verdict.{verdict}
 use Rattle.command_words.specs.Forms.{form_of}
 use Rattle.replay_engine.specs.Worked.{Works}
-use Rattle.command_words.specs.Command.{Command, replay, check, verify, work, batch, hover, emit}
+use Rattle.command_words.specs.Command.{Command, replay, race, check, verify, work, batch, hover, emit}
 use Rattle.replay_engine.specs.Batched.{BatchAnswers}
 
 -- the most bytes of a session, 4 MiB
@@ -82,6 +83,10 @@ RunAnswers plan events a = Replays plan (reverse events) a
 abbrev pub RecordingAnswers : List Entry → List ℕ → PlanData → Answer → Type 0
 RecordingAnswers entries events plan a = Reads entries events (events_judged (devices_of plan)) (RunAnswers plan) a
 
+-- the answer once the session is accepted: the recording is judged, and then comes the race
+abbrev pub ThreadsAnswer : List Entry → List ℕ → PlanData → Answer → Type 0
+ThreadsAnswer entries events plan a = Reads entries events (events_judged (devices_of plan)) (RaceAnswers plan) a
+
 -- what `verify` answers of the bytes of a stream file
 abbrev pub StreamAnswers : List ℕ → Answer → Type 0
 StreamAnswers bytes a = verdict bytes ≡ a
@@ -99,6 +104,7 @@ MouseAnswers entries events path plan a = Reads entries events (events_judged (m
 abbrev pub AnswersTo : List Entry → Option Command → Answer → Type 0
 AnswersTo entries None a = a ≡ Err usage
 AnswersTo entries (Some (replay files)) a = Reads entries files.session session_judged (RecordingAnswers entries files.events) a
+AnswersTo entries (Some (race files)) a = Reads entries files.session session_judged (ThreadsAnswer entries files.events) a
 AnswersTo entries (Some (check files order)) a = Reads entries files.session session_judged (CheckAnswers entries files.events order) a
 AnswersTo entries (Some (verify stream)) a = Reads entries stream stream_judged StreamAnswers a
 AnswersTo entries (Some (work seed packets)) a = Works seed packets a

@@ -51,7 +51,7 @@ subject_word subject.Run = codes "run"
 
 -- what is said of a refusal
 abbrev pub words_of : Refusal → List ℕ
-words_of Usage = codes "usage: inputflinger replay|check|verify|work|batch|hover|emit"
+words_of Usage = codes "usage: inputflinger replay|race|check|verify|work|batch|hover|emit"
 words_of (Session error) = error_line error
 words_of (Recording error) = recording_line error
 words_of (Order error) = order_line error

@@ -17,7 +17,7 @@ refused status line = record { status = status; line = line ++ codes "\n" }
 
 -- the words are of no command
 abbrev pub usage : Refused
-usage = refused 2 (codes "usage: inputflinger replay|check|verify|work|batch|hover|emit")
+usage = refused 2 (codes "usage: inputflinger replay|race|check|verify|work|batch|hover|emit")
 
 -- the session is refused, with its key
 abbrev pub session_refused : Fault → Refused

@@ -1,22 +1,9 @@
 -- What `verify` says of a stream file.
-use Rattle.std.specs.Prelude.{codes, ℕ, ◌+◌, if◌then◌else◌, List, [], ◌∷◌, ◌++◌, length, Option, Some, None, Result, Ok, Err}
+use Rattle.std.specs.Prelude.{codes, ℕ, ◌+◌, List, [], ◌∷◌, ◌++◌, length, Option, Some, None, Result, Ok, Err}
 use Rattle.std.specs.Fmt.{decimal}
-use Rattle.std.specs.Option.{option_or}
-use Rattle.input_types.specs.declared.message.Message.{Message}
-use Rattle.input_types.specs.StreamRule.{is_well_formed}
 use Rattle.stream_text.specs.StreamFile.{Stream, events_of, streams_in}
 use Rattle.replay_engine.specs.Refused.{Refused, bad_stream_line, not_well_formed}
-
--- The line of the first message that may not come where it stands, of messages that stand from line `line` on behind those of `past`, the
--- newest of which is the first.
-abbrev pub break_from : ℕ → List Message → List Message → Option ℕ
-break_from line past [] = None
-break_from line past (m ∷ ms) = if is_well_formed (m ∷ past) then break_from (line + 1) (m ∷ past) ms else Some line
-
--- that of a file's streams, of which the first broken one counts
-abbrev pub first_break : List Stream → Option ℕ
-first_break [] = None
-first_break (s ∷ ss) = option_or (break_from s.first_line [] s.messages) (first_break ss)
+use Rattle.stream_judge.specs.Breaks.{first_break}
 
 -- how many messages these streams have
 abbrev pub messages_in : List Stream → ℕ

@@ -29,7 +29,7 @@ use crate::texts::text_of;
 use input_types::DeviceId;
 use outside_io::Files;
 use raw_events::LineReader;
-use schedule::{Plan, Schedule};
+use schedule::{Lines, Plan, Schedule};
 use session_plan::{ChannelPlan, Plan as Session};
 use std::alloc::{AllocError, Global};
 use text_pieces::Pieces;
@@ -92,7 +92,7 @@ pub(crate) fn begin(alloc: Global, session: Session) -> Result<Begun, AllocError
     let reader = LineReader::new(numbered_devices(alloc, &session)?)?;
     let readers = readers_of(alloc, &session)?;
     let planned = plan_run(alloc, session)?;
-    let schedule = Schedule::new(alloc, &planned.plan)?;
+    let schedule = Schedule::new(alloc, &planned.plan, Lines::Kept)?;
     Ok(Begun {
         channels: planned.channels,
         plan: planned.plan,

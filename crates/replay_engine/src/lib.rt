@@ -1,7 +1,6 @@
 //! The top call of the program: `replay`, from the bytes of a session and of a recording to the bytes of the streams
-//! text; `check`, the same in an
-//! order that a file gives; `work`, a session made from a number; `verify`, a judge of such texts; `batch`, `hover`
-//! and `emit`.
+//! text; `race`, the same on threads, with the order that they took before it; `check`, the same in an order that a
+//! file gives; `work`, a session made from a number; `verify`, a judge of such texts; `batch`, `hover` and `emit`.
 //!
 //! A recording in which tracking id 45 comes at (540, 1200) and goes again, on a display with the window `main` over
 //! it, gives
@@ -16,9 +15,8 @@
 //! Given this text, `verify` says `well formed 1 2`.
 //!
 //! [`run`] reads the files, refuses what it does not accept with a status and a line, and writes the text. Its
-//! contract says for each
-//! status when it comes and what was written; `specs/Program.antt` says which text that is, as a function of the words
-//! and the files.
+//! contract says for each status when it comes and what was written; `specs/Program.antt` says which text that is for
+//! the words and the files. [`run_alone`] does all of it but `race`, and starts no thread.
 #![tactic(auto)]
 
 mod begun;
@@ -28,6 +26,7 @@ mod files;
 mod inputs;
 mod order;
 mod plan;
+mod racing;
 mod recording;
 mod runs;
 mod statuses;
@@ -38,4 +37,5 @@ mod verdict;
 mod work;
 mod writing;
 
-pub use top::{no_memory, run};
+pub use replay_actors::NoGate;
+pub use top::{no_memory, run, run_alone};

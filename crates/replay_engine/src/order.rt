@@ -28,8 +28,8 @@ use std::alloc::{AllocError, Global};
 use stream_text::Order;
 use text_pieces::Pieces;
 
-/// The most args of a recording that is checked.
-const GIVEN_LIMIT: usize = 20000;
+/// The most args of a recording that is checked or raced.
+pub(crate) const GIVEN_LIMIT: usize = 20000;
 
 /// The most lines of an order that is made.
 const LINE_LIMIT: usize = 8000000;
@@ -46,7 +46,7 @@ fn put_all(all: &mut Vec<Cooked>, moment: Moment, args: &[Args]) -> Result<(), A
 }
 
 /// What the devices give for some events.
-fn cooked_list(
+pub(crate) fn cooked_list(
     alloc: Global,
     events: &[RawEvent],
     readers: &mut Readers,

@@ -5,8 +5,9 @@ ghost use Rattle.raw_events.specs.declared.event.RawEvent.{RawEvent as Event};
 ghost use Rattle.dispatch_history.specs.Plan.{Cooked};
 ghost use Rattle.session_plan.specs.Plan.{PlanData};
 ghost use Rattle.device_reader.specs.CookedList.{ReadersStandFor};
+ghost use Rattle.schedule.specs.declared.keeping.Lines.{Lines};
 ghost use Rattle.schedule.specs.Planned.{IsRun, plan_of};
-ghost use Rattle.schedule.specs.State.{Ran};
+ghost use Rattle.schedule.specs.State.{Ran, RanWith};
 ghost use Rattle.replay_engine.specs.Cooked.{plans_of};
 ghost use Rattle.replay_engine.specs.Devices.{devices_of};
 ghost use Rattle.replay_engine.specs.Planned.{given, script_of};
@@ -72,8 +73,9 @@ fn hand(
     args: &[Args],
 ) -> Result<(), AllocError>
     requires { IsRun plan.now }
-    ensures { (before : List Cooked) → Ran (plan_of plan.now) before schedule.old → OnOk result
-        (Ran (plan_of plan.now) (before ++ map (λ a. record { moment = moment; args = a }) args.now) schedule.new) }
+    ensures { (how : Lines) (before : List Cooked) → RanWith how (plan_of plan.now) before schedule.old → OnOk result
+        (RanWith how (plan_of plan.now) (before ++ map (λ a. record { moment = moment; args = a }) args.now)
+        schedule.new) }
 {
     for a in args {
         schedule.take(plan, moment, a)?;
@@ -107,11 +109,11 @@ pub(crate) fn cook_one(
     plan: &Plan,
 ) -> Result<(), AllocError>
     requires { IsRun plan.now }
-    ensures ran { (p : PlanData) (past : List Event) → plan_of plan.now ≡ script_of p
+    ensures ran { (how : Lines) (p : PlanData) (past : List Event) → plan_of plan.now ≡ script_of p
         → ReadersStandFor (plans_of p) past readers.old
-        → Ran (script_of p) (given p past) schedule.old → OnOk result
+        → RanWith how (script_of p) (given p past) schedule.old → OnOk result
         (ReadersStandFor (plans_of p) (event ∷ past) readers.new
-        × Ran (script_of p) (given p (event ∷ past)) schedule.new) }
+        × RanWith how (script_of p) (given p (event ∷ past)) schedule.new) }
     ensures count { (p : PlanData) (past : List Event) → ReadersStandFor (plans_of p) past readers.old
         → OnOk result (length (given p (event ∷ past)) ≡ length (given p past) + length args.new.items) }
 {

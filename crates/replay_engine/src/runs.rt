@@ -1,6 +1,6 @@
 //! The commands that run a session: its files are read and judged one after another.
 ghost use Rattle.std.specs.Prelude.{◌≡◌, IsTrue, None, Ok, Err, IfOk, IfErr};
-ghost use Rattle.command_words.specs.Command.{check, hover, replay};
+ghost use Rattle.command_words.specs.Command.{check, hover, race, replay};
 ghost use Rattle.command_words.specs.CommandView.{recorded_view};
 ghost use Rattle.raw_events.specs.Line.{known};
 ghost use Rattle.session_plan.specs.Valid.{IsPlan};
@@ -14,14 +14,18 @@ use crate::begun::{begin, numbered_devices, recording_text};
 use crate::cooking::device_number;
 use crate::inputs::{events_from, order_from, session_from};
 use crate::order::order_text;
+use crate::racing::race_of;
 use crate::statuses::Refusal;
 use command_words::Recorded;
 use hover_text::Hover;
 use input_types::DeviceId;
 use outside_io::Files;
 use raw_events::RawEvent;
+use replay_actors::Gate;
 use session_plan::Plan;
 use std::alloc::{AllocError, Global};
+use std::sync::Wait;
+use std::thread::Threads;
 use text_pieces::Pieces;
 
 /// Reads and judges both files of `replay`, and makes the text.
@@ -41,6 +45,28 @@ pub(crate) fn replay_text<F: Files>(
     let plan = session_from(alloc, files, names.session)?;
     let begun = begin(alloc, plan)?;
     recording_text(alloc, files, begun, names.events)
+}
+
+/// Reads and judges both files of `race`, runs it, and makes the text.
+pub(crate) fn race_from<R: Threads + Wait + Sync, F: Files, G: Gate + Sync>(
+    rt: &R,
+    alloc: Global,
+    files: &mut F,
+    names: Recorded<'_>,
+    gate: &G,
+) -> Result<Pieces, Refusal>
+    requires session { IsTrue (F.lends files.old names.session.now) }
+    requires events { IsAccepted (F.entries files.old) names.session.now → IsTrue (F.lends files.old names.events.now) }
+    requires free { F.lent files.old ≡ None }
+    ensures ok { IfOk result (λ text. Answers (F.entries files.old) (race (recorded_view names.entry)) (Ok text)) }
+    ensures err { IfErr result (Refuses
+        (λ r. Answers (F.entries files.old) (race (recorded_view names.entry)) (Err r)) (F.faults files.old)
+        (F.faults files.new)) }
+{
+    let session = session_from(alloc, files, names.session)?;
+    let devices = numbered_devices(alloc, &session)?;
+    let events = events_from(alloc, files, &devices, names.events)?;
+    race_of(rt, alloc, session, &events, gate)
 }
 
 /// Reads and judges the files of `check`, and makes the text.

@@ -13,7 +13,7 @@ use std::alloc::{AllocError, Global};
 use stream_judge::FileError;
 
 /// The line that tells the commands.
-pub const USAGE: &str = "usage: inputflinger replay|check|verify|work|batch|hover|emit\n";
+pub const USAGE: &str = "usage: inputflinger replay|race|check|verify|work|batch|hover|emit\n";
 
 /// What a run found to be longer than its limit.
 #[derive(Clone, Copy, Debug, PartialEq, Eq)]

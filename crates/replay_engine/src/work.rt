@@ -4,8 +4,9 @@ ghost use Rattle.dispatch_history.specs.Effect.{Effect};
 ghost use Rattle.dispatch_history.specs.Plan.{Plan as PlanView};
 ghost use Rattle.session_plan.specs.Plan.{PlanData};
 ghost use Rattle.device_reader.specs.CookedList.{ReadersStandFor};
+ghost use Rattle.schedule.specs.declared.keeping.Lines.TheVariants.{Counted};
 ghost use Rattle.schedule.specs.Planned.{IsRun, plan_of};
-ghost use Rattle.schedule.specs.State.{Has, Ran, counted};
+ghost use Rattle.schedule.specs.State.{HasWith, RanWith, counted};
 ghost use Rattle.workload_maker.specs.Making.{left_of};
 ghost use Rattle.workload_maker.specs.Session.{session};
 ghost use Rattle.replay_engine.specs.Cooked.{plans_of};
@@ -18,7 +19,7 @@ use crate::cooking::readers_of;
 use crate::recording::cook_one;
 use crate::statuses::{Refusal, Subject};
 use device_reader::Readers;
-use schedule::{Plan, Schedule, add_all_namings};
+use schedule::{Lines, Plan, Schedule, add_all_namings};
 use std::alloc::{AllocError, Global};
 use text_pieces::Pieces;
 use workload_maker::{Events, make};
@@ -39,10 +40,10 @@ fn run_events(
 ) -> Result<u64, AllocError>
     requires { IsRun plan.now }
     ensures ran { (p : PlanData) → plan_of plan.now ≡ script_of p → ReadersStandFor (plans_of p) [] readers.old
-        → Ran (script_of p) [] schedule.old
-        → OnOk result (Ran (script_of p) (given p (reverse (left_of events))) schedule.new) }
+        → RanWith Counted (script_of p) [] schedule.old
+        → OnOk result (RanWith Counted (script_of p) (given p (reverse (left_of events))) schedule.new) }
     ensures count { (p : PlanData) → plan_of plan.now ≡ script_of p → ReadersStandFor (plans_of p) [] readers.old
-        → Ran (script_of p) [] schedule.old
+        → RanWith Counted (script_of p) [] schedule.old
         → IfOk result (λ n. n ≡ counted (length (given p (reverse (left_of events))))) }
 {
     let mut args = Vec::new(alloc);
@@ -57,7 +58,7 @@ fn run_events(
 /// Appends how far the first `count` channels came.
 fn add_ends(schedule: &Schedule, count: u32, text: &mut Vec<u8>) -> Result<(), AllocError>
     requires { count ≤ 64 }
-    ensures { (plan : PlanView) (es : List Effect) → Has plan es schedule.now
+    ensures { (plan : PlanView) (es : List Effect) → HasWith Counted plan es schedule.now
         → OnOk result (text.new.items ≡ text.old.items ++ end_lines 1 count es) }
 {
     for place in 0..count {
@@ -82,7 +83,7 @@ fn summed_up(
     args: u64,
     schedule: &Schedule,
 ) -> Result<Vec<u8>, AllocError>
-    ensures { (plan : PlanView) (es : List Effect) → Has plan es schedule.now
+    ensures { (plan : PlanView) (es : List Effect) → HasWith Counted plan es schedule.now
         → IfOk result (λ text. text.items ≡ summary seed packets args es) }
 {
     let mut text = head_text(alloc, seed, packets, args)?;
@@ -102,11 +103,11 @@ fn finished(
 ) -> Result<Pieces, Refusal>
     requires { IsRun plan.now }
     ensures ok { plan_of plan.now ≡ script_of session
-        → Ran (script_of session) (work_given seed packets) schedule.old
+        → RanWith Counted (script_of session) (work_given seed packets) schedule.old
         → args ≡ counted (length (work_given seed packets))
         → IfOk result (λ text. Works seed packets (Ok text)) }
     ensures err { plan_of plan.now ≡ script_of session
-        → Ran (script_of session) (work_given seed packets) schedule.old
+        → RanWith Counted (script_of session) (work_given seed packets) schedule.old
         → args ≡ counted (length (work_given seed packets))
         → IfErr result (RefusesSo (λ r. Works seed packets (Err r))) }
 {
@@ -129,7 +130,7 @@ pub(crate) fn work_text(alloc: Global, seed: u32, packets: u32) -> Result<Pieces
     let (session, events) = make(alloc, seed, packets, FINGERS)?;
     let mut readers = readers_of(alloc, &session)?;
     let planned = plan_run(alloc, session)?;
-    let mut schedule = Schedule::new(alloc, &planned.plan)?;
+    let mut schedule = Schedule::new(alloc, &planned.plan, Lines::Counted)?;
     let args = run_events(alloc, events, &mut readers, &mut schedule, &planned.plan)?;
     finished(alloc, seed, packets, args, &planned.plan, &mut schedule)
 }

@@ -6,9 +6,13 @@ use crate::texts::{
     TIMELESS, TIMELESS_MOUSE, TWO_DOWNS, TWO_FINGERS,
 };
 use std::io;
+use std::sync::Wait;
+use std::thread::Threads;
 
 /// The words of commands.
 const REPLAY: &str = "replay --session session --events events";
+
+const RACE: &str = "race --session session --events events";
 
 const CHECK: &str = "check --session session --events events --order order";
 
@@ -53,24 +57,28 @@ fn stopped<'a>(name: &'a str, words: &'a str, files: Files<'a>) -> Case<'a> {
 }
 
 /// Adds these cases.
-fn add_each(text: &mut Vec<u8>, cases: &[Case]) -> io::Result<()> {
+fn add_each<R: Threads + Wait + Sync>(
+    rt: &R,
+    text: &mut Vec<u8>,
+    cases: &[Case],
+) -> io::Result<()> {
     for case in cases {
-        add_case(text, case)?;
+        add_case(rt, text, case)?;
     }
     Ok(())
 }
 
 /// Adds a tap, by reads of any length, and what stands behind it.
-fn add_taps(text: &mut Vec<u8>) -> io::Result<()> {
+fn add_taps<R: Threads + Wait + Sync>(rt: &R, text: &mut Vec<u8>) -> io::Result<()> {
     let tap = told(
         "a tap",
         REPLAY,
         &[("session", &[SESSION, STEP]), ("events", &[TAP, "\r\n"])],
     );
-    add_case(text, &tap)?;
-    add_pieces(text, &tap, 1)?;
-    add_pieces(text, &tap, 7)?;
-    add_pieces(text, &tap, 65536)?;
+    add_case(rt, text, &tap)?;
+    add_pieces(rt, text, &tap, 1)?;
+    add_pieces(rt, text, &tap, 7)?;
+    add_pieces(rt, text, &tap, 65536)?;
     let cases = [
         told(
             "no last newline",
@@ -83,11 +91,11 @@ fn add_taps(text: &mut Vec<u8>) -> io::Result<()> {
             &[("session", &[SESSION, STEP]), ("events", &[TAP, FINGER])],
         ),
     ];
-    add_each(text, &cases)
+    add_each(rt, text, &cases)
 }
 
 /// Adds replays without an event, and those that come to no text.
-fn add_nothing(text: &mut Vec<u8>) -> io::Result<()> {
+fn add_nothing<R: Threads + Wait + Sync>(rt: &R, text: &mut Vec<u8>) -> io::Result<()> {
     let cases = [
         told(
             "nothing recorded",
@@ -100,6 +108,11 @@ fn add_nothing(text: &mut Vec<u8>) -> io::Result<()> {
             REPLAY,
             &[("session", &[SESSION]), ("events", &[TIMELESS])],
         ),
+        refused(
+            "a race without a moment",
+            RACE,
+            &[("session", &[SESSION]), ("events", &[TIMELESS])],
+        ),
         stopped("no recording", REPLAY, &[("session", &[SESSION])]),
         stopped("no session", REPLAY, &[("events", &[])]),
         stopped(
@@ -108,11 +121,11 @@ fn add_nothing(text: &mut Vec<u8>) -> io::Result<()> {
             &[("session", &[SESSION])],
         ),
     ];
-    add_each(text, &cases)
+    add_each(rt, text, &cases)
 }
 
 /// Adds commands on a stream file.
-fn add_streams(text: &mut Vec<u8>) -> io::Result<()> {
+fn add_streams<R: Threads + Wait + Sync>(rt: &R, text: &mut Vec<u8>) -> io::Result<()> {
     let cases = [
         told("two fingers judged", VERIFY, &[("stream", &[TWO_FINGERS])]),
         refused("two downs judged", VERIFY, &[("stream", &[TWO_DOWNS])]),
@@ -125,11 +138,11 @@ fn add_streams(text: &mut Vec<u8>) -> io::Result<()> {
             &[("stream", &[REPLACED])],
         ),
     ];
-    add_each(text, &cases)
+    add_each(rt, text, &cases)
 }
 
 /// Adds runs of an order, of a number, and of a mouse.
-fn add_runs(text: &mut Vec<u8>) -> io::Result<()> {
+fn add_runs<R: Threads + Wait + Sync>(rt: &R, text: &mut Vec<u8>) -> io::Result<()> {
     let cases = [
         told(
             "an order",
@@ -161,13 +174,13 @@ fn add_runs(text: &mut Vec<u8>) -> io::Result<()> {
             &[("session", &[HALVES]), ("events", &[TIMELESS_MOUSE])],
         ),
     ];
-    add_each(text, &cases)
+    add_each(rt, text, &cases)
 }
 
 /// Adds all cases.
-pub(crate) fn add_all(text: &mut Vec<u8>) -> io::Result<()> {
-    add_taps(text)?;
-    add_nothing(text)?;
-    add_streams(text)?;
-    add_runs(text)
+pub(crate) fn add_all<R: Threads + Wait + Sync>(rt: &R, text: &mut Vec<u8>) -> io::Result<()> {
+    add_taps(rt, text)?;
+    add_nothing(rt, text)?;
+    add_streams(rt, text)?;
+    add_runs(rt, text)
 }

@@ -4,6 +4,8 @@ ghost use Rattle.std.specs.Prelude.{◌<◌};
 use crate::runs::{Call, Case, Fault, Ran, run_case};
 use std::alloc::AllocError;
 use std::io;
+use std::sync::Wait;
+use std::thread::Threads;
 
 /// The most bytes that a read gives.
 const GIVEN: usize = 128;
@@ -63,14 +65,20 @@ fn add_ran(text: &mut Vec<u8>, name: &str, ran: &Ran) -> Result<(), AllocError> 
 }
 
 /// Makes each call of a kind fail in turn, and adds how many there were, or the first run that came to something else.
-fn fail_in_turn(text: &mut Vec<u8>, case: &Case, whole: &Ran, call: Call) -> io::Result<()> {
+fn fail_in_turn<R: Threads + Wait + Sync>(
+    rt: &R,
+    text: &mut Vec<u8>,
+    case: &Case,
+    whole: &Ran,
+    call: Call,
+) -> io::Result<()> {
     let alloc = *text.allocator();
     for before in 0..MOST {
         let fault = Fault {
             call,
             number: before + 1,
         };
-        let ran = run_case(alloc, case, GIVEN, Some(fault))?;
+        let ran = run_case(rt, alloc, case, GIVEN, Some(fault))?;
         if ran == *whole {
             let line = format!(in alloc;
                 "{}: {before} {} failed in turn",
@@ -91,22 +99,31 @@ fn fail_in_turn(text: &mut Vec<u8>, case: &Case, whole: &Ran, call: Call) -> io:
 }
 
 /// Adds what a case comes to, and what it comes to where the calls of its kinds fail in turn.
-pub(crate) fn add_case(text: &mut Vec<u8>, case: &Case) -> io::Result<()> {
-    let whole = run_case(*text.allocator(), case, GIVEN, None)?;
+pub(crate) fn add_case<R: Threads + Wait + Sync>(
+    rt: &R,
+    text: &mut Vec<u8>,
+    case: &Case,
+) -> io::Result<()> {
+    let whole = run_case(rt, *text.allocator(), case, GIVEN, None)?;
     add_ran(text, case.name, &whole)?;
     for call in case.failing {
-        fail_in_turn(text, case, &whole, *call)?;
+        fail_in_turn(rt, text, case, &whole, *call)?;
     }
     Ok(())
 }
 
 /// Adds whether a case comes to the same by reads of at most `piece` bytes.
-pub(crate) fn add_pieces(text: &mut Vec<u8>, case: &Case, piece: usize) -> io::Result<()>
+pub(crate) fn add_pieces<R: Threads + Wait + Sync>(
+    rt: &R,
+    text: &mut Vec<u8>,
+    case: &Case,
+    piece: usize,
+) -> io::Result<()>
     requires { 0 < piece }
 {
     let alloc = *text.allocator();
-    let whole = run_case(alloc, case, GIVEN, None)?;
-    let ran = run_case(alloc, case, piece, None)?;
+    let whole = run_case(rt, alloc, case, GIVEN, None)?;
+    let ran = run_case(rt, alloc, case, piece, None)?;
     let same = if ran == whole {
         "the same"
     } else {

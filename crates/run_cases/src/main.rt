@@ -21,6 +21,6 @@ use std::io;
 
 fn main(rt: HostRuntime) -> io::Result<()> {
     let mut text = Vec::new(rt.alloc());
-    cases::add_all(&mut text)?;
+    cases::add_all(&rt, &mut text)?;
     rt.stdout().write_all(&text)
 }

@@ -2,9 +2,12 @@
 ghost use Rattle.std.specs.Prelude.{◌<◌};
 
 use outside_io::{MemFiles, MemSink, names_differ};
+use replay_engine::NoGate;
 use std::alloc::{AllocError, Global};
 use std::io;
 use std::io::ErrorKind;
+use std::sync::Wait;
+use std::thread::Threads;
 
 /// The most bytes that a write takes.
 const TAKEN: usize = 8;
@@ -91,7 +94,8 @@ fn listed(alloc: Global, fault: Option<Fault>, call: Call) -> Result<Vec<u64>, A
 }
 
 /// Runs the program where a read gives at most `piece` bytes.
-pub(crate) fn run_case(
+pub(crate) fn run_case<R: Threads + Wait + Sync>(
+    rt: &R,
     alloc: Global,
     case: &Case,
     piece: usize,
@@ -115,7 +119,7 @@ pub(crate) fn run_case(
         TAKEN,
         listed(alloc, fault, Call::Tell)?,
     );
-    let status = replay_engine::run(alloc, &words, &mut files, &mut out, &mut err);
+    let status = replay_engine::run(rt, alloc, &words, &mut files, &mut out, &mut err, &NoGate);
     Ok(Ran {
         status,
         out: Vec::from_slice(alloc, out.taken())?,

@@ -6,7 +6,8 @@ use Rattle.dispatch_history.specs.Plan.{Plan}
 use Rattle.given_run.specs.declared.fault.Fault.{Fault}
 use Rattle.given_run.specs.declared.fault.Fault.TheVariants.{NoStep}
 use Rattle.given_run.specs.Following.{Follows}
-use Rattle.given_run.specs.Planned.{cooked_of, line_of, whole_plan}
+use Rattle.given_run.specs.Planned.{cooked_of, whole_plan}
+use Rattle.stream_text.specs.OrderAsks.{line_of}
 use Rattle.session_plan.specs.declared.plan.ChannelPlan.{ChannelPlan}
 use Rattle.session_plan.specs.DeviceDisplays.{device_displays}
 use Rattle.session_plan.specs.Plan.{ChannelData}

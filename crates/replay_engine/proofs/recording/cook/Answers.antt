@@ -2,6 +2,7 @@
 use Rattle.std.proofs.Common.{◌≡◌, List, ◌++◌, ap, sym, subst, take, take_all, reverse}
 use Rattle.raw_events.specs.declared.event.RawEvent.{RawEvent}
 use Rattle.device_reader.specs.CookedList.{ReadersStandFor}
+use Rattle.schedule.specs.declared.keeping.Lines.TheVariants.{Kept}
 use Rattle.schedule.specs.State.{Ran}
 use Rattle.replay_engine.specs.Cooked.{plans_of}
 use Rattle.replay_engine.specs.Planned.{given, script_of}
@@ -13,7 +14,7 @@ loop-event-preserved c = λ p past run stand ran.
     let before = c.loop-event.invariant p past run stand ran
     in let so_far = reverse (take c.loop-event.event-index c.args.events.now) ++ past
     in let newest = ap (λ (es : List RawEvent). es ++ past) (newest_of_take c.args.events.now c.loop-event.event-index c.event-item.result c.loop-event-test.true c.event-item.is)
-    in let after = c.in_ok-cook_one.ensures.ran p so_far run before.0 before.1
+    in let after = c.in_ok-cook_one.ensures.ran Kept p so_far run before.0 before.1
     in (
       subst (λ (es : List RawEvent). ReadersStandFor (plans_of p) es c.cook_one.new.readers) (sym newest) after.0,
       subst (λ (es : List RawEvent). Ran (script_of p) (given p es) c.cook_one.new.schedule) (sym newest) after.1,

@@ -1,6 +1,7 @@
 -- The sections, and then the namings.
 use Rattle.std.proofs.Common.{◌≡◌, ◌∙◌, ◌++◌, ℕ, List, ap, map}
 use Rattle.dispatch_history.specs.Due.{namings}
+use Rattle.schedule.specs.declared.keeping.Lines.TheVariants.{Kept}
 use Rattle.session_plan.specs.View.{channel_view}
 use Rattle.stream_text.specs.StreamsHistory.{naming_lines, sections_of}
 use Rattle.replay_engine.proofs.texts.text_of.Goals as goal
@@ -11,7 +12,7 @@ returns c = λ plan es has opened many.
     let lines : c.add_all_namings.new.text.items ≡ naming_lines (namings es) =
     c.in_ok-add_all_namings.ensures.ok
     ∙ ap (λ (xs : List ℕ). xs ++ naming_lines c.namings.result.now) c.new-namings.ensures.items
-    ∙ ap naming_lines (c.namings.ensures plan es has) in
+    ∙ ap naming_lines (c.namings.ensures Kept plan es has) in
     c.in_ok-push.ensures.ok
     ∙ ap (λ (xs : List ℕ). c.add_sections.new.text ++ xs) lines
     ∙ ap (λ (xs : List ℕ). xs ++ naming_lines (namings es))

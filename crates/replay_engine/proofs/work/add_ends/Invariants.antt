@@ -1,11 +1,12 @@
 use Rattle.std.proofs.Common.{◌≡◌, ◌+◌, ◌-◌, ◌++◌, List}
 use Rattle.dispatch_history.specs.Effect.{Effect}
 use Rattle.dispatch_history.specs.Plan.{Plan}
-use Rattle.schedule.specs.State.{Has}
+use Rattle.schedule.specs.declared.keeping.Lines.TheVariants.{Counted}
+use Rattle.schedule.specs.State.{HasWith}
 use Rattle.replay_engine.specs.Worked.{end_lines}
 use Rattle.replay_engine.proofs.work.add_ends.Given as goal
 
 -- the lines so far, and then those that are left, are all
 abbrev pub invariant-loop-place : goal.invariant-loop-place
-invariant-loop-place l = (plan : Plan) (es : List Effect) → Has plan es l.schedule
+invariant-loop-place l = (plan : Plan) (es : List Effect) → HasWith Counted plan es l.schedule
     → l.text.items ++ end_lines (l.place + 1) (l.count - l.place) es ≡ l.initial.text.items ++ end_lines 1 l.count es

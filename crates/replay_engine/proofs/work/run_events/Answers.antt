@@ -2,7 +2,8 @@
 use Rattle.std.proofs.Common.{◌≡◌, ◌∙◌, List, [], ◌∷◌, ◌++◌, ap, sym, subst, reverse, arith}
 use Rattle.std.proofs.lemmas.List.{append-nil, append_assoc, reverse-append, reverse-reverse}
 use Rattle.raw_events.specs.declared.event.RawEvent.{RawEvent}
-use Rattle.schedule.specs.State.{Ran}
+use Rattle.schedule.specs.declared.keeping.Lines.TheVariants.{Counted}
+use Rattle.schedule.specs.State.{RanWith}
 use Rattle.workload_maker.specs.Making.{left_of}
 use Rattle.replay_engine.specs.Planned.{given, script_of}
 use Rattle.replay_engine.proofs.work.run_events.Goals as goal
@@ -20,7 +21,7 @@ loop-event-preserved c =
           ∙ h.all;
       runs = λ p run stand ran.
           let before = h.runs p run stand ran in
-          let after = c.in_ok-cook_one.ensures.ran p h.past run before.0 before.1 in
+          let after = c.in_ok-cook_one.ensures.ran Counted p h.past run before.0 before.1 in
           let count = c.in_ok-cook_one.ensures.count p h.past before.0 in
           (after.0, after.1, omega (arith, c.saturating_add-count.ensures, c.len.ensures, count, before.2));
     }
@@ -30,4 +31,4 @@ returns-clause-ran c = λ p run stand ran.
     let h = c.loop-event.invariant in
     let past : h.past ≡ reverse (left_of c.args.events) =
     sym (reverse-reverse h.past) ∙ ap reverse (sym (append-nil (reverse h.past)) ∙ ap (λ (es : List RawEvent). reverse h.past ++ es) (sym c.in-None.ensures.steps.0) ∙ h.all) in
-    subst (λ (es : List RawEvent). Ran (script_of p) (given p es) c.loop-event.schedule) past (h.runs p run stand ran).1
+    subst (λ (es : List RawEvent). RanWith Counted (script_of p) (given p es) c.loop-event.schedule) past (h.runs p run stand ran).1

@@ -3,6 +3,7 @@ use Rattle.std.proofs.Common.{◌∙◌, ◌++◌, ℕ, List, ap}
 use Rattle.std.proofs.lemmas.List.{append_assoc}
 use Rattle.dispatch_calls.specs.declared.counts.Naming.{Naming}
 use Rattle.dispatch_history.specs.Due.{namings}
+use Rattle.schedule.specs.declared.keeping.Lines.TheVariants.{Counted}
 use Rattle.stream_text.specs.StreamsHistory.{naming_lines}
 use Rattle.replay_engine.specs.Worked.{end_lines, head}
 use Rattle.replay_engine.proofs.work.summed_up.Goals as goal
@@ -12,6 +13,6 @@ returns c = λ plan es has.
     let names = naming_lines (namings es) in
     let ends = end_lines 1 5 es in
     c.in_ok-add_all_namings.ensures.ok
-    ∙ ap (λ (ns : List Naming). c.add_ends.new.text.items ++ naming_lines ns) (c.namings.ensures plan es has)
+    ∙ ap (λ (ns : List Naming). c.add_ends.new.text.items ++ naming_lines ns) (c.namings.ensures Counted plan es has)
     ∙ ap (λ (xs : List ℕ). xs ++ names) (c.in_ok-add_ends.ensures plan es has ∙ ap (λ (xs : List ℕ). xs ++ ends) c.in_ok-text.ensures)
     ∙ append_assoc (head c.args.seed c.args.packets c.args.args) ends names

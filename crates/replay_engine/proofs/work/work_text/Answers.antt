@@ -3,8 +3,9 @@ use Rattle.std.proofs.Common.{◌≡◌, ◌∙◌, List, [], ap, subst, reverse
 use Rattle.raw_events.specs.declared.event.RawEvent.{RawEvent}
 use Rattle.dispatch_history.specs.Plan.{Plan}
 use Rattle.device_reader.specs.CookedList.{ReadersStandFor}
+use Rattle.schedule.specs.declared.keeping.Lines.TheVariants.{Counted}
 use Rattle.schedule.specs.Planned.{plan_of}
-use Rattle.schedule.specs.State.{Ran, counted}
+use Rattle.schedule.specs.State.{RanWith, counted}
 use Rattle.session_plan.specs.Plan.{PlanData}
 use Rattle.workload_maker.specs.Session.{session}
 use Rattle.replay_engine.specs.Cooked.{plans_of}
@@ -17,9 +18,9 @@ returns c =
     let run : plan_of c.in_ok-planned.planned.plan ≡ script_of session = c.in_ok-planned.ensures.script ∙ ap script_of same in
     let stand : ReadersStandFor (plans_of session) [] c.in_ok-readers.readers =
     subst (λ (p : PlanData). ReadersStandFor (plans_of p) [] c.in_ok-readers.readers) same c.in_ok-readers.ensures in
-    let ran : Ran (script_of session) [] c.in_ok-schedule.schedule =
-    subst (λ (r : Plan). Ran r [] c.in_ok-schedule.schedule) run c.in_ok-schedule.ensures in
-    let after = subst (λ (es : List RawEvent). Ran (script_of session) (given session (reverse es)) c.run_events.new.schedule) c.in_ok-session.ensures.events
+    let ran : RanWith Counted (script_of session) [] c.in_ok-schedule.schedule =
+    subst (λ (r : Plan). RanWith Counted r [] c.in_ok-schedule.schedule) run c.in_ok-schedule.ensures in
+    let after = subst (λ (es : List RawEvent). RanWith Counted (script_of session) (given session (reverse es)) c.run_events.new.schedule) c.in_ok-session.ensures.events
     (c.in_ok-args.ensures.ran session run stand ran) in
     let count = subst (λ (es : List RawEvent). c.in_ok-args.args ≡ counted (length (given session (reverse es)))) c.in_ok-session.ensures.events
     (c.in_ok-args.ensures.count session run stand ran) in

@@ -2,6 +2,7 @@
 use Rattle.std.proofs.Common.{List, Ok, subst, sym}
 use Rattle.raw_events.specs.declared.event.RawEvent.{RawEvent}
 use Rattle.raw_events.specs.Pieces.{Does, finished}
+use Rattle.schedule.specs.declared.keeping.Lines.TheVariants.{Kept}
 use Rattle.replay_engine.specs.Recorded.{HasTaken, RecordingState}
 use Rattle.replay_engine.proofs.NextPiece.{ended_run, end_refuses}
 use Rattle.replay_engine.proofs.recording.Recording.end.Goals as goal
@@ -14,7 +15,7 @@ returns-in_ok-finish-in-Ok-clause-ok c = λ p bytes run taken.
     (subst (λ (xs : List RawEvent). Does (Ok tt) (finished c.self.inside.reader) c.self.inside.reader c.finish.new.self xs c.finish.new.out.items) c.clear.ensures.items c.in-Ok.ensures)
     c.deref.ensures.value
     (λ past stand ran. (c.in_ok-cook-in-Ok.ensures p past run stand ran).1)
-    c.in_ok-finish-in-Ok.ensures.completed
+    (c.in_ok-finish-in-Ok.ensures.completed Kept)
 
 pub returns-in-Err : goal.returns-in-Err
 returns-in-Err c = record {

@@ -1,0 +1,139 @@
+//! `race`: the run of a session by threads, in the order that they take.
+ghost use Rattle.std.specs.Prelude.{◌≡◌, ◌+◌, ◌≤◌, ℕ, true, List, Ok, Err, length, map, reverse, IfOk, IfErr};
+ghost use Rattle.raw_events.specs.declared.event.RawEvent.{RawEvent as Event};
+ghost use Rattle.window_snapshot.specs.Mask.{mask_has};
+ghost use Rattle.given_run.specs.Planned.{cooked_of, whole_plan};
+ghost use Rattle.schedule.specs.Planned.{IsRun, channel_of};
+ghost use Rattle.session_plan.specs.Plan.{PlanData};
+ghost use Rattle.session_plan.specs.Valid.{IsPlan};
+ghost use Rattle.session_plan.specs.View.{plan_view};
+ghost use Rattle.replay_engine.specs.Begun.{IsPlanned};
+ghost use Rattle.replay_engine.specs.Planned.{given};
+ghost use Rattle.replay_engine.specs.Races.{RaceAnswers, Races, finishes_from};
+ghost use Rattle.replay_engine.specs.RaceEnds.{DoPlan, EndsRace};
+ghost use Rattle.replay_engine.specs.Refusing.{RefusesSo};
+
+use crate::begun::{Planned, plan_run};
+use crate::cooking::readers_of;
+use crate::order::{GIVEN_LIMIT, cooked_list};
+use crate::statuses::{Refusal, Subject};
+use dispatch_core::Core;
+use given_run::Cooked;
+use input_service::Service;
+use input_types::{Args, Moment};
+use race_text::race_text;
+use raw_events::RawEvent;
+use replay_actors::{Gate, Lanes, RaceEnd, open_channels, run_lanes};
+use schedule::{Channel, Plan};
+use script_lanes::scripts_of;
+use session_plan::Plan as Session;
+use std::alloc::{AllocError, Global};
+use std::sync::Wait;
+use std::thread::Threads;
+use text_pieces::Pieces;
+use window_snapshot::mask_with;
+
+/// The channels whose owners finish what they are given, as a mask, where the first channel has this number.
+#[tactic(auto, using(crate::proofs::Finishing::finishing_without))]
+fn finishing(number: u32, channels: &[Channel]) -> u64
+    requires { (1 ≤ number) × (number + length channels.now ≤ 65) }
+    ensures { (c : ℕ) → finishes_from number (map channel_of channels.now) c ≡ true → mask_has result c ≡ true }
+{
+    match channels {
+        [first, rest @ ..] => {
+            let mask = finishing(number + 1, rest);
+            if first.finishes {
+                mask_with(mask, number)
+            } else {
+                mask
+            }
+        }
+        [] => 0,
+    }
+}
+
+/// The args with their moments, as pairs.
+fn pairs(alloc: Global, all: Vec<Cooked>) -> Result<Vec<(Moment, Args)>, AllocError>
+    ensures { IfOk result (λ v. v.items ≡ map (λ a. (a.moment, a.args)) all.items) }
+{
+    let mut given = Vec::new(alloc);
+    for cooked in all {
+        given.push((cooked.moment, cooked.args))?;
+    }
+    Ok(given)
+}
+
+/// What the threads of a race are to do.
+fn lanes_of(alloc: Global, plan: Plan, all: Vec<Cooked>) -> Result<Lanes, AllocError>
+    requires { IsRun plan }
+    ensures { IfOk result (DoPlan (whole_plan plan all.items)) }
+{
+    let finishing = finishing(1, &plan.channels);
+    Ok(Lanes {
+        cooked: pairs(alloc, all)?,
+        scripts: scripts_of(alloc, plan.steps)?,
+        channels: plan.channels.len() as u32,
+        finishing,
+    })
+}
+
+/// Runs the threads of a race over a core of its own.
+fn raced<R: Threads + Wait + Sync, G: Gate + Sync>(
+    rt: &R,
+    alloc: Global,
+    plan: Plan,
+    all: Vec<Cooked>,
+    gate: &G,
+) -> Result<RaceEnd, AllocError>
+    requires { IsRun plan }
+    ensures { IfOk result (EndsRace (whole_plan plan all.items)) }
+{
+    let core = Core::new(alloc, &plan.displays)?;
+    let (service, mut seat) = Service::new(alloc, core)?;
+    open_channels(rt, &service, &mut seat, &plan.channels)?;
+    let lanes = lanes_of(alloc, plan, all)?;
+    run_lanes(rt, alloc, service, seat, lanes, gate)
+}
+
+/// Runs a race, and makes the text of its order and of what it comes to.
+fn race_run<R: Threads + Wait + Sync, G: Gate + Sync>(
+    rt: &R,
+    alloc: Global,
+    planned: Planned,
+    all: Vec<Cooked>,
+    gate: &G,
+) -> Result<Pieces, Refusal>
+    requires run { IsRun planned.plan }
+    requires few { length planned.channels.items ≤ 64 }
+    ensures ok { (p : PlanData) (past : List Event) → IsPlanned p planned → map cooked_of all.items ≡ given p past
+        → IfOk result (λ text. Races p past (Ok text)) }
+    ensures err { (p : PlanData) (past : List Event) → IsPlanned p planned → map cooked_of all.items ≡ given p past
+        → IfErr result (RefusesSo (λ r. Races p past (Err r))) }
+{
+    if all.len() > GIVEN_LIMIT {
+        return Err(Refusal::TooLong(Subject::Run));
+    }
+    let Planned { channels, plan } = planned;
+    let end = raced(rt, alloc, plan, all, gate)?;
+    let mut text = Vec::new(alloc);
+    race_text(&channels, &end.core, &end.script_seats, &mut text)?;
+    Ok(Pieces::of(alloc, text))
+}
+
+/// The text of a race of a session and the events of a recording, or why there is none.
+pub(crate) fn race_of<R: Threads + Wait + Sync, G: Gate + Sync>(
+    rt: &R,
+    alloc: Global,
+    session: Session,
+    events: &[RawEvent],
+    gate: &G,
+) -> Result<Pieces, Refusal>
+    requires { IsPlan session }
+    ensures ok { IfOk result (λ text. RaceAnswers (plan_view session) events.now (Ok text)) }
+    ensures err { IfErr result (RefusesSo (λ r. RaceAnswers (plan_view session) events.now (Err r))) }
+{
+    let mut readers = readers_of(alloc, &session)?;
+    let all = cooked_list(alloc, events, &mut readers)?;
+    let planned = plan_run(alloc, session)?;
+    race_run(rt, alloc, planned, all, gate)
+}
