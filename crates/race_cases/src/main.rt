@@ -1,19 +1,20 @@
 //! Races whose lanes a gate holds at a turn. What is printed does not depend on how the threads are scheduled.
 //!
 //! That two lanes meet shows that they run beside each other; that one lane is ahead where the other is held shows that
-//! the history is in the order in which the threads made their calls.
+//! the history is in the order in which the threads made their calls. Args that come when the dispatcher is about to
+//! end are pumped all the same.
 #![tactic(auto)]
 
 mod gates;
 mod made;
 
-use dispatch_calls::Call;
+use dispatch_calls::{Call, Reply};
 use dispatch_core::Core;
-use gates::{Flag, Meeting, Place, Until};
+use gates::{Arrivals, Flag, Meeting, Place, Until};
 use input_service::Service;
 use input_types::Displays;
 use made::{channel, cooked, scripts};
-use replay_actors::{Gate, Lanes, NoGate, RaceEnd, open_channels, run_lanes};
+use replay_actors::{Gate, Lanes, RaceEnd, open_channels, run_lanes};
 use std::alloc::Global;
 use std::io;
 use std::sync::Wait;
@@ -49,6 +50,20 @@ fn args_before_windows(core: &Core) -> u64 {
         }
     }
     count
+}
+
+/// How many args were handed in, and how many pumps dispatched some.
+fn args_and_pumps(core: &Core) -> (u64, u64) {
+    let (mut args, mut pumps) = (0u64, 0u64);
+    for entry in core.history() {
+        if matches!(entry.call, Call::Notify { .. }) {
+            args = args.saturating_add(1);
+        }
+        if matches!(entry.reply, Reply::Dispatched) {
+            pumps = pumps.saturating_add(1);
+        }
+    }
+    (args, pumps)
 }
 
 /// Prints how far the channels have come.
@@ -105,11 +120,50 @@ fn script_first<R: Threads + Wait + Print + Sync>(rt: &R, alloc: Global) -> io::
     print_counts(rt, &end.core)
 }
 
+/// The reader is held at its last call until the dispatcher has come 16,384 times, and so is nearly at its end. The
+/// last args are pumped all the same: where the dispatcher has ended, by the caller. A wait that gave up is no fault.
+fn reader_last<R: Threads + Wait + Print + Sync>(rt: &R, alloc: Global) -> io::Result<()> {
+    let gate = Until {
+        held: Place { lane: 0, turn: 2 },
+        awaited: Place {
+            lane: 1,
+            turn: 16_383,
+        },
+        flag: Flag::new(),
+    };
+    let end = race(rt, alloc, &gate)?;
+    let (args, pumps) = args_and_pumps(&end.core);
+    println!(rt; "the reader comes last: args {args}, pumped {pumps}")
+}
+
+/// How many calls the seats 1 to 5 have made.
+fn calls_made(core: &Core) -> [u64; 5] {
+    let mut made = [0u64; 5];
+    for entry in core.history() {
+        let seat = entry.seat as usize;
+        if 1 <= seat && seat <= 5 {
+            made[seat - 1] = made[seat - 1].saturating_add(1);
+        }
+    }
+    made
+}
+
+/// Each lane arrives before each of its calls, at turns that are counted from 0.
+fn all_arrive<R: Threads + Wait + Print + Sync>(rt: &R, alloc: Global) -> io::Result<()> {
+    let gate = Arrivals::new();
+    let end = race(rt, alloc, &gate)?;
+    println!(rt; "one seat for the script: {:?}", end.script_seats)?;
+    println!(rt;
+        "each lane arrives before each of its calls: {}",
+        gate.counted() == Some(calls_made(&end.core))
+    )
+}
+
 fn main(rt: HostRuntime) -> io::Result<()> {
     let alloc = rt.alloc();
     meeting(&rt, alloc)?;
     reader_first(&rt, alloc)?;
     script_first(&rt, alloc)?;
-    let end = race(&rt, alloc, &NoGate)?;
-    println!(&rt; "one seat for the script: {:?}", end.script_seats)
+    reader_last(&rt, alloc)?;
+    all_arrive(&rt, alloc)
 }
