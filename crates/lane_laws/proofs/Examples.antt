@@ -20,7 +20,7 @@ use Rattle.turnstile.specs.History.{calls_by}
 use Rattle.lane_laws.specs.Counting.{ticks, moves, idles}
 use Rattle.lane_laws.specs.Finishing.{given as given_to, asked, AreOrderly}
 use Rattle.lane_laws.specs.Lanes.{pumping, pumps, strays, taking, takes, owes, strays_off}
-use Rattle.lane_laws.specs.Orders.{line_of}
+use Rattle.stream_text.specs.OrderAsks.{line_of}
 use Rattle.lane_laws.specs.Race.{calls_of_seat, notified_in}
 use Rattle.lane_laws.specs.Settling.{settling, takes_from, looks, strays as astray}
 

@@ -3,28 +3,9 @@ use Rattle.std.proofs.Common.{◌≡◌, ℕ, ◌+◌, ◌==◌, true, false, co
 use Rattle.std.specs.Prelude.{Result, Ok, Err}
 use Rattle.std.proofs.lemmas.Bool.{eqb-true, ne_eqb}
 use Rattle.dispatch_calls.specs.declared.call.Call.{Call}
-use Rattle.dispatch_calls.specs.declared.call.Call.TheVariants as calls
-use Rattle.dispatch_history.specs.Given.{line_calls, then_rest, next_args, next_of_lane, without_first, without_next}
-use Rattle.dispatch_history.specs.Plan.{Cooked, ScriptStep, Line, ReaderLine, ScriptLine, PumpLine, TickLine, ReceiveLine, FinishLine}
-use Rattle.lane_laws.specs.Orders.{calls_of_lane}
-
--- the call of a line, where these args and steps are left
-abbrev pub call_of : Line → List Cooked → List ScriptStep → Option Call
-call_of ReaderLine cs ss = next_args cs
-call_of (ScriptLine l) cs ss = next_of_lane l ss
-call_of PumpLine cs ss = Some (calls.Pump 0)
-call_of TickLine cs ss = Some (calls.Tick 0)
-call_of (ReceiveLine c) cs ss = Some (calls.Receive c)
-call_of (FinishLine c seq) cs ss = Some (calls.Finish 0 c seq)
-
--- the args and the steps that are left after a line
-abbrev pub args_after : Line → List Cooked → List Cooked
-args_after ReaderLine cs = without_first cs
-args_after line cs = cs
-
-abbrev pub steps_after : Line → List ScriptStep → List ScriptStep
-steps_after (ScriptLine l) ss = without_next l ss
-steps_after line ss = ss
+use Rattle.dispatch_history.specs.Given.{line_calls, then_rest, next_of_lane, without_next, calls_of_lane, call_of, args_after, steps_after}
+use Rattle.dispatch_history.specs.Plan.{Cooked, ScriptStep, Line}
+use Rattle.dispatch_history.proofs.GivenLines.{line_then}
 
 -- and after some lines
 abbrev pub args_left : List Line → List Cooked → List Cooked
@@ -34,15 +15,6 @@ args_left (l ∷ ls) cs = args_left ls (args_after l cs)
 abbrev pub steps_left : List Line → List ScriptStep → List ScriptStep
 steps_left [] ss = ss
 steps_left (l ∷ ls) ss = steps_left ls (steps_after l ss)
-
-line_then : (n : ℕ) (cs : List Cooked) (ss : List ScriptStep) (line : Line) (lines : List Line)
-    → line_calls n cs ss (line ∷ lines) ≡ then_rest (call_of line cs ss) n (line_calls (n + 1) (args_after line cs) (steps_after line ss) lines)
-line_then n cs ss ReaderLine lines = refl
-line_then n cs ss (ScriptLine l) lines = refl
-line_then n cs ss PumpLine lines = refl
-line_then n cs ss TickLine lines = refl
-line_then n cs ss (ReceiveLine c) lines = refl
-line_then n cs ss (FinishLine c seq) lines = refl
 
 -- what is left after one line more
 pub args_left_more : (ls : List Line) (l : Line) (cs : List Cooked) → args_left (ls ++ l ∷ []) cs ≡ args_after l (args_left ls cs)

@@ -8,7 +8,7 @@ use Rattle.dispatch_calls.specs.declared.call.Call.{Call}
 use Rattle.dispatch_calls.specs.declared.call.Call.TheVariants as calls
 use Rattle.dispatch_calls.specs.declared.call.Entry.{Entry}
 use Rattle.dispatch_calls.specs.declared.reply.Reply.{Reply}
-use Rattle.dispatch_history.specs.Given.{line_calls, next_args, without_first}
+use Rattle.dispatch_history.specs.Given.{line_calls, next_args, without_first, calls_of_lane, call_of, args_after, steps_after}
 use Rattle.dispatch_history.specs.Plan.{Cooked, ScriptStep, Line, ReaderLine, ScriptLine}
 use Rattle.dispatch_core.specs.Machine.{called, steps}
 use Rattle.dispatch_core.specs.Recorded.{history_of}
@@ -16,9 +16,9 @@ use Rattle.stream_text.specs.OrderHistory.{lane_from, made_by, order_of_history}
 use Rattle.stream_text.specs.declared.order_line.OrderLine.{OrderLine}
 use Rattle.stream_text.specs.declared.order_line.OrderLine.TheVariants as words
 use Rattle.turnstile.specs.History.{Entry as Called}
-use Rattle.lane_laws.specs.Orders.{line_of, calls_of_lane}
+use Rattle.stream_text.specs.OrderAsks.{line_of}
 use Rattle.lane_laws.specs.Race.{Each, has_seat, calls_of_seat, notified_in, IsTimeless, opens, IsScripts}
-use Rattle.lane_laws.proofs.Following.{call_of, args_after, steps_after, args_left, steps_left, args_left_more, steps_left_more, one_line_more, next_is, others_are}
+use Rattle.lane_laws.proofs.Following.{args_left, steps_left, args_left_more, steps_left_more, one_line_more, next_is, others_are}
 use Rattle.lane_laws.proofs.Listing.{reverse_then}
 
 abbrev pub History : Type 0

@@ -8,7 +8,7 @@ use Rattle.dispatch_calls.specs.declared.call.Call.{Call}
 use Rattle.dispatch_calls.specs.declared.call.Call.TheVariants as calls
 use Rattle.dispatch_calls.specs.declared.reply.Reply.{Reply}
 use Rattle.dispatch_history.specs.Effects.{effects}
-use Rattle.dispatch_history.specs.Given.{given, opens as opening, after_opens, line_calls}
+use Rattle.dispatch_history.specs.Given.{given, opens as opening, after_opens, line_calls, calls_of_lane}
 use Rattle.dispatch_history.specs.Legal.{Legal, calls_of, replay}
 use Rattle.dispatch_history.specs.Ordered.{is_notified, is_scripted}
 use Rattle.dispatch_history.specs.Plan.{Plan, ChannelOf, Cooked, ScriptStep, Line}
@@ -19,7 +19,8 @@ use Rattle.stream_text.specs.OrderHistory.{lane_from, made_by, order_of_history}
 use Rattle.turnstile.specs.History.{Entry as Called, of_zero}
 use Rattle.lane_laws.specs.Lanes.{notifies}
 use Rattle.lane_laws.specs.Laws.{OrderLaw}
-use Rattle.lane_laws.specs.Orders.{line_of, calls_of_lane, AreLanes}
+use Rattle.lane_laws.specs.Orders.{AreLanes}
+use Rattle.stream_text.specs.OrderAsks.{line_of}
 use Rattle.lane_laws.specs.Race.{Each, has_seat, calls_of_seat, notified_in, IsTimeless, opens, IsScripts, ScriptsMade}
 use Rattle.lane_laws.proofs.Listing.{each_reverse, each_first, each_last, each_under, map_map}
 use Rattle.lane_laws.proofs.Orders.{History, order_in, order_same, history_same, lines, seat_lane, follows}

@@ -4,7 +4,7 @@ use Rattle.input_types.specs.declared.message.Args.{Args}
 use Rattle.dispatch_calls.specs.declared.call.Call.{Call}
 use Rattle.dispatch_calls.specs.declared.call.Entry.{Entry}
 use Rattle.dispatch_history.specs.Effects.{effects}
-use Rattle.dispatch_history.specs.Given.{given, opens}
+use Rattle.dispatch_history.specs.Given.{given, opens, calls_of_lane}
 use Rattle.dispatch_history.specs.Legal.{run, replay}
 use Rattle.dispatch_calls.specs.declared.reply.Reply.{Reply}
 use Rattle.dispatch_history.specs.Ordered.{is_scripted}
@@ -13,7 +13,8 @@ use Rattle.dispatch_core.specs.Machine.{IsLegal, called, steps}
 use Rattle.dispatch_core.specs.Recorded.{history_of}
 use Rattle.stream_text.specs.OrderHistory.{lane_from, order_of_history}
 use Rattle.lane_laws.specs.Lanes.{Own, calls_made}
-use Rattle.lane_laws.specs.Orders.{line_of, calls_of_lane, readers, steps_in, AreLanes}
+use Rattle.lane_laws.specs.Orders.{readers, steps_in, AreLanes}
+use Rattle.stream_text.specs.OrderAsks.{line_of}
 use Rattle.lane_laws.specs.Race.{Each, IsRace, seats_from}
 use Rattle.lane_laws.specs.Raced.{Raced}
 use Rattle.lane_laws.specs.Settling.{settling, takes_from}

@@ -1,23 +1,10 @@
 -- What the printed order of a race asks for.
 use Rattle.std.specs.Prelude.{◌≡◌, ℕ, suc, ◌+◌, ◌==◌, if◌then◌else◌, List, [], ◌∷◌}
 use Rattle.dispatch_calls.specs.declared.call.Call.{Call}
-use Rattle.dispatch_history.specs.Plan.{ScriptStep, Line, ReaderLine, ScriptLine, PumpLine, TickLine, ReceiveLine, FinishLine}
+use Rattle.dispatch_history.specs.Plan.{ScriptStep}
 use Rattle.stream_text.specs.declared.order_line.OrderLine.{OrderLine}
-use Rattle.stream_text.specs.declared.order_line.OrderLine.TheVariants.{Reader, Script, Pump, Tick, Receive, Finish}
-
--- what a line of an order's text asks for
-abbrev pub line_of : OrderLine → Line
-line_of Reader = ReaderLine
-line_of (Script lane) = ScriptLine lane
-line_of Pump = PumpLine
-line_of Tick = TickLine
-line_of (Receive channel) = ReceiveLine channel
-line_of (Finish channel seq) = FinishLine channel seq
-
--- the calls of the steps of a lane, in order
-abbrev pub calls_of_lane : ℕ → List ScriptStep → List Call
-calls_of_lane l [] = []
-calls_of_lane l (s ∷ ss) = if s.lane == l then s.call ∷ calls_of_lane l ss else calls_of_lane l ss
+use Rattle.stream_text.specs.declared.order_line.OrderLine.TheVariants.{Reader, Script}
+use Rattle.dispatch_history.specs.Given.{calls_of_lane}
 
 -- these are the calls of the steps of lane l, and of those behind it
 abbrev pub AreLanes : ℕ → List (List Call) → List ScriptStep → Type 0

@@ -1,7 +1,6 @@
 -- The args of a given order are taken.
 use Rattle.std.proofs.Common.{◌≡◌, ℕ, ◌+◌, ◌==◌, Bool, true, false, cond, List, [], ◌∷◌, ◌++◌, reverse, Option, Some, None, refl, sym, ap, ◌∙◌, subst, append_assoc, append-nil}
 use Rattle.std.specs.Prelude.{Result, Ok, Err}
-use Rattle.std.proofs.lemmas.List.{reverse-append}
 use Rattle.dispatch_calls.specs.declared.call.Call.{Call}
 use Rattle.dispatch_calls.specs.declared.call.Call.TheVariants.{Notify, Pump, Tick, Receive, Finish}
 use Rattle.dispatch_history.specs.Effect.{Effect, past_of}
@@ -12,6 +11,7 @@ use Rattle.dispatch_history.specs.Plan.{Plan, Cooked, ScriptStep, Line, ReaderLi
 use Rattle.run_laws.specs.Laws.{GivenTakes}
 use Rattle.run_laws.specs.Fitting.{KeepRule, HandNone, NoneRefused}
 use Rattle.run_laws.proofs.Keeping.{Keeps, next_call, nothing_yet, quiet_call, quiet_calls, quiet_opens}
+use Rattle.dispatch_history.proofs.GivenLines.{extend_run}
 
 first_then : (call : Call) (n : ℕ) (r : Result (List Call) ℕ) (calls : List Call) → then_rest (Some call) n r ≡ Ok calls
     → (rest : List Call) × (r ≡ Ok rest) × (calls ≡ call ∷ rest)
@@ -91,12 +91,6 @@ lines_keep ds (FinishLine c seq ∷ lines) n front left ss rule steps es calls k
 opened_then : (ds : List ℕ) (es : List Effect) (cs later : List Call) → extend ds es (cs ++ later) ≡ extend ds (extend ds es cs) later
 opened_then ds es [] later = refl
 opened_then ds es (c ∷ cs) later = opened_then ds (answered ds c es) cs later
-
-extend_run : (ds : List ℕ) (before calls : List Call) → extend ds (run ds before) calls ≡ run ds (reverse calls ++ before)
-extend_run ds before [] = refl
-extend_run ds before (call ∷ calls) =
-    extend_run ds (call ∷ before) calls
-    ∙ ap (run ds) (sym (ap (λ xs. xs ++ before) (reverse-append (call ∷ []) calls) ∙ append_assoc (reverse calls) (call ∷ []) before))
 
 given_by : (plan : Plan) (lines : List Line) (calls : List Call) (r : Result (List Call) ℕ) → KeepRule plan.cooked → HandNone plan.steps
     → line_calls 0 plan.cooked plan.steps lines ≡ r → after_opens plan.channels r ≡ Ok calls → NoneRefused (past_of (extend plan.displays [] calls))

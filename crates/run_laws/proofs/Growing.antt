@@ -13,10 +13,11 @@ use Rattle.dispatch_history.specs.Legal.{answered}
 use Rattle.dispatch_history.specs.Reply.{reply_to}
 use Rattle.dispatch_history.specs.Queue.{args_of, inbound}
 use Rattle.dispatch_history.specs.Plan.{Plan}
-use Rattle.dispatch_history.specs.Ordered.{Candidate, chosen, extend, receives, round, Rounds, start, next, rounds_with, rounds, ordered, Ordered}
+use Rattle.dispatch_history.specs.Ordered.{Candidate, chosen, extend, receives, round, Rounds, rounds_with, rounds, ordered, Ordered}
 use Rattle.dispatch_tables.proofs.Numbering.{length-told_on}
 use Rattle.schedule.specs.Run.{messages_in}
 use Rattle.run_laws.specs.Laws.{OneOutcome}
+use Rattle.dispatch_history.proofs.OrderedLaws.{reached, stays}
 
 opened_more : (call : Call) (answer : Reply) (n : ℕ) → n ≤ opened_after call answer n
 opened_more (Open limit) (Opened k) n = omega arith
@@ -99,20 +100,6 @@ grown_messages es fs g =
       sum_same (λ c. length (stream es c)) (λ c. length (stream fs c)) (opened (past_of es)) g.messages,
       sum_longer (λ c. length (stream fs c)) (opened (past_of es)) (opened (past_of fs) - opened (past_of es)) (opened (past_of fs)) more,
     )
-
--- after some number of rounds the function is where the relation is
-reached : (plan : Plan) (es : List Effect) → Rounds plan es → (n : ℕ) × ((m : ℕ) → ordered (n + m) plan ≡ rounds m plan es)
-reached plan es start = (0, λ m. ap (λ k. ordered k plan) (omega arith))
-reached plan es (next {es = before} {c = c} r e) =
-    let k = reached plan before r in (
-      k.0 + 1,
-      λ m. ap (λ j. ordered j plan) (omega arith) ∙ k.1 (suc m) ∙ ap (rounds_with plan (λ later. rounds m plan later) before) e,
-    )
-
--- where nothing is chosen, more rounds change nothing
-stays : (m : ℕ) (plan : Plan) (es : List Effect) → chosen plan es ≡ None → rounds m plan es ≡ es
-stays zero plan es e = refl
-stays (suc m) plan es e = ap (rounds_with plan (λ later. rounds m plan later) es) e
 
 -- the ordered run is reached from each of its parts
 ends_at : (plan : Plan) (es fs : List Effect) → Ordered plan es → Rounds plan fs → (n : ℕ) × (rounds n plan fs ≡ es)

@@ -1,0 +1,41 @@
+-- What is proved of the program's answers. Each law is a clause of a function.
+use Rattle.std.specs.Prelude.{◌≡◌, ℕ, List, reverse, Ok, Err}
+use Rattle.outside_io.specs.Outside.{Entry}
+use Rattle.raw_events.specs.declared.event.RawEvent.{RawEvent}
+use Rattle.dispatch_calls.specs.declared.call.Call.{Call}
+use Rattle.dispatch_history.specs.Effect.{Effect, past_of}
+use Rattle.dispatch_history.specs.Given.{given}
+use Rattle.dispatch_history.specs.Legal.{replay}
+use Rattle.dispatch_history.specs.Ordered.{Rounds}
+use Rattle.dispatch_history.specs.Plan.{Line}
+use Rattle.session_plan.specs.DeviceDisplays.{device_displays}
+use Rattle.session_plan.specs.Plan.{PlanData}
+use Rattle.command_words.specs.Forms.{form_of}
+use Rattle.run_laws.specs.Fitting.{NoneRefused}
+use Rattle.replay_engine.specs.Judged.{Answer}
+use Rattle.replay_engine.specs.Outcome.{IsAlone}
+use Rattle.replay_engine.specs.Planned.{run_of}
+use Rattle.replay_engine.specs.Program.{IsAnswer}
+use Rattle.replay_engine.specs.Refused.{Refused}
+
+-- No args of a session are refused in its ordered run, however far that has come, whatever the events of its recording.
+abbrev pub RunTakes : Type 0
+RunTakes = (plan : PlanData) (past : List RawEvent) (es : List Effect) → Rounds (run_of plan past) es → NoneRefused (past_of es)
+
+-- Nor are any in the run of a given order, as those that `check` follows and that `race` comes to.
+abbrev pub OrderTakes : Type 0
+OrderTakes =
+    (plan : PlanData) (past : List RawEvent) (lines : List Line) (calls : List Call)
+    → given (run_of plan past) lines ≡ Ok calls → NoneRefused (replay (device_displays plan.devices) (reverse calls))
+
+-- The words and the files have at most one answer, unless the words are those of `race`.
+abbrev pub OneAnswer : Type 0
+OneAnswer =
+    (entries : List Entry) (words : List (List ℕ)) (a b : Answer)
+    → IsAlone (form_of words) → IsAnswer entries words a → IsAnswer entries words b → b ≡ a
+
+-- Where a refusal is an answer it is the only one, also where the words are those of `race`.
+abbrev pub OneRefusal : Type 0
+OneRefusal =
+    (entries : List Entry) (words : List (List ℕ)) (r : Refused) (a : Answer)
+    → IsAnswer entries words (Err r) → IsAnswer entries words a → a ≡ Err r

@@ -1,0 +1,14 @@
+//! What is proved of the program's answers. Each function has laws as its clauses, and does nothing.
+ghost use Rattle.answer_laws.specs.Laws.{OneAnswer, OneRefusal, OrderTakes, RunTakes};
+
+/// No args of a session are refused, whatever its recording and whatever the order of its calls.
+pub fn taking()
+    ensures run { RunTakes }
+    ensures order { OrderTakes }
+{}
+
+/// The words and the files have one answer, unless the words are those of `race`; a refusal is the one answer always.
+pub fn answering()
+    ensures answer { OneAnswer }
+    ensures refusal { OneRefusal }
+{}
