@@ -2,3 +2,5 @@ pub mod Taken
 pub mod Naming
 pub mod RisingId
 pub mod Examples
+pub mod Palms
+pub mod Places

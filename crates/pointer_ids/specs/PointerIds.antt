@@ -1,6 +1,6 @@
 -- Which pointer id each finger of a packet has, and which ids are cancelled: fingers that became palms. A finger is a
 -- contact that is no palm.
-use Rattle.std.specs.Prelude.{ℕ, zero, suc, ◌+◌, Bool, not, ◌||◌, ◌&&◌, nat_eq, ℤ, List, [], ◌∷◌, ◌++◌, Option, Some, None, is_some, unwrap_or, filter, find, if◌then◌else◌}
+use Rattle.std.specs.Prelude.{ℕ, zero, suc, ◌+◌, Bool, not, ◌||◌, ◌&&◌, nat_eq, ℤ, List, [], ◌∷◌, ◌++◌, Option, Some, None, is_some, unwrap_or, filter, find, slice_get, get_or, ◌<◌, ◌≡◌, if◌then◌else◌}
 use Rattle.std.specs.List.{list_any}
 use Rattle.std.specs.Ordering.{int_eq}
 use Rattle.slot_accumulator.specs.declared.contacts.Contact.{Contact}
@@ -53,6 +53,10 @@ named_from before taken (c ∷ cs) =
 abbrev pub named : List Named → List Contact → List Named
 named before cs = named_from before (λ i. has_id i before) (fingers cs)
 
+-- a contact of the packet is a palm
+abbrev pub some_palm : List Contact → Bool
+some_palm cs = list_any (λ c. c.palm) cs
+
 -- the contact of this tracking id is a palm
 abbrev pub has_palm : List Contact → ℤ → Bool
 has_palm cs tracking = list_any (λ c. int_eq c.tracking tracking && c.palm) cs
@@ -83,3 +87,12 @@ by_id (suc i) ns = joined (by_id i ns) (find (λ n. nat_eq n.id i) ns)
 -- the pointers of a packet in rising id
 unfoldable pub assigned : List Named → List Held
 assigned ns = by_id 32 ns
+
+-- the finger at a place that is counted from 1, and None at 0
+abbrev pub finger_at : ℕ → List Named → Option Named
+finger_at zero ns = None
+finger_at (suc i) ns = slice_get ns i
+
+-- the table leads from each id to the first finger with it, and to None where no finger has the id
+abbrev pub ArePlaces : List ℕ → List Named → Type 0
+ArePlaces table ns = (id : ℕ) → id < 32 → finger_at (get_or table id 0) ns ≡ find (λ n. nat_eq n.id id) ns

@@ -4,7 +4,7 @@ ghost use Rattle.bits32.specs.Set.{is_in, members};
 ghost use Rattle.slot_accumulator.specs.declared.contacts.Contact.{Contact as Touch};
 ghost use Rattle.pointer_ids.specs.PointerIds.{id_in, id_of, taken_after, least_free, has_id, named_contact};
 ghost use Rattle.pointer_ids.specs.PointerIds.{named_from, named as named_in, named_after, has_palm, is_cancelled};
-ghost use Rattle.pointer_ids.specs.PointerIds.{held, by_id, assigned};
+ghost use Rattle.pointer_ids.specs.PointerIds.{some_palm, held, by_id, assigned, finger_at, ArePlaces};
 
 use crate::assigned::{Assigned, Held};
 use crate::named::{Named, NamedList};
@@ -90,6 +90,9 @@ fn named(before: &[Named], now: &[Contact]) -> NamedList
 fn cancelled(before: &[Named], now: &[Contact]) -> Bits32
     ensures { (k : ℕ) → is_in k result ≡ is_cancelled before.now now.now k }
 {
+    if !any_palm(now) {
+        return Bits32::empty();
+    }
     let mut ids = Bits32::empty();
     for earlier in before {
         if is_palm(now, earlier) {
@@ -97,6 +100,13 @@ fn cancelled(before: &[Named], now: &[Contact]) -> Bits32
         }
     }
     ids
+}
+
+/// Whether a contact of the packet is a palm.
+fn any_palm(now: &[Contact]) -> bool
+    ensures { result ≡ some_palm now.now }
+{
+    now.iter().any(|c| c.palm)
 }
 
 /// Whether a finger of the packet before is a palm now.
@@ -180,23 +190,57 @@ fn in_rising_id(named: &[Named], cancelled: Bits32) -> Assigned
     ensures pointers { result.pointers ≡ assigned named.now }
     ensures cancelled { result.cancelled ≡ cancelled }
 {
+    let places = places_of(named);
     let mut pointers = Assigned::cancelling(cancelled);
     for id in 0..32 {
         if pointers.len() == named.len() {
             return pointers;
         }
-        if let Some(finger) = with_id(named, id) {
+        if let Some(finger) = with_id(named, &places, id) {
             pointers.push(pointer(&finger));
         }
     }
     pointers
 }
 
-/// The first finger with this id.
-fn with_id(named: &[Named], id: u8) -> Option<Named>
+/// The place of the first finger with each id, counted from 1, and 0 where no finger has the id.
+fn places_of(named: &[Named]) -> [u8; 32]
+    requires { length named.now ≤ 16 }
+    ensures len { length result ≡ 32 }
+    ensures places { ArePlaces result named.now }
+{
+    let mut places = [0; 32];
+    let mut left = named.len();
+    while left > 0 {
+        left -= 1;
+        places[usize::from(named[left].id.get())] = left as u8 + 1;
+    }
+    places
+}
+
+/// The first finger with this id, by the places of the fingers.
+fn with_id(named: &[Named], places: &[u8; 32], id: u8) -> Option<Named>
+    requires below { id < 32 }
+    requires len { length places.now ≡ 32 }
+    requires places { ArePlaces places.now named.now }
     ensures { result ≡ find (λ n. nat_eq n.id id) named.now }
 {
-    named.iter().copied().find(|n| n.id.get() == id)
+    at_place(named, places[usize::from(id)])
+}
+
+/// The finger at a place that is counted from 1, and None at 0 and behind the last finger.
+fn at_place(named: &[Named], place: u8) -> Option<Named>
+    ensures { result ≡ finger_at place named.now }
+{
+    if place == 0 {
+        return None;
+    }
+    let i = usize::from(place) - 1;
+    if i < named.len() {
+        Some(named[i])
+    } else {
+        None
+    }
 }
 
 /// A finger as a pointer.
