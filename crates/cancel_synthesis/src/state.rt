@@ -9,7 +9,7 @@ ghost use Rattle.cancel_synthesis.specs.Ends.{pointers_cancelled, keys_cancelled
 use crate::keys::{cancel_each_key, device_keys_cancelled, forget, keep, keys_cancelled};
 use crate::pointers::{cancel, cancel_devices, pointers_after};
 use bits32::Bits32;
-use input_types::{Body, DeviceId, KeyMsg, Motion, Pointers};
+use input_types::{Body, DeviceId, KeyMsg, Motion, MotionAction, Pointers};
 use std::alloc::{AllocError, Global};
 use std::marker::Model;
 
@@ -83,12 +83,22 @@ impl InputState {
         ensures reserved { 1 ≤ self.old.spare → IsOk result }
     {
         match body {
-            Body::Motion(motion) => set_pointers(&mut self.pointers, motion),
-            Body::Key(message) => set_key(&mut self.keys, message)?,
-            Body::Focus(_) => {}
+            Body::Motion(motion) => self.track_motion(motion),
+            Body::Key(message) => {
+                set_key(&mut self.keys, message)?;
+                self.spare = self.spare.saturating_sub(1);
+            }
+            Body::Focus(_) => self.spare = self.spare.saturating_sub(1),
         }
-        self.spare = self.spare.saturating_sub(1);
         Ok(())
+    }
+
+    /// The window is told a motion more. Takes no memory.
+    pub fn track_motion(&mut self, motion: &Motion)
+        ensures { Tracks self.old self.new (MotionBody motion.now) }
+    {
+        set_pointers(&mut self.pointers, motion);
+        self.spare = self.spare.saturating_sub(1);
     }
 
     /// What the window is told where pointers of a device with these ids are taken from it: nothing, where it has
@@ -140,7 +150,15 @@ fn set_pointers(pointers: &mut [Pointers; 8], motion: &Motion)
         pointers_in pointers.new d ≡ pointers_then (MotionBody motion.now) d (pointers_in pointers.old d) }
 {
     let place = usize::from(motion.device.get()) - 1;
-    pointers[place] = pointers_after(motion, &pointers[place]);
+    match motion.action {
+        MotionAction::Down | MotionAction::PointerDown | MotionAction::Move => {
+            pointers[place] = motion.pointers;
+        }
+        MotionAction::Outside => {}
+        MotionAction::PointerUp | MotionAction::Up | MotionAction::Cancel => {
+            pointers[place] = pointers_after(motion, &pointers[place]);
+        }
+    }
 }
 
 /// Keeps the message of a key that is down, and forgets that of one that is up.

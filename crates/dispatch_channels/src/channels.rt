@@ -1,5 +1,6 @@
 //! The channels.
 ghost use Rattle.std.specs.Prelude.{◌≡◌, ℕ, true, [], ◌≤◌, ◌<◌, length, is_ok, option_copied, OnOk, OnErr, IfOk, IsOk};
+ghost use Rattle.input_types.specs.declared.message.Body.TheVariants.{Motion as MotionBody};
 ghost use Rattle.window_snapshot.specs.Mask.{mask_has};
 ghost use Rattle.input_channel.specs.Order.{NoneAfter};
 ghost use Rattle.input_channel.specs.State.{next_of, received_one, received_next, let_go_of, may_finish};
@@ -10,7 +11,7 @@ ghost use Rattle.dispatch_channels.specs.Changes.{OpensOrNot, Tells, MayPublish,
 mod asked;
 
 use crate::due::{clear_all, due_channels, due_in, set_due};
-use crate::heard::body_from;
+use crate::heard::{body_from, motion_from};
 use crate::mask::{less, without};
 use crate::noted::note_all;
 use crate::settle::{able_after, finish_one, settle_all};
@@ -19,7 +20,7 @@ use anr_tracker::Tracker;
 use cancel_synthesis::InputState;
 use dispatch_calls::Naming;
 use input_channel::{Channel, UnknownSeq};
-use input_types::{Body, Limit, Message, Moment, Pixel};
+use input_types::{Body, Limit, Message, Moment, Motion, Pixel};
 use std::alloc::{AllocError, Global};
 use std::marker::Model;
 use window_snapshot::{mask_has, mask_with};
@@ -149,6 +150,18 @@ impl Channels {
         let place = channel as usize - 1;
         let _seq = self.channels[place].enqueue_reserved(body_from(origin, body), clock);
         track(&mut self.inputs[place], body);
+    }
+
+    /// A live channel is told a motion, as `tell` would tell it, without a body in display pixels. Takes no memory.
+    pub fn tell_motion(&mut self, channel: u32, motion: &Motion, origin: Pixel, clock: Moment)
+        requires live { mask_has self.old.live channel ≡ true }
+        requires room { 1 ≤ (channel_of self.old channel).spare }
+        ensures { Tells channel (MotionBody motion.now) origin clock self.old self.new }
+    {
+        let place = channel as usize - 1;
+        let body = Body::Motion(motion_from(origin, motion));
+        let _seq = self.channels[place].enqueue_reserved(body, clock);
+        self.inputs[place].track_motion(motion);
     }
 
     /// Publishes the live channels of a mask at a clock. Takes no memory.

@@ -19,7 +19,7 @@ pub(crate) fn body_from(origin: Pixel, body: &Body) -> Body
 }
 
 /// A motion whose places are counted from an origin.
-fn motion_from(origin: Pixel, motion: &Motion) -> Motion
+pub(crate) fn motion_from(origin: Pixel, motion: &Motion) -> Motion
     ensures { result ≡ motion_from origin motion.now }
 {
     Motion {

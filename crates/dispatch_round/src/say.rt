@@ -12,7 +12,7 @@ use crate::listener::Listener;
 use bits32::Bits32;
 use dispatch_channels::Channels;
 use input_types::{
-    Body, DeviceId, FLAG_CANCELED, KeyMsg, MotionAction, Pointer, PointerId, Pointers,
+    Body, DeviceId, FLAG_CANCELED, KeyMsg, Motion, MotionAction, Pointer, PointerId, Pointers,
 };
 use route_split::Tells;
 use split_motion::{about, part, plain, rest};
@@ -23,6 +23,14 @@ fn say(to: &Listener, body: &Body, channels: &mut Channels)
     ensures { TellsOne to.now (body.now ∷ []) channels.old channels.new }
 {
     channels.tell(to.window, body, to.origin, to.clock);
+}
+
+/// Tells one motion.
+fn say_motion(to: &Listener, motion: &Motion, channels: &mut Channels)
+    requires { CanHear to.now.window 1 channels.old }
+    ensures { TellsOne to.now (MotionBody motion.now ∷ []) channels.old channels.new }
+{
+    channels.tell_motion(to.window, motion, to.origin, to.clock);
 }
 
 /// Pointers but for one.
@@ -54,7 +62,7 @@ fn say_ups(
             FLAG_CANCELED,
             left,
         );
-        say(to, &Body::Motion(up), channels);
+        say_motion(to, &up, channels);
         left = without(&left, pointer.id);
     }
 }
@@ -77,7 +85,7 @@ pub(crate) fn say_cancels(
     }
     if kept.is_empty() {
         let cancel = plain(device, MotionAction::Cancel, *had);
-        say(to, &Body::Motion(cancel), channels);
+        say_motion(to, &cancel, channels);
         return;
     }
     say_ups(to, device, had, gone.as_slice(), channels);
@@ -103,7 +111,7 @@ pub(crate) fn say_found(to: &Listener, device: DeviceId, tells: &Tells, channels
 {
     match tells {
         Tells::Nothing => {}
-        Tells::One(motion) => say(to, &Body::Motion(*motion), channels),
+        Tells::One(motion) => say_motion(to, motion, channels),
         Tells::Cancels { lost } => say_lost(to, device, *lost, channels),
     }
 }

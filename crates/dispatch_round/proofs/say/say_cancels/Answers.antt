@@ -20,9 +20,11 @@ pub returns-then-is_empty-2 : goal.returns-then-is_empty-2
 returns-then-is_empty-2 c =
     let some : 0 < length c.args.gone.now = positive (length c.args.gone.now) (sym c.is_empty.ensures ∙ c.if-is_empty.false) in
     let none : length c.args.kept.now ≡ 0 = eqb-true (length c.args.kept.now) 0 (sym c.is_empty-2.ensures ∙ c.if-is_empty-2.true) in
-    subst (λ (ms : List Motion). TellsOne c.args.to.now (map MotionBody ms) c.args.channels.now c.say.new.channels)
+    subst (λ (ms : List Motion). TellsOne c.args.to.now (map MotionBody ms) c.args.channels.now c.say_motion.new.channels)
     (sym (all_cancelled c.args.device c.args.had.now c.args.kept.now c.args.gone.now some none))
-    (subst (λ (m : Motion). TellsOne c.args.to.now (MotionBody m ∷ []) c.args.channels.now c.say.new.channels) c.plain-cancel.ensures c.say.ensures)
+    (subst (λ (m : Motion). TellsOne c.args.to.now (MotionBody m ∷ []) c.args.channels.now c.say_motion.new.channels)
+    c.plain-cancel.ensures
+    c.say_motion.ensures)
 
 pub returns : goal.returns
 returns c =
