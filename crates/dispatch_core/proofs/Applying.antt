@@ -1,5 +1,5 @@
 -- A dispatcher after a call.
-use Rattle.std.proofs.Common.{◌≡◌, List, Result, Ok, Err, IfOk, OnErr, sym, subst}
+use Rattle.std.proofs.Common.{◌≡◌, List, Result, Ok, Err, IfOk, OnOk, OnErr, sym, subst}
 use Rattle.dispatch_calls.specs.declared.call.Call.{Call}
 use Rattle.dispatch_calls.specs.declared.reply.Reply.{Reply}
 use Rattle.dispatch_channels.specs.Table.{but_for_room}
@@ -8,7 +8,7 @@ use Rattle.dispatch_history.specs.Effects.{step}
 use Rattle.dispatch_core.specs.declared.tables.Tables.{Tables}
 use Rattle.dispatch_core.specs.Dispatching.{Dispatching, IsOfHistory}
 use Rattle.dispatch_core.specs.Dispatching.{StandsFor as Stands}
-use Rattle.dispatch_core.specs.Tables.{StandsFor, GoesOn, SameAll}
+use Rattle.dispatch_core.specs.Tables.{StandsFor, GoesOn, GoesOnSomehow, SameAll}
 use Rattle.dispatch_core.proofs.Rooms.{stands_raw, stands_bare}
 
 -- what contracts see of the tables
@@ -45,18 +45,36 @@ seen_same old new h =
       repeat = (h.routing_is i).repeat;
     }
 
+-- with some answer, where there is one
+pub somehow : {E : Type 0} (call : Call) (r : Result Reply E) (old new : Tables)
+    → IfOk r (λ answer. GoesOn call answer old new) → OnOk r (GoesOnSomehow call old new)
+somehow call (Ok answer) old new ok = (answer, ok)
+somehow call (Err e) old new ok = ok
+
 -- it stands for some history
-pub history_after : {E : Type 0} (call : Call) (r : Result Reply E) (old new : Tables)
-    → IfOk r (λ answer. GoesOn call answer old new) → OnErr r (SameAll old new) → IsOfHistory (seen old) → IsOfHistory (seen new)
-history_after call (Ok answer) old new ok err h =
-    (step old.routing.displays call answer h.0, bare (step old.routing.displays call answer h.0) new (ok.after h.0 (raw h.0 old h.1)))
+pub history_after : {A E : Type 0} (call : Call) (r : Result A E) (old new : Tables)
+    → OnOk r (GoesOnSomehow call old new) → OnErr r (SameAll old new) → IsOfHistory (seen old) → IsOfHistory (seen new)
+history_after call (Ok a) old new ok err h =
+    (step old.routing.displays call ok.0 h.0, bare (step old.routing.displays call ok.0 h.0) new (ok.1.after h.0 (raw h.0 old h.1)))
 history_after call (Err e) old new ok err h = subst IsOfHistory (sym (seen_same old new err)) h
 
 -- whatever it stood for, it stands for that with one step more
+stands_then : (call : Call) (answer : Reply) (old new : Tables) (now : Dispatching) → seen old ≡ now → GoesOn call answer old new
+    → (es : List Effect) → Stands es now → Stands (step now.displays call answer es) (seen new)
+stands_then call answer old new now is goes es s =
+    subst (λ d. Stands (step d.displays call answer es) (seen new)) is
+    (bare (step old.routing.displays call answer es) new (goes.after es (raw es old (subst (Stands es) (sym is) s))))
+
+-- the same of a result
 pub stands_after : {E : Type 0} (call : Call) (r : Result Reply E) (old new : Tables) (now : Dispatching) → seen old ≡ now
     → IfOk r (λ answer. GoesOn call answer old new) → (es : List Effect) → Stands es now
     → IfOk r (λ answer. Stands (step now.displays call answer es) (seen new))
 stands_after call (Err e) old new now is ok es s = tt
-stands_after call (Ok answer) old new now is ok es s =
-    subst (λ d. Stands (step d.displays call answer es) (seen new)) is
-    (bare (step old.routing.displays call answer es) new (ok.after es (raw es old (subst (Stands es) (sym is) s))))
+stands_after call (Ok answer) old new now is ok es s = stands_then call answer old new now is ok es s
+
+-- the same where the answer is not read
+pub stands_somehow : {A E : Type 0} (call : Call) (r : Result A E) (old new : Tables) (now : Dispatching) → seen old ≡ now
+    → OnOk r (GoesOnSomehow call old new) → (es : List Effect) → Stands es now
+    → OnOk r ((answer : Reply) × Stands (step now.displays call answer es) (seen new))
+stands_somehow call (Err e) old new now is ok es s = tt
+stands_somehow call (Ok a) old new now is ok es s = (ok.0, stands_then call ok.0 old new now is ok.1 es s)

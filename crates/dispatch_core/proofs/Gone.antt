@@ -1,12 +1,11 @@
 -- No message is let go.
-use Rattle.std.proofs.Common.{◌≡◌, ◌-◌, ℕ, zero, suc, List, [], ◌∷◌, ◌++◌, get_or, set, Result, Ok, Err, IfOk, OnErr, refl, sym, ap, ◌∙◌}
+use Rattle.std.proofs.Common.{◌≡◌, ◌-◌, ℕ, zero, suc, List, [], ◌∷◌, ◌++◌, get_or, set, Result, Ok, Err, OnOk, OnErr, refl, sym, ap, ◌∙◌}
 use Rattle.input_channel.specs.State.{ChannelState, opened_with, received_one}
 use Rattle.dispatch_calls.specs.declared.call.Call.{Call}
-use Rattle.dispatch_calls.specs.declared.reply.Reply.{Reply}
 use Rattle.dispatch_channels.specs.Table.{Table, channel_of, with_channel, but_for_room}
 use Rattle.dispatch_channels.specs.Changes.{Opens, new_channel, settled_after, finished_in}
 use Rattle.dispatch_core.specs.declared.tables.Tables.{Tables}
-use Rattle.dispatch_core.specs.Tables.{LetsNoneGo, GoesOn, SameAll}
+use Rattle.dispatch_core.specs.Tables.{LetsNoneGo, GoesOnSomehow, SameAll}
 use Rattle.dispatch_core.proofs.Rooms.{channel_bare}
 
 -- where there is other room
@@ -49,11 +48,11 @@ pub both_gone : (t u v : Table) → LetsNoneGo t u → LetsNoneGo u v → LetsNo
 both_gone t u v h k c low = k c low ∙ h c low
 
 -- whatever is answered
-pub answered_gone : {E : Type 0} (call : Call) (r : Result Reply E) (old new : Tables)
-    → IfOk r (λ answer. GoesOn call answer old new) → OnErr r (SameAll old new)
+pub answered_gone : {A E : Type 0} (call : Call) (r : Result A E) (old new : Tables)
+    → OnOk r (GoesOnSomehow call old new) → OnErr r (SameAll old new)
     → LetsNoneGo (but_for_room old.routing.channels) (but_for_room new.routing.channels)
-answered_gone call (Ok answer) old new ok err c low =
+answered_gone call (Ok a) old new ok err c low =
     ap (λ s. s.gone) (channel_bare new.routing.channels c)
-    ∙ ok.gone_are c low
+    ∙ ok.1.gone_are c low
     ∙ sym (ap (λ s. s.gone) (channel_bare old.routing.channels c))
 answered_gone call (Err e) old new ok err c low = ap (λ r. (channel_of r.channels c).gone) err.routing_is

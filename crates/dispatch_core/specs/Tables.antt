@@ -89,6 +89,10 @@ pub record GoesOn (call : Call) (answer : Reply) (old new : Tables) : Type 0 whe
   pub displays_are : new.routing.displays ≡ old.routing.displays
   pub gone_are : LetsNoneGo old.routing.channels new.routing.channels
 
+-- all tables went one step on with this call, whatever its answer is
+abbrev pub GoesOnSomehow : Call → (old new : Tables) → Type 0
+GoesOnSomehow call old new = (answer : Reply) × GoesOn call answer old new
+
 -- all are the same, but for that room
 pub record SameAll (old new : Tables) : Type 0 where
   pub queueing_is : new.queueing ≡ old.queueing

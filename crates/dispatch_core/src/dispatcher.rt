@@ -1,8 +1,9 @@
 //! The dispatcher.
 ghost use Rattle.std.specs.Prelude.{◌≡◌, ◌≤◌, ◌==◌, ℕ, true, false, [], List, None, is_some, option_map};
-ghost use Rattle.std.specs.Prelude.{IfOk, IfSome, OnErr, IsOk};
+ghost use Rattle.std.specs.Prelude.{IfOk, IfSome, OnErr, OnOk, IsOk};
 ghost use Rattle.std.specs.Option.{option_copied};
 ghost use Rattle.dispatch_calls.specs.declared.call.Call.{Call as CallView};
+ghost use Rattle.dispatch_calls.specs.declared.reply.Reply.{Reply as Answer};
 ghost use Rattle.dispatch_history.specs.Due.{counts, first_due, namings};
 ghost use Rattle.dispatch_history.specs.Effect.{Effect, past_of};
 ghost use Rattle.dispatch_history.specs.Effects.{step};
@@ -19,6 +20,7 @@ ghost use Rattle.dispatch_core.specs.Memory.{IsCalm, MayCount};
 
 use crate::apply::apply;
 use crate::tables::Tables;
+use crate::unread::take;
 use cancel_synthesis::InputState;
 use dispatch_calls::{Call, Counts, Naming, Reply};
 use input_types::{Displays, Message, Moment};
@@ -73,6 +75,19 @@ impl Dispatcher {
         ensures calm { (es : List Effect) → StandsFor es self.old → MayCount es → IsCalm es call.now → IsOk result }
     {
         apply(&mut self.tables, call)
+    }
+
+    /// Answers a call as [`apply`](Dispatcher::apply) does, for one who does not read what it is answered: the message
+    /// that a `Receive` hands out is not copied. It is the one that [`next`](Dispatcher::next) lends before.
+    pub fn take(&mut self, call: &Call) -> Result<(), AllocError>
+        ensures after { (es : List Effect) → StandsFor es self.old
+            → OnOk result ((answer : Answer) × StandsFor (step self.old.displays call.now answer es) self.new) }
+        ensures displays { self.new.displays ≡ self.old.displays }
+        ensures gone { (c : ℕ) → 1 ≤ c → gone self.new c ≡ gone self.old c }
+        ensures err { OnErr result (self.new ≡ self.old) }
+        ensures calm { (es : List Effect) → StandsFor es self.old → MayCount es → IsCalm es call.now → IsOk result }
+    {
+        take(&mut self.tables, call)
     }
 
     /// Drops the messages of a channel that its owner received. They are not needed any more. Their numbers stay in

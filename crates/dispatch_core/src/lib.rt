@@ -35,6 +35,7 @@ mod queueing;
 mod record;
 mod shown;
 mod tables;
+mod unread;
 
 pub use dispatcher::Dispatcher;
 pub use record::Core;

@@ -2,6 +2,7 @@
 ghost use Rattle.std.specs.Prelude.{◌≡◌, None, if◌then◌else◌};
 ghost use Rattle.focus_resolver.specs.Resolver.{is_at};
 ghost use Rattle.dispatch_calls.specs.declared.call.Call.{Call};
+ghost use Rattle.dispatch_calls.specs.declared.reply.Reply.{Reply as Answer};
 ghost use Rattle.dispatch_round.specs.Rounds.{IsTimely};
 ghost use Rattle.dispatch_core.specs.Tables.{Goes};
 
@@ -28,6 +29,20 @@ pub(crate) fn receive(routing: &mut Routing, channel: u32, place: u64, clock: Mo
     let reply = Reply::Got(*next);
     routing.channels.mark_received(channel);
     reply
+}
+
+/// The owner of a channel has its next message, where there is one, and it is not handed out.
+pub(crate) fn pass(routing: &mut Routing, channel: u32, place: u64, clock: Moment)
+    ensures { (answer : Answer) × Goes (λ now. Call.Receive channel) answer place clock routing.old routing.new }
+{
+    rest(routing, place);
+    if !mask_has(routing.channels.live(), channel) {
+        return;
+    }
+    let Some(_next) = routing.channels.next(channel) else {
+        return;
+    };
+    routing.channels.mark_received(channel);
 }
 
 /// The owner of a channel is done with a message.

@@ -1,5 +1,5 @@
 -- What each channel's owner received, with one step more.
-use Rattle.std.proofs.Common.{◌≡◌, ℕ, zero, suc, ◌≤◌, List, [], ◌∷◌, ◌++◌, length, reverse, take, Some, sym, ap, ◌∙◌, arith, append_assoc, append-nil}
+use Rattle.std.proofs.Common.{◌≡◌, ℕ, zero, suc, ◌≤◌, List, [], ◌∷◌, ◌++◌, length, reverse, take, Some, sym, ap, ◌∙◌, arith, None, subst, append_assoc, append-nil}
 use Rattle.std.specs.Prelude.{slice_get}
 use Rattle.std.proofs.lemmas.List.{take-append-le, length-reverse}
 use Rattle.std.proofs.lemmas.Option.{slice_get_within}
@@ -18,6 +18,8 @@ use Rattle.dispatch_tables.specs.Channel.{Receives, part_of}
 use Rattle.dispatch_tables.proofs.Lawfuls.{lawful_last}
 use Rattle.dispatch_tables.proofs.Channels.{sound, stepped}
 use Rattle.dispatch_tables.proofs.Numbering.{messages_from, reverse_told}
+use Rattle.dispatch_core.specs.Access.{got}
+use Rattle.schedule.specs.Hearing.{Hears}
 use Rattle.schedule.specs.Lines.{lines_received}
 use Rattle.schedule.proofs.Behind.{got_next, others}
 
@@ -70,3 +72,19 @@ heard_more ds es c m l part =
     ∙ front_stays ds (Receive c) (Got m) es c (suc (received (past_of es) c)) l less
     ∙ take_next (received (past_of es) c) (reverse (stream es c)) m at)
     ∙ lines_next (take (received (past_of es) c) (reverse (stream es c))) m
+
+-- the lines after an answer that hands out this message
+pub hears_some : (answer : Reply) (m : Message) (c : ℕ) (old new : List (List ℕ)) → got answer ≡ Some m → Hears (Got m) c old new → Hears answer c old new
+hears_some (Got x) m c old new e h = let same : m ≡ x = cc in subst (λ y. Hears (Got y) c old new) same h
+hears_some answer m c old new e h = absurd (none e)
+  where
+    none : None ≡ Some m → ⊥
+    none f = cc
+
+-- the same of one that hands out none
+pub hears_none : (answer : Reply) (c : ℕ) (old new : List (List ℕ)) → got answer ≡ None → new ≡ old → Hears answer c old new
+hears_none (Got x) c old new e same = absurd (some e)
+  where
+    some : Some x ≡ None → ⊥
+    some f = cc
+hears_none answer c old new e same = same

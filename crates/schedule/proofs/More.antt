@@ -11,11 +11,12 @@ use Rattle.dispatch_tables.proofs.Lawfuls.{lawful_last}
 use Rattle.schedule.specs.More.{ComesTo}
 use Rattle.schedule.proofs.Receiving.{extend_append}
 
-pub one_more : (es : List Effect) (d later : Dispatching) (call : Call) (answer : Reply) → later.displays ≡ d.displays
-    → ((fs : List Effect) → StandsFor fs d → StandsFor (step d.displays call answer fs) later) → ComesTo es d → ComesTo es later
-one_more es d later call answer same goes k =
-    let fs = extend d.displays es k.calls in
-    let stands = goes fs k.stands in
+pub one_more : (es : List Effect) (d later : Dispatching) (call : Call) → later.displays ≡ d.displays
+    → ((fs : List Effect) → StandsFor fs d → (answer : Reply) × StandsFor (step d.displays call answer fs) later) → ComesTo es d → ComesTo es later
+one_more es d later call same goes k =
+    let there = goes (extend d.displays es k.calls) k.stands in
+    let answer = there.0 in
+    let stands = there.1 in
     let l : Lawful d.displays (step d.displays call answer (extend d.displays es k.calls)) =
     subst (λ ds. Lawful ds (step d.displays call answer (extend d.displays es k.calls))) same stands.lawful in
     record {

@@ -1,15 +1,13 @@
 -- After a finish, only the channel of the message may have more that is published.
-use Rattle.std.proofs.Common.{◌≡◌, ◌⊎◌, ℕ, zero, suc, ◌+◌, ◌-◌, ◌<◌, ◌≤◌, min, Bool, true, false, cond, List, [], ◌∷◌, ◌++◌, length, replicate, inl, inr, refl, sym, ap, ap₂, ◌∙◌, arith, append-nil}
+use Rattle.std.proofs.Common.{◌≡◌, ◌⊎◌, ℕ, zero, suc, ◌+◌, ◌-◌, ◌≤◌, min, Bool, true, false, cond, List, [], ◌∷◌, ◌++◌, length, replicate, inl, inr, refl, sym, ap, ap₂, ◌∙◌, arith, append-nil}
 use Rattle.std.proofs.lemmas.Bool.{cases_eq, ne_eqb}
 use Rattle.input_types.specs.declared.message.Body.{Body}
 use Rattle.input_types.specs.declared.message.Message.{Message}
-use Rattle.dispatch_calls.specs.declared.call.Call.{Call}
 use Rattle.dispatch_calls.specs.declared.call.Call.TheVariants.{Finish, Receive}
 use Rattle.dispatch_calls.specs.declared.reply.Reply.{Reply}
 use Rattle.dispatch_calls.specs.declared.reply.Reply.TheVariants.{Done}
 use Rattle.dispatch_history.specs.History.{History, clock, live, opened, received, finished}
 use Rattle.dispatch_history.specs.Effect.{Effect, past_of, stream, told_on}
-use Rattle.dispatch_history.specs.Effects.{step, channels}
 use Rattle.dispatch_history.specs.Delivery.{published}
 use Rattle.dispatch_history.specs.Legal.{answered}
 use Rattle.dispatch_history.specs.Ordered.{extend, received_all}
@@ -19,7 +17,6 @@ use Rattle.dispatch_tables.proofs.Ables.{live_number}
 use Rattle.dispatch_tables.proofs.Channels.{sound, stepped}
 use Rattle.dispatch_tables.proofs.Lawfuls.{lawful_step}
 use Rattle.dispatch_tables.proofs.Silence.{silent_calls}
-use Rattle.std.specs.Prelude.{sum_by}
 use Rattle.schedule.specs.Receives.{receives_of, receives_to}
 use Rattle.schedule.specs.Run.{messages_in}
 use Rattle.schedule.specs.State.{Caught}

@@ -10,6 +10,7 @@ use Rattle.dispatch_history.specs.Effect.{Effect, past_of}
 use Rattle.dispatch_history.specs.Effects.{step}
 use Rattle.dispatch_history.specs.Legal.{answered}
 use Rattle.dispatch_history.specs.Plan.{Plan}
+use Rattle.dispatch_history.specs.Reply.{reply_to}
 use Rattle.dispatch_history.specs.Ordered.{is_scripted, scripted}
 use Rattle.dispatch_core.specs.Dispatching.{Dispatching, StandsFor}
 use Rattle.dispatch_tables.specs.Lawful.{Lawful}
@@ -89,13 +90,14 @@ module _ (how : Lines) (plan : Plan) (es : List Effect) (s t : ScheduleState) (h
   heard_by answer c l hears = (ap length hears, subst (Heard (step plan.displays (Receive c) answer es)) (sym hears) (λ d low high. h.heard d low high ∙ sym (heard_same plan.displays (Receive c) answer es d l (λ p. cc))))
 
   pub has_received : (answer : Reply) (c : ℕ) → StandsFor (step s.dispatcher.displays (Receive c) answer es) t.dispatcher
-      → Hears answer c s.lines t.lines → t.next ≡ s.next → t.calls ≡ counted (s.calls + 1)
+      → Hears (reply_to es (Receive c)) c s.lines t.lines → t.next ≡ s.next → t.calls ≡ counted (s.calls + 1)
       → HasWith how plan (answered plan.displays (Receive c) es) t
   has_received answer c stands hears next calls =
       let there : StandsFor (step plan.displays (Receive c) answer es) t.dispatcher = stands_plan how plan (Receive c) answer es s t.dispatcher h stands in
       let l : Lawful plan.displays (step plan.displays (Receive c) answer es) = lawful_plan plan (step plan.displays (Receive c) answer es) t.dispatcher (same ∙ h.displays_are) there in
-      let lines = heard_by answer c l hears in
-      subst (λ a. HasWith how plan (step plan.displays (Receive c) a es) t) (lawful_last plan.displays (Receive c) answer es l).0
+      let told = (lawful_last plan.displays (Receive c) answer es l).0 in
+      let lines = heard_by answer c l (subst (λ a. Hears a c s.lines t.lines) (sym told) hears) in
+      subst (λ a. HasWith how plan (step plan.displays (Receive c) a es) t) told
       (record {
         stands = there;
         displays_are = same ∙ h.displays_are;

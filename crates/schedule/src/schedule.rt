@@ -5,7 +5,9 @@ ghost use Rattle.dispatch_history.specs.Effect.{Effect, past_of, stream};
 ghost use Rattle.dispatch_history.specs.Legal.{answered};
 ghost use Rattle.dispatch_history.specs.Ordered.{extend, is_scripted, scripted, received_all};
 ghost use Rattle.dispatch_history.specs.Plan.{Plan as PlanView};
+ghost use Rattle.dispatch_history.specs.Reply.{reply_to};
 ghost use Rattle.dispatch_core.specs.Access.{is_opened};
+ghost use Rattle.dispatch_core.specs.Dispatching.{StandsFor};
 ghost use Rattle.schedule.specs.declared.keeping.Lines.{Lines};
 ghost use Rattle.schedule.specs.Hearing.{Hears};
 ghost use Rattle.schedule.specs.Kinds.{is_receiving};
@@ -15,7 +17,7 @@ ghost use Rattle.schedule.specs.More.{ComesTo};
 ghost use Rattle.schedule.specs.State.{HasWith, counted};
 
 use crate::stream::{Stream, hear};
-use dispatch_calls::{Call, Reply};
+use dispatch_calls::Call;
 use dispatch_core::Dispatcher;
 use input_types::Moment;
 use std::alloc::AllocError;
@@ -68,8 +70,8 @@ impl Schedule {
         ensures more { (es : List Effect) → ComesTo es self.old.dispatcher → ComesTo es self.new.dispatcher }
         ensures latest { self.new.latest ≡ self.old.latest }
     {
-        match self.dispatcher.apply(call) {
-            Ok(_) => {
+        match self.dispatcher.take(call) {
+            Ok(()) => {
                 self.next = next;
                 self.calls = self.calls.saturating_add(1);
                 Ok(())
@@ -87,10 +89,11 @@ impl Schedule {
         ensures more { (es : List Effect) → ComesTo es self.old.dispatcher → ComesTo es self.new.dispatcher }
         ensures latest { self.new.latest ≡ self.old.latest }
     {
-        match self.dispatcher.apply(&Call::Receive { channel }) {
-            Ok(reply) => {
+        hear_next(&mut self.streams, &self.dispatcher, channel)?;
+        match self.dispatcher.take(&Call::Receive { channel }) {
+            Ok(()) => {
                 self.calls = self.calls.saturating_add(1);
-                take_in(&mut self.streams, channel, &reply)
+                Ok(())
             }
             Err(error) => Err(error),
         }
@@ -181,12 +184,17 @@ impl Schedule {
     }
 }
 
-/// Puts what the owner of a channel is answered to its lines.
-fn take_in(streams: &mut Vec<Stream>, channel: u32, reply: &Reply) -> Result<(), AllocError>
-    ensures { OnOk result (Hears reply.now channel streams.old.items streams.new.items) }
+/// Puts the message that the owner of a channel is handed next to its lines, where there is one.
+fn hear_next(
+    streams: &mut Vec<Stream>,
+    dispatcher: &Dispatcher,
+    channel: u32,
+) -> Result<(), AllocError>
+    ensures { (es : List Effect) → StandsFor es dispatcher.now
+        → OnOk result (Hears (reply_to es (CallView.Receive channel)) channel streams.old.items streams.new.items) }
 {
-    match reply {
-        Reply::Got(message) => hear(streams, channel, message),
-        _ => Ok(()),
+    match dispatcher.next(channel) {
+        Some(message) => hear(streams, channel, message),
+        None => Ok(()),
     }
 }

@@ -1,6 +1,8 @@
 //! What the owner of a channel received.
 ghost use Rattle.std.specs.Prelude.{◌≡◌, [], ◌++◌, ℕ, ◌≤◌, List, OnOk, OnErr, IfOk, vec_len, if◌then◌else◌, ◌==◌};
+ghost use Rattle.dispatch_calls.specs.declared.reply.Reply.TheVariants.{Got};
 ghost use Rattle.stream_text.specs.Spelling.{message_line};
+ghost use Rattle.schedule.specs.Hearing.{Hears};
 ghost use Rattle.schedule.specs.Lines.{lines_at};
 
 use input_types::Message;
@@ -70,10 +72,7 @@ pub(crate) fn hear(
     channel: u32,
     message: &Message,
 ) -> Result<(), AllocError>
-    ensures len { vec_len streams.new ≡ vec_len streams.old }
-    ensures heard { OnOk result ((c : ℕ) → 1 ≤ c → c ≤ vec_len streams.old → lines_at streams.new.items c
-        ≡ (if c == channel then lines_at streams.old.items c
-        ++ message_line message.now else lines_at streams.old.items c)) }
+    ensures { OnOk result (Hears (Got message.now) channel streams.old.items streams.new.items) }
 {
     let place = channel as usize;
     if 1 <= place && place <= streams.len() {

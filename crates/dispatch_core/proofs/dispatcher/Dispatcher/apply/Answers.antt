@@ -2,7 +2,7 @@ use Rattle.std.proofs.Common.{sym, ap, ◌∙◌, subst}
 use Rattle.dispatch_core.specs.Access.{gone}
 use Rattle.dispatch_core.specs.Dispatching.{StandsFor}
 use Rattle.dispatch_core.proofs.Gone.{answered_gone}
-use Rattle.dispatch_core.proofs.Applying.{raw, history_after, stands_after}
+use Rattle.dispatch_core.proofs.Applying.{raw, somehow, history_after, stands_after}
 use Rattle.dispatch_core.proofs.dispatcher.Dispatcher.apply.Goals as goal
 
 pub apply-requires : goal.apply-requires
@@ -10,7 +10,10 @@ apply-requires c = let s = c.self.invariant in (s.0, raw s.0 c.self.inside.table
 
 pub invariant_of-self : goal.invariant_of-self
 invariant_of-self c =
-    history_after c.args.call.now c.apply.result c.self.inside.tables c.apply.new.tables c.apply.ensures.ok c.apply.ensures.err c.self.invariant
+    history_after c.args.call.now c.apply.result c.self.inside.tables c.apply.new.tables
+    (somehow c.args.call.now c.apply.result c.self.inside.tables c.apply.new.tables c.apply.ensures.ok)
+    c.apply.ensures.err
+    c.self.invariant
 
 pub returns-clause-after : goal.returns-clause-after
 returns-clause-after c =
@@ -24,5 +27,9 @@ returns-clause-calm c =
 pub returns-clause-gone : goal.returns-clause-gone
 returns-clause-gone c =
     λ k low.
-    answered_gone c.args.call.now c.apply.result c.self.inside.tables c.apply.new.tables c.apply.ensures.ok c.apply.ensures.err k low
+    answered_gone c.args.call.now c.apply.result c.self.inside.tables c.apply.new.tables
+    (somehow c.args.call.now c.apply.result c.self.inside.tables c.apply.new.tables c.apply.ensures.ok)
+    c.apply.ensures.err
+    k
+    low
     ∙ ap (λ d. gone d k) c.self.view_is
