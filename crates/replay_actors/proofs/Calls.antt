@@ -7,7 +7,7 @@ use Rattle.dispatch_calls.specs.declared.reply.Reply.{Reply}
 use Rattle.dispatch_core.specs.Machine.{IsLegal}
 use Rattle.turnstile.specs.Answers.{Answers}
 use Rattle.turnstile.specs.declared.machine.Placed.{Placed}
-use Rattle.replay_actors.specs.Lane.{Known, Stays, Adds}
+use Rattle.replay_actors.specs.Lane.{Known, Stays, Adds, Refuses}
 
 -- nothing is changed
 pub stays_so : (v : Known) → Stays v v
@@ -27,3 +27,7 @@ answered_stays v w call (Err e) a =
 -- an answered call is the newest of the seat's own
 pub answered_adds : (v w : Known) (call : Call) (p : Placed Reply) → Answers IsLegal v call (Ok p) w → Adds call p.reply v w
 answered_adds v w call p a = (length a.1, ap (λ (x : Known). x.mine.own) a.3)
+
+-- a call without memory had the turn
+pub answered_refuses : (v w : Known) (call : Call) (e : AllocError) → Answers IsLegal v call (Err e) w → Refuses v w
+answered_refuses v w call e a = a

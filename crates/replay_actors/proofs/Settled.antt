@@ -13,6 +13,7 @@ use Rattle.lane_laws.specs.Settling.{settling, takes_from}
 use Rattle.lane_laws.proofs.Orders.{history_same}
 use Rattle.lane_laws.proofs.Races.{race_law}
 use Rattle.settle_core.specs.Steps.{Came}
+use Rattle.replay_actors.specs.Ends.{IsSettledRace}
 use Rattle.replay_actors.specs.Plans.{scripted}
 use Rattle.replay_actors.specs.declared.part.Lanes.{Lanes}
 use Rattle.replay_actors.proofs.Ended.{scripted_many}
@@ -35,6 +36,26 @@ settled l own old new seats many raced made came sound are =
     let named : seats_from 3 (length scripts) ≡ seats = ap (seats_from 3) (scripted_many l.scripts.items) ∙ sym are in
     subst (λ h. IsRace new.displays f own l.cooked.items scripts seats h) (sym came.entries_are)
     (subst (λ ss. IsRace new.displays f own l.cooked.items scripts ss (came.since ++ called old.entries)) named race)
+
+-- the lanes' calls, and then those of the caller
+pub settled_race : (l : Lanes) (own : List Own) (old new : Recorded)
+    → let f = mask_has l.finishing in
+    let scripts = scripted l.scripts.items in
+    Raced old.displays f l.channels own l.cooked.items scripts (called old.entries)
+    → Came f old (takes_from (l.channels + 1)) new
+    → IsSettledRace new.displays f l.channels own l.cooked.items scripts (called new.entries)
+settled_race l own old new raced came =
+    let scripts = scripted l.scripts.items in
+    let P : List ℕ → Type 0 =
+    λ d. Raced d (mask_has l.finishing) l.channels own l.cooked.items scripts (called old.entries) in
+    record {
+      lanes = called old.entries;
+      raced = subst P (sym came.displays_are) raced;
+      since = came.since;
+      entries_are = came.entries_are;
+      of_caller = came.of_caller;
+      stands = came.stands;
+    }
 
 first_seat : (k n m : ℕ) → n ≡ suc m → seats_from k n ≡ k ∷ seats_from (k + 1) m
 first_seat k n m is = ap (seats_from k) is

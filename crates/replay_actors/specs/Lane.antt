@@ -2,6 +2,7 @@
 use Rattle.std.specs.Prelude.{◌≡◌, ℕ, List, ◌∷◌}
 use Rattle.dispatch_calls.specs.declared.call.Call.{Call}
 use Rattle.dispatch_calls.specs.declared.reply.Reply.{Reply}
+use Rattle.turnstile.specs.Views.{failed, waited}
 use Rattle.turnstile.specs.declared.view.View.{View}
 
 -- what a seat of a core knows
@@ -17,3 +18,7 @@ pub record Stays (v w : Known) : Type 0 where
 -- a seat made one call more, which was answered so
 abbrev pub Adds : Call → Reply → Known → Known → Type 0
 Adds call reply v w = (place : ℕ) × (w.mine.own ≡ (place, call, reply) ∷ v.mine.own)
+
+-- a seat had the turn for a call, after some turns at which it was not free, and there was no memory for it
+abbrev pub Refuses : Known → Known → Type 0
+Refuses v w = (n : ℕ) × (w ≡ failed (waited n v))

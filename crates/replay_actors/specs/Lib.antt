@@ -3,3 +3,4 @@ pub mod Parts
 pub mod Jobs
 pub mod Plans
 pub mod Opening
+pub mod Ends

@@ -1,8 +1,8 @@
 //! A lane of a race, and its calls.
-ghost use Rattle.std.specs.Prelude.{◌≡◌, IfOk};
+ghost use Rattle.std.specs.Prelude.{◌≡◌, IfOk, OnErr};
 ghost use Rattle.turnstile.specs.Seats.{view};
 ghost use Rattle.input_service.specs.Services.{IsOf};
-ghost use Rattle.replay_actors.specs.Lane.{Stays, Adds};
+ghost use Rattle.replay_actors.specs.Lane.{Stays, Adds, Refuses};
 
 use crate::gate::Gate;
 use dispatch_calls::{Call, Reply};
@@ -38,6 +38,7 @@ impl Lane {
         ensures of { IsOf shared.now.service.now self.new.seat }
         ensures stays { Stays (view self.old.seat) (view self.new.seat) }
         ensures made { IfOk result (λ reply. Adds call reply (view self.old.seat) (view self.new.seat)) }
+        ensures refused { OnErr result (Refuses (view self.old.seat) (view self.new.seat)) }
     {
         shared.gate.arrive(self.number, self.turn);
         self.turn = self.turn.wrapping_add(1);

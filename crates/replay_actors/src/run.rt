@@ -8,6 +8,7 @@ ghost use Rattle.dispatch_core.specs.Recorded.{IsSound};
 ghost use Rattle.input_service.specs.Services.{IsOf};
 ghost use Rattle.lane_laws.specs.Raced.{Raced, OnlyOpens};
 ghost use Rattle.lane_laws.specs.Race.{Each, IsRace, seats_from};
+ghost use Rattle.replay_actors.specs.Ends.{IsSettledRace};
 ghost use Rattle.replay_actors.specs.Plans.{parts_of, owners_from, scripts_before, scripted};
 
 use crate::gate::Gate;
@@ -107,7 +108,8 @@ fn script_seats(alloc: Global, scripts: usize) -> Result<Vec<u64>, AllocError>
 }
 
 /// Runs the lanes beside each other until all have ended, and then does all that is left to do: by the history of the
-/// core it is a race of these lanes. Want of memory is the only other answer.
+/// core it is a race of these lanes. Once nothing is left to do the core is not called any more. Want of memory is the
+/// only other answer.
 pub fn run_lanes<R: Threads + Wait + Sync, G: Gate + Sync>(
     rt: &R,
     alloc: Global,
@@ -125,6 +127,9 @@ pub fn run_lanes<R: Threads + Wait + Sync, G: Gate + Sync>(
     ensures race { IfOk result
         (λ end. IsRace end.core.displays (mask_has lanes.finishing) (view seat).mine.own lanes.cooked.items
         (scripted lanes.scripts.items) end.script_seats.items (called end.core.entries)) }
+    ensures settled { IfOk result
+        (λ end. IsSettledRace end.core.displays (mask_has lanes.finishing) lanes.channels (view seat).mine.own
+        lanes.cooked.items (scripted lanes.scripts.items) (called end.core.entries)) }
     ensures sound { IfOk result (λ end. IsSound end.core) }
 {
     let script_seats = script_seats(alloc, lanes.scripts.len())?;
