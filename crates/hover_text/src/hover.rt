@@ -88,10 +88,10 @@ impl Hover {
         Ok(())
     }
 
-    /// Makes the steps that are left, and answers the text: a section for each channel of the session.
-    pub fn end(&mut self, alloc: Global, plan: &Plan) -> Result<Vec<u8>, AllocError>
+    /// Ends the run: makes the steps that are left, and answers the text, a section for each channel of the session.
+    pub fn end(mut self, alloc: Global, plan: &Plan) -> Result<Vec<u8>, AllocError>
         requires { IsPlan plan.now }
-        ensures { (past : List Event) → RunStandsFor (plan_view plan.now) past self.old
+        ensures { (past : List Event) → RunStandsFor (plan_view plan.now) past self
             → IfOk result (λ text. text.items ≡ hovered_text (plan_view plan.now) past) }
     {
         self.rest(&plan.steps)?;

@@ -19,8 +19,8 @@ returns c = λ past run.
     let plan = plan_view c.args.plan.now in
     let d = screen_of plan in
     let all = calls_of plan.steps past in
-    let made : HasMade d c.deref.result.now all (latest past) c.args.self.now =
-    subst (λ (ss : List Step). HasMade d ss all (latest past) c.args.self.now) (sym c.deref.ensures.value) run.made in
+    let made : HasMade d c.deref.result.now all (latest past) c.args.self =
+    subst (λ (ss : List Step). HasMade d ss all (latest past) c.args.self) (sym c.deref.ensures.value) run.made in
     let stands : StandsFor d all c.self.inside.cursor =
     subst (λ (s : HoverState). StandsFor d all s.cursor) (sym c.self.view_is) (c.in_ok-rest.ensures d all (latest past) made) in
     let few : d.channels ≡ length c.deref-2.result.now =
