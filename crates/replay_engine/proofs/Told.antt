@@ -4,7 +4,7 @@ use Rattle.std.proofs.Common.{sym, inl, inr, arith}
 use Rattle.outside_io.specs.Outside.{Entry, Rose}
 use Rattle.replay_engine.specs.declared.statuses.Refusal.{Refusal}
 use Rattle.replay_engine.specs.declared.statuses.Refusal.TheVariants.{Usage, Session, Recording, Order, Stream, ReadFailed, NoMemory, TooLong}
-use Rattle.replay_engine.specs.Outcome.{ComesTo, IsComplete, RefusedBy, Said, SaidTooLong, TellsSo}
+use Rattle.replay_engine.specs.Outcome.{ComesTo, IsComplete, RefusedBy, Said, SaidSome, SaidTooLong, TellsSo}
 use Rattle.replay_engine.specs.Refusing.{RefusesAll}
 use Rattle.replay_engine.specs.RefusalView.{IsTold, refusal_view}
 use Rattle.command_words.specs.Forms.{form_of}
@@ -58,3 +58,15 @@ too_long_said (Stream e) status fb fn eb en said seven = elim said [ inl s ↦ a
 too_long_said ReadFailed status fb fn eb en said seven = absurd (omega (arith, said.0, seven))
 too_long_said NoMemory status fb fn eb en said seven = absurd (omega (arith, said.0, seven))
 too_long_said (TooLong what) status fb fn eb en said seven = (what, said.1)
+
+-- where there was memory for it, the line of the refusal was told
+pub some_said : (r : Refusal) (status fb fn : ℕ) (eb en : Option (List ℕ)) → IsTold (TellsSo fb fn eb en) r status → ¬ (status ≡ 6)
+    → SaidSome status fb fn eb en
+some_said Usage status fb fn eb en said no6 = (Usage, sym said.0, said.1)
+some_said (Session e) status fb fn eb en said no6 = elim said [ inl s ↦ (Session e, sym s.0, s.1) | inr s ↦ absurd (no6 s.0) ]
+some_said (Recording e) status fb fn eb en said no6 = elim said [ inl s ↦ (Recording e, sym s.0, s.1) | inr s ↦ absurd (no6 s.0) ]
+some_said (Order e) status fb fn eb en said no6 = elim said [ inl s ↦ (Order e, sym s.0, s.1) | inr s ↦ absurd (no6 s.0) ]
+some_said (Stream e) status fb fn eb en said no6 = elim said [ inl s ↦ (Stream e, sym s.0, s.1) | inr s ↦ absurd (no6 s.0) ]
+some_said ReadFailed status fb fn eb en said no6 = (ReadFailed, sym said.0, said.1)
+some_said NoMemory status fb fn eb en said no6 = (NoMemory, sym said.0, said.1)
+some_said (TooLong what) status fb fn eb en said no6 = (TooLong what, sym said.0, said.1)

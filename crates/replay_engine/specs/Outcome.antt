@@ -2,11 +2,12 @@
 use Rattle.std.specs.Prelude.{◌≡◌, ℕ, nat_eq, ◌||◌, Bool, List, take, Option, Some, None, Ok, Err, ⊤, IsTrue, ◌⊎◌}
 use Rattle.std.specs.Io.KnownBytes.{Appends}
 use Rattle.outside_io.specs.Outside.{Entry, Rose}
+use Rattle.replay_engine.specs.declared.statuses.Refusal.{Refusal}
 use Rattle.replay_engine.specs.declared.statuses.Subject.{Subject}
 use Rattle.replay_engine.specs.Judged.{Answer, IfTold}
 use Rattle.replay_engine.specs.Program.{AnswersTo, AreAccepted, IsAnswer, IsAccepted}
 use Rattle.replay_engine.specs.Refused.{Refused, too_long}
-use Rattle.replay_engine.specs.RefusalView.{subject_word}
+use Rattle.replay_engine.specs.RefusalView.{subject_word, status_of, refusal_view}
 use Rattle.command_words.specs.Command.{Command, replay, race, check, verify, work, batch, hover, emit}
 
 -- The files lend each name that the words give: that of a recording only where the session is accepted, and that of an order file only
@@ -61,6 +62,11 @@ RefusedBy told words status said = (r : Refused) × (r.status ≡ status) × Com
 abbrev pub SaidTooLong : ℕ → ℕ → Option (List ℕ) → Option (List ℕ) → Type 0
 SaidTooLong faults_before faults_now before now =
     (what : Subject) × Said faults_before faults_now before now (too_long (subject_word what)).line
+
+-- a sink whose count did not rise took the line of some refusal with this status
+abbrev pub SaidSome : ℕ → ℕ → ℕ → Option (List ℕ) → Option (List ℕ) → Type 0
+SaidSome status faults_before faults_now before now =
+    (r : Refusal) × (status_of r ≡ status) × Said faults_before faults_now before now (refusal_view r).line
 
 -- this status, and its line where the sink had no fault
 abbrev pub TellsSo : ℕ → ℕ → Option (List ℕ) → Option (List ℕ) → Refused → ℕ → Type 0

@@ -3,7 +3,7 @@ ghost use Rattle.std.specs.Prelude.{codes, ◌≡◌, ◌≢◌, ◌↔◌, ℕ,
 ghost use Rattle.std.specs.Io.KnownBytes.{Keeps};
 ghost use Rattle.outside_io.specs.Outside.{Rose};
 ghost use Rattle.replay_engine.specs.Outcome.{ComesTo, IsAlone, IsComplete, LendsNames, RefusedBy, Said};
-ghost use Rattle.replay_engine.specs.Outcome.{SaidTooLong, TellsSo, WroteAll, WroteFront, is_status};
+ghost use Rattle.replay_engine.specs.Outcome.{SaidSome, SaidTooLong, TellsSo, WroteAll, WroteFront, is_status};
 ghost use Rattle.replay_engine.specs.RefusalView.{IsTold};
 ghost use Rattle.replay_engine.specs.Refused.{usage};
 ghost use Rattle.command_words.specs.Forms.{form_of};
@@ -105,6 +105,10 @@ pub fn run_alone<F: Files, O: Sink, E: Sink>(
     // Faults of the outside, and want of memory.
     ensures read { result ≡ 4 → Rose (F.faults files.old) (F.faults files.new) }
     ensures write { result ≡ 5 → Rose (O.faults out.old) (O.faults out.new) }
+    ensures judged_line { result ≡ 1
+        → SaidSome 1 (E.faults err.old) (E.faults err.new) (E.taken err.old) (E.taken err.new) }
+    ensures refused_line { result ≡ 3
+        → SaidSome 3 (E.faults err.old) (E.faults err.new) (E.taken err.old) (E.taken err.new) }
     ensures usage_line { result ≡ 2
         → Said (E.faults err.old) (E.faults err.new) (E.taken err.old) (E.taken err.new) usage.line }
     ensures too_long_line { result ≡ 7
@@ -189,6 +193,10 @@ pub fn run<R: Threads + Wait + Sync, F: Files, O: Sink, E: Sink, G: Gate + Sync>
     // Faults of the outside, and want of memory.
     ensures read { result ≡ 4 → Rose (F.faults files.old) (F.faults files.new) }
     ensures write { result ≡ 5 → Rose (O.faults out.old) (O.faults out.new) }
+    ensures judged_line { result ≡ 1
+        → SaidSome 1 (E.faults err.old) (E.faults err.new) (E.taken err.old) (E.taken err.new) }
+    ensures refused_line { result ≡ 3
+        → SaidSome 3 (E.faults err.old) (E.faults err.new) (E.taken err.old) (E.taken err.new) }
     ensures usage_line { result ≡ 2
         → Said (E.faults err.old) (E.faults err.new) (E.taken err.old) (E.taken err.new) usage.line }
     ensures too_long_line { result ≡ 7
