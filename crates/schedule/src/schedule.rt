@@ -101,8 +101,10 @@ impl Schedule {
 
     /// The owner of a channel takes its next message, where there is one, and the channel lets it go.
     pub fn receive_next(&mut self, channel: u32) -> Result<(), AllocError>
-        ensures { (how : Lines) (plan : PlanView) (es : List Effect) → HasWith how plan es self.old
+        ensures after { (how : Lines) (plan : PlanView) (es : List Effect) → HasWith how plan es self.old
             → OnOk result (HasWith how plan (answered plan.displays (CallView.Receive channel) es) self.new) }
+        ensures messages { self.new.messages ≡ self.old.messages }
+        ensures latest { self.new.latest ≡ self.old.latest }
     {
         self.receive_one(channel)?;
         self.dispatcher.let_go(channel);
