@@ -142,3 +142,66 @@ def motions(messages, device):
         last = match.group(7)
         said.append((match.group(2), match.group(4), match.group(5), last))
     return said
+
+
+ITEM = re.compile(r"one (\d+)|batch (\d+)-(\d+) (\d) (\d+)")
+
+
+def items_of(messages, items):
+    """Each message of a channel stands in one item: a move of a device in a batch of at most 256 of its moves, which follow one another, and
+    any other message alone. Both come in the order of the messages."""
+    alone = []
+    moves = {}
+    for text in messages:
+        match = MOTION.fullmatch(text)
+        number = int(text.split(" ")[0])
+        if match and match.group(4) == "MOVE":
+            moves.setdefault(match.group(3), []).append(number)
+        else:
+            alone.append(number)
+    ones = []
+    taken = {device: 0 for device in moves}
+    for text in items:
+        match = ITEM.fullmatch(text)
+        need(match, "no item: %s" % text)
+        if match.group(1):
+            ones.append(int(match.group(1)))
+            continue
+        first, last, device, count = int(match.group(2)), int(match.group(3)), match.group(4), int(match.group(5))
+        at = taken.get(device, 0)
+        batch = moves.get(device, [])[at : at + count]
+        need(1 <= count <= 256 and len(batch) == count and (batch[0], batch[-1]) == (first, last), "no batch of the next moves: %s" % text)
+        taken[device] = at + count
+    need(ones == alone, "the messages that stand alone are %s and not %s" % (ones[:9], alone[:9]))
+    need(all(taken[device] == len(moves[device]) for device in moves), "not all moves stand in a batch")
+
+
+def batches(told, out):
+    """The text of `batch` has the channels of the streams, and each message of a channel in one item."""
+    lines = out.decode("ascii").split("\n")
+    need(lines.pop() == "", "the last line has no newline")
+    for number, _, messages, _ in told:
+        need(lines and lines[0] == "channel %d" % number, "no section of channel %d" % number)
+        count = next((k for k, text in enumerate(lines) if text.startswith("items ")), None)
+        need(count is not None and lines[count] == "items %d" % (count - 1), "the items of channel %d are not counted" % number)
+        items_of(messages, lines[1:count])
+        lines = lines[count + 1 :]
+    need(not lines, "a line stands behind the last section: %s" % lines[:1])
+
+
+def hovers(case, out):
+    """Each window is entered, then moved over, then left; no moment falls, nothing comes after a removal, and at the end one is entered at most."""
+    lines = out.decode("ascii").split("\n")
+    need(lines.pop() == "", "the last line has no newline")
+    inside = 0
+    for number, (name, _, _, _) in enumerate(case.channels, 1):
+        need(lines and lines.pop(0) == "channel %d %s" % (number, name), "no section of channel %d" % number)
+        entered, before, count = False, 0, 0
+        while lines and not lines[0].startswith("end "):
+            moment, action, _ = lines.pop(0).split(" ")
+            need((action == "HOVER_ENTER") != entered, "channel %d is told %s at %s" % (number, action, moment))
+            need(before <= int(moment) <= case.removed.get(name, int(moment)), "channel %d is told something at %s" % (number, moment))
+            entered, before, count = action != "HOVER_EXIT", int(moment), count + 1
+        need(lines and lines.pop(0) == "end %d %d" % (number, count), "channel %d has no end, or another count" % number)
+        inside += entered and name not in case.removed
+    need(not lines and inside <= 1, "%d windows are entered at the end, and %s stands behind" % (inside, lines[:1]))
