@@ -1,44 +1,64 @@
 -- The mask of the channels whose owners finish what they are given.
-use Rattle.std.proofs.Common.{◌≡◌, ◌∙◌, ◌≤◌, ℕ, ◌+◌, Bool, true, false, List, [], ◌∷◌, ◌||◌, cond, sym, refl, ap, arith, ◌-◌, zero, suc, length, take, drop, slice_index_or}
+use Rattle.std.proofs.Common.{◌≡◌, ◌∙◌, ◌≤◌, ℕ, ◌+◌, ◌<◌, Bool, true, false, List, [], ◌∷◌, ◌||◌, ◌&&◌, map, cond, sym, refl, ap, arith, ◌-◌, zero, suc, length, take, drop, slice_index_or}
 use Rattle.std.specs.Prelude.{◌==◌}
-use Rattle.std.proofs.lemmas.Bool.{lt-ltb, le-leb, and_from, or_right, eqb-true, eq-eqb}
+use Rattle.std.proofs.lemmas.Bool.{lt-ltb, le-leb, and_from, or_right, eqb-true, eq-eqb, ne_eqb, true≢false}
 use Rattle.window_snapshot.specs.Mask.{is_channel, mask_has, mask_with}
-use Rattle.window_snapshot.proofs.Masks.{mask_has-with}
+use Rattle.window_snapshot.proofs.Masks.{mask_has-with, mask_has-zero}
 use Rattle.dispatch_history.specs.Plan.{ChannelOf}
 use Rattle.replay_engine.specs.Races.{finishes_from}
 
-or_left_true : (a b : Bool) → a ≡ true → (a || b) ≡ true
-or_left_true true b e = refl
-or_left_true false b e = absurd (let f : false ≡ true = e in cc)
+or_none : (a b : Bool) → b ≡ false → (a || b) ≡ a
+or_none true b e = refl
+or_none false b e = e
+
+and_none : (a b : Bool) → b ≡ false → (a && b) ≡ false
+and_none true b e = e
+and_none false b e = refl
 
 is_number : (c : ℕ) → 1 ≤ c → c ≤ 64 → is_channel c ≡ true
 is_number c low high = and_from _ _ (lt-ltb 0 c (omega (arith, low))) (le-leb c 64 high)
 
+-- a number below the first one is that of no channel that finishes
+below : (c k : ℕ) (ps : List ChannelOf) → c < k → finishes_from k ps c ≡ false
+below c k [] lt = refl
+below c k (p ∷ ps) lt =
+    ap (λ b. cond b p.finishes (finishes_from (k + 1) ps c)) (ne_eqb c k (λ e. omega (arith, lt, e))) ∙ below c (k + 1) ps (omega (arith, lt))
+
 here_or_behind : (number c : ℕ) (p : ChannelOf) (ps : List ChannelOf) (mask : ℕ) (b : Bool) → (c == number) ≡ b → 1 ≤ number → number ≤ 64
-    → ((d : ℕ) → finishes_from (number + 1) ps d ≡ true → mask_has mask d ≡ true)
-    → cond b p.finishes (finishes_from (number + 1) ps c) ≡ true
-    → mask_has (mask_with mask number) c ≡ true
-here_or_behind number c p ps mask true e low high behind is =
+    → p.finishes ≡ true → ((d : ℕ) → mask_has mask d ≡ finishes_from (number + 1) ps d)
+    → mask_has (mask_with mask number) c ≡ cond b p.finishes (finishes_from (number + 1) ps c)
+here_or_behind number c p ps mask true e low high finishes behind =
     let same : number ≡ c = sym (eqb-true c number e) in
-    mask_has-with mask number c ∙ or_right (mask_has mask c) _ (and_from _ _ (ap is_channel (sym same) ∙ is_number number low high) (eq-eqb number c same))
-here_or_behind number c p ps mask false e low high behind is =
-    mask_has-with mask number c ∙ or_left_true (mask_has mask c) _ (behind c is)
+    mask_has-with mask number c
+    ∙ or_right (mask_has mask c) _ (and_from _ _ (ap is_channel (sym same) ∙ is_number number low high) (eq-eqb number c same))
+    ∙ sym finishes
+here_or_behind number c p ps mask false e low high finishes behind =
+    mask_has-with mask number c
+    ∙ or_none (mask_has mask c) _ (and_none (is_channel c) _ (ne_eqb number c (λ same. true≢false (sym (eq-eqb c number (sym same)) ∙ e))))
+    ∙ behind c
 
 -- the first channel's owner finishes
 pub finishing_with : (number : ℕ) (p : ChannelOf) (ps : List ChannelOf) (mask : ℕ) → 1 ≤ number → number ≤ 64
-    → ((d : ℕ) → finishes_from (number + 1) ps d ≡ true → mask_has mask d ≡ true)
-    → (c : ℕ) → finishes_from number (p ∷ ps) c ≡ true → mask_has (mask_with mask number) c ≡ true
-finishing_with number p ps mask low high behind c is = here_or_behind number c p ps mask (c == number) refl low high behind is
+    → p.finishes ≡ true → ((d : ℕ) → mask_has mask d ≡ finishes_from (number + 1) ps d)
+    → (c : ℕ) → mask_has (mask_with mask number) c ≡ finishes_from number (p ∷ ps) c
+finishing_with number p ps mask low high finishes behind c = here_or_behind number c p ps mask (c == number) refl low high finishes behind
 
-only_behind : (p : ChannelOf) (rest b : Bool) → p.finishes ≡ false → cond b p.finishes rest ≡ true → rest ≡ true
-only_behind p rest true e is = absurd (let f : false ≡ true = sym e ∙ is in cc)
-only_behind p rest false e is = is
+only_behind : (number c : ℕ) (p : ChannelOf) (ps : List ChannelOf) (mask : ℕ) (b : Bool) → (c == number) ≡ b → p.finishes ≡ false
+    → ((d : ℕ) → mask_has mask d ≡ finishes_from (number + 1) ps d) → mask_has mask c ≡ cond b p.finishes (finishes_from (number + 1) ps c)
+only_behind number c p ps mask true e never behind =
+    behind c ∙ below c (number + 1) ps (omega (arith, eqb-true c number e)) ∙ sym never
+only_behind number c p ps mask false e never behind = behind c
 
 -- it does not
 pub finishing_without : (number : ℕ) (p : ChannelOf) (ps : List ChannelOf) (mask : ℕ) → p.finishes ≡ false
-    → ((d : ℕ) → finishes_from (number + 1) ps d ≡ true → mask_has mask d ≡ true)
-    → (c : ℕ) → finishes_from number (p ∷ ps) c ≡ true → mask_has mask c ≡ true
-finishing_without number p ps mask e behind c is = behind c (only_behind p (finishes_from (number + 1) ps c) (c == number) e is)
+    → ((d : ℕ) → mask_has mask d ≡ finishes_from (number + 1) ps d) → (c : ℕ) → mask_has mask c ≡ finishes_from number (p ∷ ps) c
+finishing_without number p ps mask never behind c = only_behind number c p ps mask (c == number) refl never behind
+
+-- there is no channel
+pub finishing_none : {A : Type 0} (number : ℕ) (view : A → ChannelOf) (xs : List A) → length xs ≡ 0
+    → (c : ℕ) → mask_has 0 c ≡ finishes_from number (map view xs) c
+finishing_none number view [] e c = mask_has-zero c
+finishing_none number view (x ∷ xs) e c = absurd (omega (arith, e))
 
 whole : {A : Type 0} (n : ℕ) (xs : List A) → length xs ≤ n → take n xs ≡ xs
 whole zero [] h = refl

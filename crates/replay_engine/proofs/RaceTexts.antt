@@ -5,9 +5,10 @@ use Rattle.std.proofs.lemmas.Bool.{eqb-true, eq-eqb}
 use Rattle.std.proofs.lemmas.List.{length-map}
 use Rattle.input_types.specs.declared.message.Args.{Args}
 use Rattle.dispatch_calls.specs.declared.call.Call.{Call}
+use Rattle.dispatch_calls.specs.declared.call.Call.TheVariants.{Finish}
 use Rattle.dispatch_calls.specs.declared.reply.Reply.{Reply}
 use Rattle.dispatch_history.specs.History.{History}
-use Rattle.dispatch_core.specs.Machine.{called}
+use Rattle.dispatch_core.specs.Machine.{called, steps}
 use Rattle.dispatch_history.specs.Given.{opens}
 use Rattle.dispatch_history.specs.Plan.{Plan}
 use Rattle.dispatch_history.specs.Settled.{Settled}
@@ -16,7 +17,10 @@ use Rattle.given_run.specs.Planned.{cooked_of}
 use Rattle.lane_laws.specs.Lanes.{Own, calls_made}
 use Rattle.lane_laws.specs.Race.{IsRace, ScriptsMade, SeatsDiffer, has_seat}
 use Rattle.turnstile.specs.History.{Entry as Called}
-use Rattle.lane_laws.proofs.Orders.{seat_lane}
+use Rattle.lane_laws.proofs.Orders.{seat_lane, history_same}
+use Rattle.lane_laws.proofs.Spelled.{order_law}
+use Rattle.lane_laws.specs.Finishing.{IsOrderly, AreOrderly}
+use Rattle.dispatch_history.specs.Legal.{replay}
 use Rattle.lane_laws.proofs.Tallies.{counts_law}
 use Rattle.race_text.proofs.Printing.{prints_law}
 use Rattle.race_text.specs.Laws.{Prints}
@@ -61,6 +65,9 @@ seat_of l (s ∷ seats) (suc k) differ h =
     let t = behind.0 in
     (t, ap (λ b. cond b (Some l) (lane_from (l + 1) seats t)) (other_seat seats s t (l + 1) _ (s == t) differ.0 behind.1 refl) ∙ behind.1 ∙ ap Some (omega arith))
 
+ok_same : {E : Type 0} (x : Result (List Call) E) (a b : List Call) → x ≡ Ok a → x ≡ Ok b → a ≡ b
+ok_same x a b e f = cc
+
 less_settled : (displays : List ℕ) (h : History) (f g : ℕ → Bool) → ((c : ℕ) → g c ≡ true → f c ≡ true) → Settled displays h f → Settled displays h g
 less_settled displays h f g less s =
     record {
@@ -70,6 +77,15 @@ less_settled displays h f g less s =
       taken = s.taken;
       done = λ c live is. s.done c live (less c is);
     }
+
+-- a finish that is orderly for channels is so for more of them
+one_within : (f g : ℕ → Bool) → ((c : ℕ) → f c ≡ true → g c ≡ true) → (h : History) (call : Call) → IsOrderly f h call → IsOrderly g h call
+one_within f g more h (Finish now c seq) o = (more c o.0, o.1, o.2)
+one_within f g more h call o = o
+
+orderly_within : (f g : ℕ → Bool) → ((c : ℕ) → f c ≡ true → g c ≡ true) → (h : History) → AreOrderly f h → AreOrderly g h
+orderly_within f g more [] o = o
+orderly_within f g more (e ∷ h) o = (one_within f g more h e.0 o.0, orderly_within f g more h o.1)
 
 -- what is printed of a race of a session's run
 pub race_written : (p : PlanData) (past : List RawEvent) (end : RaceEnd) → EndsRace (run_of p past) end
@@ -81,6 +97,10 @@ race_written p past end ends again =
     let order = order_of_history seats end.core.entries in
     let prints : Prints plan (mask_has ends.mask) (names_of p) seats end.core = prints_law plan (mask_has ends.mask) (names_of p) seats end.core ends.displays_are ends.race in
     let counts = counts_law plan (mask_has ends.mask) seats end.core.entries ends.race in
+    let law = order_law plan (mask_has ends.mask) seats end.core.entries ends.race in
+    let calls : prints.calls ≡ law.0 = ok_same _ _ _ prints.given_is law.1 in
+    let there : replay plan.displays (reverse prints.calls) ≡ steps (called end.core.entries) =
+    ap (λ (cs : List Call). replay plan.displays (reverse cs)) calls ∙ law.2 ∙ sym (history_same end.core.entries) in
     record {
       order = order;
       calls = prints.calls;
@@ -93,7 +113,10 @@ race_written p past end ends again =
       given_is = prints.given_is;
       text_is = prints.text_is;
       again = again;
-      settled = less_settled _ _ (mask_has ends.mask) _ ends.finishing_are prints.settled;
+      orderly =
+          subst (AreOrderly _) (sym there)
+          (orderly_within (mask_has ends.mask) _ (λ c is. sym (ends.finishing_are c) ∙ is) (steps (called end.core.entries)) ends.race.race.orderly);
+      settled = less_settled _ _ (mask_has ends.mask) _ (λ c is. ends.finishing_are c ∙ is) prints.settled;
     }
 
 -- what holds of an answer by two facts

@@ -1,5 +1,5 @@
 -- A race of a plan, as its functions see it.
-use Rattle.std.specs.Prelude.{◌≡◌, ℕ, true, length, map}
+use Rattle.std.specs.Prelude.{◌≡◌, ℕ, length, map}
 use Rattle.window_snapshot.specs.Mask.{mask_has}
 use Rattle.dispatch_history.specs.Ordered.{is_scripted}
 use Rattle.dispatch_history.specs.Plan.{Plan}
@@ -11,9 +11,9 @@ use Rattle.replay_actors.specs.declared.part.RaceEnd.{RaceEnd}
 use Rattle.replay_actors.specs.Plans.{scripted}
 use Rattle.replay_engine.specs.Races.{finishes_from}
 
--- the mask has each of these channels whose owner finishes what it is given
+-- the mask is that of these channels whose owners finish what they are given
 abbrev pub HasFinishing : Plan → ℕ → Type 0
-HasFinishing plan mask = (c : ℕ) → finishes_from 1 plan.channels c ≡ true → mask_has mask c ≡ true
+HasFinishing plan mask = (c : ℕ) → mask_has mask c ≡ finishes_from 1 plan.channels c
 
 -- these lanes do what a plan has
 pub record DoPlan (plan : Plan) (l : Lanes) : Type 0 where

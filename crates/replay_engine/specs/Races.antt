@@ -7,6 +7,7 @@ use Rattle.dispatch_history.specs.Legal.{run, replay}
 use Rattle.dispatch_history.specs.Plan.{ChannelOf, Plan}
 use Rattle.dispatch_history.specs.Settled.{Settled}
 use Rattle.stream_text.specs.OrderAsks.{line_of}
+use Rattle.lane_laws.specs.Finishing.{AreOrderly}
 use Rattle.lane_laws.specs.Orders.{readers, steps_in}
 use Rattle.dispatch_history.specs.Given.{calls_of_lane}
 use Rattle.race_text.specs.Texts.{ReadsAgain}
@@ -39,6 +40,10 @@ pub record RacedSo (plan : PlanData) (past : List RawEvent) (text : List ℕ) : 
   pub text_is : text ≡ order_spelling order ++ streams_text (names_of plan) (run (device_displays plan.devices) (reverse calls))
   -- who reads the text as an order file reads this order
   pub again : ReadsAgain order
+  -- owners that finish do so with what they were given, none of it twice, and no other owner finishes anything
+  pub orderly :
+      AreOrderly (finishes_from 1 (map channel_of plan.channels))
+      (replay (device_displays plan.devices) (reverse calls))
   pub settled :
       Settled (device_displays plan.devices) (replay (device_displays plan.devices) (reverse calls))
       (finishes_from 1 (map channel_of plan.channels))

@@ -34,10 +34,9 @@ use text_pieces::Pieces;
 use window_snapshot::mask_with;
 
 /// The channels whose owners finish what they are given, as a mask, where the first channel has this number.
-#[tactic(auto, using(crate::proofs::Finishing::finishing_without))]
 fn finishing(number: u32, channels: &[Channel]) -> u64
     requires { (1 ≤ number) × (number + length channels.now ≤ 65) }
-    ensures { (c : ℕ) → finishes_from number (map channel_of channels.now) c ≡ true → mask_has result c ≡ true }
+    ensures { (c : ℕ) → mask_has result c ≡ finishes_from number (map channel_of channels.now) c }
 {
     match channels {
         [first, rest @ ..] => {

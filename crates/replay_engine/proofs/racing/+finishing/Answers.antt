@@ -1,14 +1,14 @@
 -- The first channel, and the channels behind it.
-use Rattle.std.proofs.Common.{◌≡◌, ◌∙◌, List, ◌∷◌, true, ap, subst, arith, ◌-◌, length, take, drop, map}
+use Rattle.std.proofs.Common.{◌≡◌, ◌∙◌, List, ◌∷◌, ap, sym, arith, ◌-◌, length, take, drop, map}
 use Rattle.window_snapshot.specs.Mask.{mask_has}
 use Rattle.schedule.specs.declared.plan.Channel.{Channel}
 use Rattle.schedule.specs.Planned.{channel_of}
 use Rattle.replay_engine.specs.Races.{finishes_from}
-use Rattle.replay_engine.proofs.Finishing.{finishing_with, first_and_rest}
+use Rattle.replay_engine.proofs.Finishing.{finishing_with, finishing_without, first_and_rest}
 use Rattle.replay_engine.proofs.racing.+finishing.Goals as goal
 
 pub returns-then-first : goal.returns-then-first
-returns-then-first t c = λ d is.
+returns-then-first t c = λ d.
     let all = c.args.channels.now in
     let first = c.first-item.result in
     let rest : List Channel = take (length all - 1) (drop 1 all) in
@@ -16,5 +16,17 @@ returns-then-first t c = λ d is.
     ap (λ m. mask_has m d) c.mask_with.ensures
     ∙ finishing_with c.args.number (channel_of first) (map channel_of rest) c.finishing-mask.result
     (omega (arith, c.requires)) (omega (arith, c.requires, c.in-len1-up.len_at_least))
+    c.if-first.true
     c.finishing-mask.ensures d
-    (subst (λ (cs : List Channel). finishes_from c.args.number (map channel_of cs) d ≡ true) whole is)
+    ∙ ap (λ (cs : List Channel). finishes_from c.args.number (map channel_of cs) d) (sym whole)
+
+pub returns-else-first : goal.returns-else-first
+returns-else-first t c = λ d.
+    let all = c.args.channels.now in
+    let first = c.first-item.result in
+    let rest : List Channel = take (length all - 1) (drop 1 all) in
+    let whole : all ≡ first ∷ rest = first_and_rest all first (omega (arith, c.in-len1-up.len_at_least)) c.first-item.is in
+    finishing_without c.args.number (channel_of first) (map channel_of rest) c.finishing-mask.result
+    c.if-first.false
+    c.finishing-mask.ensures d
+    ∙ ap (λ (cs : List Channel). finishes_from c.args.number (map channel_of cs) d) (sym whole)

@@ -1,5 +1,5 @@
 -- The lanes do what the plan has.
-use Rattle.std.proofs.Common.{◌≡◌, ◌∙◌, ℕ, List, true, sym, subst, map, arith}
+use Rattle.std.proofs.Common.{◌≡◌, ◌∙◌, ℕ, List, sym, subst, map, arith}
 use Rattle.std.proofs.lemmas.List.{length-map}
 use Rattle.window_snapshot.specs.Mask.{mask_has}
 use Rattle.schedule.specs.declared.plan.Channel.{Channel}
@@ -17,6 +17,6 @@ returns c =
       few = sym c.in_ok-scripts_of.field-0.ok.0 ∙ c.in_ok-scripts_of.ensures.few;
       channels_are = omega (arith, c.len.ensures, length-map c.args.plan.channels.items channel_of);
       finishing_are =
-          subst (λ (cs : List Channel). (d : ℕ) → finishes_from 1 (map channel_of cs) d ≡ true → mask_has c.finishing-finishing.result d ≡ true)
+          subst (λ (cs : List Channel). (d : ℕ) → mask_has c.finishing-finishing.result d ≡ finishes_from 1 (map channel_of cs) d)
           c.deref.ensures.value c.finishing-finishing.ensures;
     }
