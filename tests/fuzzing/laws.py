@@ -6,7 +6,7 @@ LINES = {
     0: r"",
     1: r"(order: (BadLine|NoStep) \d+|stream: (BadLine|NotWellFormed|NoChannel|TooLate|NotAssignable)( \d+)?)\n",
     2: r"usage: inputflinger [a-z|]+\n",
-    3: r"(session: (NotToml|NotBuilt|(Missing|Wrong|UnknownName) \S+|OutOfRange \S+ -?\d+|BadLayout \d \d+)|recording: (BadLine|NoMoment|TooLong) \d+)\n",
+    3: r"(session: (NotToml|(Missing|Wrong|UnknownName) \S+|OutOfRange \S+ -?\d+|BadLayout \d \d+)|recording: (BadLine|NoMoment|TooLong) \d+)\n",
     4: r"read failed\n",
     5: r"write failed\n",
     6: r"no memory\n",
