@@ -9,6 +9,7 @@ use Rattle.dispatch_calls.specs.declared.call.Call.TheVariants.{Finish}
 use Rattle.dispatch_calls.specs.declared.reply.Reply.{Reply}
 use Rattle.dispatch_history.specs.History.{History}
 use Rattle.dispatch_core.specs.Machine.{called, steps}
+use Rattle.dispatch_core.specs.Recorded.{IsSound, history_of}
 use Rattle.dispatch_history.specs.Given.{opens}
 use Rattle.dispatch_history.specs.Plan.{Plan}
 use Rattle.dispatch_history.specs.Settled.{Settled}
@@ -20,7 +21,8 @@ use Rattle.turnstile.specs.History.{Entry as Called}
 use Rattle.lane_laws.proofs.Orders.{seat_lane, history_same}
 use Rattle.lane_laws.proofs.Spelled.{order_law}
 use Rattle.lane_laws.specs.Finishing.{IsOrderly, AreOrderly}
-use Rattle.dispatch_history.specs.Legal.{replay}
+use Rattle.dispatch_history.specs.Effects.{effects}
+use Rattle.dispatch_history.specs.Legal.{replay, run}
 use Rattle.lane_laws.proofs.Tallies.{counts_law}
 use Rattle.race_text.proofs.Printing.{prints_law}
 use Rattle.race_text.specs.Laws.{Prints}
@@ -35,6 +37,8 @@ use Rattle.stream_text.specs.OrderHistory.{lane_from, order_of_history}
 use Rattle.replay_engine.specs.Planned.{names_of, run_of}
 use Rattle.replay_engine.specs.Races.{RacedSo}
 use Rattle.replay_engine.specs.RaceEnds.{DoPlan, EndsRace}
+use Rattle.replay_engine.specs.Whole.{AreWhole}
+use Rattle.replay_engine.proofs.WholeRun.{sound_whole}
 
 -- args as pairs
 pub paired : (all : List GivenArgs) → map {B = ℕ × Args} (λ a. (a.moment, a.args)) all ≡ map {B = ℕ × Args} (λ a. (a.moment, a.args)) (map cooked_of all)
@@ -112,6 +116,9 @@ race_written p past end ends again =
       };
       given_is = prints.given_is;
       text_is = prints.text_is;
+      whole =
+          subst (AreWhole plan.displays) (sym (ap (λ (cs : List Call). run plan.displays (reverse cs)) calls ∙ law.3))
+          (subst (λ (ds : List ℕ). AreWhole ds (effects ds (history_of end.core.entries))) ends.displays_are (sound_whole end.core ends.sound));
       again = again;
       orderly =
           subst (AreOrderly _) (sym there)
@@ -119,18 +126,20 @@ race_written p past end ends again =
       settled = less_settled _ _ (mask_has ends.mask) _ (λ c is. ends.finishing_are c ∙ is) prints.settled;
     }
 
--- what holds of an answer by two facts
-pub if_ok_both : {A E : Type 0} (r : Result A E) (P Q S : A → Type 0) → ((x : A) → P x → Q x → S x) → IfOk r P → IfOk r Q → IfOk r S
-if_ok_both (Ok x) P Q S f p q = f x p q
-if_ok_both (Err x) P Q S f p q = q
+-- what holds of an answer by three facts
+pub if_ok_three : {A E : Type 0} (r : Result A E) (P Q R S : A → Type 0)
+    → ((x : A) → P x → Q x → R x → S x) → IfOk r P → IfOk r Q → IfOk r R → IfOk r S
+if_ok_three (Ok x) P Q R S f p q s = f x p q s
+if_ok_three (Err x) P Q R S f p q s = q
 
 -- a race of lanes that do what a plan has
 pub ends_race : (plan : Plan) (l : Lanes) (own : List Own) (end : RaceEnd) → DoPlan plan l
     → calls_made own ≡ reverse (opens plan.channels)
     → Some end.core.displays ≡ Some plan.displays
     → IsRace end.core.displays (mask_has l.finishing) own l.cooked.items (scripted l.scripts.items) end.script_seats.items (called end.core.entries)
+    → IsSound end.core
     → EndsRace plan end
-ends_race plan l own end does opened displays race =
+ends_race plan l own end does opened displays race sound =
     let same : end.core.displays ≡ plan.displays = cc in
     let scripts = scripted l.scripts.items in
     let seats = end.script_seats.items in
@@ -140,6 +149,7 @@ ends_race plan l own end does opened displays race =
       finishing_are = does.finishing_are;
       few = seats_many seats scripts h race.scripts_made ∙ length-map l.scripts.items _ ∙ does.few;
       displays_are = same;
+      sound = sound;
       race = record {
         opened = own;
         scripts = scripts;

@@ -13,6 +13,7 @@ use Rattle.stream_text.specs.StreamsHistory.{streams_text}
 use Rattle.replay_engine.specs.Judged.{Answer}
 use Rattle.replay_engine.specs.Planned.{given, names_of, run_of}
 use Rattle.replay_engine.specs.Refused.{Refused, bad_order_line, no_step, too_long}
+use Rattle.replay_engine.specs.Whole.{AreWhole}
 
 -- the most bytes of an order file, 64 MiB
 abbrev pub order_limit : ℕ
@@ -48,6 +49,18 @@ followed plan past lines =
     (cond (nat_le (length lines) line_limit) (steps_judged plan (history.given (run_of plan past) (map line_of lines))) (Err (too_long (codes "run"))))
     (Err (too_long (codes "run")))
 
+-- The text that an order comes to, which is of the streams of its calls, and these are whole.
+pub record FollowsTo (plan : PlanData) (past : List RawEvent) (lines : List OrderLine) (text : List ℕ) : Type 0 where
+  pub calls : List Call
+  pub given_is : history.given (run_of plan past) (map line_of lines) ≡ Ok calls
+  pub whole : AreWhole (device_displays plan.devices) (run (device_displays plan.devices) (reverse calls))
+  pub text_is : followed plan past lines ≡ Ok text
+
+-- the text of an order for the events of a recording, the newest first, or why it has none
+abbrev pub IsFollowed : PlanData → List RawEvent → List OrderLine → Answer → Type 0
+IsFollowed plan past lines (Ok text) = FollowsTo plan past lines text
+IsFollowed plan past lines (Err r) = followed plan past lines ≡ Err r
+
 -- what an order comes to for the events of a recording, which stand in their order
 abbrev pub OrderAnswers : PlanData → List RawEvent → List OrderLine → Answer → Type 0
-OrderAnswers plan events lines a = followed plan (reverse events) lines ≡ a
+OrderAnswers plan events lines a = IsFollowed plan (reverse events) lines a

@@ -20,4 +20,5 @@ pub mod RefusalView
 pub mod Refusing
 pub mod Replayed
 pub mod Verdict
+pub mod Whole
 pub mod Worked

@@ -7,7 +7,7 @@ use Rattle.replay_engine.specs.declared.statuses.Subject.{Subject}
 use Rattle.replay_engine.specs.Judged.{Answer, IfTold}
 use Rattle.replay_engine.specs.Program.{AnswersTo, AreAccepted, IsAnswer, IsAccepted}
 use Rattle.replay_engine.specs.Refused.{Refused, too_long}
-use Rattle.replay_engine.specs.RefusalView.{subject_word, status_of, refusal_view}
+use Rattle.replay_engine.specs.RefusalView.{HasCause, subject_word, status_of, refusal_view}
 use Rattle.command_words.specs.Command.{Command, replay, race, check, verify, work, batch, hover, emit}
 
 -- The files lend each name that the words give: that of a recording only where the session is accepted, and that of an order file only
@@ -63,10 +63,10 @@ abbrev pub SaidTooLong : ℕ → ℕ → Option (List ℕ) → Option (List ℕ)
 SaidTooLong faults_before faults_now before now =
     (what : Subject) × Said faults_before faults_now before now (too_long (subject_word what)).line
 
--- a sink whose count did not rise took the line of some refusal with this status
+-- a sink whose count did not rise took the line of some refusal with this status, which has a cause
 abbrev pub SaidSome : ℕ → ℕ → ℕ → Option (List ℕ) → Option (List ℕ) → Type 0
 SaidSome status faults_before faults_now before now =
-    (r : Refusal) × (status_of r ≡ status) × Said faults_before faults_now before now (refusal_view r).line
+    (r : Refusal) × HasCause r × (status_of r ≡ status) × Said faults_before faults_now before now (refusal_view r).line
 
 -- this status, and its line where the sink had no fault
 abbrev pub TellsSo : ℕ → ℕ → Option (List ℕ) → Option (List ℕ) → Refused → ℕ → Type 0

@@ -1,6 +1,7 @@
 -- A race of a plan, as its functions see it.
 use Rattle.std.specs.Prelude.{◌≡◌, ℕ, length, map}
 use Rattle.window_snapshot.specs.Mask.{mask_has}
+use Rattle.dispatch_core.specs.Recorded.{IsSound}
 use Rattle.dispatch_history.specs.Ordered.{is_scripted}
 use Rattle.dispatch_history.specs.Plan.{Plan}
 use Rattle.lane_laws.specs.Laws.{RaceOf}
@@ -24,10 +25,11 @@ pub record DoPlan (plan : Plan) (l : Lanes) : Type 0 where
   pub channels_are : l.channels ≡ length plan.channels
   pub finishing_are : HasFinishing plan l.finishing
 
--- the end of a race that did what a plan has
+-- the end of a race that did what a plan has, with a core whose history is sound
 pub record EndsRace (plan : Plan) (end : RaceEnd) : Type 0 where
   pub mask : ℕ
   pub finishing_are : HasFinishing plan mask
   pub few : length end.script_seats.items ≡ 8
   pub displays_are : end.core.displays ≡ plan.displays
+  pub sound : IsSound end.core
   pub race : RaceOf plan (mask_has mask) end.script_seats.items end.core.entries

@@ -20,6 +20,7 @@ use Rattle.replay_engine.specs.Followed.{given_limit}
 use Rattle.replay_engine.specs.Judged.{Answer}
 use Rattle.replay_engine.specs.Planned.{channel_of, given, names_of, run_of}
 use Rattle.replay_engine.specs.Refused.{too_long}
+use Rattle.replay_engine.specs.Whole.{AreWhole}
 
 -- the owner of a channel finishes what it is given, where the first of these channels has the number k
 abbrev pub finishes_from : ℕ → List ChannelOf → ℕ → Bool
@@ -38,6 +39,7 @@ pub record RacedSo (plan : PlanData) (past : List RawEvent) (text : List ℕ) : 
   pub all : AsksForAll (run_of plan past) order
   pub given_is : history.given (run_of plan past) (map line_of order) ≡ Ok calls
   pub text_is : text ≡ order_spelling order ++ streams_text (names_of plan) (run (device_displays plan.devices) (reverse calls))
+  pub whole : AreWhole (device_displays plan.devices) (run (device_displays plan.devices) (reverse calls))
   -- who reads the text as an order file reads this order
   pub again : ReadsAgain order
   -- owners that finish do so with what they were given, none of it twice, and no other owner finishes anything

@@ -1,6 +1,8 @@
 -- What a refusal says outside.
-use Rattle.std.specs.Prelude.{codes, ℕ, List, ◌++◌, ◌⊎◌}
+use Rattle.std.specs.Prelude.{codes, ℕ, List, ◌++◌, ◌⊎◌, ⊤}
 use Rattle.std.specs.Fmt.{decimal}
+use Rattle.raw_events.specs.declared.event.LineError.TheVariants as lines
+use Rattle.session_plan.specs.declared.error.PlanError.TheVariants as plan
 use Rattle.session_plan.specs.ErrorLine.{error_line}
 use Rattle.replay_engine.specs.declared.statuses.Refusal.{Refusal}
 use Rattle.replay_engine.specs.declared.statuses.Refusal.TheVariants.{Usage, Session, Recording, Order, Stream, ReadFailed, NoMemory, TooLong}
@@ -64,10 +66,18 @@ words_of (TooLong what) = codes "too long: " ++ subject_word what
 abbrev pub refusal_view : Refusal → Refused
 refusal_view r = refused (status_of r) (words_of r)
 
--- what was told of a refusal: its status with its line, or, where its line has to be made, that there is no memory for that
+-- A refusal that is told as one has a cause in the files: want of memory for reading them is none, and is told as want of memory.
+abbrev pub HasCause : Refusal → Type 0
+HasCause (Session plan.Memory) = ⊥
+HasCause (Recording lines.Memory) = ⊥
+HasCause r = ⊤
+
+-- What was told of a refusal: its status with its line, or, where its line has to be made, that there is no memory for that.
 abbrev pub IsTold : (Refused → ℕ → Type 0) → Refusal → ℕ → Type 0
-IsTold told (Session error) status = told (refusal_view (Session error)) status ⊎ told (refusal_view NoMemory) status
-IsTold told (Recording error) status = told (refusal_view (Recording error)) status ⊎ told (refusal_view NoMemory) status
+IsTold told (Session error) status =
+    (HasCause (Session error) × told (refusal_view (Session error)) status) ⊎ told (refusal_view NoMemory) status
+IsTold told (Recording error) status =
+    (HasCause (Recording error) × told (refusal_view (Recording error)) status) ⊎ told (refusal_view NoMemory) status
 IsTold told (Order error) status = told (refusal_view (Order error)) status ⊎ told (refusal_view NoMemory) status
 IsTold told (Stream error) status = told (refusal_view (Stream error)) status ⊎ told (refusal_view NoMemory) status
 IsTold told r status = told (refusal_view r) status

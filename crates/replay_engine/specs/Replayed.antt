@@ -1,28 +1,22 @@
 -- What a session comes to for the events of a recording.
-use Rattle.std.specs.Prelude.{codes, ◌≡◌, ℕ, true, List, Result, Ok, Err, Some, IsTrue}
+use Rattle.std.specs.Prelude.{codes, ◌≡◌, ℕ, List, Result, Ok, Err}
 use Rattle.raw_events.specs.declared.event.RawEvent.{RawEvent}
-use Rattle.input_types.specs.StreamRule.{is_well_formed, stream_state}
-use Rattle.dispatch_history.specs.Effect.{Effect, past_of, stream}
-use Rattle.dispatch_history.specs.History.{live}
-use Rattle.dispatch_history.specs.Known.{known_state}
+use Rattle.dispatch_history.specs.Effect.{Effect}
 use Rattle.dispatch_history.specs.Ordered.{Ordered, Rounds}
+use Rattle.session_plan.specs.DeviceDisplays.{device_displays}
 use Rattle.session_plan.specs.Plan.{PlanData}
 use Rattle.stream_text.specs.StreamsHistory.{streams_text}
 use Rattle.schedule.specs.Run.{IsWithin, IsTooLong}
 use Rattle.replay_engine.specs.Planned.{run_of, names_of}
 use Rattle.replay_engine.specs.Refused.{Refused, too_long}
-
--- Every stream is well-formed, and that of a live channel leaves its owner knowing what its window holds.
-pub record AreWhole (es : List Effect) : Type 0 where
-  pub each : (c : ℕ) → IsTrue (is_well_formed (stream es c))
-  pub live_ones : (c : ℕ) → live (past_of es) c ≡ true → stream_state (stream es c) ≡ Some (known_state es c)
+use Rattle.replay_engine.specs.Whole.{AreWhole}
 
 -- The text of the streams of the ordered run, whose calls and messages are no more than may be. Events stand with the newest first.
 pub record Replayed (plan : PlanData) (past : List RawEvent) (text : List ℕ) : Type 0 where
   pub es : List Effect
   pub ordered : Ordered (run_of plan past) es
   pub within : IsWithin es
-  pub whole : AreWhole es
+  pub whole : AreWhole (device_displays plan.devices) es
   pub text_is : text ≡ streams_text (names_of plan) es
 
 -- the ordered run comes to more calls or more messages than may be

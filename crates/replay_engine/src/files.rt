@@ -52,6 +52,7 @@ impl From<SourceRefused> for ReadError {
     }
 }
 
+/// So many bytes, all 0, to be read into.
 fn zeros(alloc: Global, len: usize) -> Result<Vec<u8>, AllocError>
     ensures { IfOk result (λ v. vec_len v ≡ len) }
 {

@@ -10,7 +10,7 @@ ghost use Rattle.session_plan.specs.Valid.{IsPlan};
 ghost use Rattle.session_plan.specs.View.{channel_view, plan_view};
 ghost use Rattle.replay_engine.specs.Begun.{IsPlanned};
 ghost use Rattle.replay_engine.specs.Cooked.{plans_of};
-ghost use Rattle.replay_engine.specs.Followed.{OrderAnswers, followed};
+ghost use Rattle.replay_engine.specs.Followed.{IsFollowed, OrderAnswers};
 ghost use Rattle.replay_engine.specs.Planned.{given};
 ghost use Rattle.replay_engine.specs.Refusing.{RefusesSo};
 
@@ -83,9 +83,9 @@ fn order_run(
     requires run { IsRun planned.plan }
     requires few { length planned.channels.items ≤ 64 }
     ensures ok { (p : PlanData) (past : List Event) → IsPlanned p planned → map cooked_of all.now ≡ given p past
-        → IfOk result (λ text. followed p past order.now ≡ Ok text) }
+        → IfOk result (λ text. IsFollowed p past order.now (Ok text)) }
     ensures err { (p : PlanData) (past : List Event) → IsPlanned p planned → map cooked_of all.now ≡ given p past
-        → IfErr result (RefusesSo (λ r. followed p past order.now ≡ Err r)) }
+        → IfErr result (RefusesSo (λ r. IsFollowed p past order.now (Err r))) }
 {
     if all.len() > GIVEN_LIMIT {
         return Err(Refusal::TooLong(Subject::Run));

@@ -28,7 +28,8 @@ pub enum Subject {
     Steps,
     /// The stream file has more bytes than 64 MiB.
     Stream,
-    /// The run has more calls or more messages than 4,000,000, or the order more lines than 8,000,000.
+    /// The run has more calls or more messages than 4,000,000, the order more lines than 8,000,000, what is checked or
+    /// raced more args than 20,000, or the recording that is written more bytes than 32 MiB.
     Run,
 }
 

@@ -12,7 +12,9 @@ use crate::commands::{prepared, prepared_with, race_names};
 use crate::statuses::{Refusal, USAGE, order_line, recording_line, session_line, stream_line};
 use crate::writing::{tell, write_text};
 use outside_io::{Files, Sink};
+use raw_events::LineError;
 use replay_actors::Gate;
+use session_plan::PlanError;
 use std::alloc::{AllocError, Global};
 use std::sync::Wait;
 use std::thread::Threads;
@@ -47,12 +49,14 @@ fn told<E: Sink>(alloc: Global, refusal: &Refusal, err: &mut E) -> u8
 {
     match refusal {
         Refusal::Usage => told_plain(2, USAGE, err),
+        Refusal::Session(PlanError::Memory) => no_memory(err),
+        Refusal::Recording(LineError::Memory) => no_memory(err),
         Refusal::Session(error) => told_line(3, session_line(alloc, error), err),
         Refusal::Recording(error) => told_line(3, recording_line(alloc, error), err),
         Refusal::Order(error) => told_line(1, order_line(alloc, *error), err),
         Refusal::Stream(error) => told_line(1, stream_line(alloc, *error), err),
         Refusal::ReadFailed => told_plain(4, "read failed\n", err),
-        Refusal::NoMemory => told_plain(6, "no memory\n", err),
+        Refusal::NoMemory => no_memory(err),
         Refusal::TooLong(what) => told_plain(7, what.line(), err),
     }
 }

@@ -36,6 +36,7 @@ impl Model for Judge {
 impl Judge {
     ghost use Rattle.std.specs.Prelude.{[]};
 
+    /// A judge of no messages so far.
     fn new(alloc: Global) -> Judge
         ensures knows { Knows [] result }
         ensures none { result.broken ≡ None }
@@ -105,6 +106,7 @@ impl Judge {
     }
 }
 
+/// The text for so many channels and messages that are well-formed.
 fn well_formed(alloc: Global, channels: u64, messages: u64) -> Result<Vec<u8>, AllocError>
     ensures { IfOk result (λ text. said None channels messages ≡ Ok text.items) }
 {

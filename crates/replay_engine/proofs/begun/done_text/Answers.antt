@@ -1,10 +1,11 @@
 -- The text of a run that is done, or that it is too long.
-use Rattle.std.proofs.Common.{◌≡◌, ◌∙◌, List, ap, sym, refl, length, map}
+use Rattle.std.proofs.Common.{◌≡◌, ◌∙◌, ℕ, List, ap, sym, subst, refl, length, map}
 use Rattle.std.proofs.lemmas.List.{length-map}
 use Rattle.session_plan.specs.Plan.{ChannelData}
 use Rattle.session_plan.specs.View.{channel_view}
 use Rattle.stream_text.specs.StreamsHistory.{streams_text}
 use Rattle.replay_engine.specs.Planned.{channel_of, script_of}
+use Rattle.replay_engine.specs.Whole.{AreWhole}
 use Rattle.replay_engine.proofs.Overruns.{is_overrun, is_within}
 use Rattle.replay_engine.proofs.WholeRun.{lawful_whole}
 use Rattle.replay_engine.proofs.begun.done_text.Goals as goal
@@ -19,7 +20,8 @@ returns c = record {
         es = completed.es;
         ordered = completed.ordered within;
         within = within;
-        whole = lawful_whole c.args.schedule.now.dispatcher.displays completed.es completed.ready.has.stands.lawful completed.ready.has.stands.rise;
+        whole = subst (λ (ds : List ℕ). AreWhole ds completed.es) completed.ready.has.displays_are
+            (lawful_whole c.args.schedule.now.dispatcher.displays completed.es completed.ready.has.stands.lawful completed.ready.has.stands.rise);
         text_is = c.in_ok-text_of.ensures (script_of p) completed.es completed.ready.has completed.ready.opened_is many
             ∙ ap (λ (cs : List ChannelData). streams_text (map (λ d. d.name) cs) completed.es) same;
       };

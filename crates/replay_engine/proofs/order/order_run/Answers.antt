@@ -1,5 +1,5 @@
 -- The text of the calls of an order.
-use Rattle.std.proofs.Common.{◌≡◌, ◌∙◌, ◌≤◌, List, Ok, Err, length, map, reverse, ap, sym, subst, arith}
+use Rattle.std.proofs.Common.{◌≡◌, ◌∙◌, ◌≤◌, ℕ, List, Ok, Err, length, map, reverse, ap, sym, subst, arith}
 use Rattle.std.proofs.lemmas.List.{length-map}
 use Rattle.dispatch_history.specs.Legal.{run}
 use Rattle.dispatch_history.specs.Plan.{Plan}
@@ -15,8 +15,10 @@ use Rattle.session_plan.specs.View.{channel_view}
 use Rattle.stream_text.specs.StreamsHistory.{streams_text}
 use Rattle.replay_engine.specs.Followed.{steps_judged}
 use Rattle.replay_engine.specs.Planned.{channel_of, given, run_of}
+use Rattle.replay_engine.specs.Whole.{AreWhole}
 use Rattle.replay_engine.proofs.Bounds.{given_within}
 use Rattle.replay_engine.proofs.Orders.{same_plan, steps_follow}
+use Rattle.replay_engine.proofs.WholeRun.{lawful_whole}
 use Rattle.replay_engine.proofs.order.order_run.Goals as goal
 
 pub returns-in-Ok-clause-ok : goal.returns-in-Ok-clause-ok
@@ -34,7 +36,13 @@ returns-in-Ok-clause-ok c = λ p past planned is.
     let text = c.in_ok-text_of-in-Ok.ensures (run_of p past) es follows.2 follows.3 many
     ∙ ap (λ (cs : List ChannelPlan). streams_text (map (λ d. d.name) (map channel_view cs)) es) c.deref.ensures.value
     ∙ ap (λ (cs : List ChannelData). streams_text (map (λ d. d.name) cs) es) planned.channels in
-    steps_follow p past c.args.order.now few short ∙ ap (steps_judged p) follows.1 ∙ ap Ok (sym text)
+    record {
+      calls = follows.0;
+      given_is = follows.1;
+      whole = subst (λ (ds : List ℕ). AreWhole ds es) follows.2.displays_are
+          (lawful_whole c.in-Ok.run'.dispatcher.displays es follows.2.stands.lawful follows.2.stands.rise);
+      text_is = steps_follow p past c.args.order.now few short ∙ ap (steps_judged p) follows.1 ∙ ap Ok (sym text);
+    }
 
 pub no_step-requires : goal.no_step-requires
 no_step-requires c =
