@@ -18,7 +18,7 @@ use Rattle.replay_engine.specs.Program.{AnswersTo, CheckAnswers, MouseAnswers, R
 use Rattle.replay_engine.specs.Races.{RaceAnswers, Races}
 use Rattle.replay_engine.specs.Refused.{Refused}
 use Rattle.answer_laws.specs.Laws.{OneAnswer, OneRefusal}
-use Rattle.answer_laws.proofs.Runs.{races_refused, replays_once, works_once}
+use Rattle.answer_laws.proofs.Runs.{follows_once, races_refused, replays_once, works_once}
 
 -- an answer of a kind is the only one
 abbrev Once : (Answer → Type 0) → (Answer → Type 0) → Type 0
@@ -54,7 +54,7 @@ command_once Of entries (Some (race files)) races =
 command_once Of entries (Some (check files order)) races =
     reads_once Of entries files.session session_judged (CheckAnswers entries files.events order)
     (λ plan. reads_once Of entries files.events (events_judged (devices_of plan)) (λ events. Reads entries order order_judged (OrderAnswers plan events))
-    (λ events. reads_once Of entries order order_judged (OrderAnswers plan events) (λ lines a b k x y. sym y ∙ x)))
+    (λ events. reads_once Of entries order order_judged (OrderAnswers plan events) (λ lines a b k x y. follows_once plan (reverse events) lines a b x y)))
 command_once Of entries (Some (verify stream)) races = reads_once Of entries stream stream_judged StreamAnswers (λ bytes a b k x y. sym y ∙ x)
 command_once Of entries (Some (work seed packets)) races = λ a b k x y. works_once seed packets a b x y
 command_once Of entries (Some (batch stream frame)) races = reads_once Of entries stream stream_judged (BatchAnswers frame) (λ bytes a b k x y. sym y ∙ x)

@@ -3,9 +3,11 @@ use Rattle.std.proofs.Common.{◌≡◌, ℕ, List, length, Ok, Err, sym, ap, �
 use Rattle.raw_events.specs.declared.event.RawEvent.{RawEvent}
 use Rattle.dispatch_history.proofs.OrderedLaws.{ordered_unique}
 use Rattle.session_plan.specs.Plan.{PlanData}
+use Rattle.stream_text.specs.declared.order_line.OrderLine.{OrderLine}
 use Rattle.stream_text.specs.StreamsHistory.{streams_text}
 use Rattle.workload_maker.specs.Session.{session}
 use Rattle.run_laws.proofs.Growing.{one_outcome}
+use Rattle.replay_engine.specs.Followed.{IsFollowed, followed}
 use Rattle.replay_engine.specs.Judged.{Answer}
 use Rattle.replay_engine.specs.Planned.{names_of, run_of}
 use Rattle.replay_engine.specs.Races.{Races}
@@ -41,6 +43,14 @@ works_once seed packets (Ok s) (Ok t) x y = ap (λ text. Ok text) (works_one see
 works_once seed packets (Ok s) (Err r) x y = absurd (works_within seed packets s x y.0)
 works_once seed packets (Err r) (Ok t) x y = absurd (works_within seed packets t y x.0)
 works_once seed packets (Err r) (Err q) x y = ap (λ refused. Err refused) (y.1 ∙ sym x.1)
+
+followed_is : (plan : PlanData) (past : List RawEvent) (lines : List OrderLine) (a : Answer) → IsFollowed plan past lines a → followed plan past lines ≡ a
+followed_is plan past lines (Ok text) x = x.text_is
+followed_is plan past lines (Err r) x = x
+
+pub follows_once : (plan : PlanData) (past : List RawEvent) (lines : List OrderLine) (a b : Answer)
+    → IsFollowed plan past lines a → IsFollowed plan past lines b → b ≡ a
+follows_once plan past lines a b x y = sym (followed_is plan past lines b y) ∙ followed_is plan past lines a x
 
 pub races_refused : (plan : PlanData) (past : List RawEvent) (r : Refused) (a : Answer) → Races plan past (Err r) → Races plan past a → a ≡ Err r
 races_refused plan past r (Ok text) x y = absurd (omega (arith, x.0, y.0))
