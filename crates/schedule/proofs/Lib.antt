@@ -15,5 +15,6 @@ pub mod Advancing
 pub mod Running
 pub mod Beginning
 pub mod Written
+pub mod Sections
 pub mod Counting
 pub mod Formed

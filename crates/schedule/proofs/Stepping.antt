@@ -1,6 +1,6 @@
 -- A run with one call more.
 use Rattle.std.proofs.Common.{◌≡◌, ℕ, suc, ◌+◌, ◌==◌, ◌≤◌, false, cond, List, ◌++◌, length, refl, sym, ap, ◌∙◌, subst, inl, inr, ◌⊎◌, arith}
-use Rattle.std.specs.Prelude.{Result, Ok, Err, OnOk}
+use Rattle.std.specs.Prelude.{Result, Ok, Err, OnErr, OnOk}
 use Rattle.std.proofs.lemmas.Bool.{cases_eq, eq-eqb, ne_eqb, true≢false}
 use Rattle.dispatch_calls.specs.declared.call.Call.{Call}
 use Rattle.dispatch_calls.specs.declared.call.Call.TheVariants.{Receive}
@@ -116,3 +116,8 @@ on_ok (Err e) X Y x f = x
 pub on_ok_any : {A E : Type 0} (r : Result A E) (X : Type 0) → X → OnOk r X
 on_ok_any (Ok a) X x = x
 on_ok_any (Err e) X x = tt
+
+-- and that on an error
+pub on_err_any : {A E : Type 0} (r : Result A E) (X : Type 0) → X → OnErr r X
+on_err_any (Ok a) X x = tt
+on_err_any (Err e) X x = x

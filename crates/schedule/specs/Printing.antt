@@ -1,5 +1,5 @@
 -- A run that is being printed.
-use Rattle.std.specs.Prelude.{◌≡◌, ℕ, ◌≤◌, List, length}
+use Rattle.std.specs.Prelude.{◌≡◌, ℕ, ◌≤◌, List, ◌++◌, length, take}
 use Rattle.dispatch_history.specs.Effect.{Effect}
 use Rattle.dispatch_history.specs.Plan.{Plan}
 use Rattle.dispatch_calls.specs.declared.counts.Counts.{Counts}
@@ -17,3 +17,7 @@ pub record Prints (plan : Plan) (es : List Effect) (k : ℕ) (s : ScheduleState)
   pub stands : StandsFor es s.dispatcher
   pub heard : (c : ℕ) → 1 ≤ c → k ≤ c → c ≤ length s.lines → lines_at s.lines c ≡ lines_received es c
   pub as_many : length s.lines ≡ length plan.channels
+
+-- a text with a front part of a section more
+abbrev pub WithFront : List ℕ → List ℕ → List ℕ → Type 0
+WithFront before now section = (count : ℕ) × (now ≡ before ++ take count section)

@@ -1,5 +1,5 @@
 //! The streams text of a run in pieces: the lines of what was received are moved out of the run, and not copied.
-ghost use Rattle.std.specs.Prelude.{◌≡◌, ◌≢◌, ◌≤◌, ◌+◌, ◌++◌, ℕ, true, List, drop, IfOk, OnOk, reverse, length};
+ghost use Rattle.std.specs.Prelude.{◌≡◌, ◌≢◌, ◌≤◌, ◌+◌, ◌++◌, ℕ, true, List, drop, IfOk, OnErr, OnOk, reverse, length};
 ghost use Rattle.std.specs.Option.{unwrap_or};
 ghost use Rattle.dispatch_core.specs.Access.{gone, is_opened};
 ghost use Rattle.dispatch_core.specs.Dispatching.{StandsFor};
@@ -8,7 +8,7 @@ ghost use Rattle.dispatch_history.specs.Effect.{Effect, stream};
 ghost use Rattle.dispatch_history.specs.Plan.{Plan as PlanView};
 ghost use Rattle.schedule.specs.declared.keeping.Lines.{Lines};
 ghost use Rattle.schedule.specs.Lines.{lines_at};
-ghost use Rattle.schedule.specs.Printing.{Prints, end_of};
+ghost use Rattle.schedule.specs.Printing.{Prints, WithFront, end_of};
 ghost use Rattle.schedule.specs.State.{HasWith};
 ghost use Rattle.stream_text.specs.Spelling.{channel_line, channel_section, message_lines};
 ghost use Rattle.stream_text.specs.StreamsHistory.{unopened};
@@ -59,15 +59,17 @@ fn rest_text(alloc: Global, dispatcher: &Dispatcher, channel: u32) -> Result<Vec
 
 /// Appends the last line of a channel's section.
 fn add_end(dispatcher: &Dispatcher, channel: u32, text: &mut Vec<u8>) -> Result<(), AllocError>
-    ensures { (es : List Effect) → StandsFor es dispatcher.now
+    ensures ok { (es : List Effect) → StandsFor es dispatcher.now
         → OnOk result (text.new.items ≡ text.old.items ++ end_of channel (unwrap_or (counts es channel) unopened)) }
+    ensures err { OnErr result (text.new.items ≡ text.old.items) }
 {
     let counts = counts_of(dispatcher, channel);
     end_line_text(channel, counts.sent, counts.received, counts.finished, text)
 }
 
 impl Schedule {
-    /// Takes out the section of a channel with this name: what it was told, and how far its owner has come.
+    /// Takes out the section of a channel with this name: what it was told, and how far its owner has come. After want
+    /// of memory a front part of the section is behind the text, and the run may have lost the lines of this channel.
     pub fn take_section(
         &mut self,
         alloc: Global,
@@ -81,7 +83,11 @@ impl Schedule {
             ≡ text.old ++ channel_section channel name.now (reverse (stream es channel))
             (unwrap_or (counts es channel) unopened)) }
         ensures after { (plan : PlanView) (es : List Effect) → Prints plan es channel self.old
-            → OnOk result (Prints plan es (channel + 1) self.new) }
+            → Prints plan es (channel + 1) self.new }
+        ensures err { (plan : PlanView) (es : List Effect) → Prints plan es channel self.old
+            → is_opened es channel ≡ true → channel ≤ length plan.channels
+            → OnErr result (WithFront text.old text.new (channel_section channel name.now
+            (reverse (stream es channel)) (unwrap_or (counts es channel) unopened))) }
     {
         self.dispatcher.let_go(channel);
         text.push(head_text(alloc, channel, name)?)?;
@@ -89,10 +95,12 @@ impl Schedule {
         text.push(rest_text(alloc, &self.dispatcher, channel)?)
     }
 
-    /// Appends the last line of a channel's section: how far its owner has come.
+    /// Appends the last line of a channel's section: how far its owner has come. After want of memory the text is as
+    /// before.
     pub fn add_end(&self, channel: u32, text: &mut Vec<u8>) -> Result<(), AllocError>
-        ensures { (how : Lines) (plan : PlanView) (es : List Effect) → HasWith how plan es self.now
+        ensures ok { (how : Lines) (plan : PlanView) (es : List Effect) → HasWith how plan es self.now
             → OnOk result (text.new.items ≡ text.old.items ++ end_of channel (unwrap_or (counts es channel) unopened)) }
+        ensures err { OnErr result (text.new.items ≡ text.old.items) }
     {
         add_end(&self.dispatcher, channel, text)
     }

@@ -104,6 +104,7 @@ impl Schedule {
         ensures after { (how : Lines) (plan : PlanView) (es : List Effect) → HasWith how plan es self.old
             → OnOk result (HasWith how plan (answered plan.displays (CallView.Receive channel) es) self.new) }
         ensures messages { self.new.messages ≡ self.old.messages }
+        ensures more { (es : List Effect) → ComesTo es self.old.dispatcher → ComesTo es self.new.dispatcher }
         ensures latest { self.new.latest ≡ self.old.latest }
     {
         self.receive_one(channel)?;

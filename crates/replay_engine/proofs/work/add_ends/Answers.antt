@@ -15,7 +15,7 @@ loop-place-preserved c = λ plan es has.
     let i : ℕ = c.loop-place.place in
     let text : List ℕ = c.loop-place.text.items in
     let rest = end_lines (i + 1 + 1) (c.args.count - (i + 1)) es in
-    ap (λ (xs : List ℕ). xs ++ rest) (c.in_ok-add_end.ensures Counted plan es has)
+    ap (λ (xs : List ℕ). xs ++ rest) (c.in_ok-add_end.ensures.ok Counted plan es has)
     ∙ append_assoc text (end_of (i + 1) (unwrap_or (counts es (i + 1)) unopened)) rest
     ∙ ap (λ (xs : List ℕ). text ++ xs) (sym (ends_next es i c.args.count (omega (arith, c.loop-place-test.true))))
     ∙ c.loop-place.invariant plan es has

@@ -1,7 +1,7 @@
 -- The head, the lines, what was not received, and the end; the other channels keep theirs.
-use Rattle.std.proofs.Common.{◌≡◌, ◌∙◌, ◌++◌, ◌≤◌, length, drop, reverse, refl, sym, ap, subst, arith, append_assoc}
+use Rattle.std.proofs.Common.{◌≡◌, ◌∙◌, ◌++◌, drop, reverse, refl, sym, ap, subst, arith, append_assoc}
 use Rattle.std.specs.Option.{unwrap_or}
-use Rattle.std.proofs.lemmas.Result.{on_ok_weaker}
+use Rattle.std.proofs.lemmas.Result.{on_ok_weaker, on_err_weaker}
 use Rattle.dispatch_history.specs.Due.{counts}
 use Rattle.dispatch_history.specs.Effect.{past_of, stream}
 use Rattle.dispatch_history.specs.History.{received}
@@ -9,7 +9,8 @@ use Rattle.stream_text.specs.Spelling.{channel_line, message_lines}
 use Rattle.stream_text.specs.StreamsHistory.{unopened}
 use Rattle.schedule.specs.Lines.{lines_received}
 use Rattle.schedule.specs.Printing.{Prints, end_of}
-use Rattle.schedule.proofs.Counting.{opened_bounds}
+use Rattle.schedule.proofs.Sections.{first_part, head_and_lines, lines_taken}
+use Rattle.schedule.proofs.Stepping.{on_err_any}
 use Rattle.schedule.proofs.Written.{lines_split, section_is}
 use Rattle.schedule.proofs.schedule.Schedule.take_section.Goals as goal
 
@@ -17,13 +18,9 @@ pub returns-clause-section : goal.returns-clause-section
 returns-clause-section c = λ plan es r there_is within.
     let before = subst (Prints plan es c.args.channel) (sym c.self.view_is) r in
     let stands = c.let_go.ensures.stays es before.stands in
-    let at = opened_bounds es c.args.channel there_is in
-    let low : c.args.channel ≤ c.args.channel = omega arith in
-    let high : c.args.channel ≤ length c.self.inside.streams.items = omega (arith, within, before.as_many) in
     let told = reverse (stream es c.args.channel) in
     let left = message_lines (drop (received (past_of es) c.args.channel) told) in
-    let heard : c.take_lines.result.items ≡ lines_received es c.args.channel =
-    c.take_lines.ensures.value at.0 ∙ before.heard c.args.channel at.0 low high in
+    let heard = lines_taken c.args.channel c.take_lines.result.items before there_is within c.take_lines.ensures.value in
     let end = end_of c.args.channel (unwrap_or (counts es c.args.channel) unopened) in
     let rest : c.in_ok-rest_text.field-0.items ≡ left ++ end =
     c.in_ok-rest_text.ensures es stands there_is ∙ ap (λ n. message_lines (drop n told) ++ end) (c.let_go.ensures.gone es before.stands there_is) in
@@ -41,12 +38,52 @@ returns-clause-section c = λ plan es r there_is within.
 pub returns-clause-after : goal.returns-clause-after
 returns-clause-after c = λ plan es r.
     let before = subst (Prints plan es c.args.channel) (sym c.self.view_is) r in
-    on_ok_weaker c.push-3.result
-    (λ e. record {
+    record {
       stands = c.let_go.ensures.stays es before.stands;
       heard = λ d one le high.
           c.take_lines.ensures.others d one (λ same. omega (arith, le, same))
           ∙ before.heard d one (omega (arith, le)) (rw (← c.take_lines.ensures.len) high);
       as_many = c.take_lines.ensures.len ∙ before.as_many;
-    })
-    c.push-3.ensures.ok
+    }
+
+-- the head alone was put behind the text
+pub returns-in_err-push-2-clause-err : goal.returns-in_err-push-2-clause-err
+returns-in_err-push-2-clause-err c = λ plan es r there_is within.
+    let head = channel_line c.args.channel c.args.name.now in
+    let told = reverse (stream es c.args.channel) in
+    let end = end_of c.args.channel (unwrap_or (counts es c.args.channel) unopened) in
+    on_err_any c.from_residual-in_err-push-2.result _
+    (first_part c.args.text.now c.push-2.new.self (head ++ message_lines told ++ end) head (message_lines told ++ end)
+    (c.in_err-push-2.ensures.err ∙ c.in_ok-push.ensures.ok ∙ ap (λ ls. c.args.text.now ++ ls) c.in_ok-head_text.ensures)
+    (append_assoc head (message_lines told) end))
+
+-- the head and the lines
+pub returns-in_err-rest_text-clause-err : goal.returns-in_err-rest_text-clause-err
+returns-in_err-rest_text-clause-err c = λ plan es r there_is within.
+    let before = subst (Prints plan es c.args.channel) (sym c.self.view_is) r in
+    let told = reverse (stream es c.args.channel) in
+    let n = received (past_of es) c.args.channel in
+    let heard = lines_taken c.args.channel c.take_lines.result.items before there_is within c.take_lines.ensures.value in
+    on_err_any c.from_residual-in_err-rest_text.result _
+    (head_and_lines c.args.text.now c.push.new.self c.push-2.new.self (channel_line c.args.channel c.args.name.now)
+    (lines_received es c.args.channel) (message_lines (drop n told)) (message_lines told)
+    (end_of c.args.channel (unwrap_or (counts es c.args.channel) unopened))
+    (c.in_ok-push.ensures.ok ∙ ap (λ ls. c.args.text.now ++ ls) c.in_ok-head_text.ensures)
+    (c.in_ok-push-2.ensures.ok ∙ ap (λ ls. c.push.new.self ++ ls) heard)
+    (lines_split n told))
+
+pub returns-clause-err : goal.returns-clause-err
+returns-clause-err c = λ plan es r there_is within.
+    let before = subst (Prints plan es c.args.channel) (sym c.self.view_is) r in
+    let told = reverse (stream es c.args.channel) in
+    let n = received (past_of es) c.args.channel in
+    let heard = lines_taken c.args.channel c.take_lines.result.items before there_is within c.take_lines.ensures.value in
+    on_err_weaker c.push-3.result
+    (λ e.
+    head_and_lines c.args.text.now c.push.new.self c.push-3.new.self (channel_line c.args.channel c.args.name.now)
+    (lines_received es c.args.channel) (message_lines (drop n told)) (message_lines told)
+    (end_of c.args.channel (unwrap_or (counts es c.args.channel) unopened))
+    (c.in_ok-push.ensures.ok ∙ ap (λ ls. c.args.text.now ++ ls) c.in_ok-head_text.ensures)
+    (e ∙ c.in_ok-push-2.ensures.ok ∙ ap (λ ls. c.push.new.self ++ ls) heard)
+    (lines_split n told))
+    c.push-3.ensures.err
