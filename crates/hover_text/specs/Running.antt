@@ -29,6 +29,12 @@ pub record RunStandsFor (plan : PlanData) (past : List RawEvent) (h : HoverState
   pub reader : ReaderStandsFor past h.reader
   pub made : HasMade (screen_of plan) plan.steps (calls_of plan.steps past) (latest past) h
 
+-- A run of a session that found no memory, for a step or for the motion of a later event: the calls that were made up to a moment, with
+-- those of the steps that are left, are all calls of the session and these events.
+pub record Stopped (plan : PlanData) (past : List RawEvent) (h : HoverState) : Type 0 where
+  pub moment : ℕ
+  pub made : HasMade (screen_of plan) plan.steps (calls_of plan.steps past) moment h
+
 -- the next step, where it is not behind a moment
 abbrev pub due_of : ℕ → Option Step → Option Step
 due_of t None = None

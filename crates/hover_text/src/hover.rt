@@ -1,9 +1,9 @@
 //! A cursor with the steps of a session and the motions of a mouse, in rising moment.
-ghost use Rattle.std.specs.Prelude.{◌≡◌, ◌∷◌, ◌++◌, List, [], reverse, IfOk, OnOk};
+ghost use Rattle.std.specs.Prelude.{◌≡◌, ◌∷◌, ◌++◌, ℕ, List, [], reverse, take, IfOk, OnErr, OnOk};
 ghost use Rattle.raw_events.specs.declared.event.RawEvent.{RawEvent as Event};
 ghost use Rattle.session_plan.specs.Valid.{IsPlan};
 ghost use Rattle.session_plan.specs.View.{plan_view};
-ghost use Rattle.hover_text.specs.Running.{RunStandsFor};
+ghost use Rattle.hover_text.specs.Running.{RunStandsFor, Stopped};
 ghost use Rattle.hover_text.specs.Screen.{screen_of};
 ghost use Rattle.hover_text.specs.Text.{hovered_text};
 ghost use Rattle.cursor_core.specs.Cursor.{StandsFor};
@@ -19,7 +19,7 @@ use std::marker::Model;
 /// A run of a session, to which the events of the mouse come one by one.
 ///
 /// It keeps no list of them. Clauses say of which events it stands for all that the text needs. A call that finds no
-/// memory ends the run: nothing is said of it then.
+/// memory ends the run: the cursor then has the events before, with some steps more, and the motion is lost.
 #[derive(Drop)]
 pub struct Hover {
     pub(crate) cursor: Cursor,
@@ -67,8 +67,10 @@ impl Hover {
     /// Takes the mouse's next event.
     pub fn take(&mut self, plan: &Plan, event: &RawEvent) -> Result<(), AllocError>
         requires { IsPlan plan.now }
-        ensures { (past : List Event) → RunStandsFor (plan_view plan.now) past self.old
+        ensures ok { (past : List Event) → RunStandsFor (plan_view plan.now) past self.old
             → OnOk result (RunStandsFor (plan_view plan.now) (event.now ∷ past) self.new) }
+        ensures err { (past : List Event) → RunStandsFor (plan_view plan.now) past self.old
+            → OnErr result (Stopped (plan_view plan.now) past self.new) }
     {
         match self.reader.take(event) {
             Some(motion) => self.run_to(&plan.steps, motion),
@@ -79,8 +81,10 @@ impl Hover {
     /// Takes the mouse's next events.
     pub fn take_all(&mut self, plan: &Plan, events: &[RawEvent]) -> Result<(), AllocError>
         requires { IsPlan plan.now }
-        ensures { (past : List Event) → RunStandsFor (plan_view plan.now) past self.old
+        ensures ok { (past : List Event) → RunStandsFor (plan_view plan.now) past self.old
             → OnOk result (RunStandsFor (plan_view plan.now) (reverse events.now ++ past) self.new) }
+        ensures err { (past : List Event) → RunStandsFor (plan_view plan.now) past self.old
+            → OnErr result ((n : ℕ) × Stopped (plan_view plan.now) (reverse (take n events.now) ++ past) self.new) }
     {
         for event in events {
             self.take(plan, event)?;

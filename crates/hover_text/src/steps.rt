@@ -1,5 +1,5 @@
 //! The steps of a session, for a cursor.
-ghost use Rattle.std.specs.Prelude.{◌≡◌, ◌≤◌, ◌<◌, ◌+◌, ◌-◌, ◌^◌, ℕ, List, ◌++◌, drop, length, option_map, slice_get, IsSome, None, OnOk};
+ghost use Rattle.std.specs.Prelude.{◌≡◌, ◌≤◌, ◌<◌, ◌+◌, ◌-◌, ◌^◌, ℕ, List, ◌++◌, drop, length, option_map, slice_get, IsSome, None, OnErr, OnOk};
 ghost use Rattle.std.specs.List.Sorted.{IsNonDecreasingBy};
 ghost use Rattle.cursor_core.specs.declared.call.CursorCall.{CursorCall as Call};
 ghost use Rattle.cursor_core.specs.Calls.{Screen, moment_of};
@@ -15,8 +15,9 @@ use std::alloc::AllocError;
 
 /// Does what an act at a moment says, where it is of windows or removes a channel.
 fn act_on(cursor: &mut Cursor, now: Moment, act: &Act) -> Result<(), AllocError>
-    ensures { (d : Screen) (calls : List Call) → StandsFor d calls cursor.old
+    ensures ok { (d : Screen) (calls : List Call) → StandsFor d calls cursor.old
         → OnOk result (StandsFor d (act_calls now act.now ++ calls) cursor.new) }
+    ensures err { OnErr result (cursor.new ≡ cursor.old) }
 {
     match act {
         Act::Windows(snapshot) => {
@@ -39,6 +40,7 @@ impl Hover {
             → OnOk result (StandsFor d (act_calls step.now.at step.now.act ++ calls) self.new.cursor) }
         ensures next { OnOk result (self.new.next ≡ self.old.next + 1) }
         ensures reader { self.new.reader ≡ self.old.reader }
+        ensures err { OnErr result (self.new ≡ self.old) }
     {
         act_on(&mut self.cursor, step.at, &step.act)?;
         self.next += 1;
@@ -66,10 +68,10 @@ impl Hover {
         }
     }
 
-    /// Makes the steps up to a moment.
+    /// Makes the steps up to a moment, or as many of them as memory serves for.
     fn steps_up_to(&mut self, steps: &[Step], moment: Moment) -> Result<(), AllocError>
         ensures made { (d : Screen) (all : List Call) (t : ℕ) → HasMade d steps.now all t self.old → t ≤ moment
-            → OnOk result (HasMade d steps.now all moment self.new) }
+            → HasMade d steps.now all moment self.new }
         ensures left { OnOk result (due_of moment (slice_get steps.now self.new.next) ≡ None) }
         ensures reader { self.new.reader ≡ self.old.reader }
     {
@@ -84,6 +86,8 @@ impl Hover {
         ensures made { (d : Screen) (all : List Call) (t : ℕ) → HasMade d steps.now all t self.old
             → t ≤ moment_of motion → IsNonDecreasingBy (λ s. s.at) steps.now
             → OnOk result (HasMade d steps.now (placed motion all) (moment_of motion) self.new) }
+        ensures err { (d : Screen) (all : List Call) (t : ℕ) → HasMade d steps.now all t self.old
+            → t ≤ moment_of motion → OnErr result (HasMade d steps.now all (moment_of motion) self.new) }
         ensures reader { self.new.reader ≡ self.old.reader }
     {
         self.steps_up_to(steps, motion.moment())?;

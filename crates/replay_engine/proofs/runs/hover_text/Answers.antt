@@ -13,5 +13,5 @@ returns c =
     ap Ok
     (sym
     (c.of.ensures
-    ∙ c.in_ok-text.ensures (past ++ []) (c.in_ok-take_all.ensures [] c.in_ok-hover.ensures)
+    ∙ c.in_ok-text.ensures (past ++ []) (c.in_ok-take_all.ensures.ok [] c.in_ok-hover.ensures)
     ∙ ap (hovered_text plan) (append-nil past)))
