@@ -1,6 +1,9 @@
 -- The caller of a race, who opens its channels.
-use Rattle.std.specs.Prelude.{◌≡◌, ℕ, ◌+◌, ◌∷◌, length}
+use Rattle.std.specs.Prelude.{◌≡◌, ℕ, ◌+◌, ◌<◌, List, ◌∷◌, length, map, reverse, take}
 use Rattle.dispatch_calls.specs.declared.call.Call.TheVariants.{Open}
+use Rattle.dispatch_history.specs.Given.{opens}
+use Rattle.schedule.specs.Planned.{channel_of}
+use Rattle.schedule.specs.declared.plan.Channel.{Channel}
 use Rattle.lane_laws.specs.Lanes.{calls_made}
 use Rattle.lane_laws.specs.Raced.{OnlyOpens}
 use Rattle.replay_actors.specs.Lane.{Known}
@@ -15,3 +18,9 @@ pub record Opens (limit : ℕ) (v w : Known) : Type 0 where
   pub only : OnlyOpens w.mine.own
   pub calls : calls_made w.mine.own ≡ Open limit ∷ calls_made v.mine.own
   pub one : length w.mine.own ≡ length v.mine.own + 1
+
+-- a front part of these channels was opened in their order, and not all of them; the seat made no other call
+pub record OpensFront (channels : List Channel) (v : Known) : Type 0 where
+  pub only : OnlyOpens v.mine.own
+  pub fewer : length v.mine.own < length channels
+  pub calls : calls_made v.mine.own ≡ reverse (opens (map channel_of (take (length v.mine.own) channels)))

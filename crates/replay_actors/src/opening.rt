@@ -1,12 +1,12 @@
 //! The channels of a race, which its caller opens before it begins.
-ghost use Rattle.std.specs.Prelude.{◌≡◌, ◌+◌, ◌<◌, ◌≤◌, [], ◌∷◌, OnOk, length, map, reverse};
+ghost use Rattle.std.specs.Prelude.{◌≡◌, ◌+◌, ◌<◌, ◌≤◌, [], ◌∷◌, OnErr, OnOk, length, map, reverse};
 ghost use Rattle.turnstile.specs.Seats.{view};
 ghost use Rattle.dispatch_history.specs.Given.{opens};
 ghost use Rattle.schedule.specs.Planned.{channel_of};
 ghost use Rattle.input_service.specs.Services.{IsOf};
 ghost use Rattle.lane_laws.specs.Lanes.{calls_made};
 ghost use Rattle.lane_laws.specs.Raced.{OnlyOpens};
-ghost use Rattle.replay_actors.specs.Opening.{IsCaller, Opens};
+ghost use Rattle.replay_actors.specs.Opening.{IsCaller, Opens, OpensFront};
 
 use dispatch_calls::Call;
 use input_service::{Seat, Service};
@@ -29,13 +29,14 @@ fn open_one<R: Wait>(
     ensures caller { IsCaller (view seat.new) }
     ensures setup { (view seat.new).setup ≡ (view seat.old).setup }
     ensures opened { OnOk result (Opens limit (view seat.old) (view seat.new)) }
+    ensures err { OnErr result ((view seat.new).mine.own ≡ (view seat.old).mine.own) }
 {
     service.call(rt, seat, Call::Open { limit })?;
     Ok(())
 }
 
-/// Opens the channels of a race in their order, by the seat of number 0 before it is split. Without memory only some
-/// are opened.
+/// Opens the channels of a race in their order, by the seat of number 0 before it is split. After want of memory only a
+/// front part of them is opened.
 #[tactic(auto, using(crate::proofs::Opened::opens_next))]
 pub fn open_channels<R: Wait>(
     rt: &R,
@@ -53,6 +54,7 @@ pub fn open_channels<R: Wait>(
     ensures opened { OnOk result (OnlyOpens (view seat.new).mine.own) }
     ensures each { OnOk result (length (view seat.new).mine.own ≡ length channels.now) }
     ensures calls { OnOk result (calls_made (view seat.new).mine.own ≡ reverse (opens (map channel_of channels.now))) }
+    ensures err { OnErr result (OpensFront channels.now (view seat.new)) }
 {
     'channels: for channel in channels {
         open_one(rt, service, seat, channel.limit)?;
