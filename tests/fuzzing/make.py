@@ -8,7 +8,7 @@ SCANS = (30, 42, 115, 158, 999)
 
 
 class Case:
-    """What a number makes. `closes` says that at the end of the recording nothing is down on any device."""
+    """What a number makes."""
 
     def __init__(self, number):
         self.number = number
@@ -22,15 +22,21 @@ class Case:
         self.make_recording()
         self.session = self.session_text(self.steps).encode()
         self.recording = "".join(self.lines).encode()
+        # Whether the session is the one that was made, and whether the recording is.
+        self.known = self.whole = True
         if self.kind == "nearly valid":
             if self.random.random() < 0.5:
-                self.session = damaged(self.random, self.session)
+                self.session, self.known = damaged(self.random, self.session), False
             if self.random.random() < 0.7:
-                self.recording = damaged(self.random, self.recording)
+                self.recording, self.whole = damaged(self.random, self.recording), False
         elif self.kind == "bytes":
             if self.random.random() < 0.5:
-                self.session = some_bytes(self.random)
-            self.recording = some_bytes(self.random)
+                self.session, self.known = some_bytes(self.random), False
+            self.recording, self.whole = some_bytes(self.random), False
+
+    def drawn(self, law):
+        """What a law draws from. It is the same at each run of the case, whatever the laws before it drew."""
+        return random.Random("%d %s" % (self.number, law))
 
     def make_session(self):
         rng = self.random
@@ -52,10 +58,8 @@ class Case:
         for _ in range(0 if self.plain else rng.choice((0, 0, 1, 3, 6))):
             self.steps.append((rng.choice((0, rng.randint(0, 2000000))), rng.randint(1, 8)) + self.some_act())
         self.end = 0 if self.plain else rng.choice((0, 0, 3000000))
-        self.removed = {}
-        for at, _, act, what in sorted(self.steps, key=lambda s: s[0]):
-            if act == "remove":
-                self.removed.setdefault(what, at)
+        windows = [window for step in self.steps if step[2] == "windows" for window in step[3]]
+        self.spies = any("SPY" in window[3] for window in windows)
 
     def some_windows(self):
         """Channel, display, frame, flags and region of some windows, front to back."""
@@ -118,7 +122,7 @@ class Case:
         """Packets and keys of the devices in rising moment. Nearly all recordings end with nothing down."""
         rng = self.random
         self.lines = []
-        self.closes = rng.random() < 0.8
+        closes = rng.random() < 0.8
         senders = [Touch(rng, d) if d[0] == "touch" else Keys(rng, d) for d in self.devices]
         us = rng.choice((0, 1000, 1000000))
         for _ in range(rng.choice((0, 1, 5, 20, 60, 200))):
@@ -126,7 +130,7 @@ class Case:
             self.lines += rng.choice(senders).send(us)
             if rng.random() < 0.02:
                 self.lines.append(rng.choice(("add device 1: /dev/input/event2\n", "\n", '  name:     "touch"\n', line(us, "/dev/other", 3, 53, 9))))
-        for sender in senders if self.closes else ():
+        for sender in senders if closes else ():
             us += 8000
             self.lines += sender.close(us)
         if rng.random() < 0.1:

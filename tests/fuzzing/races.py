@@ -1,0 +1,163 @@
+"""Laws of `race` and `check`: what a printed order has to be, and what a shorter order gives."""
+import re
+
+from .laws import ends_so, first_ones, moments, need, owner_of, sections
+from .recording import down_after, read
+from .replayed import left, named_so
+
+CALL = re.compile(r"r|p|k|s ([1-8])|g (\d+)|f (\d+) (\d+)")
+LANES = range(1, 9)
+
+
+class Order:
+    """The lines of an order, and what they ask for."""
+
+    def __init__(self, case, calls):
+        self.calls = calls
+        self.lanes = {lane: [] for lane in LANES}
+        for step in sorted(case.steps, key=lambda step: step[0]):
+            self.lanes[step[1]].append(step)
+
+    def text(self, count=None):
+        calls = self.calls[:count]
+        return "".join(call + "\n" for call in ["order %d" % len(calls)] + calls).encode()
+
+    def removals(self):
+        """How many calls are made before each removal of a channel, the first one of each."""
+        made = {lane: iter(steps) for lane, steps in self.lanes.items()}
+        removed = {}
+        for place, call in enumerate(self.calls):
+            if call.startswith("s "):
+                step = next(made[int(call[2:])])
+                if step[2] == "remove":
+                    removed.setdefault(step[3], place)
+        return removed
+
+
+def fits(case, told, removed, down):
+    """What holds of the streams of any order: each message may come where it stands, at the moment of a step or of a line
+    of the recording, and what is down at the end may be so."""
+    named_so(case, told)
+    known = {0} | {step[0] for step in case.steps} | {event[0] for event in read(case.recording)[0]}
+    owners = {name: owner_of(messages) for _, name, messages, _ in told[0]}
+    for number, _, messages, (sent, received, finished) in told[0]:
+        wrong = set(moments(messages)) - known
+        need(not wrong, "channel %d is told something at %s" % (number, sorted(wrong)[:3]))
+        need(received <= finished + 64, "of channel %d %d messages are taken, %d finished" % (number, received, finished))
+    left(case, owners, removed, down)
+
+
+def first_calls(program, case, order, told, count, removed):
+    """The first calls of an order give the first messages; what is told to a channel is all told before its removal."""
+    short = program.check(case, order.text(count))
+    first_ones(short, told, "after %d calls" % count)
+    for one, other in zip(short[0], told[0]):
+        need(all(a <= b for a, b in zip(one[3], other[3])), "after %d calls the counts are higher" % count)
+        if removed.get(one[1], count + 1) <= count:
+            need(one == other, "channel %d was removed, and is not left alone: %s, %s" % (one[0], one[3], other[3]))
+    return short
+
+
+def args_of(program, case, count):
+    """The recording has so many args: an order can ask for all of them, and not for one more."""
+    order = Order(case, ["r"] * count)
+    program.check(case, order.text())
+    order.calls.append("r")
+    words = ["check"] + program.files(case.session, case.recording) + ["--order", program.file("order.txt", order.text())]
+    ends_so(program.run(words), 1, "order: NoStep %d\n" % (count + 2))
+
+
+def raced(program, case, _):
+    """A race: its order has each args and each step once, what owners are given is finished once where they finish, all
+    is settled, and `check` gives its streams, also those of its first calls."""
+    words = program.files(case.session, case.recording)
+    out = program.race or program.text(["race"] + words)
+    program.file("race.txt", out)
+    program.verify(out)
+    head, rest = out.split(b"\n", 1)
+    need(re.fullmatch(rb"order (0|[1-9]\d*)", head), "it begins with %r" % head)
+    count = int(head[6:])
+    *calls, text = rest.split(b"\n", count)
+    order = Order(case, [call.decode("ascii") for call in calls])
+    need(len(calls) == count and all(CALL.fullmatch(call) for call in order.calls), "a line of the order is none")
+    for lane, steps in order.lanes.items():
+        made = order.calls.count("s %d" % lane)
+        need(made == len(steps), "lane %d has %d steps, and made %d" % (lane, len(steps), made))
+    words += ["--order", program.file("order.txt", out)]
+    need(program.text(["check"] + words) == text, "check on the order of race gives other streams")
+    told = sections(text)
+    removed = order.removals()
+    fits(case, told, removed, down_after(case.devices, read(case.recording)[0]))
+    settled(case, order, told, removed)
+    args_of(program, case, order.calls.count("r"))
+    rng = case.drawn("raced")
+    for place in [rng.randint(0, count)] + sorted(removed.values())[:3]:
+        first_calls(program, case, order, told, place, removed)
+
+
+def settled(case, order, told, removed):
+    """Owners took what they were told, and finished it where they finish."""
+    taken, finished = {}, {}
+    for call in order.calls:
+        match = CALL.fullmatch(call)
+        if match.group(2):
+            taken[match.group(2)] = taken.get(match.group(2), 0) + 1
+        elif match.group(3):
+            finished.setdefault(match.group(3), []).append(int(match.group(4)))
+    numbers = {str(number) for number in range(1, len(case.channels) + 1)}
+    need(set(taken) | set(finished) <= numbers, "the order speaks of other channels")
+    for (number, name, _, counts), (_, _, _, finishes) in zip(told[0], case.channels):
+        said = finished.get(str(number), [])
+        need(finishes or not said, "messages of channel %d are finished" % number)
+        need(len(set(said)) == len(said), "a message of channel %d is finished twice" % number)
+        need(set(said) <= set(range(1, counts[1] + 1)), "a message of channel %d is finished that it was not given" % number)
+        need(counts[1] <= taken.get(str(number), 0), "channel %d took more than it asked for" % number)
+        if name in removed:
+            need(counts[2] <= len(said), "channel %d finished more than it said" % number)
+            continue
+        all_of_them = counts[0] if finishes else min(counts[0], 64)
+        wanted = (counts[0], all_of_them, all_of_them if finishes else 0)
+        need(counts == wanted and len(said) == counts[2], "channel %d is not settled: %s" % (number, counts))
+
+
+def ordered(program, case, _):
+    """An order that is made here, and its first calls, whether the order has what asks for nothing behind it or not."""
+    rng = case.drawn("ordered")
+    order = Order(case, [])
+    waiting = {lane: len(steps) for lane, steps in order.lanes.items()}
+    args = len(case.lines)
+    words = program.files(case.session, case.recording)
+    for _ in range(rng.choice((0, 5, 40, 150))):
+        lanes = [lane for lane in LANES if waiting[lane]]
+        kind = rng.choice("rrrppppkggggffs")
+        channel = rng.randint(0, len(case.channels) + 1)
+        if kind == "s" and lanes:
+            lane = rng.choice(lanes)
+            waiting[lane] -= 1
+            order.calls.append("s %d" % lane)
+        elif kind == "g":
+            order.calls.append("g %d" % channel)
+        elif kind == "f":
+            order.calls.append("f %d %d" % (channel, rng.choice((0, 1, 1, 2, 3, 4, 2**64 - 1))))
+        elif kind != "s" and (kind != "r" or args):
+            order.calls.append(kind)
+    # Asking for more args than there are is refused; the line tells how many there are.
+    run = program.run(["check"] + words + ["--order", program.file("order.txt", order.text())])
+    while run[0] == 1:
+        line = int(run[2].split(b" ")[-1])
+        ends_so(run, 1, "order: NoStep %d\n" % line)
+        need(order.calls[line - 2] == "r", "line %d asks for %s, which there is" % (line, order.calls[line - 2]))
+        args = order.calls[: line - 2].count("r")
+        order.calls = order.calls[: line - 2] + [call for call in order.calls[line - 2 :] if call != "r"]
+        args_of(program, case, args)
+        run = program.run(["check"] + words + ["--order", program.file("order.txt", order.text())])
+        need(run[0] == 0, "without the args that are not there it ends with status %d" % run[0])
+    told = program.check(case, order.text())
+    removed = order.removals()
+    fits(case, told, removed, None)
+    for number, _, _, (_, received, finished) in told[0]:
+        asked = order.calls.count("g %d" % number)
+        ended = len({call for call in order.calls if call.startswith("f %d " % number)})
+        need(received <= asked and finished <= ended, "channel %d took %d and finished %d" % (number, received, finished))
+    for place in [rng.randint(0, len(order.calls))] + sorted(removed.values())[:2]:
+        first_calls(program, case, order, told, place, removed)

@@ -1,0 +1,96 @@
+"""Laws of `replay`: of one run, and of two runs of which one has less than the other."""
+import re
+
+from .laws import ends_so, first_ones, moments, need, owner_of, sections, until
+from .recording import read
+from .replayed import judged
+
+
+def may_be_too_long(case):
+    """Whether a run of a damaged case can have more than 4,000,000 calls, which takes a key that is repeated for days."""
+    numbers = [int(n) for n in re.findall(rb"\d{11,30}", case.session)]
+    seconds = [int(n) for n in re.findall(rb"\[[ \t]*(\d{5,12})\.", case.recording)]
+    return b"keys" in case.session and (any(n >= 10**10 for n in numbers) or any(n >= 10**4 for n in seconds))
+
+
+def whole(program, case):
+    """The run of the case: its text in sections, or None where there is none. A session that is not damaged is accepted,
+    and then the first line that is against the form of a recording decides."""
+    run = program.run(["replay"] + program.files(case.session, case.recording))
+    if not case.known and run[2].startswith(b"session: "):
+        ends_so(run, 3, run[2].decode("utf-8", "replace"))
+        return None
+    events, refused = read(case.recording)
+    if refused:
+        ends_so(run, 3, refused)
+        return None
+    if run[0] == 7 and may_be_too_long(case):
+        ends_so(run, 7, "too long: run\n")
+        return None
+    ends_so(run, 0, "")
+    need(program.replay(case.session, case.recording) == run[1], "the second run gives other bytes")
+    program.verify(run[1])
+    if not case.known:
+        told = sections(run[1])
+        for channel in told[0]:
+            owner_of(channel[2])
+        return told
+    return judged(case, run[1], case.steps, events, case.whole)
+
+
+def again(program, case, steps, recording):
+    """The run of another plan or another recording, held to all that holds of one run."""
+    out = program.replay(case.session_text(steps).encode(), recording)
+    program.verify(out)
+    return judged(case, out, steps, read(recording)[0])
+
+
+def last_moment(case, told):
+    """A moment up to which a run goes at least: that of its last step, of its end, and of what it says."""
+    said = [max(moments(c[2])) for c in told[0] if c[2]] + [int(text.split(" ")[1]) for text in told[1]]
+    return max([case.end] + [step[0] for step in case.steps] + said)
+
+
+def cut(program, case, told):
+    """The recording up to some line. What is told before the first line that is cut off, and before the end of the shorter
+    run, is the same; where nothing but args makes messages, all that is told is the beginning of the longer run."""
+    rng = case.drawn("cut")
+    kept = rng.randint(0, len(case.lines))
+    short = again(program, case, case.steps, "".join(case.lines[:kept]).encode())
+    behind = [int(line[1:9]) * 10**6 + int(line[10:16]) for line in case.lines[kept:] if line.startswith("[")]
+    if not behind:
+        need(short == told, "without lines that have no event something else is told")
+    elif case.plain:
+        first_ones(short, told, "cut at line %d" % kept)
+        alike(short, told, min(behind) - 1)
+    else:
+        alike(short, told, min(min(behind) - 1, last_moment(case, short)))
+
+
+def alike(one, other, moment):
+    """Up to a moment two runs are told the same."""
+    for what, a, b in zip(("told", "named"), until(one, moment), until(other, moment)):
+        need(a == b, "up to %d other things are %s: %s and %s" % (moment, what, a, b))
+
+
+def early(program, case, told):
+    """The steps up to one of them. What is told before the first step that is left out is the same, as the end stays; so
+    what is told to a channel before its removal does not know of the removal."""
+    steps = sorted(case.steps, key=lambda step: step[0])
+    removals = [k for k, step in enumerate(steps) if step[2] == "remove"]
+    rng = case.drawn("early")
+    kept = rng.choice(removals) if removals and rng.random() < 0.7 else rng.randint(0, len(steps) - 1)
+    end = case.end
+    case.end = max([end] + [step[0] for step in steps])
+    try:
+        short = again(program, case, steps[:kept], case.recording)
+    finally:
+        case.end = end
+    alike(short, told, steps[kept][0] - 1)
+
+
+def shuffled(program, case, told):
+    """The windows of each step the other way round, where they lie apart and have no flags."""
+    if case.apart:
+        steps = [step[:3] + (step[3][::-1] if step[2] == "windows" else step[3],) for step in case.steps]
+        need(again(program, case, steps, case.recording) == told, "windows that lie apart, the other way round, are told more")
