@@ -40,26 +40,36 @@ class Case:
 
     def make_session(self):
         rng = self.random
-        extents = [(rng.choice((1, 2, 100, 1080, 16384)), rng.choice((1, 3, 100, 2400, 16384))) for _ in range(3)]
-        self.displays = [e + (rng.choice((0, 0, 90, 180, 270)),) for e in extents[: 1 if self.plain else rng.randint(1, 3)]]
-        self.devices = []
-        for path in PATHS[: rng.choice((1, 1, 2, 3, 4))]:
-            kind = "touch" if self.plain or rng.random() < 0.7 else "keys"
-            low = rng.choice((0, 0, -5, -(2**31)))
-            high = rng.choice((low, low + 9, low + 1079, 2**31 - 1))
-            self.devices.append((kind, path, rng.choice((10, 10, 16, 1, 2)), low, high, rng.randrange(len(self.displays))))
+        sides = [(rng.choice((1, 100, 1080, 1080, 16384)), rng.choice((3, 100, 2400, 2400, 16384))) for _ in range(3)]
+        self.displays = [e + (rng.choice((0, 0, 90, 180, 270)),) for e in sides[: 1 if self.plain else rng.randint(1, 3)]]
+        self.make_devices()
         self.channels = []
         for k in range(rng.randint(1, 6)):
             default = self.plain or rng.random() < 0.5
             limit = 5000 if default else rng.choice((1, 20, 500, 600000))
             delay = 0 if default else rng.choice((0, 1, 7000, 2000000))
             self.channels.append(("c%d" % (k + 1), limit, delay, default or rng.random() < 0.7))
-        self.steps = [(0, 1, "windows", self.some_windows())]
-        for _ in range(0 if self.plain else rng.choice((0, 0, 1, 3, 6))):
-            self.steps.append((rng.choice((0, rng.randint(0, 2000000))), rng.randint(1, 8)) + self.some_act())
+        self.current = self.some_windows()
+        self.steps = [(0, 1, "windows", self.current)]
+        if not self.plain and rng.random() < 0.8:
+            self.steps.append((0, 1, "focus", self.some_focus()))
+        times = sorted(rng.choice((0, rng.randint(0, 3000000))) for _ in range(rng.choice((0, 1, 3, 6))))
+        for at in () if self.plain else times:
+            self.steps.append((at, rng.randint(1, 8)) + self.some_act())
+        rng.shuffle(self.steps)
         self.end = 0 if self.plain else rng.choice((0, 0, 3000000))
         windows = [window for step in self.steps if step[2] == "windows" for window in step[3]]
         self.spies = any("SPY" in window[3] for window in windows)
+
+    def make_devices(self):
+        rng = self.random
+        self.devices = []
+        for path in PATHS[: rng.choice((1, 1, 2, 3, 4))]:
+            kind = "touch" if self.plain or rng.random() < 0.6 else "keys"
+            low = rng.choice((0, 0, 0, -5, -(2**31)))
+            high = rng.choice((low, low + 9, low + 1079, low + 1079, 2**31 - 1))
+            display = rng.randrange(len(self.displays))
+            self.devices.append((kind, path, rng.choice((10, 10, 16, 1, 2)), low, high, display))
 
     def some_windows(self):
         """Channel, display, frame, flags and region of some windows, front to back."""
@@ -81,21 +91,32 @@ class Case:
             top, bottom = sorted((rng.randint(-10, height), rng.randint(0, height + 10)))
             frame = rng.choice(((0, 0, width, height), (left, top, right, bottom)))
             flags = [f for f in FLAGS if rng.random() < 0.15]
-            region = rng.choice((None, None, [frame], [], [(0, 0, width // 2, height), (width // 3, 0, width, height // 2)]))
-            windows.append((name, display, frame, flags, region))
+            if k == 0 and len(names) > 1 and rng.random() < 0.4:
+                flags = [rng.choice(("SPY", "WATCH_OUTSIDE_TOUCH"))]
+            halves = [(0, 0, width // 2, height), (width // 3, 0, width, height // 2)]
+            windows.append((name, display, frame, flags, rng.choice((None, None, None, [frame], [], halves))))
         return windows
+
+    def some_focus(self):
+        """A window that is there and its display, a channel and any display, or nobody."""
+        rng = self.random
+        if rng.random() < 0.7:
+            return rng.choice(self.current)[:2]
+        return rng.choice((None, rng.choice(self.channels)[0])), rng.randrange(len(self.displays))
 
     def some_act(self):
         rng = self.random
-        name = rng.choice(self.channels)[0]
-        act = rng.choice(("windows", "windows", "focus", "focus", "pilfer", "remove"))
+        act = rng.choice(("windows", "windows", "focus", "focus", "pilfer", "pilfer", "remove"))
         if act == "windows":
-            return act, self.some_windows()
+            self.current = self.some_windows()
+            return act, self.current
         if act == "focus":
-            return act, (rng.choice((None, name, name)), rng.randrange(len(self.displays)))
-        if act == "pilfer":
-            return act, (name, rng.randint(1, len(self.devices)))
-        return act, name
+            return act, self.some_focus()
+        name = rng.choice(self.channels)[0]
+        if act == "remove":
+            return act, name
+        spies = [window[0] for window in self.current if "SPY" in window[3]]
+        return act, (rng.choice(spies or [name]), rng.randint(1, len(self.devices)))
 
     def session_text(self, steps):
         width, height, turned = self.displays[0]
@@ -125,7 +146,7 @@ class Case:
         closes = rng.random() < 0.8
         senders = [Touch(rng, d) if d[0] == "touch" else Keys(rng, d) for d in self.devices]
         us = rng.choice((0, 1000, 1000000))
-        for _ in range(rng.choice((0, 1, 5, 20, 60, 200))):
+        for _ in range(rng.choice((0, 5, 20, 60, 60, 200))):
             us += rng.choice((0, 1, 1000, 8000, 8000, 60000, 700000))
             self.lines += rng.choice(senders).send(us)
             if rng.random() < 0.02:
@@ -202,6 +223,8 @@ class Keys:
     def send(self, us):
         scan = self.rng.choice(SCANS)
         value = self.rng.choice((0, 1, 1, 2))
+        if self.down and self.rng.random() < 0.3:
+            scan, value = self.rng.choice(sorted(self.down)), 0
         (self.down.add if value == 1 else self.down.discard if value == 0 else int)(scan)
         return [line(us, self.path, 1, scan, value), line(us, self.path, 0, 0, 0)]
 

@@ -1,6 +1,7 @@
 """Laws of `hover`: a mouse over the windows of display 0."""
 import re
 
+from .delivery import NEVER
 from .laws import need
 from .make import line
 from .replayed import removals
@@ -62,15 +63,68 @@ def inside(rects, place):
 def sensible(case, name, action, moment, told, places):
     """The place that is told is one of the mouse, less the corner of the window; it lies in the window but at an exit."""
     for corner, rects in frames_of(case, name, moment):
-        place = tuple(min(max(told[k] + corner[k], -(2**40)), 2**40) for k in (0, 1))
+        place = tuple(told[k] + corner[k] for k in (0, 1))
         if place in places and (action == "EXIT" or inside(rects, place)):
             return True
     return False
 
 
+def candidates(case, removed, moment, place):
+    """The channels whose windows may be under the mouse: those that can be touched there, by the windows of that moment."""
+    windows = ()
+    for at, _, act, what in sorted(case.steps, key=lambda step: step[0]):
+        if act == "windows" and at <= moment:
+            windows = what
+    for name, display, frame, flags, region in windows:
+        gone = removed.get(name, NEVER) <= moment
+        if display == 0 and not gone and "SPY" not in flags and "NOT_TOUCHABLE" not in flags:
+            if inside([frame] if region is None else region, place):
+                yield name
+
+
+class Stays:
+    """What is told of the mouse: when it is over which window, and each arrival at a place."""
+
+    def __init__(self):
+        self.spans = []
+        self.arrivals = []
+
+    def channel(self, name, messages, last):
+        """The messages of a channel in turns: it is entered, moved over, and left; nothing comes after its removal."""
+        entered, before = None, 0
+        for moment, action, _ in messages:
+            need((action == "ENTER") == (entered is None), "%s is told %s at %s" % (name, action, moment))
+            need(before <= moment <= last, "%s is told something at %s" % (name, moment))
+            before = moment
+            if action == "EXIT":
+                self.spans.append((entered, moment, name))
+                entered = None
+            else:
+                self.arrivals.append((moment, name))
+                entered = moment if action == "ENTER" else entered
+        if entered is not None:
+            self.spans.append((entered, last, name))
+
+    def fit(self, case, path, removed):
+        """One window is entered at a time, and each packet that moves the mouse is told where it comes to."""
+        self.spans.sort()
+        for one, other in zip(self.spans, self.spans[1:]):
+            need(one[1] <= other[0], "two windows are entered at a time: %s, %s" % (one, other))
+        for moment in {at for at, _, _ in path}:
+            told = [name for at, name in self.arrivals if at == moment]
+            places = [after for at, _, after in path if at == moment]
+            stays = [first < moment < last for first, last, _ in self.spans]
+            need(not any(stays) or len(told) == len(places), "at %d %d moves are told %s" % (moment, len(places), told))
+            if len(places) > 1:
+                continue
+            there = list(candidates(case, removed, moment, places[0]))
+            need(set(told) <= set(there), "at %d the mouse is not over %s" % (moment, told))
+            need(len(there) != 1 or there[0] in told, "at %d the mouse is over %s, told are %s" % (moment, there, told))
+
+
 def hovered(program, case, _):
     """Each window is entered, then moved over, then left, where the mouse is; nothing comes after a removal; one window is
-    entered at a time, and a packet that moves the mouse is told at most once as a move or an entry."""
+    entered at a time, and it is one that is there."""
     packets, text = recording(case.drawn("hovered"))
     words = program.files(case.session, case.recording)
     words[3] = program.file("mouse.txt", text)
@@ -78,37 +132,19 @@ def hovered(program, case, _):
     need(lines.pop() == "", "the last line has no newline")
     start, path = path_of(case, packets)
     removed = removals(case.steps)
-    stays, arrivals = [], []
+    stays = Stays()
     for number, (name, _, _, _) in enumerate(case.channels, 1):
         need(lines and lines.pop(0) == "channel %d %s" % (number, name), "no section of channel %d" % number)
-        last = removed.get(name, 10**30)
-        entered, before, count = None, 0, 0
+        messages = []
         while lines and not lines[0].startswith("end "):
-            match = MESSAGE.fullmatch(lines.pop(0))
-            need(match, "no message of channel %d" % number)
+            match = MESSAGE.fullmatch(lines[0])
+            need(match, "no message: %s" % lines[0])
             moment, action, told = int(match.group(1)), match.group(2), (int(match.group(3)), int(match.group(4)))
-            need((action == "ENTER") == (entered is None), "channel %d is told %s at %s" % (number, action, moment))
-            need(before <= moment <= last, "channel %d is told something at %s" % (number, moment))
-            places = seen(start, path, moment)
-            need(sensible(case, name, action, moment, told, places), "channel %d: the mouse is not there: %s" % (number, match.group(0)))
-            before, count = moment, count + 1
-            arrivals += [moment] if action == "MOVE" else []
-            if action == "ENTER":
-                entered = moment
-            elif action == "EXIT":
-                stays.append((entered, moment))
-                entered = None
-        need(lines and lines.pop(0) == "end %d %d" % (number, count), "channel %d has no end, or another count" % number)
-        if entered is not None:
-            stays.append((entered, last))
+            there = sensible(case, name, action, moment, told, seen(start, path, moment))
+            need(there, "channel %d: the mouse is not there: %s" % (number, lines[0]))
+            messages.append((moment, action, told))
+            lines.pop(0)
+        need(lines and lines.pop(0) == "end %d %d" % (number, len(messages)), "channel %d has no end" % number)
+        stays.channel(name, messages, removed.get(name, NEVER))
     need(not lines, "a line stands behind the last section: %s" % lines[:1])
-    stays.sort()
-    need(all(a[1] <= b[0] for a, b in zip(stays, stays[1:])), "two windows are entered at a time: %s" % stays[:9])
-    for moment in set(arrivals):
-        count = sum(at == moment for at, _, _ in path)
-        need(arrivals.count(moment) <= count, "at %d windows are told more moves than there are" % moment)
-    # A packet inside of a stay is told, as a move.
-    for moment in {at for at, _, _ in path}:
-        if any(first < moment < last for first, last in stays):
-            count = sum(at == moment for at, _, _ in path)
-            need(arrivals.count(moment) == count, "at %d a move of the mouse is told to nobody" % moment)
+    stays.fit(case, path, removed)

@@ -7,6 +7,10 @@ from .laws import Broken, ends_so, ending, need, sections
 USAGE = b"usage: inputflinger replay|race|check|verify|work|batch|hover|emit\n"
 
 
+# The seconds that a run may take.
+LONGEST = 60
+
+
 class Program:
     """Runs the program. The files of a case stay in the folder until the next one, so that they can be kept."""
 
@@ -38,10 +42,10 @@ class Program:
         self.last = words
         try:
             done = subprocess.run(
-                [self.path] + words, stdin=subprocess.DEVNULL, capture_output=True, timeout=60, check=False
+                [self.path] + words, stdin=subprocess.DEVNULL, capture_output=True, timeout=LONGEST, check=False
             )
         except subprocess.TimeoutExpired:
-            raise Broken("%s took more than a minute" % words) from None
+            raise Broken("%s took more than %d seconds" % (words, LONGEST)) from None
         return done.returncode, done.stdout, done.stderr
 
     def text(self, words):

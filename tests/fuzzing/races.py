@@ -120,6 +120,23 @@ def settled(case, order, told, removed):
         need(counts == wanted and len(said) == counts[2], "channel %d is not settled: %s" % (number, counts))
 
 
+def in_turn(program, case, told):
+    """Where steps come first and nobody is late, the same is told as by `replay` where all steps are made, and then each
+    args is handed in and dispatched."""
+    if not case.plain:
+        return
+    calls = ["s 1"] * len(case.steps) + ["r", "p"] * len(case.lines)
+    words = ["check"] + program.files(case.session, case.recording)
+    run = program.run(words + ["--order", program.file("order.txt", Order(case, calls).text())])
+    if run[0] == 1:
+        line = int(run[2].split(b" ")[-1])
+        ends_so(run, 1, "order: NoStep %d\n" % line)
+        calls = calls[: line - 2]
+    short = program.check(case, Order(case, calls).text())
+    for one, other in zip(short[0], told[0]):
+        need(one[2] == other[2], "one after the other channel %d is told %s, and not %s" % (one[0], one[2][-2:], other[2][-2:]))
+
+
 def ordered(program, case, _):
     """An order that is made here, and its first calls, whether the order has what asks for nothing behind it or not."""
     rng = case.drawn("ordered")
