@@ -1,4 +1,5 @@
-"""How many messages of a channel are received and finished, and when it is named, told from the moments of its messages."""
+"""How many messages of a channel are received and finished, and when it is named, told from the moments of its
+messages."""
 from bisect import bisect_right
 
 from .laws import need
@@ -19,9 +20,9 @@ def delivered(times, delay, finishes):
 
 
 def named(came, done, limit, stop):
-    """The namings of a channel up to a moment, as (clock, number), and beside each the finish that makes the channel able
-    again. It is named where it is able and its oldest unfinished message is there for the limit; a finish of that moment
-    comes first. It is able again at a finish that leaves no message that is there for the limit."""
+    """The namings of a channel up to a moment, as (clock, number), and beside each the finish that makes the channel
+    able again. It is named where it is able and its oldest unfinished message is there for the limit; a finish of
+    that moment comes first. It is able again at a finish that leaves no message that is there for the limit."""
     names = []
     able = True
     for k, at in enumerate(came):

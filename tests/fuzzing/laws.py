@@ -45,8 +45,8 @@ def ends_so(run, status, line):
 
 
 def sections(out):
-    """The text of streams by channel: a list of (id, name, messages, counts), and its `anr` lines. Messages are numbered
-    from 1, and the counts of a channel do not rise from sent to finished."""
+    """The text of streams by channel: a list of (id, name, messages, counts), and its `anr` lines. Messages are
+    numbered from 1, and the counts of a channel do not rise from sent to finished."""
     channels = []
     namings = []
     lines = out.decode("ascii").split("\n")

@@ -41,7 +41,8 @@ class Case:
     def make_session(self):
         rng = self.random
         sides = [(rng.choice((1, 100, 1080, 1080, 16384)), rng.choice((3, 100, 2400, 2400, 16384))) for _ in range(3)]
-        self.displays = [e + (rng.choice((0, 0, 90, 180, 270)),) for e in sides[: 1 if self.plain else rng.randint(1, 3)]]
+        count = 1 if self.plain else rng.randint(1, 3)
+        self.displays = [side + (rng.choice((0, 0, 90, 180, 270)),) for side in sides[:count]]
         self.make_devices()
         self.channels = []
         for k in range(rng.randint(1, 6)):
@@ -150,7 +151,8 @@ class Case:
             us += rng.choice((0, 1, 1000, 8000, 8000, 60000, 700000))
             self.lines += rng.choice(senders).send(us)
             if rng.random() < 0.02:
-                self.lines.append(rng.choice(("add device 1: /dev/input/event2\n", "\n", '  name:     "touch"\n', line(us, "/dev/other", 3, 53, 9))))
+                others = ("add device 1: /dev/input/event2\n", "\n", '  name:     "touch"\n')
+                self.lines.append(rng.choice(others + (line(us, "/dev/other", 3, 53, 9),)))
         for sender in senders if closes else ():
             us += 8000
             self.lines += sender.close(us)
@@ -176,7 +178,8 @@ class Touch:
 
     def place(self, us):
         rng = self.rng
-        raw = [rng.choice((rng.randint(self.low, self.high), self.low, self.high, rng.randint(-100, 2500))) for _ in range(2)]
+        kinds = [(rng.randint(self.low, self.high), self.low, self.high, rng.randint(-100, 2500)) for _ in range(2)]
+        raw = [rng.choice(kind) for kind in kinds]
         return [line(us, self.path, 3, 53 + k, raw[k]) for k in range(2) if rng.random() < 0.9]
 
     def change(self, us, slot):

@@ -29,7 +29,8 @@ def recording(rng):
 
 
 def path_of(case, packets):
-    """Where the mouse is: (moment, place before it, place after it) of each packet that moves it, and the place at first."""
+    """Where the mouse is: (moment, place before it, place after it) of each packet that moves it, and the place at
+    first."""
     width, height, turned = case.displays[0]
     width, height = (height, width) if turned in (90, 270) else (width, height)
     place = start = (width // 2, height // 2)
@@ -61,7 +62,8 @@ def inside(rects, place):
 
 
 def sensible(case, name, action, moment, told, places):
-    """The place that is told is one of the mouse, less the corner of the window; it lies in the window but at an exit."""
+    """The place that is told is one of the mouse, less the corner of the window; it lies in the window but at an
+    exit."""
     for corner, rects in frames_of(case, name, moment):
         place = tuple(told[k] + corner[k] for k in (0, 1))
         if place in places and (action == "EXIT" or inside(rects, place)):
@@ -70,7 +72,8 @@ def sensible(case, name, action, moment, told, places):
 
 
 def candidates(case, removed, moment, place):
-    """The channels whose windows may be under the mouse: those that can be touched there, by the windows of that moment."""
+    """The channels whose windows may be under the mouse: those that can be touched there, by the windows of that
+    moment."""
     windows = ()
     for at, _, act, what in sorted(case.steps, key=lambda step: step[0]):
         if act == "windows" and at <= moment:
@@ -123,8 +126,8 @@ class Stays:
 
 
 def hovered(program, case, _):
-    """Each window is entered, then moved over, then left, where the mouse is; nothing comes after a removal; one window is
-    entered at a time, and it is one that is there."""
+    """Each window is entered, then moved over, then left, where the mouse is; nothing comes after a removal; one
+    window is entered at a time, and it is one that is there."""
     packets, text = recording(case.drawn("hovered"))
     words = program.files(case.session, case.recording)
     words[3] = program.file("mouse.txt", text)

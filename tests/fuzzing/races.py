@@ -35,15 +35,15 @@ class Order:
 
 
 def fits(case, told, removed, down):
-    """What holds of the streams of any order: each message may come where it stands, at the moment of a step or of a line
-    of the recording, and what is down at the end may be so."""
+    """What holds of the streams of any order: each message may come where it stands, at the moment of a step or of a
+    line of the recording, and what is down at the end may be so."""
     named_so(case, told)
     known = {0} | {step[0] for step in case.steps} | {event[0] for event in read(case.recording)[0]}
     owners = {name: owner_of(messages) for _, name, messages, _ in told[0]}
     for number, _, messages, (sent, received, finished) in told[0]:
         wrong = set(moments(messages)) - known
         need(not wrong, "channel %d is told something at %s" % (number, sorted(wrong)[:3]))
-        need(received <= finished + 64, "of channel %d %d messages are taken, %d finished" % (number, received, finished))
+        need(received <= finished + 64, "channel %d took %d and finished %d" % (number, received, finished))
     left(case, owners, removed, down)
 
 
@@ -63,7 +63,8 @@ def args_of(program, case, count):
     order = Order(case, ["r"] * count)
     program.check(case, order.text())
     order.calls.append("r")
-    words = ["check"] + program.files(case.session, case.recording) + ["--order", program.file("order.txt", order.text())]
+    words = ["check"] + program.files(case.session, case.recording)
+    words += ["--order", program.file("order.txt", order.text())]
     ends_so(program.run(words), 1, "order: NoStep %d\n" % (count + 2))
 
 
@@ -110,7 +111,8 @@ def settled(case, order, told, removed):
         said = finished.get(str(number), [])
         need(finishes or not said, "messages of channel %d are finished" % number)
         need(len(set(said)) == len(said), "a message of channel %d is finished twice" % number)
-        need(set(said) <= set(range(1, counts[1] + 1)), "a message of channel %d is finished that it was not given" % number)
+        given = set(range(1, counts[1] + 1))
+        need(set(said) <= given, "a message of channel %d is finished that it was not given" % number)
         need(counts[1] <= taken.get(str(number), 0), "channel %d took more than it asked for" % number)
         if name in removed:
             need(counts[2] <= len(said), "channel %d finished more than it said" % number)
@@ -121,8 +123,8 @@ def settled(case, order, told, removed):
 
 
 def in_turn(program, case, told):
-    """Where steps come first and nobody is late, the same is told as by `replay` where all steps are made, and then each
-    args is handed in and dispatched."""
+    """Where steps come first and nobody is late, the same is told as by `replay` where all steps are made, and then
+    each args is handed in and dispatched."""
     if not case.plain:
         return
     calls = ["s 1"] * len(case.steps) + ["r", "p"] * len(case.lines)
@@ -134,16 +136,13 @@ def in_turn(program, case, told):
         calls = calls[: line - 2]
     short = program.check(case, Order(case, calls).text())
     for one, other in zip(short[0], told[0]):
-        need(one[2] == other[2], "one after the other channel %d is told %s, and not %s" % (one[0], one[2][-2:], other[2][-2:]))
+        need(one[2] == other[2], "in turn channel %d is told %s, and not %s" % (one[0], one[2][-2:], other[2][-2:]))
 
 
-def ordered(program, case, _):
-    """An order that is made here, and its first calls, whether the order has what asks for nothing behind it or not."""
-    rng = case.drawn("ordered")
+def made(case, rng):
+    """An order from a number: it asks for steps that there are, for args that there may be, and for anything else."""
     order = Order(case, [])
     waiting = {lane: len(steps) for lane, steps in order.lanes.items()}
-    args = len(case.lines)
-    words = program.files(case.session, case.recording)
     for _ in range(rng.choice((0, 5, 40, 150))):
         lanes = [lane for lane in LANES if waiting[lane]]
         kind = rng.choice("rrrppppkggggffs")
@@ -156,25 +155,36 @@ def ordered(program, case, _):
             order.calls.append("g %d" % channel)
         elif kind == "f":
             order.calls.append("f %d %d" % (channel, rng.choice((0, 1, 1, 2, 3, 4, 2**64 - 1))))
-        elif kind != "s" and (kind != "r" or args):
+        elif kind != "s":
             order.calls.append(kind)
-    # Asking for more args than there are is refused; the line tells how many there are.
-    run = program.run(["check"] + words + ["--order", program.file("order.txt", order.text())])
-    while run[0] == 1:
-        line = int(run[2].split(b" ")[-1])
-        ends_so(run, 1, "order: NoStep %d\n" % line)
-        need(order.calls[line - 2] == "r", "line %d asks for %s, which there is" % (line, order.calls[line - 2]))
-        args = order.calls[: line - 2].count("r")
-        order.calls = order.calls[: line - 2] + [call for call in order.calls[line - 2 :] if call != "r"]
-        args_of(program, case, args)
-        run = program.run(["check"] + words + ["--order", program.file("order.txt", order.text())])
-        need(run[0] == 0, "without the args that are not there it ends with status %d" % run[0])
+    return order
+
+
+def with_args(program, case, order):
+    """Leaves out the args that the recording does not have, for which the order is refused first."""
+    words = ["check"] + program.files(case.session, case.recording)
+    run = program.run(words + ["--order", program.file("order.txt", order.text())])
+    if run[0] == 0:
+        return
+    line = int(run[2].split(b" ")[-1])
+    ends_so(run, 1, "order: NoStep %d\n" % line)
+    need(order.calls[line - 2] == "r", "line %d asks for %s, which there is" % (line, order.calls[line - 2]))
+    args_of(program, case, order.calls[: line - 2].count("r"))
+    order.calls = order.calls[: line - 2] + [call for call in order.calls[line - 2 :] if call != "r"]
+
+
+def ordered(program, case, _):
+    """An order that is made here, and its first calls."""
+    rng = case.drawn("ordered")
+    order = made(case, rng)
+    with_args(program, case, order)
     told = program.check(case, order.text())
     removed = order.removals()
     fits(case, told, removed, None)
     for number, _, _, (_, received, finished) in told[0]:
         asked = order.calls.count("g %d" % number)
         ended = len({call for call in order.calls if call.startswith("f %d " % number)})
-        need(received <= asked and finished <= ended, "channel %d took %d and finished %d" % (number, received, finished))
+        few = received <= asked and finished <= ended
+        need(few, "channel %d took %d of %d and finished %d of %d" % (number, received, asked, finished, ended))
     for place in [rng.randint(0, len(order.calls))] + sorted(removed.values())[:2]:
         first_calls(program, case, order, told, place, removed)

@@ -1,4 +1,5 @@
-"""Laws of what reads streams again: `verify`, `batch` and `emit`. What each of them has to say is told from the stream."""
+"""Laws of what reads streams again: `verify`, `batch` and `emit`. What each of them has to say is told from the
+stream."""
 import re
 
 from .laws import MOTION, ends_so, moments, need
@@ -7,7 +8,8 @@ MOST = 10**18
 
 
 def lines_of(told, number):
-    """The messages of the first section of a channel with their lines in the file, or None where there is no such section."""
+    """The messages of the first section of a channel with their lines in the file, or None where there is no such
+    section."""
     line = 1
     for channel, _, messages, _ in told[0]:
         if channel == number:
@@ -30,8 +32,8 @@ def numbered(messages):
 
 
 def judges(program, case, told):
-    """A message twice, of those that cannot come twice, is the first that is not well-formed; one that is left out is missed
-    where the next one cannot come without it; a line with something behind it is no line."""
+    """A message twice, of those that cannot come twice, is the first that is not well-formed; a line with a blank
+    behind it is no line."""
     rng = case.drawn("judges")
     twice = r"\d+ \d+ (motion \d (DOWN|POINTER_DOWN:\d+|POINTER_UP:\d+|UP|CANCEL)\b|key|focus).*"
     places = [(k, j) for k, c in enumerate(told[0]) for j, m in enumerate(c[2]) if re.fullmatch(twice, m)]
@@ -50,15 +52,15 @@ def judges(program, case, told):
 
 
 def parted(before, after, frame):
-    """Whether two moves of a device that follow one another come in two batches: a frame begins between them, or they list
-    other fingers."""
+    """Whether two moves of a device that follow one another come in two batches: a frame begins between them, or they
+    list other fingers."""
     ids = [re.findall(r"(\d+)@", text) for text in (before[2], after[2])]
     return ids[0] != ids[1] or before[1] // frame != after[1] // frame
 
 
 def items_of(messages, frame):
-    """The items of a section. A batch is given out where the first message behind it begins another frame, then where its
-    device says something else, and at the end; one of 256 moves at once."""
+    """The items of a section. A batch is given out where the first message behind it begins another frame, then where
+    its device says something else, and at the end; one of 256 moves at once."""
     items = []
     open_ones = {}
     times = moments(messages)
@@ -102,7 +104,8 @@ def batched(program, case, told):
 
 
 def packets_of(lines, device):
-    """What is down after each motion of a device that takes part in its gestures: (line, moment, ids with their places)."""
+    """What is down after each motion of a device that takes part in its gestures: (line, moment, ids with their
+    places)."""
     packets = []
     for line, text in lines:
         match = MOTION.fullmatch(text)
@@ -118,8 +121,8 @@ def packets_of(lines, device):
 
 
 def refusal(lines, device):
-    """How a stream is refused that is to be written as a recording, or "". Ids that come have to be the least that are free;
-    no event is at the last moment of all."""
+    """How a stream is refused that is to be written as a recording, or "". Ids that come have to be the least that
+    are free; no event is at the last moment of all."""
     if lines is None:
         return "stream: NoChannel\n"
     before = set()
@@ -156,7 +159,8 @@ def back(lines, device):
     last = {}
     for _, moment, wanted in packets_of(lines, device):
         now = {n: tuple(min(max(c, 0), 16383) for c in at) for n, at in wanted.items()}
-        messages += ["%d %d motion 1 %s" % (len(messages) + k, moment, text) for k, text in enumerate(gesture(last, now), 1)]
+        for text in gesture(last, now):
+            messages.append("%d %d motion 1 %s" % (len(messages) + 1, moment, text))
         last = now
     return written(([(1, "all", messages, (len(messages),) * 3)], []))
 
@@ -184,9 +188,12 @@ def later(told):
 
 
 def emitted(program, case, told):
-    """A gesture of a stream as events, which one window over a display of its own is then told; and which are refused."""
+    """A gesture of a stream as events, which one window over a display of its own is then told; and which are
+    refused."""
     rng = case.drawn("emitted")
-    texts = [told] + ([other_ids(told, rng)] if rng.random() < 0.5 else []) + ([later(told)] if rng.random() < 0.5 else [])
+    texts = [told]
+    texts += [other_ids(told, rng)] if rng.random() < 0.5 else []
+    texts += [later(told)] if rng.random() < 0.5 else []
     for changed in texts:
         program.verify(written(changed))
         pairs = [(c[0], d) for c in changed[0] for d in range(1, len(case.devices) + 1)]

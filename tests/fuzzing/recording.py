@@ -13,7 +13,8 @@ SLOT, TOOL, TRACKING = 0x2F, 0x37, 0x39
 
 
 def read(text):
-    """The events of a recording, each as (moment, path or None, kind, code, value), and the line that refuses it, or ""."""
+    """The events of a recording, each as (moment, path or None, kind, code, value), and the line that refuses it, or
+    ""."""
     events = []
     lines = text.split(b"\n")
     if lines[-1] == b"":

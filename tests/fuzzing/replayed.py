@@ -63,8 +63,9 @@ class Sources:
 
 
 def held_by(number, messages, names, sources, removed):
-    """Goes through the messages of a channel: each may come, at such a moment; nothing comes after a removal; a channel that
-    is named is told cancels, holds nothing then, and is told of nothing but the focus until it is able again."""
+    """Goes through the messages of a channel: each may come, at such a moment; nothing comes after a removal; a
+    channel that is named is told cancels, holds nothing then, and is told of nothing but the focus until it is able
+    again."""
     owner = Owner()
     waiting = list(names)
     unable = None
@@ -81,7 +82,8 @@ def held_by(number, messages, names, sources, removed):
         late = waiting and waiting[0][0] == at
         need(not late or FOCUS.fullmatch(text) or "CANCEL" in text or " canceled " in text, "named, told %s" % text)
         need(at <= removed, "channel %d is removed at %s, and told %s" % (number, removed, text))
-        need(sources is None or sources.may_say(text, owner, clocks), "nothing is there to tell at that moment: %s" % text)
+        there = sources is None or sources.may_say(text, owner, clocks)
+        need(there, "nothing is there to tell at that moment: %s" % text)
         owner.told(text)
     for name in waiting:
         empty(number, owner, name)
@@ -89,11 +91,13 @@ def held_by(number, messages, names, sources, removed):
 
 
 def empty(number, owner, name):
-    need(not any(owner.down.values()) and not owner.keys, "channel %d is named at %d and holds something" % (number, name[0]))
+    nothing = not any(owner.down.values()) and not owner.keys
+    need(nothing, "channel %d is named at %d and holds something" % (number, name[0]))
 
 
 def left(case, owners, removed, down):
-    """What is down at the end of a run is so in the windows that may have it, and down on its device, where `down` is known."""
+    """What is down at the end of a run is so in the windows that may have it, and down on its device, where `down` is
+    known."""
     fingers = [set() for _ in case.devices]
     keys = []
     focused = 0
@@ -116,7 +120,8 @@ def left(case, owners, removed, down):
 
 
 def judged(case, out, steps, events, rising=True):
-    """Holds a printed text to all of this, and returns it in sections. `rising` says that the moments of the lines rise."""
+    """Holds a printed text to all of this, and returns it in sections. `rising` says that the moments of the lines
+    rise."""
     told = sections(out)
     named_so(case, told)
     removed = removals(steps)

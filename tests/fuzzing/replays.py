@@ -7,15 +7,16 @@ from .replayed import judged
 
 
 def may_be_too_long(case):
-    """Whether a run of a damaged case can have more than 4,000,000 calls, which takes a key that is repeated for days."""
+    """Whether a run of a damaged case can have more than 4,000,000 calls, which takes a key that is repeated for
+    days."""
     numbers = [int(n) for n in re.findall(rb"\d{11,30}", case.session)]
     seconds = [int(n) for n in re.findall(rb"\[[ \t]*(\d{5,12})\.", case.recording)]
     return b"keys" in case.session and (any(n >= 10**10 for n in numbers) or any(n >= 10**4 for n in seconds))
 
 
 def whole(program, case):
-    """The run of the case: its text in sections, or None where there is none. A session that is not damaged is accepted,
-    and then the first line that is against the form of a recording decides."""
+    """The run of the case: its text in sections, or None where there is none. A session that is not damaged is
+    accepted, and then the first line that is against the form of a recording decides."""
     run = program.run(["replay"] + program.files(case.session, case.recording))
     if not case.known and run[2].startswith(b"session: "):
         ends_so(run, 3, run[2].decode("utf-8", "replace"))
@@ -52,8 +53,9 @@ def last_moment(case, told):
 
 
 def cut(program, case, told):
-    """The recording up to some line. What is told before the first line that is cut off, and before the end of the shorter
-    run, is the same; where nothing but args makes messages, all that is told is the beginning of the longer run."""
+    """The recording up to some line. What is told before the first line that is cut off, and before the end of the
+    shorter run, is the same; where nothing but args makes messages, all that is told is the beginning of the longer
+    run."""
     rng = case.drawn("cut")
     kept = rng.randint(0, len(case.lines))
     short = again(program, case, case.steps, "".join(case.lines[:kept]).encode())
@@ -74,8 +76,8 @@ def alike(one, other, moment):
 
 
 def early(program, case, told):
-    """The steps up to one of them. What is told before the first step that is left out is the same, as the end stays; so
-    what is told to a channel before its removal does not know of the removal."""
+    """The steps up to one of them. What is told before the first step that is left out is the same, as the end stays;
+    so what is told to a channel before its removal does not know of the removal."""
     steps = sorted(case.steps, key=lambda step: step[0])
     removals = [k for k, step in enumerate(steps) if step[2] == "remove"]
     rng = case.drawn("early")
@@ -93,4 +95,5 @@ def shuffled(program, case, told):
     """The windows of each step the other way round, where they lie apart and have no flags."""
     if case.apart:
         steps = [step[:3] + (step[3][::-1] if step[2] == "windows" else step[3],) for step in case.steps]
-        need(again(program, case, steps, case.recording) == told, "windows that lie apart, the other way round, are told more")
+        other = again(program, case, steps, case.recording)
+        need(other == told, "windows that lie apart are told something else in another order")
