@@ -15,7 +15,7 @@ class Case:
         self.random = random.Random(number)
         self.kind = self.random.choices(("valid", "nearly valid", "bytes"), (7, 2, 1))[0]
         # A plain session says nothing but displays, touch devices and the first windows.
-        self.plain = self.random.random() < 0.5
+        self.plain = self.random.random() < 0.35
         # Windows that lie apart and have no flags.
         self.apart = self.random.random() < 0.25
         self.make_session()

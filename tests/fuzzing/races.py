@@ -143,9 +143,9 @@ def made(case, rng):
     """An order from a number: it asks for steps that there are, for args that there may be, and for anything else."""
     order = Order(case, [])
     waiting = {lane: len(steps) for lane, steps in order.lanes.items()}
-    for _ in range(rng.choice((0, 5, 40, 150))):
+    for _ in range(rng.choice((5, 40, 150))):
         lanes = [lane for lane in LANES if waiting[lane]]
-        kind = rng.choice("rrrppppkggggffs")
+        kind = rng.choice("rrrppppkgggffssss")
         channel = rng.randint(0, len(case.channels) + 1)
         if kind == "s" and lanes:
             lane = rng.choice(lanes)
