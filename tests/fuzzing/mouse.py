@@ -50,11 +50,11 @@ def seen(start, path, moment):
 
 
 def frames_of(case, name, moment):
-    """The windows of a channel on display 0 that some step up to a moment set: their corners and their rectangles."""
+    """The windows of a channel that some step up to a moment set: their corners and, on display 0, their rectangles."""
     for at, _, act, what in case.steps:
         for channel, display, frame, _, region in what if act == "windows" and at <= moment else ():
-            if channel == name and display == 0:
-                yield frame[:2], [frame] if region is None else region
+            if channel == name:
+                yield frame[:2], ([frame] if region is None else region) if display == 0 else []
 
 
 def inside(rects, place):
@@ -71,16 +71,21 @@ def sensible(case, name, action, moment, told, places):
     return False
 
 
-def candidates(case, removed, moment, place):
-    """The channels whose windows may be under the mouse: those that can be touched there, by the windows of that
-    moment."""
+def windows_at(case, moment):
+    """The windows at a moment, front to back."""
     windows = ()
     for at, _, act, what in sorted(case.steps, key=lambda step: step[0]):
         if act == "windows" and at <= moment:
             windows = what
-    for name, display, frame, flags, region in windows:
+    return windows
+
+
+def candidates(case, removed, moment, place, on=0):
+    """The channels whose windows may be under the mouse: those that can be touched there, by the windows of that
+    moment."""
+    for name, display, frame, flags, region in windows_at(case, moment):
         gone = removed.get(name, NEVER) <= moment
-        if display == 0 and not gone and "SPY" not in flags and "NOT_TOUCHABLE" not in flags:
+        if display == on and not gone and "SPY" not in flags and "NOT_TOUCHABLE" not in flags:
             if inside([frame] if region is None else region, place):
                 yield name
 
