@@ -155,13 +155,46 @@ by_more R old new k row lt p r =
           get_or-set_other new k j row no_row n ∙ p.rest j (omega (arith, above));
     }
 
-pub by_all : (R : Row → Row → Type 0) (old new : List Row) (n : ℕ) → PassedBy R old new n → 64 ≤ n → R no_row no_row
+-- where nothing is to be done from its end on
+pub passed_top : (f : ℕ → Row → Row) (old new : List Row) (n : ℕ) → Passed f old new n
+    → ((w : ℕ) → n < w → f w (row_of old w) ≡ row_of old w)
+    → ((w : ℕ) → is_channel w ≡ false → f w no_row ≡ no_row) → (w : ℕ) → row_of new w ≡ f w (row_of old w)
+passed_top f old new n p still outside w = by_channel (is_channel w) refl
+  where
+    by_channel : (c : Bool) → is_channel w ≡ c → row_of new w ≡ f w (row_of old w)
+    by_channel true e =
+        let a : 0 < w = ltb-true 0 w (and_parts _ _ e).0 in
+        let back : w - 1 + 1 ≡ w = omega (arith, a) in
+        let row : Row = get_or old (w - 1) no_row in
+        elim (cases_lt (w - 1) n) [
+          | inl low ↦
+              let here : get_or new (w - 1) no_row ≡ f (w - 1 + 1) row =
+              p (w - 1) ∙ ap (λ b. if b then f (w - 1 + 1) row else row) (lt-ltb (w - 1) n low) in
+              rw e (here ∙ ap (λ v. f v row) back)
+          | inr high ↦
+              let above : n < w = omega (arith, a, high) in
+              let same : row_of old w ≡ row = rw e refl in
+              let here : get_or new (w - 1) no_row ≡ row =
+              p (w - 1) ∙ ap (λ b. if b then f (w - 1 + 1) row else row) (le-ltb (w - 1) n high) in
+              rw e (here ∙ sym (subst (λ r. f w r ≡ r) same (still w above)))
+        ]
+    by_channel false e = rw e (sym (outside w e))
+
+pub by_top : (R : Row → Row → Type 0) (old new : List Row) (n : ℕ) → PassedBy R old new n
+    → ((w : ℕ) → n < w → R (row_of old w) (row_of old w)) → R no_row no_row
     → (w : ℕ) → R (row_of old w) (row_of new w)
-by_all R old new n p le outside w = by_channel (is_channel w) refl
+by_top R old new n p still outside w = by_channel (is_channel w) refl
   where
     by_channel : (c : Bool) → is_channel w ≡ c → R (row_of old w) (row_of new w)
     by_channel true e =
         let a : 0 < w = ltb-true 0 w (and_parts _ _ e).0 in
-        let b : w ≤ 64 = leb-true w 64 (and_parts _ _ e).1 in
-        rw e (p.done (w - 1) (omega (arith, a, b, le)))
+        let row : Row = get_or old (w - 1) no_row in
+        elim (cases_lt (w - 1) n) [
+          | inl low ↦ rw e (p.done (w - 1) low)
+          | inr high ↦
+              let above : n < w = omega (arith, a, high) in
+              let same : row_of old w ≡ row = rw e refl in
+              let kept : R row row = subst (λ r. R r r) same (still w above) in
+              rw e (subst (R row) (sym (p.rest (w - 1) high)) kept)
+        ]
     by_channel false e = rw e outside

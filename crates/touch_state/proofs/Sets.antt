@@ -6,6 +6,7 @@ use Rattle.std.proofs.lemmas.Nat.Bits.{bit_at-zero, bit_at_above, bit_at-lt, sam
 use Rattle.std.proofs.Math.Nat.{two-pow-succ}
 use Rattle.bits32.specs.Set.{is_in, marked}
 use Rattle.bits32.proofs.Members.{is_in_marked}
+use Rattle.touch_state.specs.declared.row.Row.{Row}
 use Rattle.touch_state.specs.Rows.{no_row, IsTaken}
 use Rattle.touch_state.proofs.Passes.{same_side}
 
@@ -30,6 +31,13 @@ none_in n none = same_from_bits n 0 (λ i. no_bit (bit_at n i) (bit_at-lt n i) (
 
 pub empty_has_none : (i : ℕ) → is_in i 0 ≡ false
 empty_has_none i = rw (bit_at-zero i) refl
+
+-- nor of a row without ids
+pub empty_taken : (takes : ℕ → Bool) (row : Row) → row.ids ≡ 0 → IsTaken takes row row
+empty_taken takes row e = record { ids = λ i. nothing i ∙ sym (ap (λ b. b && not (takes i)) (nothing i)); since = refl }
+  where
+    nothing : (i : ℕ) → is_in i row.ids ≡ false
+    nothing i = ap (λ n. is_in i n) e ∙ empty_has_none i
 
 -- a set with a number is not empty
 pub not_empty : (i set : ℕ) → is_in i set ≡ true → (set == 0) ≡ false

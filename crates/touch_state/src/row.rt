@@ -1,5 +1,5 @@
 //! What each window has of the device.
-ghost use Rattle.std.specs.Prelude.{◌≡◌, ℕ, ◌<◌, true, ◌==◌, not, ◌&&◌, ◌||◌, if◌then◌else◌};
+ghost use Rattle.std.specs.Prelude.{◌≡◌, ℕ, ◌<◌, ◌≤◌, true, false, ◌==◌, not, ◌&&◌, ◌||◌, if◌then◌else◌};
 ghost use Rattle.bits32.specs.Set.{is_in};
 ghost use Rattle.window_snapshot.specs.Mask.{is_channel, mask_has};
 ghost use Rattle.touch_state.specs.Rows.{no_row, row_of, given, left_with, IsTaken, IsSlipped, IsLeastSince, sooner};
@@ -135,21 +135,33 @@ pub(crate) fn empty_all(rows: &mut [Row; 64])
     }
 }
 
-/// Gives an id to each window of a mask, at a place.
-pub(crate) fn give_all(rows: &mut [Row; 64], to: u64, id: PointerId, place: u64)
+/// Up to which window a mask has windows: above it there is none.
+pub(crate) fn top_of(mask: u64) -> usize
+    ensures above { (w : ℕ) → result < w → mask_has mask w ≡ false }
+    ensures few { result ≤ 64 }
+{
+    64 - mask.leading_zeros() as usize
+}
+
+/// Gives an id to each window of a mask, at a place; above the top it has none.
+pub(crate) fn give_all(rows: &mut [Row; 64], to: u64, id: PointerId, place: u64, top: usize)
+    requires few { top ≤ 64 }
+    requires above { (w : ℕ) → top < w → mask_has to w ≡ false }
     ensures { (w : ℕ) → row_of rows.new w ≡ given (mask_has to w) id place (row_of rows.old w) }
 {
-    for (k, row) in rows.iter_mut().enumerate() {
-        *row = given(*row, mask_has(to, k as u32 + 1), id, place);
+    for k in 0..top {
+        rows[k] = given(rows[k], mask_has(to, k as u32 + 1), id, place);
     }
 }
 
-/// Takes an id from every window.
-pub(crate) fn lift_all(rows: &mut [Row; 64], id: PointerId)
+/// Takes an id from every window; above the top none holds anything.
+pub(crate) fn lift_all(rows: &mut [Row; 64], id: PointerId, top: usize)
+    requires few { top ≤ 64 }
+    requires above { (w : ℕ) → top < w → (row_of rows.old w).ids ≡ 0 }
     ensures { (w : ℕ) → IsTaken (λ i. i == id) (row_of rows.old w) (row_of rows.new w) }
 {
-    for row in rows.iter_mut() {
-        *row = lifted(*row, id);
+    for k in 0..top {
+        rows[k] = lifted(rows[k], id);
     }
 }
 
@@ -165,13 +177,15 @@ fn noted(holders: u64, channel: u32, row: Row) -> u64
     }
 }
 
-/// The mask of the windows that hold something.
-pub(crate) fn holders_of(rows: &[Row; 64]) -> u64
+/// The mask of the windows that hold something; above the top none does.
+pub(crate) fn holders_of(rows: &[Row; 64], top: usize) -> u64
+    requires few { top ≤ 64 }
+    requires above { (w : ℕ) → top < w → (row_of rows.now w).ids ≡ 0 }
     ensures { (w : ℕ) → mask_has result w ≡ not ((row_of rows.now w).ids == 0) }
 {
     let mut holders = 0;
-    for (k, row) in rows.iter().enumerate() {
-        holders = noted(holders, k as u32 + 1, *row);
+    for k in 0..top {
+        holders = noted(holders, k as u32 + 1, rows[k]);
     }
     holders
 }

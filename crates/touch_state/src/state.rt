@@ -7,7 +7,7 @@ ghost use Rattle.touch_state.specs.Touches.{one, of_mask, of_all, of_set, everyt
 
 use crate::row::{
     Row, began_at, empty_all, give_all, holders_of, least_since, lift_all, no_row, row_at, slip,
-    take,
+    take, top_of,
 };
 use bits32::Bits32;
 use input_types::{DeviceId, PointerId};
@@ -67,8 +67,11 @@ impl TouchState {
     pub fn down(&mut self, id: PointerId, to: u64, place: u64)
         ensures { Changes self.old self.new (of_mask to id) none place nobody }
     {
-        give_all(&mut self.rows, to, id, place);
-        self.holders = holders_of(&self.rows);
+        let held = top_of(self.holders);
+        let given = top_of(to);
+        let top = held.max(given);
+        give_all(&mut self.rows, to, id, place, top);
+        self.holders = holders_of(&self.rows, top);
         self.pilferers &= self.holders;
     }
 
@@ -79,7 +82,7 @@ impl TouchState {
         ensures { Changes self.old self.new (one to id) (one from id) place nobody }
     {
         slip(&mut self.rows, from, to, id, place);
-        self.holders = holders_of(&self.rows);
+        self.holders = holders_of(&self.rows, 64);
         self.pilferers &= self.holders;
     }
 
@@ -87,8 +90,9 @@ impl TouchState {
     pub fn up(&mut self, id: PointerId)
         ensures { (place : ℕ) → Changes self.old self.new none (of_all id) place nobody }
     {
-        lift_all(&mut self.rows, id);
-        self.holders = holders_of(&self.rows);
+        let top = top_of(self.holders);
+        lift_all(&mut self.rows, id, top);
+        self.holders = holders_of(&self.rows, top);
         self.pilferers &= self.holders;
     }
 
@@ -98,7 +102,7 @@ impl TouchState {
         ensures { (place : ℕ) → Changes self.old self.new none (of_set channel ids) place nobody }
     {
         take(&mut self.rows, channel, ids);
-        self.holders = holders_of(&self.rows);
+        self.holders = holders_of(&self.rows, 64);
         self.pilferers &= self.holders;
     }
 
@@ -126,6 +130,14 @@ impl TouchState {
         ensures { result ≡ held self.now channel }
     {
         row_at(&self.rows, channel).ids
+    }
+
+    /// The place at which a window last went from holding nothing to holding something.
+    pub fn since(&self, channel: u32) -> u64
+        requires { is_channel channel ≡ true }
+        ensures { result ≡ since self.now channel }
+    {
+        row_at(&self.rows, channel).since
     }
 
     /// The mask of the windows that hold something. The others do not pilfer.
