@@ -4,10 +4,9 @@ ghost use Rattle.window_snapshot.specs.Mask.{is_channel, mask_has};
 ghost use Rattle.touch_state.specs.Touches.{any, holds, pilfering};
 ghost use Rattle.route_split.specs.Tables.{is_earlier};
 
-use crate::taking::alone;
 use input_types::PointerId;
 use touch_state::TouchState;
-use window_snapshot::{Snapshot, is_channel, mask_has, mask_with};
+use window_snapshot::{Snapshot, is_channel, mask_has};
 
 /// What the rules see before a motion of one device.
 #[derive(Clone, Copy)]
@@ -36,12 +35,12 @@ pub(crate) fn holds_pointer(table: &TouchState, channel: u32, id: PointerId) -> 
 }
 
 /// Whether window `v` began before window `w`, of two that hold something.
+#[tactic(auto, using(crate::proofs::Earlier::any_channel))]
 pub(crate) fn is_earlier(table: &TouchState, v: u32, w: u32) -> bool
     ensures { result ≡ is_earlier table.now v w }
 {
     if holds_any(table, v) && holds_any(table, w) {
-        let first = table.earliest(mask_with(alone(v), w));
-        !mask_has(first, w)
+        table.since(v) < table.since(w)
     } else {
         false
     }
