@@ -39,6 +39,7 @@ pub(crate) fn index_of(device: DeviceId) -> usize
 }
 
 /// Changes the states by a mark.
+#[inline(always)]
 pub(crate) fn take_mark(states: &mut [TouchState], mark: &Mark, place: u64)
     requires tables { IsTables states.old }
     requires whole { IsWhole mark.now }

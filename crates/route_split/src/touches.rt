@@ -136,6 +136,7 @@ impl Touches {
     }
 
     /// Takes the step of a mark, at a place, which is how many steps were before it.
+    #[inline(always)]
     pub fn take(&mut self, mark: &Mark, place: u64)
         requires { IsWhole mark.now }
         ensures { ChangesAll self.old self.new (gives mark.now) (takes (taking self.old mark.now)) place
