@@ -5,15 +5,16 @@
 //! end are pumped all the same.
 #![tactic(auto)]
 
-mod gates;
+mod arrivals;
 mod made;
 
+use arrivals::Arrivals;
 use dispatch_calls::{Call, Reply};
 use dispatch_core::Core;
-use gates::{Arrivals, Flag, Meeting, Place, Until};
 use input_service::Service;
 use input_types::Displays;
 use made::{channel, cooked, scripts};
+use race_gates::{Meeting, Place, Until};
 use replay_actors::{Gate, Lanes, RaceEnd, open_channels, run_lanes};
 use std::alloc::Global;
 use std::io;
@@ -81,21 +82,14 @@ fn print_counts<R: Print>(rt: &R, core: &Core) -> io::Result<()> {
 
 /// The reader and the script wait for each other at their first calls.
 fn meeting<R: Threads + Wait + Print + Sync>(rt: &R, alloc: Global) -> io::Result<()> {
-    let gate = Meeting {
-        places: (Place { lane: 0, turn: 0 }, Place { lane: 2, turn: 0 }),
-        flags: (Flag::new(), Flag::new()),
-    };
+    let gate = Meeting::new(Place { lane: 0, turn: 0 }, Place { lane: 2, turn: 0 });
     race(rt, alloc, &gate)?;
     println!(rt; "the reader and the script meet: {}", gate.held())
 }
 
 /// The script is held until the reader has handed in two args.
 fn reader_first<R: Threads + Wait + Print + Sync>(rt: &R, alloc: Global) -> io::Result<()> {
-    let gate = Until {
-        held: Place { lane: 2, turn: 0 },
-        awaited: Place { lane: 0, turn: 2 },
-        flag: Flag::new(),
-    };
+    let gate = Until::new(Place { lane: 2, turn: 0 }, Place { lane: 0, turn: 2 });
     let end = race(rt, alloc, &gate)?;
     println!(rt;
         "the script is held: {}, at least two args before the windows: {}",
@@ -106,11 +100,7 @@ fn reader_first<R: Threads + Wait + Print + Sync>(rt: &R, alloc: Global) -> io::
 
 /// The reader is held until the script has shown the windows.
 fn script_first<R: Threads + Wait + Print + Sync>(rt: &R, alloc: Global) -> io::Result<()> {
-    let gate = Until {
-        held: Place { lane: 0, turn: 0 },
-        awaited: Place { lane: 2, turn: 1 },
-        flag: Flag::new(),
-    };
+    let gate = Until::new(Place { lane: 0, turn: 0 }, Place { lane: 2, turn: 1 });
     let end = race(rt, alloc, &gate)?;
     println!(rt;
         "the reader is held: {}, args before the windows: {}",
@@ -123,14 +113,11 @@ fn script_first<R: Threads + Wait + Print + Sync>(rt: &R, alloc: Global) -> io::
 /// The reader is held at its last call until the dispatcher has come 16,384 times, and so is nearly at its end. The
 /// last args are pumped all the same: where the dispatcher has ended, by the caller. A wait that gave up is no fault.
 fn reader_last<R: Threads + Wait + Print + Sync>(rt: &R, alloc: Global) -> io::Result<()> {
-    let gate = Until {
-        held: Place { lane: 0, turn: 2 },
-        awaited: Place {
-            lane: 1,
-            turn: 16_383,
-        },
-        flag: Flag::new(),
+    let nearly_ended = Place {
+        lane: 1,
+        turn: 16_383,
     };
+    let gate = Until::new(Place { lane: 0, turn: 2 }, nearly_ended);
     let end = race(rt, alloc, &gate)?;
     let (args, pumps) = args_and_pumps(&end.core);
     println!(rt; "the reader comes last: args {args}, pumped {pumps}")

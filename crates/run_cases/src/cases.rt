@@ -2,8 +2,8 @@
 use crate::failing::{add_case, add_pieces};
 use crate::runs::{Call, Case, Files};
 use crate::texts::{
-    FINGER, FINGERS, FOURTH, HALVES, MOUSE, MOVES, ONE_HALF, ORDER, REPLACED, SESSION, STEP, TAP,
-    TIMELESS, TIMELESS_MOUSE, TWO_DOWNS, TWO_FINGERS,
+    DISPLAY, FINGER, FINGERS, FOURTH, HALVES, MOUSE, MOVES, ONE_HALF, ORDER, REPLACED, SESSION,
+    STEP, TAP, TIMELESS, TIMELESS_MOUSE, TWO_DOWNS, TWO_FINGERS,
 };
 use std::io;
 use std::sync::Wait;
@@ -12,7 +12,7 @@ use std::thread::Threads;
 /// The words of commands.
 const REPLAY: &str = "replay --session session --events events";
 
-const RACE: &str = "race --session session --events events";
+pub(crate) const RACE: &str = "race --session session --events events";
 
 const CHECK: &str = "check --session session --events events --order order";
 
@@ -32,6 +32,7 @@ fn told<'a>(name: &'a str, words: &'a str, files: Files<'a>) -> Case<'a> {
         name,
         words,
         files,
+        taken: 8,
         failing: &[Call::Read, Call::Write],
     }
 }
@@ -42,6 +43,7 @@ fn refused<'a>(name: &'a str, words: &'a str, files: Files<'a>) -> Case<'a> {
         name,
         words,
         files,
+        taken: 8,
         failing: &[Call::Read, Call::Tell],
     }
 }
@@ -52,6 +54,7 @@ fn stopped<'a>(name: &'a str, words: &'a str, files: Files<'a>) -> Case<'a> {
         name,
         words,
         files,
+        taken: 8,
         failing: &[Call::Tell],
     }
 }
@@ -177,10 +180,22 @@ fn add_runs<R: Threads + Wait + Sync>(rt: &R, text: &mut Vec<u8>) -> io::Result<
     add_each(rt, text, &cases)
 }
 
+/// Adds a race of a session without channels, in which only the dispatcher makes calls: all its pumps are idle, and the
+/// caller pumps and looks once more. So this race has one order.
+fn add_race<R: Threads + Wait + Sync>(rt: &R, text: &mut Vec<u8>) -> io::Result<()> {
+    let files: Files = &[("session", &[DISPLAY]), ("events", &[])];
+    let race = Case {
+        taken: 4096,
+        ..told("a race of nothing", RACE, files)
+    };
+    add_case(rt, text, &race)
+}
+
 /// Adds all cases.
 pub(crate) fn add_all<R: Threads + Wait + Sync>(rt: &R, text: &mut Vec<u8>) -> io::Result<()> {
     add_taps(rt, text)?;
     add_nothing(rt, text)?;
     add_streams(rt, text)?;
-    add_runs(rt, text)
+    add_runs(rt, text)?;
+    add_race(rt, text)
 }

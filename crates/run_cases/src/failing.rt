@@ -2,25 +2,30 @@
 ghost use Rattle.std.specs.Prelude.{◌<◌};
 
 use crate::runs::{Call, Case, Fault, Ran, run_case};
+use replay_engine::NoGate;
 use std::alloc::AllocError;
 use std::io;
 use std::sync::Wait;
 use std::thread::Threads;
 
 /// The most bytes that a read gives.
-const GIVEN: usize = 128;
+pub(crate) const GIVEN: usize = 128;
 
 /// More calls than a run makes.
 const MOST: u64 = 1000;
 
 /// Whether the part is what the writes before this one take of a text.
-fn is_front(part: &[u8], whole: &[u8], number: u64) -> bool {
+fn is_front(part: &[u8], whole: &[u8], taken: usize, number: u64) -> bool
+    requires { 0 < taken }
+{
     let len = part.len();
-    whole.starts_with(part) && len % 8 == 0 && len as u64 / 8 + 1 == number
+    whole.starts_with(part) && len % taken == 0 && 0 < number && (len / taken) as u64 == number - 1
 }
 
 /// Whether a run with a fault came to what it is to come to, where one without it comes to `whole`.
-fn is_wanted(whole: &Ran, fault: Fault, ran: &Ran) -> bool {
+fn is_wanted(whole: &Ran, taken: usize, fault: Fault, ran: &Ran) -> bool
+    requires { 0 < taken }
+{
     match fault.call {
         Call::Read => {
             ran.status == 4
@@ -29,13 +34,13 @@ fn is_wanted(whole: &Ran, fault: Fault, ran: &Ran) -> bool {
         }
         Call::Write => {
             ran.status == 5
-                && is_front(&ran.out, &whole.out, fault.number)
+                && is_front(&ran.out, &whole.out, taken, fault.number)
                 && ran.err.as_slice() == b"write failed\n".as_slice()
         }
         Call::Tell => {
             ran.status == whole.status
                 && ran.out == whole.out
-                && is_front(&ran.err, &whole.err, fault.number)
+                && is_front(&ran.err, &whole.err, taken, fault.number)
         }
     }
 }
@@ -50,18 +55,44 @@ fn name_of(call: Call) -> &'static str {
 }
 
 /// Adds a line.
-fn add_line(text: &mut Vec<u8>, line: &str) -> Result<(), AllocError> {
+pub(crate) fn add_line(text: &mut Vec<u8>, line: &str) -> Result<(), AllocError> {
     text.extend_from_slice(line.as_bytes())?;
     text.push(b'\n')?;
     Ok(())
 }
 
-/// Adds the status and the bytes of a run.
+/// Adds how often a line came again.
+fn add_again(text: &mut Vec<u8>, again: u64) -> Result<(), AllocError> {
+    if again == 0 {
+        return Ok(());
+    }
+    let line = format!(in *text.allocator(); "{again} times more")?;
+    add_line(text, line.as_str())
+}
+
+/// Adds a text, of which a line that comes again and again is told once, and then how often more.
+fn add_told(text: &mut Vec<u8>, told: &[u8]) -> Result<(), AllocError> {
+    let mut last: &[u8] = &[];
+    let mut again = 0u64;
+    for line in told.split_inclusive(|byte| *byte == b'\n') {
+        if line == last {
+            again = again.saturating_add(1);
+        } else {
+            add_again(text, again)?;
+            text.extend_from_slice(line)?;
+            last = line;
+            again = 0;
+        }
+    }
+    add_again(text, again)
+}
+
+/// Adds the status and the text of a run.
 fn add_ran(text: &mut Vec<u8>, name: &str, ran: &Ran) -> Result<(), AllocError> {
     let line = format!(in *text.allocator(); "{name}: status {}", ran.status)?;
     add_line(text, line.as_str())?;
-    text.extend_from_slice(&ran.out)?;
-    text.extend_from_slice(&ran.err)
+    add_told(text, &ran.out)?;
+    add_told(text, &ran.err)
 }
 
 /// Makes each call of a kind fail in turn, and adds how many there were, or the first run that came to something else.
@@ -78,7 +109,7 @@ fn fail_in_turn<R: Threads + Wait + Sync>(
             call,
             number: before + 1,
         };
-        let ran = run_case(rt, alloc, case, GIVEN, Some(fault))?;
+        let ran = run_case(rt, alloc, case, GIVEN, Some(fault), &NoGate)?;
         if ran == *whole {
             let line = format!(in alloc;
                 "{}: {before} {} failed in turn",
@@ -88,7 +119,7 @@ fn fail_in_turn<R: Threads + Wait + Sync>(
             add_line(text, line.as_str())?;
             return Ok(());
         }
-        if !is_wanted(whole, fault, &ran) {
+        if !is_wanted(whole, case.taken(), fault, &ran) {
             let line = format!(in alloc; "{}: after {before} {}", case.name, name_of(call))?;
             add_ran(text, line.as_str(), &ran)?;
             return Ok(());
@@ -104,7 +135,7 @@ pub(crate) fn add_case<R: Threads + Wait + Sync>(
     text: &mut Vec<u8>,
     case: &Case,
 ) -> io::Result<()> {
-    let whole = run_case(rt, *text.allocator(), case, GIVEN, None)?;
+    let whole = run_case(rt, *text.allocator(), case, GIVEN, None, &NoGate)?;
     add_ran(text, case.name, &whole)?;
     for call in case.failing {
         fail_in_turn(rt, text, case, &whole, *call)?;
@@ -122,8 +153,8 @@ pub(crate) fn add_pieces<R: Threads + Wait + Sync>(
     requires { 0 < piece }
 {
     let alloc = *text.allocator();
-    let whole = run_case(rt, alloc, case, GIVEN, None)?;
-    let ran = run_case(rt, alloc, case, piece, None)?;
+    let whole = run_case(rt, alloc, case, GIVEN, None, &NoGate)?;
+    let ran = run_case(rt, alloc, case, piece, None, &NoGate)?;
     let same = if ran == whole {
         "the same"
     } else {

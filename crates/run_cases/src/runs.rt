@@ -2,29 +2,37 @@
 ghost use Rattle.std.specs.Prelude.{◌<◌};
 
 use outside_io::{MemFiles, MemSink, names_differ};
-use replay_engine::NoGate;
+use replay_engine::Gate;
 use std::alloc::{AllocError, Global};
 use std::io;
 use std::io::ErrorKind;
 use std::sync::Wait;
 use std::thread::Threads;
 
-/// The most bytes that a write takes.
-const TAKEN: usize = 8;
-
-/// How much there is room for in a stream.
-const ROOM: usize = 4096;
+/// For how many writes there is room in a stream.
+const WRITES: usize = 512;
 
 /// Files by their names, each in parts.
 pub(crate) type Files<'a> = &'a [(&'a str, &'a [&'a str])];
 
-/// What is run: the words behind the program's name, and the files that there are. Calls of these kinds fail in turn.
+/// What is run: the words behind the program's name, the files that there are, and the most bytes that a write takes.
+/// Calls of these kinds fail in turn.
 #[derive(Clone, Copy)]
 pub(crate) struct Case<'a> {
     pub name: &'a str,
     pub words: &'a str,
     pub files: Files<'a>,
+    pub taken: usize,
     pub failing: &'a [Call],
+}
+
+impl<'a> Case<'a> {
+    /// The most bytes that a write takes, at least one.
+    pub(crate) fn taken(&self) -> usize
+        ensures { 0 < result }
+    {
+        self.taken.max(1)
+    }
 }
 
 /// A kind of calls of the outside.
@@ -93,13 +101,14 @@ fn listed(alloc: Global, fault: Option<Fault>, call: Call) -> Result<Vec<u64>, A
     Ok(numbers)
 }
 
-/// Runs the program where a read gives at most `piece` bytes.
-pub(crate) fn run_case<R: Threads + Wait + Sync>(
+/// Runs the program with a gate, where a read gives at most `piece` bytes.
+pub(crate) fn run_case<R: Threads + Wait + Sync, G: Gate + Sync>(
     rt: &R,
     alloc: Global,
     case: &Case,
     piece: usize,
     fault: Option<Fault>,
+    gate: &G,
 ) -> io::Result<Ran>
     requires { 0 < piece }
 {
@@ -108,18 +117,20 @@ pub(crate) fn run_case<R: Threads + Wait + Sync>(
         return Err(ErrorKind::InvalidInput.into());
     }
     let words = words_of(alloc, case.words)?;
+    let taken = case.taken();
+    let room = taken.saturating_mul(WRITES);
     let mut files = MemFiles::new(files, piece, listed(alloc, fault, Call::Read)?);
     let mut out = MemSink::new(
-        zeros(alloc, ROOM)?,
-        TAKEN,
+        zeros(alloc, room)?,
+        taken,
         listed(alloc, fault, Call::Write)?,
     );
     let mut err = MemSink::new(
-        zeros(alloc, ROOM)?,
-        TAKEN,
+        zeros(alloc, room)?,
+        taken,
         listed(alloc, fault, Call::Tell)?,
     );
-    let status = replay_engine::run(rt, alloc, &words, &mut files, &mut out, &mut err, &NoGate);
+    let status = replay_engine::run(rt, alloc, &words, &mut files, &mut out, &mut err, gate);
     Ok(Ran {
         status,
         out: Vec::from_slice(alloc, out.taken())?,

@@ -1,5 +1,11 @@
 //! The files of the cases.
 
+/// A display, and nothing else.
+pub(crate) const DISPLAY: &str = "[display]
+width = 1080
+height = 2400
+";
+
 /// A display with a touch device and the channel `main`.
 pub(crate) const SESSION: &str = "[display]
 width = 1080
@@ -57,6 +63,13 @@ name = \"left\"
 [[channel]]
 name = \"right\"
 [[step]]
+at_us = 0
+do = \"windows\"
+windows = [ { channel = \"left\", frame = [0, 0, 540, 2400] }, { channel = \"right\", frame = [540, 0, 1080, 2400] } ]
+";
+
+/// The same windows again, at the same moment.
+pub(crate) const AGAIN: &str = "[[step]]
 at_us = 0
 do = \"windows\"
 windows = [ { channel = \"left\", frame = [0, 0, 540, 2400] }, { channel = \"right\", frame = [540, 0, 1080, 2400] } ]
