@@ -39,7 +39,7 @@ reads_once Of entries name judge Next once =
     some_once Of (bytes_of entries name) (λ bytes. After Next (judge bytes)) (λ bytes. after_once Of (judge bytes) Next once)
 
 emits_once : (channel device : ℕ) (bytes : List ℕ) (a b : Answer) → EmitAnswers channel device bytes a → EmitAnswers channel device bytes b → b ≡ a
-emits_once channel device bytes a b (r, x, x_is) (q, y, y_is) = sym y_is ∙ ap emit_answer (emitted_once bytes channel device q r y x) ∙ x_is
+emits_once channel device bytes a b (r, x, r_may, x_is) (q, y, q_may, y_is) = sym y_is ∙ ap emit_answer (emitted_once bytes channel device q r y x) ∙ x_is
 
 command_once : (Of : Answer → Type 0) (entries : List Entry) (command : Option Command)
     → ((files : Recorded) → command ≡ Some (race files) → (plan : PlanData) (past : List RawEvent) → Once Of (Races plan past))

@@ -109,15 +109,15 @@ batch_refused frame bytes Memory h = tt
 
 -- what is written as a recording, and why a stream is not
 pub emit_answered : (channel device : ℕ) (bytes text : List ℕ) → IsEmitted bytes channel device (Ok text) → EmitAnswers channel device bytes (Ok text)
-emit_answered channel device bytes text h = (Ok text, h, refl)
+emit_answered channel device bytes text h = (Ok text, h, tt, refl)
 
 pub emit_refuses : (channel device : ℕ) (bytes : List ℕ) (e : EmitError) → EmitRefuses (IsEmitted bytes channel device) e
     → RefusesSo (λ r. EmitAnswers channel device bytes (Err r)) (refusal_of_emit e)
-emit_refuses channel device bytes (emit.BadLine n) h = (Err (emit.BadLine n), h, refl)
-emit_refuses channel device bytes (emit.NotWellFormed n) h = (Err (emit.NotWellFormed n), h, refl)
-emit_refuses channel device bytes emit.NoChannel h = (Err emit.NoChannel, h, refl)
-emit_refuses channel device bytes (emit.TooLate n) h = (Err (emit.TooLate n), h, refl)
-emit_refuses channel device bytes (emit.NotAssignable n) h = (Err (emit.NotAssignable n), h, refl)
+emit_refuses channel device bytes (emit.BadLine n) h = (Err (emit.BadLine n), h, tt, refl)
+emit_refuses channel device bytes (emit.NotWellFormed n) h = (Err (emit.NotWellFormed n), h, tt, refl)
+emit_refuses channel device bytes emit.NoChannel h = (Err emit.NoChannel, h, tt, refl)
+emit_refuses channel device bytes (emit.TooLate n) h = (Err (emit.TooLate n), h, tt, refl)
+emit_refuses channel device bytes (emit.NotAssignable n) h = (Err (emit.NotAssignable n), h, tt, refl)
 emit_refuses channel device bytes (emit.Spent n) h = tt
-emit_refuses channel device bytes emit.TooLong h = (Err emit.TooLong, h, refl)
+emit_refuses channel device bytes emit.TooLong h = (Err emit.TooLong, h, tt, refl)
 emit_refuses channel device bytes emit.Memory h = tt

@@ -1,12 +1,18 @@
 -- What `emit` answers of a stream file.
-use Rattle.std.specs.Prelude.{codes, ◌≡◌, ℕ, List, Result, Ok, Err}
+use Rattle.std.specs.Prelude.{codes, ◌≡◌, ℕ, List, Result, Ok, Err, IfErr, ⊤}
 use Rattle.emit_text.specs.declared.error.EmitError.{EmitError}
 use Rattle.emit_text.specs.declared.error.EmitError.TheVariants.{BadLine, NotWellFormed, NoChannel, TooLate, NotAssignable, Spent, TooLong, Memory}
 use Rattle.emit_text.specs.Emitted.{IsEmitted}
 use Rattle.replay_engine.specs.Judged.{Answer}
 use Rattle.replay_engine.specs.Refused.{Refused, bad_stream_line, not_well_formed, no_channel, too_late, not_assignable, refused, too_long}
 
--- why a stream is not written as a recording; a writer is never spent by a file that may be read
+-- A refusal that is told as one: a file that may be read never spends a writer, and want of memory is no answer.
+abbrev pub MayRefuse : EmitError → Type 0
+MayRefuse (Spent n) = ⊥
+MayRefuse Memory = ⊥
+MayRefuse error = ⊤
+
+-- what is told of a stream that is not written as a recording
 abbrev pub emit_refused : EmitError → Refused
 emit_refused (BadLine n) = bad_stream_line n
 emit_refused (NotWellFormed n) = not_well_formed n
@@ -24,4 +30,5 @@ emit_answer (Err error) = Err (emit_refused error)
 
 -- the recording of a device in a channel of a stream file
 abbrev pub EmitAnswers : ℕ → ℕ → List ℕ → Answer → Type 0
-EmitAnswers channel device bytes a = (r : Result (List ℕ) EmitError) × IsEmitted bytes channel device r × (emit_answer r ≡ a)
+EmitAnswers channel device bytes a =
+    (r : Result (List ℕ) EmitError) × IsEmitted bytes channel device r × IfErr r MayRefuse × (emit_answer r ≡ a)

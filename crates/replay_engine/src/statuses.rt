@@ -1,5 +1,6 @@
 //! Why a run writes no text, with the line that it tells instead and its status.
 ghost use Rattle.std.specs.Prelude.{◌≡◌, ◌++◌, codes, string_bytes, IfOk};
+ghost use Rattle.emit_text.specs.Emitted.{IsNotSpent};
 ghost use Rattle.session_plan.specs.ErrorLine.{error_line};
 ghost use Rattle.replay_engine.specs.Refused.{recording_line};
 ghost use Rattle.replay_engine.specs.RefusalView.{order_line as order_said, refusal_of_emit, refusal_of_file};
@@ -97,8 +98,9 @@ pub fn stream_refusal(error: FileError) -> Refusal
 }
 
 /// Why a stream is not written as a recording. A file that may be read has too few lines to use up all slots or
-/// tracking ids.
+/// tracking ids, so no error of one says so.
 pub fn emit_refusal(error: EmitError) -> Refusal
+    requires { IsNotSpent error }
     ensures { result ≡ refusal_of_emit error }
 {
     match error {
@@ -108,7 +110,8 @@ pub fn emit_refusal(error: EmitError) -> Refusal
         EmitError::TooLate { line } => Refusal::Stream(StreamError::TooLate { line }),
         EmitError::NotAssignable { line } => Refusal::Stream(StreamError::NotAssignable { line }),
         EmitError::TooLong => Refusal::TooLong(Subject::Run),
-        EmitError::Spent { .. } | EmitError::Memory => Refusal::NoMemory,
+        EmitError::Memory => Refusal::NoMemory,
+        EmitError::Spent { .. } => unreachable!(),
     }
 }
 

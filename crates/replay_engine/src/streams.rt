@@ -1,5 +1,5 @@
 //! The commands that read a stream file.
-ghost use Rattle.std.specs.Prelude.{◌≡◌, ◌≤◌, IsTrue, None, Ok, Err, IfOk, IfErr};
+ghost use Rattle.std.specs.Prelude.{◌≡◌, ◌≤◌, IsTrue, None, Ok, Err, IfOk, IfErr, length};
 ghost use Rattle.command_words.specs.Command.{batch, emit, verify};
 ghost use Rattle.replay_engine.specs.Batched.{BatchAnswers};
 ghost use Rattle.replay_engine.specs.Emitted.{EmitAnswers};
@@ -26,6 +26,7 @@ fn stream_from<F: Files>(alloc: Global, files: &mut F, name: &str) -> Result<Vec
     requires lends { IsTrue (F.lends files.old name.now) }
     requires free { F.lent files.old ≡ None }
     ensures ok { IfOk result (λ bytes. IsJudged (F.entries files.old) name.now stream_judged (Ok bytes.items)) }
+    ensures few { IfOk result (λ bytes. length bytes.items ≤ 67108864) }
     ensures err { IfErr result (Refuses
         (λ r. IsJudged (F.entries files.old) name.now stream_judged (Err r)) (F.faults files.old)
         (F.faults files.new)) }
@@ -97,6 +98,7 @@ pub(crate) fn batch_from<F: Files>(
 /// What a device did in a channel of a stream file, as a recording.
 #[tactic(auto, using(crate::proofs::Answering::emit_answered, crate::proofs::Answering::emit_refuses))]
 fn emitted(alloc: Global, bytes: &[u8], channel: u32, device: DeviceId) -> Result<Pieces, Refusal>
+    requires { length bytes.now ≤ 67108864 }
     ensures ok { IfOk result (λ text. EmitAnswers channel device bytes.now (Ok text)) }
     ensures err { IfErr result (RefusesSo (λ r. EmitAnswers channel device bytes.now (Err r))) }
 {

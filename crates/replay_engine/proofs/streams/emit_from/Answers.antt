@@ -1,11 +1,14 @@
 -- A stream file that is accepted, and what is answered of its bytes.
-use Rattle.std.proofs.Common.{ℕ, List, Ok, Err, sym, subst}
+use Rattle.std.proofs.Common.{ℕ, List, Ok, Err, length, ap, sym, subst, arith}
 use Rattle.replay_engine.specs.Judged.{Answer, IfTold, IsJudged, Reads}
 use Rattle.replay_engine.specs.Emitted.{EmitAnswers}
 use Rattle.replay_engine.specs.Program.{stream_judged}
 use Rattle.replay_engine.proofs.Answering.{goes_on, so_refuses, told_any}
 use Rattle.replay_engine.proofs.Outcomes.{if_err_map, if_ok_map}
 use Rattle.replay_engine.proofs.streams.emit_from.Goals as goal
+
+pub emitted-requires : goal.emitted-requires
+emitted-requires g c = omega (arith, ap length c.deref.ensures.value, c.in_ok-bytes.ensures.few)
 
 pub returns : goal.returns
 returns g c =
