@@ -39,6 +39,7 @@ module _ {C R : Type 0} where
     pub zero_made : r.number ≡ 0 → r.made ≡ made
     pub others_made : (r.number ≡ 0 → ⊥) → r.made ≡ 0
 
+  -- each record of a list fits the history
   abbrev pub EachFits : List (Entry C R) → ℕ → List (Record C R) → Type 0
   EachFits h made [] = Unit {0}
   EachFits h made (r ∷ rs) = Fits h made r × EachFits h made rs

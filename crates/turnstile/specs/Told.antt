@@ -13,6 +13,7 @@ module _ {C R : Type 0} where
     pub own : r.own ≡ calls_by r.number h
     pub above : r.number ≡ 0 → (k : ℕ) → r.made < k → calls_by k h ≡ []
 
+  -- each record of a list owns its calls
   abbrev pub EachOwns : List (Entry C R) → List (Record C R) → Type 0
   EachOwns h [] = Unit {0}
   EachOwns h (r ∷ rs) = Owns h r × EachOwns h rs
