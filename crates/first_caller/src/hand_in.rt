@@ -2,12 +2,12 @@
 ghost use Rattle.std.specs.Prelude.{List, IfOk, OnErr, ◌⊎◌};
 ghost use Rattle.dispatch_calls.specs.declared.call.Call.{Call as CallView};
 ghost use Rattle.dispatch_calls.specs.declared.reply.Reply.{Reply as Answer};
-ghost use Rattle.dispatch_core.specs.Dispatching.{StandsFor};
+ghost use Rattle.dispatcher.specs.Dispatching.{StandsFor};
 ghost use Rattle.dispatch_history.specs.Effect.{Effect};
 ghost use Rattle.dispatch_history.specs.Effects.{step};
 
 use dispatch_calls::{Call, Reply};
-use dispatch_core::Dispatcher;
+use dispatcher::Dispatcher;
 use input_types::{Args, Moment};
 use std::alloc::AllocError;
 

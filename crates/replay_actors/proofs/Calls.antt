@@ -7,7 +7,7 @@ use Rattle.dispatch_calls.specs.declared.reply.Reply.{Reply}
 use Rattle.dispatch_core.specs.Machine.{IsLegal}
 use Rattle.turnstile.specs.Answers.{Answers}
 use Rattle.turnstile.specs.declared.machine.Placed.{Placed}
-use Rattle.replay_actors.specs.Lane.{Known, Stays, Adds, Refuses}
+use Rattle.replay_actors.specs.Seats.{Known, Stays, Adds, Refuses}
 
 -- nothing is changed
 pub stays_so : (v : Known) → Stays v v

@@ -16,10 +16,10 @@ use Rattle.turnstile.specs.declared.machine.Machine.{Ghosts}
 use Rattle.turnstile.specs.declared.turnstile.Seat.{Seat}
 use Rattle.turnstile.specs.declared.view.Record.{Record}
 use Rattle.input_service.specs.declared.service.Service.{Service}
-use Rattle.schedule.specs.declared.plan.Step.{Step}
-use Rattle.lane_laws.specs.Lanes.{calls_made, taking, takes}
-use Rattle.lane_laws.specs.Raced.{Raced, OnlyOpens}
-use Rattle.replay_actors.specs.Lane.{Known}
+use Rattle.session_plan.specs.declared.plan.Step.{Step}
+use Rattle.replay_actors.specs.Lanes.{calls_made, taking, takes}
+use Rattle.replay_actors.specs.Raced.{Raced, OnlyOpens}
+use Rattle.replay_actors.specs.Seats.{Known}
 use Rattle.replay_actors.specs.Parts.{calls_of, Did, IsPart}
 use Rattle.replay_actors.specs.Jobs.{AllReady, Dealt, AllEnded, AllOf, records_before, SplitOff, SameOwn}
 use Rattle.replay_actors.specs.Plans.{owners_from, scripts_before, parts_of, scripted}
@@ -110,8 +110,8 @@ module _ (h : List (Entry Call Reply)) where
       → (l : ℕ) (steps : List Call) → slice_get (scripted ss) l ≡ Some steps → calls_made (calls_by (n + l) h) ≡ reverse steps
   scripts_did others k n [] did l steps at = absurd (cc)
   scripts_did others k n (s ∷ ss) did zero steps at =
-      let same : calls_made (calls_by n h) ≡ reverse (map (λ x. x.call) s.items) = did.0 in
-      let is : map (λ x. x.call) s.items ≡ steps = cc in
+      let same : calls_made (calls_by n h) ≡ reverse (calls_of s.items) = did.0 in
+      let is : calls_of s.items ≡ steps = cc in
       rw add-zero (same ∙ ap reverse is)
   scripts_did others k n (s ∷ ss) did (suc l) steps at =
       let e : n + 1 + l ≡ n + suc l = omega arith in

@@ -14,14 +14,15 @@ use Rattle.dispatch_core.specs.Machine.{IsLegal, steps}
 use Rattle.turnstile.specs.Answers.{Answers}
 use Rattle.turnstile.specs.History.{of_zero}
 use Rattle.turnstile.specs.declared.machine.Placed.{Placed}
-use Rattle.schedule.specs.Planned.{channel_of}
-use Rattle.schedule.specs.declared.plan.Channel.{Channel}
-use Rattle.lane_laws.specs.Lanes.{Own, calls_made}
-use Rattle.lane_laws.specs.Raced.{OnlyOpens, is_opening}
-use Rattle.lane_laws.proofs.Firsts.{begun}
-use Rattle.replay_actors.specs.Lane.{Known}
+use Rattle.session_plan.specs.View.{channel_view}
+use Rattle.session_plan.specs.declared.plan.ChannelPlan.{ChannelPlan}
+use Rattle.replay_actors.specs.Lanes.{Own, calls_made}
+use Rattle.replay_actors.specs.Raced.{OnlyOpens, is_opening}
+use Rattle.replay_actors.proofs.Firsts.{begun}
+use Rattle.replay_actors.specs.Seats.{Known}
 use Rattle.replay_actors.specs.Opening.{IsCaller, Opens}
-use Rattle.replay_actors.proofs.Own.{reversed, taken_next}
+use Rattle.replay_actors.specs.Session.{channel_of}
+use Rattle.replay_actors.proofs.OwnCalls.{reversed, taken_next}
 
 -- a reply to an open, where fewer than 64 channels were opened
 opening_by : (limit n : ℕ) (b : Bool) → nat_lt n 64 ≡ b → n < 64 → is_opening (Open limit) (open_reply n) ≡ true
@@ -47,13 +48,23 @@ opens_one v w limit p caller only few a =
       one = ap (λ (es : List Own). length es) own ∙ sym (add-one (length v.mine.own));
     }
 
+-- the channels of a session as those of a plan
+planned : ChannelPlan → ChannelOf
+planned c = channel_of (channel_view c)
+
+all_planned : (cs : List ChannelPlan) → map channel_of (map channel_view cs) ≡ map planned cs
+all_planned [] = refl
+all_planned (c ∷ cs) = ap (λ ps. planned c ∷ ps) (all_planned cs)
+
 -- the opens so far
-pub opens_next : (v w : Known) (channels : List Channel) (i : ℕ) (c : Channel) → i < length channels → c ≡ slice_index_or channels i c → Opens c.limit v w
-    → calls_made v.mine.own ≡ reverse (opens (map channel_of (take i channels))) → calls_made w.mine.own ≡ reverse (opens (map channel_of (take (i + 1) channels)))
+pub opens_next : (v w : Known) (channels : List ChannelPlan) (i : ℕ) (c : ChannelPlan) → i < length channels → c ≡ slice_index_or channels i c → Opens c.limit v w
+    → calls_made v.mine.own ≡ reverse (opens (map channel_of (map channel_view (take i channels))))
+    → calls_made w.mine.own ≡ reverse (opens (map channel_of (map channel_view (take (i + 1) channels))))
 opens_next v w channels i c below at one so_far =
     let before = take i channels in
     one.calls
-    ∙ (ap (λ calls. Open c.limit ∷ calls) so_far
-    ∙ (sym (reversed (λ (x : ChannelOf). Open x.limit) (map channel_of before) (channel_of c))
-    ∙ (ap (λ cs. reverse (opens cs)) (sym (map-append channel_of before (c ∷ [])))
-    ∙ ap (λ cs. reverse (opens (map channel_of cs))) (sym (taken_next channels i c below at)))))
+    ∙ ap (λ calls. Open c.limit ∷ calls) (so_far ∙ ap (λ cs. reverse (opens cs)) (all_planned before))
+    ∙ sym (reversed (λ (x : ChannelOf). Open x.limit) (map planned before) (planned c))
+    ∙ ap (λ cs. reverse (opens cs)) (sym (map-append planned before (c ∷ [])))
+    ∙ ap (λ cs. reverse (opens (map planned cs))) (sym (taken_next channels i c below at))
+    ∙ ap (λ cs. reverse (opens cs)) (sym (all_planned (take (i + 1) channels)))

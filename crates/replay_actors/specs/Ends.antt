@@ -5,10 +5,10 @@ use Rattle.dispatch_calls.specs.declared.call.Call.{Call}
 use Rattle.dispatch_calls.specs.declared.reply.Reply.{Reply}
 use Rattle.dispatch_core.specs.Machine.{steps}
 use Rattle.turnstile.specs.History.{Entry as Called}
-use Rattle.lane_laws.specs.Lanes.{Own}
-use Rattle.lane_laws.specs.Race.{Each}
-use Rattle.lane_laws.specs.Raced.{Raced}
-use Rattle.lane_laws.specs.Settling.{settling, takes_from}
+use Rattle.replay_actors.specs.Lanes.{Own}
+use Rattle.replay_actors.specs.Race.{Each}
+use Rattle.replay_actors.specs.Raced.{Raced}
+use Rattle.replay_actors.specs.Settling.{settling, takes_from}
 
 -- the calls of the lanes come first, and then those of the caller, number 0, by which it does all that is left to do:
 -- no call comes between them, and none after them

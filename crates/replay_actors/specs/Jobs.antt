@@ -9,7 +9,7 @@ use Rattle.turnstile.specs.declared.view.Record.{Record}
 use Rattle.turnstile.specs.Seats.{view}
 use Rattle.input_service.specs.Services.{IsOf}
 use Rattle.input_service.specs.declared.service.Service.{Service}
-use Rattle.replay_actors.specs.Lane.{Known, Stays}
+use Rattle.replay_actors.specs.Seats.{Known, Stays}
 use Rattle.replay_actors.specs.Parts.{Did, IsPart}
 use Rattle.replay_actors.specs.declared.part.Part.{Part}
 use Rattle.replay_actors.specs.declared.job.Job.{Job}

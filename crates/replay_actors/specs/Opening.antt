@@ -2,11 +2,12 @@
 use Rattle.std.specs.Prelude.{◌≡◌, ℕ, ◌+◌, ◌<◌, List, ◌∷◌, length, map, reverse, take}
 use Rattle.dispatch_calls.specs.declared.call.Call.TheVariants.{Open}
 use Rattle.dispatch_history.specs.Given.{opens}
-use Rattle.schedule.specs.Planned.{channel_of}
-use Rattle.schedule.specs.declared.plan.Channel.{Channel}
-use Rattle.lane_laws.specs.Lanes.{calls_made}
-use Rattle.lane_laws.specs.Raced.{OnlyOpens}
-use Rattle.replay_actors.specs.Lane.{Known}
+use Rattle.session_plan.specs.View.{channel_view}
+use Rattle.session_plan.specs.declared.plan.ChannelPlan.{ChannelPlan}
+use Rattle.replay_actors.specs.Lanes.{calls_made}
+use Rattle.replay_actors.specs.Raced.{OnlyOpens}
+use Rattle.replay_actors.specs.Seats.{Known}
+use Rattle.replay_actors.specs.Session.{channel_of}
 
 -- the seat of number 0, from which none was split off
 pub record IsCaller (v : Known) : Type 0 where
@@ -20,7 +21,7 @@ pub record Opens (limit : ℕ) (v w : Known) : Type 0 where
   pub one : length w.mine.own ≡ length v.mine.own + 1
 
 -- a front part of these channels was opened in their order, and not all of them; the seat made no other call
-pub record OpensFront (channels : List Channel) (v : Known) : Type 0 where
+pub record OpensFront (channels : List ChannelPlan) (v : Known) : Type 0 where
   pub only : OnlyOpens v.mine.own
   pub fewer : length v.mine.own < length channels
-  pub calls : calls_made v.mine.own ≡ reverse (opens (map channel_of (take (length v.mine.own) channels)))
+  pub calls : calls_made v.mine.own ≡ reverse (opens (map channel_of (map channel_view (take (length v.mine.own) channels))))

@@ -2,14 +2,15 @@
 use Rattle.std.specs.Prelude.{◌≡◌, ◌<◌, ◌≤◌, ℕ, List, map, reverse}
 use Rattle.dispatch_calls.specs.declared.call.Call.{Call}
 use Rattle.window_snapshot.specs.Mask.{mask_has}
-use Rattle.schedule.specs.declared.plan.Step.{Step}
-use Rattle.lane_laws.specs.Lanes.{Own, calls_made, notifies, pumping, pumps, taking, takes}
+use Rattle.session_plan.specs.declared.plan.Step.{Step}
+use Rattle.replay_actors.specs.Session.{call_of}
+use Rattle.replay_actors.specs.Lanes.{Own, calls_made, notifies, pumping, pumps, taking, takes}
 use Rattle.replay_actors.specs.declared.part.Part.{Part}
 use Rattle.replay_actors.specs.declared.part.Part.TheVariants.{Reader, Dispatcher, Script, Application}
 
 -- the calls of some steps
 abbrev pub calls_of : List Step → List Call
-calls_of steps = map (λ s. s.call) steps
+calls_of steps = map (λ s. call_of s.at s.act) steps
 
 -- these are all calls of a lane, newest first: a reader hands in all its args, a script makes all its steps, the dispatcher pumps until
 -- 16,384 idle answers, and an application takes until 16,384 answers without a message

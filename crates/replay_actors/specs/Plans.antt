@@ -2,7 +2,7 @@
 use Rattle.std.specs.Prelude.{ℕ, zero, suc, ◌+◌, min, List, [], ◌∷◌, map, Vec}
 use Rattle.std.specs.declared.alloc.Global.{Global}
 use Rattle.dispatch_calls.specs.declared.call.Call.{Call}
-use Rattle.schedule.specs.declared.plan.Step.{Step}
+use Rattle.session_plan.specs.declared.plan.Step.{Step}
 use Rattle.replay_actors.specs.Parts.{calls_of}
 use Rattle.replay_actors.specs.declared.part.Lanes.{Lanes}
 use Rattle.replay_actors.specs.declared.part.Part.{Part}

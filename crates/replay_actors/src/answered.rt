@@ -3,8 +3,8 @@ ghost use Rattle.std.specs.Prelude.{◌≡◌, ◌+◌, ◌<◌, ◌≤◌, ℕ,
 ghost use Rattle.turnstile.specs.Seats.{view};
 ghost use Rattle.window_snapshot.specs.Mask.{mask_has};
 ghost use Rattle.input_service.specs.Services.{IsOf};
-ghost use Rattle.lane_laws.specs.Lanes.{pumping, pumps, taking, takes, next_channel};
-ghost use Rattle.replay_actors.specs.Lane.{Stays};
+ghost use Rattle.replay_actors.specs.Lanes.{pumping, pumps, taking, takes, next_channel};
+ghost use Rattle.replay_actors.specs.Seats.{Stays};
 
 use crate::gate::Gate;
 use crate::lane::{Lane, Shared};

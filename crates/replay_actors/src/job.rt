@@ -2,7 +2,7 @@
 ghost use Rattle.std.specs.Prelude.{◌≡◌, [], IfOk, OnOk};
 ghost use Rattle.turnstile.specs.Seats.{view};
 ghost use Rattle.input_service.specs.Services.{IsOf};
-ghost use Rattle.replay_actors.specs.Lane.{Stays};
+ghost use Rattle.replay_actors.specs.Seats.{Stays};
 ghost use Rattle.replay_actors.specs.Parts.{Did, IsPart};
 ghost use Rattle.replay_actors.specs.Jobs.{IsReady, Ended};
 

@@ -2,7 +2,7 @@
 ghost use Rattle.std.specs.Prelude.{◌≡◌, IfOk, OnErr};
 ghost use Rattle.turnstile.specs.Seats.{view};
 ghost use Rattle.input_service.specs.Services.{IsOf};
-ghost use Rattle.replay_actors.specs.Lane.{Stays, Adds, Refuses};
+ghost use Rattle.replay_actors.specs.Seats.{Stays, Adds, Refuses};
 
 use crate::gate::Gate;
 use dispatch_calls::{Call, Reply};

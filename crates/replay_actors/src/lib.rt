@@ -1,4 +1,5 @@
-//! A race: a reader, a dispatcher, scripts and applications as threads that share one core.
+//! A race: a reader, a dispatcher, scripts and applications as threads that share one core; what they leave behind; and
+//! what is printed of it.
 //!
 //! The caller has opened two channels, the second of which is a window's, and has a seat of number 0. Lanes are beside
 //! each other, each with a seat of its own, so that no two runs need to go alike. One may begin so:
@@ -13,21 +14,37 @@
 //! seat 5, applications    Finish { now: 0, channel: 2, seq: 1 }                              Done
 //! ```
 //!
-//! Once all lanes have ended the caller does what is left to do. Whatever the order was, [`run_lanes`] says what holds
-//! of the whole history: each lane's calls are there in the lane's order, no others are, and nothing is left to do.
+//! The steps of a session are dealt to its scripts ([`scripts_of`]), each lane does its own calls in order
+//! (specs/Lanes), and once all lanes have ended the caller does what is left to do ([`settle`]). Whatever the order
+//! was, [`run_lanes`] says what holds of the whole history: each lane's calls are there in the lane's order, no others
+//! are, and nothing is left to do (`IsRace` of specs/Race). [`race_text`] prints the order, and then what each channel
+//! was told; who follows the printed order comes to the printed streams ([`laws`]).
 #![tactic(auto)]
 
+mod acts;
 mod answered;
 mod gate;
 mod job;
 mod lane;
+pub mod laws;
 mod opening;
+mod order;
 mod part;
 mod planned;
+mod pumping;
 mod race;
 mod run;
+mod scripts;
+mod settling;
+mod streams;
+mod taking;
+mod text;
 
+pub use acts::call_of;
 pub use gate::{Gate, NoGate};
 pub use opening::open_channels;
 pub use part::{Lanes, RaceEnd};
 pub use run::run_lanes;
+pub use scripts::scripts_of;
+pub use settling::settle;
+pub use text::race_text;

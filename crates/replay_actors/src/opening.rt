@@ -2,16 +2,17 @@
 ghost use Rattle.std.specs.Prelude.{◌≡◌, ◌+◌, ◌<◌, ◌≤◌, [], ◌∷◌, OnErr, OnOk, length, map, reverse};
 ghost use Rattle.turnstile.specs.Seats.{view};
 ghost use Rattle.dispatch_history.specs.Given.{opens};
-ghost use Rattle.schedule.specs.Planned.{channel_of};
+ghost use Rattle.session_plan.specs.View.{channel_view};
 ghost use Rattle.input_service.specs.Services.{IsOf};
-ghost use Rattle.lane_laws.specs.Lanes.{calls_made};
-ghost use Rattle.lane_laws.specs.Raced.{OnlyOpens};
+ghost use Rattle.replay_actors.specs.Lanes.{calls_made};
+ghost use Rattle.replay_actors.specs.Raced.{OnlyOpens};
 ghost use Rattle.replay_actors.specs.Opening.{IsCaller, Opens, OpensFront};
+ghost use Rattle.replay_actors.specs.Session.{channel_of};
 
 use dispatch_calls::Call;
 use input_service::{Seat, Service};
 use input_types::Limit;
-use schedule::Channel;
+use session_plan::ChannelPlan;
 use std::alloc::AllocError;
 use std::sync::Wait;
 
@@ -42,7 +43,7 @@ pub fn open_channels<R: Wait>(
     rt: &R,
     service: &Service,
     seat: &mut Seat,
-    channels: &[Channel],
+    channels: &[ChannelPlan],
 ) -> Result<(), AllocError>
     requires of { IsOf service.now seat.old }
     requires caller { IsCaller (view seat.old) }
@@ -53,7 +54,8 @@ pub fn open_channels<R: Wait>(
     ensures setup { (view seat.new).setup ≡ (view seat.old).setup }
     ensures opened { OnOk result (OnlyOpens (view seat.new).mine.own) }
     ensures each { OnOk result (length (view seat.new).mine.own ≡ length channels.now) }
-    ensures calls { OnOk result (calls_made (view seat.new).mine.own ≡ reverse (opens (map channel_of channels.now))) }
+    ensures calls { OnOk result
+        (calls_made (view seat.new).mine.own ≡ reverse (opens (map channel_of (map channel_view channels.now)))) }
     ensures err { OnErr result (OpensFront channels.now (view seat.new)) }
 {
     'channels: for channel in channels {

@@ -1,18 +1,18 @@
 //! What a race is to do, and what each of its lanes does of it.
 ghost use Rattle.std.specs.Prelude.{◌≡◌, List, [], true};
-ghost use Rattle.lane_laws.specs.Lanes.{Own};
+ghost use Rattle.replay_actors.specs.Lanes.{Own};
 ghost use Rattle.replay_actors.specs.Parts.{Did, IsPart};
 
 use dispatch_core::Core;
 use input_types::{Args, Moment};
-use schedule::Step;
+use session_plan::Step;
 
 /// What the threads of a race are to do.
 #[derive(Drop)]
 pub struct Lanes {
     /// The args that the reader hands in, in this order and each at its moment.
     pub cooked: Vec<(Moment, Args)>,
-    /// The steps of each script. The first script is that of lane 1.
+    /// The steps of each script, in its order. The first script is that of lane 1.
     pub scripts: Vec<Vec<Step>>,
     /// How many channels there are.
     pub channels: u32,

@@ -2,15 +2,16 @@
 ghost use Rattle.std.specs.Prelude.{◌≡◌, [], OnOk, reverse};
 ghost use Rattle.turnstile.specs.Seats.{view};
 ghost use Rattle.input_service.specs.Services.{IsOf};
-ghost use Rattle.lane_laws.specs.Lanes.{calls_made, notifies};
-ghost use Rattle.replay_actors.specs.Lane.{Stays};
+ghost use Rattle.replay_actors.specs.Lanes.{calls_made, notifies};
+ghost use Rattle.replay_actors.specs.Seats.{Stays};
 ghost use Rattle.replay_actors.specs.Parts.{calls_of};
 
+use crate::acts::call_of;
 use crate::gate::Gate;
 use crate::lane::{Lane, Shared};
 use dispatch_calls::Call;
 use input_types::{Args, Moment};
-use schedule::Step;
+use session_plan::Step;
 use std::alloc::AllocError;
 use std::sync::Wait;
 
@@ -46,8 +47,8 @@ pub(crate) fn follow<'a, R: Wait, G: Gate>(
     ensures did { OnOk result (calls_made (view lane.new.seat).mine.own ≡ reverse (calls_of steps.items)) }
 {
     'steps: for step in steps {
-        let Step { call, .. } = step;
-        lane.call(shared, call)?;
+        let Step { at, act, .. } = step;
+        lane.call(shared, call_of(at, act))?;
     }
     Ok(())
 }

@@ -2,22 +2,21 @@
 ghost use Rattle.std.specs.Prelude.{◌≡◌, ◌≤◌, IfOk, OnOk, length, min, Some};
 ghost use Rattle.turnstile.specs.Seats.{view};
 ghost use Rattle.window_snapshot.specs.Mask.{mask_has};
-ghost use Rattle.dispatch_history.specs.Ordered.{is_scripted};
 ghost use Rattle.dispatch_core.specs.Machine.{called};
 ghost use Rattle.dispatch_core.specs.Recorded.{IsSound};
 ghost use Rattle.input_service.specs.Services.{IsOf};
-ghost use Rattle.lane_laws.specs.Raced.{Raced, OnlyOpens};
-ghost use Rattle.lane_laws.specs.Race.{Each, IsRace, seats_from};
+ghost use Rattle.replay_actors.specs.Raced.{Raced, OnlyOpens};
+ghost use Rattle.replay_actors.specs.Race.{IsRace, seats_from};
 ghost use Rattle.replay_actors.specs.Ends.{IsSettledRace};
 ghost use Rattle.replay_actors.specs.Plans.{parts_of, owners_from, scripts_before, scripted};
 
 use crate::gate::Gate;
 use crate::part::{Lanes, Owner, Part, RaceEnd};
 use crate::race::{deal, gather, race};
+use crate::settling::settle;
 use dispatch_core::Core;
 use input_service::{Seat, Service};
-use schedule::Step;
-use settle_core::settle;
+use session_plan::Step;
 use std::alloc::{AllocError, Global};
 use std::collections::LinkedList;
 use std::sync::Wait;
@@ -119,7 +118,6 @@ pub fn run_lanes<R: Threads + Wait + Sync, G: Gate + Sync>(
     gate: &G,
 ) -> Result<RaceEnd, AllocError>
     requires few { (lanes.channels ≤ 64) × (length lanes.scripts.items ≤ 8) }
-    requires steps { Each (Each (λ call. is_scripted call ≡ 1)) (scripted lanes.scripts.items) }
     requires of { IsOf service seat }
     requires zero { ((view seat).mine.number ≡ 0) × ((view seat).mine.made ≡ 0) }
     requires opens { OnlyOpens (view seat).mine.own × (length (view seat).mine.own ≡ lanes.channels) }

@@ -25,7 +25,8 @@ use Rattle.replay_engine.specs.declared.statuses.Refusal.TheVariants.{Usage, Ses
 use Rattle.replay_engine.specs.declared.statuses.Subject.TheVariants as subject
 use Rattle.replay_engine.specs.Cooked.{plans_of}
 use Rattle.replay_engine.specs.Devices.{devices_of}
-use Rattle.replay_engine.specs.Planned.{channel_of, script_of, step_of}
+use Rattle.replay_actors.specs.Session.{channel_of, step_of}
+use Rattle.replay_engine.specs.Planned.{script_of}
 use Rattle.replay_engine.specs.Judged.{Answer, After, IfTold}
 use Rattle.replay_engine.specs.Program.{RecordingAnswers, RunAnswers, events_judged, lines_judged}
 use Rattle.replay_engine.specs.Refusing.{RefusesSo}

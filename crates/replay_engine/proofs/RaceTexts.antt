@@ -15,18 +15,18 @@ use Rattle.dispatch_history.specs.Plan.{Plan}
 use Rattle.dispatch_history.specs.Settled.{Settled}
 use Rattle.given_run.specs.declared.cooked.Cooked.{Cooked as GivenArgs}
 use Rattle.given_run.specs.Planned.{cooked_of}
-use Rattle.lane_laws.specs.Lanes.{Own, calls_made}
-use Rattle.lane_laws.specs.Race.{IsRace, ScriptsMade, SeatsDiffer, has_seat}
+use Rattle.replay_actors.specs.Lanes.{Own, calls_made}
+use Rattle.replay_actors.specs.Race.{IsRace, ScriptsMade, SeatsDiffer, has_seat}
 use Rattle.turnstile.specs.History.{Entry as Called}
-use Rattle.lane_laws.proofs.Orders.{seat_lane, history_same}
-use Rattle.lane_laws.proofs.Spelled.{order_law}
-use Rattle.lane_laws.specs.Finishing.{IsOrderly, AreOrderly}
+use Rattle.replay_actors.proofs.Orders.{seat_lane, history_same}
+use Rattle.replay_actors.proofs.Spelled.{order_law}
+use Rattle.replay_actors.specs.Finishing.{IsOrderly, AreOrderly}
 use Rattle.dispatch_history.specs.Effects.{effects}
 use Rattle.dispatch_history.specs.Legal.{replay, run}
-use Rattle.lane_laws.proofs.Tallies.{counts_law}
-use Rattle.race_text.proofs.Printing.{prints_law}
-use Rattle.race_text.specs.Laws.{Prints}
-use Rattle.race_text.specs.Texts.{ReadsAgain, race_output}
+use Rattle.replay_actors.proofs.Tallies.{counts_law}
+use Rattle.replay_actors.proofs.Printing.{prints_law}
+use Rattle.replay_actors.specs.Laws.{Prints}
+use Rattle.replay_actors.specs.Texts.{ReadsAgain, race_output}
 use Rattle.window_snapshot.specs.Mask.{mask_has}
 use Rattle.replay_actors.specs.declared.part.Lanes.{Lanes}
 use Rattle.replay_actors.specs.declared.part.RaceEnd.{RaceEnd}
@@ -133,7 +133,7 @@ if_ok_three (Ok x) P Q R S f p q s = f x p q s
 if_ok_three (Err x) P Q R S f p q s = q
 
 -- a race of lanes that do what a plan has
-pub ends_race : (plan : Plan) (l : Lanes) (own : List Own) (end : RaceEnd) → DoPlan plan l
+pub ends_race : (plan : Plan) (l : Lanes) (own : List Own) (end : RaceEnd) → DoPlan plan.channels plan.steps plan.cooked l
     → calls_made own ≡ reverse (opens plan.channels)
     → Some end.core.displays ≡ Some plan.displays
     → IsRace end.core.displays (mask_has l.finishing) own l.cooked.items (scripted l.scripts.items) end.script_seats.items (called end.core.entries)

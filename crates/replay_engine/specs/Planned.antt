@@ -2,31 +2,12 @@
 use Rattle.std.specs.Prelude.{ℕ, List, [], map, reverse}
 use Rattle.input_types.specs.declared.message.Args.{Args}
 use Rattle.raw_events.specs.declared.event.RawEvent.{RawEvent}
-use Rattle.dispatch_calls.specs.declared.call.Call.{Call}
-use Rattle.dispatch_calls.specs.declared.call.Call.TheVariants as calls
-use Rattle.dispatch_history.specs.Plan.{Plan, ChannelOf, ScriptStep, Cooked}
-use Rattle.session_plan.specs.declared.plan.Act.{Act}
-use Rattle.session_plan.specs.declared.plan.Act.TheVariants.{Windows, FocusOn, Pilfer, Remove}
-use Rattle.session_plan.specs.declared.plan.Step.{Step}
+use Rattle.dispatch_history.specs.Plan.{Plan, Cooked}
 use Rattle.session_plan.specs.DeviceDisplays.{device_displays}
-use Rattle.session_plan.specs.Plan.{ChannelData, PlanData}
+use Rattle.session_plan.specs.Plan.{PlanData}
 use Rattle.device_reader.specs.CookedList.{cooked}
+use Rattle.replay_actors.specs.Session.{channel_of, step_of}
 use Rattle.replay_engine.specs.Cooked.{plans_of}
-
--- the call of a step, at its moment
-abbrev pub call_of : ℕ → Act → Call
-call_of at (Windows snapshot) = calls.Windows at snapshot
-call_of at (FocusOn display channel) = calls.FocusOn at display channel
-call_of at (Pilfer channel device) = calls.Pilfer at channel device
-call_of at (Remove channel) = calls.Remove at channel
-
--- a step with its lane
-abbrev pub step_of : Step → ScriptStep
-step_of s = record { lane = s.lane; call = call_of s.at s.act }
-
--- a channel without its name
-abbrev pub channel_of : ChannelData → ChannelOf
-channel_of c = record { limit = c.limit; finishes = c.finishes; finish_after = c.finish_after }
 
 -- args with their moment
 abbrev pub cooked_of : ℕ × Args → Cooked

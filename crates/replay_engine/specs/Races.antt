@@ -7,10 +7,10 @@ use Rattle.dispatch_history.specs.Legal.{run, replay}
 use Rattle.dispatch_history.specs.Plan.{ChannelOf, Plan}
 use Rattle.dispatch_history.specs.Settled.{Settled}
 use Rattle.stream_text.specs.OrderAsks.{line_of}
-use Rattle.lane_laws.specs.Finishing.{AreOrderly}
-use Rattle.lane_laws.specs.Orders.{readers, steps_in}
+use Rattle.replay_actors.specs.Finishing.{AreOrderly}
+use Rattle.replay_actors.specs.Orders.{readers, steps_in}
 use Rattle.dispatch_history.specs.Given.{calls_of_lane}
-use Rattle.race_text.specs.Texts.{ReadsAgain}
+use Rattle.replay_actors.specs.Texts.{ReadsAgain}
 use Rattle.session_plan.specs.DeviceDisplays.{device_displays}
 use Rattle.session_plan.specs.Plan.{PlanData}
 use Rattle.stream_text.specs.declared.order_line.OrderLine.{OrderLine}
@@ -18,7 +18,8 @@ use Rattle.stream_text.specs.Order.{order_spelling}
 use Rattle.stream_text.specs.StreamsHistory.{streams_text}
 use Rattle.replay_engine.specs.Followed.{given_limit}
 use Rattle.replay_engine.specs.Judged.{Answer}
-use Rattle.replay_engine.specs.Planned.{channel_of, given, names_of, run_of}
+use Rattle.replay_actors.specs.Session.{channel_of}
+use Rattle.replay_engine.specs.Planned.{given, names_of, run_of}
 use Rattle.replay_engine.specs.Refused.{too_long}
 use Rattle.replay_engine.specs.Whole.{AreWhole}
 

@@ -37,5 +37,5 @@ mod verdict;
 mod work;
 mod writing;
 
-pub use replay_actors::{Gate, NoGate};
+pub use replay_actors::{Gate, NoGate, RaceEnd, race_text};
 pub use top::{no_memory, run, run_alone};

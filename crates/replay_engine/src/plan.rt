@@ -1,17 +1,15 @@
 //! A session as the plan of a run.
 ghost use Rattle.std.specs.Prelude.{◌≡◌, map, length, IfOk};
 ghost use Rattle.std.specs.List.{All};
-ghost use Rattle.dispatch_history.specs.Ordered.{is_scripted};
 ghost use Rattle.session_plan.specs.Valid.{IsChannel};
 ghost use Rattle.session_plan.specs.View.{channel_view};
 ghost use Rattle.schedule.specs.Planned.{IsStep, channel_of as run_channel, step_of as run_step};
 ghost use Rattle.schedule.specs.Planned.{IsChannel as IsRunChannel};
-ghost use Rattle.replay_engine.specs.Planned.{call_of, channel_of, step_of};
+ghost use Rattle.replay_actors.specs.Session.{channel_of, step_of};
 
-use dispatch_calls::Call;
-use input_types::Moment;
+use replay_actors::call_of;
 use schedule::{Channel, Step as RunStep};
-use session_plan::{Act, ChannelPlan, Step};
+use session_plan::{ChannelPlan, Step};
 use std::alloc::{AllocError, Global};
 
 /// A channel without its name.
@@ -44,27 +42,6 @@ pub(crate) fn run_channels(
     Ok(all)
 }
 
-/// The call of a step, at its moment.
-fn call(now: Moment, act: Act) -> Call
-    ensures value { result ≡ call_of now act }
-    ensures valid { is_scripted result ≡ 1 }
-{
-    match act {
-        Act::Windows(snapshot) => Call::Windows { now, snapshot },
-        Act::FocusOn { display, channel } => Call::FocusOn {
-            now,
-            display,
-            channel,
-        },
-        Act::Pilfer { channel, device } => Call::Pilfer {
-            now,
-            channel,
-            device,
-        },
-        Act::Remove { channel } => Call::Remove { now, channel },
-    }
-}
-
 /// A step with its call.
 fn run_step(step: Step) -> RunStep
     ensures value { run_step result ≡ step_of step }
@@ -72,7 +49,7 @@ fn run_step(step: Step) -> RunStep
 {
     RunStep {
         lane: step.lane,
-        call: call(step.at, step.act),
+        call: call_of(step.at, step.act),
     }
 }
 

@@ -1,32 +1,26 @@
 //! `race`: the run of a session by threads, in the order that they take.
-ghost use Rattle.std.specs.Prelude.{◌≡◌, ◌+◌, ◌≤◌, ℕ, true, List, Ok, Err, length, map, reverse, IfOk, IfErr};
+ghost use Rattle.std.specs.Prelude.{◌≡◌, ◌+◌, ◌≤◌, ℕ, List, Ok, Err, length, map, IfOk, IfErr};
 ghost use Rattle.raw_events.specs.declared.event.RawEvent.{RawEvent as Event};
 ghost use Rattle.window_snapshot.specs.Mask.{mask_has};
-ghost use Rattle.given_run.specs.Planned.{cooked_of, whole_plan};
-ghost use Rattle.schedule.specs.Planned.{IsRun, channel_of};
-ghost use Rattle.session_plan.specs.Plan.{PlanData};
+ghost use Rattle.given_run.specs.Planned.{cooked_of};
 ghost use Rattle.session_plan.specs.Valid.{IsPlan};
-ghost use Rattle.session_plan.specs.View.{plan_view};
-ghost use Rattle.replay_engine.specs.Begun.{IsPlanned};
+ghost use Rattle.session_plan.specs.View.{channel_view, plan_view};
+ghost use Rattle.replay_actors.specs.Session.{channel_of, step_of};
 ghost use Rattle.replay_engine.specs.Planned.{given};
 ghost use Rattle.replay_engine.specs.Races.{RaceAnswers, Races, finishes_from};
-ghost use Rattle.replay_engine.specs.RaceEnds.{DoPlan, EndsRace};
+ghost use Rattle.replay_engine.specs.RaceEnds.{DoPlan, EndsRace, raced_plan};
 ghost use Rattle.replay_engine.specs.Refusing.{RefusesSo};
 
-use crate::begun::{Planned, plan_run};
 use crate::cooking::readers_of;
 use crate::order::{GIVEN_LIMIT, cooked_list};
 use crate::statuses::{Refusal, Subject};
 use dispatch_core::Core;
 use given_run::Cooked;
 use input_service::Service;
-use input_types::{Args, Moment};
-use race_text::race_text;
+use input_types::{Args, Displays, Moment};
 use raw_events::RawEvent;
-use replay_actors::{Gate, Lanes, RaceEnd, open_channels, run_lanes};
-use schedule::{Channel, Plan};
-use script_lanes::scripts_of;
-use session_plan::Plan as Session;
+use replay_actors::{Gate, Lanes, RaceEnd, open_channels, race_text, run_lanes, scripts_of};
+use session_plan::{ChannelPlan, Plan as Session, Step};
 use std::alloc::{AllocError, Global};
 use std::sync::Wait;
 use std::thread::Threads;
@@ -34,9 +28,9 @@ use text_pieces::Pieces;
 use window_snapshot::mask_with;
 
 /// The channels whose owners finish what they are given, as a mask, where the first channel has this number.
-fn finishing(number: u32, channels: &[Channel]) -> u64
+fn finishing(number: u32, channels: &[ChannelPlan]) -> u64
     requires { (1 ≤ number) × (number + length channels.now ≤ 65) }
-    ensures { (c : ℕ) → mask_has result c ≡ finishes_from number (map channel_of channels.now) c }
+    ensures { (c : ℕ) → mask_has result c ≡ finishes_from number (map channel_of (map channel_view channels.now)) c }
 {
     match channels {
         [first, rest @ ..] => {
@@ -63,15 +57,21 @@ fn pairs(alloc: Global, all: Vec<Cooked>) -> Result<Vec<(Moment, Args)>, AllocEr
 }
 
 /// What the threads of a race are to do.
-fn lanes_of(alloc: Global, plan: Plan, all: Vec<Cooked>) -> Result<Lanes, AllocError>
-    requires { IsRun plan }
-    ensures { IfOk result (DoPlan (whole_plan plan all.items)) }
+fn lanes_of(
+    alloc: Global,
+    channels: &[ChannelPlan],
+    steps: Vec<Step>,
+    all: Vec<Cooked>,
+) -> Result<Lanes, AllocError>
+    requires { length channels.now ≤ 64 }
+    ensures { IfOk result
+        (DoPlan (map channel_of (map channel_view channels.now)) (map step_of steps.items) (map cooked_of all.items)) }
 {
-    let finishing = finishing(1, &plan.channels);
+    let finishing = finishing(1, channels);
     Ok(Lanes {
         cooked: pairs(alloc, all)?,
-        scripts: scripts_of(alloc, plan.steps)?,
-        channels: plan.channels.len() as u32,
+        scripts: scripts_of(alloc, steps)?,
+        channels: channels.len() as u32,
         finishing,
     })
 }
@@ -80,17 +80,20 @@ fn lanes_of(alloc: Global, plan: Plan, all: Vec<Cooked>) -> Result<Lanes, AllocE
 fn raced<R: Threads + Wait + Sync, G: Gate + Sync>(
     rt: &R,
     alloc: Global,
-    plan: Plan,
+    displays: &Displays,
+    channels: &[ChannelPlan],
+    steps: Vec<Step>,
     all: Vec<Cooked>,
     gate: &G,
 ) -> Result<RaceEnd, AllocError>
-    requires { IsRun plan }
-    ensures { IfOk result (EndsRace (whole_plan plan all.items)) }
+    requires { length channels.now ≤ 64 }
+    ensures { (until : ℕ)
+        → IfOk result (EndsRace (raced_plan displays.now channels.now steps.items all.items until)) }
 {
-    let core = Core::new(alloc, &plan.displays)?;
+    let core = Core::new(alloc, displays)?;
     let (service, mut seat) = Service::new(alloc, core)?;
-    open_channels(rt, &service, &mut seat, &plan.channels)?;
-    let lanes = lanes_of(alloc, plan, all)?;
+    open_channels(rt, &service, &mut seat, channels)?;
+    let lanes = lanes_of(alloc, channels, steps, all)?;
     run_lanes(rt, alloc, service, seat, lanes, gate)
 }
 
@@ -98,24 +101,28 @@ fn raced<R: Threads + Wait + Sync, G: Gate + Sync>(
 fn race_run<R: Threads + Wait + Sync, G: Gate + Sync>(
     rt: &R,
     alloc: Global,
-    planned: Planned,
+    session: Session,
     all: Vec<Cooked>,
     gate: &G,
 ) -> Result<Pieces, Refusal>
-    requires run { IsRun planned.plan }
-    requires few { length planned.channels.items ≤ 64 }
-    ensures ok { (p : PlanData) (past : List Event) → IsPlanned p planned → map cooked_of all.items ≡ given p past
-        → IfOk result (λ text. Races p past (Ok text)) }
-    ensures err { (p : PlanData) (past : List Event) → IsPlanned p planned → map cooked_of all.items ≡ given p past
-        → IfErr result (RefusesSo (λ r. Races p past (Err r))) }
+    requires { IsPlan session }
+    ensures ok { (past : List Event) → map cooked_of all.items ≡ given (plan_view session) past
+        → IfOk result (λ text. Races (plan_view session) past (Ok text)) }
+    ensures err { (past : List Event) → map cooked_of all.items ≡ given (plan_view session) past
+        → IfErr result (RefusesSo (λ r. Races (plan_view session) past (Err r))) }
 {
     if all.len() > GIVEN_LIMIT {
         return Err(Refusal::TooLong(Subject::Run));
     }
-    let Planned { channels, plan } = planned;
-    let end = raced(rt, alloc, plan, all, gate)?;
+    let displays = session.device_displays();
+    let Session {
+        channels,
+        steps,
+        ..
+    } = session;
+    let end = raced(rt, alloc, &displays, &channels, steps, all, gate)?;
     let mut text = Vec::new(alloc);
-    race_text(&channels, &end.core, &end.script_seats, &mut text)?;
+    race_text(&channels, &end, &mut text)?;
     Ok(Pieces::of(alloc, text))
 }
 
@@ -133,6 +140,5 @@ pub(crate) fn race_of<R: Threads + Wait + Sync, G: Gate + Sync>(
 {
     let mut readers = readers_of(alloc, &session)?;
     let all = cooked_list(alloc, events, &mut readers)?;
-    let planned = plan_run(alloc, session)?;
-    race_run(rt, alloc, planned, all, gate)
+    race_run(rt, alloc, session, all, gate)
 }

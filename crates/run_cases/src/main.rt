@@ -15,11 +15,17 @@
 //!
 //! Behind them stand races with a gate. No two of them need to print one order. So only this is told: whether the gate
 //! made a lane wait, and the first two lines of args and steps, which it leaves no choice in. A program that made all
-//! calls in one thread, or without the gate, would come to another text.
+//! calls in one thread, or without the gate, would come to another text. Last come races of lanes over a core of their
+//! own, and what its history says of them.
 #![tactic(auto)]
 
+mod arrivals;
 mod cases;
 mod failing;
+mod flag;
+mod gates;
+mod lanes;
+mod made;
 mod races;
 mod runs;
 mod texts;
@@ -30,5 +36,6 @@ fn main(rt: HostRuntime) -> io::Result<()> {
     let mut text = Vec::new(rt.alloc());
     cases::add_all(&rt, &mut text)?;
     races::add_all(&rt, &mut text)?;
+    lanes::add_all(&rt, &mut text)?;
     rt.stdout().write_all(&text)
 }

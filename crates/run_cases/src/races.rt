@@ -1,9 +1,9 @@
 //! Races at whose lanes a gate stands.
 use crate::cases::RACE;
 use crate::failing::{GIVEN, add_line};
+use crate::gates::{Meeting, Place, Until};
 use crate::runs::{Case, Ran, run_case};
 use crate::texts::{AGAIN, FINGERS, HALVES};
-use race_gates::{Meeting, Place, Until};
 use replay_engine::Gate;
 use std::alloc::{AllocError, Global};
 use std::io;

@@ -7,7 +7,7 @@ use turnstile::Machine;
 
 /// It is set up with the total to start from. Totals are those of 64 bits.
 #[derive(Drop)]
-pub struct Counter {
+pub(crate) struct Counter {
     start: u64,
     total: u64,
     /// The seat, the amount and the total after it, oldest first.
@@ -17,7 +17,7 @@ pub struct Counter {
 
 impl Counter {
     /// A counter that has answered no call.
-    pub fn new(alloc: Global, start: u64) -> Counter
+    pub(crate) fn new(alloc: Global, start: u64) -> Counter
         ensures { (result.start ≡ start) × (result.entries.items ≡ []) }
     {
         Counter {
@@ -28,7 +28,7 @@ impl Counter {
     }
 
     /// The calls that it has answered, oldest first: the seat, the amount and the total after it.
-    pub fn entries(&self) -> &[(u64, u64, u64)]
+    pub(crate) fn entries(&self) -> &[(u64, u64, u64)]
         ensures { result.now ≡ self.now.entries.items }
     {
         self.entries.as_slice()

@@ -1,7 +1,7 @@
 use Rattle.std.proofs.Common.{◌≡◌, ◌+◌, subst, arith}
 use Rattle.std.specs.Prelude.{if◌then◌else◌}
 use Rattle.turnstile.specs.Seats.{view}
-use Rattle.lane_laws.specs.Lanes.{pumping, pumps}
+use Rattle.replay_actors.specs.Lanes.{pumping, pumps}
 use Rattle.replay_actors.proofs.Calls.{stays_on}
 use Rattle.replay_actors.proofs.answered.dispatch.Goals as goal
 

@@ -1,8 +1,8 @@
 use Rattle.std.proofs.Common.{◌≡◌, ◌≤◌}
 use Rattle.turnstile.specs.Seats.{view}
 use Rattle.input_service.specs.Services.{IsOf}
-use Rattle.lane_laws.specs.Lanes.{pumping, pumps}
-use Rattle.replay_actors.specs.Lane.{Stays}
+use Rattle.replay_actors.specs.Lanes.{pumping, pumps}
+use Rattle.replay_actors.specs.Seats.{Stays}
 use Rattle.replay_actors.proofs.answered.dispatch.Given as goal
 
 -- so many answers were idle, and a pump is next

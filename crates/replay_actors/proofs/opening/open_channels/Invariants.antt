@@ -1,11 +1,12 @@
 use Rattle.std.proofs.Common.{◌≡◌, length, map, take, reverse}
 use Rattle.turnstile.specs.Seats.{view}
 use Rattle.dispatch_history.specs.Given.{opens}
-use Rattle.schedule.specs.Planned.{channel_of}
+use Rattle.session_plan.specs.View.{channel_view}
 use Rattle.input_service.specs.Services.{IsOf}
-use Rattle.lane_laws.specs.Lanes.{calls_made}
-use Rattle.lane_laws.specs.Raced.{OnlyOpens}
+use Rattle.replay_actors.specs.Lanes.{calls_made}
+use Rattle.replay_actors.specs.Raced.{OnlyOpens}
 use Rattle.replay_actors.specs.Opening.{IsCaller}
+use Rattle.replay_actors.specs.Session.{channel_of}
 use Rattle.replay_actors.proofs.opening.open_channels.Given as goal
 
 -- the channels so far are opened, and nothing else was called
@@ -16,4 +17,4 @@ invariant-channels g l =
     × ((view l.seat).setup ≡ (view l.initial.seat).setup)
     × OnlyOpens (view l.seat).mine.own
     × (length (view l.seat).mine.own ≡ l.channel-index)
-    × (calls_made (view l.seat).mine.own ≡ reverse (opens (map channel_of (take l.channel-index l.channels))))
+    × (calls_made (view l.seat).mine.own ≡ reverse (opens (map channel_of (map channel_view (take l.channel-index l.channels)))))

@@ -1,8 +1,8 @@
 use Rattle.std.proofs.Common.{◌≡◌, reverse}
 use Rattle.turnstile.specs.Seats.{view}
 use Rattle.input_service.specs.Services.{IsOf}
-use Rattle.lane_laws.specs.Lanes.{calls_made}
-use Rattle.replay_actors.specs.Lane.{Stays}
+use Rattle.replay_actors.specs.Lanes.{calls_made}
+use Rattle.replay_actors.specs.Seats.{Stays}
 use Rattle.replay_actors.specs.Parts.{calls_of}
 use Rattle.replay_actors.proofs.planned.follow.Given as goal
 

@@ -1,8 +1,8 @@
 use Rattle.std.proofs.Common.{◌≡◌, take, reverse}
 use Rattle.turnstile.specs.Seats.{view}
 use Rattle.input_service.specs.Services.{IsOf}
-use Rattle.lane_laws.specs.Lanes.{calls_made, notifies}
-use Rattle.replay_actors.specs.Lane.{Stays}
+use Rattle.replay_actors.specs.Lanes.{calls_made, notifies}
+use Rattle.replay_actors.specs.Seats.{Stays}
 use Rattle.replay_actors.proofs.planned.read.Given as goal
 
 -- the calls so far are those for the args so far

@@ -1,6 +1,6 @@
 use Rattle.std.proofs.Common.{◌+◌, ◌-◌, ◌++◌, ap, ◌∙◌}
-use Rattle.lane_laws.specs.Race.{seats_from}
-use Rattle.replay_actors.proofs.Settled.{seat_next}
+use Rattle.replay_actors.specs.Race.{seats_from}
+use Rattle.replay_actors.proofs.RunEnds.{seat_next}
 use Rattle.replay_actors.proofs.run.script_seats.Goals as goal
 
 pub seats-preserved : goal.seats-preserved

@@ -1,5 +1,5 @@
 use Rattle.std.proofs.Common.{◌≡◌, ◌+◌, ◌-◌, ◌++◌}
-use Rattle.lane_laws.specs.Race.{seats_from}
+use Rattle.replay_actors.specs.Race.{seats_from}
 use Rattle.replay_actors.proofs.run.script_seats.Given as goal
 
 -- the numbers so far and those that come are all

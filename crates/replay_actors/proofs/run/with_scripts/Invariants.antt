@@ -1,7 +1,7 @@
 use Rattle.std.proofs.Common.{◌≡◌, List, ◌++◌, length}
 use Rattle.std.specs.Prelude.{Vec, vec_len}
 use Rattle.std.specs.declared.alloc.Global.{Global}
-use Rattle.schedule.specs.declared.plan.Step.{Step}
+use Rattle.session_plan.specs.declared.plan.Step.{Step}
 use Rattle.replay_actors.specs.Plans.{scripts_before}
 use Rattle.replay_actors.proofs.run.with_scripts.Given as goal
 

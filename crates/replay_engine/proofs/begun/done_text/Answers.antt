@@ -4,7 +4,8 @@ use Rattle.std.proofs.lemmas.List.{length-map}
 use Rattle.session_plan.specs.Plan.{ChannelData}
 use Rattle.session_plan.specs.View.{channel_view}
 use Rattle.stream_text.specs.StreamsHistory.{streams_text}
-use Rattle.replay_engine.specs.Planned.{channel_of, script_of}
+use Rattle.replay_actors.specs.Session.{channel_of}
+use Rattle.replay_engine.specs.Planned.{script_of}
 use Rattle.replay_engine.specs.Whole.{AreWhole}
 use Rattle.replay_engine.proofs.Overruns.{is_overrun, is_within}
 use Rattle.replay_engine.proofs.WholeRun.{lawful_whole}

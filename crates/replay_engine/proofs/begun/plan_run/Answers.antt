@@ -3,7 +3,7 @@ use Rattle.std.proofs.Common.{◌∙◌, List, ap, refl, map, arith}
 use Rattle.session_plan.specs.View.{channel_view}
 use Rattle.session_plan.specs.declared.plan.ChannelPlan.{ChannelPlan}
 use Rattle.schedule.specs.declared.plan.Plan.{Plan as RunPlan}
-use Rattle.replay_engine.specs.Planned.{channel_of}
+use Rattle.replay_actors.specs.Session.{channel_of}
 use Rattle.replay_engine.proofs.Begins.{same_script}
 use Rattle.replay_engine.proofs.begun.plan_run.Goals as goal
 

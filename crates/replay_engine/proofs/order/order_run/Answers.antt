@@ -14,7 +14,8 @@ use Rattle.session_plan.specs.Plan.{ChannelData}
 use Rattle.session_plan.specs.View.{channel_view}
 use Rattle.stream_text.specs.StreamsHistory.{streams_text}
 use Rattle.replay_engine.specs.Followed.{steps_judged}
-use Rattle.replay_engine.specs.Planned.{channel_of, given, run_of}
+use Rattle.replay_actors.specs.Session.{channel_of}
+use Rattle.replay_engine.specs.Planned.{given, run_of}
 use Rattle.replay_engine.specs.Whole.{AreWhole}
 use Rattle.replay_engine.proofs.Bounds.{given_within}
 use Rattle.replay_engine.proofs.Orders.{same_plan, steps_follow}

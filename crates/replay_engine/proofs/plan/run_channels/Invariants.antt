@@ -2,7 +2,7 @@ use Rattle.std.proofs.Common.{◌≡◌, ◌++◌, map, drop, length}
 use Rattle.std.specs.List.{All}
 use Rattle.session_plan.specs.View.{channel_view}
 use Rattle.schedule.specs.Planned.{channel_of as run_channel, IsChannel}
-use Rattle.replay_engine.specs.Planned.{channel_of}
+use Rattle.replay_actors.specs.Session.{channel_of}
 use Rattle.replay_engine.proofs.plan.run_channels.Given as goal
 
 -- the channels so far, and then those that are left, are all

@@ -1,7 +1,7 @@
 use Rattle.std.proofs.Common.{◌≡◌, map}
 use Rattle.std.specs.List.{All}
 use Rattle.schedule.specs.Planned.{IsStep, step_of as run_step}
-use Rattle.replay_engine.specs.Planned.{step_of}
+use Rattle.replay_actors.specs.Session.{step_of}
 use Rattle.replay_engine.proofs.plan.run_steps.Given as goal
 
 -- the steps so far

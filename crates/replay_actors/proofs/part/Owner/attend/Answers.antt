@@ -1,9 +1,9 @@
 use Rattle.std.proofs.Common.{arith}
 use Rattle.turnstile.specs.Seats.{view}
 use Rattle.window_snapshot.specs.Mask.{mask_has}
-use Rattle.lane_laws.specs.Lanes.{taking, next_channel}
+use Rattle.replay_actors.specs.Lanes.{taking, next_channel}
 use Rattle.replay_actors.proofs.Calls.{stays_on}
-use Rattle.replay_actors.proofs.Own.{taken_none, taken_some, next_fits}
+use Rattle.replay_actors.proofs.OwnCalls.{taken_none, taken_some, next_fits}
 use Rattle.replay_actors.proofs.part.Owner.attend.Goals as goal
 
 pub takes-preserved-then-none : goal.takes-preserved-then-none

@@ -2,8 +2,8 @@ use Rattle.std.proofs.Common.{◌≡◌, ◌≤◌}
 use Rattle.turnstile.specs.Seats.{view}
 use Rattle.window_snapshot.specs.Mask.{mask_has}
 use Rattle.input_service.specs.Services.{IsOf}
-use Rattle.lane_laws.specs.Lanes.{taking, takes}
-use Rattle.replay_actors.specs.Lane.{Stays}
+use Rattle.replay_actors.specs.Lanes.{taking, takes}
+use Rattle.replay_actors.specs.Seats.{Stays}
 use Rattle.replay_actors.proofs.part.Owner.attend.Given as goal
 
 -- so many answers gave no message, and a message of this channel is taken next

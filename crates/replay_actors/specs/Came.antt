@@ -1,0 +1,40 @@
+-- How far the caller has come that settles a core.
+use Rattle.std.specs.Prelude.{◌≡◌, ℕ, ◌+◌, ◌-◌, Bool, List, ◌++◌, length, if◌then◌else◌}
+use Rattle.dispatch_calls.specs.declared.call.Call.{Call}
+use Rattle.dispatch_calls.specs.declared.reply.Reply.{Reply}
+use Rattle.dispatch_history.specs.Effect.{stream}
+use Rattle.dispatch_history.specs.Effects.{effects}
+use Rattle.dispatch_history.specs.History.{History, clock, received}
+use Rattle.dispatch_history.specs.KeyTold.{repeat_due}
+use Rattle.dispatch_history.specs.Queue.{inbound}
+use Rattle.dispatch_history.specs.Reply.{is_due}
+use Rattle.dispatch_core.specs.Machine.{called, steps}
+use Rattle.dispatch_core.specs.Recorded.{Recorded}
+use Rattle.replay_actors.specs.Race.{Each}
+use Rattle.replay_actors.specs.Settling.{Settling, strays, settling}
+use Rattle.turnstile.specs.History.{Entry as Called}
+
+-- Since the start the caller, number 0, made these calls, and stands so.
+pub record Came (finishing : ℕ → Bool) (start : Recorded) (stage : Settling) (now : Recorded) : Type 0 where
+  pub since : List (Called Call Reply)
+  pub entries_are : called now.entries ≡ since ++ called start.entries
+  pub of_caller : Each (λ e. e.0 ≡ 0) since
+  pub stands : settling finishing (steps since) ≡ stage
+  pub displays_are : now.displays ≡ start.displays
+
+-- the caller made no other call than was due
+abbrev pub IsOnWay : Settling → Type 0
+IsOnWay strays = ⊥
+IsOnWay stage = Unit {0}
+
+-- Since the start the caller made calls that were due, and no others, however far it came.
+abbrev pub CameSome : (finishing : ℕ → Bool) → (start now : Recorded) → Type 0
+CameSome finishing start now = (stage : Settling) × IsOnWay stage × Came finishing start stage now
+
+-- how many pumps more find something to do: one for each args that wait, and one for a repeat that is due; args may make a repeat due
+abbrev pub pumps_left : List ℕ → History → ℕ
+pumps_left displays h = length (inbound h) + length (inbound h) + (if is_due (repeat_due (effects displays h)) (clock h) then 1 else 0)
+
+-- how many messages of a channel its owner has not taken
+abbrev pub untaken : List ℕ → History → ℕ → ℕ
+untaken displays h c = length (stream (effects displays h) c) - received h c

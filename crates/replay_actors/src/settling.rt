@@ -1,0 +1,51 @@
+//! Settling a core that no thread calls any more: nothing is left to do.
+//!
+//! Two args wait, the second of which tells window 1 something, and its owner finishes what it is given. These calls
+//! are answered so, in this order:
+//!
+//! ```text
+//! Pump, Pump, Pump                              Dispatched, Dispatched, Idle
+//! Tick                                          Named(0)
+//! Receive 1                                     Got(1 ..)
+//! Finish 1 1                                    Done
+//! Receive 1                                     Empty
+//! ```
+//!
+//! All are the caller's, who has the number 0, and hand in moment 0, so the clock stands still.
+ghost use Rattle.std.specs.Prelude.{◌≡◌, ◌≤◌, ◌+◌, OnOk, OnErr};
+ghost use Rattle.dispatch_history.specs.History.{opened};
+ghost use Rattle.dispatch_history.specs.Settled.{Settled};
+ghost use Rattle.dispatch_core.specs.Recorded.{IsSound, history_of};
+ghost use Rattle.replay_actors.specs.Settling.{takes_from};
+ghost use Rattle.replay_actors.specs.Came.{Came, CameSome};
+ghost use Rattle.replay_actors.specs.Finishing.{IsQuiet};
+ghost use Rattle.window_snapshot.specs.Mask.{mask_has};
+
+use crate::pumping::{look, pump_out};
+use crate::taking::take_all;
+use dispatch_core::Core;
+use std::alloc::AllocError;
+use window_snapshot::mask_has;
+
+/// Does all that is left to do, in calls of number 0 at moment 0: pumps until nothing waits, looks once for windows
+/// that do not answer, and takes from the channels 1 to `channels` until each has nothing more. The owners of the
+/// channels in the mask `finishing` finish each message that they are given. Without memory only some of this is done.
+#[tactic(auto, using(crate::proofs::Emptied::nothing_left))]
+pub fn settle(core: &mut Core, channels: u32, finishing: u64) -> Result<(), AllocError>
+    ensures came { OnOk result (Came (mask_has finishing) core.old (takes_from (channels + 1)) core.new) }
+
+    // Where no more channels were opened, and what the owners of `finishing` were given before was finished, nothing is
+    // left to do.
+    ensures settled { IsQuiet (mask_has finishing) (history_of core.old.entries)
+        → opened (history_of core.old.entries) ≤ channels
+        → OnOk result (Settled core.new.displays (history_of core.new.entries) (mask_has finishing)) }
+    ensures err { OnErr result (CameSome (mask_has finishing) core.old core.new) }
+    ensures sound { IsSound core.new }
+{
+    pump_out(core)?;
+    look(core)?;
+    for place in 0..channels {
+        take_all(core, place + 1, mask_has(finishing, place + 1))?;
+    }
+    Ok(())
+}
