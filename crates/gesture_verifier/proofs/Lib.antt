@@ -1,2 +1,4 @@
 pub mod Tables
 pub mod Examples
+pub mod Reasons
+pub mod ReasonExamples

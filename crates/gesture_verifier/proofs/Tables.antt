@@ -87,16 +87,22 @@ pub due_kept_after : (table old : List (ℕ × ℕ)) (d s : ℕ) (due : Option �
     → due_kept table ≡ with_repeat (due_kept old) d s due
 due_kept_after table old d s due h kept i e t = due_kept_at table old d s due e t h kept (is_device e) refl i
 
+-- the ids that are down on a device are those of its set
+pub kept_at : (sets : List ℕ) (d held : ℕ) → is_device d ≡ true → length sets ≡ 8 → held ≡ get_or sets (d - 1) held
+    → ids_kept sets d ≡ members held
+kept_at sets d held h len is =
+    let device : (1 ≤ d) × (d ≤ 8) = within d h in
+    let read : get_or sets (d - 1) 0 ≡ held =
+    get_or_from_slice_get sets (d - 1) held 0 (slice_get_read sets 8 (d - 1) held (sym len) (omega (arith, device)) is) in
+    rw h (ap members read)
+
 -- a motion that may come
 pub motion_taken : (old : Told) (m : Motion) (held after : ℕ) → is_device m.device ≡ true → length old.sets ≡ 8
     → held ≡ get_or old.sets (m.device - 1) held → Some (members after) ≡ after_motion (members held) m
     → after_body (state_of old) (MotionBody m) ≡ Some (state_of (record old { sets = set old.sets (m.device - 1) after }))
 motion_taken old m held after h len is e =
     let Next : List ℕ → StreamState = λ ids. record { ids = with_ids (ids_kept old.sets) m.device ids; repeats = due_kept old.repeats; focus = old.focus } in
-    let d : (1 ≤ m.device) × (m.device ≤ 8) = within m.device h in
-    let read : get_or old.sets (m.device - 1) 0 ≡ held =
-    get_or_from_slice_get old.sets (m.device - 1) held 0 (slice_get_read old.sets 8 (m.device - 1) held (sym len) (omega (arith, d)) is) in
-    let kept : ids_kept old.sets m.device ≡ members held = rw h (ap members read) in
+    let kept : ids_kept old.sets m.device ≡ members held = kept_at old.sets m.device held h len is in
     ap (λ ids. option_map Next (after_motion ids m)) kept
     ∙ ap (option_map Next) (sym e)
     ∙ ap (λ t. Some (record { ids = t; repeats = due_kept old.repeats; focus = old.focus })) (sym (ids_kept_after old.sets m.device after h len))

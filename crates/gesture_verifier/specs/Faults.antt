@@ -1,5 +1,5 @@
 -- What a fault tells of the stream and of the message that was refused.
-use Rattle.std.specs.Prelude.{◌≡◌, ℕ, Bool, true, false, List, [], Option, Some, None, Result, Ok, Err}
+use Rattle.std.specs.Prelude.{◌≡◌, ℕ, Bool, true, false, List, [], Option, Some, None, is_some, Result, Ok, Err}
 use Rattle.std.specs.declared.alloc.AllocError.{AllocError}
 use Rattle.input_types.specs.declared.message.Body.{Body}
 use Rattle.input_types.specs.declared.message.Body.TheVariants.{Motion, Key, Focus}
@@ -7,6 +7,7 @@ use Rattle.input_types.specs.declared.message.Message.{Message}
 use Rattle.input_types.specs.StreamRule.{StreamState, after_body}
 use Rattle.bits32.specs.Set.{members}
 use Rattle.gesture_verifier.specs.declared.fault.Fault.{Fault}
+use Rattle.gesture_verifier.specs.Reasons.{reason_of, is_spelled}
 use Rattle.gesture_verifier.specs.Told.{Told, state_of}
 
 -- the ids that are down on the device of a motion; none for what is no motion
@@ -21,7 +22,7 @@ due_of_body s (Motion m) = None
 due_of_body s (Key m) = s.repeats m.key.device m.key.scan
 due_of_body s (Focus b) = None
 
--- a message that might not come when it came, with what the window knew then
+-- a message that might not come when it came, with what the window knew then and why
 pub record IsFault (told : Told) (m : Message) (f : Fault) : Type 0 where
   pub refused : after_body (state_of told) m.body ≡ None
   pub place : f.place ≡ told.accepted
@@ -29,6 +30,8 @@ pub record IsFault (told : Told) (m : Message) (f : Fault) : Type 0 where
   pub next_repeat : f.next_repeat ≡ due_of_body (state_of told) m.body
   pub focus : f.focus ≡ told.focus
   pub message : f.message ≡ m
+  pub reason : f.reason ≡ reason_of (state_of told) m.body
+  pub told_why : is_spelled m.body ≡ true → is_some f.reason ≡ true
 
 -- the body of a key message
 abbrev pub is_key : Body → Bool

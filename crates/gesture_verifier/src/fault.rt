@@ -1,6 +1,7 @@
 //! Why a message was not accepted.
 ghost use Rattle.std.specs.Prelude.{◌≡◌};
 
+use crate::reason::Reason;
 use input_types::Message;
 use std::alloc::AllocError;
 
@@ -18,6 +19,8 @@ pub struct Fault {
     pub focus: bool,
     /// The message that was refused.
     pub message: Message,
+    /// Why it may not come. None only where no line of a stream file says the message, as with other flags.
+    pub reason: Option<Reason>,
 }
 
 /// Why a step was not taken.

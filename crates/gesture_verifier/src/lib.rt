@@ -5,13 +5,15 @@
 //! is shown the messages of a stream one by one and says at which one the stream stops to be well-formed.
 //!
 //! Example: after a `Down` of the pointer 0 on device 1, a second `Down` is refused. Its `Fault` says that one message
-//! was accepted (`place` 1) and that pointer 0 is down (`held` 0b1). An `Up` of that pointer is then accepted, since a
-//! message that is refused changes nothing.
+//! was accepted (`place` 1), that pointer 0 is down (`held` 0b1), and why it may not come (`reason` `AlreadyDown`). An
+//! `Up` of that pointer is then accepted, since a message that is refused changes nothing.
 #![tactic(auto)]
 
 mod fault;
+mod reason;
 mod repeats;
 mod verifier;
 
 pub use fault::{Fault, StepError};
+pub use reason::Reason;
 pub use verifier::Verifier;

@@ -1,8 +1,9 @@
 //! The judge of one stream.
-ghost use Rattle.std.specs.Prelude.{◌≡◌, ◌<◌, ◌-◌, IsTrue, List, [], ◌∷◌, false, true, OnOk, OnErr};
+ghost use Rattle.std.specs.Prelude.{◌≡◌, ◌<◌, ◌-◌, IsTrue, List, [], ◌∷◌, false, true, not, is_some, OnOk, OnErr};
 ghost use Rattle.gesture_verifier.specs.Told.{is_device};
 
 use crate::fault::{Fault, StepError};
+use crate::reason::{Reason, first_fitting, key_reason, motion_reason};
 use crate::repeats::{due, keep, next_repeat, place};
 use bits32::Bits32;
 use input_types::{Body, DeviceId, KeyMsg, Message, Motion};
@@ -38,6 +39,7 @@ impl Verifier {
     ghost use Rattle.bits32.specs.Set.{members};
     ghost use Rattle.gesture_verifier.specs.Told.{state_of, one_more, StandsFor};
     ghost use Rattle.gesture_verifier.specs.Faults.{IsFault, Takes, is_key, ids_of_body, due_of_body};
+    ghost use Rattle.gesture_verifier.specs.Reasons.{reason_of, is_spelled};
 
     /// A judge of a stream that has no message yet.
     pub fn new(alloc: Global) -> Verifier
@@ -72,6 +74,20 @@ impl Verifier {
         }
         self.accepted = self.accepted.saturating_add(1);
         Ok(())
+    }
+
+    /// Why a message may not come now; None where it may. A message that no line of a stream file says, as one with
+    /// other flags, may be refused without a reason.
+    pub fn reason(&self, body: &Body) -> Option<Reason>
+        ensures value { result ≡ reason_of (state_of self.now) body.now }
+        ensures exact { is_spelled body.now ≡ true
+            → is_some result ≡ not (is_some (after_body (state_of self.now) body.now)) }
+    {
+        match body {
+            Body::Motion(motion) => motion_reason(self.down[row(motion.device)], motion),
+            Body::Key(message) => key_reason(due(&self.repeats, place(&message.key)), message),
+            Body::Focus(has) => first_fitting(&[(*has == self.focus, Reason::FocusTwice)]),
+        }
     }
 
     /// Takes what a message says, where it may come.
@@ -129,6 +145,7 @@ impl Verifier {
             next_repeat: self.next_repeat(&message.body),
             focus: self.focus,
             message: *message,
+            reason: self.reason(&message.body),
         }
     }
 

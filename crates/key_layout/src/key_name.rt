@@ -30,7 +30,7 @@ fn code_in(names: &[(&str, u16)], name: &[u8]) -> u16
 }
 
 /// The code of a name; 0 where the table has no such name.
-#[tactic(auto, unfolding(crate::specs::KeyNames::code_of_name))]
+#[tactic(auto, unfolding(crate::specs::KeyNames::code_of_name, crate::specs::KeyNames::key_table))]
 pub(crate) fn code_of_name(name: &[u8]) -> u16
     ensures { result ≡ code_of_name name.now }
 {

@@ -2,6 +2,7 @@
 ghost use Rattle.std.specs.Prelude.{◌≡◌, nat_lt, [], length, remove};
 ghost use Rattle.std.specs.Option.{option_map};
 ghost use Rattle.bits32.specs.Set.{members};
+ghost use Rattle.input_types.specs.Pointers.{IsRising};
 ghost use Rattle.input_types.specs.Gestures.{ids_of, same_ids, allowed, is_end_flag, after_action, after_motion};
 
 use bits32::Bits32;
@@ -21,8 +22,9 @@ pub fn next_held(held: Bits32, motion: &Motion) -> Option<Bits32>
 }
 
 /// The ids of some pointers.
-fn listed(pointers: &Pointers) -> Bits32
-    ensures { members result ≡ ids_of pointers.now }
+pub fn listed(pointers: &Pointers) -> Bits32
+    ensures value { members result ≡ ids_of pointers.now }
+    ensures rises { IsRising pointers.now }
 {
     let mut set = Bits32::empty();
     for pointer in pointers.as_slice() {
@@ -75,7 +77,7 @@ pub fn nothing() -> Bits32
 }
 
 /// Whether two sets have the same numbers.
-fn is_same(a: Bits32, b: Bits32) -> bool
+pub fn is_same(a: Bits32, b: Bits32) -> bool
     ensures { result ≡ same_ids (members a) (members b) }
 {
     a.bits() == b.bits()
@@ -96,7 +98,7 @@ pub fn ends(flags: u32) -> bool
 }
 
 /// The set without the number at place `index` of its rising list, or None exactly where there is no such place.
-fn without(set: Bits32, index: u8) -> Option<Bits32>
+pub fn without(set: Bits32, index: u8) -> Option<Bits32>
     ensures { option_map members result ≡ allowed (nat_lt index (length (members set))) (remove (members set) index) }
 {
     let id = set.nth(u32::from(index))?;

@@ -15,4 +15,4 @@
 
 mod held;
 
-pub use held::{ends, next_held, nothing};
+pub use held::{ends, is_same, listed, next_held, nothing, without};

@@ -1,6 +1,6 @@
 //! A stream that is judged, and one whose moves wait for frames.
 
-use gesture_verifier::{Fault, StepError, Verifier};
+use gesture_verifier::{Fault, Reason, StepError, Verifier};
 use input_types::{
     Body, DeviceId, KeyArgs, KeyMsg, Message, Moment, Motion, MotionAction, Pixel, Pointer,
     PointerId, Pointers,
@@ -56,6 +56,7 @@ fn a_second_down_is_refused(rt: HostRuntime) -> Result<(), Fail> {
         next_repeat: None,
         focus: false,
         message: down,
+        reason: Some(Reason::AlreadyDown),
     };
     assert_eq!(rt; verifier.step(&down), Err(StepError::Fault(fault)));
     let up = finger(2, 0, MotionAction::Up)?;
@@ -77,6 +78,7 @@ fn repeats_are_counted(rt: HostRuntime) -> Result<(), Fail> {
         next_repeat: Some(2),
         focus: true,
         message: skips,
+        reason: Some(Reason::RepeatOutOfTurn),
     };
     assert_eq!(rt; verifier.step(&skips), Err(StepError::Fault(fault)));
     assert_eq!(rt; verifier.step(&key(false, 0)?), Ok(()));

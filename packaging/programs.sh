@@ -1,0 +1,43 @@
+# Which program of this tree can answer at once. For scripts that have set `top` to the folder of the tree and read this file.
+# shellcheck shell=sh disable=SC2154
+
+program=$top/crates/inputflinger_main/out/inputflinger_main
+dist=$top/dist/inputflinger
+
+# A source that is newer than the program that was proved and built here, if there is one.
+newer_source() {
+    find "$top/crates.txt" "$top/crates" -name out -prune -o -type f \( -name '*.rt' -o -name '*.antt' -o -name crates.txt \) \
+        -newer "$program" -print | head -n 1
+}
+
+# Whether the program that was proved and built here is that of the sources.
+is_proved() { [ -x "$program" ] && [ -z "$(newer_source)" ]; }
+
+# manifest KEY: what dist/MANIFEST says of it.
+manifest() { sed -n "s/^$1: *//p" "$top/dist/MANIFEST"; }
+
+# library_of PROGRAM: the newest version of the C library that a name of the program asks for; where none does, GLIBC_2.0.
+library_of() {
+    { echo GLIBC_2.0; objdump -T "$1" 2>/dev/null | grep -o 'GLIBC_[0-9.]*' || true; } | sort -V | tail -n 1
+}
+
+# has_library GLIBC_VERSION: whether this machine's C library is of this version or a later one.
+has_library() {
+    here=$(getconf GNU_LIBC_VERSION 2>/dev/null) || return 1
+    [ "$(printf '%s\n' "${here#glibc }" "${1#GLIBC_}" | sort -V | head -n 1)" = "${1#GLIBC_}" ]
+}
+
+# Why the program of dist/ is not one that can answer; nothing where it can.
+against_dist() {
+    if [ ! -x "$dist" ] || [ ! -e "$top/dist/MANIFEST" ]; then
+        echo 'there is none in dist/'
+    elif [ "$(manifest sources)" != "$("$top/packaging/sources")" ]; then
+        echo 'the one in dist/ was built from other sources'
+    elif [ "$(uname -sm)" != "$(manifest machine)" ]; then
+        echo "the one in dist/ is for $(manifest machine)"
+    elif ! has_library "$(manifest library)"; then
+        echo "the one in dist/ needs the C library $(manifest library)"
+    elif [ "$(manifest sha256)" != "$(sha256sum <"$dist" | cut -d ' ' -f 1)" ]; then
+        echo 'the one in dist/ is not the one that dist/MANIFEST tells of'
+    fi
+}

@@ -1,0 +1,332 @@
+"""What the program refuses in a session: the rules of docs/SESSION.md, in the order of its table."""
+from . import known, layout
+from .findings import nearest, one_of, shown
+
+KINDS = {
+    "table": "a table",
+    "array": "an array",
+    "text": "a text",
+    "integer": "an integer",
+    "float": "a number with a point",
+    "truth": "a truth value",
+    "moment": "a date or a time",
+}
+
+
+class Entry:
+    """An entry of the plan: its table, the key in front of its keys, and what was read of it."""
+
+    def __init__(self, node, name):
+        self.node = node
+        self.name = name
+        self.said = {}
+
+    def at(self, key):
+        """Where the value of a key begins; where the table does, if the key is not there."""
+        node = self.node.get(key)
+        return node.at if node else self.node.at
+
+    def get(self, key, default=None):
+        value = self.said.get(key)
+        return default if value is None else value
+
+
+class Plan:
+    """What a session says, as far as it can be read."""
+
+    def __init__(self, document):
+        self.document = Entry(document, "")
+        self.displays = []
+        self.devices = []
+        self.channels = []
+        self.steps = []
+
+
+class Judge:
+    def __init__(self, findings, document):
+        self.findings = findings
+        self.plan = Plan(document)
+        # All names of channels, those that are refused too: a step that has one is not wrong for it.
+        self.names = set()
+
+    # How values are read: each gives what it read, or None, and says what is wrong.
+
+    def key_of(self, entry, key):
+        return "%s.%s" % (entry.name, key) if entry.name else key
+
+    def wrong(self, entry, key, message, at=None):
+        full = self.key_of(entry, key)
+        self.findings.error(at or entry.at(key), full, message, "session: Wrong " + full)
+
+    def unknown(self, entry, key, message, at=None):
+        full = self.key_of(entry, key)
+        self.findings.error(at or entry.at(key), full, message, "session: UnknownName " + full)
+
+    def out_of_range(self, entry, key, value, message, at=None):
+        full = self.key_of(entry, key)
+        self.findings.error(at or entry.at(key), full, message, "session: OutOfRange %s %d" % (full, value))
+
+    def node_at(self, entry, key):
+        """The node of a key that has to be there."""
+        node = entry.node.get(key)
+        if node is None:
+            full = self.key_of(entry, key)
+            self.findings.error(entry.node.at, full, "it is not there", "session: Missing " + full)
+        return node
+
+    def has_kind(self, entry, key, node, kind, wanted):
+        if node.kind == kind:
+            return True
+        value = " " + shown(node.value) if node.kind in ("text", "integer", "float") else ""
+        self.wrong(entry, key, "%s is wanted, and this is %s%s" % (wanted, KINDS[node.kind], value), node.at)
+        return False
+
+    def number(self, entry, key, low, high, required=False, why=""):
+        node = self.node_at(entry, key) if required else entry.node.get(key)
+        if node is None or not self.has_kind(entry, key, node, "integer", "an integer from %d to %d" % (low, high)):
+            return
+        if low <= node.value <= high:
+            entry.said[key] = node.value
+        else:
+            wanted = "%d to %d" % (low, high) if low <= high else "none at all"
+            message = "%d is out of its range, which is %s%s" % (node.value, wanted, why)
+            self.out_of_range(entry, key, node.value, message, node.at)
+
+    def text(self, entry, key, required=True):
+        node = self.node_at(entry, key) if required else entry.node.get(key)
+        if node is not None and self.has_kind(entry, key, node, "text", "a text"):
+            entry.said[key] = node.value
+            return node
+        return None
+
+    def word(self, entry, key, words):
+        node = self.text(entry, key)
+        if node is not None and node.value not in words:
+            entry.said.pop(key)
+            self.wrong(entry, key, '"%s" is not %s%s' % (shown(node.value), one_of(words), nearest(node.value, words)), node.at)
+
+    def tables(self, entry, key, most=None, required=False):
+        """The tables of an array, as entries."""
+        node = self.node_at(entry, key) if required else entry.node.get(key)
+        if node is None:
+            return []
+        if node.kind == "table":
+            double = "; its header stands in double brackets, [[%s]]" % key if not entry.name else ""
+            self.wrong(entry, key, "an array of tables is wanted, and this is a table%s" % double, node.at)
+            return []
+        if not self.has_kind(entry, key, node, "array", "an array of tables"):
+            return []
+        bad = [inner for inner in node.value if inner.kind != "table"]
+        if bad:
+            self.wrong(entry, key, "each entry has to be a table, and one is %s" % KINDS[bad[0].kind], bad[0].at)
+        if most is not None and len(node.value) > most:
+            over = node.value[most].at
+            self.out_of_range(entry, key, len(node.value), "%d entries, and at most %d may be there" % (len(node.value), most), over)
+        full = self.key_of(entry, key)
+        return [Entry(inner, "%s[%d]" % (full, k)) for k, inner in enumerate(node.value, 1) if inner.kind == "table"]
+
+    # The parts of a session.
+
+    def judge(self):
+        document = self.plan.document
+        self.display_zero(document)
+        for extra in self.tables(document, "extra_display", 3):
+            self.display(extra)
+        self.number(document, "end_us", 0, known.LATEST_US)
+        for k, device in enumerate(self.tables(document, "device", 8), 1):
+            self.device(device, k)
+        for channel in self.tables(document, "channel", 64):
+            self.channel(channel)
+        for step in self.tables(document, "step"):
+            self.step(step)
+        steps = document.node.get("step")
+        if steps is not None and steps.kind == "array" and len(steps.value) > known.MOST_STEPS:
+            message = "%d steps, and at most %d are run" % (len(steps.value), known.MOST_STEPS)
+            self.findings.error(steps.value[known.MOST_STEPS].at, "step", message, "too long: steps")
+        return self.plan
+
+    def display_zero(self, document):
+        node = self.node_at(document, "display")
+        if node is not None and self.has_kind(document, "display", node, "table", "a table"):
+            self.display(Entry(node, "display"))
+        else:
+            self.plan.displays.append(Entry(document.node, "display"))
+
+    def display(self, entry):
+        self.plan.displays.append(entry)
+        self.number(entry, "width", 1, 16384, True)
+        self.number(entry, "height", 1, 16384, True)
+        node = entry.node.get("rotation")
+        if node is not None and self.has_kind(entry, "rotation", node, "integer", "0, 90, 180 or 270"):
+            if node.value in known.ROTATIONS:
+                entry.said["rotation"] = node.value
+            else:
+                self.wrong(entry, "rotation", "%d is not 0, 90, 180 or 270" % node.value, node.at)
+
+    def display_number(self, entry):
+        count = len(self.plan.displays)
+        self.number(entry, "display", 0, count - 1, why=", as the session has %d display%s" % (count, "s" * (count > 1)))
+
+    def device(self, entry, k):
+        self.word(entry, "kind", ("touch", "keys"))
+        self.path(entry)
+        self.plan.devices.append(entry)
+        if entry.get("kind") == "touch":
+            self.display_number(entry)
+            self.number(entry, "slots", 1, 16)
+            self.axis(entry, "x")
+            self.axis(entry, "y")
+        elif entry.get("kind") == "keys":
+            node = self.text(entry, "layout", required=False)
+            if node is not None:
+                entry.said["layout"] = layout.judge(self.findings, entry.name + ".layout", k, node)
+
+    def path(self, entry):
+        node = self.text(entry, "path")
+        if node is None:
+            return
+        path = entry.said.pop("path")
+        same = [other.name for other in self.plan.devices if other.get("path") == path]
+        if not path.startswith("/"):
+            self.wrong(entry, "path", '"%s" does not begin with /' % shown(path), node.at)
+        elif " " in path or "\t" in path:
+            self.wrong(entry, "path", '"%s" has a space or a tab' % shown(path), node.at)
+        elif same:
+            self.wrong(entry, "path", "%s has this path already" % same[0], node.at)
+        else:
+            entry.said["path"] = path
+
+    def axis(self, entry, key):
+        node = self.node_at(entry, key)
+        if node is None or not self.has_kind(entry, key, node, "array", "[least, greatest]"):
+            return
+        if [inner.kind for inner in node.value] != ["integer", "integer"]:
+            self.wrong(entry, key, "two integers are wanted, [least, greatest]", node.at)
+            return
+        low, high = (inner.value for inner in node.value)
+        if low > high:
+            self.wrong(entry, key, "the least, %d, is above the greatest, %d" % (low, high), node.at)
+        elif self.are_coordinates(entry, key, node):
+            entry.said[key] = (low, high)
+
+    def are_coordinates(self, entry, key, node):
+        for inner in node.value:
+            if not known.LEAST_32 <= inner.value <= known.GREATEST_32:
+                self.out_of_range(entry, key, inner.value, "%d does not fit into 32 bits" % inner.value, inner.at)
+                return False
+        return True
+
+    def channel(self, entry):
+        node = self.text(entry, "name")
+        if node is not None:
+            self.channel_name(entry, node)
+        self.plan.channels.append(entry)
+        self.number(entry, "limit_ms", 1, 600000)
+        self.number(entry, "finish_after_us", 0, known.LONGEST_FINISH_US)
+        node = entry.node.get("finishes")
+        if node is not None and self.has_kind(entry, "finishes", node, "truth", "true or false"):
+            entry.said["finishes"] = node.value
+
+    def channel_name(self, entry, node):
+        name = entry.said.pop("name")
+        self.names.add(name)
+        same = [other.name for other in self.plan.channels if other.get("name") == name]
+        bad = next((k for k, char in enumerate(name) if not "!" <= char <= "~"), None)
+        if not name:
+            self.wrong(entry, "name", "it is empty", node.at)
+        elif bad is not None:
+            message = '"%s" has a character that is not from ! to ~, as a space is not' % shown(name)
+            self.wrong(entry, "name", message, node.place_of(bad))
+        elif len(name) > 64:
+            self.wrong(entry, "name", "%d bytes, and at most 64 may be there" % len(name), node.at)
+        elif same:
+            self.wrong(entry, "name", "%s has this name already" % same[0], node.at)
+        else:
+            entry.said["name"] = name
+
+    def channel_named(self, entry, required=True):
+        node = self.text(entry, "channel", required)
+        if node is not None and node.value not in self.names:
+            entry.said.pop("channel")
+            message = 'no channel is named "%s"%s' % (shown(node.value), nearest(node.value, self.names))
+            self.unknown(entry, "channel", message, node.at)
+
+    def step(self, entry):
+        self.plan.steps.append(entry)
+        self.number(entry, "at_us", 0, known.LATEST_US, True)
+        self.number(entry, "lane", 1, 8)
+        self.word(entry, "do", tuple(known.STEP))
+        do = entry.get("do")
+        if do == "windows":
+            entry.said["windows"] = []
+            for window in self.tables(entry, "windows", 64, True):
+                self.window(entry, window)
+        elif do == "focus":
+            self.display_number(entry)
+            self.channel_named(entry, False)
+        elif do in ("pilfer", "remove"):
+            self.channel_named(entry)
+        if do == "pilfer":
+            count = len(self.plan.devices)
+            self.number(entry, "device", 1, count, True, ", as the session has %d device%s" % (count, "s" * (count != 1)))
+
+    def window(self, step, entry):
+        self.channel_named(entry)
+        for other in step.said["windows"]:
+            if entry.get("channel") and other.get("channel") == entry.get("channel"):
+                self.wrong(entry, "channel", "%s is of this channel already" % other.name, entry.node.get("channel").at)
+        step.said["windows"].append(entry)
+        self.display_number(entry)
+        node = self.node_at(entry, "frame")
+        if node is not None:
+            entry.said["frame"] = self.rectangle(entry, "frame", node)
+        self.region(entry)
+        self.flags(entry)
+
+    def rectangle_form(self, entry, key, node):
+        """Whether a node is four integers in order."""
+        if not self.has_kind(entry, key, node, "array", "[left, top, right, bottom]"):
+            return False
+        if [inner.kind for inner in node.value] != ["integer"] * 4:
+            self.wrong(entry, key, "four integers are wanted, [left, top, right, bottom]", node.at)
+            return False
+        left, top, right, bottom = (inner.value for inner in node.value)
+        if left > right:
+            self.wrong(entry, key, "left, %d, is right of right, %d%s" % (left, right, self.extents_hint(node)), node.at)
+        elif top > bottom:
+            self.wrong(entry, key, "top, %d, is below bottom, %d%s" % (top, bottom, self.extents_hint(node)), node.at)
+        return left <= right and top <= bottom
+
+    def extents_hint(self, node):
+        left, top, right, bottom = (inner.value for inner in node.value)
+        return "; are the last two an extent? right and bottom are places" if right > 0 and bottom > 0 and left >= 0 and top >= 0 else ""
+
+    def rectangle(self, entry, key, node):
+        if self.rectangle_form(entry, key, node) and self.are_coordinates(entry, key, node):
+            return tuple(inner.value for inner in node.value)
+        return None
+
+    def region(self, entry):
+        node = entry.node.get("region")
+        if node is None or not self.has_kind(entry, "region", node, "array", "an array of rectangles"):
+            return
+        formed = [inner for inner in node.value if self.rectangle_form(entry, "region", inner)]
+        if len(node.value) > 64:
+            message = "%d rectangles, and at most 64 may be there" % len(node.value)
+            self.out_of_range(entry, "region", len(node.value), message, node.value[64].at)
+        rectangles = [tuple(i.value for i in inner.value) for inner in formed if self.are_coordinates(entry, "region", inner)]
+        if len(rectangles) == len(node.value):
+            entry.said["region"] = rectangles
+
+    def flags(self, entry):
+        node = entry.node.get("flags")
+        if node is None or not self.has_kind(entry, "flags", node, "array", "an array of texts"):
+            return
+        for inner in node.value:
+            self.has_kind(entry, "flags", inner, "text", "a text")
+        wrong = [inner for inner in node.value if inner.kind == "text" and inner.value not in known.FLAGS]
+        for inner in wrong:
+            hint = nearest(inner.value, known.FLAGS) or "; the flags are " + ", ".join(known.FLAGS)
+            self.unknown(entry, "flags", '"%s" is no flag%s' % (shown(inner.value), hint), inner.at)
+        if not wrong and all(inner.kind == "text" for inner in node.value):
+            entry.said["flags"] = {inner.value for inner in node.value}

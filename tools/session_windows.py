@@ -1,0 +1,280 @@
+"""The displays, channels and steps of a session, from what dumpsys tells."""
+import collections
+import re
+
+from session_text import channel_name, comment, numbers, table
+
+MOST_CHANNELS, MOST_DISPLAYS, MOST_RECTANGLES, MOST_PIXELS, LAST_LIMIT = 64, 4, 64, 16384, 600000
+FLAGS = ("NOT_TOUCHABLE", "SPY", "PREVENT_SPLITTING", "SLIPPERY", "WATCH_OUTSIDE_TOUCH", "NOT_FOCUSABLE")
+
+# What Android says of a window that changes what windows are told, and that a session cannot say.
+UNSAID = {
+    "NO_INPUT_CHANNEL": "no input channel, so that touches on it are dropped; the session tells its channel of them",
+    "PAUSE_DISPATCHING": "paused: it would be told nothing until it goes on",
+    "DROP_INPUT": "its input is dropped",
+    "DROP_INPUT_IF_OBSCURED": "its input is dropped where another window lies over it",
+    "DUPLICATE_TOUCH_TO_WALLPAPER": "touches on it are told to the wallpaper too",
+    "INTERCEPTS_STYLUS": "it takes pens alone",
+    "GLOBAL_STYLUS_BLOCKS_TOUCH": "pens block fingers",
+    "CLONE": "it is a clone of another window",
+}
+SCALED = "scaled or turned, so that its places are other ones"
+# What says nothing about who is told what.
+PASSED_OVER = {
+    "TRUSTED_OVERLAY", "DISABLE_USER_ACTIVITY", "IS_WALLPAPER", "NOT_VISIBLE", "NOT_TOUCH_MODAL", "NONE", "DEFAULT",
+    "SENSITIVE_FOR_PRIVACY", "SENSITIVE_FOR_TRACING",
+}
+
+
+class Shown:
+    """A window of a session: who it is through all dumps, and what the step says of it."""
+
+    def __init__(self, who, name, display, frame, region, flags, limit_ms=5000):
+        self.who, self.name, self.display, self.frame = who, name, display, frame
+        self.region, self.flags, self.limit_ms = region, flags, limit_ms
+        self.focused = False
+
+    def can_be_told(self):
+        touched = self.region and "NOT_TOUCHABLE" not in self.flags
+        return bool(touched or self.focused or "WATCH_OUTSIDE_TOUCH" in self.flags)
+
+    def line(self, channel):
+        parts = ['channel = "%s"' % channel] + (["display = %d" % self.display] if self.display else [])
+        parts.append("frame = %s" % numbers(self.frame))
+        if list(self.region) != [self.frame]:
+            parts.append("region = [%s]" % ", ".join(numbers(rectangle) for rectangle in self.region))
+        if self.flags:
+            parts.append("flags = [%s]" % ", ".join('"%s"' % flag for flag in self.flags))
+        return "    { %s }," % ", ".join(parts)
+
+
+class Causes:
+    """What a session cannot say, each cause once with the windows that have it."""
+
+    def __init__(self):
+        self.windows = collections.OrderedDict()
+
+    def add(self, cause, name):
+        names = self.windows.setdefault(cause, [])
+        if name not in names:
+            names.append(name)
+
+    def tell(self, said):
+        for cause, names in self.windows.items():
+            said("%s: %s" % (cause, ", ".join(names)))
+
+
+def shifted(window):
+    """Whether places in a window are counted from elsewhere than the corner of its frame, or in other pixels."""
+    if window.transform is None or window.frame[0] == window.frame[2]:
+        return None
+    turn, kinds = window.transform
+    if turn.strip() != "ROT_0" or "SCALE" in kinds or "ROTATE" in kinds:
+        return SCALED
+    moved = tuple(-row[2] for row in window.rows[:2]) or (0, 0)
+    if moved != tuple(map(float, window.frame[:2])):
+        return "its places are not counted from the corner of its frame"
+    return None
+
+
+def is_one(text):
+    return re.fullmatch(r"1(\.0*)?", text) is not None
+
+
+def unsaid(window):
+    """What a session cannot say of a window of a dump."""
+    for name in sorted(window.names):
+        if name == "NO_INPUT_CHANNEL" and ("NOT_TOUCHABLE" in window.names or not window.region):
+            continue
+        if name in UNSAID:
+            yield UNSAID[name]
+        elif name not in FLAGS and name not in PASSED_OVER:
+            yield "the flag %s is not known" % name
+    values = window.values
+    if not is_one(values.get("alpha", "1")):
+        yield "an alpha that is not 1"
+    passes = "NOT_TOUCHABLE" in window.names and "TRUSTED_OVERLAY" not in window.names
+    if passes and values.get("touchOcclusionMode", "ALLOW") != "ALLOW":
+        yield "Android may block touches that go through it (occlusion)"
+    if values.get("portalToDisplayId", "-1") != "-1":
+        yield "a portal to another display"
+    scales = [values.get(key, "1") for key in ("globalScale", "scale")]
+    scales += values.get("windowScale", "(1,1)").strip("()").split(",")
+    if not all(map(is_one, scales)):
+        yield SCALED
+    if shifted(window):
+        yield shifted(window)
+    if len(window.region) > MOST_RECTANGLES:
+        yield "a region of more than %d rectangles, of which the first ones are taken" % MOST_RECTANGLES
+    if not 1 <= window.limit_ms() <= LAST_LIMIT:
+        yield "a timeout that is not 1 to %d ms" % LAST_LIMIT
+
+
+def in_order(rectangle):
+    left, top, right, bottom = rectangle
+    return (left, top, max(left, right), max(top, bottom))
+
+
+def is_modal(window):
+    """Before Android 13 a window without both of these flags was given each touch on its display that reached it."""
+    return not window.is_new and not window.names & {"NOT_FOCUSABLE", "NOT_TOUCH_MODAL"}
+
+
+class Displays:
+    """The displays of a session: for each number of Android its place, extent and turn."""
+
+    def __init__(self, dumps, paths, given, said):
+        self.extents = {}
+        wanted = {0} if given or not dumps else set()
+        for dump in dumps:
+            wanted |= {window.display for window in dump.windows if window.visible()}
+            wanted |= {display for path, display in dump.device_displays.items() if path in paths}
+            wanted |= {display for display in dump.focus if display in dump.viewports}
+        order = sorted(wanted or {0})
+        for display in order[MOST_DISPLAYS:]:
+            said("display %d is left out: a session has at most %d displays" % (display, MOST_DISPLAYS))
+        self.place = {display: place for place, display in enumerate(order[:MOST_DISPLAYS])}
+        for display in self.place:
+            self.extents[display] = self.extent(display, dumps, given if display == order[0] else None, said)
+
+    def extent(self, display, dumps, given, said):
+        """The natural width and height of a display and its turn, by the first dump that tells them."""
+        if given and not any(display in dump.viewports for dump in dumps):
+            return (*given, 0)
+        told = [dump.viewports[display] for dump in dumps if display in dump.viewports]
+        if told:
+            if any(viewport != told[0] for viewport in told):
+                said("display %d turns or changes; the session has it as the first dump does" % display)
+            if not told[0].whole:
+                said("display %d is scaled or cut; the session counts in the pixels of its windows" % display)
+            return self.in_range(display, (*(given or told[0].natural()), told[0].rotation), said)
+        for dump in dumps:
+            if display in dump.sizes:
+                said("display %d: no viewport tells its turn; 0 degrees are taken" % display)
+                return self.in_range(display, (*dump.sizes[display], 0), said)
+        frames = [window.frame for dump in dumps for window in dump.windows if window.display == display]
+        width, height = (max((frame[k] for frame in frames), default=1) for k in (2, 3))
+        if dumps:
+            said("display %d: the dump tells no extent; %dx%d is taken from its windows" % (display, width, height))
+        return self.in_range(display, (width, height, 0), said)
+
+    def in_range(self, display, extent, said):
+        if all(1 <= pixels <= MOST_PIXELS for pixels in extent[:2]):
+            return extent
+        said("display %d has %d by %d pixels; a session has 1 to %d" % (display, *extent[:2], MOST_PIXELS))
+        return (*(min(max(pixels, 1), MOST_PIXELS) for pixels in extent[:2]), extent[2])
+
+    def whole(self, display):
+        """The rectangle of a display as it is turned."""
+        width, height, rotation = self.extents[display]
+        return (0, 0, height, width) if rotation in (90, 270) else (0, 0, width, height)
+
+    def tables(self):
+        lines = []
+        for display, place in self.place.items():
+            width, height, rotation = self.extents[display]
+            lines += ["", "[[extra_display]]" if place else "[display]"]
+            lines += [comment("Android's display %d" % display)] if place != display else []
+            lines += ["width = %d" % width, "height = %d" % height] + (["rotation = %d" % rotation] if rotation else [])
+        return lines
+
+
+def shown_window(window, count, displays, causes):
+    for cause in unsaid(window):
+        causes.add(cause, window.name)
+    region = [in_order(rectangle) for rectangle in window.region[:MOST_RECTANGLES]]
+    if is_modal(window):
+        region = [displays.whole(window.display)]
+    flags = [flag for flag in FLAGS if flag in window.names]
+    who = (window.name, window.id, count)
+    limit_ms = min(max(window.limit_ms(), 1), LAST_LIMIT)
+    return Shown(who, window.name, displays.place[window.display], in_order(window.frame), region, flags, limit_ms)
+
+
+def shown_windows(dump, displays, causes):
+    """The windows that a dump shows, front to back. Monitors of gestures, before Android 13, are spies before all."""
+    shown, counts = [], collections.Counter()
+    for kind, display, name in dump.monitors:
+        if kind == "Global":
+            causes.add("a global monitor, which sees all that is touched", name)
+        elif display in displays.place:
+            whole = displays.whole(display)
+            who, flags = (name, "monitor", 0), ["SPY", "NOT_FOCUSABLE"]
+            shown.append(Shown(who, name, displays.place[display], whole, [whole], flags))
+    for window in dump.windows:
+        if window.visible() and window.display in displays.place:
+            counts[window.name, window.id] += 1
+            shown.append(shown_window(window, counts[window.name, window.id], displays, causes))
+    for display, name in dump.focus.items():
+        fit = [w for w in shown if w.name == name and w.display == displays.place.get(display)]
+        fit = [w for w in fit if "NOT_FOCUSABLE" not in w.flags] or fit
+        if fit:
+            fit[0].focused = True
+        else:
+            causes.add("it has the focus of display %d and is no window that is shown" % display, name)
+    return shown
+
+
+def kept(steps, said):
+    """The windows of at most 64 channels, those first that can be told anything, then front to back."""
+    able = collections.OrderedDict()
+    for shown in steps:
+        for window in shown:
+            able[window.who] = able.get(window.who, False) or window.can_be_told()
+    order = sorted(able, key=lambda who: not able[who])
+    for who in order[MOST_CHANNELS:]:
+        said("%s is left out: a session has at most %d channels" % (who[0], MOST_CHANNELS))
+    keep = set(order[:MOST_CHANNELS])
+    return [[window for window in shown if window.who in keep] for shown in steps]
+
+
+def channels_of(steps):
+    """For each window its channel, by name, and the tables of the channels."""
+    names, taken, lines = {}, set(), []
+    for shown in steps:
+        for window in shown:
+            if window.who not in names:
+                name = names[window.who] = channel_name(window.name, taken)
+                more = [comment(window.name)] if name != window.name else []
+                more += ['name = "%s"' % name]
+                more += ["limit_ms = %d" % window.limit_ms] if window.limit_ms != 5000 else []
+                lines += table("channel", *more)
+    return names, lines
+
+
+class Focus:
+    """Who has the focus of each display, and which display was asked for last."""
+
+    def __init__(self):
+        self.of, self.last = {}, None
+
+    def steps(self, at, now, last):
+        """The steps that ask for the focus where it changed, on the display that has the keys at the end."""
+        if last is None:
+            last = self.last if self.last is not None else max(now, default=0)
+        changed = [display for display in sorted({*now, *self.of}) if now.get(display) != self.of.get(display)]
+        if changed and last in {*now, *self.of} or last != self.last and self.of:
+            changed = [display for display in changed if display != last] + [last]
+        self.of, lines = now, []
+        for display in changed:
+            self.last = display
+            more = ["display = %d" % display] if display else []
+            more += ['channel = "%s"' % now[display]] if display in now else []
+            lines += table("step", "at_us = %d" % at, 'do = "focus"', *more)
+        return lines
+
+
+def step_tables(moments, dumps, displays, said):
+    """The tables of channels and steps: for each dump its windows, and the focus where it changed."""
+    causes = Causes()
+    steps = [shown_windows(dump, displays, causes) for dump in dumps]
+    causes.tell(said)
+    steps = kept(steps, said)
+    names, lines = channels_of(steps)
+    focus = Focus()
+    for at, shown, dump in zip(moments, steps, dumps):
+        rows = ["windows = [", *(window.line(names[window.who]) for window in shown), "]"]
+        lines += table("step", "at_us = %d" % at, 'do = "windows"', *rows)
+        now = {window.display: names[window.who] for window in shown if window.focused}
+        lines += focus.steps(at, now, displays.place.get(dump.focused_display))
+    return lines
