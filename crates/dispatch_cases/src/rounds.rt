@@ -1,7 +1,7 @@
 //! How long a gesture takes.
 use crate::calls::windows;
 use dispatch_calls::{Call, Reply};
-use dispatch_core::Dispatcher;
+use dispatcher::Dispatcher;
 use input_types::{
     Args, DeviceId, Displays, Limit, Moment, Motion, MotionAction, Pixel, Pointer, PointerId,
     Pointers,

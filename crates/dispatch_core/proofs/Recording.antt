@@ -11,9 +11,9 @@ use Rattle.dispatch_history.specs.Legal.{Legal, reply}
 use Rattle.dispatch_history.specs.PointerOf.{AllRise}
 use Rattle.dispatch_history.proofs.LegalLaws.{effects_law}
 use Rattle.dispatch_history.proofs.WholeLaws.{whole_law, well_formed_law, removed_law, gone_law}
-use Rattle.dispatch_core.specs.Access.{gone}
-use Rattle.dispatch_core.specs.Dispatching.{Dispatching, StandsFor}
-use Rattle.dispatch_core.specs.Memory.{MayCount}
+use Rattle.dispatcher.specs.Access.{gone}
+use Rattle.dispatcher.specs.Dispatching.{Dispatching, StandsFor}
+use Rattle.dispatcher.specs.Memory.{MayCount}
 use Rattle.dispatch_core.specs.Recorded.{history_of, IsRecorded, IsSound, AnswersGone, HasRoom}
 
 -- the history is legal

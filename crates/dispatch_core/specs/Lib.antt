@@ -1,14 +1,2 @@
-pub mod Queueing
-pub mod Showing
-pub mod Seen
-pub mod Tables
-pub mod Dispatching
-pub mod Memory
-pub mod Needing
-pub mod Access
-pub mod Keying
-pub mod Carrying
-pub mod Naming
-pub mod Opening
 pub mod Recorded
 pub mod Machine

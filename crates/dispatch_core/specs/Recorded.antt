@@ -12,8 +12,8 @@ use Rattle.dispatch_history.specs.Effects.{effects}
 use Rattle.dispatch_history.specs.History.{History, live}
 use Rattle.dispatch_history.specs.Known.{known_state}
 use Rattle.dispatch_history.specs.Legal.{Legal}
-use Rattle.dispatch_core.specs.Access.{gone, is_opened}
-use Rattle.dispatch_core.specs.Dispatching.{Dispatching, StandsFor}
+use Rattle.dispatcher.specs.Access.{gone, is_opened}
+use Rattle.dispatcher.specs.Dispatching.{Dispatching, StandsFor}
 
 -- the displays of the devices, the entries, the newest first, and for how many more there is room
 pub record Recorded : Type 0 where

@@ -1,41 +1,26 @@
-//! The dispatcher: it routes what devices hand in to windows, and answers each call as the calls before it say.
+//! The dispatcher with its history, and as a machine that threads share.
 //!
-//! Window 1 is on the display, and a finger goes down on it. These calls are answered so, in this order:
+//! Window 1 is on the display, and a finger goes down on it. These calls of seat 0 are kept with their replies, in this
+//! order:
 //!
 //! ```text
-//! Open { limit: 5000000 }                                       Opened(1)
-//! Windows { now: 0, snapshot: [1 at [0, 0, 1080, 2400]] }       Done
-//! Notify { now: 1000, args: Motion(1 Down 0@540,1200) }         Taken
-//! Pump { now: 1000 }                                            Dispatched
-//! Receive { channel: 1 }                                        Got(1 1000 Motion(1 Down 0@540,1200))
-//! Finish { now: 2000, channel: 1, seq: 1 }                      Done
+//! 0  Open { limit: 5000000 }                                       Opened(1)
+//! 0  Windows { now: 0, snapshot: [1 at [0, 0, 1080, 2400]] }       Done
+//! 0  Notify { now: 1000, args: Motion(1 Down 0@540,1200) }         Taken
+//! 0  Pump { now: 1000 }                                            Dispatched
+//! 0  Receive { channel: 1 }                                        Got(1 1000 Motion(1 Down 0@540,1200))
+//! 0  Finish { now: 2000, channel: 1, seq: 1 }                      Done
 //! ```
 //!
-//! A [`Dispatcher`] keeps no history: it keeps the clock and the args that wait, the windows and their origins, who
-//! holds which pointers, the channels with what the window of each was told and is not told the end of, the focus,
-//! and the last key message. What it keeps stands for a history (`StandsFor` of specs/Dispatching), as a reader of a
-//! device stands for its events: each call that is answered makes it stand for the same history with that step more.
-//! The definitions of the history say what the answer is.
+//! A [`Core`] is a `Dispatcher` with the list of these entries, and lets no message go, so that its `stream` of channel
+//! 1 is the whole one. All that it answers and all that can be read of it is what the entries say (specs/Recorded): the
+//! last reply is that of the entries before it, and who made a call is read by no rule. Room for entries can be
+//! reserved, and then some calls cannot answer want of memory.
 //!
-//! Each call is carried out in the same order. First all is found that it changes, then room is made for all that
-//! windows are told, and then only calls are made that cannot fail. So want of memory changes nothing that can be
-//! seen.
+//! As a machine of the turnstile its history is the same list (specs/Machine).
 #![tactic(auto)]
 
-mod apply;
-mod carry;
-mod dispatcher;
-mod focusing;
-mod keys;
 mod machine;
-mod motions;
-mod naming;
-mod owners;
-mod queueing;
 mod record;
-mod shown;
-mod tables;
-mod unread;
 
-pub use dispatcher::Dispatcher;
 pub use record::Core;

@@ -5,13 +5,13 @@ ghost use Rattle.dispatch_history.specs.Due.{counts, first_due, namings};
 ghost use Rattle.dispatch_history.specs.History.{clock};
 ghost use Rattle.dispatch_history.specs.Legal.{Legal, reply};
 ghost use Rattle.dispatch_tables.specs.Dues.{due_pair};
-ghost use Rattle.dispatch_core.specs.Access.{next_repeat};
-ghost use Rattle.dispatch_core.specs.Memory.{IsCalm};
+ghost use Rattle.dispatcher.specs.Access.{next_repeat};
+ghost use Rattle.dispatcher.specs.Memory.{IsCalm};
 ghost use Rattle.dispatch_core.specs.Recorded.{history_of, effects_of, stream_of, with_entry, with_spare};
 ghost use Rattle.dispatch_core.specs.Recorded.{AnswersGone, IsSound, HasRoom};
 
-use crate::dispatcher::Dispatcher;
 use dispatch_calls::{Call, Counts, Entry, Naming, Reply};
+use dispatcher::Dispatcher;
 use input_types::{Displays, Message, Moment};
 use std::alloc::{AllocError, Global};
 use std::marker::Model;

@@ -5,7 +5,7 @@ use mathlib.Core.List.{reverse-cons}
 use Rattle.std.proofs.lemmas.Bool.{cases_Bool, le-leb, leb-false}
 use Rattle.std.proofs.lemmas.Grind.{flat_map-append}
 use Rattle.dispatch_calls.specs.declared.call.Entry.{Entry}
-use Rattle.dispatch_core.specs.Access.{is_opened}
+use Rattle.dispatcher.specs.Access.{is_opened}
 use Rattle.dispatch_core.specs.Recorded.{Recorded, history_of, effects_of, stream_of}
 use Rattle.dispatch_history.specs.Effect.{past_of, stream}
 use Rattle.dispatch_history.specs.History.{opened}

@@ -10,7 +10,7 @@ use Rattle.session_plan.specs.declared.plan.ChannelPlan.{ChannelPlan}
 use Rattle.session_plan.specs.View.{channel_view}
 use Rattle.stream_text.specs.Spelling.{channel_section}
 use Rattle.stream_text.specs.StreamsHistory.{sections_of, unopened}
-use Rattle.dispatch_core.specs.Access.{is_opened}
+use Rattle.dispatcher.specs.Access.{is_opened}
 use Rattle.replay_engine.proofs.Newest.{left_with_next}
 
 pub opened_at : (es : List Effect) (i : ℕ) → i < opened (past_of es) → is_opened es (i + 1) ≡ true

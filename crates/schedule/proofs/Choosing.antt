@@ -11,7 +11,7 @@ use Rattle.dispatch_history.specs.KeyTold.{repeat_due}
 use Rattle.dispatch_history.specs.Due.{Due, first_due}
 use Rattle.dispatch_history.specs.Plan.{Plan, ScriptStep}
 use Rattle.dispatch_history.specs.Ordered.{Candidate, sooner_of, soonest, all_finishes, due_tick, due_repeat, next_step, scripted}
-use Rattle.dispatch_core.specs.Access.{any_waits, is_opened, next_repeat}
+use Rattle.dispatcher.specs.Access.{any_waits, is_opened, next_repeat}
 use Rattle.dispatch_tables.specs.Lawful.{Lawful}
 use Rattle.schedule.specs.declared.plan.Channel.{Channel}
 use Rattle.schedule.specs.Planned.{channel_of}

@@ -10,8 +10,8 @@ use Rattle.dispatch_history.specs.Due.{counts}
 use Rattle.dispatch_history.specs.Plan.{Plan}
 use Rattle.dispatch_tables.specs.Lawful.{Lawful}
 use Rattle.dispatch_tables.proofs.Ables.{live_number}
-use Rattle.dispatch_core.specs.Access.{is_opened}
-use Rattle.dispatch_core.specs.Dispatching.{Dispatching, StandsFor}
+use Rattle.dispatcher.specs.Access.{is_opened}
+use Rattle.dispatcher.specs.Dispatching.{Dispatching, StandsFor}
 use Rattle.schedule.specs.declared.keeping.Lines.{Lines}
 use Rattle.schedule.specs.Receives.{receives_of}
 use Rattle.schedule.specs.State.{ScheduleState, HasWith}

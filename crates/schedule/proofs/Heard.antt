@@ -18,7 +18,7 @@ use Rattle.dispatch_tables.specs.Channel.{Receives, part_of}
 use Rattle.dispatch_tables.proofs.Lawfuls.{lawful_last}
 use Rattle.dispatch_tables.proofs.Channels.{sound, stepped}
 use Rattle.dispatch_tables.proofs.Numbering.{messages_from, reverse_told}
-use Rattle.dispatch_core.specs.Access.{got}
+use Rattle.dispatcher.specs.Access.{got}
 use Rattle.schedule.specs.Hearing.{Hears}
 use Rattle.schedule.specs.Lines.{lines_received}
 use Rattle.schedule.proofs.Behind.{got_next, others}

@@ -5,7 +5,7 @@ use Rattle.dispatch_calls.specs.declared.reply.Reply.{Reply}
 use Rattle.dispatch_history.specs.Effect.{Effect}
 use Rattle.dispatch_history.specs.Effects.{step}
 use Rattle.dispatch_history.specs.Ordered.{extend}
-use Rattle.dispatch_core.specs.Dispatching.{Dispatching, StandsFor}
+use Rattle.dispatcher.specs.Dispatching.{Dispatching, StandsFor}
 use Rattle.dispatch_tables.specs.Lawful.{Lawful}
 use Rattle.dispatch_tables.proofs.Lawfuls.{lawful_last}
 use Rattle.schedule.specs.More.{ComesTo}

@@ -1,7 +1,7 @@
 -- What of a section stands in a text, where memory ran out.
 use Rattle.std.proofs.Common.{◌≡◌, ℕ, ◌≤◌, true, List, ◌++◌, length, take, sym, ap, ◌∙◌, append_assoc, arith}
 use Rattle.std.proofs.Math.Seq.{take-append_seam}
-use Rattle.dispatch_core.specs.Access.{is_opened}
+use Rattle.dispatcher.specs.Access.{is_opened}
 use Rattle.dispatch_history.specs.Effect.{Effect}
 use Rattle.dispatch_history.specs.Plan.{Plan}
 use Rattle.schedule.specs.Lines.{lines_at, lines_received}

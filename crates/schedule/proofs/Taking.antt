@@ -8,7 +8,7 @@ use Rattle.dispatch_history.specs.Effect.{Effect, past_of, stream}
 use Rattle.dispatch_history.specs.Effects.{channels}
 use Rattle.dispatch_history.specs.Plan.{Plan}
 use Rattle.dispatch_history.specs.Ordered.{extend, received_all}
-use Rattle.dispatch_core.specs.Access.{is_opened}
+use Rattle.dispatcher.specs.Access.{is_opened}
 use Rattle.schedule.specs.declared.keeping.Lines.{Lines}
 use Rattle.schedule.specs.Receives.{receives_of, receives_to}
 use Rattle.schedule.specs.State.{ScheduleState, HasWith, counted}

@@ -3,7 +3,7 @@ use Rattle.std.specs.Prelude.{List}
 use Rattle.dispatch_calls.specs.declared.call.Call.{Call}
 use Rattle.dispatch_history.specs.Effect.{Effect}
 use Rattle.dispatch_history.specs.Ordered.{extend}
-use Rattle.dispatch_core.specs.Dispatching.{Dispatching, StandsFor}
+use Rattle.dispatcher.specs.Dispatching.{Dispatching, StandsFor}
 
 -- It stands for these effects with those of some calls more: nothing that was done is lost.
 pub record ComesTo (es : List Effect) (d : Dispatching) : Type 0 where

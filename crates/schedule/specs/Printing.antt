@@ -4,7 +4,7 @@ use Rattle.dispatch_history.specs.Effect.{Effect}
 use Rattle.dispatch_history.specs.Plan.{Plan}
 use Rattle.dispatch_calls.specs.declared.counts.Counts.{Counts}
 use Rattle.stream_text.specs.Spelling.{end_line}
-use Rattle.dispatch_core.specs.Dispatching.{StandsFor}
+use Rattle.dispatcher.specs.Dispatching.{StandsFor}
 use Rattle.schedule.specs.Lines.{lines_at, lines_received}
 use Rattle.schedule.specs.State.{ScheduleState}
 

@@ -5,7 +5,7 @@ use Rattle.dispatch_history.specs.Effect.{Effect, past_of}
 use Rattle.dispatch_history.specs.Delivery.{published, delivery}
 use Rattle.dispatch_history.specs.Plan.{Plan, Cooked}
 use Rattle.dispatch_history.specs.Ordered.{Rounds, Ordered, received_at, scripted, notified}
-use Rattle.dispatch_core.specs.Dispatching.{Dispatching, StandsFor}
+use Rattle.dispatcher.specs.Dispatching.{Dispatching, StandsFor}
 use Rattle.schedule.specs.declared.keeping.Lines.{Lines}
 use Rattle.schedule.specs.declared.keeping.Lines.TheVariants.{Kept}
 use Rattle.schedule.specs.Lines.{Heard, texts}

@@ -6,8 +6,8 @@ ghost use Rattle.dispatch_history.specs.Due.{first_due};
 ghost use Rattle.dispatch_history.specs.History.{moment_of, opened};
 ghost use Rattle.dispatch_history.specs.Ordered.{soonest};
 ghost use Rattle.dispatch_history.specs.Plan.{Plan as PlanView};
-ghost use Rattle.dispatch_core.specs.Access.{is_opened, next_repeat};
-ghost use Rattle.dispatch_core.specs.Dispatching.{StandsFor};
+ghost use Rattle.dispatcher.specs.Access.{is_opened, next_repeat};
+ghost use Rattle.dispatcher.specs.Dispatching.{StandsFor};
 ghost use Rattle.schedule.specs.Choosing.{first_step, dues_of, is_before, next_finishes, tick_of, repeat_at};
 ghost use Rattle.schedule.specs.DueView.{candidate_of};
 ghost use Rattle.schedule.specs.Next.{next_finish};
@@ -17,7 +17,7 @@ ghost use Rattle.schedule.specs.State.{Caught};
 use crate::due::{Due, What, sooner};
 use crate::plan::{Channel, Step};
 use dispatch_calls::Call;
-use dispatch_core::Dispatcher;
+use dispatcher::Dispatcher;
 use input_types::Moment;
 
 /// The moment that a call hands in.

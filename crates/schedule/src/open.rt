@@ -14,7 +14,7 @@ use crate::plan::Plan;
 use crate::schedule::Schedule;
 use crate::stream::empty_streams;
 use dispatch_calls::Call;
-use dispatch_core::Dispatcher;
+use dispatcher::Dispatcher;
 use input_types::{Limit, Moment};
 use std::alloc::{AllocError, Global};
 

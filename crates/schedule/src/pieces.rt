@@ -1,8 +1,8 @@
 //! The streams text of a run in pieces: the lines of what was received are moved out of the run, and not copied.
 ghost use Rattle.std.specs.Prelude.{◌≡◌, ◌≢◌, ◌≤◌, ◌+◌, ◌++◌, ℕ, true, List, drop, IfOk, OnErr, OnOk, reverse, length};
 ghost use Rattle.std.specs.Option.{unwrap_or};
-ghost use Rattle.dispatch_core.specs.Access.{gone, is_opened};
-ghost use Rattle.dispatch_core.specs.Dispatching.{StandsFor};
+ghost use Rattle.dispatcher.specs.Access.{gone, is_opened};
+ghost use Rattle.dispatcher.specs.Dispatching.{StandsFor};
 ghost use Rattle.dispatch_history.specs.Due.{counts};
 ghost use Rattle.dispatch_history.specs.Effect.{Effect, stream};
 ghost use Rattle.dispatch_history.specs.Plan.{Plan as PlanView};
@@ -16,7 +16,7 @@ ghost use Rattle.stream_text.specs.StreamsHistory.{unopened};
 use crate::schedule::Schedule;
 use crate::stream::Stream;
 use crate::text::{add_left, counts_of};
-use dispatch_core::Dispatcher;
+use dispatcher::Dispatcher;
 use std::alloc::{AllocError, Global};
 use stream_text::{channel_line_text, end_line_text};
 use text_pieces::Pieces;

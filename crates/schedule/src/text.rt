@@ -1,8 +1,8 @@
 //! The streams text of a run.
 ghost use Rattle.std.specs.Prelude.{◌≡◌, ◌++◌, ℕ, true, List, OnOk, OnErr, drop, reverse, length, take};
 ghost use Rattle.std.specs.Option.{unwrap_or};
-ghost use Rattle.dispatch_core.specs.Access.{gone, is_opened};
-ghost use Rattle.dispatch_core.specs.Dispatching.{StandsFor};
+ghost use Rattle.dispatcher.specs.Access.{gone, is_opened};
+ghost use Rattle.dispatcher.specs.Dispatching.{StandsFor};
 ghost use Rattle.dispatch_history.specs.Due.{counts, namings};
 ghost use Rattle.dispatch_history.specs.Effect.{Effect, stream};
 ghost use Rattle.dispatch_history.specs.Plan.{Plan as PlanView};
@@ -13,7 +13,7 @@ ghost use Rattle.stream_text.specs.StreamsHistory.{naming_lines, unopened};
 
 use crate::schedule::Schedule;
 use dispatch_calls::{Counts, Naming};
-use dispatch_core::Dispatcher;
+use dispatcher::Dispatcher;
 use input_types::Message;
 use std::alloc::AllocError;
 use stream_text::{message_text, naming_text};

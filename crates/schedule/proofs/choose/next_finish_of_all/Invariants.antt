@@ -2,7 +2,7 @@ use Rattle.std.proofs.Common.{◌≡◌, ◌+◌, List, length, map, drop, None}
 use Rattle.std.specs.Prelude.{option_map}
 use Rattle.dispatch_history.specs.History.{opened}
 use Rattle.dispatch_history.specs.Effect.{Effect, past_of}
-use Rattle.dispatch_core.specs.Dispatching.{StandsFor}
+use Rattle.dispatcher.specs.Dispatching.{StandsFor}
 use Rattle.schedule.specs.Choosing.{next_finishes}
 use Rattle.schedule.specs.DueView.{candidate_of}
 use Rattle.schedule.specs.Planned.{channel_of}

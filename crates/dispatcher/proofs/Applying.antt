@@ -1,0 +1,80 @@
+-- A dispatcher after a call.
+use Rattle.std.proofs.Common.{◌≡◌, List, Result, Ok, Err, IfOk, OnOk, OnErr, sym, subst}
+use Rattle.dispatch_calls.specs.declared.call.Call.{Call}
+use Rattle.dispatch_calls.specs.declared.reply.Reply.{Reply}
+use Rattle.dispatch_channels.specs.Table.{but_for_room}
+use Rattle.dispatch_history.specs.Effect.{Effect}
+use Rattle.dispatch_history.specs.Effects.{step}
+use Rattle.dispatcher.specs.declared.tables.Tables.{Tables}
+use Rattle.dispatcher.specs.Dispatching.{Dispatching, IsOfHistory}
+use Rattle.dispatcher.specs.Dispatching.{StandsFor as Stands}
+use Rattle.dispatcher.specs.Tables.{StandsFor, GoesOn, GoesOnSomehow, SameAll}
+use Rattle.dispatcher.proofs.Rooms.{stands_raw, stands_bare}
+
+-- what contracts see of the tables
+abbrev pub seen : Tables → Dispatching
+seen t =
+    record {
+      displays = t.routing.displays;
+      queue = t.queueing;
+      shown = t.routing.shown;
+      touches = t.routing.touches;
+      channels = but_for_room t.routing.channels;
+      focus = t.routing.focus;
+      repeat = t.routing.repeat;
+    }
+
+pub raw : (es : List Effect) (t : Tables) → Stands es (seen t) → StandsFor es t
+raw es t s =
+    stands_raw t.routing.displays es t.queueing t.routing.shown t.routing.touches t.routing.channels t.routing.focus t.routing.repeat s
+
+pub bare : (es : List Effect) (t : Tables) → StandsFor es t → Stands es (seen t)
+bare es t s =
+    stands_bare t.routing.displays es t.queueing t.routing.shown t.routing.touches t.routing.channels t.routing.focus t.routing.repeat s
+
+seen_same : (old new : Tables) → SameAll old new → seen new ≡ seen old
+seen_same old new h =
+    λ i.
+    record {
+      displays = (h.routing_is i).displays;
+      queue = h.queueing_is i;
+      shown = (h.routing_is i).shown;
+      touches = (h.routing_is i).touches;
+      channels = (h.routing_is i).channels;
+      focus = (h.routing_is i).focus;
+      repeat = (h.routing_is i).repeat;
+    }
+
+-- with some answer, where there is one
+pub somehow : {E : Type 0} (call : Call) (r : Result Reply E) (old new : Tables)
+    → IfOk r (λ answer. GoesOn call answer old new) → OnOk r (GoesOnSomehow call old new)
+somehow call (Ok answer) old new ok = (answer, ok)
+somehow call (Err e) old new ok = ok
+
+-- it stands for some history
+pub history_after : {A E : Type 0} (call : Call) (r : Result A E) (old new : Tables)
+    → OnOk r (GoesOnSomehow call old new) → OnErr r (SameAll old new) → IsOfHistory (seen old) → IsOfHistory (seen new)
+history_after call (Ok a) old new ok err h =
+    (step old.routing.displays call ok.0 h.0, bare (step old.routing.displays call ok.0 h.0) new (ok.1.after h.0 (raw h.0 old h.1)))
+history_after call (Err e) old new ok err h = subst IsOfHistory (sym (seen_same old new err)) h
+
+-- whatever it stood for, it stands for that with one step more
+stands_then : (call : Call) (answer : Reply) (old new : Tables) (now : Dispatching) → seen old ≡ now → GoesOn call answer old new
+    → (es : List Effect) → Stands es now → Stands (step now.displays call answer es) (seen new)
+stands_then call answer old new now is goes es s =
+    subst (λ d. Stands (step d.displays call answer es) (seen new)) is
+    (bare (step old.routing.displays call answer es) new (goes.after es (raw es old (subst (Stands es) (sym is) s))))
+
+-- the same of a result
+pub stands_after : {E : Type 0} (call : Call) (r : Result Reply E) (old new : Tables) (now : Dispatching) → seen old ≡ now
+    → IfOk r (λ answer. GoesOn call answer old new) → (es : List Effect) → Stands es now
+    → IfOk r (λ answer. Stands (step now.displays call answer es) (seen new))
+stands_after call (Err e) old new now is ok es s = tt
+stands_after call (Ok answer) old new now is ok es s = stands_then call answer old new now is ok es s
+
+-- the same where the answer is not read
+pub stands_somehow : {A E : Type 0} (call : Call) (r : Result A E) (old new : Tables) (now : Dispatching) → seen old ≡ now
+    → OnOk r (GoesOnSomehow call old new) → (es : List Effect) → Stands es now
+    → OnOk r ((answer : Reply) × Stands (step now.displays call answer es) (seen new))
+stands_somehow call (Err e) old new now is ok es s = tt
+stands_somehow call (Ok a) old new now is ok es s = (ok.0, stands_then call ok.0 old new now is ok.1 es s)

@@ -1,0 +1,43 @@
+-- What can be read of a dispatcher is what the history says.
+use Rattle.std.proofs.Common.{◌≡◌, ℕ, refl, not, if◌then◌else◌, Bool, true, false, List, [], ◌∷◌, slice_get, is_some, Option, Some, None, sym, ap, ◌∙◌, option_copied}
+use denote.Ref.{Bor}
+use Rattle.window_snapshot.specs.Mask.{mask_has}
+use Rattle.dispatch_calls.specs.declared.call.Call.TheVariants.{Receive}
+use Rattle.dispatch_calls.specs.declared.reply.Reply.TheVariants.{Gone}
+use Rattle.input_types.specs.declared.message.Args.{Args}
+use Rattle.input_types.specs.declared.message.Message.{Message}
+use Rattle.input_channel.specs.State.{next_of}
+use Rattle.dispatch_history.specs.Effect.{Effect}
+use Rattle.dispatch_history.specs.Reply.{reply_to, got_reply}
+use Rattle.dispatcher.specs.Knows.{Kept, StandsFor}
+use Rattle.dispatcher.proofs.Replies.{reply_law}
+use Rattle.dispatcher.specs.Access.{got, any_waits}
+
+-- one that is lent is one
+pub some_copied : {T : Type 0} (o : Option (Bor T)) → is_some o ≡ is_some (option_copied o)
+some_copied None = refl
+some_copied (Some a) = refl
+
+-- whether args wait
+pub waits : (ws : List Args) (first : Option Args) (b : Bool) → first ≡ slice_get ws 0 → b ≡ is_some first → b ≡ any_waits ws
+waits [] first b e h = h ∙ ap is_some e
+waits (w ∷ ws) first b e h = h ∙ ap is_some e
+
+-- what the owner of a channel is handed next
+got_is : (m : Option Message) → got (got_reply m) ≡ m
+got_is None = refl
+got_is (Some m) = refl
+
+pub next_live : (ds : List ℕ) (es : List Effect) (k : Kept) (c : ℕ) (m : Option Message) → StandsFor ds es k
+    → mask_has k.delivery.live c ≡ true → m ≡ next_of (k.delivery.channel c) → m ≡ got (reply_to es (Receive c))
+next_live ds es k c m s lives e =
+    let r : reply_to es (Receive c) ≡ got_reply (next_of (k.delivery.channel c)) =
+    reply_law ds es k (Receive c) s tt ∙ ap (λ b. if not b then Gone else got_reply (next_of (k.delivery.channel c))) lives in
+    e ∙ sym (got_is (next_of (k.delivery.channel c))) ∙ sym (ap got r)
+
+pub next_gone : (ds : List ℕ) (es : List Effect) (k : Kept) (c : ℕ) → StandsFor ds es k
+    → mask_has k.delivery.live c ≡ false → None ≡ got (reply_to es (Receive c))
+next_gone ds es k c s lives =
+    let r : reply_to es (Receive c) ≡ Gone =
+    reply_law ds es k (Receive c) s tt ∙ ap (λ b. if not b then Gone else got_reply (next_of (k.delivery.channel c))) lives in
+    sym (ap got r)

@@ -1,0 +1,24 @@
+-- What a round leaves of the messages that were let go.
+use Rattle.std.proofs.Common.{◌≡◌, ℕ, List, [], ◌∷◌, map, refl, ap, ◌∙◌, inl, inr}
+use Rattle.std.proofs.lemmas.Bool.{cases_Bool}
+use Rattle.input_types.specs.declared.message.Body.{Body}
+use Rattle.window_snapshot.specs.Mask.{mask_has}
+use Rattle.input_channel.specs.State.{ChannelState, enqueued}
+use Rattle.dispatch_tables.specs.Channel.{enqueued_all}
+use Rattle.dispatch_channels.specs.Heard.{body_from}
+use Rattle.dispatch_channels.specs.Table.{channel_of}
+use Rattle.dispatch_round.specs.Told.{origin_at}
+use Rattle.dispatcher.specs.RoundLaws.{GoneLaw}
+
+enqueued_gone : (bs : List Body) (now : ℕ) (s : ChannelState) → (enqueued_all bs now s).gone ≡ s.gone
+enqueued_gone [] now s = refl
+enqueued_gone (b ∷ bs) now s = enqueued_gone bs now (enqueued b now s)
+
+pub gone_law : GoneLaw
+gone_law changed told origins now p u tells c from =
+    elim (cases_Bool (mask_has changed c)) [
+      | inl y ↦
+          ap (λ s. s.gone) (tells.changes c y)
+          ∙ enqueued_gone (map (body_from (origin_at origins c)) (told c)) now (channel_of p c)
+      | inr n ↦ ap (λ s. s.gone) (tells.stays c from n).0
+    ]

@@ -1,0 +1,116 @@
+-- What a step tells a window, tracked body by body.
+use Rattle.std.proofs.Common.{◌≡◌, ◌≤◌, ℕ, zero, suc, ◌==◌, Bool, true, false, cond, List, [], ◌∷◌, ◌++◌, map, flat_map, refl, sym, ap, ◌∙◌, subst, inl, inr, arith}
+use Rattle.std.specs.List.{list_any}
+use Rattle.std.proofs.lemmas.Bool.{cases_Bool, both_ways, true≢false, or_cases, or_parts, eqb-true, eq-eqb}
+use Rattle.input_types.specs.declared.key.KeyMsg.{KeyMsg}
+use Rattle.input_types.specs.declared.message.Body.{Body}
+use Rattle.input_types.specs.declared.message.Body.TheVariants.{Motion as MotionBody, Key}
+use Rattle.input_types.specs.declared.motion.Motion.{Motion}
+use Rattle.input_types.specs.declared.pointer.Pointer.{Pointer}
+use Rattle.cancel_synthesis.specs.Tracked.{pointers_of, pointers_then, pointers_after}
+use Rattle.cancel_synthesis.specs.Laws.{pointers_told}
+use Rattle.routing_rules.specs.Given.{mark}
+use Rattle.routing_rules.specs.Told.{told, devices}
+use Rattle.dispatch_history.specs.Effect.{past_of}
+use Rattle.dispatch_history.specs.Effects.{step}
+use Rattle.dispatch_history.specs.Focus.{has_focus, focus_told}
+use Rattle.dispatch_history.specs.Step.{scene}
+use Rattle.dispatch_history.proofs.ToldMotions.{AllOf, told_of, Differ, devices_differ}
+use Rattle.key_tables.specs.Held.{key_messages}
+use Rattle.key_tables.proofs.Tracking.{bodies_tracked_law}
+use Rattle.dispatcher.specs.Pointing.{step_at}
+use Rattle.dispatch_round.specs.Bodies.{pointers_tracked}
+use Rattle.dispatcher.specs.Tracking.{motions_at}
+use Rattle.dispatcher.specs.Laws.{TracksAllLaw}
+
+tracked_append : (xs ys : List Body) (d : ℕ) (ps : List Pointer) → pointers_tracked (xs ++ ys) d ps ≡ pointers_tracked ys d (pointers_tracked xs d ps)
+tracked_append [] ys d ps = refl
+tracked_append (b ∷ xs) ys d ps = tracked_append xs ys d (pointers_then b d ps)
+
+map_append : (xs ys : List Motion) → map MotionBody (xs ++ ys) ≡ map MotionBody xs ++ map MotionBody ys
+map_append [] ys = refl
+map_append (x ∷ xs) ys = ap (λ bs. MotionBody x ∷ bs) (map_append xs ys)
+
+-- motions of another device leave the pointers
+others : (d e : ℕ) (ms : List Motion) (ps : List Pointer) → (e == d) ≡ false → AllOf e ms → pointers_tracked (map MotionBody ms) d ps ≡ ps
+others d e [] ps n all = refl
+others d e (m ∷ ms) ps n all =
+    ap (λ b. pointers_tracked (map MotionBody ms) d (cond b (pointers_after m m.action ps) ps)) (ap (λ v. v == d) all.0 ∙ n)
+    ∙ others d e ms ps n all.1
+
+-- motions of the device are told to it
+own : (d : ℕ) (ms : List Motion) (ps : List Pointer) → AllOf d ms → pointers_tracked (map MotionBody ms) d ps ≡ pointers_told ms ps
+own d [] ps all = refl
+own d (m ∷ ms) ps all =
+    ap (λ b. pointers_tracked (map MotionBody ms) d (cond b (pointers_after m m.action ps) ps)) (eq-eqb m.device d all.0)
+    ∙ own d ms (pointers_after m m.action ps) all.1
+
+keys_leave : (ks : List KeyMsg) (d : ℕ) (ps : List Pointer) → pointers_tracked (map Key ks) d ps ≡ ps
+keys_leave [] d ps = refl
+keys_leave (k ∷ ks) d ps = keys_leave ks d ps
+
+focus_leaves : (a b : Bool) (d : ℕ) (ps : List Pointer) → pointers_tracked (focus_told a b) d ps ≡ ps
+focus_leaves true true d ps = refl
+focus_leaves true false d ps = refl
+focus_leaves false true d ps = refl
+focus_leaves false false d ps = refl
+
+none_of_devices : (f : ℕ → List Motion) (d : ℕ) (ds : List ℕ) (ps : List Pointer) → ((e : ℕ) → AllOf e (f e)) → list_any (λ e. e == d) ds ≡ false
+    → pointers_tracked (map MotionBody (flat_map f ds)) d ps ≡ ps
+none_of_devices f d [] ps all n = refl
+none_of_devices f d (e ∷ ds) ps all n =
+    let p = or_parts (e == d) (list_any (λ x. x == d) ds) n in
+    ap (λ bs. pointers_tracked bs d ps) (map_append (f e) (flat_map f ds))
+    ∙ tracked_append (map MotionBody (f e)) (map MotionBody (flat_map f ds)) d ps
+    ∙ ap (pointers_tracked (map MotionBody (flat_map f ds)) d) (others d e (f e) ps p.0 (all e))
+    ∙ none_of_devices f d ds ps all p.1
+
+one_of_devices : (f : ℕ → List Motion) (d : ℕ) (ds : List ℕ) (ps : List Pointer) → ((e : ℕ) → AllOf e (f e)) → Differ ds → list_any (λ e. e == d) ds ≡ true
+    → pointers_tracked (map MotionBody (flat_map f ds)) d ps ≡ pointers_told (f d) ps
+one_of_devices f d [] ps all differ h = absurd (true≢false (sym h))
+one_of_devices f d (e ∷ ds) ps all differ h =
+    ap (λ bs. pointers_tracked bs d ps) (map_append (f e) (flat_map f ds))
+    ∙ tracked_append (map MotionBody (f e)) (map MotionBody (flat_map f ds)) d ps
+    ∙ elim (cases_Bool (e == d)) [
+      | inl y ↦
+          let q : e ≡ d = eqb-true e d y in
+          ap (pointers_tracked (map MotionBody (flat_map f ds)) d)
+          (subst (λ v. pointers_tracked (map MotionBody (f v)) d ps ≡ pointers_told (f d) ps) (sym q) (own d (f d) ps (all d)))
+          ∙ none_of_devices f d ds (pointers_told (f d) ps) all (subst (λ v. list_any (λ x. x == v) ds ≡ false) q differ.0)
+      | inr n ↦
+          ap (pointers_tracked (map MotionBody (flat_map f ds)) d) (others d e (f e) ps n (all e))
+          ∙ one_of_devices f d ds ps all differ.1
+          (elim (or_cases (e == d) (list_any (λ x. x == d) ds) h) [ inl y ↦ absurd (both_ways (e == d) n y) | inr k ↦ k ])
+    ]
+
+-- the numbers from 1 to 8 are devices
+pub is_listed_device : (d : ℕ) → 1 ≤ d → d ≤ 8 → list_any (λ e. e == d) devices ≡ true
+is_listed_device zero low high = absurd (omega (arith, low))
+is_listed_device (suc zero) low high = refl
+is_listed_device (suc (suc zero)) low high = refl
+is_listed_device (suc (suc (suc zero))) low high = refl
+is_listed_device (suc (suc (suc (suc zero)))) low high = refl
+is_listed_device (suc (suc (suc (suc (suc zero))))) low high = refl
+is_listed_device (suc (suc (suc (suc (suc (suc zero)))))) low high = refl
+is_listed_device (suc (suc (suc (suc (suc (suc (suc zero))))))) low high = refl
+is_listed_device (suc (suc (suc (suc (suc (suc (suc (suc zero)))))))) low high = refl
+is_listed_device (suc (suc (suc (suc (suc (suc (suc (suc (suc n))))))))) low high = absurd (omega (arith, high))
+
+pub tracks_all : TracksAllLaw
+tracks_all ds call answer es w old new t =
+    let ms = motions_at ds call answer es w in
+    let ks = key_messages call answer es w in
+    let a = has_focus (past_of es) w in
+    let b = has_focus (past_of (step ds call answer es)) w in
+    let s = scene ds es in
+    let e = step_at call answer es in
+    record {
+      pointers_are = λ d low high.
+          t.pointers_are d
+          ∙ tracked_append (map MotionBody ms ++ map Key ks) (focus_told a b) d (pointers_of old d)
+          ∙ focus_leaves a b d (pointers_tracked (map MotionBody ms ++ map Key ks) d (pointers_of old d))
+          ∙ tracked_append (map MotionBody ms) (map Key ks) d (pointers_of old d)
+          ∙ keys_leave ks d (pointers_tracked (map MotionBody ms) d (pointers_of old d))
+          ∙ one_of_devices (told s e w) d devices (pointers_of old d) (λ v. told_of s e (mark s e) w v) devices_differ (is_listed_device d low high);
+      keys_are = t.keys_are ∙ bodies_tracked_law ms ks a b old.keys;
+    }

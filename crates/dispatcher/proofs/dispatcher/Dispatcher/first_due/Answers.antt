@@ -1,0 +1,17 @@
+use Rattle.std.proofs.Common.{refl, sym, subst}
+use Rattle.dispatcher.specs.Dispatching.{StandsFor}
+use Rattle.dispatcher.proofs.ReadLaws.{reads_channels}
+use Rattle.dispatcher.proofs.Rooms.{stands_raw}
+use Rattle.dispatcher.proofs.dispatcher.Dispatcher.first_due.Goals as goal
+
+pub returns : goal.returns
+returns c =
+    λ es s.
+    let r = c.self.inside.tables.routing in
+    sym
+    ((reads_channels r.displays es _ r.channels
+    (stands_raw r.displays es c.self.inside.tables.queueing r.shown r.touches r.channels r.focus r.repeat
+    (subst (StandsFor es) (sym c.self.view_is) s))
+    refl).first_is
+    c.first_due.result
+    c.first_due.ensures)

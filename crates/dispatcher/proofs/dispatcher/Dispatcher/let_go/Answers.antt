@@ -1,0 +1,40 @@
+use Rattle.std.proofs.Common.{sym, ap, ◌∙◌, subst, arith}
+use Rattle.dispatcher.specs.Access.{gone}
+use Rattle.dispatcher.specs.Dispatching.{StandsFor}
+use Rattle.dispatcher.proofs.Applying.{raw, bare}
+use Rattle.dispatcher.proofs.LettingGo.{let_go_stands, all_gone, others_gone}
+use Rattle.dispatcher.proofs.dispatcher.Dispatcher.let_go.Goals as goal
+
+pub invariant_of-self : goal.invariant_of-self
+invariant_of-self c =
+    let s = c.self.invariant in (
+      s.0,
+      bare s.0 _
+          (let_go_stands s.0 c.self.inside.tables c.let_go.new.self c.args.channel (raw s.0 c.self.inside.tables s.1)
+          (omega (arith, c.if-channel-gt0.true))
+          (omega (arith, c.if-channel-opened.true, c.opened.ensures.value))
+          c.let_go.ensures),
+    )
+
+pub returns-then-channel-opened-clause-stays : goal.returns-then-channel-opened-clause-stays
+returns-then-channel-opened-clause-stays c =
+    λ es s.
+    bare es _
+    (let_go_stands es c.self.inside.tables c.let_go.new.self c.args.channel (raw es c.self.inside.tables (subst (StandsFor es) (sym c.self.view_is) s))
+    (omega (arith, c.if-channel-gt0.true))
+    (omega (arith, c.if-channel-opened.true, c.opened.ensures.value))
+    c.let_go.ensures)
+
+pub returns-then-channel-opened-clause-gone : goal.returns-then-channel-opened-clause-gone
+returns-then-channel-opened-clause-gone c =
+    λ es s _.
+    all_gone es c.self.inside.tables c.let_go.new.self c.args.channel (raw es c.self.inside.tables (subst (StandsFor es) (sym c.self.view_is) s))
+    (omega (arith, c.if-channel-gt0.true))
+    (omega (arith, c.if-channel-opened.true, c.opened.ensures.value))
+    c.let_go.ensures
+
+pub returns-then-channel-opened-clause-others : goal.returns-then-channel-opened-clause-others
+returns-then-channel-opened-clause-others c =
+    λ k from other.
+    others_gone c.self.inside.tables.routing.channels c.let_go.new.self c.args.channel k c.let_go.ensures (omega (arith, c.if-channel-gt0.true)) from other
+    ∙ ap (λ d. gone d k) c.self.view_is

@@ -1,0 +1,29 @@
+use Rattle.std.proofs.Common.{refl, ap, ◌∙◌, unwrap_or}
+use Rattle.dispatcher.proofs.Oks.{on_ok}
+use Rattle.dispatcher.proofs.Motioning.{motion_told}
+use Rattle.dispatcher.proofs.motions.route_motion.Goals as goal
+
+pub returns-clause-ok : goal.returns-clause-ok
+returns-clause-ok c =
+    let old = c.args.routing.now in
+    on_ok _ _ c.tell.result c.tell.ensures.ok
+    (λ from.
+    motion_told old c.tell.new.routing c.args.place c.args.clock c.args.motion.now _ c.mark.result c.live.result c.on.result c.able-able.result
+    c.windows-windows.result.now
+    c.of.result
+    (record {
+      mark_is = refl;
+      motion_is = refl;
+      target_is = c.unwrap_or.ensures ∙ ap (λ o. unwrap_or o 0) c.target.ensures;
+      keys_are = refl;
+      lost_is = refl;
+      gained_is = refl;
+    })
+    from
+    c.windows-windows.ensures
+    c.live.ensures.value
+    c.able-able.ensures.value
+    c.of.ensures
+    c.on.ensures
+    c.mark.ensures.mark
+    c.watchers.ensures)

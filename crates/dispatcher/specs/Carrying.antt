@@ -1,0 +1,81 @@
+-- What carrying out a step makes of the tables.
+use Rattle.std.specs.Prelude.{◌≡◌, ◌≤◌, ℕ, false, List, [], Option, None}
+use Rattle.std.specs.Option.{option_copied}
+use Rattle.input_types.specs.declared.axis.Pixel.{Pixel}
+use Rattle.input_types.specs.declared.key.KeyMsg.{KeyMsg}
+use Rattle.input_types.specs.declared.motion.Motion.{Motion}
+use Rattle.window_snapshot.specs.Mask.{mask_has}
+use Rattle.focus_resolver.specs.declared.resolver.Change.{Change}
+use Rattle.routing_rules.specs.Scene.{Scene, Step}
+use Rattle.routing_rules.specs.Taking.{takes, pilfers}
+use Rattle.touch_state.specs.Touches.{Touches}
+use Rattle.route_split.specs.declared.mark.Mark.{Mark}
+use Rattle.route_split.specs.declared.mark.Mark.TheVariants.{Rests}
+use Rattle.route_split.specs.Tables.{ChangesAll}
+use Rattle.route_split.specs.Marking.{gives, taking}
+use Rattle.key_tables.specs.Repeats.{repeat_after}
+use Rattle.dispatch_channels.specs.Table.{Table, channel_of, but_for_room}
+use Rattle.dispatch_round.specs.declared.round.Round.{Round}
+use Rattle.dispatch_round.specs.Rounds.{IsRound, AllHoldPointers, told_in, may_take}
+use Rattle.dispatch_round.specs.Told.{TellsAll}
+use Rattle.dispatcher.specs.declared.tables.Routing.{Routing}
+use Rattle.dispatcher.specs.Keying.{target_number}
+
+-- the tables of touches change by a mark, at a place
+abbrev pub TakesMark : Mark → (place : ℕ) → (old new : List Touches) → Type 0
+TakesMark mark place old new = ChangesAll old new (gives mark) (takes (taking old mark)) place (pilfers (taking old mark))
+
+-- Channels of a mask are told what the rules say of a step, in whichever scene it is the step of this round, and no other is told
+-- anything.
+pub record TellsRound (round : Round) (touches : List Touches) (origins : List Pixel) (clock : ℕ) (old new : Table) : Type 0 where
+  pub changed : ℕ
+  pub tells :
+      (s : Scene) (e : Step)
+      → IsRound s e touches round → AllHoldPointers s old → TellsAll changed (told_in round s e) origins clock old new
+
+-- nothing changes but that the tables of touches count the step
+pub record Rested (place : ℕ) (old new : Routing) : Type 0 where
+  pub touches : TakesMark Rests place old.touches new.touches
+  pub displays_are : new.displays ≡ old.displays
+  pub shown_is : new.shown ≡ old.shown
+  pub channels_are : new.channels ≡ old.channels
+  pub focus_is : new.focus ≡ old.focus
+  pub repeat_is : new.repeat ≡ old.repeat
+
+-- a round is carried out: windows are told it, pointers change hands, and the last key message is kept
+pub record CarriesOut (round : Round) (place clock : ℕ) (old new : Routing) : Type 0 where
+  pub touches : TakesMark round.mark place old.touches new.touches
+  pub channels : TellsRound round old.touches old.shown.origins clock old.channels new.channels
+  pub gone_are : (c : ℕ) → 1 ≤ c → (channel_of new.channels c).gone ≡ (channel_of old.channels c).gone
+  pub repeat_is : new.repeat ≡ repeat_after clock round.target round.keys.now old.repeat
+  pub displays_are : new.displays ≡ old.displays
+  pub shown_is : new.shown ≡ old.shown
+  pub focus_is : new.focus ≡ old.focus
+
+-- a round is carried out from tables that are the same as these, but for the room that channels have
+pub record CarriesFrom (round : Round) (place clock : ℕ) (old new : Routing) : Type 0 where
+  pub mid : Table
+  pub same : but_for_room mid ≡ but_for_room old.channels
+  pub carries : CarriesOut round place clock (record old { channels = mid }) new
+
+-- what a round is: its mark, its motion, the key target and what that is told, and who loses and gains the focus
+pub record IsOf (mark : Mark) (motion : Option Motion) (target : ℕ) (keys : List KeyMsg) (lost gained : ℕ) (r : Round) : Type 0 where
+  pub mark_is : r.mark ≡ mark
+  pub motion_is : option_copied r.motion ≡ motion
+  pub target_is : r.target ≡ target
+  pub keys_are : r.keys.now ≡ keys
+  pub lost_is : r.lost ≡ lost
+  pub gained_is : r.gained ≡ gained
+
+-- a round without a motion is carried out
+pub record CarriesSome (mark : Mark) (keys : List KeyMsg) (lost gained place clock : ℕ) (old new : Routing) : Type 0 where
+  pub round : Round
+  pub is : IsOf mark None (target_number old.focus) keys lost gained round
+  pub carries : CarriesFrom round place clock old new
+
+-- such a round tells nobody anything
+pub record IsSilent (mark : Mark) (keys : List KeyMsg) (change : Change) : Type 0 where
+  pub takes_none : may_take mark ≡ false
+  pub no_keys : keys ≡ []
+  pub none_lost : (w : ℕ) → mask_has change.lost w ≡ false
+  pub none_gained : (w : ℕ) → mask_has change.gained w ≡ false

@@ -1,0 +1,47 @@
+-- A dispatcher as contracts see it.
+use Rattle.std.specs.Prelude.{ℕ, List, Option}
+use Rattle.touch_state.specs.Touches.{Touches}
+use Rattle.focus_resolver.specs.Resolver.{FocusState}
+use Rattle.key_repeat.specs.Due.{Sent}
+use Rattle.dispatch_channels.specs.Table.{Table, but_for_room}
+use Rattle.dispatch_history.specs.Effect.{Effect}
+use Rattle.dispatcher.specs.Queue.{Queue}
+use Rattle.dispatcher.specs.Shown.{Shown}
+use Rattle.dispatcher.specs.Knows.{Kept}
+use Rattle.dispatcher.specs.Knows.{StandsFor as Stands}
+use Rattle.dispatcher.specs.Seen.{kept_of}
+
+-- the displays of the devices, and all tables; of the channels but for the room that they have
+pub record Dispatching : Type 0 where
+  pub displays : List ℕ
+  pub queue : Queue
+  pub shown : Shown
+  pub touches : List Touches
+  pub channels : Table
+  pub focus : FocusState
+  pub repeat : Option Sent
+
+-- what is seen of tables in which channels have room
+abbrev pub seen_of : List ℕ → Queue → Shown → List Touches → Table → FocusState → Option Sent → Dispatching
+seen_of displays queue shown touches channels focus repeat =
+    record {
+      displays = displays;
+      queue = queue;
+      shown = shown;
+      touches = touches;
+      channels = but_for_room channels;
+      focus = focus;
+      repeat = repeat;
+    }
+
+-- what is kept in place of a history
+abbrev pub kept : Dispatching → Kept
+kept d = kept_of d.queue d.shown d.touches d.channels d.focus d.repeat
+
+-- it stands for a legal history with these effects
+abbrev pub StandsFor : List Effect → Dispatching → Type 0
+StandsFor es d = Stands d.displays es (kept d)
+
+-- it stands for some history
+abbrev pub IsOfHistory : Dispatching → Type 0
+IsOfHistory d = (es : List Effect) × StandsFor es d

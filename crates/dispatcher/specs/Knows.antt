@@ -1,0 +1,66 @@
+-- What a dispatcher keeps in place of its history, table by table.
+use Rattle.std.specs.Prelude.{◌≡◌, ℕ, Bool, true, List, Option}
+use Rattle.touch_state.specs.Touches.{Touches}
+use Rattle.cancel_synthesis.specs.Tracked.{Tracked}
+use Rattle.focus_resolver.specs.Resolver.{FocusState}
+use Rattle.key_repeat.specs.Due.{Sent}
+use Rattle.dispatch_calls.specs.declared.call.Call.{Call}
+use Rattle.dispatch_calls.specs.declared.reply.Reply.{Reply}
+use Rattle.dispatch_history.specs.History.{live, clock}
+use Rattle.dispatch_history.specs.Effect.{Effect, past_of}
+use Rattle.dispatch_history.specs.Effects.{step, said_at}
+use Rattle.dispatch_history.specs.PointerOf.{AllRise}
+use Rattle.dispatch_tables.specs.Lawful.{Lawful}
+use Rattle.dispatch_tables.specs.Delivery.{Delivery, DeliveryIs, GoesOn}
+use Rattle.key_tables.specs.Focused.{FocusIs}
+use Rattle.key_tables.specs.Repeats.{RepeatIs}
+use Rattle.dispatcher.specs.Queue.{Queue, QueueIs, QueueGoes}
+use Rattle.dispatcher.specs.Shown.{Shown, ShownIs, ShownGoes}
+use Rattle.dispatcher.specs.Pointing.{TouchesAre, TouchesGo}
+use Rattle.dispatcher.specs.Input.{InputIs, InputGoes}
+
+-- what a dispatcher keeps: the clock and the queue, the windows, who holds what, the channels with what the window of each was told
+-- and is not told the end of, the focus, and the last key message
+pub record Kept : Type 0 where
+  pub queue : Queue
+  pub shown : Shown
+  pub touches : List Touches
+  pub delivery : Delivery
+  pub inputs : ℕ → Tracked
+  pub focus : FocusState
+  pub repeat : Option Sent
+
+-- what is kept of keys: the focus, and the last key message
+pub record KeyingIs (es : List Effect) (focus : FocusState) (repeat : Option Sent) : Type 0 where
+  pub focus_is : FocusIs es focus
+  pub repeat_is : RepeatIs es repeat
+
+-- what is kept says what a history with these effects says
+pub record Knows (displays : List ℕ) (es : List Effect) (k : Kept) : Type 0 where
+  pub queue : QueueIs es k.queue
+  pub shown : ShownIs es k.shown
+  pub touches : TouchesAre es k.touches
+  pub delivery : DeliveryIs es k.delivery
+  pub inputs : (w : ℕ) → live (past_of es) w ≡ true → InputIs displays es w (k.inputs w)
+  pub keying : KeyingIs es k.focus k.repeat
+
+-- it stands for a history that is legal, in which the pointers of each motion have rising ids
+pub record StandsFor (displays : List ℕ) (es : List Effect) (k : Kept) : Type 0 where
+  pub lawful : Lawful displays es
+  pub rise : AllRise (past_of es)
+  pub knows : Knows displays es k
+
+-- What is kept goes one step on, each table by itself. The input of a window that is live after the step goes on from what stood for it
+-- before: for one that the step opens that is one without pointers and keys.
+pub record Goes (displays : List ℕ) (call : Call) (answer : Reply) (es : List Effect) (k later : Kept) : Type 0 where
+  pub queue : QueueGoes call answer k.queue later.queue
+  pub shown : ShownGoes call k.shown later.shown
+  pub touches : TouchesGo displays call answer es k.queue.place k.touches later.touches
+  pub changed : ℕ → Bool
+  pub delivery :
+      GoesOn call answer es (said_at displays call answer es) (clock (past_of (step displays call answer es))) changed k.delivery
+      later.delivery
+  pub inputs :
+      (w : ℕ) → live (past_of (step displays call answer es)) w ≡ true
+      → (old : Tracked) × InputIs displays es w old × InputGoes displays call answer es w old (later.inputs w)
+  pub keying : KeyingIs (step displays call answer es) later.focus later.repeat

@@ -1,0 +1,178 @@
+-- What is proved of what is kept: each table goes on with any step of a legal history.
+use Rattle.std.specs.Prelude.{◌≡◌, ◌≤◌, ◌<◌, ◌^◌, ℕ, max, true, false, List, [], length, Option, Ok, Err}
+use Rattle.input_types.specs.declared.message.Args.{Args}
+use Rattle.input_types.specs.DeviceRule.{device_of}
+use Rattle.device_down.specs.declared.change.Change.{Change}
+use Rattle.device_down.specs.declared.change.Inconsistent.{Inconsistent as Refusal}
+use Rattle.device_down.specs.Down.{PlansAt}
+use Rattle.cancel_synthesis.specs.Tracked.{Tracked, pointers_of}
+use Rattle.dispatch_history.specs.History.{live}
+use Rattle.dispatch_history.specs.PointerOf.{AllRise, RisesIn}
+use Rattle.touch_state.specs.Touches.{Touches}
+use Rattle.dispatch_calls.specs.declared.call.Call.{Call}
+use Rattle.dispatch_calls.specs.declared.call.Call.TheVariants.{Notify, Tick}
+use Rattle.dispatch_calls.specs.declared.reply.Reply.{Reply}
+use Rattle.dispatch_calls.specs.declared.reply.Reply.TheVariants.{Taken, Inconsistent, Named}
+use Rattle.dispatch_history.specs.Effect.{Effect, past_of}
+use Rattle.dispatch_history.specs.Effects.{step, said_at}
+use Rattle.dispatch_history.specs.Reply.{reply_to, is_due}
+use Rattle.window_snapshot.specs.Mask.{mask_has}
+use Rattle.dispatch_tables.specs.Silent.{is_resting}
+use Rattle.dispatch_tables.specs.Delivery.{due_kept}
+use Rattle.dispatch_history.specs.Step.{scene}
+use Rattle.dispatch_tables.specs.Lawful.{Lawful}
+use Rattle.route_split.specs.Tables.{Stands}
+use Rattle.route_split.specs.Telling.{IsListed}
+use Rattle.dispatcher.specs.Queue.{Queue, QueueIs, QueueGoes}
+use Rattle.dispatcher.specs.Shown.{Shown, ShownIs, ShownGoes}
+use Rattle.focus_resolver.specs.Resolver.{FocusState}
+use Rattle.key_repeat.specs.Due.{Sent}
+use Rattle.key_tables.specs.Focused.{leaves_focus}
+use Rattle.dispatcher.specs.Input.{InputIs, InputGoes}
+use Rattle.dispatcher.specs.Knows.{Kept, KeyingIs, StandsFor, Goes}
+use Rattle.dispatcher.specs.Pointing.{TouchesAre, TouchesGo, PointersAre, PointersGo}
+use Rattle.dispatcher.specs.First.{IsFirst}
+use Rattle.dispatcher.specs.Replying.{reply_by, IsOfDevice}
+use Rattle.dispatcher.specs.Staying.{Stays}
+use Rattle.dispatch_round.specs.Bodies.{TracksAll}
+use Rattle.dispatcher.specs.Tracking.{bodies_at}
+
+-- The clock, the queue and what is down go on with any step.
+abbrev pub QueueLaw : Type 0
+QueueLaw =
+    (displays : List ℕ) (call : Call) (answer : Reply) (es : List Effect) (k later : Queue)
+    → Lawful displays (step displays call answer es) → QueueIs es k → QueueGoes call answer k later
+    → QueueIs (step displays call answer es) later
+
+-- So do the windows and their origins.
+abbrev pub ShownLaw : Type 0
+ShownLaw =
+    (displays : List ℕ) (call : Call) (answer : Reply) (es : List Effect) (k later : Shown)
+    → ShownIs es k → ShownGoes call k later → ShownIs (step displays call answer es) later
+
+-- So do the tables of touches.
+abbrev pub TouchesLaw : Type 0
+TouchesLaw =
+    (displays : List ℕ) (call : Call) (answer : Reply) (es : List Effect) (old new : List Touches)
+    → TouchesAre es old → TouchesGo displays call answer es (length es) old new → TouchesAre (step displays call answer es) new
+
+-- The tables of touches stand for the scene after a history.
+abbrev pub TouchesSceneLaw : Type 0
+TouchesSceneLaw = (displays : List ℕ) (es : List Effect) (ts : List Touches) → TouchesAre es ts → Stands (scene displays es) ts
+
+-- So do the pointers of a window that was told them, and is live after the step.
+abbrev pub PointersLaw : Type 0
+PointersLaw =
+    (displays : List ℕ) (call : Call) (answer : Reply) (es : List Effect) (w : ℕ) (old new : Tracked)
+    → Lawful displays (step displays call answer es)
+    → AllRise (past_of (step displays call answer es))
+    → live (past_of (step displays call answer es)) w ≡ true
+    → PointersAre displays es w old → PointersGo displays call answer es w old new
+    → PointersAre displays (step displays call answer es) w new
+
+-- A window that is not live holds nothing: nothing was told to one that is opened.
+abbrev pub PointersFirst : Type 0
+PointersFirst =
+    (displays : List ℕ) (es : List Effect) (w : ℕ) (input : Tracked)
+    → Lawful displays es → live (past_of es) w ≡ false → ((d : ℕ) → pointers_of input d ≡ [])
+    → PointersAre displays es w input
+
+-- So does all that is kept of what a window was told and is not told the end of.
+abbrev pub InputLaw : Type 0
+InputLaw =
+    (displays : List ℕ) (call : Call) (answer : Reply) (es : List Effect) (w : ℕ) (old new : Tracked)
+    → Lawful displays (step displays call answer es)
+    → AllRise (past_of (step displays call answer es))
+    → live (past_of (step displays call answer es)) w ≡ true
+    → InputIs displays es w old → InputGoes displays call answer es w old new
+    → InputIs displays (step displays call answer es) w new
+
+-- Nothing is kept of a window that is not live.
+abbrev pub InputFirst : Type 0
+InputFirst =
+    (displays : List ℕ) (es : List Effect) (w : ℕ) (input : Tracked)
+    → Lawful displays es → live (past_of es) w ≡ false → ((d : ℕ) → pointers_of input d ≡ []) → input.keys ≡ []
+    → InputIs displays es w input
+
+-- A step that tells a window nothing leaves it as it is.
+abbrev pub InputQuiet : Type 0
+InputQuiet =
+    (displays : List ℕ) (call : Call) (answer : Reply) (es : List Effect) (w : ℕ) (input : Tracked)
+    → live (past_of (step displays call answer es)) w ≡ true
+    → said_at displays call answer es w ≡ []
+    → InputGoes displays call answer es w input input
+
+-- A step that leaves the focus and who is live, and tells nobody anything, leaves what is kept of keys as it is.
+abbrev pub KeyingQuiet : Type 0
+KeyingQuiet =
+    (displays : List ℕ) (call : Call) (answer : Reply) (es : List Effect) (focus : FocusState) (repeat : Option Sent)
+    → Lawful displays (step displays call answer es)
+    → leaves_focus call ≡ true
+    → ((w : ℕ) → live (past_of (step displays call answer es)) w ≡ live (past_of es) w)
+    → ((w : ℕ) → live (past_of (step displays call answer es)) w ≡ true → said_at displays call answer es w ≡ [])
+    → KeyingIs es focus repeat
+    → KeyingIs (step displays call answer es) focus repeat
+
+-- What stands for a history stands for it with one step more, once each table has gone on.
+abbrev pub GoesLaw : Type 0
+GoesLaw =
+    (displays : List ℕ) (call : Call) (answer : Reply) (es : List Effect) (k later : Kept)
+    → StandsFor displays es k → answer ≡ reply_to es call → RisesIn call → Goes displays call answer es k later
+    → StandsFor displays (step displays call answer es) later
+
+-- Args that are planned are taken.
+abbrev pub TakenLaw : Type 0
+TakenLaw =
+    (es : List Effect) (k : Queue) (now : ℕ) (args : Args) (c : Change)
+    → QueueIs es k → 1 ≤ device_of args → device_of args ≤ 8 → PlansAt k.down args (Ok c)
+    → reply_to es (Notify now args) ≡ Taken
+
+-- Args that may not come are refused with what is down instead.
+abbrev pub RefusedLaw : Type 0
+RefusedLaw =
+    (es : List Effect) (k : Queue) (now : ℕ) (args : Args) (e : Refusal)
+    → QueueIs es k → 1 ≤ device_of args → device_of args ≤ 8 → e.pointers < 2 ^ 32 → PlansAt k.down args (Err e)
+    → reply_to es (Notify now args) ≡ Inconsistent e.pointers e.key_down
+
+-- What is kept before the first call stands for no calls.
+abbrev pub KnowsFirst : Type 0
+KnowsFirst = (displays : List ℕ) (k : Kept) → IsFirst k → StandsFor displays [] k
+
+-- What a step tells a window, in display pixels and tracked body by body, is what it makes of what the window was told.
+abbrev pub TracksAllLaw : Type 0
+TracksAllLaw =
+    (displays : List ℕ) (call : Call) (answer : Reply) (es : List Effect) (w : ℕ) (old new : Tracked)
+    → TracksAll old new (bodies_at displays call answer es w) → InputGoes displays call answer es w old new
+
+-- What windows hold of a device is listed in its last motion.
+abbrev pub ListedLaw : Type 0
+ListedLaw = (displays : List ℕ) (es : List Effect) (d : ℕ) → Lawful displays es → AllRise (past_of es) → IsListed (scene displays es) d
+
+-- Each call is answered by what is kept.
+abbrev pub ReplyLaw : Type 0
+ReplyLaw = (displays : List ℕ) (es : List Effect) (k : Kept) (call : Call) → StandsFor displays es k → IsOfDevice call → reply_to es call ≡ reply_by k call
+
+-- A tick is answered with the mask of the channels that are due at the clock that it makes.
+abbrev pub TickReplyLaw : Type 0
+TickReplyLaw =
+    (displays : List ℕ) (es : List Effect) (k : Kept) (now mask : ℕ)
+    → StandsFor displays es k
+    → mask < 2 ^ 64
+    → ((c : ℕ) → mask_has mask c ≡ is_due (due_kept k.delivery c) (max now k.queue.clock))
+    → reply_to es (Tick now) ≡ Named mask
+
+-- A step that leaves all channels as they are, and is said so in the queue and in the tables of touches, has what stands for the history
+-- with it.
+abbrev pub RestsLaw : Type 0
+RestsLaw =
+    (displays : List ℕ) (call : Call) (answer : Reply) (es : List Effect) (k later : Kept)
+    → StandsFor displays es k → answer ≡ reply_to es call → RisesIn call
+    → is_resting call answer ≡ true → Stays call answer k later
+    → StandsFor displays (step displays call answer es) later
+
+-- A tick that names nobody leaves all as it is, too.
+abbrev pub TickIdleLaw : Type 0
+TickIdleLaw =
+    (displays : List ℕ) (now : ℕ) (es : List Effect) (k later : Kept)
+    → StandsFor displays es k → Named 0 ≡ reply_to es (Tick now) → Stays (Tick now) (Named 0) k later
+    → StandsFor displays (step displays (Tick now) (Named 0) es) later

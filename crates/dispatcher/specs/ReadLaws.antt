@@ -1,0 +1,118 @@
+-- What is read of what is kept: it is what the history says.
+use Rattle.std.specs.Prelude.{◌≡◌, ◌≤◌, ℕ, true, List, drop, reverse, option_map, Option}
+use Rattle.input_types.specs.Displays.{device_display}
+use Rattle.window_snapshot.specs.Mask.{mask_has}
+use Rattle.anr_tracker.specs.Due.{IsFirst}
+use Rattle.input_channel.specs.State.{let_go_of, oldest_of}
+use Rattle.key_repeat.specs.Due.{due_of}
+use Rattle.cancel_synthesis.specs.Tracked.{pointers_of}
+use Rattle.routing_rules.specs.Marks.{held, since, pilfering}
+use Rattle.routing_rules.specs.Pairs.{has, has_any}
+use Rattle.routing_rules.specs.Told.{listing}
+use Rattle.window_snapshot.specs.Named.{is_shown_on}
+use Rattle.touch_state.specs.Touches.{since as since_in}
+use Rattle.route_split.specs.Tables.{table_of, holds_at, any_at, pilfering_at}
+use Rattle.key_tables.specs.Held.{KeysAre}
+use Rattle.dispatch_history.specs.History.{clock, live, opened as opened_by, received, snapshot}
+use Rattle.dispatch_history.specs.Effect.{Effect, past_of, stream, last}
+use Rattle.dispatch_history.specs.Delivery.{able, delivery, oldest}
+use Rattle.dispatch_history.specs.Due.{counts, first_due, namings}
+use Rattle.dispatch_history.specs.KeyTold.{repeat_due}
+use Rattle.dispatch_history.specs.Step.{marks}
+use Rattle.dispatch_tables.specs.Dues.{due_moment, due_pair}
+use Rattle.dispatch_channels.specs.Table.{Table, opened, channel_of, input_of, with_channel, but_for_room, due_moment as due_in_table}
+use Rattle.dispatch_channels.specs.Changes.{counts_in}
+use Rattle.dispatcher.specs.Knows.{Kept, StandsFor}
+use Rattle.dispatcher.specs.Staying.{delivery_of}
+
+-- all that is kept but for the channels is the same
+pub record SameBut (k later : Kept) : Type 0 where
+  pub queue_is : later.queue ≡ k.queue
+  pub shown_is : later.shown ≡ k.shown
+  pub touches_are : later.touches ≡ k.touches
+  pub focus_is : later.focus ≡ k.focus
+  pub repeat_is : later.repeat ≡ k.repeat
+
+-- Channels that differ in their room alone stand for the same history.
+abbrev pub RoomLaw : Type 0
+RoomLaw =
+    (displays : List ℕ) (es : List Effect) (k later : Kept) (t u : Table)
+    → StandsFor displays es k
+    → SameBut k later
+    → k.delivery ≡ delivery_of t
+    → k.inputs ≡ input_of t
+    → later.delivery ≡ delivery_of u
+    → later.inputs ≡ input_of u
+    → but_for_room u ≡ but_for_room t
+    → StandsFor displays es later
+
+-- So do those of which messages are let go that were received; those that were not are left.
+abbrev pub LetGoLaw : Type 0
+LetGoLaw =
+    (displays : List ℕ) (es : List Effect) (k later : Kept) (t u : Table) (c : ℕ)
+    → StandsFor displays es k
+    → SameBut k later
+    → k.delivery ≡ delivery_of t
+    → later.delivery ≡ delivery_of u
+    → later.inputs ≡ k.inputs
+    → 1 ≤ c
+    → c ≤ opened t
+    → u ≡ with_channel c (let_go_of (channel_of t c)) t
+    → StandsFor displays es later
+    × ((channel_of u c).messages ≡ drop (received (past_of es) c) (reverse (stream es c)))
+
+-- what is read of the channels
+pub record ReadsChannels (es : List Effect) (k : Kept) (t : Table) : Type 0 where
+  pub opened_is : opened t ≡ opened_by (past_of es)
+  pub live_is : (c : ℕ) → mask_has t.live c ≡ live (past_of es) c
+  pub able_is : (c : ℕ) → mask_has t.able c ≡ able es c
+  pub counts_are : (c : ℕ) → counts_in t c ≡ counts es c
+  pub messages_are :
+      (c : ℕ) → 1 ≤ c → c ≤ opened t
+      → (channel_of t c).messages ≡ drop (channel_of t c).gone (reverse (stream es c))
+  pub oldest_is :
+      (c : ℕ) → 1 ≤ c → c ≤ opened t
+      → oldest_of (channel_of t c) ≡ option_map (λ m. (m.seq, delivery es c m.seq)) (oldest es c)
+  pub namings_are : t.namings ≡ namings es
+  pub dues_are : due_in_table t ≡ due_moment es
+  pub first_is : (first : Option (ℕ × ℕ)) → IsFirst (due_in_table t) first → first_due es ≡ option_map due_pair first
+
+-- The channels are read as the history says.
+abbrev pub ReadsChannelsLaw : Type 0
+ReadsChannelsLaw =
+    (displays : List ℕ) (es : List Effect) (k : Kept) (t : Table)
+    → StandsFor displays es k → k.delivery ≡ delivery_of t → ReadsChannels es k t
+
+-- what is read of the clock and of repeats
+pub record ReadsMoments (es : List Effect) (k : Kept) : Type 0 where
+  pub clock_is : k.queue.clock ≡ clock (past_of es)
+  pub repeat_is : due_of k.repeat ≡ repeat_due es
+
+-- The clock, and when a repeat is due.
+abbrev pub ReadsMomentsLaw : Type 0
+ReadsMomentsLaw = (displays : List ℕ) (es : List Effect) (k : Kept) → StandsFor displays es k → ReadsMoments es k
+
+-- who holds what, since when, and who is pilfering which device, by the tables; who holds something is live, able and shown on the display
+-- of the device
+pub record ReadsTouches (displays : List ℕ) (es : List Effect) (k : Kept) : Type 0 where
+  pub holds_are : (w d i : ℕ) → holds_at k.touches w d i ≡ has (held (marks es)) w d i
+  pub any_are : (w d : ℕ) → any_at k.touches w d ≡ has_any (held (marks es)) w d
+  pub since_are : (w d : ℕ) → since_in (table_of k.touches d) w ≡ since (marks es) w d
+  pub pilfering_are : (w d : ℕ) → pilfering_at k.touches w d ≡ pilfering (marks es) w d
+  pub holders :
+      (w d i : ℕ) → holds_at k.touches w d i ≡ true
+      → (live (past_of es) w ≡ true) × (able es w ≡ true) × (is_shown_on (snapshot (past_of es)) (device_display displays d) w ≡ true)
+
+-- The tables of touches are read as the history says.
+abbrev pub ReadsTouchesLaw : Type 0
+ReadsTouchesLaw = (displays : List ℕ) (es : List Effect) (k : Kept) → StandsFor displays es k → ReadsTouches displays es k
+
+-- What is kept of a live window are the pointers that it holds, at their last places, and the keys that it holds, each with its last
+-- message.
+abbrev pub ReadsInputsLaw : Type 0
+ReadsInputsLaw =
+    (displays : List ℕ) (es : List Effect) (k : Kept) (w : ℕ)
+    → StandsFor displays es k
+    → live (past_of es) w ≡ true
+    → ((d : ℕ) → 1 ≤ d → d ≤ 8 → pointers_of (k.inputs w) d ≡ listing (has (held (marks es)) w d) (last es d))
+    × KeysAre es w (k.inputs w).keys

@@ -1,0 +1,206 @@
+-- What is proved of steps that tell windows: what a round tells is what the step tells.
+use Rattle.std.specs.Prelude.{◌≡◌, [], bit_and, false, ◌≤◌, ℕ, Bool, true, ◌&&◌, List, length, map, slice_get, Option, Some, None}
+use Rattle.std.specs.Option.{option_copied}
+use Rattle.input_types.specs.declared.key.KeyArgs.{KeyArgs}
+use Rattle.input_types.specs.declared.axis.Pixel.{Pixel}
+use Rattle.input_types.specs.declared.message.Body.{Body}
+use Rattle.input_types.specs.declared.message.Args.TheVariants.{Motion as MotionArgs, Key as KeyOfDevice, Reset}
+use Rattle.input_types.specs.declared.motion.Motion.{Motion}
+use Rattle.window_snapshot.specs.declared.window.Window.{Window}
+use Rattle.window_snapshot.specs.Mask.{mask_has, mask_with, is_channel}
+use Rattle.window_snapshot.specs.Named.{is_shown_on}
+use Rattle.focus_resolver.specs.Changes.{IsOnlyIn}
+use Rattle.focus_resolver.specs.Resolver.{FocusState, is_focused, focus_of, target_of}
+use Rattle.routing_rules.specs.Scene.{Scene, Step, Moves, stays}
+use Rattle.routing_rules.specs.Given.{changed, mark as rule_mark}
+use Rattle.route_split.specs.declared.mark.Mark.{Mark}
+use Rattle.route_split.specs.declared.mark.Mark.TheVariants.{Rests, Empty, Pilfer as PilferMark, Unnamed, Mute, Forget}
+use Rattle.route_split.specs.Marking.{IsMark}
+use Rattle.route_split.specs.Seen.{Sees}
+use Rattle.route_split.specs.Tables.{Stands}
+use Rattle.routing_rules.specs.Watching.{is_watching}
+use Rattle.input_channel.specs.Order.{NoneAfter}
+use Rattle.input_types.specs.Displays.{device_display}
+use Rattle.dispatch_calls.specs.declared.call.Call.{Call}
+use Rattle.dispatch_calls.specs.declared.call.Call.TheVariants.{Open, Windows, FocusOn, Pump, Tick, Pilfer, Remove}
+use Rattle.dispatch_calls.specs.declared.reply.Reply.{Reply}
+use Rattle.dispatch_calls.specs.declared.reply.Reply.TheVariants.{Opened, Done, Dispatched, Repeated, Named}
+use Rattle.dispatch_history.specs.History.{live, origin}
+use Rattle.dispatch_history.specs.Effect.{Effect, past_of}
+use Rattle.dispatch_history.specs.Effects.{step, said_at}
+use Rattle.dispatch_history.specs.PointerOf.{RisesIn}
+use Rattle.dispatch_history.specs.Reply.{reply_to}
+use Rattle.dispatch_history.specs.Step.{scene}
+use Rattle.dispatch_channels.specs.Heard.{body_from}
+use Rattle.dispatch_channels.specs.Table.{Table, channel_of, opened, input_of, but_for_room}
+use Rattle.dispatch_channels.specs.Changes.{Opens}
+use Rattle.dispatch_round.specs.declared.round.Round.{Round}
+use Rattle.dispatch_round.specs.Rounds.{IsStepIn, IsRound, AllHoldPointers, told_in}
+use Rattle.dispatch_round.specs.Told.{TellsAll}
+use Rattle.dispatcher.specs.Pointing.{step_at}
+use Rattle.dispatcher.specs.Knows.{Kept, StandsFor}
+use Rattle.dispatcher.specs.Staying.{delivery_of}
+use Rattle.dispatcher.specs.Telling.{parted_in, is_telling, told_target, AreKeys, TellsFocus, Refocuses, OpensWith, GoesRound, GoesRemoved}
+use Rattle.dispatcher.specs.Tracking.{bodies_at}
+
+-- What a step says to a window that is live after it is what it tells it, with the places counted from the origin of the window.
+abbrev pub SaidLaw : Type 0
+SaidLaw =
+    (displays : List ℕ) (call : Call) (answer : Reply) (es : List Effect) (w : ℕ)
+    → live (past_of (step displays call answer es)) w ≡ true
+    → said_at displays call answer es w ≡ map (body_from (origin (past_of es) w)) (bodies_at displays call answer es w)
+
+-- What is kept and goes one step on by a round, which is that of the step, stands for the history with it. The channels may have been given
+-- room before.
+abbrev pub RoundLaw : Type 0
+RoundLaw =
+    (displays : List ℕ) (call : Call) (answer : Reply) (es : List Effect) (k later : Kept) (r : Round) (first t u : Table) (changed : ℕ)
+    → StandsFor displays es k
+    → k.delivery ≡ delivery_of first
+    → k.inputs ≡ input_of first
+    → but_for_room t ≡ but_for_room first
+    → answer ≡ reply_to es call
+    → RisesIn call
+    → is_telling call answer ≡ true
+    → GoesRound call answer r (parted_in call answer later.queue.clock t).live k later
+    → IsStepIn (scene displays es) k.touches r.mark (option_copied r.motion) r.watchers (step_at call answer es)
+    → ((s : Scene) (e : Step)
+    → IsRound s e k.touches r
+    → AllHoldPointers s (parted_in call answer later.queue.clock t)
+    → TellsAll changed (told_in r s e) k.shown.origins later.queue.clock (parted_in call answer later.queue.clock t) u)
+    → later.delivery ≡ delivery_of u
+    → later.inputs ≡ input_of u
+    → StandsFor displays (step displays call answer es) later
+
+-- A round lets no messages go.
+abbrev pub GoneLaw : Type 0
+GoneLaw =
+    (changed : ℕ) (told : ℕ → List Body) (origins : List Pixel) (clock : ℕ) (old new : Table)
+    → TellsAll changed told origins clock old new
+    → (c : ℕ)
+    → 1 ≤ c
+    → (channel_of new c).gone ≡ (channel_of old c).gone
+
+-- The same of a step that opens a channel.
+abbrev pub OpenLaw : Type 0
+OpenLaw =
+    (displays : List ℕ) (limit number : ℕ) (es : List Effect) (k later : Kept) (r : Round) (t p u : Table) (changed : ℕ)
+    → StandsFor displays es k
+    → k.delivery ≡ delivery_of t
+    → k.inputs ≡ input_of t
+    → Opened number ≡ reply_to es (Open limit)
+    → OpensWith limit number t p
+    → GoesRound (Open limit) (Opened number) r p.live k later
+    → IsStepIn (scene displays es) k.touches r.mark (option_copied r.motion) r.watchers (step_at (Open limit) (Opened number) es)
+    → ((s : Scene) (e : Step)
+    → IsRound s e k.touches r → AllHoldPointers s p → TellsAll changed (told_in r s e) k.shown.origins later.queue.clock p u)
+    → later.delivery ≡ delivery_of u
+    → later.inputs ≡ input_of u
+    → StandsFor displays (step displays (Open limit) (Opened number) es) later
+
+-- The table of channels opens one so.
+abbrev pub OpensLaw : Type 0
+OpensLaw =
+    (limit number : ℕ) (old new : Table)
+    → length old.inputs ≡ opened old → Opens limit number old new → OpensWith limit number old new
+
+-- Where a channel is opened it alone can gain the focus, and nobody loses it.
+abbrev pub OpenFocusLaw : Type 0
+OpenFocusLaw =
+    (displays : List ℕ) (es : List Effect) (k : Kept) (later : FocusState) (number gained : ℕ)
+    → StandsFor displays es k
+    → mask_has k.delivery.live number ≡ false
+    → Refocuses k.shown.windows (mask_with k.delivery.live number) k.focus later
+    → IsOnlyIn gained (is_focused (focus_of later)) (is_focused (focus_of k.focus))
+    → TellsFocus 0 (bit_and gained (mask_with 0 number)) (mask_with k.delivery.live number) k.focus later
+
+-- The key target stays, and is told nothing of keys.
+abbrev pub OpenKeysLaw : Type 0
+OpenKeysLaw =
+    (displays : List ℕ) (es : List Effect) (k : Kept) (later : FocusState) (limit number channel : ℕ)
+    → StandsFor displays es k
+    → Refocuses k.shown.windows (mask_with k.delivery.live number) k.focus later
+    → ((t : ℕ) → target_of k.focus ≡ Some t → channel ≡ t)
+    → AreKeys (target_of k.focus) (mask_with k.delivery.live number) (told_target (Open limit) (Opened number) k later) channel []
+
+-- The key target is live.
+abbrev pub TargetLiveLaw : Type 0
+TargetLiveLaw =
+    (displays : List ℕ) (es : List Effect) (k : Kept) (t : ℕ)
+    → StandsFor displays es k → target_of k.focus ≡ Some t → mask_has k.delivery.live t ≡ true
+
+-- The same of a step that removes a channel: nobody is told anything.
+abbrev pub RemoveLaw : Type 0
+RemoveLaw =
+    (displays : List ℕ) (now channel : ℕ) (es : List Effect) (k later : Kept) (t : Table)
+    → StandsFor displays es k
+    → k.delivery ≡ delivery_of t
+    → k.inputs ≡ input_of t
+    → Done ≡ reply_to es (Remove now channel)
+    → GoesRemoved now channel t k later
+    → StandsFor displays (step displays (Remove now channel) Done es) later
+
+-- The scene of a history has the windows that are kept, the channels that a device can reach, where the mask has the live ones that are
+-- shown on its display, and those that are able to take input.
+abbrev pub SeesLaw : Type 0
+SeesLaw =
+    (displays : List ℕ) (es : List Effect) (k : Kept) (device reach : ℕ)
+    → StandsFor displays es k
+    → ((c : ℕ) → mask_has reach c ≡ (mask_has k.delivery.live c && is_shown_on k.shown.windows (device_display displays device) c))
+    → Sees (scene displays es) k.shown.windows reach k.delivery.able device
+
+-- A motion that waits first is the step of a pump, by the mark that the tables of touches find for it and the windows that watch.
+abbrev pub MotionStepLaw : Type 0
+MotionStepLaw =
+    (displays : List ℕ) (now : ℕ) (es : List Effect) (k : Kept) (m : Motion) (by : Mark) (watchers reach : ℕ)
+    → StandsFor displays es k
+    → slice_get k.queue.waiting 0 ≡ Some (MotionArgs m)
+    → ((c : ℕ) → mask_has reach c ≡ (mask_has k.delivery.live c && is_shown_on k.shown.windows (device_display displays m.device) c))
+    → ((s : Scene) → Stands s k.touches → Sees s k.shown.windows reach k.delivery.able m.device → IsMark k.touches by (rule_mark s (Moves m)))
+    → ((s : Scene)
+    → Sees s k.shown.windows reach k.delivery.able m.device
+    → (w : ℕ)
+    → mask_has watchers w ≡ is_watching s m (changed m) w)
+    → IsStepIn (scene displays es) k.touches by (Some m) watchers (step_at (Pump now) Dispatched es)
+
+-- what each other step is, by its mark
+pub record OtherSteps (displays : List ℕ) (es : List Effect) (k : Kept) : Type 0 where
+  pub resets :
+      (now d watchers : ℕ) → slice_get k.queue.waiting 0 ≡ Some (Reset d)
+      → IsStepIn (scene displays es) k.touches (Empty d) None watchers (step_at (Pump now) Dispatched es)
+  pub keys :
+      (now watchers : ℕ) (a : KeyArgs) → slice_get k.queue.waiting 0 ≡ Some (KeyOfDevice a)
+      → IsStepIn (scene displays es) k.touches Rests None watchers (step_at (Pump now) Dispatched es)
+  pub repeats : (now watchers : ℕ) → IsStepIn (scene displays es) k.touches Rests None watchers (step_at (Pump now) Repeated es)
+  pub shows :
+      (now watchers mask : ℕ) (next : List Window) → ((c : ℕ) → mask_has mask c ≡ (is_channel c && stays k.shown.windows next c))
+      → IsStepIn (scene displays es) k.touches (Unnamed mask) None watchers (step_at (Windows now next) Done es)
+  pub focuses :
+      (now watchers display : ℕ) (channel : Option ℕ)
+      → IsStepIn (scene displays es) k.touches Rests None watchers (step_at (FocusOn now display channel) Done es)
+  pub opens :
+      (limit number watchers : ℕ) → IsStepIn (scene displays es) k.touches Rests None watchers (step_at (Open limit) (Opened number) es)
+  pub ticks :
+      (now mask watchers : ℕ) → IsStepIn (scene displays es) k.touches (Mute mask) None watchers (step_at (Tick now) (Named mask) es)
+  pub pilfers :
+      (now c d watchers : ℕ) → IsStepIn (scene displays es) k.touches (PilferMark d c) None watchers (step_at (Pilfer now c d) Done es)
+  pub removes :
+      (now c watchers : ℕ) → IsStepIn (scene displays es) k.touches (Forget c) None watchers (step_at (Remove now c) Done es)
+
+-- Each other step is that of a mark which code can say.
+abbrev pub OtherStepsLaw : Type 0
+OtherStepsLaw = (displays : List ℕ) (es : List Effect) (k : Kept) → StandsFor displays es k → OtherSteps displays es k
+
+-- No message was delivered after a clock that is not before the one that is kept.
+abbrev pub TimelyLaw : Type 0
+TimelyLaw =
+    (displays : List ℕ) (es : List Effect) (k : Kept) (c clock : ℕ)
+    → StandsFor displays es k
+    → k.queue.clock ≤ clock
+    → 1 ≤ c
+    → c ≤ k.delivery.count
+    → NoneAfter clock (k.delivery.channel c).unfinished
+
+-- Where the focus stays as it is nobody loses or gains it.
+abbrev pub SameFocusLaw : Type 0
+SameFocusLaw = (focused : ℕ → Bool) → IsOnlyIn 0 focused focused

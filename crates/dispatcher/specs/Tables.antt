@@ -1,0 +1,99 @@
+-- The tables, and the histories that they stand for.
+use Rattle.std.specs.Prelude.{◌≡◌, ◌≤◌, ◌<◌, ◌-◌, ◌^◌, ℕ, max, Bool, true, false, List, slice_get, Option}
+use Rattle.dispatch_calls.specs.declared.call.Call.{Call}
+use Rattle.dispatch_calls.specs.declared.call.Call.TheVariants.{Notify, Pump, Receive, Finish, Remove}
+use Rattle.dispatch_calls.specs.declared.reply.Reply.{Reply}
+use Rattle.input_types.specs.declared.message.Args.{Args}
+use Rattle.dispatch_channels.specs.Table.{Table, channel_of, but_for_room}
+use Rattle.dispatch_history.specs.Effect.{Effect}
+use Rattle.dispatch_history.specs.Effects.{step}
+use Rattle.dispatch_history.specs.History.{moment_of}
+use Rattle.dispatcher.specs.Knows.{Kept}
+use Rattle.dispatcher.specs.Knows.{StandsFor as Stands}
+use Rattle.dispatcher.specs.Queue.{Queue, QueueGoes}
+use Rattle.dispatcher.specs.declared.tables.Routing.{Routing}
+use Rattle.dispatcher.specs.declared.tables.Tables.{Tables}
+use Rattle.dispatcher.specs.Seen.{kept_of}
+
+-- what is kept, with the room that the channels have
+abbrev pub kept : Queue → Routing → Kept
+kept q r = kept_of q r.shown r.touches r.channels r.focus r.repeat
+
+-- the tables stand for a legal history with these effects
+abbrev pub StandsFor : List Effect → Tables → Type 0
+StandsFor es t = Stands t.routing.displays es (kept t.queueing t.routing)
+
+-- of each channel as many messages were let go as before
+abbrev pub LetsNoneGo : (old new : Table) → Type 0
+LetsNoneGo old new = (c : ℕ) → 1 ≤ c → (channel_of new c).gone ≡ (channel_of old c).gone
+
+-- The tables of routing went one step on, with this call and answer, at this place and with this clock after it: together with the queue,
+-- once that goes one step on, they stand for what they stood for, with this step more. The call is given by its moment.
+pub record Goes (call : ℕ → Call) (answer : Reply) (place clock : ℕ) (old new : Routing) : Type 0 where
+  pub after :
+      (es : List Effect) (now : ℕ) (queue later : Queue)
+      → queue.place ≡ place → max (moment_of (call now)) queue.clock ≡ clock
+      → Stands old.displays es (kept queue old) → QueueGoes (call now) answer queue later
+      → Stands old.displays (step old.displays (call now) answer es) (kept later new)
+  pub displays_are : new.displays ≡ old.displays
+  pub gone_are : LetsNoneGo old.channels new.channels
+
+-- the same of a call with its moment
+pub record GoesAs (call : Call) (answer : Reply) (place clock : ℕ) (old new : Routing) : Type 0 where
+  pub after :
+      (es : List Effect) (queue later : Queue)
+      → queue.place ≡ place → max (moment_of call) queue.clock ≡ clock
+      → Stands old.displays es (kept queue old) → QueueGoes call answer queue later
+      → Stands old.displays (step old.displays call answer es) (kept later new)
+  pub displays_are : new.displays ≡ old.displays
+  pub gone_are : LetsNoneGo old.channels new.channels
+
+-- the same of a pump, where these args are the first ones that wait, or none wait
+pub record Pumps (first : Option Args) (answer : Reply) (place clock : ℕ) (old new : Routing) : Type 0 where
+  pub after :
+      (es : List Effect) (now : ℕ) (queue later : Queue)
+      → slice_get queue.waiting 0 ≡ first → queue.place ≡ place → max now queue.clock ≡ clock
+      → Stands old.displays es (kept queue old) → QueueGoes (Pump now) answer queue later
+      → Stands old.displays (step old.displays (Pump now) answer es) (kept later new)
+  pub displays_are : new.displays ≡ old.displays
+  pub gone_are : LetsNoneGo old.channels new.channels
+
+-- they are the same, but for the room that the channels have
+abbrev pub SameButRoom : (old new : Routing) → Type 0
+SameButRoom old new =
+    let bare : Routing → Routing = λ r. record r { channels = but_for_room r.channels } in
+    bare new ≡ bare old
+
+-- the tables may go one step on: they stand for some history, and the number of its steps is not the greatest
+pub record MayStep (t : Tables) : Type 0 where
+  pub history : List Effect
+  pub stands : StandsFor history t
+  pub place : t.queueing.place < 2 ^ 64 - 1
+
+-- the call hands in no args, and dispatches none
+abbrev pub is_routed : Call → Bool
+is_routed (Notify now args) = false
+is_routed (Pump now) = false
+is_routed call = true
+
+-- the call is one of the owner of a channel, or removes one
+abbrev pub is_owned : Call → Bool
+is_owned (Receive channel) = true
+is_owned (Finish now channel seq) = true
+is_owned (Remove now channel) = true
+is_owned call = false
+
+-- all tables went one step on: whatever they stood for, they stand for it with this step more
+pub record GoesOn (call : Call) (answer : Reply) (old new : Tables) : Type 0 where
+  pub after : (es : List Effect) → StandsFor es old → StandsFor (step old.routing.displays call answer es) new
+  pub displays_are : new.routing.displays ≡ old.routing.displays
+  pub gone_are : LetsNoneGo old.routing.channels new.routing.channels
+
+-- all tables went one step on with this call, whatever its answer is
+abbrev pub GoesOnSomehow : Call → (old new : Tables) → Type 0
+GoesOnSomehow call old new = (answer : Reply) × GoesOn call answer old new
+
+-- all are the same, but for that room
+pub record SameAll (old new : Tables) : Type 0 where
+  pub queueing_is : new.queueing ≡ old.queueing
+  pub routing_is : SameButRoom old.routing new.routing

@@ -1,0 +1,249 @@
+//! How each call is answered.
+ghost use Rattle.std.specs.Prelude.{◌≡◌, ◌<◌, ◌^◌, true, false, List, None, Some, slice_get, if◌then◌else◌};
+ghost use Rattle.std.specs.Prelude.{IfOk, OnOk, OnErr, IsOk, IfSome};
+ghost use Rattle.dispatch_calls.specs.declared.call.Call.TheVariants.{Notify, Pump};
+ghost use Rattle.dispatch_history.specs.Effect.{Effect};
+ghost use Rattle.dispatch_history.specs.History.{moment_of};
+ghost use Rattle.dispatch_history.specs.PointerOf.{RisesIn};
+ghost use Rattle.dispatch_round.specs.Rounds.{IsTimely};
+ghost use Rattle.dispatch_calls.specs.declared.reply.Reply.TheVariants.{Inconsistent, Dispatched, Repeated, Idle};
+ghost use Rattle.dispatcher.specs.Memory.{IsCalm, MayCount};
+ghost use Rattle.dispatcher.specs.Needing.{NeedsNone};
+ghost use Rattle.dispatcher.specs.Tables.{StandsFor, MayStep, GoesAs, Pumps, GoesOn, is_routed, is_owned};
+ghost use Rattle.dispatcher.specs.Tables.{SameButRoom, SameAll};
+
+use crate::carry::rest;
+use crate::focusing::{open, request, show};
+use crate::keys::{repeat, route_key, route_reset};
+use crate::motions::{pilfer, route_motion};
+use crate::naming::tick;
+use crate::owners::{finish, receive, remove};
+use crate::queueing::later;
+use crate::tables::{Routing, Tables};
+use dispatch_calls::{Call, Reply};
+use input_types::{Args, Moment};
+use std::alloc::AllocError;
+
+/// Answers a call. Without memory nothing changes but the room that channels have.
+pub(crate) fn apply(tables: &mut Tables, call: &Call) -> Result<Reply, AllocError>
+    requires { (es : List Effect) × StandsFor es tables.old }
+    ensures ok { IfOk result (λ answer. GoesOn call.now answer tables.old tables.new) }
+    ensures err { OnErr result (SameAll tables.old tables.new) }
+    ensures calm { (es : List Effect) → StandsFor es tables.old → MayCount es → IsCalm es call.now → IsOk result }
+{
+    if tables.queueing.place() == u64::MAX {
+        return Err(AllocError);
+    }
+    match call {
+        Call::Notify { now, args } => notify(tables, *now, args),
+        Call::Pump { now } => pump(tables, *now),
+        Call::Receive { .. } | Call::Finish { .. } | Call::Remove { .. } => Ok(own(tables, call)),
+        _ => route(tables, call),
+    }
+}
+
+/// Args of a device are put behind those that wait, where they may follow what is down on it.
+fn notify(tables: &mut Tables, now: Moment, args: &Args) -> Result<Reply, AllocError>
+    requires { MayStep tables.old }
+    ensures ok { IfOk result (λ answer. GoesOn (Notify now args.now) answer tables.old tables.new) }
+    ensures err { OnErr result (SameAll tables.old tables.new) }
+{
+    rises(now, args);
+    let place = tables.queueing.place();
+    match tables.queueing.plan(args) {
+        Ok(change) => {
+            tables.queueing.accept(now, args, &change)?;
+            rest(&mut tables.routing, place);
+            Ok(Reply::Taken)
+        }
+        Err(refused) => {
+            let reply = refusal(refused.pointers, refused.key_down);
+            tables.queueing.step(now);
+            rest(&mut tables.routing, place);
+            Ok(reply)
+        }
+    }
+}
+
+/// What is told of args that may not come.
+fn refusal(pointers: u32, key_down: bool) -> Reply
+    ensures reply { result ≡ Inconsistent pointers key_down }
+    ensures small { pointers < 2 ^ 32 }
+{
+    Reply::Inconsistent { pointers, key_down }
+}
+
+/// The pointers of args have rising ids, as those of every motion.
+fn rises(now: Moment, args: &Args)
+    ensures { RisesIn (Notify now args.now) }
+{
+    if let Args::Motion(motion) = args {
+        let _count = motion.pointers.len();
+    }
+}
+
+/// The first args that wait are dispatched; where none wait, a key that is held is repeated.
+fn pump(tables: &mut Tables, now: Moment) -> Result<Reply, AllocError>
+    requires { MayStep tables.old }
+    ensures ok { IfOk result (λ answer. GoesOn (Pump now) answer tables.old tables.new) }
+    ensures err { OnErr result (SameAll tables.old tables.new) }
+    ensures calm { (es : List Effect) → StandsFor es tables.old → IsCalm es (Pump now) → IsOk result }
+{
+    if tables.queueing.first().is_none() {
+        return idle(tables, now);
+    }
+    dispatch_first(tables, now)?;
+    Ok(Reply::Dispatched)
+}
+
+/// The first args that wait are dispatched.
+fn dispatch_first(tables: &mut Tables, now: Moment) -> Result<(), AllocError>
+    requires { MayStep tables.old }
+    ensures ok { OnOk result (IfSome (slice_get tables.old.queueing.waiting 0)
+        (λ args. GoesOn (Pump now) Dispatched tables.old tables.new)) }
+    ensures err { OnErr result (SameAll tables.old tables.new) }
+{
+    let clock = later(tables.queueing.clock(), now);
+    let place = tables.queueing.place();
+    if let Some(args) = tables.queueing.first() {
+        dispatch(&mut tables.routing, args, place, clock)?;
+        tables.queueing.dispatch(now);
+    }
+    Ok(())
+}
+
+/// Args are dispatched.
+fn dispatch(routing: &mut Routing, args: &Args, place: u64, clock: Moment) -> Result<(), AllocError>
+    requires { IsTimely clock routing.old.channels }
+    ensures ok { OnOk result (Pumps (Some args.now) Dispatched place clock routing.old routing.new) }
+    ensures err { OnErr result (SameButRoom routing.old routing.new) }
+{
+    match args {
+        Args::Motion(motion) => route_motion(routing, motion, place, clock),
+        Args::Key(key) => route_key(routing, key, place, clock),
+        Args::Reset(device) => route_reset(routing, *device, place, clock),
+    }
+}
+
+/// Nothing waits.
+fn idle(tables: &mut Tables, now: Moment) -> Result<Reply, AllocError>
+    requires step { MayStep tables.old }
+    requires none { slice_get tables.old.queueing.waiting 0 ≡ None }
+    ensures ok { IfOk result (λ answer. GoesOn (Pump now) answer tables.old tables.new) }
+    ensures err { OnErr result (SameAll tables.old tables.new) }
+    ensures calm { (es : List Effect) → StandsFor es tables.old → IsCalm es (Pump now) → IsOk result }
+{
+    let clock = later(tables.queueing.clock(), now);
+    let place = tables.queueing.place();
+    match repeat(&mut tables.routing, place, clock) {
+        Ok(is_due) => {
+            tables.queueing.step(now);
+            Ok(idle_reply(is_due))
+        }
+        Err(error) => Err(error),
+    }
+}
+
+/// What a pump is answered for which nothing waits.
+fn idle_reply(is_due: bool) -> Reply
+    ensures { result ≡ (if is_due then Repeated else Idle) }
+{
+    if is_due { Reply::Repeated } else { Reply::Idle }
+}
+
+/// The owner of a channel asks something, or a channel is removed. Takes no memory.
+fn own(tables: &mut Tables, call: &Call) -> Reply
+    requires step { MayStep tables.old }
+    requires owned { is_owned call.now ≡ true }
+    ensures { GoesOn call.now result tables.old tables.new }
+{
+    let now = moment_of(call);
+    let clock = later(tables.queueing.clock(), now);
+    let place = tables.queueing.place();
+    tables.queueing.step(now);
+    answer_owner(&mut tables.routing, call, place, clock)
+}
+
+/// How a call of an owner is answered, and a removal.
+fn answer_owner(routing: &mut Routing, call: &Call, place: u64, clock: Moment) -> Reply
+    requires timely { IsTimely clock routing.old.channels }
+    requires owned { is_owned call.now ≡ true }
+    ensures { GoesAs call.now result place clock routing.old routing.new }
+{
+    match call {
+        Call::Receive { channel } => receive(routing, *channel, place, clock),
+        Call::Finish { channel, seq, .. } => finish(routing, *channel, *seq, place, clock),
+        Call::Remove { channel, .. } => remove(routing, *channel, place, clock),
+        _ => unreachable!(),
+    }
+}
+
+/// Any other call.
+fn route(tables: &mut Tables, call: &Call) -> Result<Reply, AllocError>
+    requires step { MayStep tables.old }
+    requires routed { is_routed call.now ≡ true }
+    requires not_owned { is_owned call.now ≡ false }
+    ensures ok { IfOk result (λ answer. GoesOn call.now answer tables.old tables.new) }
+    ensures err { OnErr result (SameAll tables.old tables.new) }
+    ensures calm { (es : List Effect) → StandsFor es tables.old → IsCalm es call.now → IsOk result }
+{
+    let now = moment_of(call);
+    let clock = later(tables.queueing.clock(), now);
+    let place = tables.queueing.place();
+    match answer(&mut tables.routing, call, place, clock) {
+        Ok(reply) => {
+            tables.queueing.step(now);
+            Ok(reply)
+        }
+        Err(error) => Err(error),
+    }
+}
+
+/// What the call hands in as its moment, 0 where it hands in none.
+fn moment_of(call: &Call) -> Moment
+    ensures { result ≡ moment_of call.now }
+{
+    match call {
+        Call::Open { .. } | Call::Receive { .. } => Moment::zero(),
+        Call::Windows { now, .. }
+        | Call::FocusOn { now, .. }
+        | Call::Notify { now, .. }
+        | Call::Pump { now }
+        | Call::Tick { now }
+        | Call::Finish { now, .. }
+        | Call::Pilfer { now, .. }
+        | Call::Remove { now, .. } => *now,
+    }
+}
+
+/// How a call is answered that hands in no args, and dispatches none.
+fn answer(
+    routing: &mut Routing,
+    call: &Call,
+    place: u64,
+    clock: Moment,
+) -> Result<Reply, AllocError>
+    requires timely { IsTimely clock routing.old.channels }
+    requires routed { is_routed call.now ≡ true }
+    requires not_owned { is_owned call.now ≡ false }
+    ensures ok { IfOk result (λ answer. GoesAs call.now answer place clock routing.old routing.new) }
+    ensures err { OnErr result (SameButRoom routing.old routing.new) }
+    ensures calm { NeedsNone call.now clock routing.old → IsOk result }
+{
+    match call {
+        Call::Open { limit } => open(routing, *limit, place, clock),
+        Call::Windows { snapshot, .. } => show(routing, snapshot, place, clock),
+        Call::FocusOn {
+            display,
+            channel,
+            ..
+        } => request(routing, *display, *channel, place, clock),
+        Call::Tick { .. } => tick(routing, place, clock),
+        Call::Pilfer {
+            channel,
+            device,
+            ..
+        } => pilfer(routing, *channel, *device, place, clock),
+        _ => unreachable!(),
+    }
+}

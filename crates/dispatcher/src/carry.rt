@@ -1,0 +1,137 @@
+//! How a step is carried out.
+ghost use Rattle.std.specs.Prelude.{◌≡◌, ℕ, false, [], OnOk, OnErr, IsOk};
+ghost use Rattle.route_split.specs.declared.mark.Mark.{Mark as MarkView};
+ghost use Rattle.route_split.specs.Marking.{IsWhole};
+ghost use Rattle.dispatch_round.specs.Rounds.{IsReady, IsTimely, is_concerned};
+ghost use Rattle.dispatcher.specs.Carrying.{Rested, TakesMark, TellsRound, IsSilent};
+ghost use Rattle.dispatcher.specs.Carrying.{CarriesOut, CarriesFrom, CarriesSome};
+ghost use Rattle.dispatcher.specs.Tables.{LetsNoneGo, SameButRoom};
+
+use crate::tables::Routing;
+use dispatch_channels::Channels;
+use dispatch_round::{Round, make_room, tell_all};
+use focus_resolver::Change;
+use input_types::{KeyMsg, Moment, Pixel};
+use key_tables::remember;
+use route_split::{Mark, Touches};
+use std::alloc::AllocError;
+
+/// A step that tells nobody anything, and with which no pointer changes hands.
+pub(crate) fn rest(routing: &mut Routing, place: u64)
+    ensures { Rested place routing.old routing.new }
+{
+    routing.touches.take(&Mark::Rests, place);
+}
+
+/// The windows of a round are told of it, and then pointers change hands.
+fn turn(
+    round: &Round,
+    touches: &mut Touches,
+    channels: &mut Channels,
+    origins: &[Pixel; 64],
+    place: u64,
+    clock: Moment,
+)
+    requires whole { IsWhole round.now.mark }
+    requires ready { IsReady touches.old round.now channels.old }
+    requires timely { IsTimely clock channels.old }
+    ensures taken { TakesMark round.now.mark place touches.old touches.new }
+    ensures told { TellsRound round.now touches.old origins.now clock channels.old channels.new }
+    ensures gone { LetsNoneGo channels.old channels.new }
+{
+    let _changed = tell_all(round, touches, channels, origins, clock);
+    touches.take(&round.mark, place);
+}
+
+/// A round for which there is room is carried out. Takes no memory.
+pub(crate) fn carry_out(routing: &mut Routing, round: &Round, place: u64, clock: Moment)
+    requires whole { IsWhole round.now.mark }
+    requires ready { IsReady routing.old.touches round.now routing.old.channels }
+    requires timely { IsTimely clock routing.old.channels }
+    ensures { CarriesOut round.now place clock routing.old routing.new }
+{
+    turn(
+        round,
+        &mut routing.touches,
+        &mut routing.channels,
+        routing.shown.origins(),
+        place,
+        clock,
+    );
+    remember(&mut routing.repeat, round.target, round.keys, clock);
+}
+
+/// Room is made for a round, and it is carried out. Without memory nothing changes but the room that channels have.
+pub(crate) fn tell(
+    routing: &mut Routing,
+    round: &Round,
+    place: u64,
+    clock: Moment,
+) -> Result<(), AllocError>
+    requires whole { IsWhole round.now.mark }
+    requires timely { IsTimely clock routing.old.channels }
+    ensures ok { OnOk result (CarriesFrom round.now place clock routing.old routing.new) }
+    ensures err { OnErr result (SameButRoom routing.old routing.new) }
+    ensures calm { ((w : ℕ) → is_concerned routing.old.touches round.now w ≡ false) → IsOk result }
+{
+    make_room(round, &routing.touches, &mut routing.channels)?;
+    carry_out(routing, round, place, clock);
+    Ok(())
+}
+
+/// The key target is told keys, and windows are told that they lost the focus or have it now, while pointers change
+/// hands by a mark.
+pub(crate) fn tell_still(
+    routing: &mut Routing,
+    mark: Mark,
+    keys: &[KeyMsg],
+    change: &Change,
+    place: u64,
+    clock: Moment,
+) -> Result<(), AllocError>
+    requires whole { IsWhole mark }
+    requires timely { IsTimely clock routing.old.channels }
+    ensures ok { OnOk result
+        (CarriesSome mark keys.now change.now.lost change.now.gained place clock routing.old routing.new) }
+    ensures err { OnErr result (SameButRoom routing.old routing.new) }
+    ensures calm { IsSilent mark keys.now change.now → IsOk result }
+{
+    let round = Round {
+        mark,
+        motion: None,
+        watchers: 0,
+        target: routing.focus.target().unwrap_or(0),
+        keys,
+        lost: change.lost,
+        gained: change.gained,
+    };
+    tell(routing, &round, place, clock)
+}
+
+/// No window is told anything, and no pointer changes hands. Takes no memory.
+pub(crate) fn tell_nobody(routing: &mut Routing, place: u64, clock: Moment)
+    requires { IsTimely clock routing.old.channels }
+    ensures { CarriesSome MarkView.Rests [] 0 0 place clock routing.old routing.new }
+{
+    let round = Round {
+        mark: Mark::Rests,
+        motion: None,
+        watchers: 0,
+        target: routing.focus.target().unwrap_or(0),
+        keys: &[],
+        lost: 0,
+        gained: 0,
+    };
+    carry_out(routing, &round, place, clock);
+}
+
+/// A change of the focus that is none.
+pub(crate) fn no_change(routing: &Routing) -> Change
+    ensures { (result.lost ≡ 0) × (result.gained ≡ 0) }
+{
+    Change {
+        lost: 0,
+        gained: 0,
+        target: routing.focus.target(),
+    }
+}

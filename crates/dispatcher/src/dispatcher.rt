@@ -1,0 +1,238 @@
+//! The dispatcher.
+ghost use Rattle.std.specs.Prelude.{◌≡◌, ◌≤◌, ◌==◌, ℕ, true, false, [], List, None, is_some, option_map};
+ghost use Rattle.std.specs.Prelude.{IfOk, IfSome, OnErr, OnOk, IsOk};
+ghost use Rattle.std.specs.Option.{option_copied};
+ghost use Rattle.dispatch_calls.specs.declared.call.Call.{Call as CallView};
+ghost use Rattle.dispatch_calls.specs.declared.reply.Reply.{Reply as Answer};
+ghost use Rattle.dispatch_history.specs.Due.{counts, first_due, namings};
+ghost use Rattle.dispatch_history.specs.Effect.{Effect, past_of};
+ghost use Rattle.dispatch_history.specs.Effects.{step};
+ghost use Rattle.dispatch_history.specs.History.{clock, live, opened, received};
+ghost use Rattle.dispatch_history.specs.PointerOf.{RisesIn};
+ghost use Rattle.dispatch_history.specs.Reply.{reply_to};
+ghost use Rattle.dispatch_tables.specs.Dues.{due_moment, due_pair};
+ghost use Rattle.dispatcher.specs.ReadLaws.{ReadsTouches};
+ghost use Rattle.window_snapshot.specs.Mask.{is_channel};
+ghost use Rattle.dispatcher.specs.Access.{is_opened, gone, messages_of, got, oldest_delivery};
+ghost use Rattle.dispatcher.specs.Access.{is_waiting, next_repeat, HoldsInput};
+ghost use Rattle.dispatcher.specs.Dispatching.{StandsFor, kept};
+ghost use Rattle.dispatcher.specs.Memory.{IsCalm, MayCount};
+
+use crate::apply::apply;
+use crate::tables::Tables;
+use crate::unread::take;
+use cancel_synthesis::InputState;
+use dispatch_calls::{Call, Counts, Naming, Reply};
+use input_types::{Displays, Message, Moment};
+use route_split::Touches;
+use std::alloc::{AllocError, Global};
+use std::marker::Model;
+use window_snapshot::mask_has;
+
+/// Routes args to windows, and answers each call as the calls before it say. It keeps what the next answers need, and
+/// not its history.
+///
+/// Contracts see the displays of the devices, and what is kept, table by table. What is kept stands for a history:
+/// each call that is answered makes it stand for the same history with one step more.
+#[derive(Drop)]
+pub struct Dispatcher {
+    tables: Tables,
+}
+
+impl Model for Dispatcher {
+    ghost use Rattle.dispatcher.specs.Dispatching.{Dispatching, IsOfHistory, seen_of};
+
+    ghost Value = { Dispatching };
+
+    ghost view = { λ d. let r = d.tables.routing in
+        seen_of r.displays d.tables.queueing r.shown r.touches r.channels r.focus r.repeat };
+
+    ghost invariant = { λ d. let r = d.tables.routing in
+        IsOfHistory (seen_of r.displays d.tables.queueing r.shown r.touches r.channels r.focus r.repeat) };
+}
+
+impl Dispatcher {
+    /// A dispatcher before its first call, whose devices are on these displays.
+    pub fn new(alloc: Global, displays: &Displays) -> Result<Dispatcher, AllocError>
+        ensures start { IfOk result (λ d. StandsFor [] d) }
+        ensures displays { IfOk result (λ d. d.displays ≡ displays.now) }
+        ensures gone { IfOk result (λ d. (c : ℕ) → 1 ≤ c → gone d c ≡ 0) }
+    {
+        let tables = Tables::new(alloc, displays)?;
+        Ok(Dispatcher { tables })
+    }
+
+    /// Answers a call, and makes what it says. Want of memory changes nothing, and the call is as if it had not come.
+    ///
+    /// Some calls need no memory: owners that receive or finish, a removal, a request that changes no focus, a tick
+    /// that names nobody and a pump that is idle.
+    pub fn apply(&mut self, call: &Call) -> Result<Reply, AllocError>
+        ensures after { (es : List Effect) → StandsFor es self.old
+            → IfOk result (λ answer. StandsFor (step self.old.displays call.now answer es) self.new) }
+        ensures displays { self.new.displays ≡ self.old.displays }
+        ensures gone { (c : ℕ) → 1 ≤ c → gone self.new c ≡ gone self.old c }
+        ensures err { OnErr result (self.new ≡ self.old) }
+        ensures calm { (es : List Effect) → StandsFor es self.old → MayCount es → IsCalm es call.now → IsOk result }
+    {
+        apply(&mut self.tables, call)
+    }
+
+    /// Answers a call as [`apply`](Dispatcher::apply) does, for one who does not read what it is answered: the message
+    /// that a `Receive` hands out is not copied. It is the one that [`next`](Dispatcher::next) lends before.
+    pub fn take(&mut self, call: &Call) -> Result<(), AllocError>
+        ensures after { (es : List Effect) → StandsFor es self.old
+            → OnOk result ((answer : Answer) × StandsFor (step self.old.displays call.now answer es) self.new) }
+        ensures displays { self.new.displays ≡ self.old.displays }
+        ensures gone { (c : ℕ) → 1 ≤ c → gone self.new c ≡ gone self.old c }
+        ensures err { OnErr result (self.new ≡ self.old) }
+        ensures calm { (es : List Effect) → StandsFor es self.old → MayCount es → IsCalm es call.now → IsOk result }
+    {
+        take(&mut self.tables, call)
+    }
+
+    /// Drops the messages of a channel that its owner received. They are not needed any more. Their numbers stay in
+    /// use.
+    pub fn let_go(&mut self, channel: u32)
+        ensures stays { (es : List Effect) → StandsFor es self.old → StandsFor es self.new }
+        ensures displays { self.new.displays ≡ self.old.displays }
+        ensures gone { (es : List Effect) → StandsFor es self.old → is_opened es channel ≡ true
+            → gone self.new channel ≡ received (past_of es) channel }
+        ensures others { (c : ℕ) → 1 ≤ c → (c == channel) ≡ false → gone self.new c ≡ gone self.old c }
+    {
+        if 0 < channel && channel <= self.tables.routing.channels.opened() {
+            self.tables.routing.channels.let_go(channel);
+        }
+    }
+
+    /// The greatest moment that was handed in.
+    pub fn clock(&self) -> Moment
+        ensures { (es : List Effect) → StandsFor es self.now → result ≡ clock (past_of es) }
+    {
+        self.tables.queueing.clock()
+    }
+
+    /// How many channels were opened. They have the numbers from 1 to this.
+    pub fn opened(&self) -> u32
+        ensures value { (es : List Effect) → StandsFor es self.now → result ≡ opened (past_of es) }
+        ensures few { result ≤ 64 }
+    {
+        self.tables.routing.channels.opened()
+    }
+
+    /// How far a channel has come; None exactly where none was opened with this number.
+    pub fn counts(&self, channel: u32) -> Option<Counts>
+        ensures { (es : List Effect) → StandsFor es self.now → result ≡ counts es channel }
+    {
+        self.tables.routing.channels.counts(channel)
+    }
+
+    /// The messages of a channel, but for those that were let go; None exactly where none was opened with this
+    /// number.
+    pub fn messages(&self, channel: u32) -> Option<&[Message]>
+        ensures { (es : List Effect) → StandsFor es self.now
+            → option_map (λ ms. ms.now) result ≡ messages_of es self.now channel }
+    {
+        if 0 < channel && channel <= self.tables.routing.channels.opened() {
+            Some(self.tables.routing.channels.messages(channel))
+        } else {
+            None
+        }
+    }
+
+    /// The message that the owner of a channel is handed next, where it is live and has one.
+    pub fn next(&self, channel: u32) -> Option<&Message>
+        ensures { (es : List Effect) → StandsFor es self.now
+            → option_copied result ≡ got (reply_to es (CallView.Receive channel)) }
+    {
+        if mask_has(self.tables.routing.channels.live(), channel) {
+            self.tables.routing.channels.next(channel)
+        } else {
+            None
+        }
+    }
+
+    /// The number and the delivery of the oldest message of a channel that is published and not finished. None where
+    /// there is none, and where no channel was opened with this number.
+    pub fn oldest(&self, channel: u32) -> Option<(u64, Moment)>
+        ensures value { (es : List Effect) → StandsFor es self.now → is_opened es channel ≡ true
+            → result ≡ oldest_delivery es channel }
+        ensures none { (es : List Effect) → StandsFor es self.now → is_opened es channel ≡ false → result ≡ None }
+    {
+        if 0 < channel && channel <= self.tables.routing.channels.opened() {
+            self.tables.routing.channels.oldest(channel)
+        } else {
+            None
+        }
+    }
+
+    /// When a channel is due to be named: its limit after the delivery of its oldest message that is published and not
+    /// finished; None exactly where it is not able, or has no such message. So this is the tracker of due moments.
+    pub fn due(&self, channel: u32) -> Option<u64>
+        requires { is_channel channel ≡ true }
+        ensures { (es : List Effect) → StandsFor es self.now → result ≡ due_moment es channel }
+    {
+        self.tables.routing.channels.due(channel)
+    }
+
+    /// The first moment at which a channel is due to be named unresponsive, and the least channel that is due at it.
+    pub fn first_due(&self) -> Option<(u64, u32)>
+        ensures { (es : List Effect) → StandsFor es self.now → option_map due_pair result ≡ first_due es }
+    {
+        self.tables.routing.channels.first_due()
+    }
+
+    /// Whether args wait to be dispatched.
+    pub fn is_waiting(&self) -> bool
+        ensures { (es : List Effect) → StandsFor es self.now → result ≡ is_waiting es }
+    {
+        self.tables.queueing.first().is_some()
+    }
+
+    /// When the next repeat of a key is due; None where there is none, and while args wait.
+    pub fn repeat_due(&self) -> Option<u64>
+        ensures { (es : List Effect) → StandsFor es self.now → result ≡ next_repeat es }
+    {
+        if self.is_waiting() {
+            None
+        } else {
+            self.tables.routing.repeat.due()
+        }
+    }
+
+    /// All namings so far, the first one first.
+    pub fn namings(&self) -> &[Naming]
+        ensures { (es : List Effect) → StandsFor es self.now → result.now ≡ namings es }
+    {
+        self.tables.routing.channels.namings()
+    }
+
+    /// Who holds which pointers, since when, and who is pilfering which device. Each holder is live, able to take
+    /// input, and shown on the display of the device.
+    pub fn touches(&self) -> &Touches
+        ensures value { result.now ≡ self.now.touches }
+        ensures reads { (es : List Effect) → StandsFor es self.now → ReadsTouches self.now.displays es (kept self.now) }
+    {
+        &self.tables.routing.touches
+    }
+
+    /// What the window of a channel was told and is not told the end of; None exactly where no channel was opened
+    /// with this number.
+    pub fn input(&self, channel: u32) -> Option<&InputState>
+        ensures some { (es : List Effect) → StandsFor es self.now → is_some result ≡ is_opened es channel }
+        ensures value { (es : List Effect) → StandsFor es self.now → live (past_of es) channel ≡ true
+            → IfSome result (λ input. HoldsInput es channel input.now) }
+    {
+        if 0 < channel && channel <= self.tables.routing.channels.opened() {
+            Some(self.tables.routing.channels.input(channel))
+        } else {
+            None
+        }
+    }
+
+    /// The displays of the devices.
+    pub fn displays(&self) -> &Displays
+        ensures { result.now ≡ self.now.displays }
+    {
+        &self.tables.routing.displays
+    }
+}

@@ -1,0 +1,152 @@
+//! What changes who has the focus: a channel that is opened, other windows, and requests.
+ghost use Rattle.std.specs.Prelude.{◌≡◌, ◌<◌, ◌≤◌, ℕ, true, [], length, IfOk, OnOk, OnErr, IsOk};
+ghost use Rattle.dispatch_calls.specs.declared.call.Call.TheVariants.{Open, Windows, FocusOn};
+ghost use Rattle.route_split.specs.Marking.{IsWhole};
+ghost use Rattle.dispatch_round.specs.Rounds.{IsTimely};
+ghost use Rattle.window_snapshot.specs.Mask.{mask_has};
+ghost use Rattle.focus_resolver.specs.Resolver.{target_of};
+ghost use Rattle.dispatch_channels.specs.Table.{opened};
+ghost use Rattle.dispatcher.specs.Carrying.{CarriesSome, IsSilent};
+ghost use Rattle.dispatcher.specs.Needing.{LeavesFocus};
+ghost use Rattle.dispatcher.specs.Opening.{IsWelcome, Welcomes};
+ghost use Rattle.dispatcher.specs.Keying.{lost_keys};
+ghost use Rattle.dispatcher.specs.Tables.{Goes, SameButRoom};
+
+use crate::carry::{carry_out, rest, tell_still};
+use crate::keys::listening;
+use crate::stays::staying;
+use crate::tables::Routing;
+use dispatch_calls::Reply;
+use dispatch_channels::Channels;
+use dispatch_round::Round;
+use focus_resolver::Change;
+use input_types::{DisplayId, Limit, Moment};
+use key_tables::focusable;
+use route_split::Mark;
+use std::alloc::AllocError;
+use window_snapshot::{Snapshot, mask_with};
+
+/// A new channel. Its window has the focus at once where it was requested before, and the windows name it.
+pub(crate) fn open(
+    routing: &mut Routing,
+    limit: Limit,
+    place: u64,
+    clock: Moment,
+) -> Result<Reply, AllocError>
+    requires { IsTimely clock routing.old.channels }
+    ensures ok { IfOk result (λ answer. Goes (λ now. Open limit) answer place clock routing.old routing.new) }
+    ensures err { OnErr result (SameButRoom routing.old routing.new) }
+{
+    know_opened(&routing.channels);
+    match routing.channels.open(limit) {
+        Ok(Some(number)) => {
+            welcome(routing, number, place, clock);
+            Ok(Reply::Opened(number))
+        }
+        Ok(None) => {
+            rest(routing, place);
+            Ok(Reply::Full)
+        }
+        Err(error) => Err(error),
+    }
+}
+
+/// There is an input for each channel, and each that is live was opened.
+fn know_opened(channels: &Channels)
+    ensures many { length channels.now.inputs ≡ opened channels.now }
+    ensures within { (c : ℕ) → mask_has channels.now.live c ≡ true → c ≤ opened channels.now }
+{
+    let _live = channels.live();
+    let _count = channels.opened();
+}
+
+/// The window of a new channel is told that it has the focus, where it has it at once. Takes no memory.
+fn welcome(routing: &mut Routing, number: u32, place: u64, clock: Moment)
+    requires timely { IsTimely clock routing.old.channels }
+    requires room { IsWelcome number routing.old.channels }
+    ensures { Welcomes number place clock routing.old routing.new }
+{
+    let target = routing.focus.target().unwrap_or(0);
+    let windows = focusable(routing.shown.windows(), routing.channels.live());
+    let change = routing.focus.windows(windows);
+    let round = Round {
+        mark: Mark::Rests,
+        motion: None,
+        watchers: 0,
+        target,
+        keys: &[],
+        lost: 0,
+        gained: change.gained & mask_with(0, number),
+    };
+    carry_out(routing, &round, place, clock);
+}
+
+/// The windows are these from now on.
+pub(crate) fn show(
+    routing: &mut Routing,
+    snapshot: &Snapshot,
+    place: u64,
+    clock: Moment,
+) -> Result<Reply, AllocError>
+    requires { IsTimely clock routing.old.channels }
+    ensures ok { IfOk result
+        (λ answer. Goes (λ now. Windows now snapshot.now) answer place clock routing.old routing.new) }
+    ensures err { OnErr result (SameButRoom routing.old routing.new) }
+{
+    let windows = snapshot.copy()?;
+    let stays = staying(routing.shown.windows(), &windows);
+    let mut focus = routing.focus;
+    let change = focus.windows(focusable(&windows, routing.channels.live()));
+    refocus(routing, Mark::Unnamed { stays }, &change, place, clock)?;
+    routing.focus = focus;
+    routing.shown.show(windows);
+    Ok(Reply::Done)
+}
+
+/// The focus of a display is requested for a channel, or for none.
+pub(crate) fn request(
+    routing: &mut Routing,
+    display: DisplayId,
+    channel: Option<u32>,
+    place: u64,
+    clock: Moment,
+) -> Result<Reply, AllocError>
+    requires { IsTimely clock routing.old.channels }
+    ensures ok { IfOk result
+        (λ answer. Goes (λ now. FocusOn now display channel) answer place clock routing.old routing.new) }
+    ensures err { OnErr result (SameButRoom routing.old routing.new) }
+    ensures calm { (display < 4 → LeavesFocus display channel routing.old.focus) → IsOk result }
+{
+    let mut focus = routing.focus;
+    let change = focus.request(display, channel);
+    let _number = display.get();
+    refocus(routing, Mark::Rests, &change, place, clock)?;
+    routing.focus = focus;
+    Ok(Reply::Done)
+}
+
+/// The key target is told that its keys are cancelled, where it is not the key target any more, and windows are told
+/// that they lost the focus or have it now.
+fn refocus(
+    routing: &mut Routing,
+    mark: Mark,
+    change: &Change,
+    place: u64,
+    clock: Moment,
+) -> Result<(), AllocError>
+    requires whole { IsWhole mark }
+    requires timely { IsTimely clock routing.old.channels }
+    ensures ok { OnOk result
+        (CarriesSome mark (lost_keys routing.old.focus change.now.target routing.old.channels) change.now.lost
+        change.now.gained place clock routing.old routing.new) }
+    ensures err { OnErr result (SameButRoom routing.old routing.new) }
+    ensures calm { IsSilent mark [] change.now → change.now.target ≡ target_of routing.old.focus → IsOk result }
+{
+    match listening(routing) {
+        Some(target) if change.target != Some(target) => {
+            let keys = routing.channels.input(target).cancel_keys()?;
+            tell_still(routing, mark, &keys, change, place, clock)
+        }
+        _ => tell_still(routing, mark, &[], change, place, clock),
+    }
+}

@@ -1,0 +1,88 @@
+//! Motions of touch devices, and pilfering.
+ghost use Rattle.std.specs.Prelude.{◌≡◌, Some, true, IfOk, OnOk, OnErr, ◌==◌, ◌&&◌};
+ghost use Rattle.std.specs.List.{list_any};
+ghost use Rattle.window_snapshot.specs.Mask.{is_channel};
+ghost use Rattle.window_snapshot.specs.Window.{is_spy};
+ghost use Rattle.input_types.specs.declared.message.Args.TheVariants.{Motion as MotionArgs};
+ghost use Rattle.dispatch_calls.specs.declared.call.Call.TheVariants.{Pilfer};
+ghost use Rattle.dispatch_calls.specs.declared.reply.Reply.TheVariants.{Done, Dispatched};
+ghost use Rattle.dispatch_round.specs.Rounds.{IsTimely};
+ghost use Rattle.dispatcher.specs.Tables.{Goes, Pumps, SameButRoom};
+
+use crate::carry::{no_change, rest, tell, tell_still};
+use crate::tables::Routing;
+use dispatch_calls::Reply;
+use dispatch_round::Round;
+use input_types::{DeviceId, Moment, Motion};
+use route_split::{Mark, watchers};
+use std::alloc::AllocError;
+use window_snapshot::{Window, mask_has};
+
+/// A motion is dispatched.
+pub(crate) fn route_motion(
+    routing: &mut Routing,
+    motion: &Motion,
+    place: u64,
+    clock: Moment,
+) -> Result<(), AllocError>
+    requires { IsTimely clock routing.old.channels }
+    ensures ok { OnOk result (Pumps (Some (MotionArgs motion.now)) Dispatched place clock routing.old routing.new) }
+    ensures err { OnErr result (SameButRoom routing.old routing.new) }
+{
+    let windows = routing.shown.windows();
+    let reach = routing.channels.live() & windows.on(routing.displays.of(motion.device));
+    let able = routing.channels.able();
+    let round = Round {
+        mark: routing.touches.mark(motion, windows, reach, able),
+        motion: Some(motion),
+        watchers: watchers(motion, windows, reach, able),
+        target: routing.focus.target().unwrap_or(0),
+        keys: &[],
+        lost: 0,
+        gained: 0,
+    };
+    tell(routing, &round, place, clock)
+}
+
+/// A spy takes the pointers of a device that it holds from all other windows.
+pub(crate) fn pilfer(
+    routing: &mut Routing,
+    channel: u32,
+    device: DeviceId,
+    place: u64,
+    clock: Moment,
+) -> Result<Reply, AllocError>
+    requires { IsTimely clock routing.old.channels }
+    ensures ok { IfOk result
+        (λ answer. Goes (λ now. Pilfer now channel device) answer place clock routing.old routing.new) }
+    ensures err { OnErr result (SameButRoom routing.old routing.new) }
+{
+    if !mask_has(routing.channels.live(), channel) {
+        rest(routing, place);
+        return Ok(Reply::Gone);
+    }
+    if !has_spy(routing.shown.windows().windows(), channel) {
+        rest(routing, place);
+        return Ok(Reply::NotSpy);
+    }
+    if !mask_has(routing.touches.holders(device), channel) {
+        rest(routing, place);
+        return Ok(Reply::NothingHeld);
+    }
+    let mark = Mark::Pilfer {
+        device,
+        window: channel,
+    };
+    let change = no_change(routing);
+    tell_still(routing, mark, &[], &change, place, clock)?;
+    Ok(Reply::Done)
+}
+
+/// Whether the window of a channel is a spy.
+fn has_spy(windows: &[Window], channel: u32) -> bool
+    ensures { result ≡ list_any (λ v. v.channel == channel && is_spy v) windows.now }
+{
+    windows
+        .iter()
+        .any(|window| window.channel == channel && window.is_spy())
+}

@@ -1,0 +1,98 @@
+//! What the owners of channels ask.
+ghost use Rattle.std.specs.Prelude.{◌≡◌, None, if◌then◌else◌};
+ghost use Rattle.focus_resolver.specs.Resolver.{is_at};
+ghost use Rattle.dispatch_calls.specs.declared.call.Call.{Call};
+ghost use Rattle.dispatch_calls.specs.declared.reply.Reply.{Reply as Answer};
+ghost use Rattle.dispatch_round.specs.Rounds.{IsTimely};
+ghost use Rattle.dispatcher.specs.Tables.{Goes};
+
+use crate::carry::rest;
+use crate::tables::Routing;
+use dispatch_calls::Reply;
+use input_types::Moment;
+use key_repeat::Repeat;
+use key_tables::focusable;
+use route_split::Mark;
+use window_snapshot::mask_has;
+
+/// The owner of a channel takes its next message.
+pub(crate) fn receive(routing: &mut Routing, channel: u32, place: u64, clock: Moment) -> Reply
+    ensures { Goes (λ now. Call.Receive channel) result place clock routing.old routing.new }
+{
+    rest(routing, place);
+    if !mask_has(routing.channels.live(), channel) {
+        return Reply::Gone;
+    }
+    let Some(next) = routing.channels.next(channel) else {
+        return Reply::Empty;
+    };
+    let reply = Reply::Got(*next);
+    routing.channels.mark_received(channel);
+    reply
+}
+
+/// The owner of a channel has its next message, where there is one, and it is not handed out.
+pub(crate) fn pass(routing: &mut Routing, channel: u32, place: u64, clock: Moment)
+    ensures { (answer : Answer) × Goes (λ now. Call.Receive channel) answer place clock routing.old routing.new }
+{
+    rest(routing, place);
+    if !mask_has(routing.channels.live(), channel) {
+        return;
+    }
+    let Some(_next) = routing.channels.next(channel) else {
+        return;
+    };
+    routing.channels.mark_received(channel);
+}
+
+/// The owner of a channel is done with a message.
+pub(crate) fn finish(
+    routing: &mut Routing,
+    channel: u32,
+    seq: u64,
+    place: u64,
+    clock: Moment,
+) -> Reply
+    requires { IsTimely clock routing.old.channels }
+    ensures { Goes (λ now. Call.Finish now channel seq) result place clock routing.old routing.new }
+{
+    rest(routing, place);
+    if !mask_has(routing.channels.live(), channel) {
+        return Reply::Gone;
+    }
+    match routing.channels.finish(channel, seq, clock) {
+        Ok(()) => Reply::Done,
+        Err(_) => Reply::UnknownSeq,
+    }
+}
+
+/// A channel is closed for good. Nobody is told of it: the window is not live any more, and no other one loses or
+/// gains anything.
+pub(crate) fn remove(routing: &mut Routing, channel: u32, place: u64, clock: Moment) -> Reply
+    ensures { Goes (λ now. Call.Remove now channel) result place clock routing.old routing.new }
+{
+    if !mask_has(routing.channels.live(), channel) {
+        rest(routing, place);
+        return Reply::Gone;
+    }
+    let target = routing.focus.target();
+    routing.channels.remove(channel);
+    routing
+        .touches
+        .take(&Mark::Forget { window: channel }, place);
+    let windows = focusable(routing.shown.windows(), routing.channels.live());
+    let _change = routing.focus.windows(windows);
+    forget_key(&mut routing.repeat, target, channel);
+    Reply::Done
+}
+
+/// No key is repeated any more where the key target is the channel.
+fn forget_key(repeat: &mut Repeat, target: Option<u32>, channel: u32)
+    ensures { repeat.new ≡ (if is_at target channel then None else repeat.old) }
+{
+    if let Some(target) = target {
+        if channel == target {
+            repeat.stop();
+        }
+    }
+}

@@ -1,0 +1,130 @@
+//! The clock, how many steps there were, the args that wait, and what is down on each device.
+ghost use Rattle.std.specs.Prelude.{◌≡◌, ◌<◌, ◌≤◌, ◌^◌, [], slice_get, Ok, Err, IfOk, OnErr, OnOk, option_copied};
+ghost use Rattle.input_types.specs.DeviceRule.{device_of};
+ghost use Rattle.device_down.specs.Down.{PlansAt, needs_memory};
+ghost use Rattle.dispatch_calls.specs.declared.call.Call.{Call};
+ghost use Rattle.dispatch_calls.specs.declared.reply.Reply.{Reply};
+ghost use Rattle.dispatcher.specs.Queue.{QueueIs, QueueGoes};
+ghost use Rattle.dispatcher.specs.Queueing.{stepped, dispatched};
+
+use device_down::{Change, DevicesDown, Inconsistent};
+use input_types::{Args, Moment};
+use reader_queue::Inbound;
+use std::alloc::{AllocError, Global};
+use std::marker::Model;
+
+/// The clock is the greatest moment that was handed in. Contracts do not see for how many args there is room.
+#[derive(Drop)]
+pub(crate) struct Queueing {
+    clock: Moment,
+    /// How many steps there were.
+    place: u64,
+    waiting: Inbound,
+    down: DevicesDown,
+}
+
+impl Model for Queueing {
+    ghost use Rattle.dispatcher.specs.Queue.{Queue};
+
+    ghost Value = { Queue };
+
+    ghost view = { λ q. record { clock = q.clock; place = q.place; waiting = q.waiting.args; down = q.down } };
+}
+
+impl Queueing {
+    /// Before the first step.
+    pub(crate) fn new(alloc: Global) -> Result<Queueing, AllocError>
+        ensures { IfOk result (λ q. QueueIs [] q) }
+    {
+        let down = DevicesDown::new(alloc)?;
+        Ok(Queueing {
+            clock: Moment::zero(),
+            place: 0,
+            waiting: Inbound::new(alloc),
+            down,
+        })
+    }
+
+    pub(crate) fn clock(&self) -> Moment
+        ensures { result ≡ self.now.clock }
+    {
+        self.clock
+    }
+
+    /// How many steps there were.
+    pub(crate) fn place(&self) -> u64
+        ensures { result ≡ self.now.place }
+    {
+        self.place
+    }
+
+    /// The args that are next; None exactly where nothing waits.
+    pub(crate) fn first(&self) -> Option<&Args>
+        ensures { option_copied result ≡ slice_get self.now.waiting 0 }
+    {
+        self.waiting.first()
+    }
+
+    /// What args change on their device, or what is down on it where they may not come.
+    pub(crate) fn plan(&self, args: &Args) -> Result<Change, Inconsistent>
+        ensures plan { PlansAt self.now.down args.now result }
+        ensures device { (1 ≤ device_of args.now) × (device_of args.now ≤ 8) }
+    {
+        self.down.plan(args)
+    }
+
+    /// One step more, which hands in a moment.
+    pub(crate) fn step(&mut self, now: Moment)
+        requires { self.old.place < 2 ^ 64 - 1 }
+        ensures { self.new ≡ stepped now self.old }
+    {
+        self.clock = later(self.clock, now);
+        self.place += 1;
+    }
+
+    /// One step more, with which these args are put behind those that wait, and change what is planned for them.
+    /// Without memory nothing changes.
+    pub(crate) fn accept(
+        &mut self,
+        now: Moment,
+        args: &Args,
+        change: &Change,
+    ) -> Result<(), AllocError>
+        requires place { self.old.place < 2 ^ 64 - 1 }
+        requires planned { PlansAt self.old.down args.now (Ok change.now) }
+        ensures ok { OnOk result (QueueGoes (Call.Notify now args.now) Reply.Taken self.old self.new) }
+        ensures err { OnErr result (self.new ≡ self.old) }
+    {
+        self.waiting.reserve(1)?;
+        self.down.take(change)?;
+        self.waiting.put(copy_of(args));
+        self.clock = later(self.clock, now);
+        self.place += 1;
+        Ok(())
+    }
+
+    /// One step more, with which the first args that wait are dispatched.
+    pub(crate) fn dispatch(&mut self, now: Moment)
+        requires { self.old.place < 2 ^ 64 - 1 }
+        ensures { self.new ≡ dispatched now self.old }
+    {
+        let _args = self.waiting.pop();
+        self.clock = later(self.clock, now);
+        self.place += 1;
+    }
+}
+
+ghost use Rattle.std.specs.Prelude.{◌-◌, max};
+
+/// The later of two moments.
+pub(crate) fn later(clock: Moment, now: Moment) -> Moment
+    ensures { result ≡ max now clock }
+{
+    if clock.get() < now.get() { now } else { clock }
+}
+
+fn copy_of(args: &Args) -> Args
+    ensures { result ≡ args.now }
+{
+    *args
+}

@@ -1,0 +1,50 @@
+//! All that a dispatcher keeps.
+ghost use Rattle.std.specs.Prelude.{◌≡◌, [], IfOk};
+ghost use Rattle.dispatcher.specs.Tables.{StandsFor};
+
+use crate::queueing::Queueing;
+use crate::shown::Shown;
+use dispatch_channels::Channels;
+use focus_resolver::Focus;
+use input_types::Displays;
+use key_repeat::Repeat;
+use route_split::Touches;
+use std::alloc::{AllocError, Global};
+
+/// What the windows were told of, and all that decides what they are told next.
+#[derive(Drop)]
+pub(crate) struct Routing {
+    pub(crate) displays: Displays,
+    pub(crate) shown: Shown,
+    pub(crate) touches: Touches,
+    pub(crate) channels: Channels,
+    pub(crate) focus: Focus,
+    pub(crate) repeat: Repeat,
+}
+
+/// What the next answers need, table by table.
+#[derive(Drop)]
+pub(crate) struct Tables {
+    pub(crate) queueing: Queueing,
+    pub(crate) routing: Routing,
+}
+
+impl Tables {
+    /// Before the first step.
+    pub(crate) fn new(alloc: Global, displays: &Displays) -> Result<Tables, AllocError>
+        ensures start { IfOk result (λ t. StandsFor [] t) }
+        ensures displays { IfOk result (λ t. t.routing.displays ≡ displays.now) }
+    {
+        let queueing = Queueing::new(alloc)?;
+        let touches = Touches::new(alloc)?;
+        let routing = Routing {
+            displays: *displays,
+            shown: Shown::new(alloc),
+            touches,
+            channels: Channels::new(alloc),
+            focus: Focus::new(),
+            repeat: Repeat::new(),
+        };
+        Ok(Tables { queueing, routing })
+    }
+}
