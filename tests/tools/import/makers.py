@@ -5,7 +5,7 @@ import struct
 PATH = "/dev/input/event2"
 TYPES = {0: "EV_SYN", 1: "EV_KEY", 3: "EV_ABS", 4: "EV_MSC"}
 CODES = {
-    (0, 0): "SYN_REPORT", (0, 3): "SYN_DROPPED", (1, 115): "KEY_VOLUMEUP", (1, 330): "BTN_TOUCH", (1, 431): "KEY_DISPLAYTOGGLE",
+    (0, 0): "SYN_REPORT", (0, 3): "SYN_DROPPED", (1, 115): "KEY_VOLUMEUP", (1, 330): "BTN_TOUCH", (1, 444): "KEY_NOTIFICATION_CENTER",
     (3, 47): "ABS_MT_SLOT", (3, 53): "ABS_MT_POSITION_X", (3, 54): "ABS_MT_POSITION_Y", (3, 55): "ABS_MT_TOOL_TYPE",
     (3, 57): "ABS_MT_TRACKING_ID", (3, 58): "ABS_MT_PRESSURE", (4, 4): "MSC_SCAN",
 }
