@@ -6,11 +6,12 @@ from .streams import GREATEST_ID
 
 class Gesture:
     """The fingers of a device that are down on a window, by their names in the log: id, x and y. `moved` is the moment of moves that are
-    not written yet, and the number of the line of the last one."""
+    not written yet, and the number of the line of the last one; `movers` are the fingers that they are of."""
 
     def __init__(self):
         self.down = {}
         self.moved = None
+        self.movers = set()
 
     def free_id(self):
         """The least id that no finger has, or None."""
@@ -42,6 +43,7 @@ class Fingers:
         if gesture.moved:
             moment, number = gesture.moved
             gesture.moved = None
+            gesture.movers.clear()
             self.write(number, window, moment, device, "MOVE", gesture)
 
     def frame(self, device=None):
@@ -80,14 +82,16 @@ class Fingers:
         return True
 
     def move(self, number, window, moment, device, finger, x, y, join=True):
-        """A finger moves. Where moves are not joined, one of another moment is a MOVE of its own."""
+        """A finger moves. Where no frames join moves, one of another moment is a MOVE of its own, and so is a second one of the finger."""
         gesture = self.gesture(window, device)
-        if finger not in gesture.down or (gesture.moved and not join and gesture.moved[0] != moment):
+        apart = gesture.moved and not join and (gesture.moved[0] != moment or finger in gesture.movers)
+        if finger not in gesture.down or apart:
             self.flush(window, device)
         strange = self.stranger(number, gesture, finger, "moves", x, y)
         if finger in gesture.down:
             gesture.down[finger][1:] = [x, y]
             gesture.moved = (moment, number)
+            gesture.movers.add(finger)
         if strange:
             self.flush(window, device)
             gesture.down.pop(finger, None)

@@ -202,6 +202,8 @@ CASES = [
      section("main", "1 1000 motion 1 DOWN 0@2,2\n2 2000 motion 1 POINTER_DOWN:1 0@2,2 1@3,4\n3 3000 motion 1 MOVE 0@5,6 1@7,8\n"
      "4 4000 motion 1 MOVE 0@6,6 1@7,8\n5 5000 motion 1 POINTER_UP:0 canceled 0@6,6 1@7,8\n6 6000 motion 1 CANCEL 1@7,8\n"),
      ["line 8: left out: the line of a finger is cut, or has other words"], "well formed 1 6"),
+    ("moves of one finger at one moment", [], "finger main 1 d down 0 1 1\nfinger main 2 d motion 0 2 2\nfinger main 2 d motion 0 3 3\n",
+     section("main", "1 1 motion 1 DOWN 0@1,1\n2 2 motion 1 MOVE 0@2,2\n3 2 motion 1 MOVE 0@3,3\n"), [], "well formed 1 3"),
     ("more devices than a stream has", [], "".join("finger main 1 d%d down 0 1 1\n" % k for k in range(9)),
      section("main", "".join("%d 1 motion %d DOWN 0@1,1\n" % (k, k) for k in range(1, 9))), ["line 9: left out: a stream has at most 8 devices"],
      "well formed 1 8"),
