@@ -66,7 +66,7 @@ def number(fields, key, default=None):
     text = fields.get(key)
     if text is None and default is not None:
         return default
-    if text is None or not re.fullmatch("-?(?:0x[0-9A-Fa-f]+|[0-9]+)", text):
+    if text is None or not re.fullmatch("-?(?:0x[0-9A-Fa-f]{1,16}|[0-9]{1,20})", text):
         raise Cut(key)
     return int(text, 0) if "0x" in text else int(text)
 
@@ -159,7 +159,7 @@ class Reader:
 
     def action(self, text):
         """The action without ACTION_, and the index that stands behind it."""
-        found = re.fullmatch(r"ACTION_([A-Z_]+)(?:\(([0-9]+)\))?", text)
+        found = re.fullmatch(r"ACTION_([A-Z_]+)(?:\(([0-9]{1,9})\))?", text)
         if not found or (found[1] in ("POINTER_DOWN", "POINTER_UP")) != (found[2] is not None):
             raise Cut("action")
         return found[1], found[2] and int(found[2])
@@ -175,7 +175,7 @@ class Reader:
         return 0
 
     def meta(self, line_number, text):
-        if re.fullmatch("(?:0x)?[0-9A-Fa-f]+", text):
+        if re.fullmatch("0x[0-9A-Fa-f]{1,8}|[0-9]{1,10}", text):
             return int(text, 16 if text.startswith("0x") else 10)
         bits = 0
         for word in text.split("|"):

@@ -10,7 +10,7 @@ from .fingers import Fingers
 
 NUMBER = r"-?[0-9]+(?:\.[0-9]+)?"
 LINE = re.compile(
-    r"(?:^|\s)finger (\S+) ([0-9]+) (\S+) (?:(down|motion|up|cancel) (\S+) (%s) (%s)|cancel)\s*$" % (NUMBER, NUMBER)
+    r"(?:^|\s)finger (\S+) ([0-9]{1,20}) (\S+) (?:(down|motion|up|cancel) (\S+) (%s) (%s)|cancel)\s*$" % (NUMBER, NUMBER)
 )
 BEGUN = re.compile(r"(?:^|\s)finger \S+ [0-9]+ ")
 

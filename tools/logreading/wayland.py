@@ -10,9 +10,9 @@ BEGUN = re.compile(r"\[ *[0-9]+\.[0-9]{3}\] +(?:\{[^}]*\} *)?(?:discarded )?(?:-
 COLOR = re.compile("\x1b\\[[0-9;]*m")
 NUMBER = r"-?[0-9]+(?:\.[0-9]+)?"
 ARGUMENTS = {
-    "down": re.compile(r"[0-9]+, ([0-9]+), (\S+), (-?[0-9]+), (%s), (%s)" % (NUMBER, NUMBER)),
-    "up": re.compile(r"[0-9]+, ([0-9]+), (-?[0-9]+)"),
-    "motion": re.compile(r"([0-9]+), (-?[0-9]+), (%s), (%s)" % (NUMBER, NUMBER)),
+    "down": re.compile(r"[0-9]+, ([0-9]{1,10}), (\S+), (-?[0-9]+), (%s), (%s)" % (NUMBER, NUMBER)),
+    "up": re.compile(r"[0-9]+, ([0-9]{1,10}), (-?[0-9]+)"),
+    "motion": re.compile(r"([0-9]{1,10}), (-?[0-9]+), (%s), (%s)" % (NUMBER, NUMBER)),
     "frame": re.compile(""),
     "cancel": re.compile(""),
 }

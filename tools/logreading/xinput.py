@@ -53,7 +53,7 @@ class Reader:
         if not (device and finger and place and window):
             self.notes.add(self.at, "left out: the block of the event is cut, or has other lines")
             return
-        if re.fullmatch("[0-9]+", block.get("time", "")):
+        if re.fullmatch("[0-9]{1,20}", block.get("time", "")):
             self.moment = int(block["time"]) * 1000
         else:
             self.notes.add(self.at, "the event has no time: the moment of the one before is written, at first 0")
