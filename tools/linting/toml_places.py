@@ -387,8 +387,11 @@ def scalar_of(word):
     if re.match(r"[0-9]+[-:]", word):
         return ("moment", word) if is_moment(word) else (None, "%s is no date and no time" % word)
     if INTEGER.fullmatch(word) or RADIX.fullmatch(word):
-        # Python reads no more than some thousand decimal digits.
-        number = int(word.replace("_", ""), 0 if RADIX.fullmatch(word) else 10) if len(word) < 1000 else 2**63
+        if RADIX.fullmatch(word):
+            number = int(word.replace("_", ""), 0)
+        else:
+            # Python reads no more than some thousand decimal digits.
+            number = int(word.replace("_", "")) if len(word) < 1000 else 2**63
         if not -(2**63) <= number < 2**63:
             return None, "%s does not fit into 64 bits" % word[:40]
         return "integer", number
