@@ -3,12 +3,13 @@ import json
 import os
 import select
 import shutil
+import signal
 import subprocess
 import tempfile
 import time
 
 NAMES = ("chromium", "chromium-browser", "google-chrome")
-PATIENCE = 30
+PATIENCE = 120
 
 
 def found():
@@ -35,6 +36,14 @@ class Browser:
         self.session = None
         self.loaded = False
         self.errors = []
+        try:
+            self.attach()
+        except BaseException:
+            self.close()
+            raise
+
+    def attach(self):
+        """Begins to lead the browser's page."""
         targets = self.ask("Target.getTargets")["targetInfos"]
         page = next(target for target in targets if target["type"] == "page")
         self.session = self.ask("Target.attachToTarget", targetId=page["targetId"], flatten=True)["sessionId"]
@@ -155,7 +164,7 @@ class Browser:
             os.write(self.writes, json.dumps({"id": 0, "method": "Browser.close"}).encode() + b"\0")
             self.process.wait(5)
         except (OSError, subprocess.TimeoutExpired):
-            self.process.kill()
+            os.killpg(self.process.pid, signal.SIGKILL)
             self.process.wait()
         os.close(self.writes)
         os.close(self.reads)
