@@ -166,7 +166,9 @@ def faults(schema, value, part=None, path="session"):
     if "oneOf" in part and sum(not faults(schema, value, one, path) for one in part["oneOf"]) != 1:
         found.append("%s fits not one of them" % path)
     kind = TYPES.get(part.get("type"))
-    if kind and (not isinstance(value, kind) or (kind is int and isinstance(value, bool))):
+    # JSON Schema takes 1080.0 as an integer.
+    whole = kind is int and isinstance(value, float) and value.is_integer()
+    if kind and not whole and (not isinstance(value, kind) or (kind is int and isinstance(value, bool))):
         return found + ["%s is no %s" % (path, part["type"])]
     if value not in part.get("enum", [value]) or value != part.get("const", value):
         found.append("%s is none of its words" % path)
