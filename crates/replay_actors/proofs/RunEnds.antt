@@ -1,5 +1,5 @@
 -- The end of a race: the calls of its lanes, those that settle it, and the seats of its scripts.
-use Rattle.std.proofs.Common.{◌≡◌, ℕ, suc, ◌+◌, ◌-◌, ◌<◌, List, [], ◌∷◌, ◌++◌, length, sym, ap, subst, ◌∙◌, arith}
+use Rattle.std.proofs.Common.{◌≡◌, ℕ, zero, suc, ◌+◌, ◌-◌, ◌<◌, List, [], ◌∷◌, ◌++◌, length, refl, sym, ap, subst, ◌∙◌, arith}
 use Rattle.std.proofs.lemmas.List.{append_assoc, append-nil}
 use Rattle.dispatch_history.specs.Legal.{Legal}
 use Rattle.dispatch_history.specs.Ordered.{is_scripted}
@@ -56,6 +56,11 @@ settled_race l own old new raced came =
       of_caller = came.of_caller;
       stands = came.stands;
     }
+
+-- as many seats as were asked for
+pub seats_many : (k n : ℕ) → length (seats_from k n) ≡ n
+seats_many k zero = refl
+seats_many k (suc n) = ap suc (seats_many (k + 1) n)
 
 first_seat : (k n m : ℕ) → n ≡ suc m → seats_from k n ≡ k ∷ seats_from (k + 1) m
 first_seat k n m is = ap (seats_from k) is

@@ -128,6 +128,7 @@ pub fn run_lanes<R: Threads + Wait + Sync, G: Gate + Sync>(
     ensures settled { IfOk result
         (λ end. IsSettledRace end.core.displays (mask_has lanes.finishing) lanes.channels (view seat).mine.own
         lanes.cooked.items (scripted lanes.scripts.items) (called end.core.entries)) }
+    ensures seats { IfOk result (λ end. length end.script_seats.items ≡ length lanes.scripts.items) }
     ensures sound { IfOk result (λ end. IsSound end.core) }
 {
     let script_seats = script_seats(alloc, lanes.scripts.len())?;

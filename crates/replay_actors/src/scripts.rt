@@ -1,4 +1,4 @@
-//! The steps of a session dealt to its scripts, each of which makes its own in their order.
+//! The steps of a session dealt to its script lanes, each of which makes its own in their order.
 //!
 //! Of four steps of lanes 1, 3, 1 and 8 lane 1 has the first and the third, lane 3 the second, lane 8 the fourth, and
 //! the other five lanes have none.
@@ -11,10 +11,10 @@ ghost use Rattle.replay_actors.specs.Scripts.{calls_at, call_for};
 use session_plan::Step;
 use std::alloc::{AllocError, Global};
 
-/// How many lanes a script may have.
+/// How many script lanes a session may have.
 const LANES: usize = 8;
 
-/// As many lanes without steps as a script may have.
+/// As many script lanes without steps.
 fn no_steps(alloc: Global) -> Result<Vec<Vec<Step>>, AllocError>
     ensures len { IfOk result (λ v. vec_len v ≡ 8) }
     ensures none { IfOk result (λ v. (k : ℕ) → calls_at v.items k ≡ []) }
@@ -39,7 +39,7 @@ fn deal(scripts: &mut Vec<Vec<Step>>, step: Step) -> Result<(), AllocError>
     Ok(())
 }
 
-/// The steps of the lanes 1 to 8, each in the order of the script. Without memory all are dropped.
+/// The steps of the script lanes 1 to 8, each in the order of the session. Without memory all are dropped.
 pub fn scripts_of(alloc: Global, steps: Vec<Step>) -> Result<Vec<Vec<Step>>, AllocError>
     ensures few { IfOk result (λ v. vec_len v ≡ 8) }
     ensures lanes { IfOk result (λ v. AreLanes 1 (scripted v.items) (map step_of steps.items)) }

@@ -87,7 +87,8 @@ fn raced<R: Threads + Wait + Sync, G: Gate + Sync>(
     gate: &G,
 ) -> Result<RaceEnd, AllocError>
     requires { length channels.now ≤ 64 }
-    ensures { (until : ℕ)
+    ensures seats { IfOk result (λ end. length end.script_seats.items ≡ 8) }
+    ensures race { (until : ℕ)
         → IfOk result (EndsRace (raced_plan displays.now channels.now steps.items all.items until)) }
 {
     let core = Core::new(alloc, displays)?;

@@ -19,7 +19,7 @@ returns-clause-ok g c = λ past is.
     let all = c.args.all.items in
     let end = c.in_ok-end.end in
     let few : length (given p past) ≤ 20000 = omega (arith, c.if-len-gt-GIVEN_LIMIT.false, c.len.ensures, length-map all cooked_of, ap length is) in
-    let begun : EndsRace (raced_plan c.device_displays.result c.deref.result.now session.steps.items all session.end) end = c.in_ok-end.ensures session.end in
+    let begun : EndsRace (raced_plan c.device_displays.result c.deref.result.now session.steps.items all session.end) end = c.in_ok-end.ensures.race session.end in
     let shown : EndsRace (raced_plan c.device_displays.result session.channels.items session.steps.items all session.end) end =
     subst (λ (cs : List ChannelPlan). EndsRace (raced_plan c.device_displays.result cs session.steps.items all session.end) end) c.deref.ensures.value begun in
     let placed : EndsRace (record (script_of p) { cooked = map cooked_of all }) end =

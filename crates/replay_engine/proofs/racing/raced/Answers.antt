@@ -1,13 +1,17 @@
 -- The core that is raced over has these displays, and these channels are opened.
-use Rattle.std.proofs.Common.{◌≡◌, ◌∙◌, Some, ap, sym}
+use Rattle.std.proofs.Common.{◌≡◌, ◌∙◌, Some, IfOk, length, ap, subst, sym}
 use Rattle.dispatch_core.specs.Recorded.{Recorded}
 use Rattle.turnstile.specs.Seats.{view}
 use Rattle.replay_engine.specs.RaceEnds.{raced_plan}
 use Rattle.replay_engine.proofs.RaceTexts.{ends_race, if_ok_three}
 use Rattle.replay_engine.proofs.racing.raced.Goals as goal
 
-pub returns : goal.returns
-returns g c = λ until.
+pub returns-clause-seats : goal.returns-clause-seats
+returns-clause-seats g c =
+    subst (λ n. IfOk c.run_lanes.result (λ end. length end.script_seats.items ≡ n)) c.in_ok-lanes.ensures.few c.run_lanes.ensures.seats
+
+pub returns-clause-race : goal.returns-clause-race
+returns-clause-race g c = λ until.
     let plan = raced_plan c.args.displays.now c.args.channels.now c.args.steps.items c.args.all.items until in
     let own = (view c.open_channels.new.seat).mine.own in
     let begun : (view c.open_channels.new.seat).setup ≡ Some plan.displays =
