@@ -2,11 +2,13 @@
 import re
 from typing import NamedTuple
 
+from plain_ends import Refused
+
 VIEWPORT = re.compile(
     r"displayId=(?P<display>\d+).*?orientation=(?P<turn>\w+), logicalFrame=\[(?P<logical>[^\]]*)\], "
     r"physicalFrame=\[(?P<physical>[^\]]*)\], deviceSize=\[(?P<device>[^\]]*)\]"
 )
-WINDOW = re.compile(r"\s*\d+: name=(?P<name>.*?), (?P<rest>(?:id|displayId)=.*\bframe=.*)")
+WINDOW = re.compile(r"\s*\d+: name=(?P<name>.*?), (?P<rest>(?:id|displayId)=.*)")
 PAIR = re.compile(r", (?=[A-Za-z][\w.]*=)")
 RECTANGLE = re.compile(r"\[(-?\d+), ?(-?\d+)\]\[(-?\d+), ?(-?\d+)\]|Rect\((-?\d+), ?(-?\d+), ?(-?\d+), ?(-?\d+)\)")
 TRANSFORM = re.compile(r"\s*transform \((?P<turn>[^)]*)\) \((?P<kinds>[^)]*)\)\s*")
@@ -47,11 +49,11 @@ class Window:
     def __init__(self, name, values):
         self.name = name.strip("'")
         self.id = values.get("id", "")
-        self.display = int(values.get("displayId", "0"))
+        self.display = int(values["displayId"])
         self.values = values
         self.names = names_of(values)
-        self.frame = rectangles(values.get("frame", ""))[0] if rectangles(values.get("frame", "")) else (0, 0, 0, 0)
-        self.region = rectangles(values.get("touchableRegion", ""))
+        self.frame = rectangles(values["frame"])[0]
+        self.region = rectangles(values["touchableRegion"])
         self.transform, self.rows = None, []
         self.is_new = "inputConfig" in values
 
@@ -134,6 +136,9 @@ class Reader:
 
     def window(self, found):
         values = dict(pair.partition("=")[::2] for pair in PAIR.split(found["rest"]))
+        whole = re.fullmatch(r"\d+", values.get("displayId", "")) and RECTANGLE.fullmatch(values.get("frame", ""))
+        if not whole or "touchableRegion" not in values:
+            raise Refused("a window that cannot be read, or was cut: %.60s" % found.string.strip())
         self.owner = Window(found["name"], values)
         self.dump.windows.append(self.owner)
         if values.get("hasFocus") == "true":
@@ -169,7 +174,7 @@ class Reader:
         """The focused window of each display."""
         word = line.strip()
         entry = FOCUS.fullmatch(line)
-        if word.startswith("FocusedDisplayId:"):
+        if re.fullmatch(r"FocusedDisplayId: \d+", word):
             self.dump.focused_display = int(word.partition(":")[2])
         elif word.startswith("FocusedWindow: name="):
             self.dump.focus[0] = word.partition("name=")[2].strip("'")
@@ -202,10 +207,13 @@ class Reader:
 
 def dump_of(lines):
     reader = Reader()
-    for line in lines:
+    for number, line in enumerate(lines, 1):
         display = DISPLAY.fullmatch(line)
         if display:
             reader.display, reader.part, reader.owner = int(display[1]), "Display", None
-        else:
+            continue
+        try:
             reader.line(line)
+        except Refused as error:
+            raise Refused("line %d is %s" % (number, error)) from error
     return reader.dump

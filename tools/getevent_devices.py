@@ -3,8 +3,7 @@ import re
 
 import evdev_names as names
 
-ADD = re.compile(r"\s*add device \d+: (/\S+)\s*")
-REMOVE = re.compile(r"\s*remove device \d+: (/\S+)\s*")
+ADD = re.compile(r"\s*add device \d+: (/[!-~]+)\s*")
 NAME = re.compile(r"\s+name:\s+\"(.*)\"\s*")
 TYPE = re.compile(r"\s+(?:[A-Z?]+)\s*\(([0-9a-fA-F]{4})\):(.*)")
 MORE = re.compile(r"\s{8,}(\S.*)")

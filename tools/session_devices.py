@@ -1,6 +1,6 @@
 """The devices of a session, from what getevent tells of them."""
 import evdev_names as names
-from session_text import comment, numbers, table
+from session_text import comment, numbers, table, text
 
 MOST = 8
 MOST_SLOTS = 16
@@ -69,7 +69,7 @@ def touch_table(device, display, said):
     if not 1 <= slots <= MOST_SLOTS:
         said("%s has %d slots; a session has at most %d" % (called(device), slots, MOST_SLOTS))
         slots = MOST_SLOTS if slots > 1 else 1
-    lines = [comment(device.name), 'kind = "touch"', 'path = "%s"' % device.path]
+    lines = [comment(device.name), 'kind = "touch"', "path = %s" % text(device.path)]
     lines += ["display = %d" % display] if display else []
     lines += ["slots = %d" % slots]
     lines += ["%s = %s" % (name, numbers(device.axes[axis][1:3])) for name, axis in (("x", X), ("y", Y))]
@@ -84,7 +84,7 @@ def touch_table(device, display, said):
 
 def keys_table(device, said):
     known = [code for code in keys(device) if code in LAYOUT]
-    lines = [comment(device.name), 'kind = "keys"', 'path = "%s"' % device.path]
+    lines = [comment(device.name), 'kind = "keys"', "path = %s" % text(device.path)]
     if known:
         lines += ['layout = """', *("key %d %s" % (code, LAYOUT[code]) for code in known), '"""']
     unknown = [names.code_name(names.EV_KEY, code) for code in keys(device) if code not in LAYOUT]

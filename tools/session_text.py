@@ -1,10 +1,16 @@
 """Pieces of a session file."""
+import json
 import re
 
 
 def comment(text):
     """A text as a comment: one line, of what may stand in TOML."""
     return "# " + "".join(c if c.isprintable() else "?" for c in text)
+
+
+def text(value):
+    """A text of plain ASCII as a value."""
+    return json.dumps(value)
 
 
 def table(name, *lines):

@@ -22,6 +22,7 @@ TEXTS = [
     (r"MotionEvent \{ ?action=", "a log of MotionEvent, which has no events of the kernel"),
     (r"wl_touch@\d+\.", "a log of WAYLAND_DEBUG, which has no events of the kernel"),
     (r"^EVENT type \d+ \(", "what xinput test-xi2 prints, which has no events of the kernel"),
+    (r"^\[ *\d+\.\d+\] [A-Za-z]", "a log of the kernel, as dmesg prints it"),
     (r"^<\?xml|^<!DOCTYPE|^<html", "XML or HTML"),
     (r"\A\s*[\[{]\s*[\"{\[]", "JSON"),
 ]

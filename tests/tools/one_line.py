@@ -1,7 +1,26 @@
 """Runs the tests of a folder, and prints one line; what failed stands on standard error."""
 import io
+import os
+import runpy
 import sys
 import unittest
+from contextlib import redirect_stderr, redirect_stdout
+from unittest import mock
+
+TOOLS = os.path.join(os.path.dirname(os.path.abspath(__file__)), "../../tools")
+
+
+def call(tool, *words):
+    """The status, standard output and standard error of a tool that is run in this process, which takes less time."""
+    out, errors, status = io.TextIOWrapper(io.BytesIO(), encoding="utf-8"), io.StringIO(), 0
+    with mock.patch.object(sys, "argv", [tool, *words]), mock.patch.object(sys, "path", [TOOLS, *sys.path]):
+        with redirect_stdout(out), redirect_stderr(errors):
+            try:
+                runpy.run_path(os.path.join(TOOLS, tool), run_name="__main__")
+            except SystemExit as ended:
+                status = ended.code
+    out.flush()
+    return status, out.buffer.getvalue(), errors.getvalue()
 
 
 def end(name):

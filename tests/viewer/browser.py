@@ -62,9 +62,9 @@ class Browser:
         elif method == "Runtime.exceptionThrown":
             details = of["exceptionDetails"]
             self.errors.append(details.get("exception", {}).get("description", details["text"]))
-        elif method == "Runtime.consoleAPICalled" and of["type"] in ("error", "warning", "assert"):
+        elif method == "Runtime.consoleAPICalled" and of["type"] in ("error", "assert"):
             self.errors.append(str([arg.get("value", arg.get("description")) for arg in of["args"]]))
-        elif method == "Log.entryAdded" and of["entry"]["level"] in ("error", "warning"):
+        elif method == "Log.entryAdded" and of["entry"]["level"] == "error":
             self.errors.append(of["entry"]["text"])
 
     def ask(self, method, **of):

@@ -28,10 +28,10 @@ def other_kinds(findings, recording):
 def protocols(findings, recording, path):
     """Touch screens whose events give nothing. True where that is so."""
     source = recording.sources[path]
-    if source.has(ABS, MT_TRACKING_ID):
-        return False
     if source.has(SYN, SYN_MT_REPORT):
-        message = "%s speaks multi-touch protocol A (SYN_MT_REPORT), and only protocol B is read: no finger is seen"
+        message = "%s speaks multi-touch protocol A (SYN_MT_REPORT), and only protocol B is read"
+    elif source.has(ABS, MT_TRACKING_ID):
+        return False
     elif source.has(ABS, MT_X, MT_Y):
         message = "%s says no ABS_MT_TRACKING_ID, so no finger goes down; did the recording begin with the finger down?"
     elif source.has(ABS, ABS_X, ABS_Y):

@@ -49,6 +49,8 @@ def shown(value, most=40):
 
 def nearest(word, known):
     """A hint at the known name that is most like a word, or nothing."""
+    if len(word) > 100:
+        return ""
     lower = {name.lower(): name for name in sorted(known)}
     found = difflib.get_close_matches(word.lower(), lower, 1, 0.6)
     return '; did you mean "%s"?' % lower[found[0]] if found else ""

@@ -23,7 +23,7 @@ def scan_of(word):
     if re.fullmatch("0x[0-9A-Fa-f]+", word):
         scan = int(word[2:], 16)
     elif re.fullmatch("[0-9]+", word):
-        scan = int(word)
+        scan = int(word.lstrip("0")[:9] or "0")
     else:
         return None
     return scan if scan < 65536 else None

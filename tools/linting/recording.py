@@ -10,7 +10,7 @@ EVENT = re.compile(
 FIELDS = re.compile(rb"[0-9a-fA-F]{4}[ \t]+[0-9a-fA-F]{4}[ \t]+[0-9a-fA-F]{8}[ \t]*")
 LABELS = re.compile(rb"(?:EV|ABS|SYN|KEY|BTN|MSC|REL|SW)_[A-Z]")
 ADDED = re.compile(rb"add device [0-9]+: (/[^ \t\r]+)")
-RANGE = re.compile(rb"(002f|0035|0036|ABS_MT_SLOT|ABS_MT_POSITION_[XY])[ \t]*: value -?[0-9]+, min (-?[0-9]+), max (-?[0-9]+)")
+RANGE = re.compile(rb"(002f|0035|0036|ABS_MT_SLOT|ABS_MT_POSITION_[XY])[ \t]*: value -?[0-9]+, min (-?[0-9]{1,11}), max (-?[0-9]{1,11})")
 AXES = {b"002f": "slots", b"0035": "x", b"0036": "y"}
 AXES.update({b"ABS_MT_SLOT": "slots", b"ABS_MT_POSITION_X": "x", b"ABS_MT_POSITION_Y": "y"})
 

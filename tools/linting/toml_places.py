@@ -387,19 +387,22 @@ def scalar_of(word):
     if re.match(r"[0-9]+[-:]", word):
         return ("moment", word) if is_moment(word) else (None, "%s is no date and no time" % word)
     if INTEGER.fullmatch(word) or RADIX.fullmatch(word):
-        # 08 is not written so, and int() takes 0_8.
-        number = int(word.replace("_", ""), 0 if RADIX.fullmatch(word) else 10)
+        if RADIX.fullmatch(word):
+            number = int(word.replace("_", ""), 0)
+        else:
+            # Python reads no more than some thousand decimal digits.
+            number = int(word.replace("_", "")) if len(word) < 1000 else 2**63
         if not -(2**63) <= number < 2**63:
-            return None, "%s does not fit into 64 bits" % word
+            return None, "%s does not fit into 64 bits" % word[:40]
         return "integer", number
     if NOT_FINITE.fullmatch(word):
         return "float", float(word)
     if FLOAT.fullmatch(word):
         number = float(word.replace("_", ""))
         if number in (float("inf"), float("-inf")):
-            return None, "%s is too great for a float" % word
+            return None, "%s is too great for a float" % word[:40]
         return "float", number
-    return None, "%s is no value; a text stands in quotes" % word
+    return None, "%s is no value; a text stands in quotes" % word[:40]
 
 
 def read(data):

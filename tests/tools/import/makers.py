@@ -5,7 +5,8 @@ import struct
 PATH = "/dev/input/event2"
 TYPES = {0: "EV_SYN", 1: "EV_KEY", 3: "EV_ABS", 4: "EV_MSC"}
 CODES = {
-    (0, 0): "SYN_REPORT", (0, 3): "SYN_DROPPED", (1, 115): "KEY_VOLUMEUP", (1, 330): "BTN_TOUCH", (1, 431): "KEY_DISPLAYTOGGLE",
+    (0, 0): "SYN_REPORT", (0, 3): "SYN_DROPPED",
+    (1, 115): "KEY_VOLUMEUP", (1, 330): "BTN_TOUCH", (1, 444): "KEY_NOTIFICATION_CENTER",
     (3, 47): "ABS_MT_SLOT", (3, 53): "ABS_MT_POSITION_X", (3, 54): "ABS_MT_POSITION_Y", (3, 55): "ABS_MT_TOOL_TYPE",
     (3, 57): "ABS_MT_TRACKING_ID", (3, 58): "ABS_MT_PRESSURE", (4, 4): "MSC_SCAN",
 }
@@ -26,7 +27,8 @@ def labels(events):
     """getevent -lt, which cuts labels to 12 and 20 characters, and writes digits where it has no label"""
     for moment, kind, code, value in events:
         named = VALUES.get(55 if (kind, code) == (3, 55) else kind if kind == 1 else None, {})
-        words = (TYPES.get(kind, "%04x" % kind), CODES.get((kind, code), "%04x" % code), named.get(value, "%08x" % (value & 0xFFFFFFFF)))
+        words = (TYPES.get(kind, "%04x" % kind), CODES.get((kind, code), "%04x" % code))
+        words += (named.get(value, "%08x" % (value & 0xFFFFFFFF)),)
         yield "[%8d.%06d] %s: %-12.12s %-20.20s %-20.20s" % (*parts(moment), PATH, *words)
 
 
