@@ -11,6 +11,6 @@
 //! by the next Receive.
 #![tactic(auto)]
 
-mod hand_in;
+mod handing;
 
-pub use hand_in::hand_in;
+pub use handing::hand_in;
