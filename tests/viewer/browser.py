@@ -107,6 +107,15 @@ class Browser:
             raise RuntimeError(result["exceptionDetails"].get("exception", {}).get("description", code))
         return result["result"].get("value")
 
+    def until(self, code):
+        """Waits until an expression of the page holds."""
+        patience = time.monotonic() + PATIENCE
+        while not self.run(code):
+            if time.monotonic() > patience:
+                raise RuntimeError("never: " + code)
+            time.sleep(0.02)
+        self.settle()
+
     def settle(self):
         """Waits until what the page asked to be drawn is drawn."""
         self.run("new Promise((done) => requestAnimationFrame(() => requestAnimationFrame(() => done(1))))")
@@ -144,16 +153,12 @@ class Browser:
         data = {"items": [], "files": [os.path.abspath(path) for path in paths], "dragOperationsMask": 1}
         for kind in ("dragEnter", "dragOver", "drop"):
             self.ask("Input.dispatchDragEvent", type=kind, x=300, y=300, data=data)
-        self.run("new Promise((done) => setTimeout(done, 100))")
-        self.settle()
 
     def choose(self, paths):
         """Chooses files in the page's dialog."""
         root = self.ask("DOM.getDocument")["root"]["nodeId"]
         node = self.ask("DOM.querySelector", nodeId=root, selector="#files")["nodeId"]
         self.ask("DOM.setFileInputFiles", nodeId=node, files=[os.path.abspath(path) for path in paths])
-        self.run("new Promise((done) => setTimeout(done, 100))")
-        self.settle()
 
     def picture(self):
         """The page as it is seen, as a PNG in base 64."""
