@@ -17,7 +17,7 @@ use Rattle.dispatcher.specs.Pointing.{TouchesGo}
 use Rattle.dispatcher.specs.Input.{InputIs, InputGoes}
 use Rattle.dispatcher.specs.Knows.{Kept, KeyingIs, StandsFor}
 use Rattle.dispatcher.specs.Laws.{GoesLaw}
-use Rattle.dispatcher.proofs.Queueing.{queue_law}
+use Rattle.dispatcher.proofs.QueueLaws.{queue_law}
 use Rattle.dispatcher.proofs.ShownLaws.{shown_law, touches_law}
 use Rattle.dispatcher.proofs.Inputs.{input_law}
 

@@ -1,4 +1,4 @@
-pub mod Queueing
+pub mod QueueLaws
 pub mod ShownLaws
 pub mod Pointed
 pub mod Inputs
@@ -10,7 +10,7 @@ pub mod Listing
 pub mod Replies
 pub mod RestLaws
 pub mod Slices
-pub mod Owners
+pub mod OwnerLaws
 pub mod Saying
 pub mod Refocusing
 pub mod KeysTold

@@ -24,7 +24,7 @@ use Rattle.dispatcher.specs.Staying.{StaysBut, delivery_of}
 use Rattle.dispatcher.specs.Telling.{Refocuses}
 use Rattle.dispatcher.proofs.Replies.{reply_law, tick_reply}
 use Rattle.dispatcher.proofs.RestLaws.{rests_law, tick_idle}
-use Rattle.dispatcher.proofs.Owners.{got_law, done_law}
+use Rattle.dispatcher.proofs.OwnerLaws.{got_law, done_law}
 use Rattle.dispatcher.proofs.Removing.{remove_law}
 use Rattle.dispatcher.specs.declared.tables.Routing.{Routing}
 use Rattle.dispatcher.specs.Carrying.{TakesMark, Rested}

@@ -47,7 +47,7 @@ use Rattle.dispatcher.specs.Tracking.{motions_at, bodies_at}
 use Rattle.dispatcher.specs.RoundLaws.{RoundLaw}
 use Rattle.dispatcher.proofs.ShownLaws.{shown_law, touches_scene_law}
 use Rattle.dispatcher.proofs.Replies.{kept_live}
-use Rattle.dispatcher.proofs.Owners.{clock_next}
+use Rattle.dispatcher.proofs.OwnerLaws.{clock_next}
 use Rattle.dispatcher.proofs.Refocusing.{focus_goes}
 use Rattle.dispatcher.proofs.KeysTold.{keys_round, repeat_round}
 use Rattle.dispatcher.proofs.RoomLaws.{room_law, same_input}

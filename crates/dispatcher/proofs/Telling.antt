@@ -36,7 +36,7 @@ use Rattle.dispatcher.specs.Staying.{delivery_of}
 use Rattle.dispatcher.specs.Tracking.{bodies_at}
 use Rattle.dispatcher.proofs.Inputs.{input_quiet}
 use Rattle.dispatcher.proofs.Knowing.{stands_next}
-use Rattle.dispatcher.proofs.Owners.{clock_next}
+use Rattle.dispatcher.proofs.OwnerLaws.{clock_next}
 use Rattle.dispatcher.proofs.TrackedAll.{tracks_all}
 use Rattle.dispatcher.proofs.Saying.{said_law}
 
