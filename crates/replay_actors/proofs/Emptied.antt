@@ -12,7 +12,7 @@ use Rattle.turnstile.specs.History.{Entry as Called}
 use Rattle.replay_actors.specs.Came.{Came}
 use Rattle.replay_actors.specs.Finishing.{IsQuiet}
 use Rattle.replay_actors.specs.Race.{Each}
-use Rattle.replay_actors.specs.Settling.{settling, takes_from}
+use Rattle.replay_actors.specs.Settling.{takes_from}
 use Rattle.replay_actors.proofs.Deeds.{of_settles}
 use Rattle.replay_actors.proofs.Orders.{history_same}
 use Rattle.replay_actors.proofs.Races.{open_same}

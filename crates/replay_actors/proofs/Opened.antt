@@ -49,7 +49,7 @@ opens_one v w limit p caller only few a =
     }
 
 -- the channels of a session as those of a plan
-planned : ChannelPlan → ChannelOf
+abbrev planned : ChannelPlan → ChannelOf
 planned c = channel_of (channel_view c)
 
 all_planned : (cs : List ChannelPlan) → map channel_of (map channel_view cs) ≡ map planned cs

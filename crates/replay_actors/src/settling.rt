@@ -30,7 +30,6 @@ use window_snapshot::mask_has;
 /// Does all that is left to do, in calls of number 0 at moment 0: pumps until nothing waits, looks once for windows
 /// that do not answer, and takes from the channels 1 to `channels` until each has nothing more. The owners of the
 /// channels in the mask `finishing` finish each message that they are given. Without memory only some of this is done.
-#[tactic(auto, using(crate::proofs::Emptied::nothing_left))]
 pub fn settle(core: &mut Core, channels: u32, finishing: u64) -> Result<(), AllocError>
     ensures came { OnOk result (Came (mask_has finishing) core.old (takes_from (channels + 1)) core.new) }
 
