@@ -13,6 +13,6 @@ returns c =
       lanes_are = c.in_ok-scripts_of.ensures.lanes;
       few = sym c.in_ok-scripts_of.field-0.ok.0 ∙ c.in_ok-scripts_of.ensures.few;
       channels_are =
-          omega (arith, c.len.ensures, length-map c.args.channels.now channel_view, length-map (map channel_view c.args.channels.now) channel_of);
+          omega (arith, length-map c.args.channels.now channel_view, length-map (map channel_view c.args.channels.now) channel_of);
       finishing_are = c.finishing-finishing.ensures;
     }
