@@ -23,8 +23,8 @@ SET_CHILD_SUBREAPER = 36
 # The shell's words are the file that is standard input, the one that is standard output, and those of the program.
 START = 'given=$1 out=$2; shift 2; exec 3<&0; { read -r begin <&3 && exec "$@" 3<&-; } <"$given" >"$out" & echo $!'
 
-# The status, the seconds, and the peak in MiB.
-Ran = collections.namedtuple("Ran", "status seconds peak")
+# The status, the seconds by the clock and of processors, and the peak in MiB.
+Ran = collections.namedtuple("Ran", "status seconds cpu peak")
 
 
 def adopt():
@@ -56,7 +56,7 @@ def run(words, given=os.devnull, out=os.devnull, said=None):
         starter.stdin.flush()
         status, usage = waited(pid)
         seconds = time.perf_counter() - begin
-    return Ran(os.waitstatus_to_exitcode(status), seconds, usage.ru_maxrss / 1024)
+    return Ran(os.waitstatus_to_exitcode(status), seconds, usage.ru_utime + usage.ru_stime, usage.ru_maxrss / 1024)
 
 
 def passed(words, given=os.devnull, out=os.devnull):
