@@ -4,7 +4,7 @@ use Rattle.outside_io.specs.Outside.{Entry}
 use Rattle.raw_events.specs.declared.event.RawEvent.{RawEvent}
 use Rattle.dispatch_calls.specs.declared.call.Call.{Call}
 use Rattle.dispatch_history.specs.Effect.{Effect, past_of}
-use Rattle.dispatch_history.specs.Given.{given}
+use Rattle.dispatch_history.specs.Given.{given_calls}
 use Rattle.dispatch_history.specs.Legal.{replay}
 use Rattle.dispatch_history.specs.Ordered.{Rounds}
 use Rattle.dispatch_history.specs.Plan.{Line}
@@ -26,7 +26,7 @@ RunTakes = (plan : PlanData) (past : List RawEvent) (es : List Effect) → Round
 abbrev pub OrderTakes : Type 0
 OrderTakes =
     (plan : PlanData) (past : List RawEvent) (lines : List Line) (calls : List Call)
-    → given (run_of plan past) lines ≡ Ok calls → NoneRefused (replay (device_displays plan.devices) (reverse calls))
+    → given_calls (run_of plan past) lines ≡ Ok calls → NoneRefused (replay (device_displays plan.devices) (reverse calls))
 
 -- The words and the files have at most one answer, unless the words are those of `race`.
 abbrev pub OneAnswer : Type 0

@@ -1,16 +1,15 @@
 -- What is kept stands for all args that were accepted.
-use Rattle.std.proofs.Common.{◌≡◌, ◌≤◌, ℕ, Bool, true, false, nat_eq, List, [], ◌∷◌, Option, Some, Ok, unwrap_or, if◌then◌else◌, refl, sym, ap, ◌∙◌, eq-eqb, ⊎_elim, ◌≢◌}
-use Rattle.std.specs.Option.{option_and_then}
+use Rattle.std.proofs.Common.{◌≡◌, ◌≤◌, ℕ, true, false, nat_eq, List, ◌∷◌, Some, Ok, refl, sym, ap, ◌∙◌, eq-eqb, ⊎_elim, ◌≢◌}
 use Rattle.std.proofs.lemmas.Bool.{cases_eq, ne_eqb}
 use Rattle.input_types.specs.declared.message.Args.{Args}
-use Rattle.input_types.specs.DeviceRule.{DeviceState, after_args, device_of, device_state, nothing_down}
+use Rattle.input_types.specs.DeviceRule.{after_args, device_of, device_state}
 use Rattle.device_down.specs.declared.change.Change.{Change}
 use Rattle.device_down.specs.Kept.{Kept}
-use Rattle.device_down.specs.Down.{PlansAt, Changes, StandsFor, state_at, changed}
+use Rattle.device_down.specs.Down.{PlansAt, Changes, DevicesStandFor, state_at, changed}
 use Rattle.device_down.specs.Laws.{AcceptLaw, DownLaw}
 
 -- a device of which the args are
-own : (past : List Args) (a : Args) (c : Change) (old new : List Kept) (d : ℕ) → d ≡ device_of a → 1 ≤ d → d ≤ 8 → StandsFor past old
+own : (past : List Args) (a : Args) (c : Change) (old new : List Kept) (d : ℕ) → d ≡ device_of a → 1 ≤ d → d ≤ 8 → DevicesStandFor past old
     → PlansAt old a (Ok c) → Changes c old new → device_state d (a ∷ past) ≡ Some (state_at new d)
 own past a c old new d e low high stands planned change =
     let is : nat_eq (device_of a) d ≡ true = eq-eqb (device_of a) d (sym e) in
@@ -20,7 +19,7 @@ own past a c old new d e low high stands planned change =
     rw (is, stands d low high) (next ∙ ap Some (sym later))
 
 -- any other device
-another : (past : List Args) (a : Args) (c : Change) (old new : List Kept) (d : ℕ) → d ≢ device_of a → 1 ≤ d → d ≤ 8 → StandsFor past old
+another : (past : List Args) (a : Args) (c : Change) (old new : List Kept) (d : ℕ) → d ≢ device_of a → 1 ≤ d → d ≤ 8 → DevicesStandFor past old
     → PlansAt old a (Ok c) → Changes c old new → device_state d (a ∷ past) ≡ Some (state_at new d)
 another past a c old new d e low high stands planned change =
     let is : nat_eq (device_of a) d ≡ false = ne_eqb (device_of a) d (λ same. e (sym same)) in

@@ -1,15 +1,15 @@
 -- What a write into what is kept does to what is down.
-use Rattle.std.proofs.Common.{◌≡◌, ◌≢◌, ◌≤◌, ◌-◌, ◌++◌, ℕ, zero, suc, Bool, nat_eq, List, [], ◌∷◌, length, get_or, set, cond, Some, if◌then◌else◌, refl, sym, ap, ◌∙◌, eq-eqb, ⊎_elim, arith}
+use Rattle.std.proofs.Common.{◌≡◌, ◌≢◌, ◌≤◌, ◌-◌, ◌++◌, ℕ, zero, suc, Bool, List, [], ◌∷◌, length, get_or, set, cond, Some, refl, sym, ap, ◌∙◌, eq-eqb, ⊎_elim, arith}
 use Rattle.std.specs.Ordering.{nat_cmp, is_eq}
 use Rattle.std.specs.Cmp.{unsigned_tied}
 use Rattle.std.proofs.lemmas.Bool.{cases_eq, ne_eqb}
 use Rattle.std.proofs.lemmas.List.{get_or-set_same, get_or-set_other}
-use Rattle.input_types.specs.DeviceRule.{with_key, nothing_down}
+use Rattle.input_types.specs.DeviceRule.{with_key}
 use Rattle.bits32.specs.Set.{members}
 use Rattle.pointers_down.proofs.Sets.{none_listed}
 use Rattle.device_down.specs.declared.change.Change.{Change}
 use Rattle.device_down.specs.Kept.{Kept}
-use Rattle.device_down.specs.Down.{has_key, state_of, state_at, untouched, changed, Changes, StandsFor}
+use Rattle.device_down.specs.Down.{has_key, state_of, state_at, untouched, changed, Changes, DevicesStandFor}
 
 key_at : (new old : List ℕ) (scan : ℕ) (down : Bool) → ((q : ℕ) → has_key new q ≡ cond (is_eq (nat_cmp scan q)) down (has_key old q)) → (q : ℕ)
     → has_key new q ≡ with_key (has_key old) scan down q
@@ -45,5 +45,5 @@ blank_more [] h (suc i) = refl
 blank_more (k ∷ ks) h zero = h zero
 blank_more (k ∷ ks) h (suc i) = blank_more ks (λ j. h (suc j)) i
 
-pub nothing_yet : (ks : List Kept) → Blank ks → StandsFor [] ks
+pub nothing_yet : (ks : List Kept) → Blank ks → DevicesStandFor [] ks
 nothing_yet ks h d low high = ap Some (sym (ap state_of (h (d - 1)) ∙ rw none_listed refl))

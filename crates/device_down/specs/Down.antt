@@ -1,5 +1,5 @@
 -- What is down on each device, and what args make of it.
-use Rattle.std.specs.Prelude.{◌≡◌, ◌≤◌, ◌-◌, ◌&&◌, ◌==◌, nat_eq, ℕ, Bool, true, false, List, [], length, slice_index_or, Option, Some, None, Result, Ok, Err, if◌then◌else◌}
+use Rattle.std.specs.Prelude.{◌≡◌, ◌≤◌, ◌-◌, nat_eq, ℕ, Bool, false, List, [], length, slice_index_or, Option, Some, None, Result, Ok, Err, if◌then◌else◌}
 use Rattle.std.specs.List.{list_any}
 use Rattle.std.specs.Ordering.{nat_cmp, is_eq}
 use Rattle.bits32.specs.Set.{members}
@@ -69,5 +69,5 @@ needs_memory (Key scan down) = down
 needs_memory becomes = false
 
 -- what is kept says what is down on each device after a list of args, the newest first, each of which might come when it came
-abbrev pub StandsFor : List Args → List Kept → Type 0
-StandsFor past ks = (d : ℕ) → 1 ≤ d → d ≤ 8 → device_state d past ≡ Some (state_at ks d)
+abbrev pub DevicesStandFor : List Args → List Kept → Type 0
+DevicesStandFor past ks = (d : ℕ) → 1 ≤ d → d ≤ 8 → device_state d past ≡ Some (state_at ks d)

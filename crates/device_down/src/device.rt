@@ -85,14 +85,14 @@ impl DeviceDown {
     }
 
     /// Changes what is down. Without memory nothing changes.
-    pub(crate) fn take(&mut self, becomes: &Becomes) -> Result<(), AllocError>
+    pub(crate) fn apply(&mut self, becomes: &Becomes) -> Result<(), AllocError>
         ensures ok { OnOk result (state_of self.new ≡ changed becomes.now (state_of self.old)) }
         ensures err { OnErr result (self.new ≡ self.old) }
         ensures memory { OnErr result (needs_memory becomes.now ≡ true) }
     {
         match *becomes {
             Becomes::Pointers(ids) => self.pointers = ids,
-            Becomes::Key { scan, down } => return self.take_key(scan, down),
+            Becomes::Key { scan, down } => return self.apply_key(scan, down),
             Becomes::Nothing => {
                 self.pointers = nothing();
                 self.keys.clear();
@@ -102,7 +102,7 @@ impl DeviceDown {
     }
 
     /// A key goes down or up.
-    fn take_key(&mut self, scan: u16, down: bool) -> Result<(), AllocError>
+    fn apply_key(&mut self, scan: u16, down: bool) -> Result<(), AllocError>
         ensures ok { OnOk result (state_of self.new ≡ changed (Becomes.Key scan down) (state_of self.old)) }
         ensures err { OnErr result (self.new ≡ self.old) }
         ensures memory { OnErr result (down ≡ true) }

@@ -1,7 +1,7 @@
 //! What is down on each device.
 ghost use Rattle.std.specs.Prelude.{◌≡◌, ◌-◌, ◌<◌, ◌≤◌, true, [], length, OnErr, OnOk, IfOk};
 ghost use Rattle.input_types.specs.DeviceRule.{device_of};
-ghost use Rattle.device_down.specs.Down.{PlansAt, Changes, StandsFor, needs_memory};
+ghost use Rattle.device_down.specs.Down.{PlansAt, Changes, DevicesStandFor, needs_memory};
 
 use crate::change::{Change, Inconsistent};
 use crate::device::DeviceDown;
@@ -30,7 +30,7 @@ impl Model for DevicesDown {
 impl DevicesDown {
     /// Nothing is down.
     pub fn new(alloc: Global) -> Result<DevicesDown, AllocError>
-        ensures { IfOk result (λ d. StandsFor [] d) }
+        ensures { IfOk result (λ d. DevicesStandFor [] d) }
     {
         let devices = untouched(alloc)?;
         Ok(DevicesDown { devices })
@@ -49,19 +49,19 @@ impl DevicesDown {
     }
 
     /// Changes what is down. Memory is needed only where a key goes down, and without it nothing changes.
-    pub fn take(&mut self, change: &Change) -> Result<(), AllocError>
+    pub fn apply(&mut self, change: &Change) -> Result<(), AllocError>
         ensures ok { OnOk result (Changes change.now self.old self.new) }
         ensures err { OnErr result (self.new ≡ self.old) }
         ensures memory { OnErr result (needs_memory change.now.becomes ≡ true) }
     {
-        self.devices[row(change.device)].take(&change.becomes)
+        self.devices[row(change.device)].apply(&change.becomes)
     }
 }
 
 /// A table in which nothing is down.
 fn untouched(alloc: Global) -> Result<Vec<DeviceDown>, AllocError>
     ensures eight { IfOk result (λ v. length v.items ≡ 8) }
-    ensures nothing { IfOk result (λ v. StandsFor [] v.items) }
+    ensures nothing { IfOk result (λ v. DevicesStandFor [] v.items) }
 {
     let mut devices = Vec::with_capacity(alloc, 8)?;
     'devices: for _ in 0..8u32 {

@@ -12,7 +12,7 @@
 //! ```
 //!
 //! [`DevicesDown::plan`] answers what args change, or what is down where they may not come by the rule of devices, and
-//! changes nothing. [`DevicesDown::take`] makes the change; it needs memory only where a key goes down.
+//! changes nothing. [`DevicesDown::apply`] makes the change; it needs memory only where a key goes down.
 #![tactic(auto)]
 
 mod change;

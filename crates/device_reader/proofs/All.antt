@@ -9,7 +9,7 @@ use Rattle.std.proofs.lemmas.Option.{slice_get_past, slice_get_within}
 use Rattle.raw_events.specs.declared.event.RawEvent.{RawEvent}
 use Rattle.input_types.specs.declared.message.Args.{Args}
 use Rattle.device_reader.specs.Reading.{Reading}
-use Rattle.device_reader.specs.Cooked.{DevicePlan, StandsFor, args_of, number_of}
+use Rattle.device_reader.specs.Cooked.{DevicePlan, DeviceStandsFor, args_of, number_of}
 use Rattle.device_reader.specs.All.{AreNumbered}
 use Rattle.device_reader.specs.CookedList.{of_device, plan_of, added_by, added, latest, cooked, AllStandFor}
 
@@ -52,8 +52,8 @@ numbered_set readers i new h lt d = λ j r g. numbered_at readers i j new r h lt
 
 stand_at : (plans : List DevicePlan) (past : List RawEvent) (readers : List Reading) (e : RawEvent) (i j : ℕ) (plan p : DevicePlan) (new r : Reading)
     → AllStandFor plans past readers → e.device ≡ i + 1 → i < length readers → slice_get plans i ≡ Some plan
-    → StandsFor plan (e ∷ of_device (i + 1) past) new
-    → (j ≡ i) ⊎ (j ≢ i) → slice_get plans j ≡ Some p → slice_get (set readers i new) j ≡ Some r → StandsFor p (of_device (j + 1) (e ∷ past)) r
+    → DeviceStandsFor plan (e ∷ of_device (i + 1) past) new
+    → (j ≡ i) ⊎ (j ≢ i) → slice_get plans j ≡ Some p → slice_get (set readers i new) j ≡ Some r → DeviceStandsFor p (of_device (j + 1) (e ∷ past)) r
 stand_at plans past readers e i j plan p new r h d lt gp stands (inl same) hp hr =
     let itr : Some new ≡ Some r = sym (get_same readers i new lt) ∙ ap (λ k. slice_get (set readers i new) k) (sym same) ∙ hr in
     let itp : Some plan ≡ Some p = sym gp ∙ ap (λ k. slice_get plans k) (sym same) ∙ hp in
@@ -61,17 +61,17 @@ stand_at plans past readers e i j plan p new r h d lt gp stands (inl same) hp hr
     let p_is : plan ≡ p = cc in
     let there : e ∷ of_device (i + 1) past ≡ of_device (j + 1) (e ∷ past) =
     sym (more_of (i + 1) e past d) ∙ ap (λ k. of_device (k + 1) (e ∷ past)) (sym same) in
-    subst (λ (x : Reading). StandsFor p (of_device (j + 1) (e ∷ past)) x) r_is
-    (subst (λ (q : DevicePlan). StandsFor q (of_device (j + 1) (e ∷ past)) new) p_is
-    (subst (λ (es : List RawEvent). StandsFor plan es new) there stands))
+    subst (λ (x : Reading). DeviceStandsFor p (of_device (j + 1) (e ∷ past)) x) r_is
+    (subst (λ (q : DevicePlan). DeviceStandsFor q (of_device (j + 1) (e ∷ past)) new) p_is
+    (subst (λ (es : List RawEvent). DeviceStandsFor plan es new) there stands))
 stand_at plans past readers e i j plan p new r h d lt gp stands (inr other) hp hr =
     let elsewhere : e.device ≢ j + 1 = omega (arith, d, other) in
-    subst (λ (es : List RawEvent). StandsFor p es r) (sym (none_of (j + 1) e past elsewhere))
+    subst (λ (es : List RawEvent). DeviceStandsFor p es r) (sym (none_of (j + 1) e past elsewhere))
     (h.each j p r hp (sym (get_other readers i j new other) ∙ hr))
 
 pub stand_set : (plans : List DevicePlan) (past : List RawEvent) (readers : List Reading) (e : RawEvent) (i : ℕ) (plan : DevicePlan) (new : Reading)
     → AllStandFor plans past readers → e.device ≡ i + 1 → i < length readers → slice_get plans i ≡ Some plan
-    → StandsFor plan (e ∷ of_device (i + 1) past) new → AllStandFor plans (e ∷ past) (set readers i new)
+    → DeviceStandsFor plan (e ∷ of_device (i + 1) past) new → AllStandFor plans (e ∷ past) (set readers i new)
 stand_set plans past readers e i plan new h d lt gp stands = record {
   as_many = length-set readers i new ∙ h.as_many;
   each = λ j p r hp hr. stand_at plans past readers e i j plan p new r h d lt gp stands (cases_eq j i) hp hr;
@@ -85,7 +85,7 @@ stand_past plans past readers e h far = record {
   each = λ j p r hp hr.
       let near : j < length readers = slice_get_within readers j r hr in
       let elsewhere : e.device ≢ j + 1 = omega (arith, far, near) in
-      subst (λ (es : List RawEvent). StandsFor p es r) (sym (none_of (j + 1) e past elsewhere)) (h.each j p r hp hr);
+      subst (λ (es : List RawEvent). DeviceStandsFor p es r) (sym (none_of (j + 1) e past elsewhere)) (h.each j p r hp hr);
 }
 
 plan_past : (plans : List DevicePlan) (d : ℕ) → length plans < d → plan_of plans d ≡ None

@@ -19,7 +19,7 @@ use Rattle.touch_mapper.specs.Gesture.{gesture, as_args}
 use Rattle.key_layout.specs.Layout.{code_at}
 use Rattle.key_mapper.specs.Key.{KeyEvent, is_press, is_release, is_down, changes, key_of, meta_of}
 use Rattle.device_reader.specs.Packets.{since_drop, is_key, key_event, key_events}
-use Rattle.device_reader.specs.Cooked.{TouchPlan, KeysPlan, DevicePlan, Touches, Keys, number_of, pointers_at, cancelled_at, key_list, given, args_of, device_args}
+use Rattle.device_reader.specs.Cooked.{TouchPlan, KeysPlan, DevicePlan, Touches, Keys, number_of, pointers_at, cancelled_at, key_list, kind_args, args_of, device_args}
 use Rattle.device_reader.specs.CookedList.{of_device, plan_of, added_by, added, latest, cooked}
 use Rattle.device_reader.proofs.All.{more_of, none_of}
 use Rattle.device_reader.specs.Rule.{only_keys, down_at, KeepsRule}
@@ -88,7 +88,7 @@ keys_state plan past e false tail is before = before
 -- ---- events one after the other
 
 given_state : (plan : DevicePlan) (past : List RawEvent) (e : RawEvent) (tail : List Args) → device_state (number_of plan) tail ≡ Some (down_at plan past)
-    → device_state (number_of plan) (reverse (given plan past e) ++ tail) ≡ Some (down_at plan (e ∷ past))
+    → device_state (number_of plan) (reverse (kind_args plan past e) ++ tail) ≡ Some (down_at plan (e ∷ past))
 given_state (Touches plan) past e tail before = touch_state plan past e (is_report e) tail refl before
 given_state (Keys plan) past e tail before = keys_state plan past e (is_key e) tail refl before
 
@@ -100,7 +100,7 @@ none_down (Keys plan) = refl
 -- the step of one event, by what it is
 event_state : (plan : DevicePlan) (past : List RawEvent) (e : RawEvent) (v d : Bool) (tail : List Args)
     → device_state (number_of plan) tail ≡ Some (down_at plan (since_drop past))
-    → device_state (number_of plan) (reverse (if v then [] else (if d then Reset (number_of plan) ∷ [] else given plan (since_drop past) e)) ++ tail)
+    → device_state (number_of plan) (reverse (if v then [] else (if d then Reset (number_of plan) ∷ [] else kind_args plan (since_drop past) e)) ++ tail)
     ≡ Some (down_at plan (if v then since_drop past else (if d then [] else e ∷ since_drop past)))
 event_state plan past e true d tail before = before
 event_state plan past e false true tail before =
@@ -140,12 +140,12 @@ from_keys : (plan : KeysPlan) (past : List RawEvent) (e : RawEvent) (t : Bool)
 from_keys plan past e true = from_key plan (key_events past) (key_event e) (changes (key_events past) (key_event e))
 from_keys plan past e false = tt
 
-from_given : (plan : DevicePlan) (past : List RawEvent) (e : RawEvent) → AllFrom (number_of plan) (given plan past e)
+from_given : (plan : DevicePlan) (past : List RawEvent) (e : RawEvent) → AllFrom (number_of plan) (kind_args plan past e)
 from_given (Touches plan) past e = from_touch plan past e (is_report e)
 from_given (Keys plan) past e = from_keys plan past e (is_key e)
 
 from_event : (plan : DevicePlan) (past : List RawEvent) (e : RawEvent) (v d : Bool)
-    → AllFrom (number_of plan) (if v then [] else (if d then Reset (number_of plan) ∷ [] else given plan (since_drop past) e))
+    → AllFrom (number_of plan) (if v then [] else (if d then Reset (number_of plan) ∷ [] else kind_args plan (since_drop past) e))
 from_event plan past e true d = tt
 from_event plan past e false true = (refl, tt)
 from_event plan past e false false = from_given plan (since_drop past) e

@@ -6,13 +6,13 @@ use Rattle.input_types.specs.declared.key.KeyArgs.{KeyArgs}
 use Rattle.input_types.specs.declared.message.Args.{Args}
 use Rattle.input_types.specs.declared.message.Args.TheVariants.{Key, Reset}
 use Rattle.raw_events.specs.Packets.{is_report, is_drop, is_void}
-use Rattle.slot_accumulator.specs.SlotContacts.{contacts_at, StandsFor as SlotsStandFor}
+use Rattle.slot_accumulator.specs.SlotContacts.{contacts_at, SlotsStandFor}
 use Rattle.pointer_ids.specs.PointerIds.{named_after, is_cancelled, assigned}
 use Rattle.touch_mapper.specs.Cooking.{Cooking}
 use Rattle.touch_mapper.specs.Gesture.{placed_all, gesture, as_args}
 use Rattle.key_layout.specs.Layout.{Codes}
 use Rattle.key_mapper.specs.Key.{key_of}
-use Rattle.key_mapper.specs.Held.{Held, StandsFor as KeysStandFor}
+use Rattle.key_mapper.specs.Held.{Held, KeysStandFor}
 use Rattle.device_reader.specs.declared.touch.Touch.{Touch}
 use Rattle.device_reader.specs.declared.reader.Kind.{Kind}
 use Rattle.device_reader.specs.declared.reader.Kind.TheVariants as kinds
@@ -65,9 +65,9 @@ abbrev pub key_args : KeysPlan → List RawEvent → RawEvent → List Args
 key_args plan past e = if is_key e then key_list (key_of plan.device plan.layout (key_events past) (key_event e)) else []
 
 -- what an event of a device adds after events without a drop
-abbrev pub given : DevicePlan → List RawEvent → RawEvent → List Args
-given (Touches plan) past e = touch_args plan past e
-given (Keys plan) past e = key_args plan past e
+abbrev pub kind_args : DevicePlan → List RawEvent → RawEvent → List Args
+kind_args (Touches plan) past e = touch_args plan past e
+kind_args (Keys plan) past e = key_args plan past e
 
 -- What an event adds: nothing where it is void, a Reset where it is a drop, and else what it gives after the events
 -- since the last drop.
@@ -75,7 +75,7 @@ abbrev pub args_of : DevicePlan → List RawEvent → RawEvent → List Args
 args_of plan past e =
     if is_void past then []
     else if is_drop e then Reset (number_of plan) ∷ []
-    else given plan (since_drop past) e
+    else kind_args plan (since_drop past) e
 
 -- all that a device gave, the newest first
 abbrev pub device_args : DevicePlan → List RawEvent → List Args
@@ -103,7 +103,7 @@ KindStandsFor (Touches plan) past (kinds.Keys k) = ⊥
 KindStandsFor (Keys plan) past (kinds.Touch t) = ⊥
 
 -- a reader is where it has to be after a list of the device's events
-pub record StandsFor (plan : DevicePlan) (past : List RawEvent) (r : Reading) : Type 0 where
+pub record DeviceStandsFor (plan : DevicePlan) (past : List RawEvent) (r : Reading) : Type 0 where
   pub device_is : r.device ≡ number_of plan
   pub void_is : r.void ≡ is_void past
   pub kind_stands : KindStandsFor plan (since_drop past) r.kind

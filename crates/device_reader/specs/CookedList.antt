@@ -4,7 +4,7 @@ use Rattle.raw_events.specs.declared.event.RawEvent.{RawEvent}
 use Rattle.input_types.specs.declared.message.Args.{Args}
 use Rattle.device_reader.specs.Reading.{Reading}
 use Rattle.device_reader.specs.All.{ReadersState}
-use Rattle.device_reader.specs.Cooked.{DevicePlan, args_of, StandsFor}
+use Rattle.device_reader.specs.Cooked.{DevicePlan, args_of, DeviceStandsFor}
 
 -- the events of one device
 abbrev pub of_device : ℕ → List RawEvent → List RawEvent
@@ -38,7 +38,7 @@ cooked plans (e ∷ past) = reverse (map (λ a. (max (latest (cooked plans past)
 pub record AllStandFor (plans : List DevicePlan) (past : List RawEvent) (readers : List Reading) : Type 0 where
   pub as_many : length readers ≡ length plans
   pub each : (i : ℕ) (plan : DevicePlan) (r : Reading) → slice_get plans i ≡ Some plan → slice_get readers i ≡ Some r
-      → StandsFor plan (of_device (i + 1) past) r
+      → DeviceStandsFor plan (of_device (i + 1) past) r
 
 -- the readers of a recording are where they have to be: each after its device's events, and the moment is that of the
 -- newest args

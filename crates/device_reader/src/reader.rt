@@ -3,7 +3,7 @@ ghost use Rattle.std.specs.Prelude.{◌≡◌, ℕ, ◌≤◌, List, [], ◌∷�
 ghost use Rattle.raw_events.specs.declared.event.RawEvent.{RawEvent as Event};
 ghost use Rattle.key_mapper.specs.Held.{Held};
 ghost use Rattle.device_reader.specs.Cooked.{DevicePlan, HeldStandsFor, Keys as KeysDevice, KeysPlan, KindStandsFor};
-ghost use Rattle.device_reader.specs.Cooked.{StandsFor, Touches, args_of, given, key_args};
+ghost use Rattle.device_reader.specs.Cooked.{DeviceStandsFor, Touches, args_of, key_args, kind_args};
 ghost use Rattle.device_reader.specs.Rule.{KeepsRule};
 
 use crate::packets::is_drop;
@@ -49,7 +49,7 @@ impl DeviceReader {
     /// are those of its last packet since the last SYN_DROPPED.
     pub fn touch(alloc: Global, device: DeviceId, slots: u8, cook: Cook) -> DeviceReader
         requires { (1 ≤ slots) × (slots ≤ 16) }
-        ensures state { StandsFor (Touches (record { device = device; slots = slots; cook = cook })) [] result }
+        ensures state { DeviceStandsFor (Touches (record { device = device; slots = slots; cook = cook })) [] result }
         ensures device { result.device ≡ device }
         ensures rule { (past : List Event)
             → KeepsRule (Touches (record { device = device; slots = slots; cook = cook })) past }
@@ -68,7 +68,7 @@ impl DeviceReader {
     /// up only when it is down. The keys that are down by that rule are those whose last EV_KEY of value 0 or 1 since
     /// the last SYN_DROPPED has value 1.
     pub fn keys(alloc: Global, device: DeviceId, layout: Layout) -> DeviceReader
-        ensures state { StandsFor (KeysDevice (record { device = device; layout = layout })) [] result }
+        ensures state { DeviceStandsFor (KeysDevice (record { device = device; layout = layout })) [] result }
         ensures device { result.device ≡ device }
         ensures rule { (past : List Event) → KeepsRule (KeysDevice (record { device = device; layout = layout })) past }
     {
@@ -89,10 +89,10 @@ impl DeviceReader {
     /// of memory the reader is as before.
     pub fn take(&mut self, event: RawEvent) -> Result<Vec<Args>, AllocError>
         requires { event.device ≡ self.old.device }
-        ensures ok { (plan : DevicePlan) (past : List Event) → StandsFor plan past self.old → IfOk result
+        ensures ok { (plan : DevicePlan) (past : List Event) → DeviceStandsFor plan past self.old → IfOk result
             (λ v. v.items ≡ args_of plan past event) }
-        ensures after { (plan : DevicePlan) (past : List Event) → StandsFor plan past self.old
-            → OnOk result (StandsFor plan (event ∷ past) self.new) }
+        ensures after { (plan : DevicePlan) (past : List Event) → DeviceStandsFor plan past self.old
+            → OnOk result (DeviceStandsFor plan (event ∷ past) self.new) }
         ensures device { self.new.device ≡ self.old.device }
         ensures err { OnErr result (self.new ≡ self.old) }
     {
@@ -108,10 +108,10 @@ impl DeviceReader {
     /// motions of a packet, which are at most `Gestures::MOST`, but for that of a key that goes down.
     pub fn take_into(&mut self, event: RawEvent, args: &mut Vec<Args>) -> Result<(), AllocError>
         requires { event.device ≡ self.old.device }
-        ensures ok { (plan : DevicePlan) (past : List Event) → StandsFor plan past self.old
+        ensures ok { (plan : DevicePlan) (past : List Event) → DeviceStandsFor plan past self.old
             → OnOk result (args.new.items ≡ args.old.items ++ args_of plan past event) }
-        ensures after { (plan : DevicePlan) (past : List Event) → StandsFor plan past self.old
-            → OnOk result (StandsFor plan (event ∷ past) self.new) }
+        ensures after { (plan : DevicePlan) (past : List Event) → DeviceStandsFor plan past self.old
+            → OnOk result (DeviceStandsFor plan (event ∷ past) self.new) }
         ensures device { self.new.device ≡ self.old.device }
         ensures err { OnErr result (self.new ≡ self.old) }
         ensures given { OnErr result (args.new.items ≡ args.old.items) }
@@ -126,14 +126,14 @@ impl DeviceReader {
             self.void = true;
             return Ok(());
         }
-        take_given(&mut self.kind, event, args)
+        take_by_kind(&mut self.kind, event, args)
     }
 }
 
 /// Takes an event that is neither void nor a drop, and adds what it gives.
-fn take_given(kind: &mut Kind, event: RawEvent, args: &mut Vec<Args>) -> Result<(), AllocError>
+fn take_by_kind(kind: &mut Kind, event: RawEvent, args: &mut Vec<Args>) -> Result<(), AllocError>
     ensures ok { (plan : DevicePlan) (past : List Event) → KindStandsFor plan past kind.old
-        → OnOk result (args.new.items ≡ args.old.items ++ given plan past event) }
+        → OnOk result (args.new.items ≡ args.old.items ++ kind_args plan past event) }
     ensures after { (plan : DevicePlan) (past : List Event) → KindStandsFor plan past kind.old
         → OnOk result (KindStandsFor plan (event ∷ past) kind.new) }
     ensures err { OnErr result (kind.new ≡ kind.old) }

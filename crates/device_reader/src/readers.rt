@@ -98,12 +98,5 @@ fn take_any(
 fn raised(latest: Moment, moment: Moment, adds: bool) -> Moment
     ensures { result ≡ (if adds then max latest moment else latest) }
 {
-    if adds { later(latest, moment) } else { latest }
-}
-
-/// The later one of two moments.
-fn later(a: Moment, b: Moment) -> Moment
-    ensures { result ≡ max a b }
-{
-    if a.get() < b.get() { b } else { a }
+    if adds { latest.later(moment) } else { latest }
 }

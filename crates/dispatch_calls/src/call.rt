@@ -1,4 +1,7 @@
 //! Calls of the dispatcher, and the entries that they make.
+ghost use Rattle.std.specs.Prelude.{◌≡◌};
+ghost use Rattle.dispatch_calls.specs.Moments.{moment_of};
+
 use crate::reply::Reply;
 use input_types::{Args, DeviceId, DisplayId, Limit, Moment};
 use window_snapshot::Snapshot;
@@ -56,6 +59,25 @@ pub enum Call {
         now: Moment,
         channel: u32,
     },
+}
+
+impl Call {
+    /// The moment that it hands in, 0 where it hands in none.
+    pub fn moment(&self) -> Moment
+        ensures { result ≡ moment_of self.now }
+    {
+        match self {
+            Call::Open { .. } | Call::Receive { .. } => Moment::zero(),
+            Call::Windows { now, .. }
+            | Call::FocusOn { now, .. }
+            | Call::Notify { now, .. }
+            | Call::Pump { now }
+            | Call::Tick { now }
+            | Call::Finish { now, .. }
+            | Call::Pilfer { now, .. }
+            | Call::Remove { now, .. } => *now,
+        }
+    }
 }
 
 /// A call that was answered: one entry of the dispatcher's history.

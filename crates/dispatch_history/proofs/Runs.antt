@@ -11,7 +11,7 @@ use Rattle.dispatch_history.specs.Effect.{Effect, stream, past_of}
 use Rattle.dispatch_history.specs.History.{received, finished}
 use Rattle.dispatch_history.specs.Due.{namings, counts}
 use Rattle.dispatch_history.specs.Plan.{Plan, ChannelOf, ScriptStep, Cooked, Line, ReaderLine, ScriptLine, PumpLine, ReceiveLine, FinishLine}
-use Rattle.dispatch_history.specs.Given.{given}
+use Rattle.dispatch_history.specs.Given.{given_calls}
 use Rattle.dispatch_history.specs.Ordered.{ordered, chosen, extend}
 use Rattle.dispatch_history.proofs.Worked.{one_display, window, at, motion, key, focused, keyed, says}
 
@@ -128,18 +128,18 @@ followed (Ok calls) = extend one_display [] calls
 followed (Err n) = []
 
 a_given_order_of_two_windows :
-    in_order (followed (given over_two eight_lines)) 1
+    in_order (followed (given_calls over_two eight_lines)) 1
     ≡ says 1 1000000 (motion Down 0 (at 0 100 200 ∷ [])) ∷ says 2 1010000 (motion Move 0 (at 0 100 200 ∷ [])) ∷ []
 a_given_order_of_two_windows = refl
 
-its_right_window : in_order (followed (given over_two eight_lines)) 2 ≡ says 1 1010000 (motion Down 0 (at 1 160 400 ∷ [])) ∷ []
+its_right_window : in_order (followed (given_calls over_two eight_lines)) 2 ≡ says 1 1010000 (motion Down 0 (at 1 160 400 ∷ [])) ∷ []
 its_right_window = refl
 
 what_was_received_and_finished :
-    (let h = past_of (followed (given over_two eight_lines)) in received h 1 ∷ received h 2 ∷ length (finished h 1) ∷ length (finished h 2) ∷ [])
+    (let h = past_of (followed (given_calls over_two eight_lines)) in received h 1 ∷ received h 2 ∷ length (finished h 1) ∷ length (finished h 2) ∷ [])
     ≡ 1 ∷ 1 ∷ 1 ∷ 0 ∷ []
 what_was_received_and_finished = refl
 
 -- of four lines for the reader the fourth has no args left
-a_line_without_a_step : given over_two (ReaderLine ∷ ReaderLine ∷ ReaderLine ∷ ReaderLine ∷ []) ≡ Err 3
+a_line_without_a_step : given_calls over_two (ReaderLine ∷ ReaderLine ∷ ReaderLine ∷ ReaderLine ∷ []) ≡ Err 3
 a_line_without_a_step = refl

@@ -77,5 +77,5 @@ after_opens cs (Ok calls) = Ok (opens cs ++ calls)
 after_opens cs (Err n) = Err n
 
 -- the given run: the channels are opened, and then the lines are followed; in order
-abbrev pub given : Plan → List Line → Result (List Call) ℕ
-given plan lines = after_opens plan.channels (line_calls 0 plan.cooked plan.steps lines)
+abbrev pub given_calls : Plan → List Line → Result (List Call) ℕ
+given_calls plan lines = after_opens plan.channels (line_calls 0 plan.cooked plan.steps lines)

@@ -4,7 +4,8 @@ use Rattle.input_types.specs.declared.axis.Pixel.{Pixel}
 use Rattle.window_snapshot.specs.declared.window.Window.{Window}
 use Rattle.window_snapshot.specs.Named.{origin_of, is_shown_on}
 use Rattle.dispatch_calls.specs.declared.call.Call.{Call}
-use Rattle.dispatch_calls.specs.declared.call.Call.TheVariants.{Open, Windows, FocusOn, Notify, Pump, Tick, Receive, Finish, Pilfer, Remove}
+use Rattle.dispatch_calls.specs.declared.call.Call.TheVariants.{Open, Windows, Receive, Finish, Remove}
+pub use Rattle.dispatch_calls.specs.Moments.{moment_of}
 use Rattle.dispatch_calls.specs.declared.reply.Reply.{Reply}
 use Rattle.dispatch_calls.specs.declared.reply.Reply.TheVariants.{Opened, Done, Got}
 use Rattle.window_snapshot.specs.Origins.{corner, or_origin}
@@ -12,19 +13,6 @@ use Rattle.window_snapshot.specs.Origins.{corner, or_origin}
 -- a history
 abbrev pub History : Type 0
 History = List (Call × Reply)
-
--- the moment that a call hands in, 0 where it hands in none
-abbrev pub moment_of : Call → ℕ
-moment_of (Open limit) = 0
-moment_of (Windows now snapshot) = now
-moment_of (FocusOn now display channel) = now
-moment_of (Notify now args) = now
-moment_of (Pump now) = now
-moment_of (Tick now) = now
-moment_of (Receive channel) = 0
-moment_of (Finish now channel seq) = now
-moment_of (Pilfer now channel device) = now
-moment_of (Remove now channel) = now
 
 -- the clock: the greatest moment that any call handed in, refused ones included
 abbrev pub clock : History → ℕ

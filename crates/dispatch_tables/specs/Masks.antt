@@ -1,7 +1,7 @@
 -- Which channels are able to take input after a step, and what that makes of masks.
-use Rattle.std.specs.Prelude.{ℕ, Bool, not, ◌==◌, ◌&&◌, ◌||◌, bit_and, if◌then◌else◌}
-use Rattle.std.specs.Int.{bit_not, w64}
+use Rattle.std.specs.Prelude.{ℕ, Bool, not, ◌==◌, ◌&&◌, ◌||◌, if◌then◌else◌}
 use Rattle.window_snapshot.specs.Mask.{mask_has, mask_with}
+pub use Rattle.window_snapshot.specs.Mask.{mask_less}
 use Rattle.dispatch_calls.specs.declared.call.Call.{Call}
 use Rattle.dispatch_calls.specs.declared.call.Call.TheVariants.{Open, Tick, Finish, Remove}
 use Rattle.dispatch_calls.specs.declared.reply.Reply.{Reply}
@@ -15,10 +15,6 @@ able_after (Remove now k) Done late c before = not (c == k) && before
 able_after (Tick now) (Named mask) late c before = not (mask_has mask c) && before
 able_after (Finish now k seq) Done late c before = if c == k then before || not late else before
 able_after call answer late c before = before
-
--- the channels of a mask that are not in another one
-abbrev pub mask_less : ℕ → ℕ → ℕ
-mask_less mask other = bit_and mask (bit_not w64 other)
 
 -- the mask of the live channels after a step
 abbrev pub live_mask_after : Call → Reply → ℕ → ℕ

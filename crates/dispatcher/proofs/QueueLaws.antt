@@ -5,7 +5,7 @@ use Rattle.std.proofs.lemmas.List.{reverse-append, length-reverse, drop-append-l
 use Rattle.input_types.specs.declared.message.Args.{Args}
 use Rattle.input_types.specs.DeviceRule.{after_args, device_of}
 use Rattle.device_down.specs.Kept.{Kept}
-use Rattle.device_down.specs.Down.{StandsFor}
+use Rattle.device_down.specs.Down.{DevicesStandFor}
 use Rattle.device_down.proofs.Accepting.{accepts}
 use Rattle.dispatch_calls.specs.declared.call.Call.{Call}
 use Rattle.dispatch_calls.specs.declared.call.Call.TheVariants.{Open, Windows, FocusOn, Notify, Pump, Tick, Receive, Finish, Pilfer, Remove}
@@ -102,15 +102,15 @@ waits_step es (Remove now channel) answer r few = refl
 
 -- ---- what is down
 
-down_notified : (acc : List Args) (old new : List Kept) (now : ℕ) (a : Args) (c : Bool) (x : ℕ) (y : Bool) (answer : Reply) → StandsFor acc old
-    → answer ≡ cond c Taken (Inconsistent x y) → DownGoes (Notify now a) answer old new → StandsFor (accepted_after (Notify now a) answer acc) new
+down_notified : (acc : List Args) (old new : List Kept) (now : ℕ) (a : Args) (c : Bool) (x : ℕ) (y : Bool) (answer : Reply) → DevicesStandFor acc old
+    → answer ≡ cond c Taken (Inconsistent x y) → DownGoes (Notify now a) answer old new → DevicesStandFor (accepted_after (Notify now a) answer acc) new
 down_notified acc old new now a true x y answer stands r goes =
     let by = rw r at goes in rw r (accepts acc a by.0 old new stands by.1 by.2)
 down_notified acc old new now a false x y answer stands r goes =
     let same : new ≡ old = rw r at goes in rw (r, same) stands
 
-down_step : (es : List Effect) (call : Call) (answer : Reply) (old new : List Kept) → answer ≡ reply_to es call → StandsFor (accepted (past_of es)) old
-    → DownGoes call answer old new → StandsFor (accepted_after call answer (accepted (past_of es))) new
+down_step : (es : List Effect) (call : Call) (answer : Reply) (old new : List Kept) → answer ≡ reply_to es call → DevicesStandFor (accepted (past_of es)) old
+    → DownGoes call answer old new → DevicesStandFor (accepted_after call answer (accepted (past_of es))) new
 down_step es (Notify now a) answer old new r stands goes =
     let s = down_on (past_of es) (device_of a) in
     down_notified (accepted (past_of es)) old new now a (is_some (after_args s a)) (id_bits s.ids) (is_down s a) answer stands r goes

@@ -1,6 +1,6 @@
 -- What is kept before the first call.
 use Rattle.std.specs.Prelude.{◌≡◌, ℕ, [], replicate, None}
-use Rattle.device_down.specs.Down.{StandsFor as StandsDown}
+use Rattle.device_down.specs.Down.{DevicesStandFor}
 use Rattle.window_snapshot.specs.Origins.{corner}
 use Rattle.route_split.specs.Tables.{table_of, IsFresh}
 use Rattle.dispatcher.specs.Shown.{origin_at}
@@ -12,7 +12,7 @@ pub record IsFirst (k : Kept) : Type 0 where
   pub clock_is : k.queue.clock ≡ 0
   pub place_is : k.queue.place ≡ 0
   pub waiting_is : k.queue.waiting ≡ []
-  pub down_is : StandsDown [] k.queue.down
+  pub down_is : DevicesStandFor [] k.queue.down
   pub windows_are : k.shown.windows ≡ []
   pub origins_are : (w : ℕ) → origin_at k.shown.origins w ≡ corner
   pub touches_are : (d : ℕ) → IsFresh (table_of k.touches d)

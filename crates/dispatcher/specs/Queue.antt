@@ -3,7 +3,7 @@ use Rattle.std.specs.Prelude.{◌≡◌, ℕ, suc, max, List, [], ◌∷◌, ◌
 use Rattle.input_types.specs.declared.message.Args.{Args}
 use Rattle.device_down.specs.declared.change.Change.{Change}
 use Rattle.device_down.specs.Kept.{Kept}
-use Rattle.device_down.specs.Down.{StandsFor, PlansAt, Changes}
+use Rattle.device_down.specs.Down.{DevicesStandFor, PlansAt, Changes}
 use Rattle.dispatch_calls.specs.declared.call.Call.{Call}
 use Rattle.dispatch_calls.specs.declared.call.Call.TheVariants.{Notify, Pump}
 use Rattle.dispatch_calls.specs.declared.reply.Reply.{Reply}
@@ -24,7 +24,7 @@ pub record QueueIs (es : List Effect) (k : Queue) : Type 0 where
   pub clock_is : k.clock ≡ clock (past_of es)
   pub place_is : k.place ≡ length es
   pub waiting_is : k.waiting ≡ inbound (past_of es)
-  pub down_is : StandsFor (accepted (past_of es)) k.down
+  pub down_is : DevicesStandFor (accepted (past_of es)) k.down
 
 -- what waits after a step: args that are taken stand behind the others, and a pump that dispatches takes the first ones
 abbrev pub waiting_after : Call → Reply → List Args → List Args

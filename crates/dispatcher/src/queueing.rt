@@ -96,7 +96,7 @@ impl Queueing {
         ensures err { OnErr result (self.new ≡ self.old) }
     {
         self.waiting.reserve(1)?;
-        self.down.take(change)?;
+        self.down.apply(change)?;
         self.waiting.put(copy_of(args));
         self.clock = later(self.clock, now);
         self.place += 1;

@@ -1,11 +1,12 @@
 -- Masks of one channel, unions of masks and differences of them.
 use Rattle.std.proofs.Common.{◌≡◌, ℕ, ◌-◌, ◌^◌, ◌<◌, Bool, true, false, not, ◌&&◌, ◌||◌, Option, Some, None, cond, subst, refl, ap, ap₂, sym, ◌∙◌, arith, inl, inr}
-use Rattle.std.specs.Prelude.{◌==◌, bit_or, bit_and, nat_lt, nat_le}
+use Rattle.std.specs.Prelude.{◌==◌, bit_or, bit_and}
 use Rattle.std.specs.Int.{bit_at, bit_not, w64}
-use Rattle.std.proofs.lemmas.Bool.{cases_eq, eq-eqb, ne_eqb, and_parts, ltb-true, leb-true, and_right}
-use Rattle.std.proofs.lemmas.Nat.Bits.{bit_at_or, bit_at_and, bit_at_not, bit_at-lt}
+use Rattle.std.proofs.lemmas.Bool.{cases_eq, eq-eqb, ne_eqb, and_right}
+use Rattle.std.proofs.lemmas.Nat.Bits.{bit_at_or, bit_at-lt}
 use Rattle.window_snapshot.specs.Mask.{is_channel, mask_has, mask_with}
 use Rattle.window_snapshot.proofs.Masks.{mask_has-with, mask_has-zero, mask_has_channel}
+use Rattle.window_snapshot.proofs.Parts.{mask_has-less}
 use Rattle.focus_resolver.specs.Resolver.{focus_if}
 
 -- a mask with one channel has just that
@@ -31,26 +32,6 @@ bit_or_is a b i =
           ap (λ n. n == 1) same ∙ sym (ap (λ t. t || (bit_at b i == 1)) (ne_eqb _ _ p))
     ]
 
-bit_without_is : (a b i : ℕ) → b < 2 ^ 64 → i < 64 → (bit_at (bit_and a (bit_not w64 b)) i == 1) ≡ ((bit_at a i == 1) && not (bit_at b i == 1))
-bit_without_is a b i low within =
-    let both = bit_at_and a (bit_not w64 b) i in
-    let turned = bit_at_not w64 b i low within in
-    let in_a = bit_at-lt a i in
-    let in_b = bit_at-lt b i in
-    elim (cases_eq (bit_at b i) 1) [
-      | inl q ↦
-          ne_eqb _ _ (λ h. absurd (omega (arith, both, turned, in_a, in_b, q, h)))
-          ∙ sym (and_right (bit_at a i == 1) (not (bit_at b i == 1)) (ap not (eq-eqb _ _ q)))
-      | inr q ↦
-          let same : bit_at (bit_and a (bit_not w64 b)) i ≡ bit_at a i = omega (arith, both, turned, in_a, in_b, q) in
-          ap (λ n. n == 1) same
-          ∙ sym (ap (λ t. (bit_at a i == 1) && not t) (ne_eqb _ _ q) ∙ and_true (bit_at a i == 1))
-    ]
-  where
-    and_true : (b : Bool) → (b && true) ≡ b
-    and_true true = refl
-    and_true false = refl
-
 -- a union has the channels of both
 pub mask_has-or : (a b c : ℕ) → mask_has (bit_or a b) c ≡ (mask_has a c || mask_has b c)
 mask_has-or a b c = ap (λ t. is_channel c && t) (bit_or_is a b (c - 1)) ∙ spread (is_channel c) (bit_at a (c - 1) == 1) (bit_at b (c - 1) == 1)
@@ -61,14 +42,13 @@ mask_has-or a b c = ap (λ t. is_channel c && t) (bit_or_is a b (c - 1)) ∙ spr
 
 -- a difference has those of the one that are not in the other
 pub mask_has-without : (a b c : ℕ) → b < 2 ^ 64 → mask_has (bit_and a (bit_not w64 b)) c ≡ (mask_has a c && not (mask_has b c))
-mask_has-without a b c low = by_channel (is_channel c) refl
+mask_has-without a b c low = mask_has-less a b c low ∙ turned (mask_has b c) (mask_has a c)
   where
-    by_channel : (k : Bool) → is_channel c ≡ k
-        → (k && (bit_at (bit_and a (bit_not w64 b)) (c - 1) == 1)) ≡ ((k && (bit_at a (c - 1) == 1)) && not (k && (bit_at b (c - 1) == 1)))
-    by_channel true e =
-        let p = and_parts (nat_lt 0 c) (nat_le c 64) e in
-        bit_without_is a b (c - 1) low (omega (arith, ltb-true 0 c p.0, leb-true c 64 p.1))
-    by_channel false e = refl
+    turned : (s t : Bool) → (not s && t) ≡ (t && not s)
+    turned true true = refl
+    turned true false = refl
+    turned false true = refl
+    turned false false = refl
 
 -- the union of four masks
 pub mask_has-or_four : (k l m n c : ℕ) → mask_has (bit_or (bit_or (bit_or k l) m) n) c ≡ (mask_has k c || (mask_has l c || (mask_has m c || (mask_has n c || false))))

@@ -5,7 +5,7 @@ use Rattle.std.proofs.lemmas.List.{drop-map, drop_more}
 use Rattle.std.proofs.lemmas.Option.{get_or_from_slice_get, slice_get_within}
 use Rattle.dispatch_calls.specs.declared.call.Call.{Call}
 use Rattle.dispatch_history.specs.Effect.{Effect, past_of}
-use Rattle.dispatch_history.specs.Given.{given, opens, after_opens, line_calls, then_rest, call_of, args_after, steps_after}
+use Rattle.dispatch_history.specs.Given.{given_calls, opens, after_opens, line_calls, then_rest, call_of, args_after, steps_after}
 use Rattle.dispatch_history.specs.History.{opened}
 use Rattle.dispatch_history.specs.Legal.{answered, run}
 use Rattle.dispatch_history.specs.Ordered.{begun, extend}
@@ -38,7 +38,7 @@ pub record Along (plan : Plan) (lines : List Line) (n : ℕ) (s : GivenState) : 
   pub cs : List Cooked
   pub ss : List ScriptStep
   pub comes : Comes plan n es cs ss s
-  pub all_is : effects_of plan.displays [] (given plan lines) ≡ effects_of plan.displays es (line_calls n cs ss (drop n lines))
+  pub all_is : effects_of plan.displays [] (given_calls plan lines) ≡ effects_of plan.displays es (line_calls n cs ss (drop n lines))
 
 -- none is followed yet
 pub along_first : (plan : Plan) (lines : List Line) (s : GivenState) → Comes plan 0 (begun plan) plan.cooked plan.steps s → Along plan lines 0 s
@@ -75,9 +75,9 @@ refused ds (Err k) n e = cc
 
 -- a line whose step does not exist
 pub along_stops : (plan : Plan) (lines : List Line) (n : ℕ) (line : Line) (s : GivenState) (a : Along plan lines n s) → drop n lines ≡ line ∷ drop (n + 1) lines
-    → call_of line a.cs a.ss ≡ None → given plan lines ≡ Err n
+    → call_of line a.cs a.ss ≡ None → given_calls plan lines ≡ Err n
 along_stops plan lines n line s a here none =
-    refused plan.displays (given plan lines) n
+    refused plan.displays (given_calls plan lines) n
     (a.all_is ∙ ap (λ ls. effects_of plan.displays a.es (line_calls n a.cs a.ss ls)) here
     ∙ ap (effects_of plan.displays a.es) (line_then n a.cs a.ss line (drop (n + 1) lines))
     ∙ ap (λ o. effects_of plan.displays a.es (then_rest o n (line_calls (n + 1) (args_after line a.cs) (steps_after line a.ss) (drop (n + 1) lines)))) none)
@@ -103,5 +103,5 @@ made plan (Ok calls) es s e has many =
 -- all lines were followed
 pub along_ends : (plan : Plan) (lines : List Line) (n : ℕ) (s : GivenState) → Along plan lines n s → drop n lines ≡ [] → Follows plan lines (Ok s.run)
 along_ends plan lines n s a end =
-    made plan (given plan lines) a.es s.run
+    made plan (given_calls plan lines) a.es s.run
     (a.all_is ∙ ap (λ ls. effects_of plan.displays a.es (line_calls n a.cs a.ss ls)) end) a.comes.has a.comes.opened_is

@@ -7,7 +7,7 @@ use Rattle.input_types.specs.declared.motion.MotionAction.TheVariants.{Down}
 use Rattle.dispatch_calls.specs.declared.call.Call.{Call}
 use Rattle.dispatch_calls.specs.declared.call.Call.TheVariants as calls
 use Rattle.dispatch_history.specs.Effect.{Effect}
-use Rattle.dispatch_history.specs.Given.{given}
+use Rattle.dispatch_history.specs.Given.{given_calls}
 use Rattle.dispatch_history.specs.Ordered.{extend}
 use Rattle.dispatch_history.specs.Plan.{Plan, Cooked}
 use Rattle.dispatch_history.proofs.Worked.{one_display, window, at, motion}
@@ -36,24 +36,24 @@ two_lanes =
 
 -- each line makes its call: a step has its moment, wherever it stands, and a pump, a tick and a finish have moment 0
 each_line_makes_its_call :
-    given two_lanes (map line_of (Script 2 ∷ Tick ∷ Script 1 ∷ Receive 1 ∷ Script 1 ∷ Finish 1 3 ∷ Pump ∷ Receive 9 ∷ []))
+    given_calls two_lanes (map line_of (Script 2 ∷ Tick ∷ Script 1 ∷ Receive 1 ∷ Script 1 ∷ Finish 1 3 ∷ Pump ∷ Receive 9 ∷ []))
     ≡ Ok (calls.Open 5000000 ∷ calls.Remove 7 1 ∷ calls.Tick 0 ∷ calls.FocusOn 5 0 (Some 1) ∷ calls.Receive 1 ∷ calls.Pilfer 9 1 1
     ∷ calls.Finish 0 1 3 ∷ calls.Pump 0 ∷ calls.Receive 9 ∷ [])
 each_line_makes_its_call = refl
 
 -- a plan need not be used up
-no_lines_open_the_channels : given two_lanes (map line_of []) ≡ Ok (calls.Open 5000000 ∷ [])
+no_lines_open_the_channels : given_calls two_lanes (map line_of []) ≡ Ok (calls.Open 5000000 ∷ [])
 no_lines_open_the_channels = refl
 
 -- lane 2 has one step, and lane 3 has none
-a_lane_has_no_step_left : given two_lanes (map line_of (Script 2 ∷ Pump ∷ Script 2 ∷ Script 3 ∷ [])) ≡ Err 2
+a_lane_has_no_step_left : given_calls two_lanes (map line_of (Script 2 ∷ Pump ∷ Script 2 ∷ Script 3 ∷ [])) ≡ Err 2
 a_lane_has_no_step_left = refl
 
-a_lane_has_no_steps : given two_lanes (map line_of (Script 3 ∷ [])) ≡ Err 0
+a_lane_has_no_steps : given_calls two_lanes (map line_of (Script 3 ∷ [])) ≡ Err 0
 a_lane_has_no_steps = refl
 
 -- of two args the third is missing
-no_args_are_left : given (finger two_lanes) (map line_of (Reader ∷ Pump ∷ Reader ∷ Reader ∷ Pump ∷ [])) ≡ Err 3
+no_args_are_left : given_calls (finger two_lanes) (map line_of (Reader ∷ Pump ∷ Reader ∷ Reader ∷ Pump ∷ [])) ≡ Err 3
 no_args_are_left = refl
 
 -- a window, and a finger on it
@@ -73,11 +73,11 @@ effects (Ok cs) = extend one_display [] cs
 effects (Err n) = []
 
 what_its_owner_received :
-    lines_received (effects (given one_window (map line_of (Script 1 ∷ Reader ∷ Pump ∷ Receive 1 ∷ Receive 1 ∷ Finish 1 1 ∷ [])))) 1
+    lines_received (effects (given_calls one_window (map line_of (Script 1 ∷ Reader ∷ Pump ∷ Receive 1 ∷ Receive 1 ∷ Finish 1 1 ∷ [])))) 1
     ≡ codes "1 1000000 motion 1 DOWN 0@100,200\n"
 unfolding labeled pointer motion_text numbered digits
 what_its_owner_received = refl
 
 -- what is not received is no line of its owner
-what_it_did_not_receive : lines_received (effects (given one_window (map line_of (Script 1 ∷ Reader ∷ Pump ∷ [])))) 1 ≡ []
+what_it_did_not_receive : lines_received (effects (given_calls one_window (map line_of (Script 1 ∷ Reader ∷ Pump ∷ [])))) 1 ≡ []
 what_it_did_not_receive = refl

@@ -2,7 +2,7 @@
 use Rattle.std.specs.Prelude.{◌≡◌, ℕ, ◌+◌, ◌≤◌, Bool, true, false, List, drop, length, reverse, Some, None, Result, Ok, Err}
 use Rattle.dispatch_calls.specs.declared.call.Call.{Call}
 use Rattle.dispatch_history.specs.Effect.{Effect, past_of}
-use Rattle.dispatch_history.specs.Given.{given, call_of, args_after, steps_after}
+use Rattle.dispatch_history.specs.Given.{given_calls, call_of, args_after, steps_after}
 use Rattle.dispatch_history.specs.History.{opened}
 use Rattle.dispatch_history.specs.Legal.{answered, run}
 use Rattle.dispatch_history.specs.Ordered.{scripted}
@@ -32,8 +32,8 @@ Makes plan line n es cs ss s false = call_of line cs ss ≡ None
 -- the first whose step does not exist, unless memory ran out.
 abbrev pub Follows : Plan → List Line → Result ScheduleState Fault → Type 0
 Follows plan lines (Ok s) =
-    (calls : List Call) × (given plan lines ≡ Ok calls)
+    (calls : List Call) × (given_calls plan lines ≡ Ok calls)
     × Has plan (run plan.displays (reverse calls)) s
     × (opened (past_of (run plan.displays (reverse calls))) ≡ length plan.channels)
-Follows plan lines (Err (NoStep before)) = given plan lines ≡ Err before
+Follows plan lines (Err (NoStep before)) = given_calls plan lines ≡ Err before
 Follows plan lines (Err Memory) = Unit {0}

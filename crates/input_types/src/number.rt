@@ -1,5 +1,5 @@
 //! Numbers with a range: devices, displays, pointer ids, moments and timeouts.
-ghost use Rattle.std.specs.Prelude.{◌≡◌, ℕ, ◌<◌, ◌≤◌, ◌↔◌, Some, IsSome, IfSome};
+ghost use Rattle.std.specs.Prelude.{◌≡◌, ℕ, ◌<◌, ◌≤◌, ◌↔◌, Some, IsSome, IfSome, max};
 
 use std::marker::Model;
 
@@ -183,6 +183,14 @@ impl Moment {
         ensures range { result ≤ 1000000000000000000 }
     {
         self.us
+    }
+
+    /// The later one of two moments.
+    #[inline]
+    pub fn later(self, other: Moment) -> Moment
+        ensures { result ≡ max self other }
+    {
+        if self.us < other.us { other } else { self }
     }
 }
 

@@ -6,7 +6,7 @@ use Rattle.std.proofs.Common.{sym, ◌∙◌, ap, refl, arith}
 use Rattle.std.proofs.lemmas.Bool.{eqb-true}
 use Rattle.key_layout.specs.Layout.{Codes, found_at, code_at}
 use Rattle.key_mapper.specs.Key.{KeyEvent, is_down, meta_of, key_of}
-use Rattle.key_mapper.specs.Held.{Held, StandsFor}
+use Rattle.key_mapper.specs.Held.{Held, KeysStandFor}
 
 pub same_key : (a b : ℕ) → is_eq (nat_cmp a b) ≡ nat_eq b a
 same_key a b = grind arith
@@ -52,11 +52,11 @@ down_at layout s c true e = (refl, let f : c ≡ code_at layout s = cc in f)
 down_at layout s c false e = absurd (cc)
 
 -- a key that does not stand among those that are down is up
-pub is_up : (k : Held) (past : List KeyEvent) (scan : ℕ) → StandsFor past k → found_at k.down scan ≡ None → is_down scan past ≡ false
+pub is_up : (k : Held) (past : List KeyEvent) (scan : ℕ) → KeysStandFor past k → found_at k.down scan ≡ None → is_down scan past ≡ false
 is_up k past scan stands none = up_at k.layout scan (is_down scan past) (sym none ∙ stands scan)
 
 -- one that does is down, and stands there with its code
-pub is_held : (k : Held) (past : List KeyEvent) (scan c : ℕ) → StandsFor past k → found_at k.down scan ≡ Some c → (is_down scan past ≡ true) × (c ≡ code_at k.layout scan)
+pub is_held : (k : Held) (past : List KeyEvent) (scan c : ℕ) → KeysStandFor past k → found_at k.down scan ≡ Some c → (is_down scan past ≡ true) × (c ≡ code_at k.layout scan)
 is_held k past scan c stands some = down_at k.layout scan c (is_down scan past) (sym some ∙ stands scan)
 
 pub press_gives : (device : ℕ) (layout : Codes) (past : List KeyEvent) (scan : ℕ) → is_down scan past ≡ false

@@ -12,7 +12,7 @@ use Rattle.std.proofs.lemmas.Map.Entries.{lookup_from_place}
 use Rattle.std.proofs.lemmas.Map.Keys.{IsDistinct-from_sorted}
 use Rattle.key_layout.specs.Layout.{Codes, found_at, code_at}
 use Rattle.key_mapper.specs.Key.{KeyEvent, is_press, is_release, is_down, has_down, bits_where, meta_bits, meta_of}
-use Rattle.key_mapper.specs.Held.{Held, StandsFor, count, counts, bits}
+use Rattle.key_mapper.specs.Held.{Held, KeysStandFor, count, counts, bits}
 use Rattle.key_mapper.proofs.Counts.{count_found, count_some}
 
 -- an element that passes a test, and the test of the list
@@ -65,7 +65,7 @@ down_code : (layout : Codes) (s code : ℕ) (d : Bool) → Some code ≡ (if d t
 down_code layout s code true e = (refl, let f : code ≡ code_at layout s = cc in f)
 down_code layout s code false e = absurd (cc)
 
-key_of_code : (k : Held) (past : List KeyEvent) (code : ℕ) → StandsFor past k → IsStrictlySortedBy nat_cmp (keys_of k.down)
+key_of_code : (k : Held) (past : List KeyEvent) (code : ℕ) → KeysStandFor past k → IsStrictlySortedBy nat_cmp (keys_of k.down)
     → nat_lt 0 (count code (values_of k.down)) ≡ true → (s : ℕ) × (is_down s past ≡ true) × (code ≡ code_at k.layout s)
 key_of_code k past code stands sorted some =
     let it : (i : ℕ) × (scan : ℕ) × (slice_get k.down i ≡ Some (scan, code)) = count_found code k.down some in
@@ -85,7 +85,7 @@ found_code : (p : ℕ → Bool) (cs : List ℕ) → list_any p cs ≡ true → (
 found_code p [] h = absurd (cc)
 found_code p (c ∷ cs) h = found_code_at p p c cs (or_cases (p c) (list_any p cs) h) (λ t. found_code p cs t)
 
-by_counts : (k : Held) (past : List KeyEvent) (codes : List ℕ) → StandsFor past k → IsStrictlySortedBy nat_cmp (keys_of k.down)
+by_counts : (k : Held) (past : List KeyEvent) (codes : List ℕ) → KeysStandFor past k → IsStrictlySortedBy nat_cmp (keys_of k.down)
     → Decides (list_any (λ code. nat_lt 0 (count code (values_of k.down))) codes) (HasKey k.layout past codes)
 by_counts k past codes stands sorted = (
   λ h.
@@ -106,7 +106,7 @@ same_bits f g (row ∷ rows) same =
     ∙ ap (λ n. (if g row.1 then row.0 else 0) + n) (same_bits f g rows same)
 
 -- the bits that the counts give are those of the keys that are down
-pub meta_is : (k : Held) (past : List KeyEvent) → StandsFor past k → IsStrictlySortedBy nat_cmp (keys_of k.down) → bits (counts k.down) ≡ meta_of k.layout past
+pub meta_is : (k : Held) (past : List KeyEvent) → KeysStandFor past k → IsStrictlySortedBy nat_cmp (keys_of k.down) → bits (counts k.down) ≡ meta_of k.layout past
 meta_is k past stands sorted =
     same_bits (λ codes. list_any (λ code. nat_lt 0 (count code (values_of k.down))) codes) (has_down k.layout past) meta_bits
     (λ codes. one_answer (list_any (λ code. nat_lt 0 (count code (values_of k.down))) codes) (has_down k.layout past codes) (by_counts k past codes stands sorted) (by_events k.layout past codes))

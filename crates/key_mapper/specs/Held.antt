@@ -15,8 +15,8 @@ pub record Held : Type 0 where
   pub down : Codes
 
 -- the keys that are down are those of these events, with their codes by the layout
-abbrev pub StandsFor : List KeyEvent → Held → Type 0
-StandsFor past k = (scan : ℕ) → found_at k.down scan ≡ (if is_down scan past then Some (code_at k.layout scan) else None)
+abbrev pub KeysStandFor : List KeyEvent → Held → Type 0
+KeysStandFor past k = (scan : ℕ) → found_at k.down scan ≡ (if is_down scan past then Some (code_at k.layout scan) else None)
 
 -- how many of some key codes are this one
 abbrev pub count : ℕ → List ℕ → ℕ

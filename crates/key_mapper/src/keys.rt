@@ -5,7 +5,7 @@ ghost use Rattle.std.specs.Map.{keys_of};
 ghost use Rattle.std.specs.Ordering.{nat_cmp};
 ghost use Rattle.key_layout.specs.Layout.{code_at};
 ghost use Rattle.key_mapper.specs.Key.{KeyEvent, key_of};
-ghost use Rattle.key_mapper.specs.Held.{StandsFor, bits, counts};
+ghost use Rattle.key_mapper.specs.Held.{KeysStandFor, bits, counts};
 
 use crate::modifiers::Modifiers;
 use input_types::{DeviceId, KeyArgs};
@@ -38,7 +38,7 @@ impl Model for Keys {
 impl Keys {
     /// The keys of a device, none of them down. Its layout says which key code each scan code has.
     pub fn new(alloc: Global, device: DeviceId, layout: Layout) -> Keys
-        ensures state { StandsFor [] result }
+        ensures state { KeysStandFor [] result }
         ensures device { result.device ≡ device }
         ensures layout { result.layout ≡ layout }
     {
@@ -56,11 +56,11 @@ impl Keys {
     /// Value 1 is a press, and 0 a release. None comes exactly where the value is another one (2 is the kernel's own
     /// repeat), for a press of a key that is down, and for a release of one that is up.
     pub fn take(&mut self, scan: u16, value: i32) -> Result<Option<KeyArgs>, AllocError>
-        ensures ok { (past : List KeyEvent) → StandsFor past self.old
+        ensures ok { (past : List KeyEvent) → KeysStandFor past self.old
             → IfOk result (λ key. key
             ≡ key_of self.old.device self.old.layout past (record { scan = scan; value = value })) }
-        ensures after { (past : List KeyEvent) → StandsFor past self.old
-            → OnOk result (StandsFor (record { scan = scan; value = value } ∷ past) self.new) }
+        ensures after { (past : List KeyEvent) → KeysStandFor past self.old
+            → OnOk result (KeysStandFor (record { scan = scan; value = value } ∷ past) self.new) }
         ensures device { self.new.device ≡ self.old.device }
         ensures layout { self.new.layout ≡ self.old.layout }
         ensures err { OnErr result (self.new ≡ self.old) }
@@ -73,11 +73,11 @@ impl Keys {
     }
 
     fn press(&mut self, scan: u16) -> Result<Option<KeyArgs>, AllocError>
-        ensures ok { (past : List KeyEvent) → StandsFor past self.old
+        ensures ok { (past : List KeyEvent) → KeysStandFor past self.old
             → IfOk result (λ key. key
             ≡ key_of self.old.device self.old.layout past (record { scan = scan; value = pos 1 })) }
-        ensures after { (past : List KeyEvent) → StandsFor past self.old
-            → OnOk result (StandsFor (record { scan = scan; value = pos 1 } ∷ past) self.new) }
+        ensures after { (past : List KeyEvent) → KeysStandFor past self.old
+            → OnOk result (KeysStandFor (record { scan = scan; value = pos 1 } ∷ past) self.new) }
         ensures device { self.new.device ≡ self.old.device }
         ensures layout { self.new.layout ≡ self.old.layout }
         ensures err { OnErr result (self.new ≡ self.old) }
@@ -94,10 +94,10 @@ impl Keys {
     }
 
     fn release(&mut self, scan: u16) -> Option<KeyArgs>
-        ensures ok { (past : List KeyEvent) → StandsFor past self.old
+        ensures ok { (past : List KeyEvent) → KeysStandFor past self.old
             → result ≡ key_of self.old.device self.old.layout past (record { scan = scan; value = pos 0 }) }
-        ensures after { (past : List KeyEvent) → StandsFor past self.old
-            → StandsFor (record { scan = scan; value = pos 0 } ∷ past) self.new }
+        ensures after { (past : List KeyEvent) → KeysStandFor past self.old
+            → KeysStandFor (record { scan = scan; value = pos 0 } ∷ past) self.new }
         ensures device { self.new.device ≡ self.old.device }
         ensures layout { self.new.layout ≡ self.old.layout }
     {
@@ -128,7 +128,7 @@ impl Keys {
 
     /// No key is down any more.
     pub fn reset(&mut self)
-        ensures state { StandsFor [] self.new }
+        ensures state { KeysStandFor [] self.new }
         ensures device { self.new.device ≡ self.old.device }
         ensures layout { self.new.layout ≡ self.old.layout }
     {

@@ -7,7 +7,7 @@ use Rattle.dispatch_calls.specs.declared.call.Call.TheVariants.{Open, Windows, N
 use Rattle.dispatch_calls.specs.declared.call.Entry.{Entry}
 use Rattle.dispatch_calls.specs.declared.reply.Reply.{Reply}
 use Rattle.dispatch_calls.specs.declared.reply.Reply.TheVariants.{Opened, Done, Taken, Dispatched, Idle, Named, Got, Empty}
-use Rattle.dispatch_history.specs.Given.{given}
+use Rattle.dispatch_history.specs.Given.{given_calls}
 use Rattle.dispatch_history.specs.Legal.{replay}
 use Rattle.dispatch_history.specs.Plan.{Plan}
 use Rattle.dispatch_history.proofs.Worked.{one_display, window, at, motion, says}
@@ -70,12 +70,12 @@ it_is_printed : order_of_history (3 ∷ []) entries ≡ the_order
 unfolding the_order
 it_is_printed = refl
 
-who_follows_it_makes_these_calls : given plan (map line_of the_order) ≡ Ok (reverse (map (λ e. e.call) entries))
+who_follows_it_makes_these_calls : given_calls plan (map line_of the_order) ≡ Ok (reverse (map (λ e. e.call) entries))
 unfolding the_order
 who_follows_it_makes_these_calls = refl
 
 -- an order that asks for a second step has none from its third line on
-a_step_too_many : given plan (map line_of (words.Script 1 ∷ words.Pump ∷ words.Script 1 ∷ [])) ≡ Err 2
+a_step_too_many : given_calls plan (map line_of (words.Script 1 ∷ words.Pump ∷ words.Script 1 ∷ [])) ≡ Err 2
 a_step_too_many = refl
 
 -- each lane's own calls

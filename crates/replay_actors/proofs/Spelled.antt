@@ -8,7 +8,7 @@ use Rattle.dispatch_calls.specs.declared.call.Call.{Call}
 use Rattle.dispatch_calls.specs.declared.call.Call.TheVariants as calls
 use Rattle.dispatch_calls.specs.declared.reply.Reply.{Reply}
 use Rattle.dispatch_history.specs.Effects.{effects}
-use Rattle.dispatch_history.specs.Given.{given, opens as opening, after_opens, line_calls, calls_of_lane}
+use Rattle.dispatch_history.specs.Given.{given_calls, opens as opening, after_opens, line_calls, calls_of_lane}
 use Rattle.dispatch_history.specs.Legal.{Legal, calls_of, replay}
 use Rattle.dispatch_history.specs.Ordered.{is_notified, is_scripted}
 use Rattle.dispatch_history.specs.Plan.{Plan, ChannelOf, Cooked, ScriptStep, Line}
@@ -98,7 +98,7 @@ steps_made k (t ∷ seats) (calls ∷ scripts) h ss l s made are at =
       | false ↦ λ e f. steps_made (k + 1) seats scripts h ss l s made.1 are.1 f
     ]) refl at
 
-given_made : (plan : Plan) (ls : List Line) (xs : List Call) → line_calls 0 plan.cooked plan.steps ls ≡ Ok xs → given plan ls ≡ Ok (opening plan.channels ++ xs)
+given_made : (plan : Plan) (ls : List Line) (xs : List Call) → line_calls 0 plan.cooked plan.steps ls ≡ Ok xs → given_calls plan ls ≡ Ok (opening plan.channels ++ xs)
 given_made plan ls xs e = ap (after_opens plan.channels) e
 
 pub order_law : OrderLaw
@@ -134,4 +134,4 @@ order_law plan finishing seats entries r =
     ∙ sym (map_map (λ (e : Called Call Reply). (e.1, e.2)) (λ e. e.0) (called entries)) ∙ ap calls_of (history_same entries) in
     let legal : Legal plan.displays (history_of entries) = subst (Legal plan.displays) (history_same entries) race.legal in
     let same : replay plan.displays (reverse made) ≡ history_of entries = ap (replay plan.displays) all_calls ∙ legal_replay plan.displays (history_of entries) legal in
-    (made, ap (given plan) order ∙ given_made plan (lines seats later) (reverse (map (λ e. e.1) later)) m.made, same, sym (replay_law plan.displays (reverse made)).2 ∙ ap (effects plan.displays) same)
+    (made, ap (given_calls plan) order ∙ given_made plan (lines seats later) (reverse (map (λ e. e.1) later)) m.made, same, sym (replay_law plan.displays (reverse made)).2 ∙ ap (effects plan.displays) same)

@@ -4,7 +4,7 @@ use Rattle.input_types.specs.declared.message.Args.{Args}
 use Rattle.dispatch_calls.specs.declared.call.Call.{Call}
 use Rattle.dispatch_calls.specs.declared.call.Entry.{Entry}
 use Rattle.dispatch_history.specs.Effects.{effects}
-use Rattle.dispatch_history.specs.Given.{given, opens, calls_of_lane}
+use Rattle.dispatch_history.specs.Given.{given_calls, opens, calls_of_lane}
 use Rattle.dispatch_history.specs.Legal.{run, replay}
 use Rattle.dispatch_calls.specs.declared.reply.Reply.{Reply}
 use Rattle.dispatch_history.specs.Ordered.{is_scripted}
@@ -38,7 +38,7 @@ OrderLaw =
     (plan : Plan) (finishing : ℕ → Bool) (seats : List ℕ) (entries : List Entry)
     → RaceOf plan finishing seats entries
     → (calls : List Call)
-    × (given plan (map line_of (order_of_history seats entries)) ≡ Ok calls)
+    × (given_calls plan (map line_of (order_of_history seats entries)) ≡ Ok calls)
     × (replay plan.displays (reverse calls) ≡ history_of entries)
     × (run plan.displays (reverse calls) ≡ effects plan.displays (history_of entries))
 
@@ -66,7 +66,7 @@ RaceLaw =
 -- A race prints an order, and the streams of the plan run in that order, after which nothing is left to do.
 pub record Prints (plan : Plan) (finishing : ℕ → Bool) (names : List (List ℕ)) (seats : List ℕ) (r : Recorded) : Type 0 where
   pub calls : List Call
-  pub given_is : given plan (map line_of (order_of_history seats r.entries)) ≡ Ok calls
+  pub given_is : given_calls plan (map line_of (order_of_history seats r.entries)) ≡ Ok calls
   pub text_is :
       race_output names seats r
       ≡ order_spelling (order_of_history seats r.entries) ++ streams_text names (run plan.displays (reverse calls))

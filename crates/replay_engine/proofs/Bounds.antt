@@ -2,7 +2,7 @@
 use Rattle.std.proofs.Common.{◌≡◌, ◌+◌, ◌<◌, ℕ, suc, List, [], ◌∷◌, Option, None, Some, Result, Ok, Err, length, arith}
 use Rattle.dispatch_calls.specs.declared.call.Call.{Call}
 use Rattle.dispatch_calls.specs.declared.call.Call.TheVariants.{Pump, Tick, Receive, Finish}
-use Rattle.dispatch_history.specs.Given.{after_opens, given, line_calls, next_args, next_of_lane, then_rest, without_first, without_next}
+use Rattle.dispatch_history.specs.Given.{after_opens, given_calls, line_calls, next_args, next_of_lane, then_rest, without_first, without_next}
 use Rattle.dispatch_history.specs.Plan.{ChannelOf, Cooked, Line, Plan, ScriptStep, ReaderLine, ScriptLine, PumpLine, TickLine, ReceiveLine, FinishLine}
 
 rest_within : (o : Option Call) (n m k : ℕ) (rest : Result (List Call) ℕ) → then_rest o n rest ≡ Err k → (rest ≡ Err k → k < n + 1 + m) → k < n + suc m
@@ -26,7 +26,7 @@ opened_within : (cs : List ChannelOf) (r : Result (List Call) ℕ) (k : ℕ) →
 opened_within cs (Ok calls) k h = absurd (cc)
 opened_within cs (Err j) k h = h
 
-pub given_within : (plan : Plan) (ls : List Line) (k : ℕ) → given plan ls ≡ Err k → k < length ls
+pub given_within : (plan : Plan) (ls : List Line) (k : ℕ) → given_calls plan ls ≡ Err k → k < length ls
 given_within plan ls k h =
     let within : k < 0 + length ls = line_within 0 k plan.cooked plan.steps ls (opened_within plan.channels (line_calls 0 plan.cooked plan.steps ls) k h) in
     omega (arith, within)

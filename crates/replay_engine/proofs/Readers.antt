@@ -4,7 +4,7 @@ use Rattle.std.proofs.Common.{arith, ap, sym, subst, ◌∙◌, inl, inr, length
 use Rattle.std.proofs.lemmas.List.{length-append, length-map, map-append}
 use Rattle.std.proofs.lemmas.Option.{slice_get_within}
 use Rattle.device_reader.specs.All.{AreNumbered}
-use Rattle.device_reader.specs.Cooked.{DevicePlan, StandsFor}
+use Rattle.device_reader.specs.Cooked.{DevicePlan, DeviceStandsFor}
 use Rattle.device_reader.specs.CookedList.{AllStandFor}
 use Rattle.device_reader.specs.Reading.{Reading}
 use Rattle.session_plan.specs.declared.plan.Display.{Display}
@@ -37,17 +37,17 @@ pushed [] x (suc i) y g = absurd (cc)
 pushed (z ∷ zs) x zero y g = inl g
 pushed (z ∷ zs) x (suc i) y g = pushed_later z zs x i y (pushed zs x i y g)
 
-stand_at : (plans : List DevicePlan) (readers : List Reading) (p q : DevicePlan) (r s : Reading) (i : ℕ) → AllStandFor plans [] readers → StandsFor p [] r
-    → (slice_get plans i ≡ Some q) ⊎ ((i ≡ length plans) × (p ≡ q)) → (slice_get readers i ≡ Some s) ⊎ ((i ≡ length readers) × (r ≡ s)) → StandsFor q [] s
+stand_at : (plans : List DevicePlan) (readers : List Reading) (p q : DevicePlan) (r s : Reading) (i : ℕ) → AllStandFor plans [] readers → DeviceStandsFor p [] r
+    → (slice_get plans i ≡ Some q) ⊎ ((i ≡ length plans) × (p ≡ q)) → (slice_get readers i ≡ Some s) ⊎ ((i ≡ length readers) × (r ≡ s)) → DeviceStandsFor q [] s
 stand_at plans readers p q r s i all new (inl a) (inl b) = all.each i q s a b
 stand_at plans readers p q r s i all new (inl a) (inr b) = absurd (omega (arith, slice_get_within plans i q a, b.0, all.as_many))
 stand_at plans readers p q r s i all new (inr a) (inl b) = absurd (omega (arith, slice_get_within readers i s b, a.0, all.as_many))
 stand_at plans readers p q r s i all new (inr a) (inr b) =
-    subst (λ (x : DevicePlan). StandsFor x [] s) a.1 (subst (λ (x : Reading). StandsFor p [] x) b.1 new)
+    subst (λ (x : DevicePlan). DeviceStandsFor x [] s) a.1 (subst (λ (x : Reading). DeviceStandsFor p [] x) b.1 new)
 
 -- one device more, before the first event
 pub stand_push : (plans : List DevicePlan) (readers : List Reading) (p : DevicePlan) (r : Reading)
-    → AllStandFor plans [] readers → StandsFor p [] r → AllStandFor (plans ++ p ∷ []) [] (readers ++ r ∷ [])
+    → AllStandFor plans [] readers → DeviceStandsFor p [] r → AllStandFor (plans ++ p ∷ []) [] (readers ++ r ∷ [])
 stand_push plans readers p r all new = record {
   as_many = length-append readers (r ∷ []) ∙ ap (λ n. n + 1) all.as_many ∙ sym (length-append plans (p ∷ []));
   each = λ i q s a b. stand_at plans readers p q r s i all new (pushed plans p i q a) (pushed readers r i s b);

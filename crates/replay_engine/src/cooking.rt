@@ -1,7 +1,7 @@
 //! The readers of the devices of a session.
 ghost use Rattle.std.specs.Prelude.{◌≡◌, ◌+◌, ◌<◌, [], length, IfOk};
 ghost use Rattle.std.specs.List.{All};
-ghost use Rattle.device_reader.specs.Cooked.{StandsFor};
+ghost use Rattle.device_reader.specs.Cooked.{DeviceStandsFor};
 ghost use Rattle.device_reader.specs.CookedList.{ReadersStandFor};
 ghost use Rattle.session_plan.specs.Valid.{IsKind, IsDisplay, IsPlan};
 ghost use Rattle.session_plan.specs.View.{plan_view};
@@ -32,7 +32,7 @@ fn reader_of(
 ) -> Result<DeviceReader, AllocError>
     requires displays { All IsDisplay displays.now }
     requires kind { IsKind (length displays.now) kind.now }
-    ensures stands { IfOk result (StandsFor (device_plan displays.now number kind.now) []) }
+    ensures stands { IfOk result (DeviceStandsFor (device_plan displays.now number kind.now) []) }
     ensures number { IfOk result (λ r. r.device ≡ number) }
 {
     match kind {

@@ -4,7 +4,7 @@ use Rattle.input_types.specs.declared.message.Args.{Args}
 use Rattle.input_types.specs.DeviceRule.{device_state}
 use Rattle.dispatch_calls.specs.declared.call.Call.{Call}
 use Rattle.dispatch_history.specs.Effect.{Effect, past_of}
-use Rattle.dispatch_history.specs.Given.{given}
+use Rattle.dispatch_history.specs.Given.{given_calls}
 use Rattle.dispatch_history.specs.Legal.{replay}
 use Rattle.dispatch_history.specs.Ordered.{Rounds, Ordered}
 use Rattle.dispatch_history.specs.Plan.{Plan, Line}
@@ -21,7 +21,7 @@ OrderedTakes = (plan : Plan) (es : List Effect) → KeepRule plan.cooked → Han
 abbrev pub GivenTakes : Type 0
 GivenTakes =
     (plan : Plan) (lines : List Line) (calls : List Call)
-    → KeepRule plan.cooked → HandNone plan.steps → given plan lines ≡ Ok calls → NoneRefused (replay plan.displays (reverse calls))
+    → KeepRule plan.cooked → HandNone plan.steps → given_calls plan lines ≡ Ok calls → NoneRefused (replay plan.displays (reverse calls))
 
 -- Args that keep the rule of each device as a list whose newest come first keep it as they are handed in.
 abbrev pub HandedKeep : Type 0

@@ -61,7 +61,7 @@ abbrev pub row_in : List Row → ℕ → Row
 row_in rows s = get_or rows s no_row
 
 -- a table says of each of its 16 slots what these events have written to it, and which tracking ids are those of palms
-pub record StandsFor (past : List RawEvent) (t : Table) : Type 0 where
+pub record SlotsStandFor (past : List RawEvent) (t : Table) : Type 0 where
   pub current_is : t.current ≡ current past
   pub rows_are : (s : ℕ) → s < 16 → row_in t.rows s ≡ row s past
   pub palms_are : (tracking : ℤ) → is_kept t.palms tracking ≡ is_palm t.slots past tracking

@@ -8,7 +8,7 @@ ghost use Rattle.slot_accumulator.specs.SlotValues.{row_after, is_slot};
 ghost use Rattle.slot_accumulator.specs.Contacts.{has_tracking};
 ghost use Rattle.slot_accumulator.specs.Table.{is_kept};
 ghost use Rattle.slot_accumulator.specs.SlotContacts.{contact as contact_of, contacts_at, contacts_of, has_palm_tool};
-ghost use Rattle.slot_accumulator.specs.SlotContacts.{palm_below, row_in, StandsFor};
+ghost use Rattle.slot_accumulator.specs.SlotContacts.{palm_below, row_in, SlotsStandFor};
 
 use crate::contacts::{Contact, Contacts, tracked};
 use crate::palms::{Palms, is_kept};
@@ -61,7 +61,7 @@ impl Slots {
     /// current one.
     pub fn new(slots: u8) -> Slots
         requires { (1 ≤ slots) × (slots ≤ 16) }
-        ensures state { StandsFor [] result }
+        ensures state { SlotsStandFor [] result }
         ensures slots { result.slots ≡ slots }
     {
         let row = Row {
@@ -85,7 +85,7 @@ impl Slots {
     /// which contacts are palms: those whose tool type is MT_TOOL_PALM, and those that were palms at the end of the
     /// packet before.
     pub fn take(&mut self, event: RawEvent)
-        ensures state { (past : List Event) → StandsFor past self.old → StandsFor (event ∷ past) self.new }
+        ensures state { (past : List Event) → SlotsStandFor past self.old → SlotsStandFor (event ∷ past) self.new }
         ensures slots { self.new.slots ≡ self.old.slots }
     {
         if is_report(&event) {
@@ -109,7 +109,7 @@ impl Slots {
     /// with whether it was noted as a palm. After a SYN_REPORT they are the contacts at the end of its packet.
     pub fn contacts(&self) -> Contacts
         ensures now { result ≡ contacts_of (row_in self.now.rows) (λ t. is_kept self.now.palms t) self.now.slots }
-        ensures events { (past : List Event) → StandsFor past self.now → result ≡ contacts_at self.now.slots past }
+        ensures events { (past : List Event) → SlotsStandFor past self.now → result ≡ contacts_at self.now.slots past }
     {
         let mut contacts = Contacts::empty();
         for slot in 0..self.slots {
@@ -123,7 +123,7 @@ impl Slots {
 
     /// Begins anew, as after `new` with the same number of slots.
     pub fn reset(&mut self)
-        ensures state { StandsFor [] self.new }
+        ensures state { SlotsStandFor [] self.new }
         ensures slots { self.new.slots ≡ self.old.slots }
     {
         *self = Slots::new(self.slots);

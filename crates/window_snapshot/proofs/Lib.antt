@@ -2,4 +2,5 @@ pub mod Examples
 pub mod Fronts
 pub mod Masks
 pub mod Naming
+pub mod Parts
 pub mod Told

@@ -17,6 +17,6 @@ mod snapshot;
 mod window;
 
 pub use flags::WindowFlags;
-pub use mask::{is_channel, mask_has, mask_with};
+pub use mask::{is_channel, mask_first, mask_has, mask_less, mask_with, mask_without};
 pub use snapshot::{MAX_WINDOWS, Snapshot, SnapshotError};
 pub use window::Window;

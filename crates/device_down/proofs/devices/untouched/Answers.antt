@@ -1,6 +1,5 @@
 -- Nothing is down on a device that is put to them.
-use Rattle.std.proofs.Common.{◌≡◌, ◌≤◌, ◌+◌, ◌++◌, [], ◌∷◌, length, refl, sym, subst, ap, ◌∙◌, arith, length-append}
-use Rattle.device_down.specs.Down.{untouched}
+use Rattle.std.proofs.Common.{◌+◌, ◌++◌, [], ◌∷◌, length, refl, sym, subst, ap, ◌∙◌, arith, length-append}
 use Rattle.device_down.proofs.Tables.{Blank, blank_more, nothing_yet}
 use Rattle.device_down.proofs.devices.untouched.Goals as goal
 

@@ -6,7 +6,7 @@ use Rattle.key_layout.specs.Layout.{found_at}
 use Rattle.key_mapper.specs.declared.modifiers.Modifiers.{Modifiers}
 use Rattle.input_types.specs.declared.key.KeyArgs.{KeyArgs}
 use Rattle.key_mapper.specs.Key.{key_of, meta_of}
-use Rattle.key_mapper.specs.Held.{Held, StandsFor, with_key, AreBelow, counts, bits}
+use Rattle.key_mapper.specs.Held.{Held, KeysStandFor, with_key, AreBelow, counts, bits}
 use Rattle.key_mapper.proofs.Counts.{counts_more, counts_below}
 use Rattle.key_mapper.proofs.Down.{none_of, is_up, press_gives, stands_press}
 use Rattle.key_mapper.proofs.Meta.{meta_is}
@@ -29,16 +29,16 @@ invariant_of-self-2 c =
 
 pub returns-clause-after : goal.returns-clause-after
 returns-clause-after c = λ past h.
-    let stands : StandsFor past (record { device = c.self.inside.device; layout = c.self.inside.layout; down = c.self.inside.down.entries }) =
-    subst (λ (k : Held). StandsFor past k) (sym c.self.view_is) h in
+    let stands : KeysStandFor past (record { device = c.self.inside.device; layout = c.self.inside.layout; down = c.self.inside.down.entries }) =
+    subst (λ (k : Held). KeysStandFor past k) (sym c.self.view_is) h in
     stands_press c.self.inside.layout c.self.inside.down.entries c.insert.new.self.entries past c.args.scan stands
     (λ s. c.in_ok-insert.ensures.updates.0 s ∙ ap (λ n. cond (is_at (nat_cmp c.args.scan) s) (Some n) (found_at c.self.inside.down.entries s)) c.code_of-code.ensures)
 
 pub returns-clause-ok : goal.returns-clause-ok
 returns-clause-ok c = λ past h.
-    let stands : StandsFor past (record { device = c.self.inside.device; layout = c.self.inside.layout; down = c.self.inside.down.entries }) =
-    subst (λ (k : Held). StandsFor past k) (sym c.self.view_is) h in
-    let after : StandsFor (record { scan = c.args.scan; value = pos 1 } ∷ past) (record { device = c.self.inside.device; layout = c.self.inside.layout; down = c.insert.new.self.entries }) =
+    let stands : KeysStandFor past (record { device = c.self.inside.device; layout = c.self.inside.layout; down = c.self.inside.down.entries }) =
+    subst (λ (k : Held). KeysStandFor past k) (sym c.self.view_is) h in
+    let after : KeysStandFor (record { scan = c.args.scan; value = pos 1 } ∷ past) (record { device = c.self.inside.device; layout = c.self.inside.layout; down = c.insert.new.self.entries }) =
     returns-clause-after c past h in
     let none : found_at c.self.inside.down.entries c.args.scan ≡ None = none_of (found_at c.self.inside.down.entries c.args.scan) (sym c.contains_key.ensures ∙ c.if-contains_key.false) in
     let meta : bits (counts c.insert.new.self.entries) ≡ meta_of c.self.inside.layout (record { scan = c.args.scan; value = pos 1 } ∷ past) =

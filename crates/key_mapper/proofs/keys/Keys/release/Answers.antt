@@ -4,7 +4,7 @@ use Rattle.key_layout.specs.Layout.{code_at}
 use Rattle.input_types.specs.declared.key.KeyArgs.{KeyArgs}
 use Rattle.key_mapper.specs.declared.modifiers.Modifiers.{Modifiers}
 use Rattle.key_mapper.specs.Key.{is_down, key_of, meta_of}
-use Rattle.key_mapper.specs.Held.{Held, StandsFor, without_key, counts, bits}
+use Rattle.key_mapper.specs.Held.{Held, KeysStandFor, without_key, counts, bits}
 use Rattle.key_mapper.proofs.Counts.{counts_fewer}
 use Rattle.key_mapper.proofs.Down.{is_held, release_gives, stands_release}
 use Rattle.key_mapper.proofs.Meta.{meta_is}
@@ -20,15 +20,15 @@ invariant_of-self-2 c = record {
 
 pub returns-clause-after : goal.returns-clause-after
 returns-clause-after c = λ past h.
-    let stands : StandsFor past (record { device = c.self.inside.device; layout = c.self.inside.layout; down = c.self.inside.down.entries }) =
-    subst (λ (k : Held). StandsFor past k) (sym c.self.view_is) h in
+    let stands : KeysStandFor past (record { device = c.self.inside.device; layout = c.self.inside.layout; down = c.self.inside.down.entries }) =
+    subst (λ (k : Held). KeysStandFor past k) (sym c.self.view_is) h in
     stands_release c.self.inside.layout c.self.inside.down.entries c.remove.new.self.entries past c.args.scan stands (λ s. c.remove.ensures.updates.0 s)
 
 pub returns-clause-ok : goal.returns-clause-ok
 returns-clause-ok c = λ past h.
-    let stands : StandsFor past (record { device = c.self.inside.device; layout = c.self.inside.layout; down = c.self.inside.down.entries }) =
-    subst (λ (k : Held). StandsFor past k) (sym c.self.view_is) h in
-    let after : StandsFor (record { scan = c.args.scan; value = pos 0 } ∷ past) (record { device = c.self.inside.device; layout = c.self.inside.layout; down = c.remove.new.self.entries }) =
+    let stands : KeysStandFor past (record { device = c.self.inside.device; layout = c.self.inside.layout; down = c.self.inside.down.entries }) =
+    subst (λ (k : Held). KeysStandFor past k) (sym c.self.view_is) h in
+    let after : KeysStandFor (record { scan = c.args.scan; value = pos 0 } ∷ past) (record { device = c.self.inside.device; layout = c.self.inside.layout; down = c.remove.new.self.entries }) =
     returns-clause-after c past h in
     let held : (is_down c.args.scan past ≡ true) × (c.in_ok-code.code ≡ code_at c.self.inside.layout c.args.scan) =
     is_held (record { device = c.self.inside.device; layout = c.self.inside.layout; down = c.self.inside.down.entries }) past c.args.scan c.in_ok-code.code stands (sym c.remove.ensures.value ∙ c.in_ok-code.was) in

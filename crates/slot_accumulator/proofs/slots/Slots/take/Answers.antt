@@ -5,7 +5,7 @@ use Rattle.std.proofs.Common.{rules, arith, sym, ◌∙◌, ap, subst}
 use Rattle.slot_accumulator.specs.SlotValues.{current, row_after}
 use Rattle.raw_events.specs.Packets.{is_report}
 use Rattle.slot_accumulator.specs.Table.{Table, is_kept}
-use Rattle.slot_accumulator.specs.SlotContacts.{StandsFor, is_palm, palm_below, row_in}
+use Rattle.slot_accumulator.specs.SlotContacts.{SlotsStandFor, is_palm, palm_below, row_in}
 use Rattle.slot_accumulator.proofs.Rows.{written_there}
 use Rattle.slot_accumulator.proofs.Listing.{palms_noted, palms_stay, report_current, report_rows}
 use Rattle.slot_accumulator.proofs.slots.Slots.take.Goals as goal
@@ -24,8 +24,8 @@ returns-in-Some-clause-state c = λ past h.
 pub returns-then-is_report-clause-state : goal.returns-then-is_report-clause-state
 returns-then-is_report-clause-state c = λ past h.
     let ends : is_report c.args.event ≡ true = sym c.is_report.ensures ∙ c.if-is_report.true in
-    let before : StandsFor past (record { slots = c.self.inside.slots; current = c.self.inside.current; rows = c.self.inside.rows; palms = c.self.inside.palms }) =
-    subst (λ (t : Table). StandsFor past t) (sym c.self.view_is) h in
+    let before : SlotsStandFor past (record { slots = c.self.inside.slots; current = c.self.inside.current; rows = c.self.inside.rows; palms = c.self.inside.palms }) =
+    subst (λ (t : Table). SlotsStandFor past t) (sym c.self.view_is) h in
     record {
       current_is = before.current_is ∙ sym (report_current past c.args.event ends);
       rows_are = λ s lt. before.rows_are s lt ∙ sym (report_rows past c.args.event s ends);

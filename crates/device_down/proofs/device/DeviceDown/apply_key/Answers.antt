@@ -1,7 +1,7 @@
 -- The key is the only one that changes.
 use Rattle.std.proofs.Common.{true, false}
 use Rattle.device_down.proofs.Tables.{key_set}
-use Rattle.device_down.proofs.device.DeviceDown.take_key.Goals as goal
+use Rattle.device_down.proofs.device.DeviceDown.apply_key.Goals as goal
 
 pub returns-in_ok-insert-clause-ok : goal.returns-in_ok-insert-clause-ok
 returns-in_ok-insert-clause-ok c =

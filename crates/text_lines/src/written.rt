@@ -1,34 +1,41 @@
-//! Numbers and words at the end of a text.
+//! Words and numbers at the end of a text.
 ghost use Rattle.std.specs.Prelude.{◌≡◌, ◌++◌, IfOk, decimal};
 ghost use Rattle.std.specs.Fmt.{signed_decimal};
-ghost use Rattle.stream_text.specs.Spelling.{labeled};
+ghost use Rattle.text_lines.specs.Written.{labeled};
 
 use itoa::Buffer;
 use std::alloc::AllocError;
 
-pub(crate) fn add_word(text: &mut Vec<u8>, word: &str) -> Result<(), AllocError>
+/// Adds a word, as it is.
+#[inline]
+pub fn add_word(text: &mut Vec<u8>, word: &str) -> Result<(), AllocError>
     ensures { IfOk result (λ _. text.new.items ≡ text.old.items ++ word.now) }
 {
     text.extend_from_slice(word.as_bytes())
 }
 
-pub(crate) fn add_number(text: &mut Vec<u8>, number: u64) -> Result<(), AllocError>
+/// Adds a number in decimal digits.
+#[inline]
+pub fn add_number(text: &mut Vec<u8>, number: u64) -> Result<(), AllocError>
     ensures { IfOk result (λ _. text.new.items ≡ text.old.items ++ decimal number) }
 {
     let mut buffer = Buffer::new();
     text.extend_from_slice(buffer.format(number).as_bytes())
 }
 
-pub(crate) fn add_signed(text: &mut Vec<u8>, number: i32) -> Result<(), AllocError>
+/// Adds a number that may be negative.
+#[inline]
+pub fn add_signed(text: &mut Vec<u8>, number: i32) -> Result<(), AllocError>
     ensures { IfOk result (λ _. text.new.items ≡ text.old.items ++ signed_decimal number) }
 {
     let mut buffer = Buffer::new();
     text.extend_from_slice(buffer.format(number).as_bytes())
 }
 
-/// A number behind some words.
-#[tactic(auto, unfolding(crate::specs::Spelling::labeled))]
-pub(crate) fn add_labeled(text: &mut Vec<u8>, words: &str, number: u64) -> Result<(), AllocError>
+/// Adds a number behind some words.
+#[inline]
+#[tactic(auto, unfolding(crate::specs::Written::labeled))]
+pub fn add_labeled(text: &mut Vec<u8>, words: &str, number: u64) -> Result<(), AllocError>
     ensures { IfOk result (λ _. text.new.items ≡ text.old.items ++ labeled words.now number) }
 {
     add_word(text, words)?;

@@ -1,0 +1,17 @@
+-- The moments that calls hand in.
+use Rattle.std.specs.Prelude.{ℕ}
+use Rattle.dispatch_calls.specs.declared.call.Call.{Call}
+use Rattle.dispatch_calls.specs.declared.call.Call.TheVariants.{Open, Windows, FocusOn, Notify, Pump, Tick, Receive, Finish, Pilfer, Remove}
+
+-- the moment that a call hands in, 0 where it hands in none
+abbrev pub moment_of : Call → ℕ
+moment_of (Open limit) = 0
+moment_of (Windows now snapshot) = now
+moment_of (FocusOn now display channel) = now
+moment_of (Notify now args) = now
+moment_of (Pump now) = now
+moment_of (Tick now) = now
+moment_of (Receive channel) = 0
+moment_of (Finish now channel seq) = now
+moment_of (Pilfer now channel device) = now
+moment_of (Remove now channel) = now
