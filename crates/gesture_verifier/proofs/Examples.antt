@@ -1,11 +1,13 @@
 -- Worked tables, computed: pointers 0 and 2 are down on device 1, pointer 4 on device 3, the key 0 of device 4 was
 -- told once, and the key 1 of device 2 twice.
-use Rattle.std.specs.Prelude.{◌≡◌, [], ◌∷◌, Some, None, true, refl}
+use Rattle.std.specs.Prelude.{◌≡◌, ℕ, List, [], ◌∷◌, Some, None, true, false, refl}
 use Rattle.bits32.specs.Set.{members_below}
+use Rattle.gesture_verifier.specs.declared.held.HeldKey.{HeldKey}
+use Rattle.gesture_verifier.specs.Held.{are_rising, is_held}
 use Rattle.gesture_verifier.specs.Told.{Told, state_of, one_more}
 
 abbrev told : Told
-told = record { sets = 5 ∷ 0 ∷ 16 ∷ 0 ∷ 0 ∷ 0 ∷ 0 ∷ 0 ∷ []; repeats = (3, 1) ∷ (9, 2) ∷ []; focus = true; accepted = 5 }
+told = record { sets = 5 ∷ 0 ∷ 16 ∷ 0 ∷ 0 ∷ 0 ∷ 0 ∷ 0 ∷ []; repeats = (65537, 2) ∷ (196608, 1) ∷ []; focus = true; accepted = 5 }
 
 pub two_fingers : (state_of told).ids 1 ≡ 0 ∷ 2 ∷ []
 unfolding members_below
@@ -32,3 +34,25 @@ key_never_told = refl
 
 pub stands_still : one_more 18446744073709551615 ≡ 18446744073709551615
 stands_still = refl
+
+-- keys that are down, in the order in which they are told
+abbrev key : ℕ → ℕ → HeldKey
+key device scan = record { device = device; scan = scan }
+
+abbrev keys_down : List HeldKey
+keys_down = key 2 1 ∷ key 2 30 ∷ key 4 0 ∷ []
+
+pub devices_come_first : are_rising keys_down ≡ true
+devices_come_first = refl
+
+pub scan_codes_rise : are_rising (key 2 30 ∷ key 2 1 ∷ []) ≡ false
+scan_codes_rise = refl
+
+pub told_once : are_rising (key 2 1 ∷ key 2 1 ∷ []) ≡ false
+told_once = refl
+
+pub key_of_one_device : is_held 2 30 keys_down ≡ true
+key_of_one_device = refl
+
+pub key_of_no_other_device : is_held 4 30 keys_down ≡ false
+key_of_no_other_device = refl

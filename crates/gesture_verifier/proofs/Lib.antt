@@ -1,4 +1,5 @@
 pub mod Tables
+pub mod HeldKeys
 pub mod Examples
 pub mod Reasons
 pub mod ReasonExamples

@@ -1,5 +1,5 @@
 -- What a write into a table does to what the table stands for.
-use Rattle.std.proofs.Common.{◌≡◌, ◌≢◌, ℕ, Bool, zero, suc, ◌-◌, ◌≤◌, ◌&&◌, true, false, if◌then◌else◌, cond, List, [], length, get_or, set, replicate, Option, Some, None, ⊎_elim, refl, sym, ap, ◌∙◌, arith, nat_eq, eq-eqb}
+use Rattle.std.proofs.Common.{◌≡◌, ◌≢◌, ℕ, Bool, zero, suc, ◌-◌, ◌<◌, ◌≤◌, ◌&&◌, true, false, if◌then◌else◌, cond, List, [], length, get_or, set, replicate, Option, Some, None, ⊎_elim, refl, sym, ap, ◌∙◌, arith, nat_eq, eq-eqb}
 use Rattle.std.proofs.lemmas.List.{get_or-set_same, get_or-set_other}
 use Rattle.std.proofs.lemmas.Bool.{cases_eq, ne_eqb, false≢true}
 use Rattle.std.specs.Option.{option_map}
@@ -13,7 +13,7 @@ use Rattle.input_types.specs.declared.message.Body.TheVariants.{Motion as Motion
 use Rattle.input_types.specs.Gestures.{after_motion}
 use Rattle.input_types.specs.StreamRule.{StreamState, untold, with_ids, with_repeat, after_key, after_body}
 use Rattle.pointers_down.proofs.Sets.{none_listed}
-use Rattle.gesture_verifier.specs.Told.{Told, state_of, is_device, ids_kept, due_at, due_kept, place_of}
+use Rattle.gesture_verifier.specs.Told.{Told, state_of, is_device, is_of_device, ids_kept, due_at, due_kept, place_of}
 
 within : (d : ℕ) → is_device d ≡ true → (1 ≤ d) × (d ≤ 8)
 within d h = grind arith
@@ -52,23 +52,26 @@ pub nothing_told : (x : ℕ) (table : List (ℕ × ℕ)) → x ≡ 0 → table �
     → state_of (record { sets = replicate 8 x; repeats = table; focus = false; accepted = 0 }) ≡ untold
 nothing_told x table e t = rw (e, t) (λ i. record {
   ids = λ d. first_at (get_or (replicate 8 0) (d - 1) 0) (is_device d) (unwritten 0 8 (d - 1)) i;
-  repeats = λ d s. no_due None (is_device d) refl i;
+  repeats = λ d s. no_due None (is_of_device d s) refl i;
   focus = false;
 })
 
-not_both : (e d t s : ℕ) → (e ≡ d → t ≡ s → ⊥) → (nat_eq e d && nat_eq t s) ≡ false
+pub not_both : (e d t s : ℕ) → (e ≡ d → t ≡ s → ⊥) → (nat_eq e d && nat_eq t s) ≡ false
 not_both e d t s h =
     ⊎_elim
     (λ (same : e ≡ d). rw (same, eq-eqb d d refl) (ne_eqb t s (λ x. h same x)))
     (λ (other : e ≢ d). rw (ne_eqb e d other) refl)
     (cases_eq e d)
 
-due_kept_at : (table old : List (ℕ × ℕ)) (d s : ℕ) (due : Option ℕ) (e t : ℕ) → is_device d ≡ true
-    → ((q : ℕ) → due_at table q ≡ cond (is_eq (nat_cmp (place_of d s) q)) due (due_at old q)) → (v : Bool) → is_device e ≡ v
+pub within_key : (d t : ℕ) → is_of_device d t ≡ true → (1 ≤ d) × (d ≤ 8) × (t < 65536)
+within_key d t h = grind arith
+
+due_kept_at : (table old : List (ℕ × ℕ)) (d s : ℕ) (due : Option ℕ) (e t : ℕ) → is_of_device d s ≡ true
+    → ((q : ℕ) → due_at table q ≡ cond (is_eq (nat_cmp (place_of d s) q)) due (due_at old q)) → (v : Bool) → is_of_device e t ≡ v
     → (if v then due_at table (place_of e t) else None) ≡ (if nat_eq e d && nat_eq t s then due else (if v then due_at old (place_of e t) else None))
 due_kept_at table old d s due e t h kept true w =
-    let a : (1 ≤ d) × (d ≤ 8) = within d h in
-    let b : (1 ≤ e) × (e ≤ 8) = within e w in
+    let a : (1 ≤ d) × (d ≤ 8) × (s < 65536) = within_key d s h in
+    let b : (1 ≤ e) × (e ≤ 8) × (t < 65536) = within_key e t w in
     ⊎_elim
     (λ (same : place_of d s ≡ place_of e t).
     let keys : t ≡ s = omega (arith, a, b, same) in
@@ -79,13 +82,15 @@ due_kept_at table old d s due e t h kept true w =
     rw (kept (place_of e t), unsigned_tied (place_of d s) (place_of e t), ne_eqb (place_of d s) (place_of e t) other, apart) refl)
     (cases_eq (place_of d s) (place_of e t))
 due_kept_at table old d s due e t h kept false w =
-    rw (ne_eqb e d (λ same. false≢true (sym w ∙ ap is_device same ∙ h))) refl
+    let apart : (nat_eq e d && nat_eq t s) ≡ false =
+    not_both e d t s (λ x y. let own : is_of_device e t ≡ true = rw (x, y) h in false≢true (sym w ∙ own)) in
+    rw apart refl
 
 -- what is due of one key anew
-pub due_kept_after : (table old : List (ℕ × ℕ)) (d s : ℕ) (due : Option ℕ) → is_device d ≡ true
+pub due_kept_after : (table old : List (ℕ × ℕ)) (d s : ℕ) (due : Option ℕ) → is_of_device d s ≡ true
     → ((q : ℕ) → due_at table q ≡ cond (is_eq (nat_cmp (place_of d s) q)) due (due_at old q))
     → due_kept table ≡ with_repeat (due_kept old) d s due
-due_kept_after table old d s due h kept i e t = due_kept_at table old d s due e t h kept (is_device e) refl i
+due_kept_after table old d s due h kept i e t = due_kept_at table old d s due e t h kept (is_of_device e t) refl i
 
 -- the ids that are down on a device are those of its set
 pub kept_at : (sets : List ℕ) (d held : ℕ) → is_device d ≡ true → length sets ≡ 8 → held ≡ get_or sets (d - 1) held
@@ -108,7 +113,7 @@ motion_taken old m held after h len is e =
     ∙ ap (λ t. Some (record { ids = t; repeats = due_kept old.repeats; focus = old.focus })) (sym (ids_kept_after old.sets m.device after h len))
 
 -- a key message that may come
-pub key_taken : (old : Told) (table : List (ℕ × ℕ)) (m : KeyMsg) (due next : Option ℕ) → is_device m.key.device ≡ true
+pub key_taken : (old : Told) (table : List (ℕ × ℕ)) (m : KeyMsg) (due next : Option ℕ) → is_of_device m.key.device m.key.scan ≡ true
     → due ≡ due_at old.repeats (place_of m.key.device m.key.scan) → Some next ≡ after_key due m
     → ((q : ℕ) → due_at table q ≡ cond (is_eq (nat_cmp (place_of m.key.device m.key.scan) q)) next (due_at old.repeats q))
     → after_body (state_of old) (Key m) ≡ Some (state_of (record old { repeats = table }))

@@ -1,3 +1,4 @@
 pub mod Told
+pub mod Held
 pub mod Faults
 pub mod Reasons

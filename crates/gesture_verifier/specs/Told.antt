@@ -1,6 +1,7 @@
 -- What a verifier stands for, and how its tables say it.
-use Rattle.std.specs.Prelude.{◌≡◌, ℕ, ◌+◌, ◌-◌, ◌*◌, ◌^◌, ◌&&◌, nat_le, Bool, List, [], Option, Some, None, slice_index, min, length, if◌then◌else◌}
-use Rattle.std.specs.Map.{lookup}
+use Rattle.std.specs.Prelude.{◌≡◌, ℕ, ◌+◌, ◌-◌, ◌*◌, ◌^◌, ◌&&◌, nat_le, nat_lt, Bool, List, [], Option, Some, None, slice_index, min, length, if◌then◌else◌}
+use Rattle.std.specs.List.{list_all}
+use Rattle.std.specs.Map.{keys_of, lookup}
 use Rattle.std.specs.Ordering.{nat_cmp, is_eq}
 use Rattle.input_types.specs.declared.message.Message.{Message}
 use Rattle.input_types.specs.StreamRule.{StreamState, stream_state}
@@ -26,9 +27,21 @@ is_device d = nat_le 1 d && nat_le d 8
 abbrev pub ids_kept : List ℕ → ℕ → List ℕ
 ids_kept sets d = if is_device d then members (slice_index sets (d - 1)) else []
 
--- the place of a key among those of all devices: the keys of one scan code stand together
+-- a key of a device: its scan code has 16 bits
+abbrev pub is_of_device : ℕ → ℕ → Bool
+is_of_device d s = is_device d && nat_lt s 65536
+
+-- the place of a key among those of all devices: the keys of one device stand together, in the order of their scan codes
 abbrev pub place_of : ℕ → ℕ → ℕ
-place_of device scan = scan * 8 + (device - 1)
+place_of device scan = (device - 1) * 65536 + scan
+
+-- there are 65536 places for each of the 8 devices
+abbrev pub is_place : ℕ → Bool
+is_place place = nat_lt place 524288
+
+-- a table has numbers beside places alone
+abbrev pub are_places : List (ℕ × ℕ) → Bool
+are_places repeats = list_all is_place (keys_of repeats)
 
 -- the next repeat number that stands beside a place
 abbrev pub due_at : List (ℕ × ℕ) → ℕ → Option ℕ
@@ -36,7 +49,7 @@ due_at repeats place = lookup (λ k. is_eq (nat_cmp place k)) repeats
 
 -- the next repeat number of a key; a key without one is up
 abbrev pub due_kept : List (ℕ × ℕ) → ℕ → ℕ → Option ℕ
-due_kept repeats d s = if is_device d then due_at repeats (place_of d s) else None
+due_kept repeats d s = if is_of_device d s then due_at repeats (place_of d s) else None
 
 -- what a window knows, from the tables
 abbrev pub state_of : Told → StreamState

@@ -6,14 +6,17 @@
 //!
 //! Example: after a `Down` of the pointer 0 on device 1, a second `Down` is refused. Its `Fault` says that one message
 //! was accepted (`place` 1), that pointer 0 is down (`held` 0b1), and why it may not come (`reason` `AlreadyDown`). An
-//! `Up` of that pointer is then accepted, since a message that is refused changes nothing.
+//! `Up` of that pointer is then accepted, since a message that is refused changes nothing. At the end of a stream
+//! `ids_down` and `keys_down` tell what it left down.
 #![tactic(auto)]
 
 mod fault;
+mod held;
 mod reason;
 mod repeats;
 mod verifier;
 
 pub use fault::{Fault, StepError};
+pub use held::HeldKey;
 pub use reason::Reason;
 pub use verifier::Verifier;

@@ -1,8 +1,8 @@
 //! The repeats of keys.
-ghost use Rattle.std.specs.Prelude.{◌≡◌, ◌<◌, ℕ, IsTrue, OnErr, OnOk, cond};
+ghost use Rattle.std.specs.Prelude.{◌≡◌, ◌<◌, ℕ, true, IsTrue, OnErr, OnOk, cond};
 ghost use Rattle.std.specs.Ordering.{nat_cmp, is_eq};
 ghost use Rattle.input_types.specs.StreamRule.{after_key};
-ghost use Rattle.gesture_verifier.specs.Told.{due_at, is_device, place_of};
+ghost use Rattle.gesture_verifier.specs.Told.{are_places, due_at, is_of_device, place_of};
 
 use input_types::{KeyArgs, KeyMsg};
 use pointers_down::ends;
@@ -29,12 +29,14 @@ pub fn next_repeat(due: Option<u64>, message: &KeyMsg) -> Option<Option<u64>>
     }
 }
 
-/// The place of a key among those of all devices: the keys of one scan code stand together.
+/// The place of a key among those of all devices: the keys of one device stand together.
 pub fn place(key: &KeyArgs) -> u32
     ensures place { result ≡ place_of key.now.device key.now.scan }
-    ensures device { IsTrue (is_device key.now.device) }
+    ensures key { IsTrue (is_of_device key.now.device key.now.scan) }
+    ensures range { result < 524288 }
 {
-    u32::from(key.scan) * 8 + u32::from(key.device.get() - 1)
+    let scan = key.scan;
+    u32::from(key.device.get() - 1) * 65536 + u32::from(scan)
 }
 
 /// The next repeat number of the key at a place, or None where it is up.
@@ -46,8 +48,10 @@ pub fn due(table: &BTreeMap<u32, u64>, place: u32) -> Option<u64>
 
 /// Keeps what is due of the key at a place, and nothing of a key that is up.
 pub fn keep(table: &mut BTreeMap<u32, u64>, place: u32, due: Option<u64>) -> Result<(), AllocError>
+    requires { place < 524288 }
     ensures kept { OnOk result
         ((q : ℕ) → due_at table.new.entries q ≡ cond (is_eq (nat_cmp place q)) due (due_at table.old.entries q)) }
+    ensures places { are_places table.old.entries ≡ true → are_places table.new.entries ≡ true }
     ensures err { OnErr result (table.new.entries ≡ table.old.entries) }
 {
     match due {

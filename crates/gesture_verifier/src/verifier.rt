@@ -1,8 +1,10 @@
 //! The judge of one stream.
-ghost use Rattle.std.specs.Prelude.{◌≡◌, ◌<◌, ◌-◌, IsTrue, List, [], ◌∷◌, false, true, not, is_some, OnOk, OnErr};
+ghost use Rattle.std.specs.Prelude.{◌≡◌, ◌<◌, ◌-◌, IsTrue, List, [], ◌∷◌, false, true, not, is_some, IfOk, OnOk, OnErr};
+ghost use Rattle.std.specs.Prelude.{ℕ};
 ghost use Rattle.gesture_verifier.specs.Told.{is_device};
 
 use crate::fault::{Fault, StepError};
+use crate::held::{HeldKey, held_keys};
 use crate::reason::{Reason, first_fitting, key_reason, motion_reason};
 use crate::repeats::{due, keep, next_repeat, place};
 use bits32::Bits32;
@@ -24,14 +26,14 @@ pub struct Verifier {
 }
 
 impl Model for Verifier {
-    ghost use Rattle.std.specs.Prelude.{◌≡◌, length};
-    ghost use Rattle.gesture_verifier.specs.Told.{Told};
+    ghost use Rattle.std.specs.Prelude.{◌≡◌, length, true};
+    ghost use Rattle.gesture_verifier.specs.Told.{Told, are_places};
 
     ghost Value = { Told };
 
     ghost view = { λ v. record { sets = v.down; repeats = v.repeats.entries; focus = v.focus; accepted = v.accepted } };
 
-    ghost invariant = { λ v. length v.down ≡ 8 };
+    ghost invariant = { λ v. (length v.down ≡ 8) × (are_places v.repeats.entries ≡ true) };
 }
 
 impl Verifier {
@@ -39,6 +41,7 @@ impl Verifier {
     ghost use Rattle.bits32.specs.Set.{members};
     ghost use Rattle.gesture_verifier.specs.Told.{state_of, one_more, StandsFor};
     ghost use Rattle.gesture_verifier.specs.Faults.{IsFault, Takes, is_key, ids_of_body, due_of_body};
+    ghost use Rattle.gesture_verifier.specs.Held.{are_rising, is_held};
     ghost use Rattle.gesture_verifier.specs.Reasons.{reason_of, is_spelled};
 
     /// A judge of a stream that has no message yet.
@@ -88,6 +91,22 @@ impl Verifier {
             Body::Key(message) => key_reason(due(&self.repeats, place(&message.key)), message),
             Body::Focus(has) => first_fitting(&[(*has == self.focus, Reason::FocusTwice)]),
         }
+    }
+
+    /// The pointer ids that are down on a device.
+    pub fn ids_down(&self, device: DeviceId) -> Bits32
+        ensures { members result ≡ (state_of self.now).ids device }
+    {
+        self.down[row(device)]
+    }
+
+    /// The keys that are down, in rising order of their devices and scan codes.
+    pub fn keys_down(&self, alloc: Global) -> Result<Vec<HeldKey>, AllocError>
+        ensures rising { IfOk result (λ keys. are_rising keys.items ≡ true) }
+        ensures exact { (d s : ℕ)
+            → IfOk result (λ keys. is_held d s keys.items ≡ is_some ((state_of self.now).repeats d s)) }
+    {
+        held_keys(alloc, &self.repeats)
     }
 
     /// Takes what a message says, where it may come.

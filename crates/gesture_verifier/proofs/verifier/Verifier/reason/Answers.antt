@@ -13,6 +13,6 @@ returns-in-Motion-clause-exact c =
     rw (c.in-Motion.is, ← c.self.view_is) (λ spelled.
     ap is_some ((rw (← c.index-self-row.is) at c.motion_reason.ensures.value)
     ∙ ap (λ ids. first_fitting (motion_reasons ids c.in-Motion.motion))
-    (sym (kept_at told.sets c.in-Motion.motion.device c.index-self-row.result c.row.ensures.device c.self.invariant
+    (sym (kept_at told.sets c.in-Motion.motion.device c.index-self-row.result c.row.ensures.device c.self.invariant.0
     (rw c.row.ensures.place at c.index-self-row.is))))
     ∙ motion_exact (state_of told) c.in-Motion.motion c.motion_reason.ensures.rises spelled)

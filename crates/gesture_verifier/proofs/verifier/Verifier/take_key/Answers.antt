@@ -9,7 +9,7 @@ returns c =
     let old : Told =
     record { sets = c.self.inside.down; repeats = c.self.inside.repeats.entries; focus = c.self.inside.focus; accepted = c.self.inside.accepted } in
     rw (← c.self.view_is) (
-      key_taken old c.keep.new.table.entries c.args.message.now c.due.result c.in-Some.next c.place-at.ensures.device
+      key_taken old c.keep.new.table.entries c.args.message.now c.due.result c.in-Some.next c.place-at.ensures.key
           (rw c.place-at.ensures.place at c.due.ensures) c.in-Some.ensures (rw c.place-at.ensures.place at c.in_ok-keep.ensures.kept),
       refl,
     )

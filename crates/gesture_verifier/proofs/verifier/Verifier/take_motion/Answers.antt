@@ -11,7 +11,7 @@ returns-in-Some c =
     let old : Told =
     record { sets = c.self.inside.down; repeats = c.self.inside.repeats.entries; focus = c.self.inside.focus; accepted = c.self.inside.accepted } in
     rw (← c.self.view_is, c.row-row.ensures.place) (
-      motion_taken old c.args.motion.now c.index-self-row.result c.in-Some.held c.row-row.ensures.device c.self.invariant
+      motion_taken old c.args.motion.now c.index-self-row.result c.in-Some.held c.row-row.ensures.device c.self.invariant.0
           (rw c.row-row.ensures.place at c.index-self-row.is)
           (c.in-Some.ensures ∙ ap (λ held. after_motion (members held) c.args.motion.now) (sym c.index-self-row.is)),
       refl,
