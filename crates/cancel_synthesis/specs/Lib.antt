@@ -1,3 +1,4 @@
 pub mod Tracked
+pub mod Cancelling
 pub mod Ends
 pub mod Laws

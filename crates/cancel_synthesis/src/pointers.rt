@@ -1,24 +1,13 @@
-//! The pointers of one device in a window, and their cancels.
-ghost use Rattle.std.specs.Prelude.{◌≡◌, ℕ, ◌+◌, ◌<◌, ◌==◌, ◌++◌, not, filter, OnOk};
-ghost use Rattle.bits32.specs.Set.{is_in};
+//! The pointers of one device in a window, and the cancels of all of them.
+ghost use Rattle.std.specs.Prelude.{◌≡◌, ◌+◌, ◌<◌, ◌++◌, OnOk};
 ghost use Rattle.routing_rules.specs.Given.{changed};
-ghost use Rattle.routing_rules.specs.Told.{listing, cancelled_ups, devices};
+ghost use Rattle.routing_rules.specs.Told.{devices};
 ghost use Rattle.cancel_synthesis.specs.Tracked.{pointers_after, without};
-ghost use Rattle.cancel_synthesis.specs.Ends.{pointers_cancelled, device_told, devices_told};
+ghost use Rattle.cancel_synthesis.specs.Ends.{device_told, devices_told};
 
-use bits32::Bits32;
-use input_types::{Body, DeviceId, FLAG_CANCELED, Motion, MotionAction, PointerId, Pointers};
-use split_motion::{about, part, plain, rest};
+use crate::cancels::{Cancels, without};
+use input_types::{Body, DeviceId, Motion, MotionAction, Pointers};
 use std::alloc::AllocError;
-
-/// The pointers of a list but for one.
-fn without(pointers: &Pointers, id: PointerId) -> Pointers
-    ensures { result ≡ filter (λ q. not (q.id == id)) pointers.now }
-{
-    let mut one = Bits32::empty();
-    one.mark(id.get());
-    rest(pointers, one)
-}
 
 /// The pointers that a motion lists but for the one that goes up with it.
 fn left_by(motion: &Motion) -> Pointers
@@ -40,50 +29,6 @@ pub(crate) fn pointers_after(motion: &Motion, before: &Pointers) -> Pointers
         MotionAction::Up | MotionAction::Cancel => Pointers::empty(),
         MotionAction::Outside => *before,
     }
-}
-
-/// Adds the cancels of the pointers that have lost ids to a list.
-pub(crate) fn cancel(
-    out: &mut Vec<Motion>,
-    device: DeviceId,
-    had: &Pointers,
-    lost: Bits32,
-) -> Result<(), AllocError>
-    ensures { OnOk result (out.new.items ≡ out.old.items ++ pointers_cancelled device (λ i. is_in i lost) had.now) }
-{
-    let gone = part(had, lost);
-    if gone.is_empty() {
-        return Ok(());
-    }
-    if rest(had, lost).is_empty() {
-        out.push(plain(device, MotionAction::Cancel, *had))?;
-        return Ok(());
-    }
-    cancel_each(out, device, had, &gone)
-}
-
-/// Adds a cancelled up for each of these pointers, one after the other.
-fn cancel_each(
-    out: &mut Vec<Motion>,
-    device: DeviceId,
-    had: &Pointers,
-    gone: &Pointers,
-) -> Result<(), AllocError>
-    ensures { OnOk result (out.new.items ≡ out.old.items ++ cancelled_ups device had.now gone.now) }
-{
-    let mut left = *had;
-    for pointer in gone.as_slice() {
-        let up = about(
-            device,
-            MotionAction::PointerUp,
-            pointer.id,
-            FLAG_CANCELED,
-            left,
-        );
-        out.push(up)?;
-        left = without(&left, pointer.id);
-    }
-    Ok(())
 }
 
 /// Adds the cancels of all pointers to a list, device by device.
@@ -114,9 +59,9 @@ fn device_at(place: usize) -> DeviceId
 fn cancel_whole(out: &mut Vec<Body>, device: DeviceId, had: &Pointers) -> Result<(), AllocError>
     ensures { OnOk result (out.new.items ≡ out.old.items ++ device_told device had.now) }
 {
-    if had.is_empty() {
-        return Ok(());
+    let mut cancels = Cancels::new(device, had, &Pointers::empty(), had);
+    if let Some(cancel) = cancels.next() {
+        out.push(Body::Motion(cancel))?;
     }
-    out.push(Body::Motion(plain(device, MotionAction::Cancel, *had)))?;
     Ok(())
 }

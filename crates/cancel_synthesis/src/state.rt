@@ -1,15 +1,18 @@
 //! What a window was told, as far as it has not ended.
-ghost use Rattle.std.specs.Prelude.{◌≡◌, ◌+◌, ◌≤◌, ◌<◌, ℕ, [], IfOk, OnOk, OnErr, IsOk, vec_len, vec_capacity};
+ghost use Rattle.std.specs.Prelude.{◌≡◌, ◌+◌, ◌≤◌, ◌<◌, ℕ, not, [], IfOk, OnOk, OnErr, IsOk, vec_len, vec_capacity};
 ghost use Rattle.bits32.specs.Set.{is_in};
 ghost use Rattle.input_types.specs.declared.message.Body.TheVariants.{Motion as MotionBody};
+ghost use Rattle.cancel_synthesis.specs.Cancelling.{still_told};
 ghost use Rattle.cancel_synthesis.specs.Tracked.{Tracks, pointers_of, pointers_in, pointers_then};
 ghost use Rattle.cancel_synthesis.specs.Tracked.{keys_after, with_spare};
 ghost use Rattle.cancel_synthesis.specs.Ends.{pointers_cancelled, keys_cancelled, of_device, all_cancelled};
 
+use crate::cancels::Cancels;
 use crate::keys::{cancel_each_key, device_keys_cancelled, forget, keep, keys_cancelled};
-use crate::pointers::{cancel, cancel_devices, pointers_after};
+use crate::pointers::{cancel_devices, pointers_after};
 use bits32::Bits32;
 use input_types::{Body, DeviceId, KeyMsg, Motion, MotionAction, Pointers};
+use split_motion::{part, rest};
 use std::alloc::{AllocError, Global};
 use std::marker::Model;
 
@@ -101,6 +104,24 @@ impl InputState {
         self.spare = self.spare.saturating_sub(1);
     }
 
+    /// What the window is told where pointers of a device with these ids are taken from it, one motion after the
+    /// other. Takes no memory.
+    pub fn cancels(&self, device: DeviceId, lost: Bits32) -> Cancels
+        ensures { still_told result ≡ pointers_cancelled device (λ i. is_in i lost) (pointers_of self.now device) }
+    {
+        let had = pointers_at(&self.pointers, device);
+        Cancels::new(device, had, &rest(had, lost), &part(had, lost))
+    }
+
+    /// The same where those of its pointers of a device are taken that have other ids than these.
+    pub fn cancels_but(&self, device: DeviceId, kept: Bits32) -> Cancels
+        ensures { still_told result
+            ≡ pointers_cancelled device (λ i. not (is_in i kept)) (pointers_of self.now device) }
+    {
+        let had = pointers_at(&self.pointers, device);
+        Cancels::new(device, had, &part(had, kept), &rest(had, kept))
+    }
+
     /// What the window is told where pointers of a device with these ids are taken from it: nothing, where it has
     /// none of them; one Cancel, where it keeps none; and else a cancelled up for each.
     pub fn cancel_pointers(&self, device: DeviceId, lost: Bits32) -> Result<Vec<Motion>, AllocError>
@@ -108,7 +129,10 @@ impl InputState {
             v.items ≡ pointers_cancelled device (λ i. is_in i lost) (pointers_of self.now device)) }
     {
         let mut told = Vec::new(*self.keys.allocator());
-        cancel(&mut told, device, pointers_at(&self.pointers, device), lost)?;
+        let mut cancels = self.cancels(device, lost);
+        while let Some(cancel) = cancels.next() {
+            told.push(cancel)?;
+        }
         Ok(told)
     }
 

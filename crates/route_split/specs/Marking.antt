@@ -1,5 +1,5 @@
 -- The marks of the rules, as masks and sets.
-use Rattle.std.specs.Prelude.{ℕ, Bool, true, false, not, ◌&&◌, ◌||◌, ◌==◌, ◌≡◌, List}
+use Rattle.std.specs.Prelude.{ℕ, Bool, true, false, not, ◌&&◌, ◌||◌, ◌==◌, ◌≡◌, List, Option, IfSome}
 use Rattle.input_types.specs.declared.motion.Motion.{Motion}
 use Rattle.window_snapshot.specs.Mask.{is_channel, mask_has}
 use Rattle.routing_rules.specs.Pairs.{has}
@@ -7,10 +7,12 @@ use Rattle.routing_rules.specs.Taking.{Taking, Nothing, Lifted, Emptied, Slipped
 use Rattle.routing_rules.specs.Marks.{Mark as RuleMark}
 use Rattle.routing_rules.specs.Scene.{Scene, Step, Moves, Resets, Pilfers, Shows, Mutes, Removes, Rests as Resting}
 use Rattle.routing_rules.specs.Given.{given, taken, mark}
-use Rattle.touch_state.specs.Touches.{Touches, of_mask, one}
+use Rattle.bits32.specs.Set.{is_in}
+use Rattle.touch_state.specs.Touches.{Touches, holds, of_mask, one}
+use Rattle.pilfer_monitor.specs.Pilfer.{pilfered, set_of}
 use Rattle.route_split.specs.declared.mark.Mark.{Mark}
 use Rattle.route_split.specs.declared.mark.Mark.TheVariants.{Rests, Give, Lift, Slip, Empty, Pilfer, Unnamed, Mute, Forget}
-use Rattle.route_split.specs.Tables.{holds_at, any_at, Stands}
+use Rattle.route_split.specs.Tables.{table_of, holds_at, any_at, Stands}
 
 -- what a mark gives: a pointer that goes down, or that slips to a window
 abbrev pub gives : Mark → (window device id : ℕ) → Bool
@@ -52,6 +54,25 @@ pub record IsMotionMark (s : Scene) (m : Motion) (k : Mark) : Type 0 where
 -- the ids that a window holds of a device after a step with this mark
 abbrev pub holds_after : List Touches → Mark → (window device id : ℕ) → Bool
 holds_after ts k w d i = gives k w d i || holds_at ts w d i && not (takes (taking ts k) w d i)
+
+-- with the mark a window pilfers
+abbrev pub is_pilfer : Mark → Bool
+is_pilfer (Pilfer device window) = true
+is_pilfer k = false
+
+-- these sets are what each window loses to the spy, in a table with one for each channel: what both hold
+abbrev pub AreLostTo : Touches → (spy : ℕ) → (lost : List ℕ) → Type 0
+AreLostTo t spy lost = (w i : ℕ) → is_in i (set_of lost w) ≡ (holds t w i && pilfered t spy w i)
+
+-- the same of a mark with which a window pilfers
+abbrev pub AreLosses : List Touches → Mark → (lost : List ℕ) → Type 0
+AreLosses ts (Pilfer device spy) lost = AreLostTo (table_of ts device) spy lost
+AreLosses ts k lost = ⊥
+
+-- The tables changed by a mark: windows hold what they hold after it, and where one pilfers these are the losses.
+pub record IsChanged (old new : List Touches) (k : Mark) (losses : Option (List ℕ)) : Type 0 where
+  pub holds_are : (w d i : ℕ) → holds_at new w d i ≡ holds_after old k w d i
+  pub losses_are : IfSome losses (AreLosses old k)
 
 -- a step that is no motion leaves this mark; of windows that stay, or are found unresponsive, the channels matter alone
 abbrev pub IsStepOf : Mark → Step → Type 0

@@ -4,7 +4,7 @@ ghost use Rattle.window_snapshot.specs.Mask.{mask_has};
 ghost use Rattle.route_split.specs.Marking.{is_given_some};
 
 use crate::mark::Mark;
-use crate::taking::alone;
+use crate::marking::alone;
 use input_types::DeviceId;
 
 /// The mask of the windows that are given a pointer of a device with this mark.

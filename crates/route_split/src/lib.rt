@@ -9,26 +9,24 @@
 //! after it  1 holds {0}, 2 holds {1}
 //! ```
 //!
-//! A step is first planned and then taken. [`Touches::mark`] finds what a motion gives and takes; the marks of all
-//! other steps are named by [`Mark`] itself. [`Touches::tells`] and [`Touches::loses`] say what a window is told at the
-//! step, and [`Touches::concerned`] which windows can be told anything. None of these changes the tables, takes memory
-//! or fails, and neither does [`Touches::take`], with which the step is taken.
+//! [`Touches::mark`] finds what a motion gives and takes; the marks of all other steps are named by [`Mark`] itself.
+//! [`Touches::concerned`] says which windows can be told anything at the step. [`Touches::change`] changes the tables by
+//! the mark, and answers what each window lost where one pilfers. Then [`Touches::tells`] says what a window is told of a
+//! motion, by what it held before and holds now. None of these takes memory or fails.
 //!
 //! The tables stand for a scene of the rules (`Stands` of specs/Tables), and for the marks of all steps so far
-//! (`Follows` of specs/Following): each mark that is taken is one mark more.
+//! (`Follows` of specs/Following): each mark by which they change is one mark more.
 #![tactic(auto)]
 
-mod after;
 mod choice;
 mod concern;
 pub mod laws;
 mod mark;
+mod marking;
 mod motion;
-mod planned;
 mod seen;
 mod sets;
 mod slip;
-mod taking;
 mod telling;
 mod tells;
 mod touches;

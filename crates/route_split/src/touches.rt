@@ -1,29 +1,29 @@
 //! The touch states of all devices.
-ghost use Rattle.std.specs.Prelude.{◌≡◌, ℕ, true, IfOk};
+ghost use Rattle.std.specs.Prelude.{◌≡◌, ℕ, true, IfOk, IfSome};
 ghost use Rattle.bits32.specs.Set.{is_in};
 ghost use Rattle.window_snapshot.specs.Mask.{is_channel, mask_has};
 ghost use Rattle.routing_rules.specs.Choice.{choice_at};
 ghost use Rattle.routing_rules.specs.Taking.{takes, pilfers};
-ghost use Rattle.routing_rules.specs.Scene.{Scene, Step, Moves};
+ghost use Rattle.routing_rules.specs.Scene.{Scene, Moves};
 ghost use Rattle.routing_rules.specs.Given.{changed, mark as rule_mark};
-ghost use Rattle.routing_rules.specs.Told.{told};
+ghost use Rattle.routing_rules.specs.Told.{after, told};
 ghost use Rattle.route_split.specs.Seen.{Sees};
 ghost use Rattle.route_split.specs.Telling.{IsTold, IsListed};
 ghost use Rattle.routing_rules.specs.Watching.{is_watching};
 ghost use Rattle.route_split.specs.Tables.{table_of, any_at, holds_at, Stands, IsFresh, ChangesAll};
-ghost use Rattle.route_split.specs.Marking.{gives, taking, IsWhole, IsMark, IsStepOf, holds_after, may_be_told};
+ghost use Rattle.route_split.specs.Marking.{gives, taking, IsWhole, IsMark, AreLosses, may_be_told};
 
-use crate::after::after_of;
 use crate::choice::choice_at;
 use crate::concern::given_windows;
 use crate::mark::Mark;
+use crate::marking::{change_by, fresh_states, index_of};
 use crate::motion::mark_of;
-use crate::planned::{loses_at, tells_at};
 use crate::seen::Seen;
-use crate::taking::{fresh_states, index_of, take_mark};
+use crate::telling::tells_of;
 use crate::tells::Tells;
 use bits32::Bits32;
 use input_types::{DeviceId, Motion, Pixel};
+use pilfer_monitor::Losses;
 use routing_rules::Choice;
 use std::alloc::{AllocError, Global};
 use std::marker::Model;
@@ -41,12 +41,6 @@ pub struct Touches {
 impl Model for Touches {
     ghost use Rattle.std.specs.Prelude.{List};
     ghost use Rattle.touch_state.specs.Touches.{Touches as Table};
-    ghost use Rattle.routing_rules.specs.Scene.{Scene, Step, Moves};
-    ghost use Rattle.routing_rules.specs.Given.{changed, mark as rule_mark};
-    ghost use Rattle.routing_rules.specs.Told.{told};
-    ghost use Rattle.route_split.specs.Seen.{Sees};
-    ghost use Rattle.route_split.specs.Telling.{IsTold, IsListed};
-    ghost use Rattle.routing_rules.specs.Watching.{is_watching};
     ghost use Rattle.route_split.specs.Tables.{IsTables};
 
     ghost Value = { List Table };
@@ -127,46 +121,33 @@ impl Touches {
         self.holders(device) | given_windows(mark, device)
     }
 
-    /// The ids of the pointers of a device that a window holds after the step of a mark.
-    pub fn after(&self, mark: &Mark, window: u32, device: DeviceId) -> Bits32
-        requires whole { IsWhole mark.now }
-        requires channel { is_channel window ≡ true }
-        ensures { (i : ℕ) → is_in i result ≡ holds_after self.now mark.now window device i }
-    {
-        after_of(&self.states, mark, window, device)
-    }
-
-    /// What a window is told of a motion, whose mark this is; `watches` says whether the window is one of the motion's
-    /// `watchers`. What windows hold has to be listed in the last motion of the device.
-    pub fn tells(&self, motion: &Motion, mark: &Mark, window: u32, watches: bool) -> Tells
-        requires whole { IsWhole mark.now }
-        requires channel { is_channel window ≡ true }
-        ensures { (s : Scene) → Stands s self.now → IsMark self.now mark.now (rule_mark s (Moves motion.now))
+    /// What a window is told of a motion, once the tables have changed by its mark; `before` are the ids that it held
+    /// of the motion's device before, and `watches` says whether the window is one of the motion's `watchers`. What
+    /// windows held has to be listed in the last motion of the device.
+    pub fn tells(&self, motion: &Motion, window: u32, before: Bits32, watches: bool) -> Tells
+        requires { is_channel window ≡ true }
+        ensures { (s : Scene)
+            → ((i : ℕ) → s.holds window motion.now.device i ≡ is_in i before)
+            → ((i : ℕ) → after s (rule_mark s (Moves motion.now)) window motion.now.device i
+            ≡ holds_at self.now window motion.now.device i)
             → IsListed s motion.now.device
             → watches ≡ is_watching s motion.now (changed motion.now) window
             → IsTold result (told s (Moves motion.now) window motion.now.device) motion.now.device
             (s.last motion.now.device) (s.holds window motion.now.device) }
     {
-        tells_at(&self.states, motion, mark, window, watches)
+        let later = self.held(window, motion.device);
+        tells_of(motion, before, later, watches)
     }
 
-    /// What a window is told of a device at a step that is no motion, whose mark this is.
-    pub fn loses(&self, mark: &Mark, window: u32, device: DeviceId) -> Tells
-        requires whole { IsWhole mark.now }
-        requires channel { is_channel window ≡ true }
-        ensures { (s : Scene) (e : Step) → Stands s self.now → IsStepOf mark.now e
-            → IsTold result (told s e window device) device (s.last device) (s.holds window device) }
-    {
-        loses_at(&self.states, mark, window, device)
-    }
-
-    /// Takes the step of a mark, at a place, which is how many steps were before it.
+    /// Changes the tables by the mark of a step, at a place, which is how many steps were before it. Answers what each
+    /// window lost, where one pilfers that holds something.
     #[inline(always)]
-    pub fn take(&mut self, mark: &Mark, place: u64)
+    pub fn change(&mut self, mark: &Mark, place: u64) -> Option<Losses>
         requires { IsWhole mark.now }
-        ensures { ChangesAll self.old self.new (gives mark.now) (takes (taking self.old mark.now)) place
+        ensures changes { ChangesAll self.old self.new (gives mark.now) (takes (taking self.old mark.now)) place
             (pilfers (taking self.old mark.now)) }
+        ensures losses { IfSome result (AreLosses self.old mark.now) }
     {
-        take_mark(&mut self.states, mark, place);
+        change_by(&mut self.states, mark, place)
     }
 }

@@ -65,6 +65,17 @@ least_more rows hits k least lt l = by_hit (mask_has hits (k + 1)) refl least l
           ],
     )
 
+-- above the windows of the mask there is nothing to find
+pub least_whole : (rows : List Row) (hits k : ℕ) (least : Option ℕ) → k ≤ 64 → ((w : ℕ) → k < w → mask_has hits w ≡ false)
+    → IsLeastSince rows hits k least → IsLeastSince rows hits 64 least
+least_whole rows hits k None le above none = λ w lw.
+    elim (cases_lt k w) [ inl up ↦ above w up | inr down ↦ none w down ]
+least_whole rows hits k (Some m) le above some = (
+  (some.0.0, let b : some.0.0 ≤ k = some.0.1 in omega (arith, b, le), some.0.2, some.0.3),
+  λ w lw h.
+      elim (cases_lt k w) [ inl up ↦ absurd (both_ways (mask_has hits w) (above w up) h) | inr down ↦ some.1 w down h ],
+)
+
 -- the windows of a mask that hold something
 hits_are : (t : Touches) (holders among w : ℕ) → Kept t.rows holders t.pilferers
     → mask_has (bit_and holders among) w ≡ (not ((row_of t.rows w).ids == 0) && mask_has among w)

@@ -194,9 +194,10 @@ pub(crate) fn holders_of(rows: &[Row; 64], top: usize) -> u64
 pub(crate) fn least_since(rows: &[Row; 64], hits: u64) -> Option<u64>
     ensures { IsLeastSince rows.now hits 64 result }
 {
+    let top = top_of(hits);
     let mut least = None;
-    for (k, row) in rows.iter().enumerate() {
-        least = sooner(least, mask_has(hits, k as u32 + 1), *row);
+    for k in 0..top {
+        least = sooner(least, mask_has(hits, k as u32 + 1), rows[k]);
     }
     least
 }
@@ -224,10 +225,16 @@ fn sooner(least: Option<u64>, hit: bool, row: Row) -> Option<u64>
 pub(crate) fn began_at(rows: &[Row; 64], hits: u64, place: u64) -> u64
     ensures { (w : ℕ) → mask_has result w ≡ (mask_has hits w && (row_of rows.now w).since == place) }
 {
+    let top = top_of(hits);
     let mut began = 0;
-    for (k, row) in rows.iter().enumerate() {
+    for k in 0..top {
         let channel = k as u32 + 1;
-        began = with_one(began, channel, mask_has(hits, channel), row.since == place);
+        began = with_one(
+            began,
+            channel,
+            mask_has(hits, channel),
+            rows[k].since == place,
+        );
     }
     began
 }

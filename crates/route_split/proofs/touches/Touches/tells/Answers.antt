@@ -1,15 +1,20 @@
-use Rattle.std.proofs.Common.{◌≡◌, List, ◌∙◌, subst}
-use Rattle.routing_rules.specs.Scene.{Scene, Moves}
-use Rattle.routing_rules.specs.Given.{changed, mark}
-use Rattle.routing_rules.specs.Told.{told}
-use Rattle.touch_state.specs.Touches.{Touches}
-use Rattle.route_split.specs.Tables.{Stands}
-use Rattle.route_split.specs.Marking.{IsMark}
-use Rattle.route_split.specs.Telling.{IsTold, IsListed}
-use Rattle.routing_rules.specs.Watching.{is_watching}
+use Rattle.std.proofs.Common.{ℕ, Bool, ◌≡◌, sym, ap, ◌∙◌}
+use mathlib.Core.Path.{fun_ext}
+use Rattle.bits32.specs.Set.{is_in}
+use Rattle.routing_rules.specs.Scene.{Moves}
+use Rattle.routing_rules.specs.Given.{mark}
+use Rattle.routing_rules.specs.Told.{after}
+use Rattle.route_split.proofs.ToldBy.{only_new, told_by}
 use Rattle.route_split.proofs.touches.Touches.tells.Goals as goal
 
 pub returns : goal.returns
-returns c = subst (λ (ts : List Touches). (s : Scene) → Stands s ts → IsMark ts c.args.mark.now (mark s (Moves c.args.motion.now)) → IsListed s c.args.motion.now.device
-    → c.args.watches ≡ is_watching s c.args.motion.now (changed c.args.motion.now) c.args.window
-    → IsTold c.tells_at.result (told s (Moves c.args.motion.now) c.args.window c.args.motion.now.device) c.args.motion.now.device (s.last c.args.motion.now.device) (s.holds c.args.window c.args.motion.now.device)) (c.deref.ensures.value ∙ c.self.view_is) c.tells_at.ensures
+returns c s held left listed watching =
+    let m = c.args.motion.now in
+    let w = c.args.window in
+    let d = m.device in
+    let before : ℕ → Bool = λ i. is_in i c.args.before in
+    let later : ℕ → Bool = λ i. is_in i c.held-later.result in
+    let p : s.holds w d ≡ before = fun_ext held in
+    let q : after s (mark s (Moves m)) w d ≡ later = fun_ext (λ i. left i ∙ sym (c.held-later.ensures i)) in
+    told_by s m w c.tells_of.result before later p q
+    (c.tells_of.ensures s w watching (λ i b l. listed w i (ap (λ (g : ℕ → Bool). g i) p ∙ b)) (only_new s m w before later p q))

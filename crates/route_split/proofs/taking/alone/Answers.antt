@@ -1,5 +1,0 @@
-use Rattle.route_split.proofs.MaskSets.{mask_has-alone}
-use Rattle.route_split.proofs.taking.alone.Goals as goal
-
-pub returns : goal.returns
-returns c w = mask_has-alone c.mask_with.result c.args.window w c.mask_with.ensures
