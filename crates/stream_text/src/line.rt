@@ -1,0 +1,36 @@
+//! Numbers and words at the end of a text.
+ghost use Rattle.std.specs.Prelude.{◌≡◌, ◌++◌, IfOk, decimal};
+ghost use Rattle.std.specs.Fmt.{signed_decimal};
+ghost use Rattle.stream_text.specs.Spelling.{labeled};
+
+use itoa::Buffer;
+use std::alloc::AllocError;
+
+pub(crate) fn add_word(text: &mut Vec<u8>, word: &str) -> Result<(), AllocError>
+    ensures { IfOk result (λ _. text.new.items ≡ text.old.items ++ word.now) }
+{
+    text.extend_from_slice(word.as_bytes())
+}
+
+pub(crate) fn add_number(text: &mut Vec<u8>, number: u64) -> Result<(), AllocError>
+    ensures { IfOk result (λ _. text.new.items ≡ text.old.items ++ decimal number) }
+{
+    let mut buffer = Buffer::new();
+    text.extend_from_slice(buffer.format(number).as_bytes())
+}
+
+pub(crate) fn add_signed(text: &mut Vec<u8>, number: i32) -> Result<(), AllocError>
+    ensures { IfOk result (λ _. text.new.items ≡ text.old.items ++ signed_decimal number) }
+{
+    let mut buffer = Buffer::new();
+    text.extend_from_slice(buffer.format(number).as_bytes())
+}
+
+/// A number behind some words.
+#[tactic(auto, unfolding(crate::specs::Spelling::labeled))]
+pub(crate) fn add_labeled(text: &mut Vec<u8>, words: &str, number: u64) -> Result<(), AllocError>
+    ensures { IfOk result (λ _. text.new.items ≡ text.old.items ++ labeled words.now number) }
+{
+    add_word(text, words)?;
+    add_number(text, number)
+}
