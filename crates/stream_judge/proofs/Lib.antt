@@ -1,1 +1,3 @@
 pub mod Snoc
+pub mod Placed
+pub mod Spelled

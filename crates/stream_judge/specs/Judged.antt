@@ -1,6 +1,6 @@
 -- What is answered of a stream file that is judged.
 use Rattle.std.specs.Prelude.{◌≡◌, ℕ, ◌+◌, List, [], ◌∷◌, Option, Some, None, Result, Ok, Err}
-use Rattle.stream_text.specs.StreamFile.{Event, Stream, streams_in}
+use Rattle.stream_text.specs.StreamFile.{Event, Stream}
 use Rattle.stream_judge.specs.declared.error.FileError.{FileError}
 use Rattle.stream_judge.specs.declared.error.FileError.TheVariants.{BadLine, NotWellFormed, Memory}
 use Rattle.stream_judge.specs.Breaks.{first_break}

@@ -121,6 +121,17 @@ impl<'a> StreamLines<'a> {
         })
     }
 
+    /// Another reader of the lines that are left.
+    pub fn again(&self) -> StreamLines<'a>
+        ensures { result ≡ self.now }
+    {
+        StreamLines {
+            place: self.place,
+            number: self.number,
+            rest: self.rest,
+        }
+    }
+
     /// The next line with its number, or None at the end of the file. A line that has not its form or may not stand
     /// there, or that is missing because a section does not end, is answered by its number.
     pub fn next(&mut self) -> Result<Option<(u64, StreamLine)>, u64>

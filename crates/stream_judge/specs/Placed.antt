@@ -1,0 +1,26 @@
+-- Where the lines of a file stand, and what they can say.
+use Rattle.std.specs.Prelude.{◌≡◌, ℕ, ◌+◌, true, List, [], ◌∷◌, Some, Result, Ok, Err}
+use Rattle.stream_text.specs.declared.stream_line.StreamLine.{StreamLine}
+use Rattle.stream_text.specs.declared.stream_line.StreamLine.TheVariants.{Channel, Message, End, Naming}
+use Rattle.stream_text.specs.declared.stream_lines.Place.{Place}
+use Rattle.stream_text.specs.MessageLine.{HasSpelling}
+use Rattle.stream_text.specs.StreamFile.{Event, follow, may_end}
+use Rattle.stream_text.specs.StreamLine.{IsId}
+
+-- what a line can say: a section is of one of the channels 1 to 64, and a message has a spelling
+abbrev pub CanSay : StreamLine → Type 0
+CanSay (Channel id) = IsId id
+CanSay (Message m) = HasSpelling m
+CanSay (End id sent received finished) = Unit {0}
+CanSay (Naming clock id seq) = Unit {0}
+
+-- Lines from line `n` on, of which the first stands at a place: each has the number behind that of the line before it, says what a line can say
+-- and may stand where it stands, and the file may end behind the last.
+abbrev pub ArePlaced : Place → ℕ → List Event → Type 0
+ArePlaced place n [] = may_end place ≡ true
+ArePlaced place n (e ∷ es) = (e.0 ≡ n) × CanSay e.1 × ((next : Place) × (follow place e.1 ≡ Some next) × ArePlaced next (n + 1) es)
+
+-- the same of lines that are left, where none of them is bad
+abbrev pub Places : Place → ℕ → Result (List Event) ℕ → Type 0
+Places place n (Ok es) = ArePlaced place n es
+Places place n (Err bad) = Unit {0}
