@@ -22,13 +22,7 @@ pub(crate) fn rest(routing: &mut Routing, place: u64)
 }
 
 /// A round is carried out of which the windows of the mask `told` are told, for which there is room. Takes no memory.
-pub(crate) fn carry_out(
-    routing: &mut Routing,
-    told: u64,
-    round: &Round,
-    place: u64,
-    clock: Moment,
-)
+pub(crate) fn carry_out(routing: &mut Routing, told: u64, round: &Round, place: u64, clock: Moment)
     requires whole { IsWhole round.now.mark }
     requires told { AreListeners told routing.old.touches round.now routing.old.channels }
     requires ready { IsReady routing.old.touches round.now routing.old.channels }

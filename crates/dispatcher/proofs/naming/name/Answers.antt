@@ -5,8 +5,8 @@ use Rattle.dispatcher.proofs.naming.name.Goals as goal
 
 pub carry_out-requires-clause-timely : goal.carry_out-requires-clause-timely
 carry_out-requires-clause-timely c =
-    timely_named c.args.clock c.args.mask c.args.clock c.make_room-told.new.channels c.name.new.self c.in_ok-name.ensures.ok
-    (timely_room c.args.clock c.args.routing.now.channels c.make_room-told.new.channels c.in_ok-told.ensures.same c.requires)
+    timely_named c.args.clock c.args.mask c.args.clock c.make_room.new.channels c.name.new.self c.in_ok-name.ensures.ok
+    (timely_room c.args.clock c.args.routing.now.channels c.make_room.new.channels c.in_ok-told.ensures.same c.requires)
 
 pub carry_out-requires-clause-told : goal.carry_out-requires-clause-told
 carry_out-requires-clause-told c =
