@@ -75,9 +75,9 @@ fn tell_each(
 /// Changes the tables of touches by the mark of the step, at its place, tells the windows of the mask `told` what the
 /// rules of the step say, and publishes it at the clock. Takes no memory.
 ///
-/// The mask is that of the [`listeners`](crate::listeners), for which [`make_room`](crate::make_room) has made the room.
-/// The places of motions are counted from the origins, of which that of window 1 is the first one. The clock may not be
-/// below that at which an unfinished message was delivered.
+/// The mask is that of the [`listeners`](crate::listeners), for which [`make_room`](crate::make_room) has made the
+/// room. The places of motions are counted from the origins, of which that of window 1 is the first one. The clock may
+/// not be below that at which an unfinished message was delivered.
 pub fn tell_all(
     told: u64,
     round: &Round,

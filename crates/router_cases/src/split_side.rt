@@ -116,13 +116,7 @@ impl SplitSide {
     }
 
     /// The ids that a window lost of a device.
-    fn lost(
-        &self,
-        mark: &Mark,
-        losses: Option<&Losses>,
-        channel: u32,
-        device: DeviceId,
-    ) -> Bits32 {
+    fn lost(&self, mark: &Mark, losses: Option<&Losses>, channel: u32, device: DeviceId) -> Bits32 {
         if !is_channel(channel) {
             return Bits32::empty();
         }
