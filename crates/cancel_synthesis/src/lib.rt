@@ -12,8 +12,8 @@
 //! away goes up with the flag, with the code and the meta bits of its last message.
 //!
 //! An [`InputState`] tracks what one window is told. The cancels are made from it alone and change nothing; once they
-//! are tracked too, what they end is gone ([`laws`]). Those of pointers come one by one, from [`Cancels`]. What the rules of routing tell a window at a step, tracked,
-//! leaves just what it holds then.
+//! are tracked too, what they end is gone ([`laws`]). Those of pointers come one by one, from [`Cancels`]. What the
+//! rules of routing tell a window at a step, tracked, leaves just what it holds then.
 #![tactic(auto)]
 
 mod cancels;

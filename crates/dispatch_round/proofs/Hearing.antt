@@ -1,20 +1,24 @@
 -- A window is told what the round has for it.
-use Rattle.std.proofs.Common.{◌≡◌, ◌+◌, ◌≤◌, Bool, true, false, List, [], length, map, flat_map, Option, Some, None, sym, ap, ◌∙◌, subst, arith}
+use Rattle.std.proofs.Common.{◌≡◌, ℕ, ◌&&◌, ◌+◌, ◌≤◌, Bool, true, false, List, [], length, map, flat_map, Option, Some, None, refl, sym, ap, ◌∙◌, subst, arith}
+use Rattle.std.specs.Prelude.{IfSome}
 use Rattle.std.specs.Option.{option_copied}
 use Rattle.std.proofs.lemmas.List.{length-map}
+use Rattle.bits32.specs.Set.{is_in}
 use Rattle.input_types.specs.declared.key.KeyMsg.{KeyMsg}
 use Rattle.input_types.specs.declared.message.Body.TheVariants.{Motion as MotionBody, Key}
 use Rattle.input_types.specs.declared.motion.Motion.{Motion}
 use Rattle.window_snapshot.specs.Mask.{mask_has}
 use Rattle.routing_rules.specs.Scene.{Scene, Moves}
 use Rattle.routing_rules.specs.Given.{changed, mark}
-use Rattle.routing_rules.specs.Told.{told, devices}
+use Rattle.routing_rules.specs.Told.{after, told, devices}
+use Rattle.routing_rules.proofs.Listings.{has_id, has_id-listing}
 use Rattle.cancel_synthesis.specs.Tracked.{pointers_of}
 use Rattle.touch_state.specs.Touches.{Touches}
 use Rattle.route_split.specs.declared.tells.Tells.{Tells}
-use Rattle.route_split.specs.Tables.{Stands}
-use Rattle.route_split.specs.Marking.{IsMark}
+use Rattle.route_split.specs.Tables.{holds_at}
+use Rattle.route_split.specs.Marking.{AreLosses}
 use Rattle.route_split.specs.Telling.{IsTold, IsListed}
+use Rattle.route_split.proofs.ToldBy.{after_is}
 use Rattle.routing_rules.specs.Watching.{is_watching}
 use Rattle.key_tables.specs.Focused.{change_of, change_told}
 use Rattle.dispatch_channels.specs.Table.{Table, input_of}
@@ -22,56 +26,84 @@ use Rattle.dispatch_round.specs.declared.round.Round.{Round}
 use Rattle.dispatch_round.specs.declared.listener.Listener.{Listener}
 use Rattle.dispatch_round.specs.Bodies.{keys_to, bodies_of}
 use Rattle.dispatch_round.specs.Rounds.{IsStepIn, may_take, most_motions, most_bodies}
-use Rattle.dispatch_round.specs.Saying.{CanHear, TellsOne, motions_by, losses, HearsMotions, HearsRound}
+use Rattle.dispatch_round.specs.Saying.{CanHear, TellsOne, motions_by, losses, pilfered_from, HearsMotions, HearsRound}
 use Rattle.dispatch_round.proofs.Saying.{tells_none, tells_then, hears_after}
-use Rattle.dispatch_round.proofs.Cancelling.{found_few, all_losses_few}
-use Rattle.dispatch_round.proofs.Ruling.{found_all, lost_all, none_all}
+use Rattle.dispatch_round.proofs.Cancelling.{found_few, all_losses_few, pilfered_few}
+use Rattle.dispatch_round.proofs.Ruling.{found_all, lost_all, pilfered_all, none_all}
 
 -- at a motion what was found for its device
-pub hears_found : (r : Round) (ts : List Touches) (to : Listener) (t u : Table) (m : Motion) (x : Tells) (watches : Bool)
+pub hears_found : (r : Round) (us : List Touches) (to : Listener) (t u : Table) (m : Motion) (x : Tells) (before : ℕ) (watches : Bool) (lost : Option (List ℕ))
     → option_copied r.motion ≡ Some m → 1 ≤ m.device → m.device ≤ 8 → watches ≡ mask_has r.watchers to.window
-    → ((s : Scene) → Stands s ts → IsMark ts r.mark (mark s (Moves m)) → IsListed s m.device → watches ≡ is_watching s m (changed m) to.window
+    → ((i : ℕ) → is_in i before ≡ has_id i (pointers_of (input_of t to.window) m.device))
+    → ((s : Scene) → ((i : ℕ) → s.holds to.window m.device i ≡ is_in i before)
+    → ((i : ℕ) → after s (mark s (Moves m)) to.window m.device i ≡ holds_at us to.window m.device i)
+    → IsListed s m.device → watches ≡ is_watching s m (changed m) to.window
     → IsTold x (told s (Moves m) to.window m.device) m.device (s.last m.device) (s.holds to.window m.device))
     → TellsOne to (map MotionBody (motions_by x m.device (pointers_of (input_of t to.window) m.device))) t u
-    → HearsMotions r ts to t u
-hears_found r ts to t u m x watches opt low high seen found says = record {
+    → HearsMotions r us lost to t u
+hears_found r us to t u m x before watches lost opt low high seen ids found says = record {
   motions = motions_by x m.device (pointers_of (input_of t to.window) m.device);
   few = subst (λ o. length (motions_by x m.device (pointers_of (input_of t to.window) m.device)) ≤ most_motions o (input_of t to.window)) (sym opt)
       (found_few x m.device (pointers_of (input_of t to.window) m.device));
   told = says;
-  by_rules = λ s e h holds.
+  by_rules = λ s e ts by h holds.
       let step = subst (λ o. IsStepIn s ts r.mark o r.watchers e) opt h.step_is in
       found_all s e m to.window x (pointers_of (input_of t to.window) m.device) step.0 low high (holds m.device low high)
-      (found s h.stands step.1 step.2 (seen ∙ step.3 to.window));
+      (found s
+      (λ i. sym (ids i ∙ ap (has_id i) (holds m.device low high) ∙ has_id-listing (s.holds to.window m.device) i (s.last m.device)
+      ∙ is_listed (s.holds to.window m.device i) (has_id i (s.last m.device)) (step.2 to.window i)))
+      (λ i. after_is s ts r.mark (mark s (Moves m)) h.stands step.1 to.window m.device i ∙ sym (by.holds_are to.window m.device i))
+      step.2 (seen ∙ step.3 to.window));
 }
+  where
+    is_listed : (b l : Bool) → (b ≡ true → l ≡ true) → (b && l) ≡ b
+    is_listed true l f = f refl
+    is_listed false l f = refl
 
 -- at another step what is taken
-pub hears_lost : (r : Round) (ts : List Touches) (to : Listener) (t u : Table) → option_copied r.motion ≡ None → may_take r.mark ≡ true
-    → TellsOne to (map MotionBody (flat_map (losses ts r.mark to.window (input_of t to.window)) devices)) t u
-    → HearsMotions r ts to t u
-hears_lost r ts to t u opt takes says = record {
-  motions = flat_map (losses ts r.mark to.window (input_of t to.window)) devices;
-  few = subst (λ o. length (flat_map (losses ts r.mark to.window (input_of t to.window)) devices) ≤ most_motions o (input_of t to.window)) (sym opt)
-      (all_losses_few ts r.mark to.window (input_of t to.window) devices);
+pub hears_lost : (r : Round) (us : List Touches) (to : Listener) (t u : Table) (lost : Option (List ℕ))
+    → option_copied r.motion ≡ None → may_take r.mark ≡ true
+    → TellsOne to (map MotionBody (flat_map (losses us to.window (input_of t to.window)) devices)) t u
+    → HearsMotions r us lost to t u
+hears_lost r us to t u lost opt takes says = record {
+  motions = flat_map (losses us to.window (input_of t to.window)) devices;
+  few = subst (λ o. length (flat_map (losses us to.window (input_of t to.window)) devices) ≤ most_motions o (input_of t to.window)) (sym opt)
+      (all_losses_few us to.window (input_of t to.window) devices);
   told = says;
-  by_rules = λ s e h holds.
-      lost_all s e ts r.mark to.window (input_of t to.window) h.stands (subst (λ o. IsStepIn s ts r.mark o r.watchers e) opt h.step_is) takes holds;
+  by_rules = λ s e ts by h holds.
+      lost_all s e ts us r.mark lost to.window (input_of t to.window) h.stands (subst (λ o. IsStepIn s ts r.mark o r.watchers e) opt h.step_is) takes by holds;
 }
 
-pub hears_none : (r : Round) (ts : List Touches) (to : Listener) (t : Table) → option_copied r.motion ≡ None → may_take r.mark ≡ false → HearsMotions r ts to t t
-hears_none r ts to t opt rests = record {
+-- and what a window loses to one that pilfers
+pub hears_pilfered : (r : Round) (us : List Touches) (to : Listener) (t u : Table) (o : Option (List ℕ)) (lost : List ℕ)
+    → option_copied r.motion ≡ None → o ≡ Some lost
+    → TellsOne to (map MotionBody (pilfered_from r.mark lost to.window (input_of t to.window))) t u
+    → HearsMotions r us o to t u
+hears_pilfered r us to t u o lost opt some says = record {
+  motions = pilfered_from r.mark lost to.window (input_of t to.window);
+  few = subst (λ o. length (pilfered_from r.mark lost to.window (input_of t to.window)) ≤ most_motions o (input_of t to.window)) (sym opt)
+      (pilfered_few r.mark lost to.window (input_of t to.window));
+  told = says;
+  by_rules = λ s e ts by h holds.
+      pilfered_all s e ts r.mark lost to.window (input_of t to.window) h.stands (subst (λ o. IsStepIn s ts r.mark o r.watchers e) opt h.step_is)
+      (subst (λ o. IfSome o (AreLosses ts r.mark)) some by.losses_are) holds;
+}
+
+pub hears_none : (r : Round) (us : List Touches) (o : Option (List ℕ)) (to : Listener) (t : Table) → option_copied r.motion ≡ None → may_take r.mark ≡ false
+    → HearsMotions r us o to t t
+hears_none r us o to t opt rests = record {
   motions = [];
   few = omega arith;
   told = tells_none to t;
-  by_rules = λ s e h holds. none_all s e r.mark to.window (subst (λ o. IsStepIn s ts r.mark o r.watchers e) opt h.step_is) rests;
+  by_rules = λ s e ts by h holds. none_all s e r.mark to.window (subst (λ o. IsStepIn s ts r.mark o r.watchers e) opt h.step_is) rests;
 }
 
 -- there is room for the keys, and then for the change of the focus
-pub room_for_keys : (r : Round) (ts : List Touches) (to : Listener) (t u : Table) (keys : List KeyMsg)
-    → HearsMotions r ts to t u → keys ≡ keys_to r.target r.keys.now to.window
+pub room_for_keys : (r : Round) (us : List Touches) (o : Option (List ℕ)) (to : Listener) (t u : Table) (keys : List KeyMsg)
+    → HearsMotions r us o to t u → keys ≡ keys_to r.target r.keys.now to.window
     → CanHear to.window (most_bodies r to.window (input_of t to.window)) t
     → CanHear to.window (length keys + length (change_told (change_of r.lost r.gained to.window))) u
-room_for_keys r ts to t u keys h is can =
+room_for_keys r us o to t u keys h is can =
     let size : length (map MotionBody h.motions) ≡ length h.motions = length-map h.motions MotionBody in
     let few = h.few in
     let many : length keys ≡ length (keys_to r.target r.keys.now to.window) = ap length is in
@@ -87,12 +119,12 @@ room_for_change r to t u keys change h is can =
     hears_after to (map Key keys) _ _ t u h can (omega (arith, size, many))
 
 -- all together
-pub hears_round : (r : Round) (ts : List Touches) (to : Listener) (t u v x : Table) (keys : List KeyMsg) (change : Option Bool)
-    → HearsMotions r ts to t u → TellsOne to (map Key keys) u v → TellsOne to (change_told change) v x
+pub hears_round : (r : Round) (us : List Touches) (o : Option (List ℕ)) (to : Listener) (t u v x : Table) (keys : List KeyMsg) (change : Option Bool)
+    → HearsMotions r us o to t u → TellsOne to (map Key keys) u v → TellsOne to (change_told change) v x
     → keys ≡ keys_to r.target r.keys.now to.window → change ≡ change_of r.lost r.gained to.window
-    → HearsRound r ts to t x
-hears_round r ts to t u v x keys change h p q k c = record {
+    → HearsRound r us o to t x
+hears_round r us o to t u v x keys change h p q k c = record {
   bodies = bodies_of h.motions keys change;
   told = tells_then to _ (change_told change) t v x (tells_then to (map MotionBody h.motions) (map Key keys) t u v h.told p) q;
-  by_rules = λ s e round holds i. bodies_of (h.by_rules s e round holds i) (k i) (c i);
+  by_rules = λ s e ts by round holds i. bodies_of (h.by_rules s e ts by round holds i) (k i) (c i);
 }

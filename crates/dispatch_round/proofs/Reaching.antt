@@ -1,5 +1,5 @@
 -- The windows of a mask are told, one after another, and then all are published.
-use Rattle.std.proofs.Common.{◌≡◌, ◌≢◌, ℕ, ◌≤◌, Bool, true, false, not, ◌&&◌, cond, List, refl, sym, ap, ap₂, ◌∙◌, subst, inl, inr}
+use Rattle.std.proofs.Common.{◌≡◌, ◌≢◌, ℕ, ◌≤◌, Bool, true, false, not, ◌&&◌, cond, List, Option, refl, sym, ap, ap₂, ◌∙◌, subst, inl, inr}
 use Rattle.std.specs.Prelude.{bit_and}
 use Rattle.std.proofs.lemmas.Bool.{cases_eq, eq-eqb, ne_eqb, and_parts, both_ways}
 use Rattle.input_types.specs.declared.axis.Pixel.{Pixel}
@@ -10,7 +10,7 @@ use Rattle.window_snapshot.proofs.Masks.{mask_has_channel}
 use Rattle.cancel_synthesis.specs.Tracked.{Tracked}
 use Rattle.routing_rules.specs.Scene.{Scene, Step}
 use Rattle.touch_state.specs.Touches.{Touches}
-use Rattle.route_split.specs.Marking.{IsWhole}
+use Rattle.route_split.specs.Marking.{IsWhole, IsChanged}
 use Rattle.dispatch_tables.specs.Masks.{mask_less}
 use Rattle.dispatch_channels.specs.Table.{Table, channel_of, input_of}
 use Rattle.dispatch_channels.specs.Changes.{Settles}
@@ -60,16 +60,16 @@ IsToldAt r origins clock t v s e c =
     × TracksAll (input_of t c) (input_of v c) (told_in r s e c)
 
 -- it is told
-pub each_next : (r : Round) (ts : List Touches) (mask rest k : ℕ) (o : Pixel) (origins : List Pixel) (clock : ℕ) (t u v : Table)
+pub each_next : (r : Round) (ts : List Touches) (o' : Option (List ℕ)) (mask rest k : ℕ) (o : Pixel) (origins : List Pixel) (clock : ℕ) (t u v : Table)
     → mask_has rest k ≡ true → mask_has mask k ≡ true → mask_has t.live k ≡ true → o ≡ origin_at origins k
-    → HearsEach r ts (reached mask rest) origins clock t u
-    → HearsRound r ts (record { window = k; origin = o; clock = clock }) u v
-    → HearsEach r ts (reached mask (mask_less rest (mask_with 0 k))) origins clock t v
-each_next r ts mask rest k o origins clock t u v e is live from_origin p q =
+    → HearsEach r ts o' (reached mask rest) origins clock t u
+    → HearsRound r ts o' (record { window = k; origin = o; clock = clock }) u v
+    → HearsEach r ts o' (reached mask (mask_less rest (mask_with 0 k))) origins clock t v
+each_next r ts o' mask rest k o origins clock t u v e is live from_origin p q =
     record {
-      told = λ s f h holds c hear. elim (cases_eq c k) [
-        | inl same ↦ subst (IsToldAt r origins clock t v s f) (sym same) (here s f h holds)
-        | inr ne ↦ there s f h holds c ne (sym (reached_other mask rest k c e ne) ∙ hear)
+      told = λ s f before by h holds c hear. elim (cases_eq c k) [
+        | inl same ↦ subst (IsToldAt r origins clock t v s f) (sym same) (here s f before by h holds)
+        | inr ne ↦ there s f before by h holds c ne (sym (reached_other mask rest k c e ne) ∙ hear)
       ];
       stays = λ c from no. elim (cases_eq c k) [
         | inl same ↦ absurd (both_ways (reached mask (mask_less rest (mask_with 0 k)) c) no
@@ -100,9 +100,9 @@ each_next r ts mask rest k o origins clock t u v e is live from_origin p q =
     still : (channel_of u k ≡ channel_of t k) × (input_of u k ≡ input_of t k)
     still = p.stays k low (not_reached mask rest k e)
 
-    here : (s : Scene) (f : Step) → IsRound s f ts r → AllHoldPointers s t → IsToldAt r origins clock t v s f k
-    here s f h holds =
-        let says : q.bodies ≡ told_in r s f k = q.by_rules s f h (subst (HoldsPointers s k) (sym still.1) (holds k live)) in (
+    here : (s : Scene) (f : Step) (before : List Touches) → IsChanged before ts r.mark o' → IsRound s f before r → AllHoldPointers s t → IsToldAt r origins clock t v s f k
+    here s f before by h holds =
+        let says : q.bodies ≡ told_in r s f k = q.by_rules s f before by h (subst (HoldsPointers s k) (sym still.1) (holds k live)) in (
           q.told.channel_is
               ∙ ap (λ bs. heard bs o clock (channel_of u k)) says
               ∙ ap₂ (λ x y. heard (told_in r s f k) x clock y) from_origin still.0,
@@ -110,22 +110,22 @@ each_next r ts mask rest k o origins clock t u v e is live from_origin p q =
               (subst (λ (bs : List Body). TracksAll (input_of u k) (input_of v k) bs) says q.told.tracks),
         )
 
-    there : (s : Scene) (f : Step) → IsRound s f ts r → AllHoldPointers s t → (c : ℕ) → c ≢ k → reached mask rest c ≡ true → IsToldAt r origins clock t v s f c
-    there s f h holds c ne hear =
+    there : (s : Scene) (f : Step) (before : List Touches) → IsChanged before ts r.mark o' → IsRound s f before r → AllHoldPointers s t → (c : ℕ) → c ≢ k → reached mask rest c ≡ true → IsToldAt r origins clock t v s f c
+    there s f before by h holds c ne hear =
         let from : 1 ≤ c = channel_low mask c (and_parts (mask_has mask c) (not (mask_has rest c)) hear).0 in
-        let before = p.told s f h holds c hear in
+        let was = p.told s f before by h holds c hear in
         let other = q.told.others c from ne in (
-          other.0 ∙ before.0,
-          subst (λ (i : Tracked). TracksAll (input_of t c) i (told_in r s f c)) (sym other.1) before.1,
+          other.0 ∙ was.0,
+          subst (λ (i : Tracked). TracksAll (input_of t c) i (told_in r s f c)) (sym other.1) was.1,
         )
 
 -- all were told
-pub each_last : (r : Round) (ts : List Touches) (mask rest : ℕ) (origins : List Pixel) (clock : ℕ) (t u : Table)
-    → rest ≡ 0 → HearsEach r ts (reached mask rest) origins clock t u → HearsEach r ts (mask_has mask) origins clock t u
-each_last r ts mask rest origins clock t u none p =
+pub each_last : (r : Round) (ts : List Touches) (o : Option (List ℕ)) (mask rest : ℕ) (origins : List Pixel) (clock : ℕ) (t u : Table)
+    → rest ≡ 0 → HearsEach r ts o (reached mask rest) origins clock t u → HearsEach r ts o (mask_has mask) origins clock t u
+each_last r ts o mask rest origins clock t u none p =
     let all : (c : ℕ) → reached mask rest c ≡ mask_has mask c = λ c. ap (λ n. reached mask n c) none ∙ all_reached mask c in
     record {
-      told = λ s e h holds c hear. p.told s e h holds c (all c ∙ hear);
+      told = λ s e before by h holds c hear. p.told s e before by h holds c (all c ∙ hear);
       stays = λ c from no. p.stays c from (all c ∙ no);
       unfinished_is = p.unfinished_is;
       gone_is = p.gone_is;
@@ -145,11 +145,11 @@ leaves b l x y e = ap (λ a. cond (a && l) x y) e
 only_first : (a l : Bool) → (a && l) ≡ false → l ≡ true → a ≡ false
 only_first a l none live = sym (and_true_right a) ∙ ap (λ x. a && x) (sym live) ∙ none
 
-pub tells_all : (s : Scene) (e : Step) (r : Round) (ts : List Touches) (mask : ℕ) (origins : List Pixel) (clock : ℕ) (t u v : Table)
+pub tells_all : (s : Scene) (e : Step) (r : Round) (ts us : List Touches) (o : Option (List ℕ)) (mask : ℕ) (origins : List Pixel) (clock : ℕ) (t u v : Table)
     → IsWhole r.mark → ((w : ℕ) → mask_has mask w ≡ (is_concerned ts r w && mask_has t.live w))
-    → HearsEach r ts (mask_has mask) origins clock t u → Settles mask clock u v → IsRound s e ts r → AllHoldPointers s t
+    → HearsEach r us o (mask_has mask) origins clock t u → Settles mask clock u v → IsChanged ts us r.mark o → IsRound s e ts r → AllHoldPointers s t
     → TellsAll mask (told_in r s e) origins clock t v
-tells_all s e r ts mask origins clock t u v whole is p q h holds =
+tells_all s e r ts us o mask origins clock t u v whole is p q by h holds =
     let lives : (c : ℕ) → mask_has mask c ≡ true → mask_has t.live c ≡ true =
     λ c has. (and_parts (is_concerned ts r c) (mask_has t.live c) (sym (is c) ∙ has)).1 in
     record {
@@ -157,10 +157,10 @@ tells_all s e r ts mask origins clock t u v whole is p q h holds =
       changes = λ c has.
           q.channels_are c (channel_low mask c has)
           ∙ publishes (mask_has mask c) (mask_has u.live c) _ _ has (ap (λ m. mask_has m c) p.live_is ∙ lives c has)
-          ∙ ap (published_at clock) (p.told s e h holds c has).0;
+          ∙ ap (published_at clock) (p.told s e ts by h holds c has).0;
       tracks = λ c has.
           subst (λ (i : Tracked). TracksAll (input_of t c) i (told_in r s e c)) (sym (ap (λ is. input_of (record u { inputs = is }) c) q.inputs_are))
-          (p.told s e h holds c has).1;
+          (p.told s e ts by h holds c has).1;
       stays = λ c from no. (
         q.channels_are c from ∙ leaves (mask_has mask c) (mask_has u.live c) _ _ no ∙ (p.stays c from no).0,
         ap (λ is. input_of (record u { inputs = is }) c) q.inputs_are ∙ (p.stays c from no).1,

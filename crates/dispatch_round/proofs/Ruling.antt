@@ -1,7 +1,7 @@
 -- What is told is what the rules say.
-use Rattle.std.proofs.Common.{◌≡◌, ◌≢◌, ◌⊎◌, ℕ, zero, suc, ◌≤◌, ◌==◌, Bool, true, false, not, ◌&&◌, ◌||◌, cond, List, [], ◌∷◌, ◌++◌, flat_map, Option, Some, None, refl, sym, ap, ap₂, ◌∙◌, arith, append-nil, inl, inr}
+use Rattle.std.proofs.Common.{◌≡◌, ◌≢◌, ◌⊎◌, ℕ, zero, suc, ◌-◌, ◌≤◌, ◌==◌, nat_le, get_or, Bool, true, false, not, ◌&&◌, ◌||◌, cond, List, [], ◌∷◌, ◌++◌, flat_map, Option, Some, None, refl, sym, ap, ap₂, ◌∙◌, arith, append-nil, inl, inr}
 use Rattle.std.specs.List.{list_any}
-use Rattle.std.proofs.lemmas.Bool.{cases_eq, eq-eqb, ne_eqb, both_ways, true≢false}
+use Rattle.std.proofs.lemmas.Bool.{cases_eq, eq-eqb, ne_eqb, le-leb, leb-true, and_parts, and_from, both_ways, true≢false}
 use Rattle.bits32.specs.Set.{is_in}
 use Rattle.input_types.specs.declared.key.KeyMsg.{KeyMsg}
 use Rattle.input_types.specs.declared.motion.Motion.{Motion}
@@ -10,17 +10,19 @@ use Rattle.window_snapshot.specs.Mask.{is_channel, mask_has, mask_with}
 use Rattle.window_snapshot.proofs.Masks.{mask_has-with, mask_has-zero}
 use Rattle.routing_rules.specs.Scene.{Scene, Step, Moves, Rests as Resting, Removes}
 use Rattle.routing_rules.specs.Given.{changed, mark}
-use Rattle.routing_rules.specs.Told.{listing, after, cancels_of, told, told_motion, devices}
-use Rattle.routing_rules.proofs.Listings.{listing_same}
-use Rattle.cancel_synthesis.proofs.PointerEnds.{listing_twice}
-use Rattle.cancel_synthesis.specs.Tracked.{Tracked, pointers_of}
+use Rattle.routing_rules.specs.Told.{listing, after, told, told_motion, devices}
+use Rattle.routing_rules.proofs.ToldLaws.{quiet_cancels}
+use Rattle.cancel_synthesis.specs.Ends.{pointers_cancelled}
+use Rattle.cancel_synthesis.specs.Tracked.{Tracked, is_device, pointers_of}
+use Rattle.cancel_synthesis.proofs.PointerEnds.{cancels_law}
+use Rattle.pilfer_monitor.specs.Pilfer.{set_of}
 use Rattle.touch_state.specs.Touches.{Touches}
 use Rattle.route_split.specs.declared.mark.Mark.{Mark}
 use Rattle.route_split.specs.declared.mark.Mark.TheVariants.{Rests, Give, Lift, Slip, Empty, Pilfer, Unnamed, Mute, Forget}
 use Rattle.route_split.specs.declared.tells.Tells.{Tells}
 use Rattle.route_split.specs.declared.tells.Tells.TheVariants.{Nothing, One, Cancels}
 use Rattle.route_split.specs.Tables.{Stands, holds_at}
-use Rattle.route_split.specs.Marking.{IsWhole, IsStepOf, is_forget, holds_after, may_be_told}
+use Rattle.route_split.specs.Marking.{IsWhole, IsStepOf, IsChanged, AreLosses, is_forget, holds_after, may_be_told}
 use Rattle.route_split.specs.Telling.{IsTold}
 use Rattle.route_split.proofs.ToldBy.{after_is, told_cancels, nothing_told, still_held}
 use Rattle.route_split.proofs.Steps.{other_law}
@@ -29,48 +31,36 @@ use Rattle.key_tables.specs.Focused.{change_of, change_told}
 use Rattle.dispatch_round.specs.declared.round.Round.{Round}
 use Rattle.dispatch_round.specs.Bodies.{motions_of, keys_to, bodies_of}
 use Rattle.dispatch_round.specs.Rounds.{IsStepIn, IsRound, HoldsPointers, may_take, may_hear, keyed, is_concerned, told_in}
-use Rattle.dispatch_round.specs.Saying.{lost_of, motions_by, losses}
+use Rattle.dispatch_round.specs.Saying.{motions_by, losses, pilfered_from}
 
 -- what was found for a device
-same_lost : (b l : Bool) → (b && l) ≡ (b && not (b && not l))
-same_lost true true = refl
-same_lost true false = refl
-same_lost false l = refl
-
 pub found_told : (x : Tells) (ms : List Motion) (d : ℕ) (last had : List Pointer) (before : ℕ → Bool)
     → had ≡ listing before last → IsTold x ms d last before → motions_by x d had ≡ ms
 found_told Nothing ms d last had before is h = sym h
 found_told (One m) ms d last had before is h = sym h
 found_told (Cancels lost) ms d last had before is h =
-    let gone : listing (λ i. is_in i lost) (listing before last) ≡ listing (λ i. before i && not (before i && not (is_in i lost))) last =
-    listing_twice before (λ i. is_in i lost) last
-    ∙ listing_same (λ i. before i && is_in i lost) (λ i. before i && not (before i && not (is_in i lost))) last (λ i t. same_lost (before i) (is_in i lost)) in
-    ap (lost_of d lost) is
-    ∙ ap₂ (cancels_of d (listing before last)) (listing_twice before (λ i. not (is_in i lost)) last) gone
+    ap (pointers_cancelled d (λ i. is_in i lost)) is
+    ∙ cancels_law d last before (λ i. before i && not (is_in i lost)) (λ i. is_in i lost) (λ i. refl)
     ∙ sym h
 
 -- what a step that is no motion takes of a device
-both_held : (b h : Bool) → (h ≡ true → b ≡ true) → (b && h) ≡ h
-both_held true h f = refl
-both_held false true f = f refl
+both_held : (b h : Bool) → (h ≡ true → b ≡ true) → h ≡ (b && not (not h))
+both_held true true f = refl
+both_held true false f = refl
+both_held false true f = sym (f refl)
 both_held false false f = refl
 
-pub losses_told : (s : Scene) (e : Step) (ts : List Touches) (k : Mark) (w d : ℕ) (input : Tracked)
-    → Stands s ts → IsStepOf k e → is_forget k ≡ false → pointers_of input d ≡ listing (s.holds w d) (s.last d)
-    → losses ts k w input d ≡ told s e w d
-losses_told s e ts k w d input f h stays is =
-    let now : (i : ℕ) → after s (mark s e) w d i ≡ holds_after ts k w d i = after_is s ts k (mark s e) f (other_law s ts k e f h) w d in
+pub losses_told : (s : Scene) (e : Step) (ts us : List Touches) (k : Mark) (lost : Option (List ℕ)) (w d : ℕ) (input : Tracked)
+    → Stands s ts → IsStepOf k e → is_forget k ≡ false → IsChanged ts us k lost → pointers_of input d ≡ listing (s.holds w d) (s.last d)
+    → losses us w input d ≡ told s e w d
+losses_told s e ts us k lost w d input f h stays by is =
     let was : (i : ℕ) → s.holds w d i ≡ holds_at ts w d i = λ i. ap (λ (g : ℕ → ℕ → ℕ → Bool). g w d i) f.holds_are in
-    let kept : listing (holds_after ts k w d) (listing (s.holds w d) (s.last d)) ≡ listing (after s (mark s e) w d) (s.last d) =
-    listing_twice (s.holds w d) (holds_after ts k w d) (s.last d)
-    ∙ listing_same (λ i. s.holds w d i && holds_after ts k w d i) (after s (mark s e) w d) (s.last d)
-    (λ i t. both_held (s.holds w d i) (holds_after ts k w d i) (λ l. was i ∙ still_held ts k e w d i h l) ∙ sym (now i)) in
-    let gone : listing (λ i. not (holds_after ts k w d i)) (listing (s.holds w d) (s.last d)) ≡ listing (λ i. s.holds w d i && not (after s (mark s e) w d i)) (s.last d) =
-    listing_twice (s.holds w d) (λ i. not (holds_after ts k w d i)) (s.last d)
-    ∙ listing_same (λ i. s.holds w d i && not (holds_after ts k w d i)) (λ i. s.holds w d i && not (after s (mark s e) w d i)) (s.last d)
-    (λ i t. ap (λ b. s.holds w d i && not b) (sym (now i))) in
-    ap (λ (had : List Pointer). cancels_of d had (listing (holds_after ts k w d) had) (listing (λ i. not (holds_after ts k w d i)) had)) is
-    ∙ ap₂ (cancels_of d (listing (s.holds w d) (s.last d))) kept gone
+    let now : (i : ℕ) → after s (mark s e) w d i ≡ holds_at us w d i =
+    λ i. after_is s ts k (mark s e) f (other_law s ts k e f h) w d i ∙ sym (by.holds_are w d i) in
+    let same : (i : ℕ) → after s (mark s e) w d i ≡ (s.holds w d i && not (not (holds_at us w d i))) =
+    λ i. now i ∙ both_held (s.holds w d i) (holds_at us w d i) (λ l. was i ∙ still_held ts k e w d i h (sym (by.holds_are w d i) ∙ l)) in
+    ap (pointers_cancelled d (λ i. not (holds_at us w d i))) is
+    ∙ cancels_law d (s.last d) (s.holds w d) (after s (mark s e) w d) (λ i. not (holds_at us w d i)) same
     ∙ sym (told_cancels s k e w d h stays)
 
 pub takes_no_forget : (k : Mark) → may_take k ≡ true → is_forget k ≡ false
@@ -124,11 +114,84 @@ found_all s e m w x had is low high holds h =
     ∙ sym (motion_told s m w low high)
     ∙ sym (ap (λ f. motions_of s f w) is)
 
-pub lost_all : (s : Scene) (e : Step) (ts : List Touches) (k : Mark) (w : ℕ) (input : Tracked)
-    → Stands s ts → IsStepOf k e → may_take k ≡ true → HoldsPointers s w input → flat_map (losses ts k w input) devices ≡ motions_of s e w
-lost_all s e ts k w input f h takes holds =
-    same_devices (losses ts k w input) (told s e w)
-    (λ d low high. losses_told s e ts k w d input f h (takes_no_forget k takes) (holds d low high))
+pub lost_all : (s : Scene) (e : Step) (ts us : List Touches) (k : Mark) (lost : Option (List ℕ)) (w : ℕ) (input : Tracked)
+    → Stands s ts → IsStepOf k e → may_take k ≡ true → IsChanged ts us k lost → HoldsPointers s w input
+    → flat_map (losses us w input) devices ≡ motions_of s e w
+lost_all s e ts us k lost w input f h takes by holds =
+    same_devices (losses us w input) (told s e w)
+    (λ d low high. losses_told s e ts us k lost w d input f h (takes_no_forget k takes) by (holds d low high))
+
+-- what a window loses to one that pilfers, of the one device
+not_lost : (h n p : Bool) → (h && not (n && p)) ≡ (h && not (h && (n && p)))
+not_lost true n p = refl
+not_lost false n p = refl
+
+regrouped : (a b c : Bool) → b ≡ true → (a && b && c) ≡ (a && c)
+regrouped true b c e = ap (λ x. x && c) e
+regrouped false b c e = refl
+
+none_of : (a b c h : Bool) → b ≡ false → (h && not (a && b && c)) ≡ h
+none_of a b c true e = ap (λ x. not (a && x && c)) e ∙ free a
+  where
+    free : (x : Bool) → not (x && false && c) ≡ true
+    free true = refl
+    free false = refl
+none_of a b c false e = refl
+
+pub pilfered_all : (s : Scene) (e : Step) (ts : List Touches) (k : Mark) (lost : List ℕ) (w : ℕ) (input : Tracked)
+    → Stands s ts → IsStepOf k e → AreLosses ts k lost → HoldsPointers s w input
+    → pilfered_from k lost w input ≡ motions_of s e w
+pilfered_all s e ts (Pilfer device spy) lost w input f h are holds = by_range (is_device device) refl
+  where
+    now : (d i : ℕ) → after s (mark s e) w d i ≡ holds_after ts (Pilfer device spy) w d i
+    now d i = after_is s ts (Pilfer device spy) (mark s e) f (other_law s ts (Pilfer device spy) e f h) w d i
+
+    was : (d i : ℕ) → s.holds w d i ≡ holds_at ts w d i
+    was d i = ap (λ (g : ℕ → ℕ → ℕ → Bool). g w d i) f.holds_are
+
+    same : (i : ℕ) → after s (mark s e) w device i ≡ (s.holds w device i && not (is_in i (set_of lost w)))
+    same i =
+        now device i
+        ∙ ap (λ b. holds_at ts w device i && not b) (regrouped (not (w == spy)) (device == device) (holds_at ts spy device i) (eq-eqb device device refl))
+        ∙ not_lost (holds_at ts w device i) (not (w == spy)) (holds_at ts spy device i)
+        ∙ ap₂ (λ a b. a && not b) (sym (was device i)) (sym (are w i))
+
+    here : 1 ≤ device → device ≤ 8 → pilfered_from (Pilfer device spy) lost w input ≡ told s e w device
+    here low high =
+        ap (pointers_cancelled device (λ i. is_in i (set_of lost w))) (holds device low high)
+        ∙ cancels_law device (s.last device) (s.holds w device) (after s (mark s e) w device) (λ i. is_in i (set_of lost w)) same
+        ∙ sym (told_cancels s (Pilfer device spy) e w device h refl)
+
+    there : (d : ℕ) → d ≢ device → told s e w d ≡ []
+    there d ne =
+        told_cancels s (Pilfer device spy) e w d h refl
+        ∙ quiet_cancels d (s.last d) (s.holds w d) (after s (mark s e) w d)
+        (λ i. now d i ∙ none_of (not (w == spy)) (d == device) (holds_at ts spy device i) (holds_at ts w d i) (ne_eqb d device ne) ∙ sym (was d i))
+
+    at : (d : ℕ) → (d ≡ device) ⊎ (d ≢ device) → told s e w d ≡ cond (device == d) (told s e w d) []
+    at d (inl is) = sym (ap (λ b. cond b (told s e w d) []) (eq-eqb device d (sym is)))
+    at d (inr ne) = there d ne ∙ sym (ap (λ b. cond b (told s e w d) []) (ne_eqb device d (λ q. ne (sym q))))
+
+    by_range : (b : Bool) → is_device device ≡ b → pilfered_from (Pilfer device spy) lost w input ≡ motions_of s e w
+    by_range true is =
+        let both = and_parts (nat_le 1 device) (nat_le device 8) is in
+        let low = leb-true 1 device both.0 in
+        let high = leb-true device 8 both.1 in
+        here low high
+        ∙ sym (one_of (told s e w) device low high)
+        ∙ sym (same_devices (told s e w) (λ d. cond (device == d) (told s e w d) []) (λ d from to. at d (cases_eq d device)))
+    by_range false is =
+        ap (λ b. pointers_cancelled device (λ i. is_in i (set_of lost w)) (cond b (get_or input.pointers (device - 1) []) [])) is
+        ∙ sym (same_devices (told s e w) (λ d. [])
+        (λ d from to. there d (λ q. both_ways (is_device device) is (ap is_device (sym q) ∙ and_from (nat_le 1 d) (nat_le d 8) (le-leb 1 d from) (le-leb d 8 to)))))
+pilfered_all s e ts Rests lost w input f h are holds = absurd are
+pilfered_all s e ts (Give device id windows) lost w input f h are holds = absurd are
+pilfered_all s e ts (Lift device id) lost w input f h are holds = absurd are
+pilfered_all s e ts (Slip device id from to) lost w input f h are holds = absurd are
+pilfered_all s e ts (Empty device) lost w input f h are holds = absurd are
+pilfered_all s e ts (Unnamed windows) lost w input f h are holds = absurd are
+pilfered_all s e ts (Mute channels) lost w input f h are holds = absurd are
+pilfered_all s e ts (Forget window) lost w input f h are holds = absurd are
 
 rests_told : (s : Scene) (e : Step) (k : Mark) (w d : ℕ) → IsStepOf k e → may_take k ≡ false → told s e w d ≡ []
 rests_told s (Removes v) (Forget window) w d h e = refl

@@ -1,8 +1,9 @@
 -- The windows of a mask are told something, one after another.
-use Rattle.std.specs.Prelude.{◌≡◌, ◌≤◌, ℕ, Bool, true, false, List}
+use Rattle.std.specs.Prelude.{◌≡◌, ◌≤◌, ℕ, Bool, true, false, List, Option}
 use Rattle.input_types.specs.declared.axis.Pixel.{Pixel}
 use Rattle.routing_rules.specs.Scene.{Scene, Step}
 use Rattle.touch_state.specs.Touches.{Touches}
+use Rattle.route_split.specs.Marking.{IsChanged}
 use Rattle.dispatch_channels.specs.Table.{Table, opened, channel_of, input_of}
 use Rattle.dispatch_round.specs.declared.round.Round.{Round}
 use Rattle.dispatch_round.specs.Bodies.{TracksAll}
@@ -11,9 +12,11 @@ use Rattle.dispatch_round.specs.Told.{origin_at, heard}
 
 -- The channels that pass the test are told what is said in the round, in each scene; the others are as they were, and so is all else.
 pub record HearsEach
-    (r : Round) (ts : List Touches) (hear : ℕ → Bool) (origins : List Pixel) (clock : ℕ) (old new : Table) : Type 0 where
+    (r : Round) (ts : List Touches) (losses : Option (List ℕ)) (hear : ℕ → Bool) (origins : List Pixel) (clock : ℕ)
+    (old new : Table) : Type 0 where
   pub told :
-      (s : Scene) (e : Step) → IsRound s e ts r → AllHoldPointers s old
+      (s : Scene) (e : Step) (before : List Touches)
+      → IsChanged before ts r.mark losses → IsRound s e before r → AllHoldPointers s old
       → (c : ℕ) → hear c ≡ true
       → (channel_of new c ≡ heard (told_in r s e c) (origin_at origins c) clock (channel_of old c))
       × TracksAll (input_of old c) (input_of new c) (told_in r s e c)

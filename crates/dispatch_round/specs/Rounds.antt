@@ -21,7 +21,7 @@ use Rattle.input_channel.specs.State.{with_spare}
 use Rattle.cancel_synthesis.specs.Tracked.{Tracked, pointers_of}
 use Rattle.cancel_synthesis.specs.Tracked.{with_spare as tracked_with_spare}
 use Rattle.key_tables.specs.Focused.{change_of, change_told}
-use Rattle.dispatch_channels.specs.Table.{Table, channel_of, input_of}
+use Rattle.dispatch_channels.specs.Table.{Table, opened, channel_of, input_of}
 use Rattle.dispatch_round.specs.declared.round.Round.{Round}
 use Rattle.dispatch_round.specs.Bodies.{motions_of, keys_to, bodies_of}
 
@@ -76,6 +76,11 @@ is_concerned ts r w =
     || mask_has (keyed r.keys.now r.target) w
     || mask_has r.lost w
     || mask_has r.gained w
+
+-- a mask has the live windows that may be told something, all of which were opened
+pub record AreListeners (told : ℕ) (ts : List Touches) (r : Round) (t : Table) : Type 0 where
+  pub are : (w : ℕ) → mask_has told w ≡ (is_concerned ts r w && mask_has t.live w)
+  pub opened : (w : ℕ) → mask_has told w ≡ true → w ≤ opened t
 
 -- how many pointers of these devices it has
 abbrev pub count_of : Tracked → List ℕ → ℕ

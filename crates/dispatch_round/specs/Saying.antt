@@ -1,5 +1,5 @@
 -- One window is told something.
-use Rattle.std.specs.Prelude.{◌≡◌, ◌≢◌, ◌≤◌, ℕ, ◌-◌, not, true, List, [], ◌∷◌, length, map}
+use Rattle.std.specs.Prelude.{◌≡◌, ◌≢◌, ◌≤◌, ℕ, ◌-◌, not, true, List, [], ◌∷◌, length, map, Option}
 use Rattle.std.specs.Option.{option_copied}
 use Rattle.bits32.specs.Set.{is_in}
 use Rattle.input_types.specs.declared.message.Body.{Body}
@@ -8,12 +8,15 @@ use Rattle.input_types.specs.declared.motion.Motion.{Motion}
 use Rattle.input_types.specs.declared.pointer.Pointer.{Pointer}
 use Rattle.window_snapshot.specs.Mask.{mask_has}
 use Rattle.routing_rules.specs.Scene.{Scene, Step}
-use Rattle.routing_rules.specs.Told.{listing, cancels_of}
 use Rattle.touch_state.specs.Touches.{Touches}
+use Rattle.pilfer_monitor.specs.Pilfer.{set_of}
 use Rattle.route_split.specs.declared.mark.Mark.{Mark}
+use Rattle.route_split.specs.declared.mark.Mark.TheVariants.{Pilfer}
 use Rattle.route_split.specs.declared.tells.Tells.{Tells}
 use Rattle.route_split.specs.declared.tells.Tells.TheVariants.{Nothing, One, Cancels}
-use Rattle.route_split.specs.Marking.{holds_after}
+use Rattle.route_split.specs.Tables.{holds_at}
+use Rattle.route_split.specs.Marking.{IsChanged}
+use Rattle.cancel_synthesis.specs.Ends.{pointers_cancelled}
 use Rattle.cancel_synthesis.specs.Tracked.{Tracked, pointers_of}
 use Rattle.dispatch_channels.specs.Table.{Table, opened, IsOpened, channel_of, input_of}
 use Rattle.dispatch_round.specs.declared.round.Round.{Round}
@@ -41,35 +44,37 @@ pub record TellsOne (to : Listener) (bodies : List Body) (old new : Table) : Typ
   pub able_is : new.able ≡ old.able
   pub namings_are : new.namings ≡ old.namings
 
--- of the pointers of a device those with these ids are taken from a window that has these
-abbrev pub lost_of : (d : ℕ) → (lost : ℕ) → List Pointer → List Motion
-lost_of d lost had = cancels_of d had (listing (λ i. not (is_in i lost)) had) (listing (λ i. is_in i lost) had)
-
 -- the motions that it is told, where these are its pointers of the device
 abbrev pub motions_by : Tells → (d : ℕ) → List Pointer → List Motion
 motions_by Nothing d had = []
 motions_by (One m) d had = m ∷ []
-motions_by (Cancels lost) d had = lost_of d lost had
+motions_by (Cancels lost) d had = pointers_cancelled d (λ i. is_in i lost) had
 
--- what it is told of a device at a step with this mark that is no motion: the cancels of what it holds no more
-abbrev pub losses : List Touches → Mark → (w : ℕ) → Tracked → (d : ℕ) → List Motion
-losses ts k w input d =
-    let had = pointers_of input d in
-    cancels_of d had (listing (holds_after ts k w d) had) (listing (λ i. not (holds_after ts k w d i)) had)
+-- the cancels of the pointers of a device that it was told of, and that the tables do not say that it holds
+abbrev pub losses : List Touches → (w : ℕ) → Tracked → (d : ℕ) → List Motion
+losses ts w input d = pointers_cancelled d (λ i. not (holds_at ts w d i)) (pointers_of input d)
 
--- A window is told motions, not more than there may be, and in each scene those of the rules.
-pub record HearsMotions (r : Round) (ts : List Touches) (to : Listener) (old new : Table) : Type 0 where
+-- the cancels of what it lost to a window that pilfers
+abbrev pub pilfered_from : Mark → (lost : List ℕ) → (w : ℕ) → Tracked → List Motion
+pilfered_from (Pilfer device spy) lost w input = pointers_cancelled device (λ i. is_in i (set_of lost w)) (pointers_of input device)
+pilfered_from k lost w input = []
+
+-- A window is told motions, not more than there may be, and in each scene those of the rules, where the tables changed
+-- by the mark of the step.
+pub record HearsMotions (r : Round) (ts : List Touches) (losses : Option (List ℕ)) (to : Listener) (old new : Table) : Type 0 where
   pub motions : List Motion
   pub few : length motions ≤ most_motions (option_copied r.motion) (input_of old to.window)
   pub told : TellsOne to (map MotionBody motions) old new
   pub by_rules :
-      (s : Scene) (e : Step)
-      → IsRound s e ts r → HoldsPointers s to.window (input_of old to.window) → motions ≡ motions_of s e to.window
+      (s : Scene) (e : Step) (before : List Touches)
+      → IsChanged before ts r.mark losses
+      → IsRound s e before r → HoldsPointers s to.window (input_of old to.window) → motions ≡ motions_of s e to.window
 
 -- It is told bodies, in each scene those of the round.
-pub record HearsRound (r : Round) (ts : List Touches) (to : Listener) (old new : Table) : Type 0 where
+pub record HearsRound (r : Round) (ts : List Touches) (losses : Option (List ℕ)) (to : Listener) (old new : Table) : Type 0 where
   pub bodies : List Body
   pub told : TellsOne to bodies old new
   pub by_rules :
-      (s : Scene) (e : Step)
-      → IsRound s e ts r → HoldsPointers s to.window (input_of old to.window) → bodies ≡ told_in r s e to.window
+      (s : Scene) (e : Step) (before : List Touches)
+      → IsChanged before ts r.mark losses
+      → IsRound s e before r → HoldsPointers s to.window (input_of old to.window) → bodies ≡ told_in r s e to.window

@@ -1,15 +1,16 @@
 //! Which windows a step may tell something.
-ghost use Rattle.std.specs.Prelude.{◌≡◌, ℕ, ◌&&◌, ◌||◌};
+ghost use Rattle.std.specs.Prelude.{◌≡◌, ℕ, ◌||◌};
 ghost use Rattle.std.specs.List.{list_any};
 ghost use Rattle.std.specs.Option.{option_copied};
 ghost use Rattle.window_snapshot.specs.Mask.{mask_has, mask_with};
 ghost use Rattle.routing_rules.specs.Told.{devices};
 ghost use Rattle.route_split.specs.Marking.{may_be_told};
-ghost use Rattle.dispatch_round.specs.Rounds.{may_hear, keyed, is_concerned};
+ghost use Rattle.dispatch_round.specs.Rounds.{may_hear, keyed, is_concerned, AreListeners};
 
 use crate::mask::device_at;
 use crate::motions::may_take;
 use crate::round::Round;
+use dispatch_channels::Channels;
 use input_types::KeyMsg;
 use route_split::{Mark, Touches};
 use window_snapshot::mask_with;
@@ -53,8 +54,15 @@ fn keyed(keys: &[KeyMsg], target: u32) -> u64
     }
 }
 
-/// The mask of the windows that may be told something.
-pub(crate) fn concerned(round: &Round, touches: &Touches) -> u64
+/// The mask of the live windows that may be told something in a round, before the tables of touches have changed by it.
+pub fn listeners(round: &Round, touches: &Touches, channels: &Channels) -> u64
+    ensures { AreListeners result touches.now round.now channels.now }
+{
+    concerned(round, touches) & channels.live()
+}
+
+/// The mask of the windows that may be told something, live or not.
+fn concerned(round: &Round, touches: &Touches) -> u64
     ensures { (w : ℕ) → mask_has result w ≡ is_concerned touches.now round.now w }
 {
     may_hear(round, touches) | keyed(round.keys, round.target) | round.lost | round.gained

@@ -13,9 +13,10 @@
 //!
 //! A step is told in two parts, so that want of memory changes nothing but the room that channels have. [`make_room`]
 //! takes all memory that the step can need; it looks at the windows that may be told something, and at no others.
-//! [`tell_all`] takes none and cannot fail. A window is told its motions first, device by device, then keys, and then
-//! whether it lost the focus or has it now. What is taken from it is cancelled at the last places that it was told: the
-//! cancels are made where they are told, from what is kept of the window.
+//! [`tell_all`] takes none and cannot fail: it changes the tables of touches by the mark of the step, and tells these
+//! windows. A window is told its motions first, device by device, then keys, and then whether it lost the focus or has
+//! it now. What it was told that it holds, and holds no more, is cancelled at the last places that it was told. Where a
+//! window pilfers, that is what the pilfer says that each window lost.
 //!
 //! A [`Round`] says what a step tells. What is proved holds for every scene of the rules that the tables stand for
 //! (`IsRound` of specs/Rounds); of the steps before nothing is known here.
@@ -30,6 +31,7 @@ mod round;
 mod say;
 mod tell;
 
+pub use concern::listeners;
 pub use room::make_room;
 pub use round::Round;
 pub use tell::tell_all;

@@ -1,21 +1,21 @@
 //! Room for what a step tells.
 ghost use Rattle.std.specs.Prelude.{◌≡◌, ◌≤◌, ◌<◌, ◌^◌, ℕ, false, length, max, OnOk, OnErr, IfOk, IsOk};
-ghost use Rattle.key_tables.specs.Focused.{change_of, change_told};
+ghost use Rattle.key_tables.specs.Focused.{change_told};
 ghost use Rattle.std.specs.Option.{option_copied};
 ghost use Rattle.routing_rules.specs.Told.{devices};
 ghost use Rattle.dispatch_channels.specs.Table.{IsOpened, input_of, with_room, but_for_room};
 ghost use Rattle.dispatch_round.specs.Bodies.{keys_to};
-ghost use Rattle.dispatch_round.specs.Rounds.{count_of, most_motions, most_bodies, is_concerned, HasRoom, IsReady, MakesRoom};
+ghost use Rattle.dispatch_round.specs.Rounds.{count_of, most_motions, most_bodies, is_concerned, HasRoom, IsReady, AreListeners, MakesRoom};
 
-use crate::concern::concerned;
+use crate::concern::listeners;
 use crate::mask::{device_at, first_of, without};
 use crate::round::Round;
 use cancel_synthesis::InputState;
 use dispatch_channels::Channels;
 use input_types::KeyMsg;
+use key_tables::focus_change;
 use route_split::Touches;
 use std::alloc::AllocError;
-use window_snapshot::mask_has;
 
 /// How many pointers a window has.
 fn count_all(input: &InputState) -> usize
@@ -54,19 +54,6 @@ pub(crate) fn keys_to(keys: &[KeyMsg], target: u32, window: u32) -> &[KeyMsg]
     if window == target { keys } else { &[] }
 }
 
-/// Whether a window is told that it lost the focus, or that it has it now.
-pub(crate) fn change_of(round: &Round, window: u32) -> Option<bool>
-    ensures { result ≡ change_of round.now.lost round.now.gained window }
-{
-    if mask_has(round.lost, window) {
-        Some(false)
-    } else if mask_has(round.gained, window) {
-        Some(true)
-    } else {
-        None
-    }
-}
-
 /// How many bodies tell of a change.
 fn count_of(change: Option<bool>) -> usize
     ensures value { result ≡ length (change_told change) }
@@ -86,7 +73,7 @@ fn most_bodies(round: &Round, channels: &Channels, window: u32) -> Result<u32, A
 {
     let motions = most_motions(round, channels.input(window));
     let keys = keys_to(round.keys, round.target, window).len();
-    let change = count_of(change_of(round, window));
+    let change = count_of(focus_change(round.lost, round.gained, window));
     match u32::try_from(motions + keys + change) {
         Ok(count) => Ok(count),
         Err(_) => Err(AllocError),
@@ -106,15 +93,16 @@ fn make_room_in(round: &Round, channels: &mut Channels, window: u32) -> Result<(
 }
 
 /// Makes room for all that a step tells the windows that are live, so that [`tell_all`](crate::tell_all) takes no
-/// memory. With and without memory nothing changes but the room that channels have. Where they have enough already, no
-/// memory is taken.
+/// memory, and answers their mask: no other is told anything. With and without memory nothing changes but the room that
+/// channels have. Where they have enough already, no memory is taken.
 pub fn make_room(
     round: &Round,
     touches: &Touches,
     channels: &mut Channels,
-) -> Result<(), AllocError>
+) -> Result<u64, AllocError>
     ensures made { OnOk result (MakesRoom touches.now round.now channels.old channels.new) }
     ensures ready { OnOk result (IsReady touches.now round.now channels.new) }
+    ensures told { IfOk result (λ told. AreListeners told touches.now round.now channels.new) }
     ensures same { but_for_room channels.new ≡ but_for_room channels.old }
     ensures reserved { length round.now.keys.now < 2 ^ 31 →
         IsReady touches.now round.now channels.old → IsOk result }
@@ -122,11 +110,12 @@ pub fn make_room(
 {
     // Its clauses say that what each window was told is kept.
     let _opened = channels.opened();
-    let mut rest = concerned(round, touches) & channels.live();
+    let told = listeners(round, touches, channels);
+    let mut rest = told;
     while rest != 0 {
         let window = first_of(rest);
         make_room_in(round, channels, window)?;
         rest = without(rest, window);
     }
-    Ok(())
+    Ok(told)
 }

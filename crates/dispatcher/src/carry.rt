@@ -2,55 +2,35 @@
 ghost use Rattle.std.specs.Prelude.{◌≡◌, ℕ, false, [], OnOk, OnErr, IsOk};
 ghost use Rattle.route_split.specs.declared.mark.Mark.{Mark as MarkView};
 ghost use Rattle.route_split.specs.Marking.{IsWhole};
-ghost use Rattle.dispatch_round.specs.Rounds.{IsReady, IsTimely, is_concerned};
-ghost use Rattle.dispatcher.specs.Carrying.{Rested, TakesMark, TellsRound, IsSilent};
-ghost use Rattle.dispatcher.specs.Carrying.{CarriesOut, CarriesFrom, CarriesSome};
-ghost use Rattle.dispatcher.specs.Tables.{LetsNoneGo, SameButRoom};
+ghost use Rattle.dispatch_round.specs.Rounds.{AreListeners, IsReady, IsTimely, is_concerned};
+ghost use Rattle.dispatcher.specs.Carrying.{Rested, IsSilent, CarriesOut, CarriesFrom, CarriesSome};
+ghost use Rattle.dispatcher.specs.Tables.{SameButRoom};
 
 use crate::tables::Routing;
-use dispatch_channels::Channels;
-use dispatch_round::{Round, make_room, tell_all};
+use dispatch_round::{Round, listeners, make_room, tell_all};
 use focus_resolver::Change;
-use input_types::{KeyMsg, Moment, Pixel};
+use input_types::{KeyMsg, Moment};
 use key_tables::remember;
-use route_split::{Mark, Touches};
+use route_split::Mark;
 use std::alloc::AllocError;
 
 /// A step that tells nobody anything, and with which no pointer changes hands.
 pub(crate) fn rest(routing: &mut Routing, place: u64)
     ensures { Rested place routing.old routing.new }
 {
-    routing.touches.take(&Mark::Rests, place);
+    let _none_lost = routing.touches.change(&Mark::Rests, place);
 }
 
-/// The windows of a round are told of it, and then pointers change hands.
-fn turn(
-    round: &Round,
-    touches: &mut Touches,
-    channels: &mut Channels,
-    origins: &[Pixel; 64],
-    place: u64,
-    clock: Moment,
-)
+/// A round is carried out of which the windows of the mask `told` are told, for which there is room. Takes no memory.
+pub(crate) fn carry_out(routing: &mut Routing, told: u64, round: &Round, place: u64, clock: Moment)
     requires whole { IsWhole round.now.mark }
-    requires ready { IsReady touches.old round.now channels.old }
-    requires timely { IsTimely clock channels.old }
-    ensures taken { TakesMark round.now.mark place touches.old touches.new }
-    ensures told { TellsRound round.now touches.old origins.now clock channels.old channels.new }
-    ensures gone { LetsNoneGo channels.old channels.new }
-{
-    let _changed = tell_all(round, touches, channels, origins, clock);
-    touches.take(&round.mark, place);
-}
-
-/// A round for which there is room is carried out. Takes no memory.
-pub(crate) fn carry_out(routing: &mut Routing, round: &Round, place: u64, clock: Moment)
-    requires whole { IsWhole round.now.mark }
+    requires told { AreListeners told routing.old.touches round.now routing.old.channels }
     requires ready { IsReady routing.old.touches round.now routing.old.channels }
     requires timely { IsTimely clock routing.old.channels }
     ensures { CarriesOut round.now place clock routing.old routing.new }
 {
-    turn(
+    tell_all(
+        told,
         round,
         &mut routing.touches,
         &mut routing.channels,
@@ -74,8 +54,8 @@ pub(crate) fn tell(
     ensures err { OnErr result (SameButRoom routing.old routing.new) }
     ensures calm { ((w : ℕ) → is_concerned routing.old.touches round.now w ≡ false) → IsOk result }
 {
-    make_room(round, &routing.touches, &mut routing.channels)?;
-    carry_out(routing, round, place, clock);
+    let told = make_room(round, &routing.touches, &mut routing.channels)?;
+    carry_out(routing, told, round, place, clock);
     Ok(())
 }
 
@@ -122,7 +102,8 @@ pub(crate) fn tell_nobody(routing: &mut Routing, place: u64, clock: Moment)
         lost: 0,
         gained: 0,
     };
-    carry_out(routing, &round, place, clock);
+    let told = listeners(&round, &routing.touches, &routing.channels);
+    carry_out(routing, told, &round, place, clock);
 }
 
 /// A change of the focus that is none.

@@ -18,7 +18,7 @@ use crate::stays::staying;
 use crate::tables::Routing;
 use dispatch_calls::Reply;
 use dispatch_channels::Channels;
-use dispatch_round::Round;
+use dispatch_round::{Round, listeners};
 use focus_resolver::Change;
 use input_types::{DisplayId, Limit, Moment};
 use key_tables::focusable;
@@ -78,7 +78,8 @@ fn welcome(routing: &mut Routing, number: u32, place: u64, clock: Moment)
         lost: 0,
         gained: change.gained & mask_with(0, number),
     };
-    carry_out(routing, &round, place, clock);
+    let told = listeners(&round, &routing.touches, &routing.channels);
+    carry_out(routing, told, &round, place, clock);
 }
 
 /// The windows are these from now on.

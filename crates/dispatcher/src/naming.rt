@@ -72,8 +72,8 @@ fn name(
         lost: 0,
         gained: 0,
     };
-    make_room(&round, &routing.touches, &mut routing.channels)?;
+    let told = make_room(&round, &routing.touches, &mut routing.channels)?;
     routing.channels.name(mask, clock)?;
-    carry_out(routing, &round, place, clock);
+    carry_out(routing, told, &round, place, clock);
     Ok(())
 }

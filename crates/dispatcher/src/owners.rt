@@ -77,9 +77,9 @@ pub(crate) fn remove(routing: &mut Routing, channel: u32, place: u64, clock: Mom
     }
     let target = routing.focus.target();
     routing.channels.remove(channel);
-    routing
+    let _not_told = routing
         .touches
-        .take(&Mark::Forget { window: channel }, place);
+        .change(&Mark::Forget { window: channel }, place);
     let windows = focusable(routing.shown.windows(), routing.channels.live());
     let _change = routing.focus.windows(windows);
     forget_key(&mut routing.repeat, target, channel);

@@ -5,7 +5,7 @@ ghost use Rattle.window_snapshot.specs.Named.{is_focusable_on};
 ghost use Rattle.focus_resolver.specs.Resolver.{may_by};
 ghost use Rattle.key_tables.specs.Focused.{change_of};
 
-use focus_resolver::{Change, Focusable};
+use focus_resolver::Focusable;
 use input_types::DisplayId;
 use window_snapshot::{Snapshot, mask_has};
 
@@ -24,13 +24,14 @@ pub fn focusable(windows: &Snapshot, live: u64) -> Focusable
     }
 }
 
-/// What a channel is told of a change of the focus: that it lost it, that it has it now, or nothing.
-pub fn focus_change(change: &Change, channel: u32) -> Option<bool>
-    ensures { result ≡ change_of change.now.lost change.now.gained channel }
+/// What a channel is told of a change of the focus, by the masks of the channels that lost it and of those that gained
+/// it: that it lost it, that it has it now, or nothing.
+pub fn focus_change(lost: u64, gained: u64, channel: u32) -> Option<bool>
+    ensures { result ≡ change_of lost gained channel }
 {
-    if mask_has(change.lost, channel) {
+    if mask_has(lost, channel) {
         Some(false)
-    } else if mask_has(change.gained, channel) {
+    } else if mask_has(gained, channel) {
         Some(true)
     } else {
         None

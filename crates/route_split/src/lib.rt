@@ -10,9 +10,9 @@
 //! ```
 //!
 //! [`Touches::mark`] finds what a motion gives and takes; the marks of all other steps are named by [`Mark`] itself.
-//! [`Touches::concerned`] says which windows can be told anything at the step. [`Touches::change`] changes the tables by
-//! the mark, and answers what each window lost where one pilfers. Then [`Touches::tells`] says what a window is told of a
-//! motion, by what it held before and holds now. None of these takes memory or fails.
+//! [`Touches::concerned`] says which windows can be told anything at the step. [`Touches::change`] changes the tables
+//! by the mark, and answers what each window lost where one pilfers. Then [`Touches::tells`] says what a window is told
+//! of a motion, by what it held before and holds now. None of these takes memory or fails.
 //!
 //! The tables stand for a scene of the rules (`Stands` of specs/Tables), and for the marks of all steps so far
 //! (`Follows` of specs/Following): each mark by which they change is one mark more.

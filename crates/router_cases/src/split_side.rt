@@ -1,9 +1,12 @@
 //! The split router with what its windows were told, as the plain one is used.
+ghost use Rattle.std.specs.Prelude.{◌≡◌, true};
+ghost use Rattle.window_snapshot.specs.Mask.{is_channel};
 ghost use Rattle.route_split.specs.Marking.{IsWhole};
 
 use bits32::Bits32;
 use cancel_synthesis::InputState;
 use input_types::{Body, DeviceId, Motion};
+use pilfer_monitor::Losses;
 use route_plain::{Said, Turn};
 use route_split::{Mark, Tells, Touches, watchers};
 use std::alloc::Global;
@@ -54,52 +57,89 @@ impl SplitSide {
             Turn::Pointers(motion) => {
                 let mark = self.touches.mark(motion, windows, masks.0, masks.1);
                 let watching = watchers(motion, windows, masks.0, masks.1);
-                self.tell_motion(&mut said, motion, &mark, watching)?;
-                self.touches.take(&mark, number);
+                let _none_lost = self.touches.change(&mark, number);
+                self.tell_motion(&mut said, motion, watching)?;
             }
             _ => {
                 let mark = mark_of(turn, windows);
-                self.tell_losses(&mut said, &mark)?;
-                self.touches.take(&mark, number);
+                let losses = self.touches.change(&mark, number);
+                self.tell_losses(&mut said, &mark, losses.as_ref())?;
             }
         }
         Ok(said)
     }
 
-    /// Tells each window of a motion.
+    /// Tells each window of a motion, by which the tables have changed.
     fn tell_motion(
         &mut self,
         said: &mut Vec<Said>,
         motion: &Motion,
-        mark: &Mark,
         watching: u64,
-    ) -> Result<(), Fail>
-        requires { IsWhole mark.now }
-    {
+    ) -> Result<(), Fail> {
         for channel in 1..65 {
             if is_channel(channel) {
                 let watches = mask_has(watching, channel);
-                let tells = self.touches.tells(motion, mark, channel, watches);
+                let before = self.told_ids(channel, motion.device);
+                let tells = self.touches.tells(motion, channel, before, watches);
                 self.tell(said, channel, motion.device, &tells)?;
             }
         }
         Ok(())
     }
 
-    /// Tells each window what it loses of each device.
-    fn tell_losses(&mut self, said: &mut Vec<Said>, mark: &Mark) -> Result<(), Fail>
-        requires { IsWhole mark.now }
-    {
+    /// The ids of a device that a window was told of and is not told the end of.
+    fn told_ids(&self, channel: u32, device: DeviceId) -> Bits32 {
+        let mut ids = Bits32::empty();
+        if let Some(state) = self.states.get(place_of(channel)) {
+            for pointer in state.pointers(device).as_slice() {
+                ids.mark(pointer.id.get());
+            }
+        }
+        ids
+    }
+
+    /// Tells each window what it lost of each device; of a channel that is removed nobody is told.
+    fn tell_losses(
+        &mut self,
+        said: &mut Vec<Said>,
+        mark: &Mark,
+        losses: Option<&Losses>,
+    ) -> Result<(), Fail> {
         for channel in 1..65 {
             for number in 1..9 {
                 let device = DeviceId::new(number).ok_or("a device")?;
-                if is_channel(channel) {
-                    let tells = self.touches.loses(mark, channel, device);
-                    self.tell(said, channel, device, &tells)?;
-                }
+                let lost = self.lost(mark, losses, channel, device);
+                self.cancel(said, channel, device, lost)?;
             }
         }
         Ok(())
+    }
+
+    /// The ids that a window lost of a device.
+    fn lost(&self, mark: &Mark, losses: Option<&Losses>, channel: u32, device: DeviceId) -> Bits32 {
+        if !is_channel(channel) {
+            return Bits32::empty();
+        }
+        match (*mark, losses) {
+            (Mark::Forget { .. }, _) => Bits32::empty(),
+            (Mark::Pilfer { device: of, .. }, Some(losses)) if of == device => losses.lost(channel),
+            (Mark::Pilfer { .. }, _) => Bits32::empty(),
+            _ => self.not_held(channel, device),
+        }
+    }
+
+    /// The ids that a window was told of and does not hold.
+    fn not_held(&self, channel: u32, device: DeviceId) -> Bits32
+        requires { is_channel channel ≡ true }
+    {
+        let held = self.touches.held(channel, device);
+        let mut lost = self.told_ids(channel, device);
+        for id in 0..32 {
+            if held.has(id) {
+                lost.clear(id);
+            }
+        }
+        lost
     }
 
     /// Tells a window what the router answered, and adds it to what is said.

@@ -1,23 +1,28 @@
-use Rattle.std.proofs.Common.{ap, ◌∙◌, not}
+use Rattle.std.proofs.Common.{ℕ, Bool, List, not, map, length, ap, ap₂, ◌∙◌, subst, arith}
+use mathlib.Core.Path.{fun_ext}
 use Rattle.bits32.specs.Set.{is_in}
-use Rattle.cancel_synthesis.specs.Tracked.{pointers_of}
-use Rattle.dispatch_channels.specs.Table.{input_of}
-use Rattle.dispatch_round.proofs.Stepping.{part_few, losses_are}
+use Rattle.input_types.specs.declared.message.Body.TheVariants.{Motion as MotionBody}
+use Rattle.input_types.specs.declared.motion.Motion.{Motion}
+use Rattle.cancel_synthesis.specs.Cancelling.{still_told}
+use Rattle.cancel_synthesis.specs.Ends.{pointers_cancelled}
+use Rattle.cancel_synthesis.specs.Tracked.{Tracked, pointers_of}
+use Rattle.dispatch_round.specs.Saying.{TellsOne}
+use Rattle.dispatch_round.proofs.Stepping.{few_cancels}
 use Rattle.dispatch_round.proofs.motions.say_loss.Goals as goal
 
 pub say_cancels-requires : goal.say_cancels-requires
 say_cancels-requires c =
-    part_few (λ i. not (is_in i c.after-held.result)) c.args.to.now.window c.rest-gone.result c.pointers.result.now _ c.args.channels.now
-    c.rest-gone.ensures
-    (c.pointers.ensures ∙ ap (λ i. pointers_of i c.args.device) c.input.ensures)
-    c.requires.room
+    let d = c.args.device in
+    let same = ap (λ i. length (pointers_of i d)) c.input.ensures in
+    few_cancels d (λ i. not (is_in i c.held-held.result)) c.args.to.now.window (still_told c.cancels_but-cancels.result) (pointers_of c.input.result.now d) _ c.args.channels.now
+    c.cancels_but-cancels.ensures
+    (omega (arith, same))
+    c.requires
 
 pub returns : goal.returns
 returns c =
-    losses_are c.args.to.now c.args.touches.now c.args.mark.now c.args.device c.after-held.result (input_of c.args.channels.now c.args.to.now.window)
-    c.pointers.result.now c.part-kept.result c.rest-gone.result c.args.channels.now c.say_cancels.new.channels
-    (c.pointers.ensures ∙ ap (λ i. pointers_of i c.args.device) c.input.ensures)
-    c.after-held.ensures
-    c.part-kept.ensures
-    c.rest-gone.ensures
+    let d = c.args.device in
+    subst (λ (ms : List Motion). TellsOne c.args.to.now (map MotionBody ms) c.args.channels.now c.say_cancels.new.channels)
+    (c.cancels_but-cancels.ensures
+    ∙ ap₂ (λ (f : ℕ → Bool) (i : Tracked). pointers_cancelled d f (pointers_of i d)) (fun_ext (λ i. ap not (c.held-held.ensures i))) c.input.ensures)
     c.say_cancels.ensures

@@ -1,15 +1,25 @@
+use Rattle.std.proofs.Common.{ℕ, List, map, flat_map, refl, arith}
+use Rattle.input_types.specs.declared.message.Body.TheVariants.{Motion as MotionBody}
+use Rattle.routing_rules.specs.Told.{devices}
 use Rattle.dispatch_channels.specs.Table.{input_of}
-use Rattle.dispatch_round.proofs.Stepping.{room_for_device, losses_next}
+use Rattle.dispatch_round.specs.Saying.{losses}
+use Rattle.dispatch_round.proofs.Stepping.{say_rest, room_for_device, losses_next}
 use Rattle.dispatch_round.proofs.motions.say_losses.Goals as goal
 
-pub say_loss-requires-clause-room : goal.say_loss-requires-clause-room
-say_loss-requires-clause-room c =
+pub say_loss-requires : goal.say_loss-requires
+say_loss-requires c =
     room_for_device c.args.to.now.window c.devices.place c.device_at.result (input_of c.args.channels.now c.args.to.now.window)
     (input_of c.devices.channels c.args.to.now.window) c.devices.channels
     c.devices-test.true c.device_at.ensures c.devices.invariant.1 c.devices.invariant.0
 
 pub devices-preserved : goal.devices-preserved
 devices-preserved c =
-    losses_next c.args.to.now c.args.touches.now c.args.mark.now c.devices.place c.device_at.result (input_of c.args.channels.now c.args.to.now.window)
+    losses_next c.args.to.now c.args.touches.now c.devices.place c.device_at.result (input_of c.args.channels.now c.args.to.now.window)
     c.args.channels.now c.devices.channels c.say_loss.new.channels
     c.devices-test.true c.device_at.ensures c.devices.invariant.1 c.devices.invariant.0 c.devices.invariant.2 c.say_loss.ensures
+
+pub returns : goal.returns
+returns c =
+    c.devices.invariant.2 c.devices.channels
+    (say_rest c.args.to.now (λ (ds : List ℕ). map MotionBody (flat_map (losses c.args.touches.now c.args.to.now.window (input_of c.args.channels.now c.args.to.now.window)) ds)) devices
+    c.devices.place c.devices.channels (omega (arith, c.devices-test.false)) refl)

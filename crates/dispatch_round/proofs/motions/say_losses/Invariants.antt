@@ -13,5 +13,5 @@ invariant-devices l =
     CanHear l.to.window (count_of (input_of l.initial.channels l.to.window) (drop l.place devices)) l.channels
     × ((d : ℕ) → l.place < d → pointers_of (input_of l.channels l.to.window) d ≡ pointers_of (input_of l.initial.channels l.to.window) d)
     × ((u : Table)
-    → TellsOne l.to (map MotionBody (flat_map (losses l.touches l.mark l.to.window (input_of l.initial.channels l.to.window)) (drop l.place devices))) l.channels u
-    → TellsOne l.to (map MotionBody (flat_map (losses l.touches l.mark l.to.window (input_of l.initial.channels l.to.window)) devices)) l.initial.channels u)
+    → TellsOne l.to (map MotionBody (flat_map (losses l.touches l.to.window (input_of l.initial.channels l.to.window)) (drop l.place devices))) l.channels u
+    → TellsOne l.to (map MotionBody (flat_map (losses l.touches l.to.window (input_of l.initial.channels l.to.window)) devices)) l.initial.channels u)

@@ -1,26 +1,38 @@
 use Rattle.std.proofs.Common.{◌≤◌, ap, sym, ◌∙◌, subst}
 use Rattle.std.specs.Option.{option_copied}
-use Rattle.dispatch_round.proofs.Hearing.{hears_found, hears_lost, hears_none}
+use Rattle.cancel_synthesis.specs.Tracked.{pointers_of}
+use Rattle.routing_rules.proofs.Listings.{has_id}
+use Rattle.dispatch_round.proofs.Hearing.{hears_found, hears_lost, hears_pilfered, hears_none}
 use Rattle.dispatch_round.proofs.motions.say_motions.Goals as goal
 
 pub returns-in-Some : goal.returns-in-Some
 returns-in-Some c =
-    hears_found c.args.round.now c.args.touches.now c.args.to.now c.args.channels.now c.say_found.new.channels c.in-Some.motion.now c.tells-tells.result c.mask_has-watches.result
+    let m = c.in-Some.motion.now in
+    hears_found c.args.round.now c.args.touches.now c.args.to.now c.args.channels.now c.say_found.new.channels m c.tells-tells.result c.ids_of-before.result c.mask_has-watches.result
+    (option_copied c.args.losses)
     (ap option_copied c.in-Some.is)
     (subst (λ n. 1 ≤ n) c.get-number.ensures.value c.get-number.ensures.range.0)
     (subst (λ n. n ≤ 8) c.get-number.ensures.value c.get-number.ensures.range.1)
     c.mask_has-watches.ensures
+    (λ i. c.ids_of-before.ensures i ∙ ap (has_id i) (c.pointers.ensures ∙ ap (λ t. pointers_of t m.device) c.input.ensures))
     c.tells-tells.ensures
     c.say_found.ensures
 
+pub returns-in-Some-losses : goal.returns-in-Some-losses
+returns-in-Some-losses c =
+    hears_pilfered c.args.round.now c.args.touches.now c.args.to.now c.args.channels.now c.say_pilfered.new.channels (option_copied c.args.losses) c.in-Some-losses.losses.now
+    (ap option_copied c.in-None.is)
+    (ap option_copied c.in-Some-losses.is)
+    c.say_pilfered.ensures
+
 pub returns-then-may_take : goal.returns-then-may_take
 returns-then-may_take c =
-    hears_lost c.args.round.now c.args.touches.now c.args.to.now c.args.channels.now c.say_losses.new.channels
+    hears_lost c.args.round.now c.args.touches.now c.args.to.now c.args.channels.now c.say_losses.new.channels (option_copied c.args.losses)
     (ap option_copied c.in-None.is)
     (sym c.may_take.ensures ∙ c.if-may_take.true)
     c.say_losses.ensures
 
 pub returns-else-may_take : goal.returns-else-may_take
 returns-else-may_take c =
-    hears_none c.args.round.now c.args.touches.now c.args.to.now c.args.channels.now (ap option_copied c.in-None.is)
+    hears_none c.args.round.now c.args.touches.now (option_copied c.args.losses) c.args.to.now c.args.channels.now (ap option_copied c.in-None.is)
     (sym c.may_take.ensures ∙ c.if-may_take.false)

@@ -1,11 +1,12 @@
-use Rattle.std.proofs.Common.{◌≤◌, refl, ap, ap₂, ◌&&◌, sym, ◌∙◌, arith}
+use Rattle.std.proofs.Common.{◌≤◌, refl, ap, ◌&&◌, sym, ◌∙◌, arith}
 use Rattle.std.proofs.lemmas.List.{length-set}
-use Rattle.std.proofs.lemmas.Bool.{both_ways, true≢false}
+use Rattle.std.proofs.lemmas.Bool.{both_ways, and_parts, and_from, true≢false}
 use Rattle.window_snapshot.specs.Mask.{mask_has}
 use Rattle.dispatch_channels.specs.Table.{opened}
-use Rattle.dispatch_channels.proofs.Picking.{less_without, mask_has-and}
-use Rattle.dispatch_channels.proofs.Moved.{rest_within}
-use Rattle.dispatch_round.proofs.Reaching.{in_both, both_reached, not_reached}
+use Rattle.dispatch_channels.proofs.Picking.{less_without}
+use Rattle.dispatch_channels.proofs.Moved.{reached, all_reached, rest_within}
+use Rattle.dispatch_round.specs.Rounds.{is_concerned}
+use Rattle.dispatch_round.proofs.Reaching.{not_reached}
 use Rattle.dispatch_round.proofs.Rooms.{same_but_room, left_next, made_next, made_enough, still_room, makes_room}
 use Rattle.dispatch_round.proofs.room.make_room.Goals as goal
 
@@ -13,7 +14,7 @@ pub make_room_in-requires : goal.make_room_in-requires
 make_room_in-requires c =
     let k = c.first_of-window.result in
     let is = c.loop-rest.invariant.0 k c.first_of-window.ensures.has in
-    let high : k ≤ opened c.args.channels.now = c.live.ensures.opened k (in_both c.concerned.result c.live.result k is).1 in
+    let high : k ≤ opened c.args.channels.now = c.listeners-told.ensures.opened k is in
     (c.first_of-window.ensures.from, omega (arith, high, c.loop-rest.invariant.3))
 
 pub loop-rest-smaller : goal.loop-rest-smaller
@@ -25,7 +26,7 @@ loop-rest-preserved c =
     let t = c.loop-rest.channels in
     let has = c.first_of-window.ensures.has in
     let is = c.loop-rest.invariant.0 k has in
-    let was : k ≤ opened c.args.channels.now = c.live.ensures.opened k (in_both c.concerned.result c.live.result k is).1 in
+    let was : k ≤ opened c.args.channels.now = c.listeners-told.ensures.opened k is in
     let high : k ≤ opened t = omega (arith, was, c.loop-rest.invariant.3) in
     rw (c.without-rest.ensures, c.in_ok-make_room_in.ensures.ok) (
       rest_within _ c.loop-rest.rest k has c.loop-rest.invariant.0,
@@ -37,17 +38,25 @@ loop-rest-preserved c =
       left_next c.args.channels.now t _ c.loop-rest.rest k _ has is c.loop-rest.invariant.6,
     )
 
+pub returns-clause-told : goal.returns-clause-told
+returns-clause-told c = record {
+  are = λ w. c.listeners-told.ensures.are w ∙ ap (λ n. is_concerned c.args.touches.now c.args.round.now w && mask_has n w) (sym c.loop-rest.invariant.2);
+  opened = λ w has. let high : w ≤ opened c.args.channels.now = c.listeners-told.ensures.opened w has in omega (arith, high, c.loop-rest.invariant.3);
+}
+
 pub returns-clause-ready : goal.returns-clause-ready
 returns-clause-ready c w live concerned =
+    let told = c.listeners-told.result in
+    let is =
+    c.listeners-told.ensures.are w
+    ∙ and_from (is_concerned c.args.touches.now c.args.round.now w) _ concerned (ap (λ n. mask_has n w) (sym c.loop-rest.invariant.2) ∙ live) in
     made_enough c.args.round.now c.args.channels.now c.loop-rest.channels w
-    (c.loop-rest.invariant.5 w
-    (both_reached c.concerned.result c.live.result c.loop-rest.rest w c.loop-rest-test.false (c.concerned.ensures w ∙ concerned)
-    (ap (λ n. mask_has n w) (c.live.ensures.value ∙ sym c.loop-rest.invariant.2) ∙ live)))
+    (c.loop-rest.invariant.5 w (ap (λ n. reached told n w) c.loop-rest-test.false ∙ all_reached told w ∙ is))
 
 pub returns-clause-made : goal.returns-clause-made
 returns-clause-made c =
     makes_room c.args.round.now c.args.touches.now _ c.loop-rest.rest c.args.channels.now c.loop-rest.channels c.loop-rest-test.false
-    (λ w. mask_has-and c.concerned.result c.live.result w ∙ ap₂ (λ a b. a && b) (c.concerned.ensures w) (ap (λ n. mask_has n w) c.live.ensures.value))
+    c.listeners-told.ensures.are
     c.loop-rest.invariant.5
     c.loop-rest.invariant.6
 
@@ -55,14 +64,12 @@ pub returns-in_err-make_room_in-clause-reserved : goal.returns-in_err-make_room_
 returns-in_err-make_room_in-clause-reserved c small ready =
     let k = c.first_of-window.result in
     let has = c.first_of-window.ensures.has in
-    let both = in_both c.concerned.result c.live.result k (c.loop-rest.invariant.0 k has) in
-    let room =
-    ready k (sym (ap (λ n. mask_has n k) c.live.ensures.value) ∙ both.1) (sym (c.concerned.ensures k) ∙ both.0) in
+    let both = and_parts (is_concerned c.args.touches.now c.args.round.now k) _ (sym (c.listeners-told.ensures.are k) ∙ c.loop-rest.invariant.0 k has) in
     absurd (true≢false (sym (c.in_err-make_room_in.ensures.reserved small
-    (still_room c.args.round.now c.args.channels.now c.loop-rest.channels k (c.loop-rest.invariant.6 k c.first_of-window.ensures.from (not_reached _ c.loop-rest.rest k has)) room))))
+    (still_room c.args.round.now c.args.channels.now c.loop-rest.channels k (c.loop-rest.invariant.6 k c.first_of-window.ensures.from (not_reached _ c.loop-rest.rest k has)) (ready k both.1 both.0)))))
 
 pub returns-in_err-make_room_in-clause-calm : goal.returns-in_err-make_room_in-clause-calm
 returns-in_err-make_room_in-clause-calm c none =
     let k = c.first_of-window.result in
-    let both = in_both c.concerned.result c.live.result k (c.loop-rest.invariant.0 k c.first_of-window.ensures.has) in
-    absurd (both_ways _ (none k) (sym (c.concerned.ensures k) ∙ both.0))
+    let both = and_parts (is_concerned c.args.touches.now c.args.round.now k) _ (sym (c.listeners-told.ensures.are k) ∙ c.loop-rest.invariant.0 k c.first_of-window.ensures.has) in
+    absurd (both_ways _ (none k) both.0)

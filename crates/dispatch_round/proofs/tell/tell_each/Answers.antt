@@ -1,4 +1,5 @@
 use Rattle.std.proofs.Common.{◌-◌, ◌<◌, length, arith}
+use Rattle.std.specs.Option.{option_copied}
 use Rattle.std.proofs.lemmas.List.{get_or_default}
 use Rattle.dispatch_channels.proofs.Picking.{less_without}
 use Rattle.dispatch_channels.proofs.Moved.{rest_within}
@@ -15,8 +16,8 @@ loop-rest-preserved c =
     let is = c.loop-rest.invariant.0 k has in
     let within : k - 1 < length c.args.origins.now = omega (arith, c.first_of-window.ensures.from, c.first_of-window.ensures.to, c.told-origins) in
     rw c.without-rest.ensures (
-      rest_within c.args.mask c.loop-rest.rest k has c.loop-rest.invariant.0,
-      each_next c.args.round.now c.args.touches.now c.args.mask c.loop-rest.rest k _ c.args.origins.now c.args.clock c.args.channels.now c.loop-rest.channels c.tell_one.new.channels
+      rest_within c.args.told c.loop-rest.rest k has c.loop-rest.invariant.0,
+      each_next c.args.round.now c.args.touches.now (option_copied c.args.losses) c.args.told c.loop-rest.rest k _ c.args.origins.now c.args.clock c.args.channels.now c.loop-rest.channels c.tell_one.new.channels
           has
           is
           (c.requires.live k is)
@@ -27,5 +28,5 @@ loop-rest-preserved c =
 
 pub returns : goal.returns
 returns c =
-    each_last c.args.round.now c.args.touches.now c.args.mask c.loop-rest.rest c.args.origins.now c.args.clock c.args.channels.now c.loop-rest.channels
+    each_last c.args.round.now c.args.touches.now (option_copied c.args.losses) c.args.told c.loop-rest.rest c.args.origins.now c.args.clock c.args.channels.now c.loop-rest.channels
     c.loop-rest-test.false c.loop-rest.invariant.1

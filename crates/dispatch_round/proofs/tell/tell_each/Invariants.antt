@@ -1,4 +1,5 @@
 use Rattle.std.proofs.Common.{◌≡◌, ℕ, true}
+use Rattle.std.specs.Option.{option_copied}
 use Rattle.window_snapshot.specs.Mask.{mask_has}
 use Rattle.dispatch_channels.proofs.Moved.{reached}
 use Rattle.dispatch_round.specs.Each.{HearsEach}
@@ -7,8 +8,8 @@ use Rattle.dispatch_round.proofs.tell.tell_each.Given as goal
 -- the windows that were reached are told
 abbrev pub invariant-loop-rest : goal.invariant-loop-rest
 invariant-loop-rest l =
-    ((w : ℕ) → mask_has l.rest w ≡ true → mask_has l.mask w ≡ true)
-    × HearsEach l.round l.touches (reached l.mask l.rest) l.origins l.clock l.initial.channels l.channels
+    ((w : ℕ) → mask_has l.rest w ≡ true → mask_has l.told w ≡ true)
+    × HearsEach l.round l.touches (option_copied l.losses) (reached l.told l.rest) l.origins l.clock l.initial.channels l.channels
 
 abbrev pub decreases-loop-rest : goal.decreases-loop-rest
 decreases-loop-rest l = l.rest

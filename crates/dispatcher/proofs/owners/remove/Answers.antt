@@ -16,7 +16,7 @@ returns c =
     let old = c.args.routing.now in
     removes c.args.channel c.args.place c.args.clock old _
     (ap (λ m. mask_has m c.args.channel) (sym c.live.ensures.value) ∙ sym c.mask_has.ensures ∙ c.if-not-mask_has.false)
-    c.take.ensures
+    c.change-not_told.ensures.changes
     refl
     refl
     c.remove.ensures
