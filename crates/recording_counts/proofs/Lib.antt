@@ -1,0 +1,10 @@
+pub mod Bytes
+pub mod Examples
+pub mod Forms
+pub mod Joining
+pub mod KeySteps
+pub mod LineSteps
+pub mod Noted
+pub mod Oks
+pub mod Raised
+pub mod Touches
