@@ -120,10 +120,12 @@ impl SplitSide {
         if !is_channel(channel) {
             return Bits32::empty();
         }
-        match (*mark, losses) {
-            (Mark::Forget { .. }, _) => Bits32::empty(),
-            (Mark::Pilfer { device: of, .. }, Some(losses)) if of == device => losses.lost(channel),
-            (Mark::Pilfer { .. }, _) => Bits32::empty(),
+        match *mark {
+            Mark::Forget { window: _ } => Bits32::empty(),
+            Mark::Pilfer {
+                device: of,
+                window: _,
+            } => pilfered(losses, of == device, channel),
             _ => self.not_held(channel, device),
         }
     }
@@ -183,6 +185,22 @@ impl SplitSide {
             })?;
         }
         Ok(())
+    }
+}
+
+/// What a window lost to a spy, where that pilfered the device.
+fn pilfered(losses: Option<&Losses>, is_device: bool, channel: u32) -> Bits32
+    requires { is_channel channel ≡ true }
+{
+    match losses {
+        Some(losses) => {
+            if is_device {
+                losses.lost(channel)
+            } else {
+                Bits32::empty()
+            }
+        }
+        None => Bits32::empty(),
     }
 }
 
