@@ -1,6 +1,7 @@
 -- How a message, the section of a channel and a naming are spelled.
 use Rattle.std.specs.Prelude.{codes, ℕ, ℤ, nat_eq, Bool, cond, List, [], ◌∷◌, ◌++◌}
 use Rattle.std.specs.Fmt.{decimal, signed_decimal}
+unfoldable pub use Rattle.text_lines.specs.Written.{labeled}
 use Rattle.input_types.specs.declared.pointer.Pointer.{Pointer}
 use Rattle.input_types.specs.declared.motion.Motion.{Motion}
 use Rattle.input_types.specs.declared.motion.MotionAction.{MotionAction}
@@ -9,10 +10,6 @@ use Rattle.input_types.specs.declared.message.Body.{Body}
 use Rattle.input_types.specs.declared.message.Body.TheVariants.{Motion as MotionBody, Key, Focus}
 use Rattle.input_types.specs.declared.message.Message.{Message}
 use Rattle.dispatch_calls.specs.declared.counts.Counts.{Counts}
-
--- a number behind some words
-unfoldable pub labeled : List ℕ → ℕ → List ℕ
-labeled words n = words ++ decimal n
 
 -- ` canceled` where the flags are FLAG_CANCELED
 abbrev pub canceled : ℕ → List ℕ

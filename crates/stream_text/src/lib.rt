@@ -26,7 +26,6 @@
 //! by line and takes no memory; `StreamReader` answers its streams.
 #![tactic(auto)]
 
-mod line;
 mod message;
 mod message_line;
 mod number;

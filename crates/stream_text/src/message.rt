@@ -2,9 +2,9 @@
 ghost use Rattle.std.specs.Prelude.{◌≡◌, ◌++◌, codes, cond, IfOk, OnOk, OnErr, decimal};
 ghost use Rattle.stream_text.specs.Spelling.{action, body, canceled, indexed, key, key_end, message_line, message_lines, motion, numbered, pointer, pointers};
 
-use crate::line::{add_labeled, add_number, add_signed, add_word};
 use input_types::{Body, FLAG_CANCELED, KeyMsg, Message, Motion, MotionAction, Pointer};
 use std::alloc::{AllocError, Global};
+use text_lines::{add_labeled, add_number, add_signed, add_word};
 
 fn add_canceled(text: &mut Vec<u8>, flags: u32) -> Result<(), AllocError>
     ensures { IfOk result (λ _. text.new.items ≡ text.old.items ++ canceled flags) }

@@ -1,12 +1,11 @@
 //! Orders: which calls were made, one after another.
 ghost use Rattle.std.specs.Prelude.{◌≡◌, ℕ, ◌+◌, codes, List, [], ◌∷◌, ◌++◌, ◌==◌, length, slice_get, IfOk, IfSome, OnOk, OnErr};
 
-use crate::line::{add_labeled, add_word};
 use crate::order_error::OrderError;
 use crate::order_line::{OrderLine, add_order_line, order_line, read_head};
 use std::alloc::{AllocError, Global};
 use std::marker::Model;
-use text_lines::first_line;
+use text_lines::{add_labeled, add_word, first_line};
 
 /// Calls, one after another. Contracts see it as a list; its script lanes are 1 to 8.
 #[derive(Drop)]

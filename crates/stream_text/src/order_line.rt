@@ -4,9 +4,9 @@ ghost use Rattle.stream_text.specs.Number.{number_at};
 ghost use Rattle.stream_text.specs.Order.{HasLane, finish_line, letter_line, number_alone, numbers_line, line_spelling, order_line_of, receive_line, script_line};
 ghost use Rattle.stream_text.specs.OrderText.{head_of};
 
-use crate::line::{add_labeled, add_word};
 use crate::number::{number, past};
 use std::alloc::AllocError;
+use text_lines::{add_labeled, add_word};
 
 /// A call, as an order names it.
 #[derive(Clone, Copy, Debug, PartialEq, Eq)]

@@ -2,11 +2,11 @@
 ghost use Rattle.std.specs.Prelude.{◌≡◌, ◌++◌, IfOk, OnOk, OnErr};
 ghost use Rattle.stream_text.specs.Spelling.{channel_line, channel_section, end_line, naming_line};
 
-use crate::line::{add_labeled, add_number, add_word};
 use crate::message::add_messages;
 use dispatch_calls::Counts;
 use input_types::{Message, Moment};
 use std::alloc::AllocError;
+use text_lines::{add_labeled, add_number, add_word};
 
 #[tactic(auto, unfolding(crate::specs::Spelling::channel_line))]
 fn add_channel(text: &mut Vec<u8>, id: u32, name: &str) -> Result<(), AllocError>

@@ -6,6 +6,7 @@ ghost use Rattle.touch_writer.specs.EventText.{digit as digit_of, digits, in_eig
 use itoa::Buffer;
 use raw_events::RawEvent;
 use std::alloc::{AllocError, Global};
+use text_lines::add_word;
 
 /// A digit: 0 to 9, and a to f for 10 to 15.
 fn digit(value: u32) -> u8
@@ -53,12 +54,6 @@ fn add_blanks(text: &mut Vec<u8>, count: usize) -> Result<(), AllocError>
         text.push(b' ')?;
     }
     Ok(())
-}
-
-fn add_word(text: &mut Vec<u8>, word: &str) -> Result<(), AllocError>
-    ensures { IfOk result (λ _. text.new.items ≡ text.old.items ++ word.now) }
-{
-    text.extend_from_slice(word.as_bytes())
 }
 
 /// Adds a moment in seconds, with six digits of microseconds, in brackets.

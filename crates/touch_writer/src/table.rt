@@ -163,7 +163,13 @@ pub(crate) fn choose(case: &Case, places: &[Place]) -> Bits32
 }
 
 /// What a slot holds behind a choice, and how many new contacts have their slots then.
-fn settle(case: &Case, slot: usize, place: &Place, slots: Bits32, come: usize) -> (Place, usize)
+fn place_behind(
+    case: &Case,
+    slot: usize,
+    place: &Place,
+    slots: Bits32,
+    come: usize,
+) -> (Place, usize)
     requires slot { slot < 16 }
     requires few { length case.now.news.now ≤ 16 }
     requires come { come ≤ length case.now.news.now }
@@ -194,7 +200,7 @@ pub(crate) fn placed(case: &Case, places: &[Place], slots: Bits32) -> [Place; 16
     let mut after = [empty_place(); 16];
     let mut come = 0;
     for slot in 0..places.len() {
-        let (place, next) = settle(case, slot, &places[slot], slots, come);
+        let (place, next) = place_behind(case, slot, &places[slot], slots, come);
         after[slot] = place;
         come = next;
     }
