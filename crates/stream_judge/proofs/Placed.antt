@@ -1,22 +1,15 @@
 -- The lines of a stream file stand where they may stand.
 use Rattle.std.proofs.Common.{◌≡◌, ℕ, ◌+◌, Bool, true, false, if◌then◌else◌, List, [], ◌∷◌, Option, Some, None, Result, Ok, Err, refl}
 use Rattle.stream_text.specs.declared.stream_line.StreamLine.{StreamLine}
-use Rattle.stream_text.specs.declared.stream_line.StreamLine.TheVariants.{Channel, Message, End, Naming}
 use Rattle.stream_text.specs.declared.stream_lines.Place.{Place}
 use Rattle.stream_text.specs.declared.stream_lines.Place.TheVariants.{Between}
 use Rattle.stream_text.specs.Number.{◌>>=◌}
 use Rattle.stream_text.specs.OrderText.{order_passed}
 use Rattle.stream_text.specs.StreamFile.{Event, events_behind, events_from, events_of, follow, may_end, numbered_line, told, with_event}
-use Rattle.stream_text.specs.StreamLine.{SpellsLine, line_of}
-use Rattle.stream_text.proofs.LineTexts.{line_only}
+use Rattle.stream_text.specs.StreamLine.{CanSay, line_of}
+use Rattle.stream_text.proofs.LineTexts.{can_say, line_only}
 use Rattle.text_lines.specs.Lines.{Line, lines_of}
-use Rattle.stream_judge.specs.Placed.{CanSay, Places}
-
-says_so : (bytes : List ℕ) (says : StreamLine) → SpellsLine bytes says → CanSay says
-says_so bytes (Channel id) h = h.2
-says_so bytes (Message m) h = h.1
-says_so bytes (End id sent received finished) h = tt
-says_so bytes (Naming clock id seq) h = tt
+use Rattle.stream_judge.specs.Placed.{Places}
 
 -- the lines from here on
 abbrev Follows : ℕ → List Line → Type 0
@@ -38,7 +31,7 @@ followed place n says lines (Some next) f can follows = one_line place next n sa
 read : (place : Place) (n : ℕ) (text : List ℕ) (lines : List Line) (o : Option StreamLine) → line_of text ≡ o → Follows n lines
     → Places place n (step_from n lines (o >>= λ says. follow place says >>= λ next. Some (says, next)))
 read place n text lines None is follows = tt
-read place n text lines (Some says) is follows = followed place n says lines (follow place says) refl (says_so text says (line_only text says is)) follows
+read place n text lines (Some says) is follows = followed place n says lines (follow place says) refl (can_say text says (line_only text says is)) follows
 
 ended : (place : Place) (n : ℕ) (text : List ℕ) (b : Bool) (lines : List Line) → Follows n lines → Places place n (step_from n lines (told place (text, b)))
 ended place n text true lines follows = read place n text lines (line_of text) refl follows

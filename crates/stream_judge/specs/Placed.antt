@@ -1,18 +1,8 @@
--- Where the lines of a file stand, and what they can say.
+-- Where the lines of a file stand.
 use Rattle.std.specs.Prelude.{◌≡◌, ℕ, ◌+◌, true, List, [], ◌∷◌, Some, Result, Ok, Err}
-use Rattle.stream_text.specs.declared.stream_line.StreamLine.{StreamLine}
-use Rattle.stream_text.specs.declared.stream_line.StreamLine.TheVariants.{Channel, Message, End, Naming}
 use Rattle.stream_text.specs.declared.stream_lines.Place.{Place}
-use Rattle.stream_text.specs.MessageLine.{HasSpelling}
 use Rattle.stream_text.specs.StreamFile.{Event, follow, may_end}
-use Rattle.stream_text.specs.StreamLine.{IsId}
-
--- what a line can say: a section is of one of the channels 1 to 64, and a message has a spelling
-abbrev pub CanSay : StreamLine → Type 0
-CanSay (Channel id) = IsId id
-CanSay (Message m) = HasSpelling m
-CanSay (End id sent received finished) = Unit {0}
-CanSay (Naming clock id seq) = Unit {0}
+use Rattle.stream_text.specs.StreamLine.{CanSay}
 
 -- Lines from line `n` on, of which the first stands at a place: each has the number behind that of the line before it, says what a line can say
 -- and may stand where it stands, and the file may end behind the last.

@@ -16,7 +16,7 @@ use Rattle.stream_text.specs.declared.stream_line.StreamLine.TheVariants.{Channe
 use Rattle.stream_text.specs.Number.{◌>>=◌, after, number_at, NoDigit}
 use Rattle.stream_text.specs.Spelling.{body, labeled, numbered}
 use Rattle.stream_text.specs.MessageLine.{labeled_at, message_of, message_words, HasSpelling}
-use Rattle.stream_text.specs.StreamLine.{channel_at, channel_of, channel_words, end_of, end_words, is_name, line_of, naming_of, naming_words, IsId, SpellsLine}
+use Rattle.stream_text.specs.StreamLine.{CanSay, channel_at, channel_of, channel_words, end_of, end_words, is_name, line_of, naming_of, naming_words, IsId, SpellsLine}
 use Rattle.stream_text.proofs.Numbers.{after_only, bind_some, number_again, number_only}
 use Rattle.stream_text.proofs.PartTexts.{by_word, labeled_again, labeled_front, labeled_only, none_of, not_zero, regroup, whole_only}
 use Rattle.stream_text.proofs.MessageTexts.{message_again, message_only}
@@ -198,3 +198,10 @@ line_only bs line h =
         ]
       ]
     ]
+
+-- what is spelled can be said
+pub can_say : (bs : List ℕ) (line : StreamLine) → SpellsLine bs line → CanSay line
+can_say bs (Channel id) h = h.2
+can_say bs (Message m) h = h.1
+can_say bs (End id sent received finished) h = tt
+can_say bs (Naming clock id seq) h = tt

@@ -78,3 +78,10 @@ SpellsLine bs (Message m) = (bs ≡ message_words m) × HasSpelling m
 SpellsLine bs (End id sent received finished) =
     (bs ≡ end_words id sent received finished) × IsId id × (sent < 2 ^ 64) × (received < 2 ^ 64) × (finished < 2 ^ 64)
 SpellsLine bs (Naming clock id seq) = (bs ≡ naming_words clock id seq) × (clock ≤ 1000000000000000000) × IsId id × (seq < 2 ^ 64)
+
+-- what a line can say: a section is of one of the channels 1 to 64, and a message has a spelling
+abbrev pub CanSay : StreamLine → Type 0
+CanSay (Channel id) = IsId id
+CanSay (Message m) = HasSpelling m
+CanSay (End id sent received finished) = Unit {0}
+CanSay (Naming clock id seq) = Unit {0}

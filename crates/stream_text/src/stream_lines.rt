@@ -1,5 +1,6 @@
 //! A stream file, line by line.
 ghost use Rattle.std.specs.Prelude.{◌≡◌, ℕ, ◌+◌, ◌^◌, ◌<◌, ◌≤◌, option_map, IfOk, IfSome, Ok, Err, length};
+ghost use Rattle.stream_text.specs.StreamLine.{CanSay};
 ghost use Rattle.stream_text.specs.StreamFile.{Goes, Unread, events_from, events_of, follow, may_end, told};
 
 use crate::order_front::pass_order;
@@ -69,8 +70,10 @@ impl Place {
 }
 
 /// What a line says that may stand at this place, and the place behind it.
+#[tactic(auto, using(crate::proofs::LineTexts::can_say))]
 fn tell(place: Place, line: FirstLine<'_>) -> Option<(StreamLine, Place)>
-    ensures { result ≡ told place (line.entry.text.now, line.entry.ended) }
+    ensures value { result ≡ told place (line.entry.text.now, line.entry.ended) }
+    ensures says { IfSome result (λ read. CanSay read.0) }
 {
     if !line.ended {
         return None;
@@ -136,6 +139,7 @@ impl<'a> StreamLines<'a> {
     /// there, or that is missing because a section does not end, is answered by its number.
     pub fn next(&mut self) -> Result<Option<(u64, StreamLine)>, u64>
         ensures lines { Goes self.old result self.new }
+        ensures says { IfOk result (λ line. IfSome line (λ event. CanSay event.1)) }
         ensures range { IfOk result (λ line. IfSome line (λ event. event.0 + 1 < 2 ^ 64)) }
     {
         if self.rest.is_empty() {
