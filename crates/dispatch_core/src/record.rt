@@ -1,18 +1,23 @@
 //! The dispatcher with its history.
-ghost use Rattle.std.specs.Prelude.{◌≡◌, ℕ, ◌+◌, ◌++◌, ◌≤◌, ◌<◌, ◌^◌, [], ◌∷◌, max, reverse, option_map};
-ghost use Rattle.std.specs.Prelude.{IfOk, OnOk, OnErr, IsOk, vec_len, vec_capacity};
+ghost use Rattle.std.specs.Prelude.{◌≡◌, ℕ, ◌+◌, ◌++◌, ◌≤◌, ◌<◌, ◌^◌, true, [], ◌∷◌, max, reverse, option_map};
+ghost use Rattle.std.specs.Prelude.{IfOk, IfSome, OnOk, OnErr, IsOk, is_some, vec_len, vec_capacity};
 ghost use Rattle.dispatch_history.specs.Due.{counts, first_due, namings};
-ghost use Rattle.dispatch_history.specs.History.{clock};
+ghost use Rattle.dispatch_history.specs.Effect.{past_of};
+ghost use Rattle.dispatch_history.specs.History.{clock, live};
 ghost use Rattle.dispatch_history.specs.Legal.{Legal, reply};
-ghost use Rattle.dispatch_tables.specs.Dues.{due_pair};
-ghost use Rattle.dispatcher.specs.Access.{next_repeat};
+ghost use Rattle.dispatch_tables.specs.Dues.{due_moment, due_pair};
+ghost use Rattle.dispatcher.specs.Access.{is_opened, next_repeat, HoldsInput};
+ghost use Rattle.dispatcher.specs.ReadLaws.{ReadsTouches};
+ghost use Rattle.window_snapshot.specs.Mask.{is_channel};
 ghost use Rattle.dispatcher.specs.Memory.{IsCalm};
 ghost use Rattle.dispatch_core.specs.Recorded.{history_of, effects_of, stream_of, with_entry, with_spare};
 ghost use Rattle.dispatch_core.specs.Recorded.{AnswersGone, IsSound, HasRoom};
 
+use cancel_synthesis::InputState;
 use dispatch_calls::{Call, Counts, Entry, Naming, Reply};
 use dispatcher::Dispatcher;
 use input_types::{Displays, Message, Moment};
+use route_split::Touches;
 use std::alloc::{AllocError, Global};
 use std::marker::Model;
 
@@ -131,6 +136,15 @@ impl Core {
         self.dispatcher.first_due()
     }
 
+    /// When a channel is due to be named: its limit after the delivery of its oldest message that is published and not
+    /// finished; None exactly where it is not able, or has no such message.
+    pub fn due(&self, channel: u32) -> Option<u64>
+        requires { is_channel channel ≡ true }
+        ensures { result ≡ due_moment (effects_of self.now) channel }
+    {
+        self.dispatcher.due(channel)
+    }
+
     /// When the next repeat of a key is due; None where there is none, and while args wait.
     pub fn repeat_due(&self) -> Option<u64>
         ensures { result ≡ next_repeat (effects_of self.now) }
@@ -143,6 +157,24 @@ impl Core {
         ensures { result.now ≡ namings (effects_of self.now) }
     {
         self.dispatcher.namings()
+    }
+
+    /// Who holds which pointers, since when, and who is pilfering which device. Each holder is live, able to take
+    /// input, and shown on the display of the device.
+    pub fn touches(&self) -> &Touches
+        ensures { ReadsTouches self.now.displays (effects_of self.now) result.now }
+    {
+        self.dispatcher.touches()
+    }
+
+    /// What the window of a channel was told and is not told the end of; None exactly where no channel was opened with
+    /// this number.
+    pub fn input(&self, channel: u32) -> Option<&InputState>
+        ensures some { is_some result ≡ is_opened (effects_of self.now) channel }
+        ensures value { live (past_of (effects_of self.now)) channel ≡ true →
+            IfSome result (λ input. HoldsInput (effects_of self.now) channel input.now) }
+    {
+        self.dispatcher.input(channel)
     }
 
     /// The displays of the devices.

@@ -10,7 +10,7 @@ use Rattle.routing_rules.specs.Marks.{held, since, pilfering}
 use Rattle.routing_rules.specs.Pairs.{has, has_any}
 use Rattle.routing_rules.specs.Told.{listing}
 use Rattle.window_snapshot.specs.Named.{is_shown_on}
-use Rattle.touch_state.specs.Touches.{since as since_in}
+use Rattle.touch_state.specs.Touches.{Touches, since as since_in}
 use Rattle.route_split.specs.Tables.{table_of, holds_at, any_at, pilfering_at}
 use Rattle.key_tables.specs.Held.{KeysAre}
 use Rattle.dispatch_history.specs.History.{clock, live, opened as opened_by, received, snapshot}
@@ -94,18 +94,18 @@ ReadsMomentsLaw = (displays : List ℕ) (es : List Effect) (k : Kept) → Stands
 
 -- who holds what, since when, and who is pilfering which device, by the tables; who holds something is live, able and shown on the display
 -- of the device
-pub record ReadsTouches (displays : List ℕ) (es : List Effect) (k : Kept) : Type 0 where
-  pub holds_are : (w d i : ℕ) → holds_at k.touches w d i ≡ has (held (marks es)) w d i
-  pub any_are : (w d : ℕ) → any_at k.touches w d ≡ has_any (held (marks es)) w d
-  pub since_are : (w d : ℕ) → since_in (table_of k.touches d) w ≡ since (marks es) w d
-  pub pilfering_are : (w d : ℕ) → pilfering_at k.touches w d ≡ pilfering (marks es) w d
+pub record ReadsTouches (displays : List ℕ) (es : List Effect) (ts : List Touches) : Type 0 where
+  pub holds_are : (w d i : ℕ) → holds_at ts w d i ≡ has (held (marks es)) w d i
+  pub any_are : (w d : ℕ) → any_at ts w d ≡ has_any (held (marks es)) w d
+  pub since_are : (w d : ℕ) → since_in (table_of ts d) w ≡ since (marks es) w d
+  pub pilfering_are : (w d : ℕ) → pilfering_at ts w d ≡ pilfering (marks es) w d
   pub holders :
-      (w d i : ℕ) → holds_at k.touches w d i ≡ true
+      (w d i : ℕ) → holds_at ts w d i ≡ true
       → (live (past_of es) w ≡ true) × (able es w ≡ true) × (is_shown_on (snapshot (past_of es)) (device_display displays d) w ≡ true)
 
 -- The tables of touches are read as the history says.
 abbrev pub ReadsTouchesLaw : Type 0
-ReadsTouchesLaw = (displays : List ℕ) (es : List Effect) (k : Kept) → StandsFor displays es k → ReadsTouches displays es k
+ReadsTouchesLaw = (displays : List ℕ) (es : List Effect) (k : Kept) → StandsFor displays es k → ReadsTouches displays es k.touches
 
 -- What is kept of a live window are the pointers that it holds, at their last places, and the keys that it holds, each with its last
 -- message.

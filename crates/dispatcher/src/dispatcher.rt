@@ -15,7 +15,7 @@ ghost use Rattle.dispatcher.specs.ReadLaws.{ReadsTouches};
 ghost use Rattle.window_snapshot.specs.Mask.{is_channel};
 ghost use Rattle.dispatcher.specs.Access.{is_opened, gone, messages_of, got, oldest_delivery};
 ghost use Rattle.dispatcher.specs.Access.{is_waiting, next_repeat, HoldsInput};
-ghost use Rattle.dispatcher.specs.Dispatching.{StandsFor, kept};
+ghost use Rattle.dispatcher.specs.Dispatching.{StandsFor};
 ghost use Rattle.dispatcher.specs.Memory.{IsCalm, MayCount};
 
 use crate::apply::apply;
@@ -210,7 +210,8 @@ impl Dispatcher {
     /// input, and shown on the display of the device.
     pub fn touches(&self) -> &Touches
         ensures value { result.now ≡ self.now.touches }
-        ensures reads { (es : List Effect) → StandsFor es self.now → ReadsTouches self.now.displays es (kept self.now) }
+        ensures reads { (es : List Effect) → StandsFor es self.now
+            → ReadsTouches self.now.displays es self.now.touches }
     {
         &self.tables.routing.touches
     }

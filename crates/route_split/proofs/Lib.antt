@@ -3,6 +3,7 @@ pub mod Arms
 pub mod MaskSets
 pub mod FollowingLaws
 pub mod Earlier
+pub mod Firsts
 pub mod Found
 pub mod Near
 pub mod Steps

@@ -1,15 +1,15 @@
 //! Who gets a pointer that goes down.
-ghost use Rattle.std.specs.Prelude.{◌≡◌, ◌&&◌, ◌||◌, ◌==◌, not, ℕ, filter};
-ghost use Rattle.std.specs.List.{list_any};
+ghost use Rattle.std.specs.Prelude.{◌≡◌, ◌&&◌, ◌||◌, ◌==◌, not, ℕ, filter, option_copied, option_map};
+ghost use Rattle.std.specs.List.{find, list_any};
 ghost use Rattle.window_snapshot.specs.Hits.{touched, is_spy_at};
 ghost use Rattle.window_snapshot.specs.Mask.{mask_has};
 ghost use Rattle.window_snapshot.specs.MaskOf.{mask_of};
-ghost use Rattle.window_snapshot.specs.Window.{prevents_splitting};
-ghost use Rattle.routing_rules.specs.Choice.{is_holder, sooner, earliest, is_alone, choose, choice_at, takers, is_candidate_of};
+ghost use Rattle.window_snapshot.specs.Window.{is_spy, prevents_splitting};
+ghost use Rattle.routing_rules.specs.Choice.{is_holder, earliest, is_alone, choose, choice_at, takers, is_candidate_of};
 ghost use Rattle.routing_rules.specs.Scene.{shows, which};
 ghost use Rattle.route_split.specs.Seen.{scene_at};
 
-use crate::seen::{Seen, holds_any, is_earlier, is_pilfering};
+use crate::seen::{Seen, holds_any, is_pilfering};
 use input_types::{DeviceId, Pixel};
 use routing_rules::{Choice, Row};
 use window_snapshot::{Window, mask_has, mask_with};
@@ -32,33 +32,72 @@ fn spies(seen: &Seen, device: DeviceId, at: Pixel) -> u64
     seen.windows.spies(at.x, at.y, seen.reach)
 }
 
-/// Whether the window is no spy and holds something.
-fn is_holder(seen: &Seen, device: DeviceId, window: &Window) -> bool
-    ensures { result ≡ is_holder (scene_at seen.now) device window.now }
+/// The mask of the windows without SPY.
+fn plain_windows(seen: &Seen) -> u64
+    ensures { result ≡ mask_of (filter (λ v. not (is_spy v)) seen.now.windows.now) }
 {
-    !window.is_spy() && holds_any(seen.table, window.channel)
+    seen.windows
+        .windows()
+        .iter()
+        .filter(|window| !window.is_spy())
+        .fold(0, |mask, window| mask_with(mask, window.channel))
+}
+
+/// Whether a window is no spy and prevents splitting.
+fn is_whole(window: &Window) -> bool
+    ensures { result ≡ (not (is_spy window.now) && prevents_splitting window.now) }
+{
+    !window.is_spy() && window.prevents_splitting()
+}
+
+/// The mask of those that prevent splitting besides.
+fn whole_windows(seen: &Seen) -> u64
+    ensures { result
+        ≡ mask_of (filter (λ v. not (is_spy v) && prevents_splitting v) seen.now.windows.now) }
+{
+    seen.windows
+        .windows()
+        .iter()
+        .filter(|window| is_whole(window))
+        .fold(0, |mask, window| mask_with(mask, window.channel))
+}
+
+/// Whether a window is no spy and in a mask.
+fn is_plain_in(mask: u64, window: &Window) -> bool
+    ensures { result ≡ (not (is_spy window.now) && mask_has mask window.now.channel) }
+{
+    !window.is_spy() && mask_has(mask, window.channel)
 }
 
 /// Whether it prevents splitting besides.
-fn is_whole_holder(seen: &Seen, device: DeviceId, window: &Window) -> bool
-    ensures { result ≡ (is_holder (scene_at seen.now) device window.now && prevents_splitting window.now) }
+fn is_whole_in(mask: u64, window: &Window) -> bool
+    ensures { result ≡ (not (is_spy window.now) && prevents_splitting window.now && mask_has mask window.now.channel) }
 {
-    is_holder(seen, device, window) && window.prevents_splitting()
+    is_whole(window) && mask_has(mask, window.channel)
 }
 
-/// Of the best so far and a window behind it, the one that began first.
-fn sooner(seen: &Seen, device: DeviceId, best: Option<u32>, channel: u32) -> Option<u32>
-    ensures { result ≡ sooner (scene_at seen.now) device best channel }
+/// The front one of the windows without SPY in a mask.
+fn front_plain<'a>(windows: &'a [Window], mask: u64) -> Option<&'a Window>
+    ensures { option_copied result ≡ find (λ v. not (is_spy v) && mask_has mask v.channel) windows.now }
 {
-    match best {
-        Some(first) => {
-            if is_earlier(seen.table, channel, first) {
-                Some(channel)
-            } else {
-                Some(first)
-            }
-        }
-        None => Some(channel),
+    windows.iter().find(|window| is_plain_in(mask, window))
+}
+
+/// The front one of those that prevent splitting besides.
+fn front_whole<'a>(windows: &'a [Window], mask: u64) -> Option<&'a Window>
+    ensures { option_copied result
+        ≡ find (λ v. not (is_spy v) && prevents_splitting v && mask_has mask v.channel) windows.now }
+{
+    windows.iter().find(|window| is_whole_in(mask, window))
+}
+
+/// The channel of a window.
+fn channel_of(window: Option<&Window>) -> Option<u32>
+    ensures { result ≡ option_map (λ v. v.channel) (option_copied window.entry) }
+{
+    match window {
+        Some(window) => Some(window.channel),
+        None => None,
     }
 }
 
@@ -66,12 +105,8 @@ fn sooner(seen: &Seen, device: DeviceId, best: Option<u32>, channel: u32) -> Opt
 fn earliest_holder(seen: &Seen, device: DeviceId) -> Option<u32>
     ensures { let s = scene_at seen.now in result ≡ earliest s device (which s (is_holder s device)) }
 {
-    seen.windows
-        .windows()
-        .iter()
-        .filter(|window| is_holder(seen, device, window))
-        .map(|window| window.channel)
-        .fold(None, |best, channel| sooner(seen, device, best, channel))
+    let earliest = seen.table.earliest(plain_windows(seen));
+    channel_of(front_plain(seen.windows.windows(), earliest))
 }
 
 /// The earliest holder that prevents splitting.
@@ -79,12 +114,8 @@ fn earliest_whole_holder(seen: &Seen, device: DeviceId) -> Option<u32>
     ensures { let s = scene_at seen.now in result
         ≡ earliest s device (which s (λ v. is_holder s device v && prevents_splitting v)) }
 {
-    seen.windows
-        .windows()
-        .iter()
-        .filter(|window| is_whole_holder(seen, device, window))
-        .map(|window| window.channel)
-        .fold(None, |best, channel| sooner(seen, device, best, channel))
+    let earliest = seen.table.earliest(whole_windows(seen));
+    channel_of(front_whole(seen.windows.windows(), earliest))
 }
 
 /// Whether the channel's window prevents splitting.

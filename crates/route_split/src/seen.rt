@@ -2,7 +2,6 @@
 ghost use Rattle.std.specs.Prelude.{◌≡◌, ◌&&◌, ℕ};
 ghost use Rattle.window_snapshot.specs.Mask.{is_channel, mask_has};
 ghost use Rattle.touch_state.specs.Touches.{any, holds, pilfering};
-ghost use Rattle.route_split.specs.Tables.{is_earlier};
 
 use input_types::PointerId;
 use touch_state::TouchState;
@@ -32,18 +31,6 @@ pub(crate) fn holds_pointer(table: &TouchState, channel: u32, id: PointerId) -> 
     ensures { result ≡ holds table.now channel id }
 {
     is_channel(channel) && table.held(channel).has(id.get())
-}
-
-/// Whether window `v` began before window `w`, of two that hold something.
-#[tactic(auto, using(crate::proofs::Earlier::any_channel))]
-pub(crate) fn is_earlier(table: &TouchState, v: u32, w: u32) -> bool
-    ensures { result ≡ is_earlier table.now v w }
-{
-    if holds_any(table, v) && holds_any(table, w) {
-        table.since(v) < table.since(w)
-    } else {
-        false
-    }
 }
 
 /// Whether a window is pilfering.
