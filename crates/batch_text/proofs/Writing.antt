@@ -7,7 +7,7 @@ use Rattle.motion_batch.specs.Data.{BatchData}
 use Rattle.motion_batch.specs.declared.item.Item.{Item}
 use Rattle.motion_batch.specs.declared.item.Item.TheVariants.{One, Batch}
 use Rattle.motion_batch.specs.declared.sample.Sample.{Sample}
-use Rattle.motion_batch.specs.Calls.{Call, StandsFor, added, flushed, framed, items}
+use Rattle.motion_batch.specs.Calls.{Call, RowsStandFor, added, flushed, framed, items}
 use Rattle.batch_text.specs.declared.batches.Batches.{Batches}
 use Rattle.batch_text.specs.Frames.{last_frame, latest, with_frame}
 use Rattle.batch_text.specs.Lines.{batch_line, count_line, first_seq, item_line, item_lines, items_text, last_seq, one_line}
@@ -40,7 +40,7 @@ more_lines text before given all new e = sym (append_assoc text given new) ∙ a
 
 -- a call was answered, and its items are still to be written
 pub more_given : (calls : List Call) (call : Call) (before text : List ℕ) (b : Batches) (rows : List (List Sample)) (moment shown : ℕ) (given : Vec Item Global)
-    → Writes calls before b text → StandsFor (call ∷ calls) rows → moment ≡ latest (call ∷ calls) → shown ≡ last_frame (call ∷ calls)
+    → Writes calls before b text → RowsStandFor (call ∷ calls) rows → moment ≡ latest (call ∷ calls) → shown ≡ last_frame (call ∷ calls)
     → given.items ≡ b.given.items ++ added call calls
     → Writes (call ∷ calls) before (record { batcher = rows; latest = moment; shown = shown; count = b.count; given = given }) text
 more_given calls call before text b rows moment shown given w stands latest_is shown_is more =
@@ -95,7 +95,7 @@ with_frame_below at calls e = rw e refl
 
 -- a flush was answered
 pub flush_given : {T E : Type 0} (r : Result T E) (calls : List Call) (before text : List ℕ) (b : Batches) (rows : List (List Sample)) (given : Vec Item Global)
-    → Writes calls before b text → OnOk r (StandsFor (flushed ∷ calls) rows) → OnOk r (given.items ≡ b.given.items ++ added flushed calls)
+    → Writes calls before b text → OnOk r (RowsStandFor (flushed ∷ calls) rows) → OnOk r (given.items ≡ b.given.items ++ added flushed calls)
     → OnOk r (Writes (flushed ∷ calls) before (record { batcher = rows; latest = b.latest; shown = b.shown; count = b.count; given = given }) text)
 flush_given (Ok x) calls before text b rows given w stands more = more_given calls flushed before text b rows b.latest b.shown given w stands w.latest_is w.shown_is more
 flush_given (Err e) calls before text b rows given w stands more = tt

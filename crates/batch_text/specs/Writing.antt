@@ -1,6 +1,6 @@
 -- What was written of the items of a section so far.
 use Rattle.std.specs.Prelude.{◌≡◌, ◌≤◌, ℕ, ◌+◌, List, [], ◌++◌, length}
-use Rattle.motion_batch.specs.Calls.{Call, StandsFor, items}
+use Rattle.motion_batch.specs.Calls.{Call, RowsStandFor, items}
 use Rattle.batch_text.specs.declared.batches.Batches.{Batches}
 use Rattle.batch_text.specs.Frames.{last_frame, latest}
 use Rattle.batch_text.specs.Lines.{item_lines}
@@ -8,7 +8,7 @@ use Rattle.batch_text.specs.Lines.{item_lines}
 -- After these calls, the text from `before` on has the items of them, but for those that were given out and are still to be written. Each
 -- item that was written is a line of it.
 pub record Writes (calls : List Call) (before : List ℕ) (b : Batches) (text : List ℕ) : Type 0 where
-  pub stands : StandsFor calls b.batcher
+  pub stands : RowsStandFor calls b.batcher
   pub latest_is : b.latest ≡ latest calls
   pub shown_is : b.shown ≡ last_frame calls
   pub items_are : text ++ item_lines b.given.items ≡ before ++ item_lines (items calls)

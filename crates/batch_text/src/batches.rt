@@ -1,5 +1,5 @@
 //! The items of one section, written as they are given out.
-ghost use Rattle.std.specs.Prelude.{◌≡◌, ◌≤◌, ◌<◌, ◌+◌, ◌^◌, ◌++◌, ℕ, List, [], ◌∷◌, length, max, IfOk, OnOk};
+ghost use Rattle.std.specs.Prelude.{◌≡◌, ◌≤◌, ◌<◌, ◌+◌, ◌^◌, ◌++◌, ℕ, List, [], ◌∷◌, length, IfOk, OnOk};
 ghost use Rattle.input_types.specs.declared.message.Message.{Message as Told};
 ghost use Rattle.motion_batch.specs.Calls.{Call, flushed, framed, items, taken};
 ghost use Rattle.batch_text.specs.Frames.{at_moment, frame_at, with_frame, with_message};
@@ -10,13 +10,6 @@ use crate::item::{add_count, add_items};
 use input_types::{Message, Moment};
 use motion_batch::{Batcher, Item};
 use std::alloc::{AllocError, Global};
-
-/// The later one of two moments.
-fn later(a: Moment, b: Moment) -> Moment
-    ensures { result ≡ max a b }
-{
-    if a.get() < b.get() { b } else { a }
-}
 
 /// The start of the frame that a moment is in.
 fn frame_at(frame: u64, moment: Moment) -> Moment
@@ -78,7 +71,7 @@ impl Batches {
         ensures { (calls : List Call) (before : List ℕ) → Written calls before self.old text.old.items
             → OnOk result (Written (with_message frame calls message.now) before self.new text.new.items) }
     {
-        let moment = later(message.moment, self.latest);
+        let moment = message.moment.later(self.latest);
         self.frame(frame_at(frame, moment))?;
         self.hand_over(&at_moment(moment, message))?;
         self.write(text)
@@ -122,7 +115,7 @@ impl Batches {
             → OnOk result (Writes (taken message.now ∷ calls) before self.new text) }
     {
         self.batcher.take(message, &mut self.given)?;
-        self.latest = later(message.moment, self.latest);
+        self.latest = message.moment.later(self.latest);
         Ok(())
     }
 

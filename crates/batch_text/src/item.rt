@@ -2,9 +2,9 @@
 ghost use Rattle.std.specs.Prelude.{◌≡◌, ◌++◌, ◌≤◌, ◌<◌, ◌+◌, length, IfOk};
 ghost use Rattle.batch_text.specs.Lines.{batch_line, channel_line, count_line, first_seq, item_line, item_lines, last_seq, one_line};
 
-use crate::line::{add_labeled, add_word};
 use motion_batch::{Batch, Item, Sample};
 use std::alloc::AllocError;
+use text_lines::{add_labeled, add_word};
 
 /// The number of the first sample.
 fn first_seq(samples: &[Sample]) -> u64
@@ -28,7 +28,7 @@ fn last_seq(samples: &[Sample]) -> u64
 }
 
 /// The first line of a section.
-#[tactic(auto, unfolding(crate::specs::Lines::channel_line))]
+#[tactic(auto, unfolding(crate::specs::Lines::channel_line, text_lines::specs::Written::labeled))]
 pub(crate) fn add_channel(text: &mut Vec<u8>, id: u32) -> Result<(), AllocError>
     ensures { IfOk result (λ _. text.new.items ≡ text.old.items ++ channel_line id) }
 {
@@ -37,7 +37,7 @@ pub(crate) fn add_channel(text: &mut Vec<u8>, id: u32) -> Result<(), AllocError>
 }
 
 /// The last line of a section.
-#[tactic(auto, unfolding(crate::specs::Lines::count_line))]
+#[tactic(auto, unfolding(crate::specs::Lines::count_line, text_lines::specs::Written::labeled))]
 pub(crate) fn add_count(text: &mut Vec<u8>, count: u64) -> Result<(), AllocError>
     ensures { IfOk result (λ _. text.new.items ≡ text.old.items ++ count_line count) }
 {
@@ -45,7 +45,7 @@ pub(crate) fn add_count(text: &mut Vec<u8>, count: u64) -> Result<(), AllocError
     add_word(text, "\n")
 }
 
-#[tactic(auto, unfolding(crate::specs::Lines::one_line))]
+#[tactic(auto, unfolding(crate::specs::Lines::one_line, text_lines::specs::Written::labeled))]
 fn add_one(text: &mut Vec<u8>, seq: u64) -> Result<(), AllocError>
     ensures { IfOk result (λ _. text.new.items ≡ text.old.items ++ one_line seq) }
 {

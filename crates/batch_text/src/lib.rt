@@ -32,7 +32,6 @@
 
 mod batches;
 mod item;
-mod line;
 mod section;
 mod text;
 

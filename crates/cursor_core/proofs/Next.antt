@@ -12,7 +12,7 @@ use Rattle.cursor_core.specs.declared.call.CursorCall.TheVariants.{Moved, Window
 use Rattle.cursor_core.specs.declared.message.HoverMsg.{HoverMsg}
 use Rattle.cursor_core.specs.declared.note.Step.{Step}
 use Rattle.cursor_core.specs.Calls.{Screen, clock, corner_of, cursor, cursor_after, has_moved, hovered, hovered_by, is_motion, live, live_after, moment_of, origin, origin_after, windows, windows_after}
-use Rattle.cursor_core.specs.Cursor.{StandsFor, corner_after, corner_in, settled}
+use Rattle.cursor_core.specs.Cursor.{CursorStandsFor, corner_after, corner_in, stepped}
 use Rattle.cursor_core.specs.Kept.{Kept}
 use Rattle.cursor_core.specs.Notes.{note_after, note_before, noted}
 use Rattle.cursor_core.specs.Rows.{rows_from, rows_with}
@@ -58,7 +58,7 @@ next_noted d call calls s left met a lefts mets w =
 
 -- A cursor stands for one more call after a step that does what the call says: `ws` are the windows after it.
 next : (d : Screen) (call : CursorCall) (calls : List CursorCall) (k : Kept) (s : Step) (left met : Pixel) (ws : List Window)
-    → StandsFor d calls k
+    → CursorStandsFor d calls k
     → s.moment ≡ max (moment_of call) k.clock
     → s.moved ≡ is_motion call
     → s.from ≡ k.at
@@ -69,7 +69,7 @@ next : (d : Screen) (call : CursorCall) (calls : List CursorCall) (k : Kept) (s 
     → s.after ≡ hovered_by (is_motion call || k.moved) ws (mask_has s.live) s.to
     → ((u : ℕ) → k.hovered ≡ Some u → left ≡ origin_after call u (corner_of k.windows u))
     → met ≡ corner_in ws s.after
-    → StandsFor d (call ∷ calls) (record (settled k s left met) { windows = ws })
+    → CursorStandsFor d (call ∷ calls) (record (stepped k s left met) { windows = ws })
 next d call calls k s left met ws h moment moved from to alive before are after lefts mets =
     let now_are : ws ≡ windows (call ∷ calls) = are ∙ ap (windows_after call) h.windows_are in
     let now_at : s.to ≡ cursor d (call ∷ calls) = to ∙ ap (cursor_after d call) h.at_is in
@@ -109,7 +109,7 @@ next d call calls k s left met ws h moment moved from to alive before are after 
 
 -- after a motion
 pub moved : (d : Screen) (calls : List CursorCall) (k new : Kept) (now : ℕ) (dx dy : ℤ) (s : Step) (left met : Pixel)
-    → StandsFor d calls k
+    → CursorStandsFor d calls k
     → s.moment ≡ max now k.clock
     → s.moved ≡ true
     → s.from ≡ k.at
@@ -120,15 +120,15 @@ pub moved : (d : Screen) (calls : List CursorCall) (k new : Kept) (now : ℕ) (d
     → s.after ≡ hovered_by true k.windows (mask_has s.live) s.to
     → left ≡ corner_in k.windows k.hovered
     → met ≡ corner_in k.windows s.after
-    → new ≡ settled k s left met
-    → StandsFor d (Moved now dx dy ∷ calls) new
+    → new ≡ stepped k s left met
+    → CursorStandsFor d (Moved now dx dy ∷ calls) new
 moved d calls k new now dx dy s left met h moment moved_is from x y alive before after left_is met_is new_is =
     let x_is : s.to.x ≡ int_max (pos 0) (int_min (k.at.x +ℤ dx) (pos (d.width - 1))) =
     x ∙ ap (λ (p : Pixel). int_max (pos 0) (int_min (k.at.x +ℤ dx) p.x)) h.last_is in
     let y_is : s.to.y ≡ int_max (pos 0) (int_min (k.at.y +ℤ dy) (pos (d.height - 1))) =
     y ∙ ap (λ (p : Pixel). int_max (pos 0) (int_min (k.at.y +ℤ dy) p.y)) h.last_is in
     let to_is : s.to ≡ cursor_after d (Moved now dx dy) k.at = same_pixel s.to _ _ x_is y_is in
-    subst (λ (kept : Kept). StandsFor d (Moved now dx dy ∷ calls) kept) (sym new_is)
+    subst (λ (kept : Kept). CursorStandsFor d (Moved now dx dy ∷ calls) kept) (sym new_is)
     (next d (Moved now dx dy) calls k s left met k.windows h moment moved_is from to_is (λ c. ap (λ m. mask_has m c) alive) before refl after
     (λ u e. left_is ∙ ap (corner_in k.windows) e) met_is)
   where
@@ -137,7 +137,7 @@ moved d calls k new now dx dy s left met h moment moved_is from x y alive before
 
 -- after a snapshot
 pub shown : (d : Screen) (calls : List CursorCall) (k new : Kept) (now : ℕ) (snapshot : List Window) (s : Step) (left met : Pixel)
-    → StandsFor d calls k
+    → CursorStandsFor d calls k
     → s.moment ≡ max now k.clock
     → s.moved ≡ false
     → s.from ≡ k.at
@@ -147,16 +147,16 @@ pub shown : (d : Screen) (calls : List CursorCall) (k new : Kept) (now : ℕ) (s
     → s.after ≡ hovered_by k.moved snapshot (mask_has s.live) s.to
     → left ≡ corner_after snapshot k.windows k.hovered
     → met ≡ corner_in snapshot s.after
-    → new ≡ record (settled k s left met) { windows = snapshot }
-    → StandsFor d (Windows now snapshot ∷ calls) new
+    → new ≡ record (stepped k s left met) { windows = snapshot }
+    → CursorStandsFor d (Windows now snapshot ∷ calls) new
 shown d calls k new now snapshot s left met h moment moved_is from to alive before after left_is met_is new_is =
-    subst (λ (kept : Kept). StandsFor d (Windows now snapshot ∷ calls) kept) (sym new_is)
+    subst (λ (kept : Kept). CursorStandsFor d (Windows now snapshot ∷ calls) kept) (sym new_is)
     (next d (Windows now snapshot) calls k s left met snapshot h moment moved_is from to (λ c. ap (λ m. mask_has m c) alive) before refl after
     (λ u e. left_is ∙ ap (corner_after snapshot k.windows) e) met_is)
 
 -- after a removal
 pub removed : (d : Screen) (calls : List CursorCall) (k new : Kept) (now channel : ℕ) (s : Step) (left met : Pixel)
-    → StandsFor d calls k
+    → CursorStandsFor d calls k
     → s.moment ≡ max now k.clock
     → s.moved ≡ false
     → s.from ≡ k.at
@@ -166,9 +166,9 @@ pub removed : (d : Screen) (calls : List CursorCall) (k new : Kept) (now channel
     → s.after ≡ hovered_by k.moved k.windows (mask_has s.live) s.to
     → left ≡ corner_in k.windows k.hovered
     → met ≡ corner_in k.windows s.after
-    → new ≡ settled k s left met
-    → StandsFor d (Remove now channel ∷ calls) new
+    → new ≡ stepped k s left met
+    → CursorStandsFor d (Remove now channel ∷ calls) new
 removed d calls k new now channel s left met h moment moved_is from to alive before after left_is met_is new_is =
-    subst (λ (kept : Kept). StandsFor d (Remove now channel ∷ calls) kept) (sym new_is)
+    subst (λ (kept : Kept). CursorStandsFor d (Remove now channel ∷ calls) kept) (sym new_is)
     (next d (Remove now channel) calls k s left met k.windows h moment moved_is from to alive before refl after
     (λ u e. left_is ∙ ap (corner_in k.windows) e) met_is)

@@ -14,7 +14,7 @@ use Rattle.cursor_core.specs.Rows.{rows_from, rows_with}
 use Rattle.cursor_core.specs.Told.{stream}
 
 -- a cursor stands for these calls: it knows what they say, and each channel was told what they tell it
-pub record StandsFor (d : Screen) (calls : List CursorCall) (k : Kept) : Type 0 where
+pub record CursorStandsFor (d : Screen) (calls : List CursorCall) (k : Kept) : Type 0 where
   pub last_is : k.last ≡ record { x = pos (d.width - 1); y = pos (d.height - 1) }
   pub at_is : k.at ≡ cursor d calls
   pub clock_is : k.clock ≡ clock calls
@@ -35,8 +35,8 @@ corner_after later earlier None = corner
 corner_after later earlier (Some w) = or_origin (origin_of later w) (corner_of earlier w)
 
 -- a cursor after a step, where the windows hovered before it and after it have these corners
-abbrev pub settled : Kept → Step → Pixel → Pixel → Kept
-settled k s left met =
+abbrev pub stepped : Kept → Step → Pixel → Pixel → Kept
+stepped k s left met =
     record {
       last = k.last;
       at = s.to;

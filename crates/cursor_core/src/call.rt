@@ -1,5 +1,5 @@
 //! What happens to a cursor.
-ghost use Rattle.std.specs.Prelude.{◌≡◌, max};
+ghost use Rattle.std.specs.Prelude.{◌≡◌};
 ghost use Rattle.cursor_core.specs.Calls.{moment_of};
 
 use input_types::Moment;
@@ -27,11 +27,4 @@ impl CursorCall {
             | CursorCall::Remove { now, .. } => *now,
         }
     }
-}
-
-/// The later one of two moments.
-pub(crate) fn later(a: Moment, b: Moment) -> Moment
-    ensures { result ≡ max a b }
-{
-    if a.get() < b.get() { b } else { a }
 }

@@ -9,17 +9,17 @@ ghost use Rattle.window_snapshot.specs.Mask.{mask_has};
 ghost use Rattle.cursor_core.specs.declared.call.CursorCall.{CursorCall as Call};
 ghost use Rattle.cursor_core.specs.declared.call.CursorCall.TheVariants.{Moved, Remove, Windows};
 ghost use Rattle.cursor_core.specs.Calls.{Screen, corner_of, cursor, hovered_by};
-ghost use Rattle.cursor_core.specs.Cursor.{StandsFor, corner_after, corner_in, settled};
+ghost use Rattle.cursor_core.specs.Cursor.{CursorStandsFor, corner_after, corner_in, stepped};
 ghost use Rattle.cursor_core.specs.Told.{stream_of, IsInTurns};
 
-use crate::call::{CursorCall, later};
+use crate::call::CursorCall;
 use crate::message::HoverMsg;
 use crate::note::{Step, note_after, note_before, tell_both};
 use crate::stream::{Stream, row_of, streams};
 use input_types::{DisplayId, Moment, Pixel};
 use std::alloc::{AllocError, Global};
 use std::marker::Model;
-use window_snapshot::{Snapshot, mask_with};
+use window_snapshot::{Snapshot, mask_without};
 
 /// The corner of the display.
 const CORNER: Pixel = Pixel { x: 0, y: 0 };
@@ -64,7 +64,8 @@ impl Cursor {
         requires width { (1 ≤ width) × (width ≤ 16384) }
         requires height { (1 ≤ height) × (height ≤ 16384) }
         requires channels { channels ≤ 64 }
-        ensures { IfOk result (λ c. StandsFor (record { width = width; height = height; channels = channels }) [] c) }
+        ensures { IfOk result
+            (λ c. CursorStandsFor (record { width = width; height = height; channels = channels }) [] c) }
     {
         let streams = streams(alloc, channels)?;
         let last = pixel(width - 1, height - 1);
@@ -83,9 +84,9 @@ impl Cursor {
 
     /// Takes a call. After want of memory all is as before.
     pub fn apply(&mut self, call: CursorCall) -> Result<(), AllocError>
-        ensures stands { (d : Screen) (calls : List Call) → StandsFor d calls self.old
-            → OnOk result (StandsFor d (call ∷ calls) self.new) }
-        ensures turns { (d : Screen) (calls : List Call) → StandsFor d calls self.old
+        ensures stands { (d : Screen) (calls : List Call) → CursorStandsFor d calls self.old
+            → OnOk result (CursorStandsFor d (call ∷ calls) self.new) }
+        ensures turns { (d : Screen) (calls : List Call) → CursorStandsFor d calls self.old
             → OnOk result (IsInTurns d (call ∷ calls)) }
         ensures err { OnErr result (self.new ≡ self.old) }
     {
@@ -98,7 +99,7 @@ impl Cursor {
 
     /// All that a channel was told, the oldest first; `None` exactly where it is not one of the first channels.
     pub fn stream(&self, channel: u32) -> Option<&[HoverMsg]>
-        ensures { (d : Screen) (calls : List Call) → StandsFor d calls self.now
+        ensures { (d : Screen) (calls : List Call) → CursorStandsFor d calls self.now
             → option_map (λ s. s.now) result ≡ stream_of d calls channel }
     {
         row_of(&self.streams, channel)
@@ -106,20 +107,20 @@ impl Cursor {
 
     /// Where the cursor is, in pixels of the display.
     pub fn cursor(&self) -> Pixel
-        ensures { (d : Screen) (calls : List Call) → StandsFor d calls self.now → result ≡ cursor d calls }
+        ensures { (d : Screen) (calls : List Call) → CursorStandsFor d calls self.now → result ≡ cursor d calls }
     {
         self.at
     }
 
     /// The mouse moves.
     fn move_by(&mut self, now: Moment, dx: i64, dy: i64) -> Result<(), AllocError>
-        ensures stands { (d : Screen) (calls : List Call) → StandsFor d calls self.old
-            → OnOk result (StandsFor d (Moved now dx dy ∷ calls) self.new) }
+        ensures stands { (d : Screen) (calls : List Call) → CursorStandsFor d calls self.old
+            → OnOk result (CursorStandsFor d (Moved now dx dy ∷ calls) self.new) }
         ensures err { OnErr result (self.new ≡ self.old) }
     {
         let to = moved_by(&self.last, &self.at, dx, dy);
         let step = Step {
-            moment: later(now, self.clock),
+            moment: now.later(self.clock),
             moved: true,
             from: self.at,
             to,
@@ -129,17 +130,17 @@ impl Cursor {
         };
         let left = corner_in(&self.windows, step.before);
         let met = corner_in(&self.windows, step.after);
-        self.settle(&step, left, met)
+        self.apply_step(&step, left, met)
     }
 
     /// Other windows are shown.
     fn show(&mut self, now: Moment, snapshot: Snapshot) -> Result<(), AllocError>
-        ensures stands { (d : Screen) (calls : List Call) → StandsFor d calls self.old
-            → OnOk result (StandsFor d (Windows now snapshot ∷ calls) self.new) }
+        ensures stands { (d : Screen) (calls : List Call) → CursorStandsFor d calls self.old
+            → OnOk result (CursorStandsFor d (Windows now snapshot ∷ calls) self.new) }
         ensures err { OnErr result (self.new ≡ self.old) }
     {
         let step = Step {
-            moment: later(now, self.clock),
+            moment: now.later(self.clock),
             moved: false,
             from: self.at,
             to: self.at,
@@ -149,20 +150,20 @@ impl Cursor {
         };
         let left = corner_after(&snapshot, &self.windows, step.before);
         let met = corner_in(&snapshot, step.after);
-        self.settle(&step, left, met)?;
+        self.apply_step(&step, left, met)?;
         self.windows = snapshot;
         Ok(())
     }
 
     /// A channel is closed.
     fn remove(&mut self, now: Moment, channel: u32) -> Result<(), AllocError>
-        ensures stands { (d : Screen) (calls : List Call) → StandsFor d calls self.old
-            → OnOk result (StandsFor d (Remove now channel ∷ calls) self.new) }
+        ensures stands { (d : Screen) (calls : List Call) → CursorStandsFor d calls self.old
+            → OnOk result (CursorStandsFor d (Remove now channel ∷ calls) self.new) }
         ensures err { OnErr result (self.new ≡ self.old) }
     {
-        let live = without(self.live, channel);
+        let live = mask_without(self.live, channel);
         let step = Step {
-            moment: later(now, self.clock),
+            moment: now.later(self.clock),
             moved: false,
             from: self.at,
             to: self.at,
@@ -172,13 +173,13 @@ impl Cursor {
         };
         let left = corner_in(&self.windows, step.before);
         let met = corner_in(&self.windows, step.after);
-        self.settle(&step, left, met)
+        self.apply_step(&step, left, met)
     }
 
     /// Tells the windows what a step does, and keeps what is after it. `left` and `met` are the corners of the windows
     /// hovered before it and after it.
-    fn settle(&mut self, step: &Step, left: Pixel, met: Pixel) -> Result<(), AllocError>
-        ensures ok { OnOk result (self.new ≡ settled self.old step.now left met) }
+    fn apply_step(&mut self, step: &Step, left: Pixel, met: Pixel) -> Result<(), AllocError>
+        ensures ok { OnOk result (self.new ≡ stepped self.old step.now left met) }
         ensures err { OnErr result (self.new ≡ self.old) }
     {
         let first = note_before(step, left);
@@ -284,11 +285,4 @@ fn first_channels(channels: u32) -> u64
     ensures { result ≡ 2 ^ channels - 1 }
 {
     ((1u128 << channels) - 1) as u64
-}
-
-/// The mask without a channel.
-fn without(live: u64, channel: u32) -> u64
-    ensures { (c : ℕ) → mask_has result c ≡ (not (c == channel) && mask_has live c) }
-{
-    live & !mask_with(0, channel)
 }

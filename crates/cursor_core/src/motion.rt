@@ -6,7 +6,7 @@ ghost use Rattle.cursor_core.specs.Packets.{is_rel, motion_of, summed};
 ghost use Rattle.raw_events.specs.Packets.{is_drop, is_report};
 ghost use Rattle.cursor_core.specs.Reading.{ReaderStandsFor, begun, grown};
 
-use crate::call::{CursorCall, later};
+use crate::call::CursorCall;
 use input_types::Moment;
 use raw_events::RawEvent;
 use raw_events::codes::{EV_SYN, SYN_DROPPED, SYN_REPORT};
@@ -57,7 +57,7 @@ impl MotionReader {
             return None;
         }
         if is_report(event) {
-            let latest = later(event.moment, self.latest);
+            let latest = event.moment.later(self.latest);
             let motion = self.motion(latest);
             *self = MotionReader::begun(false, latest);
             return motion;

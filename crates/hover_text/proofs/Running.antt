@@ -13,7 +13,7 @@ use Rattle.session_plan.specs.declared.plan.Step.{Step}
 use Rattle.cursor_core.specs.declared.call.CursorCall.{CursorCall}
 use Rattle.cursor_core.specs.declared.call.CursorCall.TheVariants.{Moved}
 use Rattle.cursor_core.specs.Calls.{Screen, moment_of}
-use Rattle.cursor_core.specs.Cursor.{StandsFor}
+use Rattle.cursor_core.specs.Cursor.{CursorStandsFor}
 use Rattle.cursor_core.specs.Kept.{Kept}
 use Rattle.cursor_core.specs.Packets.{has_motion, is_end, latest, motion_by, motion_of, packet, sum_of}
 use Rattle.session_plan.specs.declared.plan.Display.{Display}
@@ -126,7 +126,7 @@ newest m (c ∷ cs) h = rw (le-leb (moment_of c) (moment_of m) h) refl
 
 -- the cursor took a motion behind the steps up to its moment
 pub motion_made : (d : Screen) (steps : List Step) (all : List CursorCall) (m : CursorCall) (h : HoverState) (k : Kept) → (made : HasMade d steps all (moment_of m) h)
-    → due_of (moment_of m) (slice_get steps h.next) ≡ None → IsNonDecreasingBy (λ (s : Step). s.at) steps → StandsFor d (m ∷ made.made) k
+    → due_of (moment_of m) (slice_get steps h.next) ≡ None → IsNonDecreasingBy (λ (s : Step). s.at) steps → CursorStandsFor d (m ∷ made.made) k
     → HasMade d steps (placed m all) (moment_of m) (record { cursor = k; reader = h.reader; next = h.next })
 motion_made d steps all m h k made none up stands = record {
   made = m ∷ made.made;

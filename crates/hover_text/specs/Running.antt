@@ -5,7 +5,7 @@ use Rattle.session_plan.specs.declared.plan.Step.{Step}
 use Rattle.session_plan.specs.Plan.{PlanData}
 use Rattle.cursor_core.specs.declared.call.CursorCall.{CursorCall}
 use Rattle.cursor_core.specs.Calls.{Screen, moment_of}
-use Rattle.cursor_core.specs.Cursor.{StandsFor}
+use Rattle.cursor_core.specs.Cursor.{CursorStandsFor}
 use Rattle.cursor_core.specs.Packets.{latest}
 use Rattle.cursor_core.specs.Reading.{ReaderStandsFor}
 use Rattle.hover_text.specs.Schedule.{calls_of, step_calls}
@@ -20,7 +20,7 @@ is_by t (c ∷ cs) = moment_of c ≤ t
 -- The cursor has taken calls up to a moment, and these with the calls of the steps that are left are all.
 pub record HasMade (d : Screen) (steps : List Step) (all : List CursorCall) (t : ℕ) (h : HoverState) : Type 0 where
   pub made : List CursorCall
-  pub stands : StandsFor d made h.cursor
+  pub stands : CursorStandsFor d made h.cursor
   pub all_are : step_calls (drop h.next steps) ++ made ≡ all
   pub by : is_by t made
 

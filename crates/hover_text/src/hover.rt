@@ -6,7 +6,7 @@ ghost use Rattle.session_plan.specs.View.{plan_view};
 ghost use Rattle.hover_text.specs.Running.{RunStandsFor, Stopped};
 ghost use Rattle.hover_text.specs.Screen.{screen_of};
 ghost use Rattle.hover_text.specs.Text.{hovered_text};
-ghost use Rattle.cursor_core.specs.Cursor.{StandsFor};
+ghost use Rattle.cursor_core.specs.Cursor.{CursorStandsFor};
 
 use crate::screen::{height_of, width_of};
 use crate::text::add_sections;
@@ -39,7 +39,7 @@ impl Model for Hover {
 /// A cursor in the middle of display 0, with the channels of the session.
 fn first_cursor(alloc: Global, plan: &Plan) -> Result<Cursor, AllocError>
     requires { IsPlan plan.now }
-    ensures { IfOk result (StandsFor (screen_of (plan_view plan.now)) []) }
+    ensures { IfOk result (CursorStandsFor (screen_of (plan_view plan.now)) []) }
 {
     let display = &plan.displays[0];
     Cursor::new(
@@ -98,7 +98,7 @@ impl Hover {
         ensures { (past : List Event) → RunStandsFor (plan_view plan.now) past self
             → IfOk result (λ text. text.items ≡ hovered_text (plan_view plan.now) past) }
     {
-        self.rest(&plan.steps)?;
+        self.make_rest(&plan.steps)?;
         let mut text = Vec::new(alloc);
         add_sections(&mut text, &plan.channels, &self.cursor)?;
         Ok(text)

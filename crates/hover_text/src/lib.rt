@@ -21,7 +21,6 @@
 #![tactic(auto)]
 
 mod hover;
-mod line;
 mod screen;
 mod steps;
 mod text;

@@ -3,7 +3,7 @@ ghost use Rattle.std.specs.Prelude.{◌≡◌, ◌≤◌, ◌<◌, ◌+◌, ◌-
 ghost use Rattle.std.specs.List.Sorted.{IsNonDecreasingBy};
 ghost use Rattle.cursor_core.specs.declared.call.CursorCall.{CursorCall as Call};
 ghost use Rattle.cursor_core.specs.Calls.{Screen, moment_of};
-ghost use Rattle.cursor_core.specs.Cursor.{StandsFor};
+ghost use Rattle.cursor_core.specs.Cursor.{CursorStandsFor};
 ghost use Rattle.hover_text.specs.Running.{HasMade, due_of};
 ghost use Rattle.hover_text.specs.Schedule.{act_calls, placed};
 
@@ -15,8 +15,8 @@ use std::alloc::AllocError;
 
 /// Does what an act at a moment says, where it is of windows or removes a channel.
 fn act_on(cursor: &mut Cursor, now: Moment, act: &Act) -> Result<(), AllocError>
-    ensures ok { (d : Screen) (calls : List Call) → StandsFor d calls cursor.old
-        → OnOk result (StandsFor d (act_calls now act.now ++ calls) cursor.new) }
+    ensures ok { (d : Screen) (calls : List Call) → CursorStandsFor d calls cursor.old
+        → OnOk result (CursorStandsFor d (act_calls now act.now ++ calls) cursor.new) }
     ensures err { OnErr result (cursor.new ≡ cursor.old) }
 {
     match act {
@@ -36,8 +36,8 @@ impl Hover {
     /// Makes the next step.
     fn make(&mut self, step: &Step) -> Result<(), AllocError>
         requires { self.old.next < 2 ^ 64 - 1 }
-        ensures cursor { (d : Screen) (calls : List Call) → StandsFor d calls self.old.cursor
-            → OnOk result (StandsFor d (act_calls step.now.at step.now.act ++ calls) self.new.cursor) }
+        ensures cursor { (d : Screen) (calls : List Call) → CursorStandsFor d calls self.old.cursor
+            → OnOk result (CursorStandsFor d (act_calls step.now.at step.now.act ++ calls) self.new.cursor) }
         ensures next { OnOk result (self.new.next ≡ self.old.next + 1) }
         ensures reader { self.new.reader ≡ self.old.reader }
         ensures err { OnErr result (self.new ≡ self.old) }
@@ -95,9 +95,9 @@ impl Hover {
     }
 
     /// Makes the steps that are left.
-    pub(crate) fn rest(&mut self, steps: &[Step]) -> Result<(), AllocError>
+    pub(crate) fn make_rest(&mut self, steps: &[Step]) -> Result<(), AllocError>
         ensures { (d : Screen) (all : List Call) (t : ℕ) → HasMade d steps.now all t self.old
-            → OnOk result (StandsFor d all self.new.cursor) }
+            → OnOk result (CursorStandsFor d all self.new.cursor) }
     {
         'steps: while let Some(step) = self.next_of(steps) {
             self.make(step)?;

@@ -2,18 +2,18 @@
 ghost use Rattle.std.specs.Prelude.{◌≡◌, ◌++◌, ◌≤◌, ◌<◌, ℕ, List, [], length, map, IfOk, string_bytes};
 ghost use Rattle.cursor_core.specs.declared.call.CursorCall.{CursorCall as Call};
 ghost use Rattle.cursor_core.specs.Calls.{Screen};
-ghost use Rattle.cursor_core.specs.Cursor.{StandsFor};
+ghost use Rattle.cursor_core.specs.Cursor.{CursorStandsFor};
 ghost use Rattle.cursor_core.specs.Told.{stream};
 ghost use Rattle.session_plan.specs.View.{channel_view};
 ghost use Rattle.hover_text.specs.Lines.{action_word, end_line, message_line, message_lines, place_text, section_text};
 ghost use Rattle.hover_text.specs.Text.{sections_from};
 
-use crate::line::{add_number, add_signed, add_word};
 use cursor_core::{Cursor, HoverAction, HoverMsg};
 use input_types::Pixel;
 use session_plan::ChannelPlan;
 use std::alloc::AllocError;
 use stream_text::channel_line_text;
+use text_lines::{add_number, add_signed, add_word};
 
 /// The word of an action, with a blank on each side.
 fn add_action(text: &mut Vec<u8>, action: HoverAction) -> Result<(), AllocError>
@@ -85,7 +85,7 @@ fn add_section(
 
 /// What a channel of the session was told.
 fn told(cursor: &Cursor, channel: u32) -> &[HoverMsg]
-    ensures { (d : Screen) (calls : List Call) → StandsFor d calls cursor.now → 1 ≤ channel → channel ≤ d.channels
+    ensures { (d : Screen) (calls : List Call) → CursorStandsFor d calls cursor.now → 1 ≤ channel → channel ≤ d.channels
         → result.now ≡ stream d calls channel }
 {
     match cursor.stream(channel) {
@@ -101,7 +101,7 @@ pub(crate) fn add_sections(
     cursor: &Cursor,
 ) -> Result<(), AllocError>
     requires { length channels.now ≤ 64 }
-    ensures { (d : Screen) (calls : List Call) → StandsFor d calls cursor.now → d.channels ≡ length channels.now
+    ensures { (d : Screen) (calls : List Call) → CursorStandsFor d calls cursor.now → d.channels ≡ length channels.now
         → IfOk result
         (λ _. text.new.items ≡ text.old.items ++ sections_from 1 (map channel_view channels.now) (stream d calls)) }
 {

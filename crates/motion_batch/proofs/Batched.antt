@@ -10,7 +10,7 @@ use Rattle.motion_batch.specs.declared.item.Item.TheVariants.{One}
 use Rattle.motion_batch.specs.declared.sample.Sample.{Sample}
 use Rattle.motion_batch.specs.Batched.{IsBatched, IsFlushed, IsLatest, IsRising, with_waiting}
 use Rattle.motion_batch.specs.Calls.{AreOfDevices, Call, due_of_rows, flushed, framed, items, pending, rows_of, taken}
-use Rattle.motion_batch.specs.Pairs.{Mark, mark, marks, part}
+use Rattle.motion_batch.specs.Pairs.{Mark, unparted, marks, part}
 use Rattle.motion_batch.specs.Rule.{added_by, batch_of, class_of, due_of, extends, is_full, is_move, kept_after, left_by, sample_of}
 use Rattle.motion_batch.specs.Unbatch.{item_class, items_of, messages, messages_of, move_of, of_class, unbatch}
 use Rattle.motion_batch.proofs.Classes.{items_added, items_due, unbatch_of_class}
@@ -48,26 +48,26 @@ given_one before m = sym (ap reverse (map-append messages_of before (One m ∷ [
 
 taken_group : (k : ℕ) (Latest : ℕ → Type 0) (before : List Item) (ss : List Sample) (ms : List Mark) (m : Message) (e move full : Bool) → class_of m.body ≡ k → Latest m.moment → extends ss m.body ≡ e
     → is_move m.body ≡ move → is_full (ss ++ sample_of m ∷ []) ≡ full → Grouping k Latest ss ms (reverse (map messages_of before))
-    → Grouping k (More m Latest) (kept_after ss m) (mark m ∷ ms) (reverse (map messages_of (before ++ added_by ss m)))
+    → Grouping k (More m Latest) (kept_after ss m) (unparted m ∷ ms) (reverse (map messages_of (before ++ added_by ss m)))
 taken_group k Latest before ss ms m true move true class latest on is full g =
     let more : List Sample = ss ++ sample_of m ∷ [] in
-    regrouped k (More m Latest) [] _ (mark m ∷ ms) _ (with_waiting k more (reverse (map messages_of before))) _
+    regrouped k (More m Latest) [] _ (unparted m ∷ ms) _ (with_waiting k more (reverse (map messages_of before))) _
     (rw (on, full) refl) refl
     (given_more k before more ∙ ap (λ n. reverse (map messages_of (before ++ batch_of n more))) (sym class) ∙ sym (ap (λ is. reverse (map messages_of (before ++ is))) (rw (on, full) refl)))
     (take_full k Latest ss ms _ m class on full g)
 taken_group k Latest before ss ms m true move false class latest on is full g =
-    regrouped k (More m Latest) (ss ++ sample_of m ∷ []) _ (mark m ∷ ms) _ (reverse (map messages_of before)) _
+    regrouped k (More m Latest) (ss ++ sample_of m ∷ []) _ (unparted m ∷ ms) _ (reverse (map messages_of before)) _
     (rw (on, full) refl) refl
     (ap (λ is. reverse (map messages_of is)) (sym (append-nil before)) ∙ sym (ap (λ is. reverse (map messages_of (before ++ is))) (rw (on, full) refl)))
     (take_on k Latest ss ms _ m class on latest full g)
 taken_group k Latest before ss ms m false true full class latest on is f g =
-    regrouped k (More m Latest) (sample_of m ∷ []) _ (mark m ∷ ms) _ (with_waiting k ss (reverse (map messages_of before))) _
+    regrouped k (More m Latest) (sample_of m ∷ []) _ (unparted m ∷ ms) _ (with_waiting k ss (reverse (map messages_of before))) _
     (rw (on, is) refl) refl
     (given_more k before ss ∙ ap (λ n. reverse (map messages_of (before ++ batch_of n ss))) (sym class)
     ∙ ap (λ is. reverse (map messages_of (before ++ is))) (sym (append-nil (batch_of (class_of m.body) ss))) ∙ sym (ap (λ is. reverse (map messages_of (before ++ is))) (rw (on, is) refl)))
     (take_begun k Latest ss ms _ m class on is g)
 taken_group k Latest before ss ms m false false full class latest on is f g =
-    regrouped k (More m Latest) [] _ (mark m ∷ ms) _ ((m ∷ []) ∷ with_waiting k ss (reverse (map messages_of before))) _
+    regrouped k (More m Latest) [] _ (unparted m ∷ ms) _ ((m ∷ []) ∷ with_waiting k ss (reverse (map messages_of before))) _
     (rw (on, is) refl) refl
     (ap (λ xs. (m ∷ []) ∷ xs) (given_more k before ss) ∙ given_one (before ++ batch_of k ss) m
     ∙ ap (λ xs. reverse (map messages_of xs)) (append_assoc before (batch_of k ss) (One m ∷ [])) ∙ ap (λ n. reverse (map messages_of (before ++ (batch_of n ss ++ One m ∷ [])))) (sym class)
@@ -86,7 +86,7 @@ step_taken k calls m true e latest g =
     let given : items_of k (items (taken m ∷ calls)) ≡ items_of k (items calls) ++ added_by (pending k calls) m
     = items_more k (items calls) _ ∙ ap (λ is. items_of k (items calls) ++ is)
     (items_added k (pending (class_of m.body) calls) m ∙ ap (λ b. if b then added_by (pending (class_of m.body) calls) m else []) e ∙ ap (λ n. added_by (pending n calls) m) class) in
-    regrouped k _ (kept_after (pending k calls) m) _ (mark m ∷ marks k calls) _ _ _
+    regrouped k _ (kept_after (pending k calls) m) _ (unparted m ∷ marks k calls) _ _ _
     (rw e refl) (rw e refl) (ap (λ is. reverse (map messages_of is)) (sym given))
     (taken_group k (λ t. IsLatest t calls) (items_of k (items calls)) (pending k calls) (marks k calls) m (extends (pending k calls) m.body) (is_move m.body) (is_full (pending k calls ++ sample_of m ∷ [])) class latest refl refl refl g)
 step_taken k calls m false e latest g =

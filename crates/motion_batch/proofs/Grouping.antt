@@ -5,14 +5,14 @@ use Rattle.std.proofs.lemmas.List.{length-map, length-reverse, map-append, rever
 use Rattle.input_types.specs.declared.message.Message.{Message}
 use Rattle.motion_batch.specs.declared.sample.Sample.{Sample}
 use Rattle.motion_batch.specs.Batched.{with_waiting}
-use Rattle.motion_batch.specs.Pairs.{Mark, mark, grouped, groups_of, joins, part, parts}
+use Rattle.motion_batch.specs.Pairs.{Mark, unparted, grouped, groups_of, joins, part, parts}
 use Rattle.motion_batch.specs.Rule.{has_same_ids, is_due, reaches}
 use Rattle.motion_batch.specs.Unbatch.{move_of}
 
 -- samples, the newest first, as messages of a device
 abbrev pub marked : ℕ → List Sample → List Mark → List Mark
 marked k [] rest = rest
-marked k (q ∷ qs) rest = mark (move_of k q) ∷ marked k qs rest
+marked k (q ∷ qs) rest = unparted (move_of k q) ∷ marked k qs rest
 
 -- each lists the same ids as the one before it, which comes after it here
 abbrev pub Chained : List Sample → Type 0
@@ -67,10 +67,10 @@ one_group k q (r ∷ qs) rest b chained few shut =
     let size : length (map (move_of k) (reverse (r ∷ qs))) ≡ suc (length qs) = length-map (reverse (r ∷ qs)) (move_of k) ∙ length-reverse (r ∷ qs) in
     let many : ℕ = suc (length qs) in
     let not_full : (many == 256) ≡ false = let low : many ≤ 255 = few in grind (arith, nat_tests) in
-    let goes_on : joins (mark (move_of k r)) (move_of k q) (length (map (move_of k) (reverse (r ∷ qs)))) ≡ true
+    let goes_on : joins (unparted (move_of k r)) (move_of k q) (length (map (move_of k) (reverse (r ∷ qs)))) ≡ true
     = ap (λ b. b && (not (length (map (move_of k) (reverse (r ∷ qs))) == 256) && true)) chained.0 ∙ ap (λ n. not (n == 256) && true) size ∙ ap (λ b. not b && true) not_full in
     ap (grouped (marked k (r ∷ qs) rest) (move_of k q)) older
-    ∙ joined (mark (move_of k r)) (marked k qs rest) (move_of k q) (map (move_of k) (reverse (r ∷ qs))) (groups_of rest) goes_on
+    ∙ joined (unparted (move_of k r)) (marked k qs rest) (move_of k q) (map (move_of k) (reverse (r ∷ qs))) (groups_of rest) goes_on
     ∙ ap (λ g. g ∷ groups_of rest) (sym (ap (map (move_of k)) (reverse_with q (r ∷ qs)) ∙ map-append (move_of k) (reverse (r ∷ qs)) (q ∷ [])))
 
 pub waiting_some : (k : ℕ) (xs : List Sample) (q : Sample) (gs : List (List Message)) → with_waiting k (xs ++ q ∷ []) gs ≡ map (move_of k) (xs ++ q ∷ []) ∷ gs
@@ -112,7 +112,7 @@ part_older k at q [] rest due falls = refl
 part_older k at q (r ∷ qs) rest due falls =
     let stays : (reaches at r.moment && not (reaches at q.moment)) ≡ false = ap (λ b. reaches at r.moment && not b) due ∙ and_false (reaches at r.moment) in
     ap (λ b. record { message = move_of k r; parted = b } ∷ part at (Some (move_of k r)) (length qs) (marked k qs rest)) stays
-    ∙ ap (λ xs. mark (move_of k r) ∷ xs) (part_older k at r qs rest (reaches_less at r.moment q.moment falls.0.0 due) falls.1)
+    ∙ ap (λ xs. unparted (move_of k r) ∷ xs) (part_older k at r qs rest (reaches_less at r.moment q.moment falls.0.0 due) falls.1)
 
 -- a frame ends in front of this message, or it was not taken yet
 abbrev Ends : Option ℕ → Option Message → Type 0
@@ -138,5 +138,5 @@ part_waiting k at next (q ∷ qs) rest ends falls =
           ∙ ap (λ xs. record { message = move_of k q; parted = true } ∷ xs) (part_older k at q qs rest due falls)
       | false ↦ λ due.
           ap (λ b. record { message = move_of k q; parted = b } ∷ part at (Some (move_of k q)) (length qs) (marked k qs rest)) (parts_not at (move_of k q) next due)
-          ∙ ap (λ xs. mark (move_of k q) ∷ xs) (part_waiting k at (Some (move_of k q)) qs rest due falls.1)
+          ∙ ap (λ xs. unparted (move_of k q) ∷ xs) (part_waiting k at (Some (move_of k q)) qs rest due falls.1)
     ] refl

@@ -7,7 +7,7 @@ use Rattle.input_types.specs.declared.message.Body.TheVariants.{Motion as Motion
 use Rattle.input_types.specs.declared.message.Message.{Message}
 use Rattle.input_types.specs.declared.motion.Motion.{Motion}
 use Rattle.motion_batch.specs.declared.sample.Sample.{Sample}
-use Rattle.motion_batch.specs.Calls.{AreOfDevices, Call, IsOfDevice, StandsFor, devices, flushed, framed, pending, rows_of, taken}
+use Rattle.motion_batch.specs.Calls.{AreOfDevices, Call, IsOfDevice, RowsStandFor, devices, flushed, framed, pending, rows_of, taken}
 use Rattle.motion_batch.specs.Rule.{class_of, kept_after}
 
 -- the place of a device among eight takes a value, and the others stay
@@ -37,13 +37,13 @@ row_at (suc (suc (suc (suc (suc (suc (suc (suc zero)))))))) f x low high = refl
 row_at (suc (suc (suc (suc (suc (suc (suc (suc (suc n))))))))) f x low high = absurd (omega (arith, high))
 
 -- what waits of a device stands in its row
-pub row_is : (calls : List Call) (rows : List (List Sample)) (d : ℕ) (row : List Sample) → 1 ≤ d → d ≤ 8 → StandsFor calls rows → row ≡ get_or rows (d - 1) row → row ≡ pending d calls
+pub row_is : (calls : List Call) (rows : List (List Sample)) (d : ℕ) (row : List Sample) → 1 ≤ d → d ≤ 8 → RowsStandFor calls rows → row ≡ get_or rows (d - 1) row → row ≡ pending d calls
 row_is calls rows d row low high stands is =
     is ∙ ap (λ (xs : List (List Sample)). get_or xs (d - 1) row) stands.rows_are ∙ row_at d (λ e. pending e calls) row low high
 
 -- the rows after a motion of a device
 pub row_taken : (calls : List Call) (rows : List (List Sample)) (m : Message) (mo : Motion) (d : ℕ) (row new : List Sample) → m.body ≡ MotionBody mo → d ≡ mo.device → 1 ≤ d → d ≤ 8
-    → StandsFor calls rows → row ≡ get_or rows (d - 1) row → new ≡ kept_after row m → StandsFor (taken m ∷ calls) (slice_set rows (d - 1) new)
+    → RowsStandFor calls rows → row ≡ get_or rows (d - 1) row → new ≡ kept_after row m → RowsStandFor (taken m ∷ calls) (slice_set rows (d - 1) new)
 row_taken calls rows m mo d row new body device low high stands at is =
     let class : class_of m.body ≡ d = ap class_of body ∙ sym device in
     record {

@@ -6,7 +6,7 @@ use Rattle.input_types.specs.declared.message.Body.{Body}
 use Rattle.input_types.specs.declared.message.Message.{Message}
 use Rattle.motion_batch.specs.declared.sample.Sample.{Sample}
 use Rattle.motion_batch.specs.Batched.{with_waiting}
-use Rattle.motion_batch.specs.Pairs.{Mark, are_alike, mark, grouped, groups_of, joins, part}
+use Rattle.motion_batch.specs.Pairs.{Mark, are_alike, unparted, grouped, groups_of, joins, part}
 use Rattle.motion_batch.specs.Rule.{class_of, due_of, extends, has_same_ids, is_full, is_move, left_by, pointers_of, sample_of}
 use Rattle.motion_batch.specs.Unbatch.{move_of}
 use Rattle.motion_batch.proofs.Classes.{move_again}
@@ -77,7 +77,7 @@ shut_begun k m (q ∷ qs) rest e move chained few shut =
     let other : has_same_ids q.pointers (pointers_of m.body) ≡ false
     = sym (ap (λ b. b && has_same_ids q.pointers (pointers_of m.body)) move) ∙ sym (extends_newest q qs m.body) ∙ e in
     let group : List Message = map (move_of k) (reverse (q ∷ qs)) in
-    apart (mark (move_of k q)) (marked k qs rest) m (groups_of (marked k (q ∷ qs) rest)) group (groups_of rest) (one_group k q qs rest false chained (omega (arith, few)) shut)
+    apart (unparted (move_of k q)) (marked k qs rest) m (groups_of (marked k (q ∷ qs) rest)) group (groups_of rest) (one_group k q qs rest false chained (omega (arith, few)) shut)
     (ap (λ b. (is_move m.body && b) && (not (length group == 256) && true)) other
     ∙ ap (λ b. b && (not (length group == 256) && true)) (and_false (is_move m.body)))
 
@@ -91,7 +91,7 @@ More m Latest t = (m.moment ≤ t) × Latest t
 
 -- a move goes on with those that wait
 pub take_on : (k : ℕ) (Latest : ℕ → Type 0) (ss : List Sample) (ms : List Mark) (gs : List (List Message)) (m : Message) → class_of m.body ≡ k → extends ss m.body ≡ true → Latest m.moment
-    → is_full (ss ++ sample_of m ∷ []) ≡ false → Grouping k Latest ss ms gs → Grouping k (More m Latest) (ss ++ sample_of m ∷ []) (mark m ∷ ms) gs
+    → is_full (ss ++ sample_of m ∷ []) ≡ false → Grouping k Latest ss ms gs → Grouping k (More m Latest) (ss ++ sample_of m ∷ []) (unparted m ∷ ms) gs
 take_on k Latest ss ms gs m class e latest full g =
     let s : Sample = sample_of m in
     let on : extends (reverse g.qs) m.body ≡ true = subst (λ (xs : List Sample). extends xs m.body ≡ true) g.waits_are e in
@@ -102,7 +102,7 @@ take_on k Latest ss ms gs m class e latest full g =
       qs = s ∷ g.qs;
       rest = g.rest;
       waits_are = ap (λ (xs : List Sample). xs ++ s ∷ []) g.waits_are ∙ sym (reverse_with s g.qs);
-      marks_are = ap (λ x. mark x ∷ ms) (sym (move_is k m class (extends_move ss m.body e))) ∙ ap (λ xs. mark (move_of k s) ∷ xs) g.marks_are;
+      marks_are = ap (λ x. unparted x ∷ ms) (sym (move_is k m class (extends_move ss m.body e))) ∙ ap (λ xs. unparted (move_of k s) ∷ xs) g.marks_are;
       groups_are = g.groups_are;
       shut = shut_more k m g.qs g.rest on g.shut;
       chained = chained_more m g.qs on g.chained;
@@ -113,23 +113,23 @@ take_on k Latest ss ms gs m class e latest full g =
 
 -- a move makes the batch full
 pub take_full : (k : ℕ) (Latest : ℕ → Type 0) (ss : List Sample) (ms : List Mark) (gs : List (List Message)) (m : Message) → class_of m.body ≡ k → extends ss m.body ≡ true
-    → is_full (ss ++ sample_of m ∷ []) ≡ true → Grouping k Latest ss ms gs → Grouping k (More m Latest) [] (mark m ∷ ms) (with_waiting k (ss ++ sample_of m ∷ []) gs)
+    → is_full (ss ++ sample_of m ∷ []) ≡ true → Grouping k Latest ss ms gs → Grouping k (More m Latest) [] (unparted m ∷ ms) (with_waiting k (ss ++ sample_of m ∷ []) gs)
 take_full k Latest ss ms gs m class e full g =
     let s : Sample = sample_of m in
     let on : extends (reverse g.qs) m.body ≡ true = subst (λ (xs : List Sample). extends xs m.body ≡ true) g.waits_are e in
     let all : List Message = map (move_of k) (reverse (s ∷ g.qs)) in
-    let new : mark m ∷ ms ≡ marked k (s ∷ g.qs) g.rest = ap (λ x. mark x ∷ ms) (sym (move_is k m class (extends_move ss m.body e))) ∙ ap (λ xs. mark (move_of k s) ∷ xs) g.marks_are in
-    let group : groups_of (mark m ∷ ms) ≡ all ∷ groups_of g.rest
+    let new : unparted m ∷ ms ≡ marked k (s ∷ g.qs) g.rest = ap (λ x. unparted x ∷ ms) (sym (move_is k m class (extends_move ss m.body e))) ∙ ap (λ xs. unparted (move_of k s) ∷ xs) g.marks_are in
+    let group : groups_of (unparted m ∷ ms) ≡ all ∷ groups_of g.rest
     = ap groups_of new ∙ one_group k s g.qs g.rest false (chained_more m g.qs on g.chained) g.few (shut_more k m g.qs g.rest on g.shut) in
     let waits : ss ++ s ∷ [] ≡ reverse (s ∷ g.qs) = ap (λ (xs : List Sample). xs ++ s ∷ []) g.waits_are ∙ sym (reverse_with s g.qs) in
     let size : (length all == 256) ≡ true = ap (λ n. n == 256) (length-map (reverse (s ∷ g.qs)) (move_of k) ∙ ap length (sym waits)) ∙ full in
     record {
       qs = [];
-      rest = mark m ∷ ms;
+      rest = unparted m ∷ ms;
       waits_are = refl;
       marks_are = refl;
       groups_are = group ∙ ap (λ xs. map (move_of k) xs ∷ groups_of g.rest) (sym waits) ∙ sym (waiting_some k ss s (groups_of g.rest)) ∙ ap (with_waiting k (ss ++ s ∷ [])) g.groups_are;
-      shut = λ n. apart (mark m) ms n (groups_of (mark m ∷ ms)) all (groups_of g.rest) group (not_full (mark m) n (length all) size);
+      shut = λ n. apart (unparted m) ms n (groups_of (unparted m ∷ ms)) all (groups_of g.rest) group (not_full (unparted m) n (length all) size);
       chained = tt;
       few = omega arith;
       low = λ t l. tt;
@@ -143,14 +143,14 @@ waiting_is k Latest ss ms gs g =
 
 -- a move begins a batch
 pub take_begun : (k : ℕ) (Latest : ℕ → Type 0) (ss : List Sample) (ms : List Mark) (gs : List (List Message)) (m : Message) → class_of m.body ≡ k → extends ss m.body ≡ false → is_move m.body ≡ true
-    → Grouping k Latest ss ms gs → Grouping k (More m Latest) (sample_of m ∷ []) (mark m ∷ ms) (with_waiting k ss gs)
+    → Grouping k Latest ss ms gs → Grouping k (More m Latest) (sample_of m ∷ []) (unparted m ∷ ms) (with_waiting k ss gs)
 take_begun k Latest ss ms gs m class e move g =
     let off : extends (reverse g.qs) m.body ≡ false = subst (λ (xs : List Sample). extends xs m.body ≡ false) g.waits_are e in
     record {
       qs = sample_of m ∷ [];
       rest = ms;
       waits_are = refl;
-      marks_are = ap (λ x. mark x ∷ ms) (sym (move_is k m class move));
+      marks_are = ap (λ x. unparted x ∷ ms) (sym (move_is k m class move));
       groups_are = waiting_is k Latest ss ms gs g;
       shut =
           subst (Shut ms) (sym (move_is k m class move))
@@ -163,16 +163,16 @@ take_begun k Latest ss ms gs m class e move g =
 
 -- a message that is no move
 pub take_one : (k : ℕ) (Latest : ℕ → Type 0) (ss : List Sample) (ms : List Mark) (gs : List (List Message)) (m : Message) → is_move m.body ≡ false
-    → Grouping k Latest ss ms gs → Grouping k (More m Latest) [] (mark m ∷ ms) ((m ∷ []) ∷ with_waiting k ss gs)
+    → Grouping k Latest ss ms gs → Grouping k (More m Latest) [] (unparted m ∷ ms) ((m ∷ []) ∷ with_waiting k ss gs)
 take_one k Latest ss ms gs m move g =
-    let group : groups_of (mark m ∷ ms) ≡ (m ∷ []) ∷ groups_of ms = alone ms m (groups_of ms) move in
+    let group : groups_of (unparted m ∷ ms) ≡ (m ∷ []) ∷ groups_of ms = alone ms m (groups_of ms) move in
     record {
       qs = [];
-      rest = mark m ∷ ms;
+      rest = unparted m ∷ ms;
       waits_are = refl;
       marks_are = refl;
       groups_are = group ∙ ap (λ xs. (m ∷ []) ∷ xs) (waiting_is k Latest ss ms gs g);
-      shut = λ n. apart (mark m) ms n (groups_of (mark m ∷ ms)) (m ∷ []) (groups_of ms) group
+      shut = λ n. apart (unparted m) ms n (groups_of (unparted m ∷ ms)) (m ∷ []) (groups_of ms) group
           (ap (λ b. (b && (is_move n.body && has_same_ids (pointers_of m.body) (pointers_of n.body))) && (not (1 == 256) && true)) move);
       chained = tt;
       few = omega arith;

@@ -31,14 +31,14 @@ abbrev pub told : ℕ → List Call → List Message
 told k calls = unbatch (items_of k (items calls)) ++ map (move_of k) (pending k calls)
 
 -- the messages of the items of a class, each item a group, the newest first, and in front of them those that wait
-abbrev pub given : ℕ → List Call → List (List Message)
-given k calls = with_waiting k (pending k calls) (reverse (map messages_of (items_of k (items calls))))
+abbrev pub item_groups : ℕ → List Call → List (List Message)
+item_groups k calls = with_waiting k (pending k calls) (reverse (map messages_of (items_of k (items calls))))
 
 -- Of each class, from 0 to 8: what its items tell, followed by what waits, is what was taken of it; and where no moment
 -- falls, the messages of an item, and those that wait, are those that stand in one batch.
 pub record IsBatched (calls : List Call) : Type 0 where
   pub whole : (k : ℕ) → k ≤ 8 → told k calls ≡ of_class k (messages calls)
-  pub pairs : IsRising calls → (k : ℕ) → k ≤ 8 → groups_of (marks k calls) ≡ given k calls
+  pub pairs : IsRising calls → (k : ℕ) → k ≤ 8 → groups_of (marks k calls) ≡ item_groups k calls
 
 -- After a flush the items tell all that was taken; and where the messages that were taken are a well-formed stream,
 -- those of each class of all items are as well.

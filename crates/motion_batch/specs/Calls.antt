@@ -62,6 +62,6 @@ AreOfDevices (framed at ∷ calls) = AreOfDevices calls
 AreOfDevices (flushed ∷ calls) = AreOfDevices calls
 
 -- a batcher that was called so, the newest call first: its rows are what waits of each device
-pub record StandsFor (calls : List Call) (rows : List (List Sample)) : Type 0 where
+pub record RowsStandFor (calls : List Call) (rows : List (List Sample)) : Type 0 where
   pub rows_are : rows ≡ rows_of calls
   pub devices_are : AreOfDevices calls

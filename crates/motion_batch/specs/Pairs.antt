@@ -12,8 +12,8 @@ pub record Mark : Type 0 where
   pub parted : Bool
 
 -- a message that no frame has parted from the next one
-abbrev pub mark : Message → Mark
-mark m = record { message = m; parted = false }
+abbrev pub unparted : Message → Mark
+unparted m = record { message = m; parted = false }
 
 -- A frame parts a message that waits from the next one of its class where its moment is not below that of the message,
 -- and the next one was not taken yet or has a moment above that of the frame.
@@ -34,7 +34,7 @@ part at next (suc n) (m ∷ ms) = marked_by at next m ∷ part at (Some m.messag
 -- the messages of a class that these calls took, the newest first
 abbrev pub marks : ℕ → List Call → List Mark
 marks k [] = []
-marks k (taken m ∷ calls) = if class_of m.body == k then mark m ∷ marks k calls else marks k calls
+marks k (taken m ∷ calls) = if class_of m.body == k then unparted m ∷ marks k calls else marks k calls
 marks k (framed at ∷ calls) = part (Some at) None (length (pending k calls)) (marks k calls)
 marks k (flushed ∷ calls) = part None None (length (pending k calls)) (marks k calls)
 

@@ -1,7 +1,7 @@
 //! The batcher.
 ghost use Rattle.std.specs.Prelude.{◌≡◌, ◌++◌, List, [], ◌∷◌, length, take, OnOk, OnErr};
 ghost use Rattle.motion_batch.specs.Batched.{IsBatched, IsFlushed};
-ghost use Rattle.motion_batch.specs.Calls.{Call, StandsFor, added, due_of_rows, flushed, framed, rows_left, taken};
+ghost use Rattle.motion_batch.specs.Calls.{Call, RowsStandFor, added, due_of_rows, flushed, framed, rows_left, taken};
 
 use crate::item::Item;
 use crate::pending::Pending;
@@ -30,7 +30,7 @@ impl Model for Batcher {
 impl Batcher {
     /// Nothing was taken yet.
     pub fn new(alloc: Global) -> Batcher
-        ensures { StandsFor [] result }
+        ensures { RowsStandFor [] result }
     {
         Batcher {
             pending: [
@@ -50,11 +50,11 @@ impl Batcher {
     /// Takes a message, and appends the items that it gives out. Without memory nothing changes.
     #[tactic(auto, using(crate::proofs::Rows::no_others))]
     pub fn take(&mut self, message: &Message, out: &mut Vec<Item>) -> Result<(), AllocError>
-        ensures items { (calls : List Call) → StandsFor calls self.old
+        ensures items { (calls : List Call) → RowsStandFor calls self.old
             → OnOk result (out.new.items ≡ out.old.items ++ added (taken message.now) calls) }
-        ensures stands { (calls : List Call) → StandsFor calls self.old
-            → OnOk result (StandsFor (taken message.now ∷ calls) self.new) }
-        ensures batched { (calls : List Call) → StandsFor calls self.old
+        ensures stands { (calls : List Call) → RowsStandFor calls self.old
+            → OnOk result (RowsStandFor (taken message.now ∷ calls) self.new) }
+        ensures batched { (calls : List Call) → RowsStandFor calls self.old
             → OnOk result (IsBatched (taken message.now ∷ calls)) }
         ensures err { OnErr result (self.new ≡ self.old) }
         ensures err_items { OnErr result (out.new.items ≡ out.old.items) }
@@ -75,11 +75,11 @@ impl Batcher {
     /// memory nothing changes.
     #[tactic(auto, using(crate::proofs::Batched::batched_then))]
     pub fn frame(&mut self, at: Moment, out: &mut Vec<Item>) -> Result<(), AllocError>
-        ensures items { (calls : List Call) → StandsFor calls self.old
+        ensures items { (calls : List Call) → RowsStandFor calls self.old
             → OnOk result (out.new.items ≡ out.old.items ++ added (framed at) calls) }
-        ensures stands { (calls : List Call) → StandsFor calls self.old
-            → OnOk result (StandsFor (framed at ∷ calls) self.new) }
-        ensures batched { (calls : List Call) → StandsFor calls self.old
+        ensures stands { (calls : List Call) → RowsStandFor calls self.old
+            → OnOk result (RowsStandFor (framed at ∷ calls) self.new) }
+        ensures batched { (calls : List Call) → RowsStandFor calls self.old
             → OnOk result (IsBatched (framed at ∷ calls)) }
         ensures err { OnErr result (self.new ≡ self.old) }
         ensures err_items { OnErr result (out.new.items ≡ out.old.items) }
@@ -90,13 +90,13 @@ impl Batcher {
     /// A frame for all moves. Without memory nothing changes.
     #[tactic(auto, using(crate::proofs::Batched::batched_then, crate::proofs::Batched::flushed_then))]
     pub fn flush(&mut self, out: &mut Vec<Item>) -> Result<(), AllocError>
-        ensures items { (calls : List Call) → StandsFor calls self.old
+        ensures items { (calls : List Call) → RowsStandFor calls self.old
             → OnOk result (out.new.items ≡ out.old.items ++ added flushed calls) }
-        ensures stands { (calls : List Call) → StandsFor calls self.old
-            → OnOk result (StandsFor (flushed ∷ calls) self.new) }
-        ensures batched { (calls : List Call) → StandsFor calls self.old
+        ensures stands { (calls : List Call) → RowsStandFor calls self.old
+            → OnOk result (RowsStandFor (flushed ∷ calls) self.new) }
+        ensures batched { (calls : List Call) → RowsStandFor calls self.old
             → OnOk result (IsBatched (flushed ∷ calls)) }
-        ensures all { (calls : List Call) → StandsFor calls self.old
+        ensures all { (calls : List Call) → RowsStandFor calls self.old
             → OnOk result (IsFlushed (flushed ∷ calls)) }
         ensures err { OnErr result (self.new ≡ self.old) }
         ensures err_items { OnErr result (out.new.items ≡ out.old.items) }

@@ -1,7 +1,6 @@
 -- How a message, the section of a channel and a naming are spelled.
 use Rattle.std.specs.Prelude.{codes, ℕ, ℤ, nat_eq, Bool, cond, List, [], ◌∷◌, ◌++◌}
 use Rattle.std.specs.Fmt.{decimal, signed_decimal}
-unfoldable pub use Rattle.text_lines.specs.Written.{labeled}
 use Rattle.input_types.specs.declared.pointer.Pointer.{Pointer}
 use Rattle.input_types.specs.declared.motion.Motion.{Motion}
 use Rattle.input_types.specs.declared.motion.MotionAction.{MotionAction}
@@ -10,6 +9,9 @@ use Rattle.input_types.specs.declared.message.Body.{Body}
 use Rattle.input_types.specs.declared.message.Body.TheVariants.{Motion as MotionBody, Key, Focus}
 use Rattle.input_types.specs.declared.message.Message.{Message}
 use Rattle.dispatch_calls.specs.declared.counts.Counts.{Counts}
+
+-- how a number is written behind some words
+unfoldable pub use Rattle.text_lines.specs.Written.{labeled}
 
 -- ` canceled` where the flags are FLAG_CANCELED
 abbrev pub canceled : ℕ → List ℕ

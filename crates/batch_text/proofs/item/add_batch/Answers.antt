@@ -1,9 +1,11 @@
 use Rattle.std.proofs.Common.{◌≡◌, ℕ, List, codes, decimal, length, ◌++◌, ap, ◌∙◌}
+use Rattle.text_lines.specs.Written.{labeled}
 use Rattle.batch_text.specs.Lines.{batch_line, first_seq, last_seq}
 use Rattle.batch_text.proofs.Writing.{batch_parts, last_written}
 use Rattle.batch_text.proofs.item.add_batch.Goals as goal
 
 pub returns : goal.returns
+unfolding labeled
 returns c =
     let b = c.args.batch.now in
     let here = c.samples-samples.ensures.value in

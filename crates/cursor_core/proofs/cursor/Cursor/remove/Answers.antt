@@ -2,7 +2,7 @@
 use Rattle.std.proofs.Common.{false, refl, sym, ◌∙◌, ap, subst}
 use Rattle.std.proofs.lemmas.Result.{on_ok_weaker}
 use Rattle.cursor_core.specs.declared.note.Step.{Step}
-use Rattle.cursor_core.specs.Cursor.{StandsFor, settled}
+use Rattle.cursor_core.specs.Cursor.{CursorStandsFor, stepped}
 use Rattle.cursor_core.specs.Kept.{Kept}
 use Rattle.cursor_core.proofs.Next.{removed}
 use Rattle.cursor_core.proofs.cursor.Cursor.remove.Goals as goal
@@ -19,18 +19,18 @@ returns-clause-stands c = λ d calls h.
       hovered = c.self.inside.hovered;
       streams = c.self.inside.streams.items;
     } in
-    let inside : StandsFor d calls k = subst (λ (kept : Kept). StandsFor d calls kept) (sym c.self.view_is) h in
+    let inside : CursorStandsFor d calls k = subst (λ (kept : Kept). CursorStandsFor d calls kept) (sym c.self.view_is) h in
     let s : Step = record {
       moment = c.later.result;
       moved = false;
       from = c.self.inside.at;
       to = c.self.inside.at;
-      live = c.without-live.result;
+      live = c.mask_without-live.result;
       before = c.self.inside.hovered;
       after = c.hovered_by.result;
     } in
-    on_ok_weaker c.settle.result
-    (λ new_is. removed d calls k c.settle.new.self c.args.now c.args.channel s c.corner_in-left.result c.corner_in-met.result inside
-    c.later.ensures refl refl refl c.without-live.ensures refl c.hovered_by.ensures c.corner_in-left.ensures c.corner_in-met.ensures
-    (new_is ∙ ap (λ (kept : Kept). settled kept s c.corner_in-left.result c.corner_in-met.result) (sym c.self.view_is)))
-    c.settle.ensures.ok
+    on_ok_weaker c.apply_step.result
+    (λ new_is. removed d calls k c.apply_step.new.self c.args.now c.args.channel s c.corner_in-left.result c.corner_in-met.result inside
+    c.later.ensures refl refl refl c.mask_without-live.ensures.channels refl c.hovered_by.ensures c.corner_in-left.ensures c.corner_in-met.ensures
+    (new_is ∙ ap (λ (kept : Kept). stepped kept s c.corner_in-left.result c.corner_in-met.result) (sym c.self.view_is)))
+    c.apply_step.ensures.ok

@@ -1,7 +1,7 @@
 -- The step is that of a snapshot.
 use Rattle.std.proofs.Common.{false, refl, sym, ◌∙◌, ap, subst}
 use Rattle.cursor_core.specs.declared.note.Step.{Step}
-use Rattle.cursor_core.specs.Cursor.{StandsFor, settled}
+use Rattle.cursor_core.specs.Cursor.{CursorStandsFor, stepped}
 use Rattle.cursor_core.specs.Kept.{Kept}
 use Rattle.cursor_core.proofs.Next.{shown}
 use Rattle.cursor_core.proofs.cursor.Cursor.show.Goals as goal
@@ -18,7 +18,7 @@ returns-clause-stands c = λ d calls h.
       hovered = c.self.inside.hovered;
       streams = c.self.inside.streams.items;
     } in
-    let inside : StandsFor d calls k = subst (λ (kept : Kept). StandsFor d calls kept) (sym c.self.view_is) h in
+    let inside : CursorStandsFor d calls k = subst (λ (kept : Kept). CursorStandsFor d calls kept) (sym c.self.view_is) h in
     let s : Step = record {
       moment = c.later.result;
       moved = false;
@@ -31,4 +31,4 @@ returns-clause-stands c = λ d calls h.
     shown d calls k _ c.args.now c.args.snapshot s c.corner_after-left.result c.corner_in-met.result inside
     c.later.ensures refl refl refl refl refl c.hovered_by.ensures c.corner_after-left.ensures c.corner_in-met.ensures
     (ap {B = Kept} (λ (kept : Kept). record kept { windows = c.args.snapshot })
-    (c.self-2.view_is ∙ c.in_ok-settle.ensures.ok ∙ ap (λ (kept : Kept). settled kept s c.corner_after-left.result c.corner_in-met.result) (sym c.self.view_is)))
+    (c.self-2.view_is ∙ c.in_ok-apply_step.ensures.ok ∙ ap (λ (kept : Kept). stepped kept s c.corner_after-left.result c.corner_in-met.result) (sym c.self.view_is)))

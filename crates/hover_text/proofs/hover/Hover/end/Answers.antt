@@ -3,7 +3,7 @@ use Rattle.std.proofs.lemmas.List.{length-map}
 use Rattle.session_plan.specs.declared.plan.ChannelPlan.{ChannelPlan}
 use Rattle.session_plan.specs.declared.plan.Step.{Step}
 use Rattle.session_plan.specs.View.{channel_view, plan_view}
-use Rattle.cursor_core.specs.Cursor.{StandsFor}
+use Rattle.cursor_core.specs.Cursor.{CursorStandsFor}
 use Rattle.cursor_core.specs.Packets.{latest}
 use Rattle.cursor_core.specs.Told.{stream}
 use Rattle.hover_text.specs.Running.{HasMade}
@@ -21,8 +21,8 @@ returns c = λ past run.
     let all = calls_of plan.steps past in
     let made : HasMade d c.deref.result.now all (latest past) c.args.self =
     subst (λ (ss : List Step). HasMade d ss all (latest past) c.args.self) (sym c.deref.ensures.value) run.made in
-    let stands : StandsFor d all c.self.inside.cursor =
-    subst (λ (s : HoverState). StandsFor d all s.cursor) (sym c.self.view_is) (c.in_ok-rest.ensures d all (latest past) made) in
+    let stands : CursorStandsFor d all c.self.inside.cursor =
+    subst (λ (s : HoverState). CursorStandsFor d all s.cursor) (sym c.self.view_is) (c.in_ok-make_rest.ensures d all (latest past) made) in
     let few : d.channels ≡ length c.deref-2.result.now =
     channels_on plan.displays (length plan.channels) ∙ length-map c.args.plan.now.channels.items channel_view
     ∙ ap (λ (cs : List ChannelPlan). length cs) (sym c.deref-2.ensures.value) in
