@@ -14,7 +14,8 @@ use std::marker::Model;
 /// Counts the lines of a recording that comes in pieces of any length, for the devices of a session with their paths.
 ///
 /// A clause sees the devices, the bytes of the line that has begun, and the counts of the lines before it. How the
-/// bytes were cut makes no difference. A line that is refused is counted too: that there is none is for the caller to know.
+/// bytes were cut makes no difference. A line that is refused is counted too: that there is none is for the caller to
+/// know.
 #[derive(Drop)]
 pub struct LineTally {
     devices: Vec<(String, DeviceId)>,
