@@ -61,7 +61,7 @@ earliest_passes P s d best (w ∷ ws) b a = earliest_passes P s d (sooner s d be
     of_two None p = a.0
     of_two (Some v) p = either (s.earlier w v d) v p
 
-choice_passes : (P : ℕ → Bool) (first whole touched : Option ℕ) (alone : Bool) → Passes P first → Passes P whole → Passes P touched → Passes P (choose first whole touched alone)
+choice_passes : (P : ℕ → Bool) (first whole touched : Option ℕ) (alone : Bool) → Passes P first → Passes P whole → Passes P touched → Passes P (choose first whole touched alone).window
 choice_passes P None whole touched alone a b c = c
 choice_passes P (Some f) (Some v) touched alone a b c = b
 choice_passes P (Some f) None None alone a b c = a

@@ -12,7 +12,7 @@ ghost use Rattle.route_plain.specs.Route.{hold_from, step_of};
 ghost use Rattle.route_plain.specs.Slipping.{rule_slip};
 ghost use Rattle.route_plain.specs.Changing.{IsChange, IsNoMotion};
 
-use crate::choice::{chosen, is_taker, some_pilfering};
+use crate::choice::{choice_at, is_taker, some_pilfering};
 use crate::hold::{Hold, began, ids_with};
 use crate::loss::Loss;
 use crate::moment::Moment;
@@ -94,7 +94,7 @@ fn gained_down(
         IfOk result (λ v. v.items
         ≡ map (hold_from turn moment.now.holds.now) (pairs device pointer.id (takers s device pointer.at))) }
 {
-    let chosen = chosen(moment, device, pointer.at);
+    let chosen = choice_at(moment, device, pointer.at).window;
     let spies = spies(moment, device, pointer.at);
     let some = some_pilfering(moment, device, chosen, spies);
     taken_by(alloc, moment, turn, device, pointer.id, chosen, spies, some)

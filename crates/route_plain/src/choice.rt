@@ -1,7 +1,7 @@
 //! Who gets a pointer that goes down.
 ghost use Rattle.std.specs.Prelude.{◌≡◌, ◌&&◌, ◌||◌, not, ℕ, map, filter, IfOk};
 ghost use Rattle.std.specs.List.{list_any};
-ghost use Rattle.routing_rules.specs.Choice.{is_holder, sooner, earliest, is_alone, choose, chosen, is_candidate_of};
+ghost use Rattle.routing_rules.specs.Choice.{is_holder, sooner, earliest, is_alone, choose, choice_at, is_candidate_of};
 ghost use Rattle.routing_rules.specs.Scene.{shows, which};
 ghost use Rattle.window_snapshot.specs.Mask.{mask_has};
 ghost use Rattle.window_snapshot.specs.Window.{prevents_splitting};
@@ -11,6 +11,7 @@ ghost use Rattle.route_plain.specs.Moment.{scene_at};
 use crate::hold::{holds_any, is_earlier, is_pilfering};
 use crate::moment::Moment;
 use input_types::{DeviceId, Pixel};
+use routing_rules::{Choice, Row};
 use window_snapshot::{Window, mask_has};
 
 /// Whether the window is no spy and holds something of the device.
@@ -89,20 +90,27 @@ fn is_alone(moment: &Moment, device: DeviceId, touched: Option<u32>) -> bool
 }
 
 /// The choice, as a table.
-fn choose(first: Option<u32>, whole: Option<u32>, touched: Option<u32>, alone: bool) -> Option<u32>
+fn choose(first: Option<u32>, whole: Option<u32>, touched: Option<u32>, alone: bool) -> Choice
     ensures { result ≡ choose first whole touched alone }
 {
-    match (first, whole, touched) {
-        (None, _, _) => touched,
-        (Some(_), Some(holder), _) => Some(holder),
-        (Some(holder), None, None) => Some(holder),
-        (Some(holder), None, Some(channel)) => { if alone { Some(holder) } else { Some(channel) } }
-    }
+    let (window, row) = match (first, whole, touched) {
+        (None, _, _) => (touched, Row::First),
+        (Some(_), Some(holder), _) => (Some(holder), Row::Unsplit),
+        (Some(holder), None, None) => (Some(holder), Row::Nothing),
+        (Some(holder), None, Some(channel)) => {
+            if alone {
+                (Some(holder), Row::Whole)
+            } else {
+                (Some(channel), Row::Split)
+            }
+        }
+    };
+    Choice { window, row }
 }
 
-/// The window that is chosen for a pointer that goes down there.
-pub(crate) fn chosen(moment: &Moment, device: DeviceId, at: Pixel) -> Option<u32>
-    ensures { result ≡ chosen (scene_at moment.now) device at }
+/// What is chosen for a pointer that goes down there, and by which row.
+pub(crate) fn choice_at(moment: &Moment, device: DeviceId, at: Pixel) -> Choice
+    ensures { result ≡ choice_at (scene_at moment.now) device at }
 {
     let first = earliest_holder(moment, device);
     let whole = earliest_whole_holder(moment, device);

@@ -1,5 +1,6 @@
 -- A motion sees of a scene what is of its device.
 use Rattle.std.proofs.Common.{◌≡◌, ℕ, List, [], Option, Some, None, refl, ap, sym, ◌∙◌}
+use Rattle.input_types.specs.declared.axis.Pixel.{Pixel}
 use Rattle.input_types.specs.declared.motion.Motion.{Motion}
 use Rattle.input_types.specs.declared.motion.MotionAction.{MotionAction}
 use Rattle.input_types.specs.declared.motion.MotionAction.TheVariants.{Down, Up, Move, Cancel, Outside, PointerDown, PointerUp}
@@ -8,6 +9,7 @@ use Rattle.window_snapshot.specs.declared.window.Window.{Window}
 use Rattle.routing_rules.specs.Pairs.{has}
 use Rattle.routing_rules.specs.Taking.{takes, pilfers}
 use Rattle.routing_rules.specs.Scene.{Scene, Moves}
+use Rattle.routing_rules.specs.Choice.{choice_at}
 use Rattle.routing_rules.specs.Given.{given, taken, given_by, taken_by, changed, mark}
 use Rattle.touch_state.specs.Touches.{Touches}
 use Rattle.route_split.specs.declared.mark.Mark.{Mark}
@@ -89,3 +91,9 @@ marks_motion s ts t windows reach able m k f e q is =
       taken_are = λ w d i c. ap (λ t. takes t w d i) taking_is;
       pilfers_are = λ w d. ap (λ t. pilfers t w d) taking_is;
     }
+
+-- so is a choice
+pub chooses : (s : Scene) (ts : List Touches) (t : Touches) (windows : List Window) (reach able d : ℕ) (at : Pixel)
+    → Stands s ts → Sees s windows reach able d → table_of ts d ≡ t → choice_at (scene_with windows reach able t) d at ≡ choice_at s d at
+chooses s ts t windows reach able d at f e q =
+    ap (λ (x : Scene). choice_at x d at) (sym (near_is s ts windows reach able d f e ∙ ap (scene_with windows reach able) q))

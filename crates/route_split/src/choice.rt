@@ -5,19 +5,20 @@ ghost use Rattle.window_snapshot.specs.Hits.{touched, is_spy_at};
 ghost use Rattle.window_snapshot.specs.Mask.{mask_has};
 ghost use Rattle.window_snapshot.specs.MaskOf.{mask_of};
 ghost use Rattle.window_snapshot.specs.Window.{is_spy, prevents_splitting};
-ghost use Rattle.routing_rules.specs.Choice.{is_holder, earliest, is_alone, choose, chosen, takers, is_candidate_of};
+ghost use Rattle.routing_rules.specs.Choice.{is_holder, earliest, is_alone, choose, choice_at, takers, is_candidate_of};
 ghost use Rattle.routing_rules.specs.Scene.{shows, which};
 ghost use Rattle.route_split.specs.Seen.{scene_at};
 
 use crate::seen::{Seen, holds_any, is_pilfering};
 use input_types::{DeviceId, Pixel};
+use routing_rules::{Choice, Row};
 use window_snapshot::{Window, mask_has, mask_with};
 
 /// The mask of the windows that get a pointer of a device that goes down at a place.
 pub(crate) fn takers(seen: &Seen, device: DeviceId, at: Pixel) -> u64
     ensures { (w : ℕ) → mask_has result w ≡ list_any (λ v. v == w) (takers (scene_at seen.now) device at) }
 {
-    let chosen = chosen(seen, device, at);
+    let chosen = choice_at(seen, device, at).window;
     let spies = spies(seen, device, at);
     let some = some_pilfering(seen, device, chosen, spies);
     taker_mask(seen, device, chosen, spies, some)
@@ -136,20 +137,27 @@ fn is_alone(seen: &Seen, device: DeviceId, touched: Option<u32>) -> bool
 }
 
 /// The choice, as a table.
-fn choose(first: Option<u32>, whole: Option<u32>, touched: Option<u32>, alone: bool) -> Option<u32>
+fn choose(first: Option<u32>, whole: Option<u32>, touched: Option<u32>, alone: bool) -> Choice
     ensures { result ≡ choose first whole touched alone }
 {
-    match (first, whole, touched) {
-        (None, _, _) => touched,
-        (Some(_), Some(holder), _) => Some(holder),
-        (Some(holder), None, None) => Some(holder),
-        (Some(holder), None, Some(channel)) => { if alone { Some(holder) } else { Some(channel) } }
-    }
+    let (window, row) = match (first, whole, touched) {
+        (None, _, _) => (touched, Row::First),
+        (Some(_), Some(holder), _) => (Some(holder), Row::Unsplit),
+        (Some(holder), None, None) => (Some(holder), Row::Nothing),
+        (Some(holder), None, Some(channel)) => {
+            if alone {
+                (Some(holder), Row::Whole)
+            } else {
+                (Some(channel), Row::Split)
+            }
+        }
+    };
+    Choice { window, row }
 }
 
-/// The window that is chosen.
-fn chosen(seen: &Seen, device: DeviceId, at: Pixel) -> Option<u32>
-    ensures { result ≡ chosen (scene_at seen.now) device at }
+/// What is chosen, and by which row.
+pub(crate) fn choice_at(seen: &Seen, device: DeviceId, at: Pixel) -> Choice
+    ensures { result ≡ choice_at (scene_at seen.now) device at }
 {
     let first = earliest_holder(seen, device);
     let whole = earliest_whole_holder(seen, device);

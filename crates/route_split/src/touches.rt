@@ -2,6 +2,7 @@
 ghost use Rattle.std.specs.Prelude.{◌≡◌, ℕ, true, IfOk, IfSome};
 ghost use Rattle.bits32.specs.Set.{is_in};
 ghost use Rattle.window_snapshot.specs.Mask.{is_channel, mask_has};
+ghost use Rattle.routing_rules.specs.Choice.{choice_at};
 ghost use Rattle.routing_rules.specs.Taking.{takes, pilfers};
 ghost use Rattle.routing_rules.specs.Scene.{Scene, Moves};
 ghost use Rattle.routing_rules.specs.Given.{changed, mark as rule_mark};
@@ -12,6 +13,7 @@ ghost use Rattle.routing_rules.specs.Watching.{is_watching};
 ghost use Rattle.route_split.specs.Tables.{table_of, any_at, holds_at, Stands, IsFresh, ChangesAll};
 ghost use Rattle.route_split.specs.Marking.{gives, taking, IsWhole, IsMark, AreLosses, may_be_told};
 
+use crate::choice::choice_at;
 use crate::concern::given_windows;
 use crate::mark::Mark;
 use crate::marking::{change_by, fresh_states, index_of};
@@ -20,8 +22,9 @@ use crate::seen::Seen;
 use crate::telling::tells_of;
 use crate::tells::Tells;
 use bits32::Bits32;
-use input_types::{DeviceId, Motion};
+use input_types::{DeviceId, Motion, Pixel};
 use pilfer_monitor::Losses;
+use routing_rules::Choice;
 use std::alloc::{AllocError, Global};
 use std::marker::Model;
 use touch_state::TouchState;
@@ -86,6 +89,28 @@ impl Touches {
             table: &self.states[index_of(motion.device)],
         };
         mark_of(&seen, motion)
+    }
+
+    /// The window that is chosen for a pointer of a device that goes down at a place, and the row of the table by which
+    /// it is. The masks are those of the channels that the device can reach, and of those that are able to take input.
+    pub fn choice(
+        &self,
+        device: DeviceId,
+        at: Pixel,
+        windows: &Snapshot,
+        reach: u64,
+        able: u64,
+    ) -> Choice
+        ensures { (s : Scene) → Stands s self.now → Sees s windows.now reach able device
+            → result ≡ choice_at s device at }
+    {
+        let seen = Seen {
+            windows,
+            reach,
+            able,
+            table: &self.states[index_of(device)],
+        };
+        choice_at(&seen, device, at)
     }
 
     /// The mask of the windows that may be told something of a device at the step of a mark: those that hold something

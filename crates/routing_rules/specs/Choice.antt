@@ -1,10 +1,12 @@
 -- Who gets a pointer that goes down.
-use Rattle.std.specs.Prelude.{ℕ, Bool, false, not, ◌==◌, ◌&&◌, ◌||◌, if◌then◌else◌, List, fold, Option, Some, None}
+use Rattle.std.specs.Prelude.{ℕ, Bool, true, false, not, ◌==◌, ◌&&◌, ◌||◌, if◌then◌else◌, List, fold, Option, Some, None}
 use Rattle.std.specs.List.{list_any}
 use Rattle.input_types.specs.declared.axis.Pixel.{Pixel}
 use Rattle.window_snapshot.specs.declared.window.Window.{Window}
 use Rattle.window_snapshot.specs.Window.{is_spy, prevents_splitting}
 use Rattle.window_snapshot.specs.Hits.{touched, is_spy_at}
+use Rattle.routing_rules.specs.declared.choice.Choice.{Choice}
+use Rattle.routing_rules.specs.declared.choice.Row.TheVariants.{First, Unsplit, Nothing, Whole, Split}
 use Rattle.routing_rules.specs.Scene.{Scene, shows, which}
 
 -- a holder of the device: a window without SPY that holds some pointer of it
@@ -21,29 +23,34 @@ abbrev pub earliest : Scene → ℕ → List ℕ → Option ℕ
 earliest s d ws = fold (sooner s d) None ws
 
 -- The choice, as a table: of the earliest holder, the earliest holder that prevents splitting, and the touched window with
--- whether that is on its own.
--- Nobody holds anything: the touched window, if there is one.
--- Some holder prevents splitting: the earliest such holder.
--- Nothing is touched: the earliest holder.
--- The touched window is on its own: the earliest holder. Else the touched window.
-abbrev pub choose : Option ℕ → Option ℕ → Option ℕ → Bool → Option ℕ
-choose None whole touched alone = touched
-choose (Some first) (Some whole) touched alone = Some whole
-choose (Some first) None None alone = Some first
-choose (Some first) None (Some t) alone = Some (if alone then first else t)
+-- whether that is on its own. Each row has its name.
+-- First: nobody holds anything: the touched window, if there is one.
+-- Unsplit: some holder prevents splitting: the earliest such holder.
+-- Nothing: nothing is touched: the earliest holder.
+-- Whole: the touched window is on its own: the earliest holder. Split: else the touched window.
+abbrev pub choose : Option ℕ → Option ℕ → Option ℕ → Bool → Choice
+choose None whole touched alone = record { window = touched; row = First }
+choose (Some first) (Some whole) touched alone = record { window = Some whole; row = Unsplit }
+choose (Some first) None None alone = record { window = Some first; row = Nothing }
+choose (Some first) None (Some t) true = record { window = Some first; row = Whole }
+choose (Some first) None (Some t) false = record { window = Some t; row = Split }
 
 -- the touched window is on its own: it prevents splitting, and holds nothing of the device
 abbrev pub is_alone : Scene → ℕ → Option ℕ → Bool
 is_alone s d None = false
 is_alone s d (Some t) = shows s prevents_splitting t && not (s.any t d)
 
--- the window that is chosen for a pointer of the device that goes down at this place
-abbrev pub chosen : Scene → ℕ → Pixel → Option ℕ
-chosen s d at =
+-- what is chosen for a pointer of the device that goes down at this place, and by which row
+abbrev pub choice_at : Scene → ℕ → Pixel → Choice
+choice_at s d at =
     let first = earliest s d (which s (is_holder s d)) in
     let whole = earliest s d (which s (λ v. is_holder s d v && prevents_splitting v)) in
     let t = touched s.windows (s.reach d) at.x at.y in
     choose first whole t (is_alone s d t)
+
+-- the window that is chosen
+abbrev pub chosen : Scene → ℕ → Pixel → Option ℕ
+chosen s d at = (choice_at s d at).window
 
 -- a candidate is the chosen window, or one of these spies
 abbrev pub is_candidate_of : Option ℕ → (spies : ℕ → Bool) → ℕ → Bool

@@ -17,8 +17,9 @@
 //! - `Scene`: the moment before a step as functions, in display pixels, and what a step can be. No history stands in
 //!   it, and no number by which windows are ordered: it only says which of two began first. A motion reaches the
 //!   windows on the display of its device alone, and a window that a snapshot moves to another display does not stay.
-//! - `Choice`, `Slip`, `Given`: which windows get a pointer that goes down (`takers`), when a pointer slips from one
-//!   window to another, and so what a step gives and takes (`given`, `taken`, both together `mark`).
+//! - `Choice`, `Slip`, `Given`: which window is chosen for a pointer that goes down and by which row of the table
+//!   ([`Choice`]), which windows get it (`takers`), when a pointer slips from one window to another, and so what a step
+//!   gives and takes (`given`, `taken`, both together `mark`).
 //! - `Told`: what a window is told of a device at a step (`told`), and of all devices (`told_all`). Where a device
 //!   cancels a pointer itself, as that of a palm, its windows are told a cancelled up of it.
 //! - `Fits`: what a scene and a step have to meet for what is told to fit what was told before; that it does is proved
@@ -29,4 +30,7 @@
 //! of any release.
 #![tactic(auto)]
 
+mod choice;
 pub mod laws;
+
+pub use choice::{Choice, Row};

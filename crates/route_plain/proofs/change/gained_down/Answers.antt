@@ -1,4 +1,4 @@
-use Rattle.std.proofs.Common.{◌∙◌}
+use Rattle.std.proofs.Common.{ap, ◌∙◌}
 use Rattle.std.proofs.lemmas.Result.{IfOk-weaker}
 use Rattle.window_snapshot.specs.Mask.{mask_has}
 use Rattle.route_plain.specs.Moment.{scene_at}
@@ -10,6 +10,6 @@ returns c =
     IfOk-weaker c.taken_by.result _ _
     (λ v e. e
     ∙ gains_are (scene_at c.args.moment.now) c.args.device c.args.pointer.id c.args.turn c.args.moment.now.holds.now c.args.pointer.at
-    (mask_has c.spies-spies.result) c.spies-spies.ensures c.chosen-chosen.result c.chosen-chosen.ensures c.some_pilfering-some.result
+    (mask_has c.spies-spies.result) c.spies-spies.ensures c.choice_at-chosen.result.window (ap (λ x. x.window) c.choice_at-chosen.ensures) c.some_pilfering-some.result
     c.some_pilfering-some.ensures)
     c.taken_by.ensures

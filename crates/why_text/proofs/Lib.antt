@@ -1,0 +1,5 @@
+pub mod RowLaws
+pub mod PartLaws
+pub mod GivenLaws
+pub mod OutsideLaws
+pub mod Rows

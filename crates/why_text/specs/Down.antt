@@ -1,0 +1,51 @@
+-- Why a pointer that goes down went where it went.
+use Rattle.std.specs.Prelude.{ℕ, Bool, true, false, not, ◌==◌, ◌&&◌, Option}
+use Rattle.std.specs.List.{list_any}
+use Rattle.input_types.specs.declared.motion.Motion.{Motion}
+use Rattle.input_types.specs.declared.motion.MotionAction.{MotionAction}
+use Rattle.input_types.specs.declared.motion.MotionAction.TheVariants.{Outside}
+use Rattle.input_types.specs.declared.pointer.Pointer.{Pointer}
+use Rattle.window_snapshot.specs.Hits.{touched, is_spy_at}
+use Rattle.routing_rules.specs.declared.choice.Choice.{Choice}
+use Rattle.routing_rules.specs.Scene.{Scene, Moves}
+use Rattle.routing_rules.specs.Choice.{choice_at, is_candidate, is_target, takers}
+use Rattle.routing_rules.specs.Told.{told}
+
+-- The causes of a down: the window under the place, the choice with its row, the spies at the place, the candidates that are
+-- pilfering the device, the windows that get the pointer, the targets that are not able to, and the windows that are told of a
+-- touch outside of them.
+pub record Down : Type 0 where
+  pub touched : Option ℕ
+  pub choice : Choice
+  pub spies : ℕ → Bool
+  pub pilfering : ℕ → Bool
+  pub given : ℕ → Bool
+  pub mute : ℕ → Bool
+  pub outside : ℕ → Bool
+
+-- the window is a candidate for a pointer of the motion's device that goes down: the chosen window, or a spy
+abbrev pub may_get : Scene → Motion → Pointer → ℕ → Bool
+may_get s m p = is_candidate s m.device p.at (choice_at s m.device p.at).window
+
+-- the window is a target of it
+abbrev pub targets : Scene → Motion → Pointer → ℕ → Bool
+targets s m p = is_target s m.device (may_get s m p)
+
+-- the motion tells of a touch outside
+abbrev pub is_outside : MotionAction → Bool
+is_outside Outside = true
+is_outside action = false
+
+-- the causes of the down of this pointer with this motion
+abbrev pub down_of : Scene → Motion → Pointer → Down
+down_of s m p =
+    let d = m.device in
+    record {
+      touched = touched s.windows (s.reach d) p.at.x p.at.y;
+      choice = choice_at s d p.at;
+      spies = is_spy_at s.windows (s.reach d) p.at.x p.at.y;
+      pilfering = λ w. may_get s m p w && s.pilfering w d;
+      given = λ w. list_any (λ v. v == w) (takers s d p.at);
+      mute = λ w. targets s m p w && not (s.able w);
+      outside = λ w. list_any (λ n. is_outside n.action) (told s (Moves m) w d);
+    }

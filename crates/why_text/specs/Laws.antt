@@ -1,0 +1,81 @@
+-- What is proved of the causes of a run. Each law is the clause of a function of its own.
+use Rattle.std.specs.Prelude.{ℕ, Bool, true, false, not, ◌==◌, ◌&&◌, ◌||◌, ◌≡◌, if◌then◌else◌, List, is_some, Option, Some, None}
+use Rattle.std.specs.List.{list_any}
+use Rattle.input_types.specs.declared.axis.Pixel.{Pixel}
+use Rattle.input_types.specs.declared.motion.Motion.{Motion}
+use Rattle.input_types.specs.declared.pointer.Pointer.{Pointer}
+use Rattle.input_types.specs.Pointers.{IsRising}
+use Rattle.window_snapshot.specs.Window.{prevents_splitting}
+use Rattle.window_snapshot.specs.Hits.{touched}
+use Rattle.routing_rules.specs.declared.choice.Choice.{Choice}
+use Rattle.routing_rules.specs.declared.choice.Row.{Row}
+use Rattle.routing_rules.specs.declared.choice.Row.TheVariants.{First, Unsplit, Nothing, Whole, Split}
+use Rattle.routing_rules.specs.Scene.{Scene, Step, Moves}
+use Rattle.routing_rules.specs.Choice.{is_holder, is_alone, choice_at}
+use Rattle.routing_rules.specs.Slip.{Slip, slip}
+use Rattle.routing_rules.specs.Given.{changed}
+use Rattle.routing_rules.specs.Told.{is_down, told}
+use Rattle.routing_rules.specs.Watching.{is_watching}
+use Rattle.routing_rules.specs.Fits.{Fits, down_after, is_motion_of}
+use Rattle.why_text.specs.Down.{down_of, targets}
+
+-- some window holds a pointer of the device, spies left out
+abbrev pub has_holder : Scene → ℕ → Bool
+has_holder s d = list_any (is_holder s d) s.windows
+
+-- some such window prevents splitting
+abbrev pub has_whole_holder : Scene → ℕ → Bool
+has_whole_holder s d = list_any (λ v. is_holder s d v && prevents_splitting v) s.windows
+
+-- What each row says of the moment, and two of them of the window that is chosen.
+abbrev pub RowSays : Scene → ℕ → (touched chosen : Option ℕ) → Row → Type 0
+RowSays s d touched chosen First = (has_holder s d ≡ false) × (chosen ≡ touched)
+RowSays s d touched chosen Unsplit = (has_holder s d ≡ true) × (has_whole_holder s d ≡ true)
+RowSays s d touched chosen Nothing = (has_holder s d ≡ true) × (has_whole_holder s d ≡ false) × (touched ≡ None)
+RowSays s d touched chosen Whole = (has_holder s d ≡ true) × (has_whole_holder s d ≡ false) × (is_alone s d touched ≡ true)
+RowSays s d touched chosen Split =
+    (has_holder s d ≡ true) × (has_whole_holder s d ≡ false) × (is_some touched ≡ true) × (is_alone s d touched ≡ false) × (chosen ≡ touched)
+
+-- The row of a choice says what holds at that moment.
+abbrev pub RowLaw : Type 0
+RowLaw =
+    (s : Scene) (d : ℕ) (at : Pixel) (k : Choice) → choice_at s d at ≡ k
+    → RowSays s d (touched s.windows (s.reach d) at.x at.y) k.window k.row
+
+-- The windows that are given a pointer that goes down and the mute ones part its targets.
+abbrev pub PartsLaw : Type 0
+PartsLaw =
+    (s : Scene) (m : Motion) (p : Pointer) (w : ℕ)
+    → ((down_of s m p).given w && (down_of s m p).mute w ≡ false) × (((down_of s m p).given w || (down_of s m p).mute w) ≡ targets s m p w)
+
+-- the motions tell of a pointer that goes down
+abbrev pub tells_down : List Motion → Bool
+tells_down ms = list_any (λ n. is_down n.action) ms
+
+-- the window is the one that a pointer slips to
+abbrev pub is_to : Option Slip → ℕ → Bool
+is_to None w = false
+is_to (Some way) w = way.to == w
+
+-- the window is given the changed pointer of a motion: one that goes down, or one that slips to it
+abbrev pub is_given : Scene → Motion → Option Pointer → ℕ → Bool
+is_given s m None w = false
+is_given s m (Some p) w = if is_down m.action then (down_of s m p).given w else is_to (slip s m) w
+
+-- A window is told that a pointer goes down exactly where it is among those that are given it, or a pointer slips to it.
+abbrev pub GivenLaw : Type 0
+GivenLaw =
+    (s : Scene) (m : Motion) (w : ℕ) (down next : List ℕ)
+    → Fits s m.device down → IsRising m.pointers → down_after (Moves m) m.device down ≡ Some next
+    → tells_down (told s (Moves m) w m.device) ≡ is_given s m (changed m) w
+
+-- No other step tells that of the device, and no motion of another device.
+abbrev pub OthersLaw : Type 0
+OthersLaw = (s : Scene) (e : Step) (w d : ℕ) → is_motion_of e d ≡ false → tells_down (told s e w d) ≡ false
+
+-- A window is told of a touch outside of it exactly where it watches for such touches, and is not given the pointer.
+abbrev pub OutsideLaw : Type 0
+OutsideLaw =
+    (s : Scene) (m : Motion) (p : Pointer) (w : ℕ) (down next : List ℕ)
+    → Fits s m.device down → IsRising m.pointers → down_after (Moves m) m.device down ≡ Some next → changed m ≡ Some p → is_down m.action ≡ true
+    → (down_of s m p).outside w ≡ (is_watching s m (Some p) w && not ((down_of s m p).given w))
