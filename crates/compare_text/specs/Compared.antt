@@ -1,0 +1,60 @@
+-- What `compare` says of the sections of two stream files.
+use Rattle.std.specs.Prelude.{codes, ◌≡◌, ℕ, ◌+◌, nat_eq, if◌then◌else◌, List, [], ◌∷◌, ◌++◌, length, Option, Some, None, Result, Ok, Err}
+use Rattle.std.specs.Fmt.{decimal}
+use Rattle.std.specs.Option.{option_map, option_or}
+use Rattle.input_types.specs.declared.message.Message.{Message}
+use Rattle.compare_text.specs.declared.error.CompareError.{CompareError}
+use Rattle.compare_text.specs.declared.error.CompareError.TheVariants.{Differs, Missing, Added, NoSection, NewSection, Memory}
+use Rattle.compare_text.specs.Agreement.{agree}
+use Rattle.compare_text.specs.Points.{Section}
+
+-- The first difference of points that are paired in order, those that were wanted and those that came: two that do not agree, or one
+-- without a partner where the other section has ended.
+abbrev pub first_difference : ℕ → ℕ → List (ℕ × Message) → List (ℕ × Message) → Option CompareError
+first_difference us pixels [] [] = None
+first_difference us pixels (w ∷ ws) [] = Some (Missing w.0)
+first_difference us pixels [] (g ∷ gs) = Some (Added g.0)
+first_difference us pixels (w ∷ ws) (g ∷ gs) = if agree us pixels w.1 g.1 then first_difference us pixels ws gs else Some (Differs w.0 g.0)
+
+-- the first section of a channel, and the others
+abbrev pub take_first : ℕ → List Section → Option (Section × List Section)
+take_first id [] = None
+take_first id (s ∷ ss) = if nat_eq s.id id then Some (s, ss) else option_map (λ r. (r.0, s ∷ r.1)) (take_first id ss)
+
+-- sections that came and that no wanted one is paired with
+abbrev pub first_new : List Section → Option CompareError
+first_new [] = None
+first_new (g ∷ gs) = Some (NewSection g.line)
+
+-- a wanted section has no partner, or the difference from its partner, or else what is found with the others
+abbrev pub against : ℕ → ℕ → Section → Option (Section × List Section) → (List Section → Option CompareError) → Option CompareError
+against us pixels w None rest = Some (NoSection w.line)
+against us pixels w (Some found) rest = option_or (first_difference us pixels w.points found.0.points) (rest found.1)
+
+-- The first fault: each wanted section in order is paired with the first section of its channel that came and is not paired yet.
+abbrev pub fault_of : ℕ → ℕ → List Section → List Section → Option CompareError
+fault_of us pixels [] got = first_new got
+fault_of us pixels (w ∷ ws) got = against us pixels w (take_first w.id got) (λ others. fault_of us pixels ws others)
+
+-- how many points these sections have
+abbrev pub points_in : List Section → ℕ
+points_in [] = 0
+points_in (s ∷ ss) = length s.points + points_in ss
+
+-- the line that says that all agree: how many pairs of sections there are, and how many pairs of points
+unfoldable pub same_line : ℕ → ℕ → List ℕ
+same_line sections points = codes "same " ++ (decimal sections ++ (codes " " ++ (decimal points ++ codes "\n")))
+
+-- what is answered
+abbrev pub answer : Option CompareError → ℕ → ℕ → Result (List ℕ) CompareError
+answer None sections points = Ok (same_line sections points)
+answer (Some fault) sections points = Err fault
+
+-- what is said of sections that were wanted and of those that came
+abbrev pub compared : ℕ → ℕ → List Section → List Section → Result (List ℕ) CompareError
+compared us pixels want got = answer (fault_of us pixels want got) (length want) (points_in want)
+
+-- what is compared is refused so, or memory ran out
+abbrev pub Refuses : Result (List ℕ) CompareError → CompareError → Type 0
+Refuses compared Memory = Unit {0}
+Refuses compared error = compared ≡ Err error

@@ -1,0 +1,41 @@
+//! Whether a stream file that came agrees with one that was wanted, up to a time and a place.
+//!
+//! What a window is told at an end, at a key or at a change of the focus is a point; a move that is not canceled is
+//! none, since its place shows at the next message that lists it. So a device that merges moves agrees with one that
+//! does not. With 20 microseconds and 3 pixels, the stream
+//!
+//! ```text
+//! channel 1 main
+//! 1 2000 motion 1 DOWN 0@110,200
+//! 2 4000 motion 1 MOVE 0@112,200
+//! 3 5000 motion 1 UP 0@112,200
+//! end 1 sent 3 received 3 finished 3
+//! ```
+//!
+//! agrees with
+//!
+//! ```text
+//! channel 1 screen
+//! 1 2012 motion 1 DOWN 0@110,203
+//! 2 5012 motion 1 UP 0@112,203
+//! end 1 sent 2 received 0 finished 0
+//! ```
+//!
+//! and the text is `same 1 2`: one pair of sections and two pairs of points. Sections are paired by their channels, the
+//! first of a channel with the first, the second with the second. No message is kept: `Sections` has a reader for each
+//! section, and two readers go on in step.
+#![tactic(auto)]
+
+mod agreement;
+mod compare;
+mod error;
+mod laws;
+mod points;
+mod section;
+mod sections;
+
+pub use agreement::Tolerance;
+pub use compare::compare_text;
+pub use error::CompareError;
+pub use laws::{monotone, reflexive, symmetric};
+pub use sections::Sections;

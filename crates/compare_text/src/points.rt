@@ -1,0 +1,38 @@
+//! The points of a section.
+ghost use Rattle.std.specs.Prelude.{◌≡◌, ◌∷◌, ◌<◌, [], true, IfNone, IfSome};
+ghost use Rattle.compare_text.specs.Indexed.{is_good, points_at};
+ghost use Rattle.compare_text.specs.Points.{is_point};
+
+use input_types::{Body, FLAG_CANCELED, Message, MotionAction};
+use stream_text::{StreamLine, StreamLines};
+
+/// Whether a message is a point: all but the moves that are not canceled.
+pub(crate) fn is_point(body: &Body) -> bool
+    ensures { result ≡ is_point body.now }
+{
+    match body {
+        Body::Motion(motion) => {
+            let is_move = matches!(motion.action, MotionAction::Move);
+            !(is_move && motion.flags != FLAG_CANCELED)
+        }
+        Body::Key(_) | Body::Focus(_) => true,
+    }
+}
+
+/// The next point of the open section with its line; None at its end.
+pub(crate) fn next_point(lines: &mut StreamLines<'_>) -> Option<(u64, Message)>
+    requires { is_good lines.old.events ≡ true }
+    ensures some { IfSome result (λ p. points_at lines.old.events ≡ p ∷ points_at lines.new.events) }
+    ensures good { IfSome result (λ p. is_good lines.new.events ≡ true) }
+    ensures left { IfSome result (λ p. lines.new.left < lines.old.left) }
+    ensures none { IfNone result (points_at lines.old.events ≡ []) }
+{
+    'lines: loop {
+        let Ok(Some((number, StreamLine::Message(message)))) = lines.next() else {
+            return None;
+        };
+        if is_point(&message.body) {
+            return Some((number, message));
+        }
+    }
+}

@@ -1,0 +1,83 @@
+//! The sections of a file.
+ghost use Rattle.std.specs.Prelude.{◌≡◌, ℕ, ◌+◌, ◌^◌, ◌<◌, ◌≤◌, true, length, map, Ok, Err, IfOk, IfErr};
+ghost use Rattle.compare_text.specs.Compared.{points_in};
+ghost use Rattle.compare_text.specs.Indexed.{Reads, are_opened, file_sections, point_at, seen};
+ghost use Rattle.stream_text.specs.StreamAnswer.{channel_told};
+
+use crate::points::is_point;
+use crate::section::Opened;
+use std::alloc::Global;
+use std::marker::Model;
+use stream_text::{StreamError, StreamLine, StreamLines};
+
+/// The sections of a stream file none of whose lines is bad. It borrows the file and keeps no message.
+#[derive(Drop)]
+pub struct Sections<'a> {
+    pub(crate) sections: Vec<Opened<'a>>,
+    /// How many points they have.
+    pub(crate) points: u64,
+}
+
+impl<'a> Model for Sections<'a> {
+    ghost use Rattle.std.specs.Prelude.{◌≡◌, List, map, true};
+    ghost use Rattle.compare_text.specs.Compared.{points_in};
+    ghost use Rattle.compare_text.specs.Indexed.{are_opened, seen};
+    ghost use Rattle.compare_text.specs.Points.{Section};
+
+    ghost Value = { List Section };
+
+    ghost view = { λ s. map seen s.sections.items };
+
+    ghost invariant = { λ s. (are_opened s.sections.items ≡ true)
+        × (s.points ≡ points_in (map seen s.sections.items)) };
+}
+
+/// The channel whose section a line begins.
+fn channel_of(says: &StreamLine) -> Option<u32>
+    ensures { result ≡ channel_told says.now }
+{
+    match says {
+        StreamLine::Channel { id } => Some(*id),
+        _ => None,
+    }
+}
+
+/// How many points a line is.
+fn point_at(says: &StreamLine) -> u64
+    ensures value { result ≡ point_at says.now }
+    ensures range { result ≤ 1 }
+{
+    match says {
+        StreamLine::Message(message) => u64::from(is_point(&message.body)),
+        _ => 0,
+    }
+}
+
+impl<'a> Sections<'a> {
+    /// The sections of a stream file's bytes. The refusal is that of the first line that has not its form, does not
+    /// fit there, or is missing.
+    pub fn read(alloc: Global, bytes: &'a [u8]) -> Result<Sections<'a>, StreamError>
+        ensures ok { IfOk result (λ sections. file_sections bytes.now ≡ Ok sections) }
+        ensures err { IfErr result (Reads (file_sections bytes.now)) }
+    {
+        let mut lines = match StreamLines::new(bytes) {
+            Ok(lines) => lines,
+            Err(line) => return Err(StreamError::BadLine { line }),
+        };
+        let mut sections = Vec::new(alloc);
+        let mut points: u64 = 0;
+        'lines: loop {
+            match lines.next() {
+                Ok(Some((line, says))) => match channel_of(&says) {
+                    Some(id) => {
+                        let lines = lines.again();
+                        sections.push(Opened { id, line, lines })?;
+                    }
+                    None => points += point_at(&says),
+                },
+                Ok(None) => return Ok(Sections { sections, points }),
+                Err(line) => return Err(StreamError::BadLine { line }),
+            }
+        }
+    }
+}
