@@ -1,0 +1,42 @@
+//! From the first moment to the last.
+ghost use Rattle.std.specs.Prelude.{◌≡◌, min, max, Option, Some};
+ghost use Rattle.event_counts.specs.Moments.{widened};
+
+use input_types::Moment;
+
+/// The least and the greatest moment of some events.
+#[derive(Clone, Copy, Debug, PartialEq, Eq)]
+pub struct Span {
+    pub first: Moment,
+    pub last: Moment,
+}
+
+/// The lesser of two moments.
+fn earlier(a: Moment, b: Moment) -> Moment
+    ensures { result ≡ min a b }
+{
+    if b.get() < a.get() { b } else { a }
+}
+
+/// The greater of two moments.
+fn later(a: Moment, b: Moment) -> Moment
+    ensures { result ≡ max a b }
+{
+    if a.get() < b.get() { b } else { a }
+}
+
+/// The moments with one more.
+pub(crate) fn widened(span: Option<Span>, moment: Moment) -> Option<Span>
+    ensures { result ≡ Some (widened span moment) }
+{
+    match span {
+        None => Some(Span {
+            first: moment,
+            last: moment,
+        }),
+        Some(span) => Some(Span {
+            first: earlier(span.first, moment),
+            last: later(span.last, moment),
+        }),
+    }
+}
