@@ -9,7 +9,6 @@ use Rattle.input_types.specs.declared.message.Body.{Body}
 use Rattle.input_types.specs.declared.message.Body.TheVariants.{Motion as MotionBody, Key, Focus}
 use Rattle.input_types.specs.declared.message.Message.{Message}
 use Rattle.dispatch_calls.specs.declared.counts.Counts.{Counts}
-
 -- how a number is written behind some words
 unfoldable pub use Rattle.text_lines.specs.Written.{labeled}
 
