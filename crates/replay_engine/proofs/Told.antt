@@ -2,23 +2,17 @@
 use Rattle.std.specs.Prelude.{◌≡◌, ℕ, List, Option, Some, None, Err, refl}
 use Rattle.std.proofs.Common.{sym, inl, inr, arith}
 use Rattle.outside_io.specs.Outside.{Entry, Rose}
-use Rattle.replay_engine.specs.declared.statuses.Refusal.{Refusal}
-use Rattle.replay_engine.specs.declared.statuses.Refusal.TheVariants.{Usage, Session, Recording, Order, Stream, ReadFailed, NoMemory, TooLong}
+use Rattle.command_files.specs.declared.refusal.Refusal.{Refusal}
+use Rattle.command_files.specs.declared.refusal.Refusal.TheVariants.{Session, Recording, Order, Stream, ReadFailed, NoMemory, TooLong}
 use Rattle.replay_engine.specs.Outcome.{ComesTo, IsComplete, RefusedBy, Said, SaidSome, SaidTooLong, TellsSo}
 use Rattle.replay_engine.specs.Refusing.{RefusesAll}
-use Rattle.replay_engine.specs.RefusalView.{IsTold, refusal_view}
-use Rattle.command_words.specs.Forms.{form_of}
-
--- words of no form come to the usage
-usage_comes : (told : Option (List Entry)) (words : List (List ℕ)) → form_of words ≡ None → ComesTo told words (Err (refusal_view Usage))
-usage_comes None words e = tt
-usage_comes (Some es) words e = rw e refl
+use Rattle.replay_engine.specs.Telling.{IsTold}
+use Rattle.command_files.specs.RefusalView.{refusal_view}
 
 -- a refusal that is neither a fault nor want of memory is what the program answers, with that status and line
 pub refused_by : (told : Option (List Entry)) (words : List (List ℕ)) (before now : ℕ) (r : Refusal) (status fb fn : ℕ) (eb en : Option (List ℕ))
     → RefusesAll told words before now r → IsTold (TellsSo fb fn eb en) r status → ¬ (status ≡ 4) → ¬ (status ≡ 6)
     → RefusedBy told words status (Said fb fn eb en)
-refused_by told words before now Usage status fb fn eb en refuses said no4 no6 = (refusal_view Usage, sym said.0, usage_comes told words refuses, said.1)
 refused_by told words before now (Session e) status fb fn eb en refuses said no4 no6 =
     elim said [ inl s ↦ (refusal_view (Session e), sym s.1.0, refuses, s.1.1) | inr s ↦ absurd (no6 s.0) ]
 refused_by told words before now (Recording e) status fb fn eb en refuses said no4 no6 =
@@ -35,7 +29,6 @@ refused_by told words before now (TooLong what) status fb fn eb en refuses said 
 pub complete_refusal : (told : Option (List Entry)) (words : List (List ℕ)) (before now : ℕ) (r : Refusal) (status fb fn : ℕ) (eb en : Option (List ℕ))
     → RefusesAll told words before now r → ¬ (Rose before now) → IsTold (TellsSo fb fn eb en) r status → IsComplete told words status
 complete_refusal None words before now r status fb fn eb en refuses kept said = tt
-complete_refusal (Some es) words before now Usage status fb fn eb en refuses kept said = inl (Err (refusal_view Usage), usage_comes (Some es) words refuses, said.0)
 complete_refusal (Some es) words before now (Session e) status fb fn eb en refuses kept said =
     elim said [ inl s ↦ inl (Err (refusal_view (Session e)), refuses, s.1.0) | inr s ↦ inr s.0 ]
 complete_refusal (Some es) words before now (Recording e) status fb fn eb en refuses kept said =
@@ -50,7 +43,6 @@ complete_refusal (Some es) words before now (TooLong what) status fb fn eb en re
 
 -- a refusal with status 7 tells what is too long
 pub too_long_said : (r : Refusal) (status fb fn : ℕ) (eb en : Option (List ℕ)) → IsTold (TellsSo fb fn eb en) r status → status ≡ 7 → SaidTooLong fb fn eb en
-too_long_said Usage status fb fn eb en said seven = absurd (omega (arith, said.0, seven))
 too_long_said (Session e) status fb fn eb en said seven = elim said [ inl s ↦ absurd (omega (arith, s.1.0, seven)) | inr s ↦ absurd (omega (arith, s.0, seven)) ]
 too_long_said (Recording e) status fb fn eb en said seven = elim said [ inl s ↦ absurd (omega (arith, s.1.0, seven)) | inr s ↦ absurd (omega (arith, s.0, seven)) ]
 too_long_said (Order e) status fb fn eb en said seven = elim said [ inl s ↦ absurd (omega (arith, s.0, seven)) | inr s ↦ absurd (omega (arith, s.0, seven)) ]
@@ -62,7 +54,6 @@ too_long_said (TooLong what) status fb fn eb en said seven = (what, said.1)
 -- where there was memory for it, the line of the refusal was told
 pub some_said : (r : Refusal) (status fb fn : ℕ) (eb en : Option (List ℕ)) → IsTold (TellsSo fb fn eb en) r status → ¬ (status ≡ 6)
     → SaidSome status fb fn eb en
-some_said Usage status fb fn eb en said no6 = (Usage, tt, sym said.0, said.1)
 some_said (Session e) status fb fn eb en said no6 = elim said [ inl s ↦ (Session e, s.0, sym s.1.0, s.1.1) | inr s ↦ absurd (no6 s.0) ]
 some_said (Recording e) status fb fn eb en said no6 = elim said [ inl s ↦ (Recording e, s.0, sym s.1.0, s.1.1) | inr s ↦ absurd (no6 s.0) ]
 some_said (Order e) status fb fn eb en said no6 = elim said [ inl s ↦ (Order e, tt, sym s.0, s.1) | inr s ↦ absurd (no6 s.0) ]
