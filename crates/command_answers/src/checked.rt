@@ -17,7 +17,7 @@ ghost use Rattle.command_answers.specs.Checked.{IsFollowed, OrderAnswers};
 ghost use Rattle.command_files.specs.Planned.{given};
 ghost use Rattle.command_files.specs.Refusing.{Refuses, RefusesSo};
 
-use crate::given::{GIVEN_LIMIT, cooked_list};
+use crate::given::{GIVEN_LIMIT, cook_events};
 use crate::plan::{Planned, plan_run};
 use crate::texts::text_of;
 use command_files::{OrderError, Refusal, Subject, numbered_devices, read_events, read_order, read_session, readers_of};
@@ -85,7 +85,7 @@ fn order_text(
     ensures err { IfErr result (RefusesSo (λ r. OrderAnswers (plan_view session) events.now order.now (Err r))) }
 {
     let mut readers = readers_of(alloc, &session)?;
-    let all = cooked_list(alloc, events, &mut readers)?;
+    let all = cook_events(alloc, events, &mut readers)?;
     let planned = plan_run(alloc, session)?;
     order_run(alloc, planned, &all, order)
 }

@@ -17,7 +17,7 @@ use std::alloc::{AllocError, Global};
 pub(crate) const GIVEN_LIMIT: usize = 20000;
 
 /// Puts some args behind the others, with their moment.
-fn put_all(all: &mut Vec<Cooked>, moment: Moment, args: &[Args]) -> Result<(), AllocError>
+fn push_all(all: &mut Vec<Cooked>, moment: Moment, args: &[Args]) -> Result<(), AllocError>
     ensures { OnOk result (map cooked_of all.new.items ≡ map cooked_of all.old.items ++ map
         (λ a. record { moment = moment; args = a }) args.now) }
 {
@@ -28,7 +28,7 @@ fn put_all(all: &mut Vec<Cooked>, moment: Moment, args: &[Args]) -> Result<(), A
 }
 
 /// What the devices give for some events.
-pub(crate) fn cooked_list(
+pub(crate) fn cook_events(
     alloc: Global,
     events: &[RawEvent],
     readers: &mut Readers,
@@ -40,7 +40,7 @@ pub(crate) fn cooked_list(
     let mut args = Vec::new(alloc);
     for event in events {
         let moment = cook_event(*event, &mut args, readers)?;
-        put_all(&mut all, moment, &args)?;
+        push_all(&mut all, moment, &args)?;
     }
     Ok(all)
 }

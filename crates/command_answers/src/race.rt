@@ -15,7 +15,7 @@ ghost use Rattle.command_answers.specs.Race.{RaceAnswers, Races, finishes_from};
 ghost use Rattle.command_answers.specs.RaceEnds.{DoPlan, EndsRace, raced_plan};
 ghost use Rattle.command_files.specs.Refusing.{Refuses, RefusesSo};
 
-use crate::given::{GIVEN_LIMIT, cooked_list};
+use crate::given::{GIVEN_LIMIT, cook_events};
 use command_files::{Refusal, Subject, numbered_devices, read_events, read_session, readers_of};
 use command_words::Recorded;
 use dispatch_core::Core;
@@ -145,7 +145,7 @@ fn race_of<R: Threads + Wait + Sync, G: Gate + Sync>(
     ensures err { IfErr result (RefusesSo (λ r. RaceAnswers (plan_view session) events.now (Err r))) }
 {
     let mut readers = readers_of(alloc, &session)?;
-    let all = cooked_list(alloc, events, &mut readers)?;
+    let all = cook_events(alloc, events, &mut readers)?;
     race_run(rt, alloc, session, all, gate)
 }
 

@@ -15,7 +15,7 @@ ghost use Rattle.command_files.specs.Refusing.{RefusesSo};
 ghost use Rattle.command_answers.specs.Work.{Works, end_lines, head, summary, work_given};
 
 use crate::plan::plan_run;
-use command_files::{Refusal, Subject, cook_one, readers_of};
+use command_files::{Refusal, Subject, run_event, readers_of};
 use device_reader::Readers;
 use schedule::{Lines, Plan, Schedule, add_all_namings};
 use std::alloc::{AllocError, Global};
@@ -47,7 +47,7 @@ fn run_events(
     let mut args = Vec::new(alloc);
     let mut count: u64 = 0;
     for event in events {
-        cook_one(event, &mut args, readers, schedule, plan)?;
+        run_event(event, &mut args, readers, schedule, plan)?;
         count = count.saturating_add(args.len() as u64);
     }
     Ok(count)

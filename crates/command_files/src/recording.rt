@@ -66,7 +66,7 @@ pub fn recording_refusal(error: LineError) -> Refusal
 }
 
 /// Hands some args to a run, at their moment.
-fn hand(
+fn run_args(
     schedule: &mut Schedule,
     plan: &Plan,
     moment: Moment,
@@ -101,7 +101,7 @@ pub fn cook_event(
 }
 
 /// Hands to a run what the devices give for an event.
-pub fn cook_one(
+pub fn run_event(
     event: RawEvent,
     args: &mut Vec<Args>,
     readers: &mut Readers,
@@ -118,11 +118,11 @@ pub fn cook_one(
         → OnOk result (length (given p (event ∷ past)) ≡ length (given p past) + length args.new.items) }
 {
     let moment = cook_event(event, args, readers)?;
-    hand(schedule, plan, moment, args)
+    run_args(schedule, plan, moment, args)
 }
 
 /// Hands to a run what the devices give for some events.
-fn cook(
+fn run_events(
     events: &[RawEvent],
     args: &mut Vec<Args>,
     readers: &mut Readers,
@@ -137,7 +137,7 @@ fn cook(
         × Ran (script_of p) (given p (reverse events.now ++ past)) schedule.new) }
 {
     for event in events {
-        cook_one(*event, args, readers, schedule, plan)?;
+        run_event(*event, args, readers, schedule, plan)?;
     }
     Ok(())
 }
@@ -168,7 +168,7 @@ impl Recording {
     {
         self.events.clear();
         match self.reader.feed(piece, &mut self.events) {
-            Ok(()) => cook(
+            Ok(()) => run_events(
                 &self.events,
                 &mut self.args,
                 &mut self.readers,
@@ -190,7 +190,7 @@ impl Recording {
         recording.events.clear();
         match recording.reader.finish(&mut recording.events) {
             Ok(()) => {
-                cook(
+                run_events(
                     &recording.events,
                     &mut recording.args,
                     &mut recording.readers,

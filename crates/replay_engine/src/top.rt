@@ -27,7 +27,8 @@ pub fn run_alone<F: Files, O: Sink, E: Sink>(
     requires free { F.lent files.old ≡ None }
     ensures status { IsTrue (is_status result) }
     ensures words { (form_of (map string_bytes words.now) ≡ None) ↔ (result ≡ 2) }
-    ensures writes { Writes (F.entries files.old) (map string_bytes words.now) (O.taken out.old) (O.taken out.new) result }
+    ensures writes { Writes (F.entries files.old) (map string_bytes words.now) (O.taken out.old) (O.taken out.new)
+        result }
     ensures tells { Tells (F.entries files.old) (map string_bytes words.now) (E.faults err.old) (E.faults err.new)
         (E.taken err.old) (E.taken err.new) result }
     ensures faults { FaultsBy (F.faults files.old) (F.faults files.new) (O.faults out.old) (O.faults out.new) result }
@@ -72,7 +73,8 @@ pub fn run<R: Threads + Wait + Sync, F: Files, O: Sink, E: Sink, G: Gate + Sync>
     requires free { F.lent files.old ≡ None }
     ensures status { IsTrue (is_status result) }
     ensures words { (form_of (map string_bytes words.now) ≡ None) ↔ (result ≡ 2) }
-    ensures writes { Writes (F.entries files.old) (map string_bytes words.now) (O.taken out.old) (O.taken out.new) result }
+    ensures writes { Writes (F.entries files.old) (map string_bytes words.now) (O.taken out.old) (O.taken out.new)
+        result }
     ensures tells { Tells (F.entries files.old) (map string_bytes words.now) (E.faults err.old) (E.faults err.new)
         (E.taken err.old) (E.taken err.new) result }
     ensures faults { FaultsBy (F.faults files.old) (F.faults files.new) (O.faults out.old) (O.faults out.new) result }

@@ -21,8 +21,8 @@ loop-event-preserved c =
           ∙ h.all;
       runs = λ p run stand ran.
           let before = h.runs p run stand ran in
-          let after = c.in_ok-cook_one.ensures.ran Counted p h.past run before.0 before.1 in
-          let count = c.in_ok-cook_one.ensures.count p h.past before.0 in
+          let after = c.in_ok-run_event.ensures.ran Counted p h.past run before.0 before.1 in
+          let count = c.in_ok-run_event.ensures.count p h.past before.0 in
           (after.0, after.1, omega (arith, c.saturating_add-count.ensures, c.len.ensures, count, before.2));
     }
 

@@ -10,11 +10,11 @@ use Rattle.command_files.proofs.recording.Recording.end.Goals as goal
 pub returns-in_ok-finish-in-Ok-clause-ok : goal.returns-in_ok-finish-in-Ok-clause-ok
 returns-in_ok-finish-in-Ok-clause-ok c = λ p bytes run taken.
     let old : RecordingState = record { reader = c.self.inside.reader; readers = c.self.inside.readers; schedule = c.self.inside.schedule }
-    in ended_run c.args.plan.now p bytes old c.finish.new.self c.finish.new.out.items c.deref.result.now c.cook.new.schedule c.finish-in-Ok.new.self run
+    in ended_run c.args.plan.now p bytes old c.finish.new.self c.finish.new.out.items c.deref.result.now c.run_events.new.schedule c.finish-in-Ok.new.self run
     (subst (HasRead p bytes) (sym c.self.view_is) taken)
     (subst (λ (xs : List RawEvent). Does (Ok tt) (finished c.self.inside.reader) c.self.inside.reader c.finish.new.self xs c.finish.new.out.items) c.clear.ensures.items c.in-Ok.ensures)
     c.deref.ensures.value
-    (λ past stand ran. (c.in_ok-cook-in-Ok.ensures p past run stand ran).1)
+    (λ past stand ran. (c.in_ok-run_events-in-Ok.ensures p past run stand ran).1)
     (c.in_ok-finish-in-Ok.ensures.completed Kept)
 
 pub returns-in-Err : goal.returns-in-Err

@@ -11,9 +11,9 @@ pub returns-in-Ok : goal.returns-in-Ok
 returns-in-Ok c =
     let old : RecordingState = record { reader = c.self.inside.reader; readers = c.self.inside.readers; schedule = c.self.inside.schedule }
     in rw (← c.self.view_is)
-    (piece_fed c.args.plan.now old c.feed.new.self c.cook.new.readers c.cook.new.schedule c.args.piece.now c.feed.new.out.items c.deref.result.now c.cook.result
+    (piece_fed c.args.plan.now old c.feed.new.self c.run_events.new.readers c.run_events.new.schedule c.args.piece.now c.feed.new.out.items c.deref.result.now c.run_events.result
     (subst (λ (xs : List RawEvent). Does (Ok tt) (fed c.self.inside.reader c.args.piece.now) c.self.inside.reader c.feed.new.self xs c.feed.new.out.items) c.clear.ensures.items c.in-Ok.ensures)
-    c.deref.ensures.value c.cook.ensures)
+    c.deref.ensures.value c.run_events.ensures)
 
 pub returns-in-Err : goal.returns-in-Err
 returns-in-Err c =

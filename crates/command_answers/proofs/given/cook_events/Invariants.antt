@@ -4,7 +4,7 @@ use Rattle.device_reader.specs.CookedList.{ReadersStandFor}
 use Rattle.given_run.specs.Planned.{cooked_of}
 use Rattle.command_files.specs.Cooked.{plans_of}
 use Rattle.command_files.specs.Planned.{given}
-use Rattle.command_answers.proofs.given.cooked_list.Given as goal
+use Rattle.command_answers.proofs.given.cook_events.Given as goal
 
 -- what the events so far give
 abbrev pub invariant-loop-event : goal.invariant-loop-event

@@ -6,7 +6,7 @@ use Rattle.schedule.specs.Planned.{plan_of}
 use Rattle.schedule.specs.State.{Ran}
 use Rattle.command_files.specs.Cooked.{plans_of}
 use Rattle.command_files.specs.Planned.{given, script_of}
-use Rattle.command_files.proofs.recording.cook.Given as goal
+use Rattle.command_files.proofs.recording.run_events.Given as goal
 
 -- what the events so far give was handed in
 abbrev pub invariant-loop-event : goal.invariant-loop-event

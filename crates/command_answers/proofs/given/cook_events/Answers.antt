@@ -8,7 +8,7 @@ use Rattle.command_files.specs.Cooked.{plans_of}
 use Rattle.command_files.specs.Planned.{given}
 use Rattle.command_files.proofs.Newest.{newest_of_take}
 use Rattle.command_files.proofs.NextGiven.{all_at}
-use Rattle.command_answers.proofs.given.cooked_list.Goals as goal
+use Rattle.command_answers.proofs.given.cook_events.Goals as goal
 
 pub loop-event-preserved : goal.loop-event-preserved
 loop-event-preserved c = λ p stand.
@@ -18,7 +18,7 @@ loop-event-preserved c = λ p stand.
     let newest : reverse (take _ c.args.events.now) ≡ item ∷ so_far = newest_of_take c.args.events.now c.loop-event.event-index item c.loop-event-test.true c.event-item.is in
     let args : List Args = c.deref.result.now in (
       subst (λ (es : List RawEvent). ReadersStandFor (plans_of p) es c.cook_event.new.readers) (sym newest) (c.in_ok-moment.ensures.after p so_far before.0),
-      c.in_ok-put_all.ensures
+      c.in_ok-push_all.ensures
           ∙ ap (λ (cs : List Cooked). cs ++ all_at c.in_ok-moment.moment args) before.1
           ∙ ap (λ (xs : List Args). given p so_far ++ all_at c.in_ok-moment.moment xs) c.deref.ensures.value
           ∙ sym (c.in_ok-moment.ensures.given p so_far before.0)

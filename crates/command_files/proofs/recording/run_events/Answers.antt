@@ -7,17 +7,17 @@ use Rattle.schedule.specs.State.{Ran}
 use Rattle.command_files.specs.Cooked.{plans_of}
 use Rattle.command_files.specs.Planned.{given, script_of}
 use Rattle.command_files.proofs.Newest.{newest_of_take}
-use Rattle.command_files.proofs.recording.cook.Goals as goal
+use Rattle.command_files.proofs.recording.run_events.Goals as goal
 
 pub loop-event-preserved : goal.loop-event-preserved
 loop-event-preserved c = λ p past run stand ran.
     let before = c.loop-event.invariant p past run stand ran
     in let so_far = reverse (take c.loop-event.event-index c.args.events.now) ++ past
     in let newest = ap (λ (es : List RawEvent). es ++ past) (newest_of_take c.args.events.now c.loop-event.event-index c.event-item.result c.loop-event-test.true c.event-item.is)
-    in let after = c.in_ok-cook_one.ensures.ran Kept p so_far run before.0 before.1
+    in let after = c.in_ok-run_event.ensures.ran Kept p so_far run before.0 before.1
     in (
-      subst (λ (es : List RawEvent). ReadersStandFor (plans_of p) es c.cook_one.new.readers) (sym newest) after.0,
-      subst (λ (es : List RawEvent). Ran (script_of p) (given p es) c.cook_one.new.schedule) (sym newest) after.1,
+      subst (λ (es : List RawEvent). ReadersStandFor (plans_of p) es c.run_event.new.readers) (sym newest) after.0,
+      subst (λ (es : List RawEvent). Ran (script_of p) (given p es) c.run_event.new.schedule) (sym newest) after.1,
     )
 
 pub returns : goal.returns

@@ -4,7 +4,7 @@ use Rattle.schedule.specs.declared.keeping.Lines.{Lines}
 use Rattle.schedule.specs.Planned.{plan_of}
 use Rattle.schedule.specs.State.{RanWith}
 use Rattle.command_files.proofs.NextGiven.{all_at}
-use Rattle.command_files.proofs.recording.hand.Given as goal
+use Rattle.command_files.proofs.recording.run_args.Given as goal
 
 -- the args so far were handed in
 abbrev pub invariant-loop-a : goal.invariant-loop-a
