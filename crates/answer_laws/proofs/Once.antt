@@ -14,8 +14,7 @@ use Rattle.command_answers.specs.Checked.{OrderAnswers}
 use Rattle.command_files.specs.Inputs.{order_judged}
 use Rattle.command_answers.specs.Hover.{HoverAnswers, mouse_alone}
 use Rattle.command_files.specs.Judged.{After, Answer, Reads}
-use Rattle.replay_engine.specs.Outcome.{IsAlone}
-use Rattle.command_answers.specs.Program.{AnswersTo}
+use Rattle.command_answers.specs.Program.{AnswersTo, IsAlone}
 use Rattle.command_answers.specs.Checked.{CheckAnswers}
 use Rattle.command_answers.specs.Hover.{MouseAnswers}
 use Rattle.command_answers.specs.Replay.{RecordingAnswers, RunAnswers}

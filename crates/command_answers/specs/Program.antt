@@ -1,5 +1,5 @@
 -- The program as a relation of what it answers to its words and to the files.
-use Rattle.std.specs.Prelude.{codes, ◌≡◌, List, Option, Some, None, Err, ℕ}
+use Rattle.std.specs.Prelude.{codes, ◌≡◌, List, Option, Some, None, Err, ℕ, ⊤}
 use Rattle.outside_io.specs.Outside.{Entry}
 use Rattle.command_words.specs.Command.{Command, replay, race, check, verify, work, batch, hover, emit}
 use Rattle.command_words.specs.Forms.{form_of}
@@ -18,6 +18,11 @@ use Rattle.command_answers.specs.Work.{Works}
 -- the words are of no command
 abbrev pub usage : Refused
 usage = refused 2 (codes "usage: inputflinger replay|race|check|verify|work|batch|hover|emit")
+
+-- a command that starts no threads, or none
+abbrev pub IsAlone : Option Command → Type 0
+IsAlone (Some (race files)) = ⊥
+IsAlone command = ⊤
 
 -- the answer to a command, whose files have to be there
 abbrev pub AnswersTo : List Entry → Option Command → Answer → Type 0

@@ -96,13 +96,13 @@ memory_said (TooLong what) status fb fn eb en said six = absurd (omega (arith, s
 -- the statuses of refusals
 pub refusal_status : (r : Refusal) (status fb fn : ℕ) (eb en : Option (List ℕ)) → IsTold (TellsSo fb fn eb en) r status
     → (IsTrue (is_status status)) × (¬ (status ≡ 0)) × (¬ (status ≡ 2)) × (¬ (status ≡ 5))
-refusal_status (Session e) status fb fn eb en said = elim said [ inl s ↦ (rw s.1.0 tt, λ zero. omega (arith, s.1.0, zero), λ two. omega (arith, s.1.0, two), λ five. omega (arith, s.1.0, five)) | inr s ↦ (rw s.0 tt, λ zero. omega (arith, s.0, zero), λ two. omega (arith, s.0, two), λ five. omega (arith, s.0, five)) ]
-refusal_status (Recording e) status fb fn eb en said = elim said [ inl s ↦ (rw s.1.0 tt, λ zero. omega (arith, s.1.0, zero), λ two. omega (arith, s.1.0, two), λ five. omega (arith, s.1.0, five)) | inr s ↦ (rw s.0 tt, λ zero. omega (arith, s.0, zero), λ two. omega (arith, s.0, two), λ five. omega (arith, s.0, five)) ]
-refusal_status (Order e) status fb fn eb en said = elim said [ inl s ↦ (rw s.0 tt, λ zero. omega (arith, s.0, zero), λ two. omega (arith, s.0, two), λ five. omega (arith, s.0, five)) | inr s ↦ (rw s.0 tt, λ zero. omega (arith, s.0, zero), λ two. omega (arith, s.0, two), λ five. omega (arith, s.0, five)) ]
-refusal_status (Stream e) status fb fn eb en said = elim said [ inl s ↦ (rw s.0 tt, λ zero. omega (arith, s.0, zero), λ two. omega (arith, s.0, two), λ five. omega (arith, s.0, five)) | inr s ↦ (rw s.0 tt, λ zero. omega (arith, s.0, zero), λ two. omega (arith, s.0, two), λ five. omega (arith, s.0, five)) ]
-refusal_status ReadFailed status fb fn eb en said = (rw said.0 tt, λ zero. omega (arith, said.0, zero), λ two. omega (arith, said.0, two), λ five. omega (arith, said.0, five))
-refusal_status NoMemory status fb fn eb en said = (rw said.0 tt, λ zero. omega (arith, said.0, zero), λ two. omega (arith, said.0, two), λ five. omega (arith, said.0, five))
-refusal_status (TooLong what) status fb fn eb en said = (rw said.0 tt, λ zero. omega (arith, said.0, zero), λ two. omega (arith, said.0, two), λ five. omega (arith, said.0, five))
+refusal_status (Session e) status fb fn eb en said = elim said [ inl s ↦ (rw s.1.0 refl, λ zero. omega (arith, s.1.0, zero), λ two. omega (arith, s.1.0, two), λ five. omega (arith, s.1.0, five)) | inr s ↦ (rw s.0 refl, λ zero. omega (arith, s.0, zero), λ two. omega (arith, s.0, two), λ five. omega (arith, s.0, five)) ]
+refusal_status (Recording e) status fb fn eb en said = elim said [ inl s ↦ (rw s.1.0 refl, λ zero. omega (arith, s.1.0, zero), λ two. omega (arith, s.1.0, two), λ five. omega (arith, s.1.0, five)) | inr s ↦ (rw s.0 refl, λ zero. omega (arith, s.0, zero), λ two. omega (arith, s.0, two), λ five. omega (arith, s.0, five)) ]
+refusal_status (Order e) status fb fn eb en said = elim said [ inl s ↦ (rw s.0 refl, λ zero. omega (arith, s.0, zero), λ two. omega (arith, s.0, two), λ five. omega (arith, s.0, five)) | inr s ↦ (rw s.0 refl, λ zero. omega (arith, s.0, zero), λ two. omega (arith, s.0, two), λ five. omega (arith, s.0, five)) ]
+refusal_status (Stream e) status fb fn eb en said = elim said [ inl s ↦ (rw s.0 refl, λ zero. omega (arith, s.0, zero), λ two. omega (arith, s.0, two), λ five. omega (arith, s.0, five)) | inr s ↦ (rw s.0 refl, λ zero. omega (arith, s.0, zero), λ two. omega (arith, s.0, two), λ five. omega (arith, s.0, five)) ]
+refusal_status ReadFailed status fb fn eb en said = (rw said.0 refl, λ zero. omega (arith, said.0, zero), λ two. omega (arith, said.0, two), λ five. omega (arith, said.0, five))
+refusal_status NoMemory status fb fn eb en said = (rw said.0 refl, λ zero. omega (arith, said.0, zero), λ two. omega (arith, said.0, two), λ five. omega (arith, said.0, five))
+refusal_status (TooLong what) status fb fn eb en said = (rw said.0 refl, λ zero. omega (arith, said.0, zero), λ two. omega (arith, said.0, two), λ five. omega (arith, said.0, five))
 
 -- what was told of a refusal, by its status
 pub tells_refusal : (told : Option (List Entry)) (words : List (List ℕ)) (before now : ℕ) (r : Refusal) (status fb fn : ℕ) (eb en : Option (List ℕ))

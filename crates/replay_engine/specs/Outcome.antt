@@ -27,11 +27,6 @@ LendsNames told lends (Some (batch stream frame)) = IsTrue (lends stream)
 LendsNames told lends (Some (hover files mouse)) = IsTrue (lends files.session) × (IsAccepted told files.session → IsTrue (lends files.events))
 LendsNames told lends (Some (emit stream channel device)) = IsTrue (lends stream)
 
--- a command that starts no threads, or none
-abbrev pub IsAlone : Option Command → Type 0
-IsAlone (Some (race files)) = ⊥
-IsAlone command = ⊤
-
 -- where the files are told, this is what the program answers
 abbrev pub ComesTo : Option (List Entry) → List (List ℕ) → Answer → Type 0
 ComesTo told words a = IfTold told (λ entries. IsAnswer entries words a)

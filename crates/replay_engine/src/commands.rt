@@ -17,26 +17,26 @@ use text_pieces::Pieces;
 pub fn answer_alone<F: Files>(
     alloc: Global,
     files: &mut F,
-    command: Alone<'_>,
+    command: &Alone<'_>,
 ) -> Result<Pieces, Refusal>
-    requires lends { LendsNames (F.entries files.old) (F.lends files.old) (Some (alone_view command)) }
-    requires ranges { InRanges (alone_view command) }
+    requires lends { LendsNames (F.entries files.old) (F.lends files.old) (Some (alone_view command.now)) }
+    requires ranges { InRanges (alone_view command.now) }
     requires free { F.lent files.old ≡ None }
-    ensures ok { IfOk result (λ text. Answers (F.entries files.old) (alone_view command) (Ok text)) }
-    ensures err { IfErr result (Refuses (λ r. Answers (F.entries files.old) (alone_view command) (Err r))
+    ensures ok { IfOk result (λ text. Answers (F.entries files.old) (alone_view command.now) (Ok text)) }
+    ensures err { IfErr result (Refuses (λ r. Answers (F.entries files.old) (alone_view command.now) (Err r))
         (F.faults files.old) (F.faults files.new)) }
 {
     match command {
-        Alone::Replay(recorded) => answer_replay(alloc, files, recorded),
-        Alone::Check { recorded, order } => answer_check(alloc, files, recorded, order),
+        Alone::Replay(recorded) => answer_replay(alloc, files, *recorded),
+        Alone::Check { recorded, order } => answer_check(alloc, files, *recorded, order),
         Alone::Verify { stream } => answer_verify(alloc, files, stream),
-        Alone::Work { seed, packets } => answer_work(alloc, seed, packets),
-        Alone::Batch { stream, frame } => answer_batch(alloc, files, stream, frame),
-        Alone::Hover { recorded, mouse } => answer_hover(alloc, files, recorded, mouse),
+        Alone::Work { seed, packets } => answer_work(alloc, *seed, *packets),
+        Alone::Batch { stream, frame } => answer_batch(alloc, files, stream, *frame),
+        Alone::Hover { recorded, mouse } => answer_hover(alloc, files, *recorded, mouse),
         Alone::Emit {
             stream,
             channel,
             device,
-        } => answer_emit(alloc, files, stream, channel, device),
+        } => answer_emit(alloc, files, stream, *channel, *device),
     }
 }

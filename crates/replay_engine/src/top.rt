@@ -1,7 +1,8 @@
 //! The top calls.
 ghost use Rattle.std.specs.Prelude.{◌≡◌, ◌↔◌, map, string_bytes, IsTrue, None};
 ghost use Rattle.command_words.specs.Forms.{form_of};
-ghost use Rattle.replay_engine.specs.Outcome.{FaultsBy, IsAlone, Completes, LendsNames, Tells, Writes, is_status};
+ghost use Rattle.command_answers.specs.Program.{IsAlone};
+ghost use Rattle.replay_engine.specs.Outcome.{Completes, FaultsBy, LendsNames, Tells, Writes, is_status};
 
 use crate::commands::answer_alone;
 use crate::ending::{end_answered, end_with};
@@ -37,7 +38,7 @@ pub fn run_alone<F: Files, O: Sink, E: Sink>(
 {
     match command_of(words) {
         Some(Command::Alone(command)) => {
-            let answer = answer_alone(alloc, files, command);
+            let answer = answer_alone(alloc, files, &command);
             end_answered(alloc, answer, out, err)
         }
         Some(Command::Race(_)) | None => end_with(2, USAGE, err),
@@ -87,7 +88,7 @@ pub fn run<R: Threads + Wait + Sync, F: Files, O: Sink, E: Sink, G: Gate + Sync>
             end_answered(alloc, answer, out, err)
         }
         Some(Command::Alone(command)) => {
-            let answer = answer_alone(alloc, files, command);
+            let answer = answer_alone(alloc, files, &command);
             end_answered(alloc, answer, out, err)
         }
         None => end_with(2, USAGE, err),
