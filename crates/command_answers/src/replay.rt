@@ -1,8 +1,7 @@
 //! `replay`: the run of a session and of a recording that is read in pieces.
-ghost use Rattle.std.specs.Prelude.{◌≡◌, ℕ, ◌+◌, ◌≤◌, List, [], map, reverse, string_bytes, IsTrue, None, Ok, Err};
-ghost use Rattle.std.specs.Prelude.{IfOk, IfErr, length};
-ghost use Rattle.outside_io.specs.Outside.{Rose};
-ghost use Rattle.raw_events.specs.Line.{known};
+ghost use Rattle.std.specs.Prelude.{◌≡◌, ℕ, ◌≤◌, List, map, length, IsTrue, None, Ok, Err, IfOk, IfErr};
+ghost use Rattle.command_words.specs.Command.{replay};
+ghost use Rattle.command_words.specs.CommandView.{recorded_view};
 ghost use Rattle.raw_events.specs.Recording.{recorded};
 ghost use Rattle.raw_events.specs.declared.event.RawEvent.{RawEvent as Event};
 ghost use Rattle.session_plan.specs.Plan.{PlanData};
@@ -10,16 +9,15 @@ ghost use Rattle.session_plan.specs.Valid.{IsPlan};
 ghost use Rattle.session_plan.specs.View.{channel_view, plan_view};
 ghost use Rattle.schedule.specs.Planned.{IsRun, plan_of};
 ghost use Rattle.schedule.specs.State.{Completed};
-ghost use Rattle.command_answers.specs.Begun.{BeginsWith};
-ghost use Rattle.command_answers.specs.Plan.{IsPlanned};
 ghost use Rattle.command_files.specs.Devices.{devices_of};
-ghost use Rattle.command_files.specs.Planned.{given, names_of, script_of};
+ghost use Rattle.command_files.specs.Inputs.{IsAccepted, lines_judged};
 ghost use Rattle.command_files.specs.Judged.{After, IfTold};
-ghost use Rattle.command_answers.specs.Replay.{RecordingAnswers, RunAnswers};
-ghost use Rattle.command_files.specs.Inputs.{lines_judged};
-ghost use Rattle.command_files.specs.Refusing.{Refuses, RefusesSo};
+ghost use Rattle.command_files.specs.Planned.{given, script_of};
 ghost use Rattle.command_files.specs.Recorded.{HasRead};
-ghost use Rattle.command_answers.specs.Replay.{Replays};
+ghost use Rattle.command_files.specs.Refusing.{Refuses, RefusesSo};
+ghost use Rattle.command_answers.specs.Begun.{BeginsWith};
+ghost use Rattle.command_answers.specs.Program.{Answers};
+ghost use Rattle.command_answers.specs.Replay.{RecordingAnswers, Replays, RunAnswers};
 
 use crate::plan::plan_run;
 use crate::texts::text_of;

@@ -7,7 +7,7 @@ ghost use Rattle.session_plan.specs.Session.{session_of};
 ghost use Rattle.session_plan.specs.Valid.{IsPlan};
 ghost use Rattle.session_plan.specs.View.{plan_view};
 ghost use Rattle.stream_text.specs.OrderText.{order_of};
-ghost use Rattle.command_files.specs.Inputs.{order_judged, order_lines};
+ghost use Rattle.command_files.specs.Inputs.{order_judged, order_lines, stream_judged};
 ghost use Rattle.command_files.specs.Judged.{IsJudged};
 ghost use Rattle.command_files.specs.Inputs.{events_judged, lines_judged, plan_judged, session_judged};
 ghost use Rattle.command_files.specs.Refusing.{Refuses, RefusesSo};
