@@ -18,17 +18,17 @@ pub lines-preserved : goal.lines-preserved
 lines-preserved c =
     let past = c.lines.invariant.known.0
     in let line = c.in-Ok-Some.line
-    in let takes = c.in_ok-take-in-Ok-Some.ensures.ok past c.lines.invariant.known.1
+    in let judges = c.in_ok-judge_line-in-Ok-Some.ensures.ok past c.lines.invariant.known.1
     in let is : c.in-Ok-Some.field-0 ≡ Some (c.in-Ok-Some.number, line) = c.in-Ok-Some.field-0-is
     in let read = one_read c.lines.lines c.next.new.self c.in-Ok-Some.field-0 (c.in-Ok-Some.number, line) is c.in-Ok-Some.ensures.lines
     in record {
       known = (
         told_after past line,
-        takes.knows,
-        sym (after_line past c.in-Ok-Some.number line c.lines.judge c.take.new.self c.next.new.self.events takes)
+        judges.knows,
+        sym (after_line past c.in-Ok-Some.number line c.lines.judge c.judge_line.new.self c.next.new.self.events judges)
             ∙ ap (judged_on c.lines.judge past) (sym read.0)
             ∙ c.lines.invariant.known.2,
       );
-      channels = omega (arith, c.lines.invariant.channels, takes.channels, one_channel line, read.1);
-      messages = omega (arith, c.lines.invariant.messages, takes.messages, one_message line, read.1);
+      channels = omega (arith, c.lines.invariant.channels, judges.channels, one_channel line, read.1);
+      messages = omega (arith, c.lines.invariant.messages, judges.messages, one_message line, read.1);
     }
