@@ -5,6 +5,9 @@ use Rattle.stream_judge.specs.declared.error.FileError.TheVariants.{BadLine, Not
 use Rattle.batch_text.specs.Text.{batched}
 use Rattle.command_files.specs.Judged.{Answer}
 use Rattle.command_files.specs.Refused.{Refused, bad_stream_line, not_well_formed, refused}
+use Rattle.command_files.specs.declared.refusal.Refusal.{Refusal}
+use Rattle.command_files.specs.declared.refusal.Refusal.TheVariants as refusal
+use Rattle.command_files.specs.declared.refusal.StreamError.TheVariants as stream
 
 -- why a stream file is refused
 abbrev pub file_refused : FileError → Refused
@@ -23,6 +26,6 @@ BatchAnswers frame bytes a = file_answer (batched frame bytes) ≡ a
 
 -- the refusal for a stream file that is judged
 abbrev pub refusal_of_file : FileError → Refusal
-refusal_of_file (file.BadLine n) = Stream (stream.BadLine n)
-refusal_of_file (file.NotWellFormed n) = Stream (stream.NotWellFormed n)
-refusal_of_file file.Memory = NoMemory
+refusal_of_file (BadLine n) = refusal.Stream (stream.BadLine n)
+refusal_of_file (NotWellFormed n) = refusal.Stream (stream.NotWellFormed n)
+refusal_of_file Memory = refusal.NoMemory

@@ -16,6 +16,7 @@ use Rattle.command_answers.specs.Whole.{AreWhole}
 use Rattle.command_files.specs.Inputs.{events_judged, order_judged}
 use Rattle.command_files.specs.Devices.{devices_of}
 use Rattle.command_answers.specs.Given.{given_limit}
+use Rattle.outside_io.specs.Outside.{Entry}
 
 -- the most lines of an order that is run
 abbrev pub line_limit : ℕ

@@ -5,6 +5,10 @@ use Rattle.emit_text.specs.declared.error.EmitError.TheVariants.{BadLine, NotWel
 use Rattle.emit_text.specs.Emitted.{IsEmitted}
 use Rattle.command_files.specs.Judged.{Answer}
 use Rattle.command_files.specs.Refused.{Refused, bad_stream_line, not_well_formed, no_channel, too_late, not_assignable, refused, too_long}
+use Rattle.command_files.specs.declared.refusal.Refusal.{Refusal}
+use Rattle.command_files.specs.declared.refusal.Refusal.TheVariants as refusal
+use Rattle.command_files.specs.declared.refusal.StreamError.TheVariants as stream
+use Rattle.command_files.specs.declared.refusal.Subject.TheVariants as subject
 
 -- A refusal that is told as one: a file that may be read never spends a writer, and want of memory is no answer.
 abbrev pub MayRefuse : EmitError → Type 0
@@ -35,11 +39,11 @@ EmitAnswers channel device bytes a =
 
 -- the refusal for a stream that is not written as a recording
 abbrev pub refusal_of_emit : EmitError → Refusal
-refusal_of_emit (emit.BadLine n) = Stream (stream.BadLine n)
-refusal_of_emit (emit.NotWellFormed n) = Stream (stream.NotWellFormed n)
-refusal_of_emit emit.NoChannel = Stream stream.NoChannel
-refusal_of_emit (emit.TooLate n) = Stream (stream.TooLate n)
-refusal_of_emit (emit.NotAssignable n) = Stream (stream.NotAssignable n)
-refusal_of_emit (emit.Spent n) = NoMemory
-refusal_of_emit emit.TooLong = TooLong subject.Run
-refusal_of_emit emit.Memory = NoMemory
+refusal_of_emit (BadLine n) = refusal.Stream (stream.BadLine n)
+refusal_of_emit (NotWellFormed n) = refusal.Stream (stream.NotWellFormed n)
+refusal_of_emit NoChannel = refusal.Stream stream.NoChannel
+refusal_of_emit (TooLate n) = refusal.Stream (stream.TooLate n)
+refusal_of_emit (NotAssignable n) = refusal.Stream (stream.NotAssignable n)
+refusal_of_emit (Spent n) = refusal.NoMemory
+refusal_of_emit TooLong = refusal.TooLong subject.Run
+refusal_of_emit Memory = refusal.NoMemory

@@ -6,6 +6,7 @@ use Rattle.hover_text.specs.Text.{hovered_text}
 use Rattle.session_plan.specs.Plan.{PlanData}
 use Rattle.command_files.specs.Judged.{Answer, Reads}
 use Rattle.command_files.specs.Inputs.{events_judged}
+use Rattle.outside_io.specs.Outside.{Entry}
 
 -- the mouse alone, as device 1
 abbrev pub mouse_alone : List ℕ → Known

@@ -24,6 +24,7 @@ use Rattle.command_files.specs.Refused.{too_long}
 use Rattle.command_answers.specs.Whole.{AreWhole}
 use Rattle.command_files.specs.Inputs.{events_judged}
 use Rattle.command_files.specs.Devices.{devices_of}
+use Rattle.outside_io.specs.Outside.{Entry}
 
 -- the owner of a channel finishes what it is given, where the first of these channels has the number k
 abbrev pub finishes_from : ℕ → List ChannelOf → ℕ → Bool

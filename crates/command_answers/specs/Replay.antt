@@ -1,5 +1,5 @@
 -- What a session comes to for the events of a recording.
-use Rattle.std.specs.Prelude.{codes, ◌≡◌, ℕ, List, Result, Ok, Err}
+use Rattle.std.specs.Prelude.{reverse, codes, ◌≡◌, ℕ, List, Result, Ok, Err}
 use Rattle.raw_events.specs.declared.event.RawEvent.{RawEvent}
 use Rattle.dispatch_history.specs.Effect.{Effect}
 use Rattle.dispatch_history.specs.Ordered.{Ordered, Rounds}
@@ -13,6 +13,7 @@ use Rattle.command_answers.specs.Whole.{AreWhole}
 use Rattle.command_files.specs.Judged.{Answer, Reads}
 use Rattle.command_files.specs.Inputs.{events_judged}
 use Rattle.command_files.specs.Devices.{devices_of}
+use Rattle.outside_io.specs.Outside.{Entry}
 
 -- The text of the streams of the ordered run, whose calls and messages are no more than may be. Events stand with the newest first.
 pub record Replayed (plan : PlanData) (past : List RawEvent) (text : List ℕ) : Type 0 where

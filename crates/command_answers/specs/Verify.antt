@@ -1,5 +1,5 @@
 -- What `verify` says of a stream file.
-use Rattle.std.specs.Prelude.{codes, ℕ, ◌+◌, List, ◌∷◌, ◌++◌, length, Option, Some, None, Result, Ok, Err, []}
+use Rattle.std.specs.Prelude.{◌≡◌, codes, ℕ, ◌+◌, List, ◌∷◌, ◌++◌, length, Option, Some, None, Result, Ok, Err, []}
 use Rattle.std.specs.Fmt.{decimal}
 use Rattle.stream_text.specs.StreamFile.{Stream, events_of, streams_in}
 use Rattle.command_files.specs.Refused.{Refused, bad_stream_line, not_well_formed}
