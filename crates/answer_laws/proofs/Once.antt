@@ -7,16 +7,22 @@ use Rattle.session_plan.specs.Plan.{PlanData}
 use Rattle.command_words.specs.Command.{Command, Recorded, replay, race, check, verify, work, batch, hover, emit}
 use Rattle.command_words.specs.Forms.{form_of}
 use Rattle.emit_text.proofs.Once.{emitted_once}
-use Rattle.replay_engine.specs.Batched.{BatchAnswers}
-use Rattle.replay_engine.specs.Devices.{devices_of}
-use Rattle.replay_engine.specs.Emitted.{EmitAnswers, emit_answer}
-use Rattle.replay_engine.specs.Followed.{OrderAnswers, order_judged}
-use Rattle.replay_engine.specs.Hovered.{HoverAnswers, mouse_alone}
-use Rattle.replay_engine.specs.Judged.{After, Answer, Reads}
-use Rattle.replay_engine.specs.Outcome.{IsAlone}
-use Rattle.replay_engine.specs.Program.{AnswersTo, CheckAnswers, MouseAnswers, RecordingAnswers, RunAnswers, StreamAnswers, ThreadsAnswer, events_judged, session_judged, stream_judged}
-use Rattle.replay_engine.specs.Races.{RaceAnswers, Races}
-use Rattle.replay_engine.specs.Refused.{Refused}
+use Rattle.command_answers.specs.Batch.{BatchAnswers}
+use Rattle.command_files.specs.Devices.{devices_of}
+use Rattle.command_answers.specs.Emit.{EmitAnswers, emit_answer}
+use Rattle.command_answers.specs.Checked.{OrderAnswers}
+use Rattle.command_files.specs.Inputs.{order_judged}
+use Rattle.command_answers.specs.Hover.{HoverAnswers, mouse_alone}
+use Rattle.command_files.specs.Judged.{After, Answer, Reads}
+use Rattle.command_answers.specs.Program.{AnswersTo, IsAlone}
+use Rattle.command_answers.specs.Checked.{CheckAnswers}
+use Rattle.command_answers.specs.Hover.{MouseAnswers}
+use Rattle.command_answers.specs.Replay.{RecordingAnswers, RunAnswers}
+use Rattle.command_answers.specs.Verify.{StreamAnswers}
+use Rattle.command_answers.specs.Race.{ThreadsAnswer}
+use Rattle.command_files.specs.Inputs.{events_judged, session_judged, stream_judged}
+use Rattle.command_answers.specs.Race.{RaceAnswers, Races}
+use Rattle.command_files.specs.Refused.{Refused}
 use Rattle.answer_laws.specs.Laws.{OneAnswer, OneRefusal}
 use Rattle.answer_laws.proofs.Runs.{follows_once, races_refused, replays_once, works_once}
 

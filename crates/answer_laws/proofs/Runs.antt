@@ -7,13 +7,13 @@ use Rattle.stream_text.specs.declared.order_line.OrderLine.{OrderLine}
 use Rattle.stream_text.specs.StreamsHistory.{streams_text}
 use Rattle.workload_maker.specs.Session.{session}
 use Rattle.run_laws.proofs.Growing.{one_outcome}
-use Rattle.replay_engine.specs.Followed.{IsFollowed, followed}
-use Rattle.replay_engine.specs.Judged.{Answer}
-use Rattle.replay_engine.specs.Planned.{names_of, run_of}
-use Rattle.replay_engine.specs.Races.{Races}
-use Rattle.replay_engine.specs.Refused.{Refused}
-use Rattle.replay_engine.specs.Replayed.{Overruns, Replayed, Replays}
-use Rattle.replay_engine.specs.Worked.{Worked, Works, summary, work_given, work_past}
+use Rattle.command_answers.specs.Checked.{IsFollowed, followed}
+use Rattle.command_files.specs.Judged.{Answer}
+use Rattle.command_files.specs.Planned.{names_of, run_of}
+use Rattle.command_answers.specs.Race.{Races}
+use Rattle.command_files.specs.Refused.{Refused}
+use Rattle.command_answers.specs.Replay.{Overruns, Replayed, Replays}
+use Rattle.command_answers.specs.Work.{Worked, Works, summary, work_given, work_past}
 
 replays_one : (plan : PlanData) (past : List RawEvent) (s t : List ℕ) → Replayed plan past s → Replayed plan past t → t ≡ s
 replays_one plan past s t x y =

@@ -18,9 +18,9 @@ use Rattle.run_laws.specs.Fitting.{HandNone, KeepRule}
 use Rattle.run_laws.proofs.GivenKeeps.{given_takes}
 use Rattle.run_laws.proofs.Handing.{handed_keep}
 use Rattle.run_laws.proofs.OrderedKeeps.{ordered_takes}
-use Rattle.replay_engine.specs.Cooked.{device_plan, device_plans, plans_of}
+use Rattle.command_files.specs.Cooked.{device_plan, device_plans, plans_of}
 use Rattle.replay_actors.specs.Session.{call_of, step_of}
-use Rattle.replay_engine.specs.Planned.{given, run_of}
+use Rattle.command_files.specs.Planned.{given, run_of}
 use Rattle.answer_laws.specs.Laws.{OrderTakes, RunTakes}
 
 kind_number : (displays : List Display) (k : ℕ) (kind : DeviceKind) → number_of (device_plan displays k kind) ≡ k

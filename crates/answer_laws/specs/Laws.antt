@@ -12,11 +12,10 @@ use Rattle.session_plan.specs.DeviceDisplays.{device_displays}
 use Rattle.session_plan.specs.Plan.{PlanData}
 use Rattle.command_words.specs.Forms.{form_of}
 use Rattle.run_laws.specs.Fitting.{NoneRefused}
-use Rattle.replay_engine.specs.Judged.{Answer}
-use Rattle.replay_engine.specs.Outcome.{IsAlone}
-use Rattle.replay_engine.specs.Planned.{run_of}
-use Rattle.replay_engine.specs.Program.{IsAnswer}
-use Rattle.replay_engine.specs.Refused.{Refused}
+use Rattle.command_files.specs.Judged.{Answer}
+use Rattle.command_files.specs.Planned.{run_of}
+use Rattle.command_answers.specs.Program.{IsAlone, IsAnswer}
+use Rattle.command_files.specs.Refused.{Refused}
 
 -- No args of a session are refused in its ordered run, however far that has come, whatever the events of its recording.
 abbrev pub RunTakes : Type 0

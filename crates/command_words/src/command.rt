@@ -19,10 +19,17 @@ pub struct Recorded<'a> {
 /// A command with what its options say.
 #[derive(Clone, Copy)]
 pub enum Command<'a> {
-    /// Prints what each window is told for a recording.
-    Replay(Recorded<'a>),
     /// Prints an order that threads took, and what each window is told in it.
     Race(Recorded<'a>),
+    /// A command that starts no threads.
+    Alone(Alone<'a>),
+}
+
+/// A command that starts no threads, with what its options say.
+#[derive(Clone, Copy)]
+pub enum Alone<'a> {
+    /// Prints what each window is told for a recording.
+    Replay(Recorded<'a>),
     /// Prints what each window is told in the order that a file gives.
     Check {
         recorded: Recorded<'a>,
@@ -83,7 +90,7 @@ fn replay_of<'a>(options: &Options<'a>) -> Option<Command<'a>>
     ensures ranges { IfSome result (λ c. InRanges (command_view c)) }
 {
     let recorded = recorded_of(options)?;
-    Some(Command::Replay(recorded))
+    Some(Command::Alone(Alone::Replay(recorded)))
 }
 
 /// `race`, with the files of a run.
@@ -104,7 +111,7 @@ fn check_of<'a>(options: &Options<'a>) -> Option<Command<'a>>
 {
     let recorded = recorded_of(options)?;
     let order = options.value("--order")?;
-    Some(Command::Check { recorded, order })
+    Some(Command::Alone(Alone::Check { recorded, order }))
 }
 
 /// `verify`, with a stream file.
@@ -114,7 +121,7 @@ fn verify_of<'a>(options: &Options<'a>) -> Option<Command<'a>>
     ensures ranges { IfSome result (λ c. InRanges (command_view c)) }
 {
     let stream = options.value("--stream")?;
-    Some(Command::Verify { stream })
+    Some(Command::Alone(Alone::Verify { stream }))
 }
 
 /// `work`, with a seed of 32 bits and 1 to 200,000 packets.
@@ -125,7 +132,7 @@ fn work_of<'a>(options: &Options<'a>) -> Option<Command<'a>>
 {
     let seed = number_of(options, "--seed", 0, 4_294_967_295)? as u32;
     let packets = number_of(options, "--packets", 1, 200_000)? as u32;
-    Some(Command::Work { seed, packets })
+    Some(Command::Alone(Alone::Work { seed, packets }))
 }
 
 /// `batch`, with a stream file and a frame of 1 to 1,000,000,000.
@@ -136,7 +143,7 @@ fn batch_of<'a>(options: &Options<'a>) -> Option<Command<'a>>
 {
     let stream = options.value("--stream")?;
     let frame = number_of(options, "--frame", 1, 1_000_000_000)?;
-    Some(Command::Batch { stream, frame })
+    Some(Command::Alone(Alone::Batch { stream, frame }))
 }
 
 /// `hover`, with the files of a run and the path of a mouse.
@@ -148,7 +155,7 @@ fn hover_of<'a>(options: &Options<'a>) -> Option<Command<'a>>
     let recorded = recorded_of(options)?;
     let mouse = options.value("--mouse")?;
     if is_path(mouse) {
-        Some(Command::Hover { recorded, mouse })
+        Some(Command::Alone(Alone::Hover { recorded, mouse }))
     } else {
         None
     }
@@ -163,11 +170,11 @@ fn emit_of<'a>(options: &Options<'a>) -> Option<Command<'a>>
     let stream = options.value("--stream")?;
     let channel = number_of(options, "--channel", 1, 64)? as u32;
     let device = DeviceId::new(number_of(options, "--device", 1, 8)? as u8)?;
-    Some(Command::Emit {
+    Some(Command::Alone(Alone::Emit {
         stream,
         channel,
         device,
-    })
+    }))
 }
 
 /// The command with a name, where the options are as many as it has and say what they are to.

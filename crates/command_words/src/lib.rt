@@ -17,4 +17,4 @@ mod number;
 mod options;
 mod value;
 
-pub use command::{Command, Recorded, command_of};
+pub use command::{Alone, Command, Recorded, command_of};

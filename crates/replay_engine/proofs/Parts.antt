@@ -1,11 +1,11 @@
 -- A text in pieces: its front pieces, and a front part of it.
-use Rattle.std.proofs.Common.{◌≡◌, ◌∙◌, ℕ, zero, suc, ◌+◌, ◌<◌, List, [], ◌∷◌, ◌++◌, take, drop, length, get_or, ap, sym, refl}
+use Rattle.std.proofs.Common.{◌≡◌, ◌∙◌, ℕ, zero, suc, ◌+◌, ◌<◌, List, ◌∷◌, ◌++◌, take, drop, length, get_or, ap, sym, refl, []}
 use Rattle.std.proofs.lemmas.List.{append_assoc, take-append-drop}
 use Rattle.std.specs.declared.alloc.Global.{Global}
 use Rattle.std.specs.declared.vec.Vec.{Vec}
 use Rattle.text_pieces.specs.Joined.{joined}
 use Rattle.text_pieces.proofs.OneMore.{joined_more}
-use Rattle.replay_engine.proofs.Newest.{left_with_next, next_of_take}
+use Rattle.command_files.proofs.Newest.{left_with_next, next_of_take}
 
 joined_append : (ps qs : List (Vec ℕ Global)) → joined (ps ++ qs) ≡ joined ps ++ joined qs
 joined_append [] qs = refl

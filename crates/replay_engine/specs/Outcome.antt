@@ -1,13 +1,15 @@
 -- What a run comes to: how its status, its text and its line go with what the program answers.
-use Rattle.std.specs.Prelude.{◌≡◌, ℕ, nat_eq, ◌||◌, Bool, List, take, Option, Some, None, Ok, Err, ⊤, IsTrue, ◌⊎◌}
-use Rattle.std.specs.Io.KnownBytes.{Appends}
+use Rattle.std.specs.Prelude.{codes, ◌≡◌, ◌≢◌, ℕ, nat_eq, ◌||◌, Bool, List, take, Option, Some, None, Ok, Err, ⊤, IsTrue, ◌⊎◌}
+use Rattle.std.specs.Io.KnownBytes.{Appends, Keeps}
 use Rattle.outside_io.specs.Outside.{Entry, Rose}
-use Rattle.replay_engine.specs.declared.statuses.Refusal.{Refusal}
-use Rattle.replay_engine.specs.declared.statuses.Subject.{Subject}
-use Rattle.replay_engine.specs.Judged.{Answer, IfTold}
-use Rattle.replay_engine.specs.Program.{AnswersTo, AreAccepted, IsAnswer, IsAccepted}
-use Rattle.replay_engine.specs.Refused.{Refused, too_long}
-use Rattle.replay_engine.specs.RefusalView.{HasCause, subject_word, status_of, refusal_view}
+use Rattle.command_files.specs.declared.refusal.Refusal.{Refusal}
+use Rattle.command_files.specs.declared.refusal.Subject.{Subject}
+use Rattle.command_files.specs.Judged.{Answer, IfTold}
+use Rattle.command_answers.specs.Program.{IsAnswer, usage}
+use Rattle.command_files.specs.Inputs.{AreAccepted, IsAccepted}
+use Rattle.command_files.specs.Refused.{Refused, too_long}
+use Rattle.replay_engine.specs.Telling.{HasCause}
+use Rattle.command_files.specs.RefusalView.{subject_word, status_of, refusal_view}
 use Rattle.command_words.specs.Command.{Command, replay, race, check, verify, work, batch, hover, emit}
 
 -- The files lend each name that the words give: that of a recording only where the session is accepted, and that of an order file only
@@ -25,18 +27,9 @@ LendsNames told lends (Some (batch stream frame)) = IsTrue (lends stream)
 LendsNames told lends (Some (hover files mouse)) = IsTrue (lends files.session) × (IsAccepted told files.session → IsTrue (lends files.events))
 LendsNames told lends (Some (emit stream channel device)) = IsTrue (lends stream)
 
--- a command that starts no threads, or none
-abbrev pub IsAlone : Option Command → Type 0
-IsAlone (Some (race files)) = ⊥
-IsAlone command = ⊤
-
 -- where the files are told, this is what the program answers
 abbrev pub ComesTo : Option (List Entry) → List (List ℕ) → Answer → Type 0
 ComesTo told words a = IfTold told (λ entries. IsAnswer entries words a)
-
--- where the files are told, this is the answer to a command
-abbrev pub Answers : Option (List Entry) → Command → Answer → Type 0
-Answers told command a = IfTold told (λ entries. AnswersTo entries (Some command) a)
 
 -- a sink whose count did not rise took exactly this line
 abbrev pub Said : ℕ → ℕ → Option (List ℕ) → Option (List ℕ) → List ℕ → Type 0
@@ -86,3 +79,36 @@ abbrev pub IsComplete : Option (List Entry) → List (List ℕ) → ℕ → Type
 IsComplete None words status = ⊤
 IsComplete (Some entries) words status =
     ((a : Answer) × IsAnswer entries words a × HasStatus a status) ⊎ (status ≡ 6)
+
+-- Where neither the files nor the output had a fault, a run is complete.
+abbrev pub Completes : Option (List Entry) → List (List ℕ) → ℕ → ℕ → ℕ → ℕ → ℕ → Type 0
+Completes told words files_before files_now out_before out_now status =
+    ¬ (Rose files_before files_now) → ¬ (Rose out_before out_now) → IsComplete told words status
+
+-- What the output took, by the status: the whole text of the answer on 0, a front part of it on 5, and nothing on any other.
+pub record Writes (told : Option (List Entry)) (words : List (List ℕ)) (before now : Option (List ℕ)) (status : ℕ) : Type 0 where
+  pub whole : status ≡ 0 → WroteAll told words before now
+  pub front : status ≡ 5 → WroteFront told words before now
+  pub nothing : status ≢ 0 → status ≢ 5 → Keeps before now
+
+-- What the error sink took, by the status. On 1, 2, 3 and 7 that is the line of a refusal with this status, which is the program's
+-- answer; on 4, 5 and 6 that of a fault or of want of memory; on 0 nothing.
+pub record Tells (told : Option (List Entry)) (words : List (List ℕ)) (faults_before faults_now : ℕ) (before now : Option (List ℕ)) (status : ℕ) : Type 0 where
+  pub judged : status ≡ 1 → RefusedBy told words 1 (Said faults_before faults_now before now)
+  pub usage_told : status ≡ 2 → RefusedBy told words 2 (Said faults_before faults_now before now)
+  pub refused : status ≡ 3 → RefusedBy told words 3 (Said faults_before faults_now before now)
+  pub too_much : status ≡ 7 → RefusedBy told words 7 (Said faults_before faults_now before now)
+  -- what is told where the files are not, too
+  pub judged_line : status ≡ 1 → SaidSome 1 faults_before faults_now before now
+  pub usage_line : status ≡ 2 → Said faults_before faults_now before now usage.line
+  pub refused_line : status ≡ 3 → SaidSome 3 faults_before faults_now before now
+  pub too_much_line : status ≡ 7 → SaidTooLong faults_before faults_now before now
+  pub read_line : status ≡ 4 → Said faults_before faults_now before now (codes "read failed\n")
+  pub write_line : status ≡ 5 → Said faults_before faults_now before now (codes "write failed\n")
+  pub memory_line : status ≡ 6 → Said faults_before faults_now before now (codes "no memory\n")
+  pub silent : status ≡ 0 → Keeps before now
+
+-- A read or a write failed, where the status says so.
+pub record FaultsBy (files_before files_now out_before out_now status : ℕ) : Type 0 where
+  pub read : status ≡ 4 → Rose files_before files_now
+  pub write : status ≡ 5 → Rose out_before out_now

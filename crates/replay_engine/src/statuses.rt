@@ -1,118 +1,38 @@
-//! Why a run writes no text, with the line that it tells instead and its status.
+//! The lines that say why a command writes no text.
 ghost use Rattle.std.specs.Prelude.{◌≡◌, ◌++◌, codes, string_bytes, IfOk};
-ghost use Rattle.emit_text.specs.Emitted.{IsNotSpent};
 ghost use Rattle.session_plan.specs.ErrorLine.{error_line};
-ghost use Rattle.replay_engine.specs.Refused.{recording_line};
-ghost use Rattle.replay_engine.specs.RefusalView.{order_line as order_said, refusal_of_emit, refusal_of_file};
-ghost use Rattle.replay_engine.specs.RefusalView.{stream_line as stream_said};
-ghost use Rattle.replay_engine.specs.declared.statuses.Refusal.TheVariants.{NoMemory};
+ghost use Rattle.command_files.specs.Refused.{recording_line, too_long};
+ghost use Rattle.command_files.specs.RefusalView.{order_line as order_said, stream_line as stream_said, subject_word};
 
-use emit_text::EmitError;
+use command_files::{OrderError, StreamError, Subject};
 use raw_events::LineError;
 use session_plan::PlanError;
 use std::alloc::{AllocError, Global};
-use stream_judge::FileError;
 
 /// The line that tells the commands.
 pub const USAGE: &str = "usage: inputflinger replay|race|check|verify|work|batch|hover|emit\n";
 
-/// What a run found to be longer than its limit.
-#[derive(Clone, Copy, Debug, PartialEq, Eq)]
-pub enum Subject {
-    /// The session has more bytes than 4 MiB.
-    Session,
-    /// The recording has more bytes than 32 MiB.
-    Recording,
-    /// The order file has more bytes than 64 MiB.
-    Order,
-    /// The session has more steps than 100,000.
-    Steps,
-    /// The stream file has more bytes than 64 MiB.
-    Stream,
-    /// The run has more calls or more messages than 4,000,000, the order more lines than 8,000,000, what is checked or
-    /// raced more args than 20,000, or the recording that is written more bytes than 32 MiB.
-    Run,
-}
-
-/// Why an order file is refused. Lines are numbered from 1.
-#[derive(Clone, Copy, Debug, PartialEq, Eq)]
-pub enum OrderError {
-    /// The line is not of the grammar of order files, or is missing.
-    BadLine { line: u64 },
-    /// The line asks for a step of the recording or of a lane, and none is left.
-    NoStep { line: u64 },
-}
-
-/// Why a stream file is refused. Lines are numbered from 1.
-#[derive(Clone, Copy, Debug, PartialEq, Eq)]
-pub enum StreamError {
-    /// The line is not of the grammar of stream files, or is missing.
-    BadLine { line: u64 },
-    /// The message of the line may not come after those before it in its section.
-    NotWellFormed { line: u64 },
-    /// No section is of the channel.
-    NoChannel,
-    /// The motion of the line has a moment that no event of a recording has.
-    TooLate { line: u64 },
-    /// The motion of the line has a pointer with an id that cooking would not give it.
-    NotAssignable { line: u64 },
-}
-
-/// Why a run writes no text.
-#[derive(Debug, Drop)]
-pub enum Refusal {
-    /// The words are of no command's form.
-    Usage,
-    /// The session is refused.
-    Session(PlanError),
-    /// A line of the recording is refused.
-    Recording(LineError),
-    /// An order file is refused.
-    Order(OrderError),
-    /// A stream file is refused.
-    Stream(StreamError),
-    /// A file could not be read.
-    ReadFailed,
-    /// There was not enough memory.
-    NoMemory,
-    TooLong(Subject),
-}
-
-impl From<AllocError> for Refusal {
-    ghost from_gives = { λ _ e. e ≡ NoMemory };
-
-    fn from(_error: AllocError) -> Refusal {
-        Refusal::NoMemory
-    }
-}
-
-/// Why a stream file that is judged is refused.
-pub fn stream_refusal(error: FileError) -> Refusal
-    ensures { result ≡ refusal_of_file error }
+/// The line for what is longer than its limit.
+pub fn too_long_line(what: Subject) -> &'static str
+    ensures { result.now ≡ (too_long (subject_word what)).line }
 {
-    match error {
-        FileError::BadLine { line } => Refusal::Stream(StreamError::BadLine { line }),
-        FileError::NotWellFormed { line } => Refusal::Stream(StreamError::NotWellFormed { line }),
-        FileError::Memory => Refusal::NoMemory,
+    match what {
+        Subject::Session => "too long: session\n",
+        Subject::Recording => "too long: recording\n",
+        Subject::Order => "too long: order\n",
+        Subject::Steps => "too long: steps\n",
+        Subject::Stream => "too long: stream\n",
+        Subject::Run => "too long: run\n",
     }
 }
 
-/// Why a stream is not written as a recording. A file that may be read has too few lines to use up all slots or
-/// tracking ids, so no error of one says so.
-pub fn emit_refusal(error: EmitError) -> Refusal
-    requires { IsNotSpent error }
-    ensures { result ≡ refusal_of_emit error }
+/// A line with its newline.
+fn with_newline(text: String) -> Result<String, AllocError>
+    ensures { IfOk result (λ line. string_bytes line ≡ string_bytes text ++ codes "\n") }
 {
-    match error {
-        EmitError::BadLine { line } => Refusal::Stream(StreamError::BadLine { line }),
-        EmitError::NotWellFormed { line } => Refusal::Stream(StreamError::NotWellFormed { line }),
-        EmitError::NoChannel => Refusal::Stream(StreamError::NoChannel),
-        EmitError::TooLate { line } => Refusal::Stream(StreamError::TooLate { line }),
-        EmitError::NotAssignable { line } => Refusal::Stream(StreamError::NotAssignable { line }),
-        EmitError::TooLong => Refusal::TooLong(Subject::Run),
-        EmitError::Memory => Refusal::NoMemory,
-        EmitError::Spent { .. } => unreachable!(),
-    }
+    let mut line = text;
+    line.push_str("\n")?;
+    Ok(line)
 }
 
 /// The line of a refused recording.
@@ -148,35 +68,6 @@ fn stream_text(alloc: Global, error: StreamError) -> Result<String, AllocError>
         StreamError::TooLate { line } => format!(in alloc; "stream: TooLate {line}"),
         StreamError::NotAssignable { line } => format!(in alloc; "stream: NotAssignable {line}"),
     }
-}
-
-impl Subject {
-    ghost use Rattle.std.specs.Prelude.{◌≡◌};
-    ghost use Rattle.replay_engine.specs.Refused.{too_long};
-    ghost use Rattle.replay_engine.specs.RefusalView.{subject_word};
-
-    /// The line that says so.
-    pub fn line(self) -> &'static str
-        ensures { result.now ≡ (too_long (subject_word self)).line }
-    {
-        match self {
-            Subject::Session => "too long: session\n",
-            Subject::Recording => "too long: recording\n",
-            Subject::Order => "too long: order\n",
-            Subject::Steps => "too long: steps\n",
-            Subject::Stream => "too long: stream\n",
-            Subject::Run => "too long: run\n",
-        }
-    }
-}
-
-/// A line with its newline.
-fn with_newline(text: String) -> Result<String, AllocError>
-    ensures { IfOk result (λ line. string_bytes line ≡ string_bytes text ++ codes "\n") }
-{
-    let mut line = text;
-    line.push_str("\n")?;
-    Ok(line)
 }
 
 /// The line of a refused session.

@@ -4,7 +4,7 @@ use Rattle.std.proofs.lemmas.List.{append_assoc}
 use Rattle.std.specs.Io.KnownBytes.{Appends}
 use Rattle.std.proofs.KnownBytes.{Appends-trans}
 use Rattle.text_pieces.specs.Joined.{joined}
-use Rattle.replay_engine.proofs.Outcomes.{on_err_any, on_err_map}
+use Rattle.command_files.proofs.Outcomes.{on_err_any, on_err_map}
 use Rattle.replay_engine.proofs.Parts.{behind_front, joined_at, joined_next, piece_front}
 use Rattle.replay_engine.proofs.writing.write_text.Goals as goal
 

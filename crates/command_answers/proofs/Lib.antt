@@ -1,0 +1,12 @@
+pub mod Answering
+pub mod Begins
+pub mod Bounds
+pub mod EndLines
+pub mod Finishing
+pub mod NextSection
+pub mod Orders
+pub mod Overruns
+pub mod RaceTexts
+pub mod Ties
+pub mod WholeRun
+pub mod WorkRuns

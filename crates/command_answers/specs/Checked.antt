@@ -1,0 +1,57 @@
+-- What `check` answers of an order file.
+use Rattle.std.specs.Prelude.{codes, ◌≡◌, ℕ, ◌+◌, nat_le, cond, List, length, map, reverse, Result, Ok, Err}
+use Rattle.raw_events.specs.declared.event.RawEvent.{RawEvent}
+use Rattle.dispatch_calls.specs.declared.call.Call.{Call}
+use Rattle.dispatch_history.specs.Given as history
+use Rattle.dispatch_history.specs.Legal.{run}
+use Rattle.stream_text.specs.OrderAsks.{line_of}
+use Rattle.session_plan.specs.DeviceDisplays.{device_displays}
+use Rattle.session_plan.specs.Plan.{PlanData}
+use Rattle.stream_text.specs.declared.order_line.OrderLine.{OrderLine}
+use Rattle.stream_text.specs.StreamsHistory.{streams_text}
+use Rattle.command_files.specs.Judged.{Answer, Reads}
+use Rattle.command_files.specs.Planned.{given, names_of, run_of}
+use Rattle.command_files.specs.Refused.{no_step, too_long}
+use Rattle.command_answers.specs.Whole.{AreWhole}
+use Rattle.command_files.specs.Inputs.{events_judged, order_judged}
+use Rattle.command_files.specs.Devices.{devices_of}
+use Rattle.command_answers.specs.Given.{given_limit}
+use Rattle.outside_io.specs.Outside.{Entry}
+
+-- the most lines of an order that is run
+abbrev pub line_limit : ℕ
+line_limit = 8000000
+
+-- The streams text of a session after these calls; or the line that asks for a step that does not exist, which stands behind the first
+-- line of the file and so many others.
+abbrev pub steps_judged : PlanData → Result (List Call) ℕ → Answer
+steps_judged plan (Ok calls) = Ok (streams_text (names_of plan) (run (device_displays plan.devices) (reverse calls)))
+steps_judged plan (Err before) = Err (no_step (before + 2))
+
+-- what an order comes to for a session and the events of a recording, the newest first: neither the args nor the lines may be too many
+abbrev pub followed : PlanData → List RawEvent → List OrderLine → Answer
+followed plan past lines =
+    cond (nat_le (length (given plan past)) given_limit)
+    (cond (nat_le (length lines) line_limit) (steps_judged plan (history.given (run_of plan past) (map line_of lines))) (Err (too_long (codes "run"))))
+    (Err (too_long (codes "run")))
+
+-- The text that an order comes to, which is of the streams of its calls, and these are whole.
+pub record FollowsTo (plan : PlanData) (past : List RawEvent) (lines : List OrderLine) (text : List ℕ) : Type 0 where
+  pub calls : List Call
+  pub given_is : history.given (run_of plan past) (map line_of lines) ≡ Ok calls
+  pub whole : AreWhole (device_displays plan.devices) (run (device_displays plan.devices) (reverse calls))
+  pub text_is : followed plan past lines ≡ Ok text
+
+-- the text of an order for the events of a recording, the newest first, or why it has none
+abbrev pub IsFollowed : PlanData → List RawEvent → List OrderLine → Answer → Type 0
+IsFollowed plan past lines (Ok text) = FollowsTo plan past lines text
+IsFollowed plan past lines (Err r) = followed plan past lines ≡ Err r
+
+-- what an order comes to for the events of a recording, which stand in their order
+abbrev pub OrderAnswers : PlanData → List RawEvent → List OrderLine → Answer → Type 0
+OrderAnswers plan events lines a = IsFollowed plan (reverse events) lines a
+
+-- the answer once session and recording are accepted: the order file is judged, and then comes the run
+abbrev pub CheckAnswers : List Entry → List ℕ → List ℕ → PlanData → Answer → Type 0
+CheckAnswers entries events order plan a =
+    Reads entries events (events_judged (devices_of plan)) (λ given. Reads entries order order_judged (OrderAnswers plan given)) a

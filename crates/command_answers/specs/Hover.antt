@@ -1,0 +1,21 @@
+-- What `hover` answers of a recording.
+use Rattle.std.specs.Prelude.{◌≡◌, ℕ, List, ◌∷◌, reverse, Ok, []}
+use Rattle.raw_events.specs.declared.event.RawEvent.{RawEvent}
+use Rattle.raw_events.specs.Line.{Known}
+use Rattle.hover_text.specs.Text.{hovered_text}
+use Rattle.session_plan.specs.Plan.{PlanData}
+use Rattle.command_files.specs.Judged.{Answer, Reads}
+use Rattle.command_files.specs.Inputs.{events_judged}
+use Rattle.outside_io.specs.Outside.{Entry}
+
+-- the mouse alone, as device 1
+abbrev pub mouse_alone : List ℕ → Known
+mouse_alone path = (path, 1) ∷ []
+
+-- what the windows of a session are told of the mouse, whose events stand in their order
+abbrev pub HoverAnswers : PlanData → List RawEvent → Answer → Type 0
+HoverAnswers plan events a = Ok (hovered_text plan (reverse events)) ≡ a
+
+-- the answer once the session is accepted: the recording of the mouse is judged, and then it is moved
+abbrev pub MouseAnswers : List Entry → List ℕ → List ℕ → PlanData → Answer → Type 0
+MouseAnswers entries events path plan a = Reads entries events (events_judged (mouse_alone path)) (HoverAnswers plan) a

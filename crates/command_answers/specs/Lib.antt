@@ -1,0 +1,15 @@
+pub mod Batch
+pub mod Begun
+pub mod Checked
+pub mod Emit
+pub mod Given
+pub mod Hover
+pub mod Judging
+pub mod Plan
+pub mod Program
+pub mod Race
+pub mod RaceEnds
+pub mod Replay
+pub mod Verify
+pub mod Whole
+pub mod Work

@@ -1,0 +1,68 @@
+-- What `race` answers.
+use Rattle.std.specs.Prelude.{codes, ◌≡◌, ◌<◌, ◌≤◌, ◌==◌, if◌then◌else◌, ℕ, ◌+◌, Bool, false, List, ◌∷◌, ◌++◌, length, map, reverse, Ok, Err, []}
+use Rattle.raw_events.specs.declared.event.RawEvent.{RawEvent}
+use Rattle.dispatch_calls.specs.declared.call.Call.{Call}
+use Rattle.dispatch_history.specs.Given as history
+use Rattle.dispatch_history.specs.Legal.{run, replay}
+use Rattle.dispatch_history.specs.Plan.{ChannelOf, Plan}
+use Rattle.dispatch_history.specs.Settled.{Settled}
+use Rattle.stream_text.specs.OrderAsks.{line_of}
+use Rattle.replay_actors.specs.Finishing.{AreOrderly}
+use Rattle.replay_actors.specs.Orders.{readers, steps_in}
+use Rattle.dispatch_history.specs.Given.{calls_of_lane}
+use Rattle.replay_actors.specs.Texts.{ReadsAgain}
+use Rattle.session_plan.specs.DeviceDisplays.{device_displays}
+use Rattle.session_plan.specs.Plan.{PlanData}
+use Rattle.stream_text.specs.declared.order_line.OrderLine.{OrderLine}
+use Rattle.stream_text.specs.Order.{order_spelling}
+use Rattle.stream_text.specs.StreamsHistory.{streams_text}
+use Rattle.command_answers.specs.Given.{given_limit}
+use Rattle.command_files.specs.Judged.{Answer, Reads}
+use Rattle.replay_actors.specs.Session.{channel_of}
+use Rattle.command_files.specs.Planned.{given, names_of, run_of}
+use Rattle.command_files.specs.Refused.{too_long}
+use Rattle.command_answers.specs.Whole.{AreWhole}
+use Rattle.command_files.specs.Inputs.{events_judged}
+use Rattle.command_files.specs.Devices.{devices_of}
+use Rattle.outside_io.specs.Outside.{Entry}
+
+-- the owner of a channel finishes what it is given, where the first of these channels has the number k
+abbrev pub finishes_from : ℕ → List ChannelOf → ℕ → Bool
+finishes_from k [] c = false
+finishes_from k (p ∷ ps) c = if c == k then p.finishes else finishes_from (k + 1) ps c
+
+-- an order asks for each args once, and for each step of each lane once
+pub record AsksForAll (plan : Plan) (order : List OrderLine) : Type 0 where
+  pub args : readers order ≡ length plan.cooked
+  pub steps : (l : ℕ) → 1 ≤ l → l ≤ 8 → steps_in l order ≡ length (calls_of_lane l plan.steps)
+
+-- The text is that of one such order, and then the streams of the run of this order, after which nothing is left to do.
+pub record RacedSo (plan : PlanData) (past : List RawEvent) (text : List ℕ) : Type 0 where
+  pub order : List OrderLine
+  pub calls : List Call
+  pub all : AsksForAll (run_of plan past) order
+  pub given_is : history.given (run_of plan past) (map line_of order) ≡ Ok calls
+  pub text_is : text ≡ order_spelling order ++ streams_text (names_of plan) (run (device_displays plan.devices) (reverse calls))
+  pub whole : AreWhole (device_displays plan.devices) (run (device_displays plan.devices) (reverse calls))
+  -- who reads the text as an order file reads this order
+  pub again : ReadsAgain order
+  -- owners that finish do so with what they were given, none of it twice, and no other owner finishes anything
+  pub orderly :
+      AreOrderly (finishes_from 1 (map channel_of plan.channels))
+      (replay (device_displays plan.devices) (reverse calls))
+  pub settled :
+      Settled (device_displays plan.devices) (replay (device_displays plan.devices) (reverse calls))
+      (finishes_from 1 (map channel_of plan.channels))
+
+-- the text of a race for the events of a recording, the newest first, or that they give too many args
+abbrev pub Races : PlanData → List RawEvent → Answer → Type 0
+Races plan past (Ok text) = (length (given plan past) ≤ given_limit) × RacedSo plan past text
+Races plan past (Err r) = (given_limit < length (given plan past)) × (r ≡ too_long (codes "run"))
+
+-- what `race` answers for the events of a recording, which stand in their order
+abbrev pub RaceAnswers : PlanData → List RawEvent → Answer → Type 0
+RaceAnswers plan events a = Races plan (reverse events) a
+
+-- the answer once the session is accepted: the recording is judged, and then comes the race
+abbrev pub ThreadsAnswer : List Entry → List ℕ → PlanData → Answer → Type 0
+ThreadsAnswer entries events plan a = Reads entries events (events_judged (devices_of plan)) (RaceAnswers plan) a

@@ -1,0 +1,55 @@
+//! `batch`: the batches that an application takes of a stream file, frame by frame.
+ghost use Rattle.std.specs.Prelude.{◌≡◌, ◌≤◌, IsTrue, None, Ok, Err, IfOk, IfErr};
+ghost use Rattle.command_words.specs.Command.{batch};
+ghost use Rattle.command_files.specs.Refusing.{Refuses, RefusesSo};
+ghost use Rattle.command_answers.specs.Batch.{BatchAnswers, refusal_of_file};
+ghost use Rattle.command_answers.specs.Program.{Answers};
+
+use batch_text::batch_text;
+use command_files::{Refusal, StreamError, read_stream};
+use outside_io::Files;
+use std::alloc::Global;
+use stream_judge::FileError;
+use text_pieces::Pieces;
+
+/// Why a stream file that is judged is refused.
+fn stream_refusal(error: FileError) -> Refusal
+    ensures { result ≡ refusal_of_file error }
+{
+    match error {
+        FileError::BadLine { line } => Refusal::Stream(StreamError::BadLine { line }),
+        FileError::NotWellFormed { line } => Refusal::Stream(StreamError::NotWellFormed { line }),
+        FileError::Memory => Refusal::NoMemory,
+    }
+}
+
+/// The batches that a stream file's messages are.
+#[tactic(auto, using(crate::proofs::Answering::batch_refused))]
+fn batches_of(alloc: Global, bytes: &[u8], frame: u64) -> Result<Pieces, Refusal>
+    requires { 1 ≤ frame }
+    ensures ok { IfOk result (λ text. BatchAnswers frame bytes.now (Ok text)) }
+    ensures err { IfErr result (RefusesSo (λ r. BatchAnswers frame bytes.now (Err r))) }
+{
+    match batch_text(alloc, bytes, frame) {
+        Ok(text) => Ok(Pieces::of(alloc, text)),
+        Err(error) => Err(stream_refusal(error)),
+    }
+}
+
+/// Reads and judges a stream file, and makes the text of its batches.
+pub fn answer_batch<F: Files>(
+    alloc: Global,
+    files: &mut F,
+    name: &str,
+    frame: u64,
+) -> Result<Pieces, Refusal>
+    requires lends { IsTrue (F.lends files.old name.now) }
+    requires free { F.lent files.old ≡ None }
+    requires frame { 1 ≤ frame }
+    ensures ok { IfOk result (λ text. Answers (F.entries files.old) (batch name.now frame) (Ok text)) }
+    ensures err { IfErr result (Refuses
+        (λ r. Answers (F.entries files.old) (batch name.now frame) (Err r)) (F.faults files.old) (F.faults files.new)) }
+{
+    let bytes = read_stream(alloc, files, name)?;
+    batches_of(alloc, &bytes, frame)
+}

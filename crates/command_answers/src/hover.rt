@@ -1,0 +1,63 @@
+//! `hover`: what the windows of a session are told of a mouse.
+ghost use Rattle.std.specs.Prelude.{◌≡◌, IsTrue, None, Ok, Err, IfOk, IfErr};
+ghost use Rattle.command_words.specs.Command.{hover};
+ghost use Rattle.command_words.specs.CommandView.{recorded_view};
+ghost use Rattle.raw_events.specs.Line.{known};
+ghost use Rattle.session_plan.specs.Valid.{IsPlan};
+ghost use Rattle.session_plan.specs.View.{plan_view};
+ghost use Rattle.command_files.specs.Inputs.{IsAccepted};
+ghost use Rattle.command_files.specs.Refusing.{Refuses};
+ghost use Rattle.command_answers.specs.Hover.{HoverAnswers, mouse_alone};
+ghost use Rattle.command_answers.specs.Program.{Answers};
+
+use command_files::{Refusal, device_number, read_events, read_session};
+use command_words::Recorded;
+use hover_text::Hover;
+use input_types::DeviceId;
+use outside_io::Files;
+use raw_events::RawEvent;
+use session_plan::Plan;
+use std::alloc::{AllocError, Global};
+use text_pieces::Pieces;
+
+/// The mouse alone, as device 1.
+fn mouse_alone(alloc: Global, path: &str) -> Result<Vec<(String, DeviceId)>, AllocError>
+    ensures { IfOk result (λ v. known v.items ≡ mouse_alone path.now) }
+{
+    let mut devices = Vec::new(alloc);
+    devices.push((String::from_str(alloc, path)?, device_number(0)))?;
+    Ok(devices)
+}
+
+/// What the windows of a session are told of a mouse.
+fn hover_text(alloc: Global, session: &Plan, events: &[RawEvent]) -> Result<Pieces, AllocError>
+    requires { IsPlan session.now }
+    ensures { IfOk result (λ text. HoverAnswers (plan_view session.now) events.now (Ok text)) }
+{
+    let mut hover = Hover::new(alloc, session)?;
+    hover.take_all(session, events)?;
+    let text = hover.end(alloc, session)?;
+    Ok(Pieces::of(alloc, text))
+}
+
+/// Reads and judges the files of `hover`, and makes the text.
+pub fn answer_hover<F: Files>(
+    alloc: Global,
+    files: &mut F,
+    names: Recorded<'_>,
+    mouse: &str,
+) -> Result<Pieces, Refusal>
+    requires session { IsTrue (F.lends files.old names.session.now) }
+    requires events { IsAccepted (F.entries files.old) names.session.now → IsTrue (F.lends files.old names.events.now) }
+    requires free { F.lent files.old ≡ None }
+    ensures ok { IfOk result
+        (λ text. Answers (F.entries files.old) (hover (recorded_view names.entry) mouse.now) (Ok text)) }
+    ensures err { IfErr result (Refuses
+        (λ r. Answers (F.entries files.old) (hover (recorded_view names.entry) mouse.now) (Err r))
+        (F.faults files.old) (F.faults files.new)) }
+{
+    let session = read_session(alloc, files, names.session)?;
+    let devices = mouse_alone(alloc, mouse)?;
+    let events = read_events(alloc, files, &devices, names.events)?;
+    Ok(hover_text(alloc, &session, &events)?)
+}

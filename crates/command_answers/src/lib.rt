@@ -1,0 +1,36 @@
+//! What each command answers: the text that it writes, or why it refuses. One file a command, and one file of specs/
+//! with its definition; `specs/Program.antt` puts them together.
+//!
+//! A recording in which tracking id 45 comes at (540, 1200) and goes again, on a display with the window `main` over
+//! it, gives with `replay`
+//!
+//! ```text
+//! channel 1 main
+//! 1 12345100000 motion 1 DOWN 0@540,1200
+//! 2 12345180000 motion 1 UP 0@540,1200
+//! end 1 sent 2 received 2 finished 2
+//! ```
+//!
+//! Given this text, `verify` says `well formed 1 2`.
+#![tactic(auto)]
+
+mod batch;
+mod checked;
+mod emit;
+mod given;
+mod hover;
+mod plan;
+mod race;
+mod replay;
+mod texts;
+mod verify;
+mod work;
+
+pub use batch::answer_batch;
+pub use checked::answer_check;
+pub use emit::answer_emit;
+pub use hover::answer_hover;
+pub use race::answer_race;
+pub use replay::answer_replay;
+pub use verify::answer_verify;
+pub use work::answer_work;

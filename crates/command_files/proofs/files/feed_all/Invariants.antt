@@ -1,0 +1,21 @@
+use Rattle.std.proofs.Common.{◌≡◌, ◌+◌, ◌-◌, ◌≤◌, List, ℕ, length, vec_len}
+use Rattle.std.specs.Io.KnownBytes.{Consumes}
+use Rattle.command_files.specs.Recorded.{Feeds}
+use Rattle.command_files.proofs.files.feed_all.Given as goal
+
+-- the bytes so far were taken from the front of those left, and the recording took them
+abbrev pub invariant-pieces : goal.invariant-pieces
+invariant-pieces g l =
+    record {
+      bytes : List ℕ;
+      size : l.total ≡ length bytes;
+      within : l.total ≤ l.limit + 1;
+      buffer : vec_len l.buffer ≡ 65536;
+      consumed : Consumes (g.S.Source.left l.initial.source) (g.S.Source.left l.source) bytes;
+      later : g.S.Source.faults l.initial.source ≤ g.S.Source.faults l.source;
+      loan : g.S.Source.loan l.source ≡ g.S.Source.loan l.initial.source;
+      takes : Feeds l.plan l.initial.recording l.recording bytes;
+    }
+
+abbrev pub decreases-pieces : goal.decreases-pieces
+decreases-pieces g l = l.limit + 1 - l.total

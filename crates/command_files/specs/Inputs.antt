@@ -1,0 +1,81 @@
+-- The files that a run reads, and how each is judged.
+use Rattle.std.specs.Prelude.{codes, ℕ, nat_le, cond, List, length, Option, Result, Ok, Err}
+use Rattle.outside_io.specs.Outside.{Entry}
+use Rattle.raw_events.specs.declared.event.RawEvent.{RawEvent}
+use Rattle.raw_events.specs.declared.event.LineError.{LineError}
+use Rattle.raw_events.specs.Line.{Known}
+use Rattle.raw_events.specs.Recording.{recorded}
+use Rattle.session_plan.specs.Fault.{Fault}
+use Rattle.session_plan.specs.Plan.{PlanData}
+use Rattle.session_plan.specs.Session.{session_of}
+use Rattle.stream_text.specs.declared.order_line.OrderLine.{OrderLine}
+use Rattle.stream_text.specs.OrderText.{order_of}
+use Rattle.command_files.specs.Devices.{devices_of}
+use Rattle.command_files.specs.Judged.{IsJudged}
+use Rattle.command_files.specs.Refused.{Refused, bad_order_line, session_refused, recording_refused, too_long}
+
+-- the most bytes of a session, 4 MiB
+abbrev pub session_limit : ℕ
+session_limit = 4194304
+
+-- the most bytes of a recording, 32 MiB
+abbrev pub recording_limit : ℕ
+recording_limit = 33554432
+
+-- the most bytes of an order file, 64 MiB
+abbrev pub order_limit : ℕ
+order_limit = 67108864
+
+-- the most bytes of a stream file, 64 MiB
+abbrev pub stream_limit : ℕ
+stream_limit = 67108864
+
+-- the most steps of a session
+abbrev pub step_limit : ℕ
+step_limit = 100000
+
+-- a plan is run where it has not too many steps
+abbrev pub runnable : PlanData → Result PlanData Refused
+runnable plan = cond (nat_le (length plan.steps) step_limit) (Ok plan) (Err (too_long (codes "steps")))
+
+-- what is read of a session: a plan with not too many steps, or its first fault
+abbrev pub plan_judged : Result PlanData Fault → Result PlanData Refused
+plan_judged (Ok plan) = runnable plan
+plan_judged (Err fault) = Err (session_refused fault)
+
+-- the plan of a session file, or why it is refused: its length is looked at first, then its rules, and then the number of steps
+abbrev pub session_judged : List ℕ → Result PlanData Refused
+session_judged bytes = cond (nat_le (length bytes) session_limit) (plan_judged (session_of bytes)) (Err (too_long (codes "session")))
+
+-- the events of all lines, or the refusal of the first refused line
+abbrev pub lines_judged : Result (List RawEvent) LineError → Result (List RawEvent) Refused
+lines_judged (Ok events) = Ok events
+lines_judged (Err error) = Err (recording_refused error)
+
+-- the events of a recording of these devices, or why it is refused: its length is looked at first, and then each of its lines
+abbrev pub events_judged : Known → List ℕ → Result (List RawEvent) Refused
+events_judged devices bytes =
+    cond (nat_le (length bytes) recording_limit) (lines_judged (recorded devices bytes)) (Err (too_long (codes "recording")))
+
+-- the lines of an order, or the refusal of its first bad or missing line
+abbrev pub order_lines : Result (List OrderLine) ℕ → Result (List OrderLine) Refused
+order_lines (Ok lines) = Ok lines
+order_lines (Err n) = Err (bad_order_line n)
+
+-- the lines of an order file, or why it is refused: its length is looked at first, and then each of its lines
+abbrev pub order_judged : List ℕ → Result (List OrderLine) Refused
+order_judged bytes = cond (nat_le (length bytes) order_limit) (order_lines (order_of bytes)) (Err (too_long (codes "order")))
+
+-- a stream file, unless it is too long
+abbrev pub stream_judged : List ℕ → Result (List ℕ) Refused
+stream_judged bytes = cond (nat_le (length bytes) stream_limit) (Ok bytes) (Err (too_long (codes "stream")))
+
+-- the session under this name is accepted
+abbrev pub IsAccepted : Option (List Entry) → List ℕ → Type 0
+IsAccepted told name = (plan : PlanData) × IsJudged told name session_judged (Ok plan)
+
+-- the session and the recording under these names are accepted
+abbrev pub AreAccepted : Option (List Entry) → List ℕ → List ℕ → Type 0
+AreAccepted told session events =
+    (plan : PlanData) × IsJudged told session session_judged (Ok plan)
+    × ((given : List RawEvent) × IsJudged told events (events_judged (devices_of plan)) (Ok given))

@@ -1,0 +1,11 @@
+pub mod Cooked
+pub mod Devices
+pub mod Inputs
+pub mod Judged
+pub mod Planned
+pub mod ReadErrors
+pub mod Reading
+pub mod Recorded
+pub mod RefusalView
+pub mod Refused
+pub mod Refusing

@@ -1,0 +1,59 @@
+-- What a refusal says outside.
+use Rattle.std.specs.Prelude.{codes, ℕ, List, ◌++◌}
+use Rattle.std.specs.Fmt.{decimal}
+use Rattle.session_plan.specs.ErrorLine.{error_line}
+use Rattle.command_files.specs.declared.refusal.Refusal.{Refusal}
+use Rattle.command_files.specs.declared.refusal.Refusal.TheVariants.{Session, Recording, Order, Stream, ReadFailed, NoMemory, TooLong}
+use Rattle.command_files.specs.declared.refusal.OrderError.{OrderError}
+use Rattle.command_files.specs.declared.refusal.OrderError.TheVariants as order
+use Rattle.command_files.specs.declared.refusal.StreamError.{StreamError}
+use Rattle.command_files.specs.declared.refusal.StreamError.TheVariants as stream
+use Rattle.command_files.specs.declared.refusal.Subject.{Subject}
+use Rattle.command_files.specs.declared.refusal.Subject.TheVariants as subject
+use Rattle.command_files.specs.Refused.{Refused, refused, recording_line}
+
+-- the status of a refusal
+abbrev pub status_of : Refusal → ℕ
+status_of (Session error) = 3
+status_of (Recording error) = 3
+status_of (Order error) = 1
+status_of (Stream error) = 1
+status_of ReadFailed = 4
+status_of NoMemory = 6
+status_of (TooLong what) = 7
+
+-- what is said of a refused order file
+abbrev pub order_line : OrderError → List ℕ
+order_line (order.BadLine n) = codes "order: BadLine " ++ decimal n
+order_line (order.NoStep n) = codes "order: NoStep " ++ decimal n
+
+-- what is said of a refused stream file
+abbrev pub stream_line : StreamError → List ℕ
+stream_line (stream.BadLine n) = codes "stream: BadLine " ++ decimal n
+stream_line (stream.NotWellFormed n) = codes "stream: NotWellFormed " ++ decimal n
+stream_line stream.NoChannel = codes "stream: NoChannel"
+stream_line (stream.TooLate n) = codes "stream: TooLate " ++ decimal n
+stream_line (stream.NotAssignable n) = codes "stream: NotAssignable " ++ decimal n
+
+-- the word for what is longer than its limit
+abbrev pub subject_word : Subject → List ℕ
+subject_word subject.Session = codes "session"
+subject_word subject.Recording = codes "recording"
+subject_word subject.Order = codes "order"
+subject_word subject.Steps = codes "steps"
+subject_word subject.Stream = codes "stream"
+subject_word subject.Run = codes "run"
+
+-- what is said of a refusal
+abbrev pub words_of : Refusal → List ℕ
+words_of (Session error) = error_line error
+words_of (Recording error) = recording_line error
+words_of (Order error) = order_line error
+words_of (Stream error) = stream_line error
+words_of ReadFailed = codes "read failed"
+words_of NoMemory = codes "no memory"
+words_of (TooLong what) = codes "too long: " ++ subject_word what
+
+-- a refusal as its status and its line
+abbrev pub refusal_view : Refusal → Refused
+refusal_view r = refused (status_of r) (words_of r)

@@ -1,0 +1,63 @@
+-- What a refusal says outside: a status, and a line on standard error.
+use Rattle.std.specs.Prelude.{codes, ℕ, List, ◌++◌, []}
+use Rattle.std.specs.Fmt.{decimal}
+use Rattle.raw_events.specs.declared.event.LineError.{LineError}
+use Rattle.raw_events.specs.declared.event.LineError.TheVariants as lines
+use Rattle.session_plan.specs.Fault.{Fault}
+use Rattle.session_plan.specs.ErrorLine.{line_of}
+
+-- a refusal as it is told: a status, and a line with its newline
+pub record Refused : Type 0 where
+  pub status : ℕ
+  pub line : List ℕ
+
+-- the refusal with this status and this line
+abbrev pub refused : ℕ → List ℕ → Refused
+refused status line = record { status = status; line = line ++ codes "\n" }
+
+-- the session is refused, with its key
+abbrev pub session_refused : Fault → Refused
+session_refused fault = refused 3 (line_of fault)
+
+-- a line of the recording is refused, with its number; want of memory has no line
+abbrev pub recording_line : LineError → List ℕ
+recording_line (lines.BadLine n) = codes "recording: BadLine " ++ decimal n
+recording_line (lines.NoMoment n) = codes "recording: NoMoment " ++ decimal n
+recording_line (lines.TooLong n) = codes "recording: TooLong " ++ decimal n
+recording_line lines.Memory = []
+
+-- a line of the recording is refused
+abbrev pub recording_refused : LineError → Refused
+recording_refused error = refused 3 (recording_line error)
+
+-- a line of an order file is not of its grammar, or is missing
+abbrev pub bad_order_line : ℕ → Refused
+bad_order_line n = refused 1 (codes "order: BadLine " ++ decimal n)
+
+-- a line of an order file asks for a step that does not exist
+abbrev pub no_step : ℕ → Refused
+no_step n = refused 1 (codes "order: NoStep " ++ decimal n)
+
+-- a line of a stream file is not of its grammar
+abbrev pub bad_stream_line : ℕ → Refused
+bad_stream_line n = refused 1 (codes "stream: BadLine " ++ decimal n)
+
+-- a message of a stream file may not come where it stands
+abbrev pub not_well_formed : ℕ → Refused
+not_well_formed n = refused 1 (codes "stream: NotWellFormed " ++ decimal n)
+
+-- no section of a stream file is of the channel
+abbrev pub no_channel : Refused
+no_channel = refused 1 (codes "stream: NoChannel")
+
+-- a motion has a moment that no event of a recording has
+abbrev pub too_late : ℕ → Refused
+too_late n = refused 1 (codes "stream: TooLate " ++ decimal n)
+
+-- a motion has a pointer with an id that cooking would not give it
+abbrev pub not_assignable : ℕ → Refused
+not_assignable n = refused 1 (codes "stream: NotAssignable " ++ decimal n)
+
+-- something is longer than its limit
+abbrev pub too_long : List ℕ → Refused
+too_long what = refused 7 (codes "too long: " ++ what)

@@ -1,0 +1,201 @@
+//! Reading a file to its end or its limit.
+ghost use Rattle.std.specs.Prelude.{◌≡◌, ℕ, ◌+◌, ◌<◌, ◌≤◌, ◌^◌, IfOk, OnOk, OnErr, IsErrOf, IsTrue, None, length};
+ghost use Rattle.std.specs.Prelude.{vec_len};
+ghost use Rattle.outside_io.specs.Outside.{Rose};
+ghost use Rattle.command_files.specs.Reading.{IsAll, IsFile, IsLonger, IsLongFile, ReadsPiece, ReadsWith, WithAll};
+ghost use Rattle.command_files.specs.Reading.{WithFile};
+ghost use Rattle.command_files.specs.declared.files.ReadError.TheVariants.{Failed as ReadFailed, Memory, TooLong};
+ghost use Rattle.schedule.specs.Planned.{IsRun};
+ghost use Rattle.command_files.specs.Recorded.{Feeds};
+ghost use Rattle.command_files.specs.ReadErrors.{read_error_of};
+
+use crate::recording::Recording;
+use outside_io::{Failed, Files, Source, SourceRefused};
+use schedule::Plan;
+use std::alloc::{AllocError, AllocFailed, Global};
+
+/// The most bytes that one read asks for.
+const PIECE: usize = 65536;
+
+/// Why a file was not read to its end.
+#[derive(Clone, Copy, Debug, PartialEq, Eq)]
+pub enum ReadError {
+    Failed,
+    Memory,
+    TooLong,
+}
+
+impl From<Failed> for ReadError {
+    ghost from_gives = { λ _ e. e ≡ ReadFailed };
+
+    fn from(_error: Failed) -> ReadError {
+        ReadError::Failed
+    }
+}
+
+impl From<AllocError> for ReadError {
+    ghost from_gives = { λ _ e. e ≡ Memory };
+
+    fn from(_error: AllocError) -> ReadError {
+        ReadError::Memory
+    }
+}
+
+impl From<SourceRefused> for ReadError {
+    ghost from_gives = { λ refused e. e ≡ read_error_of refused };
+
+    fn from(error: SourceRefused) -> ReadError {
+        match error {
+            SourceRefused::Failed => ReadError::Failed,
+            SourceRefused::Memory => ReadError::Memory,
+        }
+    }
+}
+
+/// So many bytes, all 0, to be read into.
+fn zeros(alloc: Global, len: usize) -> Result<Vec<u8>, AllocError>
+    ensures { IfOk result (λ v. vec_len v ≡ len) }
+{
+    vec![in alloc; 0; len]
+}
+
+/// Reads a piece into the buffer and puts it behind the bytes, and answers its length.
+fn read_piece<S: Source>(
+    source: &mut S,
+    buffer: &mut [u8],
+    bytes: &mut Vec<u8>,
+) -> Result<usize, ReadError>
+    requires { 0 < length buffer.old }
+    ensures piece { IfOk result
+        (λ count. ReadsPiece (S.left source.old) (S.left source.new) bytes.old.items bytes.new.items count) }
+    ensures bound { IfOk result (λ count. count ≤ length buffer.old) }
+    ensures failed { IsErrOf result ReadError.Failed → Rose (S.faults source.old) (S.faults source.new) }
+    ensures no_limit { ¬ (IsErrOf result ReadError.TooLong) }
+    ensures later { S.faults source.old ≤ S.faults source.new }
+    ensures loan { S.loan source.new ≡ S.loan source.old }
+{
+    let count = source.read(buffer)?;
+    bytes.extend_from_slice(&buffer[..count])?;
+    Ok(count)
+}
+
+/// All bytes that a source has left, at most `limit`.
+fn read_all<S: Source>(alloc: Global, source: &mut S, limit: usize) -> Result<Vec<u8>, ReadError>
+    requires { limit < 2 ^ 32 }
+    ensures ok { IfOk result (λ v. IsAll (S.left source.old) v.items × (length v.items ≤ limit)) }
+    ensures failed { IsErrOf result ReadError.Failed → Rose (S.faults source.old) (S.faults source.new) }
+    ensures too_long { IsErrOf result ReadError.TooLong → IsLonger (S.left source.old) limit }
+    ensures later { S.faults source.old ≤ S.faults source.new }
+    ensures loan { S.loan source.new ≡ S.loan source.old }
+{
+    let mut bytes = Vec::new(alloc);
+    let mut buffer = zeros(alloc, PIECE)?;
+    'pieces: while bytes.len() <= limit {
+        let room = PIECE.min(limit + 1 - bytes.len());
+        if read_piece(source, &mut buffer[..room], &mut bytes)? == 0 {
+            return Ok(bytes);
+        }
+    }
+    Err(ReadError::TooLong)
+}
+
+/// Reads a piece into the buffer and hands it to a recording, and answers its length.
+fn feed_piece<S: Source>(
+    source: &mut S,
+    buffer: &mut [u8],
+    plan: &Plan,
+    recording: &mut Recording,
+) -> Result<usize, ReadError>
+    requires some { 0 < length buffer.old }
+    requires run { IsRun plan.now }
+    ensures piece { IfOk result
+        (λ count. ReadsWith (S.left source.old) (S.left source.new) count
+        (Feeds plan.now recording.old recording.new)) }
+    ensures bound { IfOk result (λ count. count ≤ length buffer.old) }
+    ensures failed { IsErrOf result ReadError.Failed → Rose (S.faults source.old) (S.faults source.new) }
+    ensures no_limit { ¬ (IsErrOf result ReadError.TooLong) }
+    ensures later { S.faults source.old ≤ S.faults source.new }
+    ensures loan { S.loan source.new ≡ S.loan source.old }
+{
+    let count = source.read(buffer)?;
+    recording.feed(plan, &buffer[..count])?;
+    Ok(count)
+}
+
+/// Hands all bytes that a source has left to a recording, at most `limit`.
+fn feed_all<S: Source>(
+    alloc: Global,
+    source: &mut S,
+    limit: usize,
+    plan: &Plan,
+    recording: &mut Recording,
+) -> Result<(), ReadError>
+    requires limit { limit < 2 ^ 32 }
+    requires run { IsRun plan.now }
+    ensures ok { OnOk result (WithAll (S.left source.old) limit (Feeds plan.now recording.old recording.new)) }
+    ensures failed { IsErrOf result ReadError.Failed → Rose (S.faults source.old) (S.faults source.new) }
+    ensures too_long { IsErrOf result ReadError.TooLong → IsLonger (S.left source.old) limit }
+    ensures later { S.faults source.old ≤ S.faults source.new }
+    ensures loan { S.loan source.new ≡ S.loan source.old }
+{
+    let mut buffer = zeros(alloc, PIECE)?;
+    let mut total = 0;
+    'pieces: while total <= limit {
+        let room = PIECE.min(limit + 1 - total);
+        let count = feed_piece(source, &mut buffer[..room], plan, recording)?;
+        if count == 0 {
+            return Ok(());
+        }
+        total += count;
+    }
+    Err(ReadError::TooLong)
+}
+
+/// Hands the bytes of a file to a recording, piece by piece, at most `limit`.
+pub fn feed_file<F: Files>(
+    alloc: Global,
+    files: &mut F,
+    name: &str,
+    limit: usize,
+    plan: &Plan,
+    recording: &mut Recording,
+) -> Result<(), ReadError>
+    requires limit { limit < 2 ^ 32 }
+    requires lends { IsTrue (F.lends files.old name.now) }
+    requires free { F.lent files.old ≡ None }
+    requires run { IsRun plan.now }
+    ensures ok { OnOk result (WithFile (F.entries files.old) name.now limit
+        (Feeds plan.now recording.old recording.new)) }
+    ensures failed { IsErrOf result ReadError.Failed → Rose (F.faults files.old) (F.faults files.new) }
+    ensures too_long { IsErrOf result ReadError.TooLong → IsLongFile (F.entries files.old) name.now limit }
+    ensures later { F.faults files.old ≤ F.faults files.new }
+{
+    let mut source = files.source(name)?;
+    let fed = feed_all(alloc, &mut source, limit, plan, recording);
+    files.done(source);
+    fed
+}
+
+/// The bytes of a file, at most `limit`.
+pub fn read_file<F: Files>(
+    alloc: Global,
+    files: &mut F,
+    name: &str,
+    limit: usize,
+) -> Result<Vec<u8>, ReadError>
+    requires limit { limit < 2 ^ 32 }
+    requires lends { IsTrue (F.lends files.old name.now) }
+    requires free { F.lent files.old ≡ None }
+    ensures ok { IfOk result (λ v. IsFile (F.entries files.old) name.now v.items × (length v.items ≤ limit)) }
+    ensures failed { IsErrOf result ReadError.Failed → Rose (F.faults files.old) (F.faults files.new) }
+    ensures too_long { IsErrOf result ReadError.TooLong → IsLongFile (F.entries files.old) name.now limit }
+    ensures later { F.faults files.old ≤ F.faults files.new }
+    ensures free { F.lent files.new ≡ None }
+    ensures entries { F.entries files.new ≡ F.entries files.old }
+    ensures names { F.lends files.new ≡ F.lends files.old }
+{
+    let mut source = files.source(name)?;
+    let bytes = read_all(alloc, &mut source, limit);
+    files.done(source);
+    bytes
+}

@@ -1,0 +1,179 @@
+//! The files of a command, each of which is judged once it was read: a session, a recording, an order file and a stream
+//! file.
+ghost use Rattle.std.specs.Prelude.{◌≡◌, ◌≤◌, IsTrue, None, Ok, Err, IfOk, IfErr, length};
+ghost use Rattle.raw_events.specs.Line.{known};
+ghost use Rattle.raw_events.specs.Recording.{recorded};
+ghost use Rattle.session_plan.specs.Session.{session_of};
+ghost use Rattle.session_plan.specs.Valid.{IsPlan};
+ghost use Rattle.session_plan.specs.View.{plan_view};
+ghost use Rattle.stream_text.specs.OrderText.{order_of};
+ghost use Rattle.command_files.specs.Inputs.{order_judged, order_lines, stream_judged};
+ghost use Rattle.command_files.specs.Judged.{IsJudged};
+ghost use Rattle.command_files.specs.Inputs.{events_judged, lines_judged, plan_judged, session_judged};
+ghost use Rattle.command_files.specs.Refusing.{Refuses, RefusesSo};
+
+use crate::files::{ReadError, read_file};
+use crate::recording::recording_refusal;
+use crate::refusal::{OrderError, Refusal, Subject};
+use input_types::DeviceId;
+use outside_io::Files;
+use raw_events::{RawEvent, events_of};
+use session_plan::{Plan, PlanError};
+use std::alloc::Global;
+use stream_text::Order;
+
+/// The most bytes of a session: 4 MiB.
+const SESSION_LIMIT: usize = 4194304;
+
+/// The most bytes of a recording: 32 MiB.
+pub const RECORDING_LIMIT: usize = 33554432;
+
+/// The most bytes of an order file: 64 MiB.
+const ORDER_LIMIT: usize = 67108864;
+
+/// The most bytes of a stream file: 64 MiB.
+const STREAM_LIMIT: usize = 67108864;
+
+/// The most steps of a session.
+const STEP_LIMIT: usize = 100000;
+
+/// The plan of a session's bytes.
+fn plan_from(alloc: Global, bytes: &[u8]) -> Result<Plan, Refusal>
+    ensures ok { IfOk result (λ plan. plan_judged (session_of bytes.now) ≡ Ok (plan_view plan)) }
+    ensures valid { IfOk result IsPlan }
+    ensures err { IfErr result (RefusesSo (λ r. plan_judged (session_of bytes.now) ≡ Err r)) }
+{
+    let plan = match Plan::read(alloc, bytes) {
+        Ok(plan) => plan,
+        Err(PlanError::Memory) => return Err(Refusal::NoMemory),
+        Err(error) => return Err(Refusal::Session(error)),
+    };
+    if plan.steps.len() > STEP_LIMIT {
+        return Err(Refusal::TooLong(Subject::Steps));
+    }
+    Ok(plan)
+}
+
+/// Reads and judges the session.
+pub fn read_session<F: Files>(
+    alloc: Global,
+    files: &mut F,
+    name: &str,
+) -> Result<Plan, Refusal>
+    requires lends { IsTrue (F.lends files.old name.now) }
+    requires free { F.lent files.old ≡ None }
+    ensures ok { IfOk result (λ plan. IsJudged (F.entries files.old) name.now session_judged (Ok (plan_view plan))) }
+    ensures valid { IfOk result IsPlan }
+    ensures err { IfErr result (Refuses
+        (λ r. IsJudged (F.entries files.old) name.now session_judged (Err r)) (F.faults files.old)
+        (F.faults files.new)) }
+    ensures later { F.faults files.old ≤ F.faults files.new }
+    ensures free { F.lent files.new ≡ None }
+    ensures entries { F.entries files.new ≡ F.entries files.old }
+    ensures names { F.lends files.new ≡ F.lends files.old }
+{
+    let bytes = match read_file(alloc, files, name, SESSION_LIMIT) {
+        Ok(bytes) => bytes,
+        Err(ReadError::Failed) => return Err(Refusal::ReadFailed),
+        Err(ReadError::Memory) => return Err(Refusal::NoMemory),
+        Err(ReadError::TooLong) => return Err(Refusal::TooLong(Subject::Session)),
+    };
+    plan_from(alloc, &bytes)
+}
+
+/// Reads and judges a recording of these devices.
+pub fn read_events<F: Files>(
+    alloc: Global,
+    files: &mut F,
+    devices: &[(String, DeviceId)],
+    name: &str,
+) -> Result<Vec<RawEvent>, Refusal>
+    requires lends { IsTrue (F.lends files.old name.now) }
+    requires free { F.lent files.old ≡ None }
+    ensures ok { IfOk result
+        (λ events. IsJudged (F.entries files.old) name.now (events_judged (known devices.now)) (Ok events.items)) }
+    ensures err { IfErr result (Refuses
+        (λ r. IsJudged (F.entries files.old) name.now (events_judged (known devices.now)) (Err r))
+        (F.faults files.old) (F.faults files.new)) }
+    ensures later { F.faults files.old ≤ F.faults files.new }
+    ensures free { F.lent files.new ≡ None }
+    ensures entries { F.entries files.new ≡ F.entries files.old }
+    ensures names { F.lends files.new ≡ F.lends files.old }
+{
+    let bytes = match read_file(alloc, files, name, RECORDING_LIMIT) {
+        Ok(bytes) => bytes,
+        Err(ReadError::Failed) => return Err(Refusal::ReadFailed),
+        Err(ReadError::Memory) => return Err(Refusal::NoMemory),
+        Err(ReadError::TooLong) => return Err(Refusal::TooLong(Subject::Recording)),
+    };
+    events_in(alloc, devices, &bytes)
+}
+
+/// The events of a recording's bytes.
+fn events_in(
+    alloc: Global,
+    devices: &[(String, DeviceId)],
+    bytes: &[u8],
+) -> Result<Vec<RawEvent>, Refusal>
+    ensures ok { IfOk result (λ events. lines_judged (recorded (known devices.now) bytes.now) ≡ Ok events.items) }
+    ensures err { IfErr result (RefusesSo (λ r. lines_judged (recorded (known devices.now) bytes.now) ≡ Err r)) }
+{
+    match events_of(alloc, devices, bytes) {
+        Ok(events) => Ok(events),
+        Err(error) => Err(recording_refusal(error)),
+    }
+}
+
+/// Reads and judges an order file.
+pub fn read_order<F: Files>(
+    alloc: Global,
+    files: &mut F,
+    name: &str,
+) -> Result<Order, Refusal>
+    requires lends { IsTrue (F.lends files.old name.now) }
+    requires free { F.lent files.old ≡ None }
+    ensures ok { IfOk result (λ order. IsJudged (F.entries files.old) name.now order_judged (Ok order)) }
+    ensures err { IfErr result (Refuses
+        (λ r. IsJudged (F.entries files.old) name.now order_judged (Err r)) (F.faults files.old) (F.faults files.new)) }
+    ensures later { F.faults files.old ≤ F.faults files.new }
+{
+    let bytes = match read_file(alloc, files, name, ORDER_LIMIT) {
+        Ok(bytes) => bytes,
+        Err(ReadError::Failed) => return Err(Refusal::ReadFailed),
+        Err(ReadError::Memory) => return Err(Refusal::NoMemory),
+        Err(ReadError::TooLong) => return Err(Refusal::TooLong(Subject::Order)),
+    };
+    order_in(alloc, &bytes)
+}
+
+/// The order of an order file's bytes.
+fn order_in(alloc: Global, bytes: &[u8]) -> Result<Order, Refusal>
+    ensures ok { IfOk result (λ order. order_lines (order_of bytes.now) ≡ Ok order) }
+    ensures err { IfErr result (RefusesSo (λ r. order_lines (order_of bytes.now) ≡ Err r)) }
+{
+    match Order::read(alloc, bytes) {
+        Ok(order) => Ok(order),
+        Err(stream_text::OrderError::BadLine { line }) => {
+            Err(Refusal::Order(OrderError::BadLine { line }))
+        }
+        Err(stream_text::OrderError::Memory) => Err(Refusal::NoMemory),
+    }
+}
+
+/// Reads a stream file.
+pub fn read_stream<F: Files>(alloc: Global, files: &mut F, name: &str) -> Result<Vec<u8>, Refusal>
+    requires lends { IsTrue (F.lends files.old name.now) }
+    requires free { F.lent files.old ≡ None }
+    ensures ok { IfOk result (λ bytes. IsJudged (F.entries files.old) name.now stream_judged (Ok bytes.items)) }
+    ensures few { IfOk result (λ bytes. length bytes.items ≤ 67108864) }
+    ensures err { IfErr result (Refuses
+        (λ r. IsJudged (F.entries files.old) name.now stream_judged (Err r)) (F.faults files.old)
+        (F.faults files.new)) }
+{
+    match read_file(alloc, files, name, STREAM_LIMIT) {
+        Ok(bytes) => Ok(bytes),
+        Err(ReadError::Failed) => Err(Refusal::ReadFailed),
+        Err(ReadError::Memory) => Err(Refusal::NoMemory),
+        Err(ReadError::TooLong) => Err(Refusal::TooLong(Subject::Stream)),
+    }
+}

@@ -1,0 +1,24 @@
+//! The files of the commands: each is read to its end or its limit and judged, and what is refused is answered with its
+//! reason.
+//!
+//! A session is read whole, and so are the events of a recording, an order file and a stream file. The recording of
+//! `replay` is read in pieces, and what they give is run as they come ([`Recording`]).
+//!
+//! ```text
+//! a session of 5 MiB           too long: session
+//! [[display]] without a width  session: Missing display.1.width
+//! a line `key`                 recording: BadLine 1
+//! ```
+#![tactic(auto)]
+
+mod devices;
+mod files;
+mod inputs;
+mod recording;
+mod refusal;
+
+pub use devices::{device_number, numbered_devices, readers_of};
+pub use files::{ReadError, feed_file, read_file};
+pub use inputs::{RECORDING_LIMIT, read_events, read_order, read_session, read_stream};
+pub use recording::{Recording, cook_event, run_event};
+pub use refusal::{OrderError, Refusal, StreamError, Subject};

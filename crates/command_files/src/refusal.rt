@@ -1,0 +1,75 @@
+//! Why a command writes no text.
+ghost use Rattle.std.specs.Prelude.{◌≡◌};
+ghost use Rattle.command_files.specs.declared.refusal.Refusal.TheVariants.{NoMemory};
+
+use raw_events::LineError;
+use session_plan::PlanError;
+use std::alloc::AllocError;
+
+/// What a run found to be longer than its limit.
+#[derive(Clone, Copy, Debug, PartialEq, Eq)]
+pub enum Subject {
+    /// The session has more bytes than 4 MiB.
+    Session,
+    /// The recording has more bytes than 32 MiB.
+    Recording,
+    /// The order file has more bytes than 64 MiB.
+    Order,
+    /// The session has more steps than 100,000.
+    Steps,
+    /// The stream file has more bytes than 64 MiB.
+    Stream,
+    /// The run has more calls or more messages than 4,000,000, the order more lines than 8,000,000, what is checked or
+    /// raced more args than 20,000, or the recording that is written more bytes than 32 MiB.
+    Run,
+}
+
+/// Why an order file is refused. Lines are numbered from 1.
+#[derive(Clone, Copy, Debug, PartialEq, Eq)]
+pub enum OrderError {
+    /// The line is not of the grammar of order files, or is missing.
+    BadLine { line: u64 },
+    /// The line asks for a step of the recording or of a lane, and none is left.
+    NoStep { line: u64 },
+}
+
+/// Why a stream file is refused. Lines are numbered from 1.
+#[derive(Clone, Copy, Debug, PartialEq, Eq)]
+pub enum StreamError {
+    /// The line is not of the grammar of stream files, or is missing.
+    BadLine { line: u64 },
+    /// The message of the line may not come after those before it in its section.
+    NotWellFormed { line: u64 },
+    /// No section is of the channel.
+    NoChannel,
+    /// The motion of the line has a moment that no event of a recording has.
+    TooLate { line: u64 },
+    /// The motion of the line has a pointer with an id that cooking would not give it.
+    NotAssignable { line: u64 },
+}
+
+/// Why a run writes no text.
+#[derive(Debug, Drop)]
+pub enum Refusal {
+    /// The session is refused.
+    Session(PlanError),
+    /// A line of the recording is refused.
+    Recording(LineError),
+    /// An order file is refused.
+    Order(OrderError),
+    /// A stream file is refused.
+    Stream(StreamError),
+    /// A file could not be read.
+    ReadFailed,
+    /// There was not enough memory.
+    NoMemory,
+    TooLong(Subject),
+}
+
+impl From<AllocError> for Refusal {
+    ghost from_gives = { λ _ e. e ≡ NoMemory };
+
+    fn from(_error: AllocError) -> Refusal {
+        Refusal::NoMemory
+    }
+}
