@@ -20,7 +20,10 @@ ghost use Rattle.command_files.specs.Refusing.{Refuses, RefusesSo};
 use crate::given::{GIVEN_LIMIT, cook_events};
 use crate::plan::{Planned, plan_run};
 use crate::texts::text_of;
-use command_files::{OrderError, Refusal, Subject, numbered_devices, read_events, read_order, read_session, readers_of};
+use command_files::{
+    OrderError, Refusal, Subject, numbered_devices, read_events, read_order, read_session,
+    readers_of,
+};
 use command_words::Recorded;
 use given_run::{Cooked, Fault, followed};
 use outside_io::Files;

@@ -34,10 +34,7 @@ fn run_channel(channel: &ChannelPlan) -> Channel
 }
 
 /// The channels of a run.
-fn run_channels(
-    alloc: Global,
-    channels: &[ChannelPlan],
-) -> Result<Vec<Channel>, AllocError>
+fn run_channels(alloc: Global, channels: &[ChannelPlan]) -> Result<Vec<Channel>, AllocError>
     requires { All IsChannel channels.now }
     ensures value { IfOk result (λ v. map run_channel v.items ≡ map channel_of (map channel_view channels.now)) }
     ensures len { IfOk result (λ v. length v.items ≡ length channels.now) }

@@ -21,7 +21,10 @@ ghost use Rattle.command_answers.specs.Replay.{RecordingAnswers, Replays, RunAns
 
 use crate::plan::plan_run;
 use crate::texts::text_of;
-use command_files::{RECORDING_LIMIT, ReadError, Recording, Refusal, Subject, feed_file, numbered_devices, read_session, readers_of};
+use command_files::{
+    RECORDING_LIMIT, ReadError, Recording, Refusal, Subject, feed_file, numbered_devices,
+    read_session, readers_of,
+};
 use command_words::Recorded;
 use outside_io::Files;
 use raw_events::LineReader;

@@ -149,11 +149,7 @@ fn verdict_of(alloc: Global, bytes: &[u8]) -> Result<Pieces, Refusal>
 }
 
 /// Reads and judges a stream file, and makes the text.
-pub fn answer_verify<F: Files>(
-    alloc: Global,
-    files: &mut F,
-    name: &str,
-) -> Result<Pieces, Refusal>
+pub fn answer_verify<F: Files>(alloc: Global, files: &mut F, name: &str) -> Result<Pieces, Refusal>
     requires lends { IsTrue (F.lends files.old name.now) }
     requires free { F.lent files.old ≡ None }
     ensures ok { IfOk result (λ text. Answers (F.entries files.old) (verify name.now) (Ok text)) }

@@ -15,7 +15,7 @@ ghost use Rattle.command_files.specs.Refusing.{RefusesSo};
 ghost use Rattle.command_answers.specs.Work.{Works, end_lines, head, summary, work_given};
 
 use crate::plan::plan_run;
-use command_files::{Refusal, Subject, run_event, readers_of};
+use command_files::{Refusal, Subject, readers_of, run_event};
 use device_reader::Readers;
 use schedule::{Lines, Plan, Schedule, add_all_namings};
 use std::alloc::{AllocError, Global};

@@ -61,10 +61,7 @@ pub fn device_number(place: usize) -> DeviceId
 }
 
 /// The devices' paths with their numbers.
-pub fn numbered_devices(
-    alloc: Global,
-    plan: &Plan,
-) -> Result<Vec<(String, DeviceId)>, AllocError>
+pub fn numbered_devices(alloc: Global, plan: &Plan) -> Result<Vec<(String, DeviceId)>, AllocError>
     requires { IsPlan plan.now }
     ensures { IfOk result (λ v. known v.items ≡ devices_of (plan_view plan.now)) }
 {

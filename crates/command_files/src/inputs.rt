@@ -55,11 +55,7 @@ fn plan_from(alloc: Global, bytes: &[u8]) -> Result<Plan, Refusal>
 }
 
 /// Reads and judges the session.
-pub fn read_session<F: Files>(
-    alloc: Global,
-    files: &mut F,
-    name: &str,
-) -> Result<Plan, Refusal>
+pub fn read_session<F: Files>(alloc: Global, files: &mut F, name: &str) -> Result<Plan, Refusal>
     requires lends { IsTrue (F.lends files.old name.now) }
     requires free { F.lent files.old ≡ None }
     ensures ok { IfOk result (λ plan. IsJudged (F.entries files.old) name.now session_judged (Ok (plan_view plan))) }
@@ -125,11 +121,7 @@ fn events_in(
 }
 
 /// Reads and judges an order file.
-pub fn read_order<F: Files>(
-    alloc: Global,
-    files: &mut F,
-    name: &str,
-) -> Result<Order, Refusal>
+pub fn read_order<F: Files>(alloc: Global, files: &mut F, name: &str) -> Result<Order, Refusal>
     requires lends { IsTrue (F.lends files.old name.now) }
     requires free { F.lent files.old ≡ None }
     ensures ok { IfOk result (λ order. IsJudged (F.entries files.old) name.now order_judged (Ok order)) }

@@ -144,12 +144,7 @@ fn run_events(
 
 impl Recording {
     /// A recording before its first byte, and a run before its first args.
-    pub fn new(
-        alloc: Global,
-        reader: LineReader,
-        readers: Readers,
-        schedule: Schedule,
-    ) -> Recording
+    pub fn new(alloc: Global, reader: LineReader, readers: Readers, schedule: Schedule) -> Recording
         ensures { result ≡ record { reader = reader; readers = readers; schedule = schedule } }
     {
         Recording {

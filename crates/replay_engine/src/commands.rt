@@ -6,7 +6,10 @@ ghost use Rattle.command_files.specs.Refusing.{Refuses};
 ghost use Rattle.command_answers.specs.Program.{Answers};
 ghost use Rattle.replay_engine.specs.Outcome.{LendsNames};
 
-use command_answers::{answer_batch, answer_check, answer_emit, answer_hover, answer_replay, answer_verify, answer_work};
+use command_answers::{
+    answer_batch, answer_check, answer_emit, answer_hover, answer_replay, answer_verify,
+    answer_work,
+};
 use command_files::Refusal;
 use command_words::Alone;
 use outside_io::Files;
