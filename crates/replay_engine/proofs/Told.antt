@@ -1,13 +1,16 @@
 -- What a refusal that was told says of a run.
 use Rattle.std.specs.Prelude.{codes, ◌≡◌, ℕ, List, Option, Some, None, Err, IsTrue, refl}
 use Rattle.std.proofs.Common.{subst, sym, inl, inr, arith}
+use Rattle.std.specs.Io.KnownBytes.{Keeps}
 use Rattle.outside_io.specs.Outside.{Entry, Rose}
 use Rattle.command_files.specs.declared.refusal.Refusal.{Refusal}
 use Rattle.command_files.specs.declared.refusal.Refusal.TheVariants.{Session, Recording, Order, Stream, ReadFailed, NoMemory, TooLong}
-use Rattle.replay_engine.specs.Outcome.{FaultsBy, IsComplete, RefusedBy, Said, SaidSome, SaidTooLong, Tells, TellsSo, is_status}
+use Rattle.replay_engine.specs.Outcome.{ComesTo, FaultsBy, IsComplete, RefusedBy, Said, SaidSome, SaidTooLong, Tells, TellsSo, Writes, is_status}
 use Rattle.replay_engine.specs.Refusing.{RefusesAll}
 use Rattle.replay_engine.specs.Telling.{IsTold}
 use Rattle.command_files.specs.RefusalView.{refusal_view}
+use Rattle.command_words.specs.Forms.{form_of}
+use Rattle.command_answers.specs.Program.{usage}
 
 -- a refusal that is neither a fault nor want of memory is what the program answers, with that status and line
 pub refused_by : (told : Option (List Entry)) (words : List (List ℕ)) (before now : ℕ) (r : Refusal) (status fb fn : ℕ) (eb en : Option (List ℕ))
@@ -134,4 +137,48 @@ faults_refusal told words before now r status fb fn ob on eb en refuses said =
     record {
       read = read_rose told words before now r status fb fn eb en refuses said;
       write = λ five. absurd ((refusal_status r status fb fn eb en said).3 five);
+    }
+
+-- words of no form come to the usage
+usage_comes : (told : Option (List Entry)) (words : List (List ℕ)) → form_of words ≡ None → ComesTo told words (Err usage)
+usage_comes None words e = tt
+usage_comes (Some es) words e = rw e refl
+
+-- what was told of words of no form
+pub tells_usage : (told : Option (List Entry)) (words : List (List ℕ)) (status fb fn : ℕ) (eb en : Option (List ℕ))
+    → form_of words ≡ None → status ≡ 2 → Said fb fn eb en usage.line → Tells told words fb fn eb en status
+tells_usage told words status fb fn eb en none two said =
+    record {
+      judged = λ one. absurd (omega (arith, one, two));
+      usage_told = λ is. (usage, refl, usage_comes told words none, said);
+      refused = λ three. absurd (omega (arith, three, two));
+      too_much = λ seven. absurd (omega (arith, seven, two));
+      judged_line = λ one. absurd (omega (arith, one, two));
+      usage_line = λ is. said;
+      refused_line = λ three. absurd (omega (arith, three, two));
+      too_much_line = λ seven. absurd (omega (arith, seven, two));
+      read_line = λ four. absurd (omega (arith, four, two));
+      write_line = λ five. absurd (omega (arith, five, two));
+      memory_line = λ six. absurd (omega (arith, six, two));
+      silent = λ zero. absurd (omega (arith, zero, two));
+    }
+
+-- words of no form have an answer
+pub complete_usage : (told : Option (List Entry)) (words : List (List ℕ)) (status : ℕ) → form_of words ≡ None → status ≡ 2 → IsComplete told words status
+complete_usage None words status none two = tt
+complete_usage (Some es) words status none two = inl (Err usage, usage_comes (Some es) words none, two)
+
+kept : (o : Option (List ℕ)) → Keeps o o
+kept None = tt
+kept (Some xs) = refl
+
+-- the output took nothing of a refusal
+pub writes_nothing : (told : Option (List Entry)) (words : List (List ℕ)) (r : Refusal) (status fb fn : ℕ) (eb en ob : Option (List ℕ))
+    → IsTold (TellsSo fb fn eb en) r status → Writes told words ob ob status
+writes_nothing told words r status fb fn eb en ob said =
+    let never = refusal_status r status fb fn eb en said in
+    record {
+      whole = λ zero. absurd (never.1 zero);
+      front = λ five. absurd (never.3 five);
+      nothing = λ zero five. kept ob;
     }

@@ -41,7 +41,8 @@ pub fn run_alone<F: Files, O: Sink, E: Sink>(
             let answer = answer_alone(alloc, files, &command);
             end_answered(alloc, answer, out, err)
         }
-        Some(Command::Race(_)) | None => end_with(2, USAGE, err),
+        Some(Command::Race(_)) => end_with(2, USAGE, err),
+        None => end_with(2, USAGE, err),
     }
 }
 
