@@ -24,26 +24,26 @@ not_within n m h = above n m (nat_le n m) refl h
 
 pub too_many_args : (p : PlanData) (past : List RawEvent) (lines : List OrderLine) → 20000 < length (given p past) → followed p past lines ≡ Err (too_long (codes "run"))
 too_many_args p past lines h =
-    ap (λ (b : Bool). cond b (cond (nat_le (length lines) 8000000) (steps_judged p (history.given (run_of p past) (map line_of lines))) (Err (too_long (codes "run")))) (Err (too_long (codes "run"))))
+    ap (λ (b : Bool). cond b (cond (nat_le (length lines) 8000000) (steps_judged p (history.given_calls (run_of p past) (map line_of lines))) (Err (too_long (codes "run")))) (Err (too_long (codes "run"))))
     (not_within (length (given p past)) 20000 h)
 
 few_args : (p : PlanData) (past : List RawEvent) (lines : List OrderLine) → length (given p past) ≤ 20000
-    → followed p past lines ≡ cond (nat_le (length lines) 8000000) (steps_judged p (history.given (run_of p past) (map line_of lines))) (Err (too_long (codes "run")))
+    → followed p past lines ≡ cond (nat_le (length lines) 8000000) (steps_judged p (history.given_calls (run_of p past) (map line_of lines))) (Err (too_long (codes "run")))
 few_args p past lines h =
-    ap (λ (b : Bool). cond b (cond (nat_le (length lines) 8000000) (steps_judged p (history.given (run_of p past) (map line_of lines))) (Err (too_long (codes "run")))) (Err (too_long (codes "run"))))
+    ap (λ (b : Bool). cond b (cond (nat_le (length lines) 8000000) (steps_judged p (history.given_calls (run_of p past) (map line_of lines))) (Err (too_long (codes "run")))) (Err (too_long (codes "run"))))
     (le-leb (length (given p past)) 20000 h)
 
 pub too_many_lines : (p : PlanData) (past : List RawEvent) (lines : List OrderLine) → length (given p past) ≤ 20000 → 8000000 < length lines
     → followed p past lines ≡ Err (too_long (codes "run"))
 too_many_lines p past lines few h =
     few_args p past lines few
-    ∙ ap (λ (b : Bool). cond b (steps_judged p (history.given (run_of p past) (map line_of lines))) (Err (too_long (codes "run")))) (not_within (length lines) 8000000 h)
+    ∙ ap (λ (b : Bool). cond b (steps_judged p (history.given_calls (run_of p past) (map line_of lines))) (Err (too_long (codes "run")))) (not_within (length lines) 8000000 h)
 
 pub steps_follow : (p : PlanData) (past : List RawEvent) (lines : List OrderLine) → length (given p past) ≤ 20000 → length lines ≤ 8000000
-    → followed p past lines ≡ steps_judged p (history.given (run_of p past) (map line_of lines))
+    → followed p past lines ≡ steps_judged p (history.given_calls (run_of p past) (map line_of lines))
 steps_follow p past lines few h =
     few_args p past lines few
-    ∙ ap (λ (b : Bool). cond b (steps_judged p (history.given (run_of p past) (map line_of lines))) (Err (too_long (codes "run")))) (le-leb (length lines) 8000000 h)
+    ∙ ap (λ (b : Bool). cond b (steps_judged p (history.given_calls (run_of p past) (map line_of lines))) (Err (too_long (codes "run")))) (le-leb (length lines) 8000000 h)
 
 -- the plan that is run is that of the session and its args
 pub same_plan : (plan : RunPlan) (all : List GivenArgs) (p : PlanData) (past : List RawEvent) → plan_of plan ≡ script_of p → map cooked_of all ≡ given p past

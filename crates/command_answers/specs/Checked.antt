@@ -32,13 +32,13 @@ steps_judged plan (Err before) = Err (no_step (before + 2))
 abbrev pub followed : PlanData → List RawEvent → List OrderLine → Answer
 followed plan past lines =
     cond (nat_le (length (given plan past)) given_limit)
-    (cond (nat_le (length lines) line_limit) (steps_judged plan (history.given (run_of plan past) (map line_of lines))) (Err (too_long (codes "run"))))
+    (cond (nat_le (length lines) line_limit) (steps_judged plan (history.given_calls (run_of plan past) (map line_of lines))) (Err (too_long (codes "run"))))
     (Err (too_long (codes "run")))
 
 -- The text that an order comes to, which is of the streams of its calls, and these are whole.
 pub record FollowsTo (plan : PlanData) (past : List RawEvent) (lines : List OrderLine) (text : List ℕ) : Type 0 where
   pub calls : List Call
-  pub given_is : history.given (run_of plan past) (map line_of lines) ≡ Ok calls
+  pub given_is : history.given_calls (run_of plan past) (map line_of lines) ≡ Ok calls
   pub whole : AreWhole (device_displays plan.devices) (run (device_displays plan.devices) (reverse calls))
   pub text_is : followed plan past lines ≡ Ok text
 

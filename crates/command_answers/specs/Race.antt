@@ -41,7 +41,7 @@ pub record RacedSo (plan : PlanData) (past : List RawEvent) (text : List ℕ) : 
   pub order : List OrderLine
   pub calls : List Call
   pub all : AsksForAll (run_of plan past) order
-  pub given_is : history.given (run_of plan past) (map line_of order) ≡ Ok calls
+  pub given_is : history.given_calls (run_of plan past) (map line_of order) ≡ Ok calls
   pub text_is : text ≡ order_spelling order ++ streams_text (names_of plan) (run (device_displays plan.devices) (reverse calls))
   pub whole : AreWhole (device_displays plan.devices) (run (device_displays plan.devices) (reverse calls))
   -- who reads the text as an order file reads this order
