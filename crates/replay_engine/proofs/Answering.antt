@@ -1,7 +1,9 @@
 -- The answer to a command is that to its words.
-use Rattle.std.proofs.Common.{◌≡◌, ℕ, List, Option, Some, Result, Ok, Err, IfOk, IfErr, sym, subst}
+use Rattle.std.proofs.Common.{◌≡◌, ℕ, List, Option, Some, Result, Ok, Err, IfOk, IfErr, ap, sym, subst, ◌∙◌}
 use Rattle.outside_io.specs.Outside.{Entry}
 use Rattle.command_words.specs.Command.{Command}
+use Rattle.command_words.specs.CommandView.{command_view}
+use Rattle.command_words.specs.declared.command.Command.{Command as Parsed}
 use Rattle.command_words.specs.Forms.{form_of}
 use Rattle.command_files.specs.declared.refusal.Refusal.{Refusal}
 use Rattle.command_files.specs.declared.refusal.Refusal.TheVariants.{Session, Recording, Order, Stream, ReadFailed, NoMemory, TooLong}
@@ -32,3 +34,7 @@ pub came_to : (told : Option (List Entry)) (words : List (List ℕ)) (command : 
     → IfOk r (λ text. Answers told command (Ok text)) → IfErr r (Refuses (λ x. Answers told command (Err x)) before now) → CameTo told words before now r
 came_to told words command before now (Ok text) is ok err = answers_words told words command (Ok text) is ok
 came_to told words command before now (Err e) is ok err = refuses_words told words command before now e is err
+
+-- the form of words, by the command that was read of them
+pub formed : (words : List (List ℕ)) (x y : Parsed) → Some (command_view x) ≡ form_of words → x ≡ y → form_of words ≡ Some (command_view y)
+formed words x y value is = sym value ∙ ap (λ (z : Parsed). Some (command_view z)) is

@@ -147,10 +147,10 @@ usage_comes (Some es) words e = rw e refl
 -- what was told of words of no form
 pub tells_usage : (told : Option (List Entry)) (words : List (List ℕ)) (status fb fn : ℕ) (eb en : Option (List ℕ))
     → form_of words ≡ None → status ≡ 2 → Said fb fn eb en usage.line → Tells told words fb fn eb en status
-tells_usage told words status fb fn eb en no two said =
+tells_usage told words status fb fn eb en none two said =
     record {
       judged = λ one. absurd (omega (arith, one, two));
-      usage_told = λ is. (usage, refl, usage_comes told words no, said);
+      usage_told = λ is. (usage, refl, usage_comes told words none, said);
       refused = λ three. absurd (omega (arith, three, two));
       too_much = λ seven. absurd (omega (arith, seven, two));
       judged_line = λ one. absurd (omega (arith, one, two));
@@ -165,8 +165,8 @@ tells_usage told words status fb fn eb en no two said =
 
 -- words of no form have an answer
 pub complete_usage : (told : Option (List Entry)) (words : List (List ℕ)) (status : ℕ) → form_of words ≡ None → status ≡ 2 → IsComplete told words status
-complete_usage None words status no two = tt
-complete_usage (Some es) words status no two = inl (Err usage, usage_comes (Some es) words no, two)
+complete_usage None words status none two = tt
+complete_usage (Some es) words status none two = inl (Err usage, usage_comes (Some es) words none, two)
 
 kept : (o : Option (List ℕ)) → Keeps o o
 kept None = tt
