@@ -3,7 +3,7 @@ _inputflinger() {
     local word=${COMP_WORDS[COMP_CWORD]} before=${COMP_WORDS[COMP_CWORD-1]} options option
     COMPREPLY=()
     if [ "$COMP_CWORD" -eq 1 ]; then
-        mapfile -t COMPREPLY < <(compgen -W 'replay race check verify work batch hover emit' -- "$word")
+        mapfile -t COMPREPLY < <(compgen -W 'replay race check verify work batch hover emit judge compare' -- "$word")
         return
     fi
     case ${COMP_WORDS[1]} in
@@ -15,6 +15,8 @@ _inputflinger() {
         batch) options='--stream --frame' ;;
         hover) options='--session --events --mouse' ;;
         emit) options='--stream --channel --device' ;;
+        judge) options='--stream' ;;
+        compare) options='--want --got --us --pixels' ;;
         *) return ;;
     esac
     # Behind an option its value, also as --name=value, of which bash makes three words.
@@ -24,7 +26,7 @@ _inputflinger() {
         before=${COMP_WORDS[COMP_CWORD-2]}
     fi
     case $before in
-        --events|--mouse|--order|--session|--stream)
+        --events|--got|--mouse|--order|--session|--stream|--want)
             compopt -o filenames 2>/dev/null
             mapfile -t COMPREPLY < <(compgen -f -- "$word")
             return

@@ -26,3 +26,10 @@ complete -c inputflinger -n __fish_use_subcommand -a emit -d 'a recording of wha
 complete -c inputflinger -n '__fish_seen_subcommand_from emit' -l stream -r -F
 complete -c inputflinger -n '__fish_seen_subcommand_from emit' -l channel -x
 complete -c inputflinger -n '__fish_seen_subcommand_from emit' -l device -x
+complete -c inputflinger -n __fish_use_subcommand -a judge -d 'channel <id> whole <messages> for each section, where every stream of the file is whole'
+complete -c inputflinger -n '__fish_seen_subcommand_from judge' -l stream -r -F
+complete -c inputflinger -n __fish_use_subcommand -a compare -d 'same <sections> <points>, where a stream file has the points of another one, each at most so many microseconds and pixels away'
+complete -c inputflinger -n '__fish_seen_subcommand_from compare' -l want -r -F
+complete -c inputflinger -n '__fish_seen_subcommand_from compare' -l got -r -F
+complete -c inputflinger -n '__fish_seen_subcommand_from compare' -l us -x
+complete -c inputflinger -n '__fish_seen_subcommand_from compare' -l pixels -x

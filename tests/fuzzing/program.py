@@ -4,7 +4,7 @@ import subprocess
 
 from .laws import Broken, ends_so, ending, need, sections
 
-USAGE = b"usage: inputflinger replay|race|check|verify|work|batch|hover|emit\n"
+USAGE = b"usage: inputflinger replay|race|check|verify|work|batch|hover|emit|judge|compare\n"
 
 
 # The seconds that a run may take.
@@ -77,3 +77,10 @@ class Program:
     def refuses(self, out, line):
         """`verify` refuses a text with this line."""
         ends_so(self.run(["verify", "--stream", self.file("stream.txt", out)]), 1, line)
+
+    def judge(self, out):
+        return self.run(["judge", "--stream", self.file("stream.txt", out)])
+
+    def compare(self, want, got, us, pixels):
+        files = ["--want", self.file("want.txt", want), "--got", self.file("got.txt", got)]
+        return self.run(["compare"] + files + ["--us", str(us), "--pixels", str(pixels)])

@@ -1,54 +1,10 @@
-"""Laws of what reads streams again: `verify`, `batch` and `emit`. What each of them has to say is told from the
-stream."""
+"""Laws of what reads streams again: `batch` and `emit`. What each of them has to say is told from the stream."""
 import re
 
+from .judging import lines_of, written
 from .laws import MOTION, ends_so, moments, need
 
 MOST = 10**18
-
-
-def lines_of(told, number):
-    """The messages of the first section of a channel with their lines in the file, or None where there is no such
-    section."""
-    line = 1
-    for channel, _, messages, _ in told[0]:
-        if channel == number:
-            return [(line + k, text) for k, text in enumerate(messages, 1)]
-        line += len(messages) + 2
-    return None
-
-
-def written(told):
-    """A text of streams, from its sections."""
-    text = ""
-    for number, name, messages, counts in told[0]:
-        text += "channel %d %s\n" % (number, name) + "".join(m + "\n" for m in messages)
-        text += "end %d sent %d received %d finished %d\n" % ((number,) + counts)
-    return (text + "".join(naming + "\n" for naming in told[1])).encode()
-
-
-def numbered(messages):
-    return ["%d %s" % (k, text.split(" ", 1)[1]) for k, text in enumerate(messages, 1)]
-
-
-def judges(program, case, told):
-    """A message twice, of those that cannot come twice, is the first that is not well-formed; a line with a blank
-    behind it is no line."""
-    rng = case.drawn("judges")
-    twice = r"\d+ \d+ (motion \d (DOWN|POINTER_DOWN:\d+|POINTER_UP:\d+|UP|CANCEL)\b|key|focus).*"
-    places = [(k, j) for k, c in enumerate(told[0]) for j, m in enumerate(c[2]) if re.fullmatch(twice, m)]
-    if not places:
-        return
-    k, j = rng.choice(places)
-    number, name, messages, counts = told[0][k]
-    line = lines_of(told, number)[j][0]
-    more = numbered(messages[: j + 1] + messages[j:])
-    text = written((told[0][:k] + [(number, name, more, (counts[0] + 1,) + counts[1:])] + told[0][k + 1 :], told[1]))
-    program.refuses(text, "stream: NotWellFormed %d\n" % (line + 1))
-    lines = text.split(b"\n")
-    at = rng.randrange(len(lines) - 1)
-    lines[at] += b" "
-    program.refuses(b"\n".join(lines), "stream: BadLine %d\n" % (at + 1))
 
 
 def parted(before, after, frame):

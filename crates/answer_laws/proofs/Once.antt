@@ -4,23 +4,25 @@ use Rattle.std.specs.Option.{IsSomeAnd}
 use Rattle.outside_io.specs.Outside.{Entry, bytes_of}
 use Rattle.raw_events.specs.declared.event.RawEvent.{RawEvent}
 use Rattle.session_plan.specs.Plan.{PlanData}
-use Rattle.command_words.specs.Command.{Command, Recorded, replay, race, check, verify, work, batch, hover, emit}
+use Rattle.command_words.specs.Command.{Command, Recorded, replay, race, check, verify, work, batch, hover, emit, judge, compare}
 use Rattle.command_words.specs.Forms.{form_of}
 use Rattle.emit_text.proofs.Once.{emitted_once}
 use Rattle.command_answers.specs.Batch.{BatchAnswers}
 use Rattle.command_files.specs.Devices.{devices_of}
 use Rattle.command_answers.specs.Emit.{EmitAnswers, emit_answer}
 use Rattle.command_answers.specs.Checked.{OrderAnswers}
+use Rattle.command_answers.specs.Compare.{GotAnswers, SameAnswers}
 use Rattle.command_files.specs.Inputs.{order_judged}
 use Rattle.command_answers.specs.Hover.{HoverAnswers, mouse_alone}
 use Rattle.command_files.specs.Judged.{After, Answer, Reads}
 use Rattle.command_answers.specs.Program.{AnswersTo, IsAlone}
 use Rattle.command_answers.specs.Checked.{CheckAnswers}
 use Rattle.command_answers.specs.Hover.{MouseAnswers}
+use Rattle.command_answers.specs.Judge.{JudgeAnswers}
 use Rattle.command_answers.specs.Replay.{RecordingAnswers, RunAnswers}
 use Rattle.command_answers.specs.Verify.{StreamAnswers}
 use Rattle.command_answers.specs.Race.{ThreadsAnswer}
-use Rattle.command_files.specs.Inputs.{events_judged, session_judged, stream_judged}
+use Rattle.command_files.specs.Inputs.{events_judged, got_judged, session_judged, stream_judged, want_judged}
 use Rattle.command_answers.specs.Race.{RaceAnswers, Races}
 use Rattle.command_files.specs.Refused.{Refused}
 use Rattle.answer_laws.specs.Laws.{OneAnswer, OneRefusal}
@@ -39,10 +41,10 @@ some_once : (Of : Answer → Type 0) (o : Option (List ℕ)) (Is : List ℕ → 
 some_once Of None Is once a b k x y = absurd x
 some_once Of (Some bytes) Is once a b k x y = once bytes a b k x y
 
-reads_once : {A : Type 0} (Of : Answer → Type 0) (entries : List Entry) (name : List ℕ) (judge : List ℕ → Result A Refused) (Next : A → Answer → Type 0)
-    → ((x : A) → Once Of (Next x)) → Once Of (Reads entries name judge Next)
-reads_once Of entries name judge Next once =
-    some_once Of (bytes_of entries name) (λ bytes. After Next (judge bytes)) (λ bytes. after_once Of (judge bytes) Next once)
+reads_once : {A : Type 0} (Of : Answer → Type 0) (entries : List Entry) (name : List ℕ) (rule : List ℕ → Result A Refused) (Next : A → Answer → Type 0)
+    → ((x : A) → Once Of (Next x)) → Once Of (Reads entries name rule Next)
+reads_once Of entries name rule Next once =
+    some_once Of (bytes_of entries name) (λ bytes. After Next (rule bytes)) (λ bytes. after_once Of (rule bytes) Next once)
 
 emits_once : (channel device : ℕ) (bytes : List ℕ) (a b : Answer) → EmitAnswers channel device bytes a → EmitAnswers channel device bytes b → b ≡ a
 emits_once channel device bytes a b (r, x, r_may, x_is) (q, y, q_may, y_is) = sym y_is ∙ ap emit_answer (emitted_once bytes channel device q r y x) ∙ x_is
@@ -69,6 +71,10 @@ command_once Of entries (Some (hover files mouse)) races =
     (λ plan. reads_once Of entries files.events (events_judged (mouse_alone mouse)) (HoverAnswers plan) (λ events a b k x y. sym y ∙ x))
 command_once Of entries (Some (emit stream channel device)) races =
     reads_once Of entries stream stream_judged (EmitAnswers channel device) (λ bytes a b k x y. emits_once channel device bytes a b x y)
+command_once Of entries (Some (judge stream)) races = reads_once Of entries stream stream_judged JudgeAnswers (λ bytes a b k x y. sym y ∙ x)
+command_once Of entries (Some (compare want got us pixels)) races =
+    reads_once Of entries want want_judged (GotAnswers entries got us pixels)
+    (λ wanted. reads_once Of entries got got_judged (SameAnswers us pixels wanted) (λ came a b k x y. sym y ∙ x))
 
 pub one_answer : OneAnswer
 one_answer entries words a b alone x y =

@@ -5,7 +5,7 @@ ghost use Rattle.cancel_synthesis.specs.Cancelling.{still_told};
 
 use bits32::Bits32;
 use input_types::{DeviceId, FLAG_CANCELED, Motion, MotionAction, PointerId, Pointers};
-use split_motion::{about, plain, rest};
+use split_motion::{about, part_but, plain};
 use std::marker::Model;
 
 /// What a window is told where pointers of a device are taken from it, one motion after the other: nothing, where none
@@ -81,5 +81,5 @@ pub(crate) fn without(pointers: &Pointers, id: PointerId) -> Pointers
 {
     let mut one = Bits32::empty();
     one.mark(id.get());
-    rest(pointers, one)
+    part_but(pointers, one)
 }

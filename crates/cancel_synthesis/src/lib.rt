@@ -17,7 +17,7 @@
 #![tactic(auto)]
 
 mod cancels;
-mod keys;
+mod held_keys;
 pub mod laws;
 mod pointers;
 mod state;

@@ -8,11 +8,11 @@ ghost use Rattle.cancel_synthesis.specs.Tracked.{keys_after, with_spare};
 ghost use Rattle.cancel_synthesis.specs.Ends.{pointers_cancelled, keys_cancelled, of_device, all_cancelled};
 
 use crate::cancels::Cancels;
-use crate::keys::{cancel_each_key, device_keys_cancelled, forget, keep, keys_cancelled};
+use crate::held_keys::{cancel_each_key, device_keys_cancelled, forget, keep, keys_cancelled};
 use crate::pointers::{cancel_devices, pointers_after};
 use bits32::Bits32;
 use input_types::{Body, DeviceId, KeyMsg, Motion, MotionAction, Pointers};
-use split_motion::{part, rest};
+use split_motion::{part, part_but};
 use std::alloc::{AllocError, Global};
 use std::marker::Model;
 
@@ -110,7 +110,7 @@ impl InputState {
         ensures { still_told result ≡ pointers_cancelled device (λ i. is_in i lost) (pointers_of self.now device) }
     {
         let had = pointers_at(&self.pointers, device);
-        Cancels::new(device, had, &rest(had, lost), &part(had, lost))
+        Cancels::new(device, had, &part_but(had, lost), &part(had, lost))
     }
 
     /// The same where those of its pointers of a device are taken that have other ids than these.
@@ -119,7 +119,7 @@ impl InputState {
             ≡ pointers_cancelled device (λ i. not (is_in i kept)) (pointers_of self.now device) }
     {
         let had = pointers_at(&self.pointers, device);
-        Cancels::new(device, had, &part(had, kept), &rest(had, kept))
+        Cancels::new(device, had, &part(had, kept), &part_but(had, kept))
     }
 
     /// What the window is told where pointers of a device with these ids are taken from it: nothing, where it has

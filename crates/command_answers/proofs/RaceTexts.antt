@@ -1,8 +1,9 @@
 -- What the end of a race of a session's run says of its text.
 use Rattle.std.proofs.Common.{◌≡◌, ◌∙◌, ◌-◌, ◌<◌, ℕ, zero, suc, ◌+◌, Bool, true, false, List, ◌∷◌, cond, length, map, reverse, Some, Result, Ok, Err, IfOk, ap, sym, subst, refl, arith, []}
-use Rattle.std.specs.Prelude.{◌==◌, is_some}
+use Rattle.std.specs.Prelude.{◌==◌, ◌≤◌, ◌++◌, is_some}
+use Rattle.std.proofs.Math.Path.{fun_ext}
 use Rattle.std.proofs.lemmas.Bool.{eqb-true, eq-eqb}
-use Rattle.std.proofs.lemmas.List.{length-map}
+use Rattle.std.proofs.lemmas.List.{length-map, map-append}
 use Rattle.input_types.specs.declared.message.Args.{Args}
 use Rattle.dispatch_calls.specs.declared.call.Call.{Call}
 use Rattle.dispatch_calls.specs.declared.call.Call.TheVariants.{Finish}
@@ -20,6 +21,8 @@ use Rattle.replay_actors.specs.Race.{IsRace, ScriptsMade, SeatsDiffer, has_seat}
 use Rattle.turnstile.specs.History.{Entry as Called}
 use Rattle.replay_actors.proofs.Orders.{seat_lane, history_same}
 use Rattle.replay_actors.proofs.Spelled.{order_law}
+use Rattle.replay_actors.specs.Counting.{ticks, moves, idles}
+use Rattle.replay_actors.specs.Ends.{IsSettledRace}
 use Rattle.replay_actors.specs.Finishing.{IsOrderly, AreOrderly}
 use Rattle.dispatch_history.specs.Effects.{effects}
 use Rattle.dispatch_history.specs.Legal.{replay, run}
@@ -31,11 +34,12 @@ use Rattle.window_snapshot.specs.Mask.{mask_has}
 use Rattle.replay_actors.specs.declared.part.Lanes.{Lanes}
 use Rattle.replay_actors.specs.declared.part.RaceEnd.{RaceEnd}
 use Rattle.replay_actors.specs.Plans.{scripted}
+use Rattle.replay_actors.specs.Session.{channel_of}
 use Rattle.session_plan.specs.Plan.{PlanData}
 use Rattle.raw_events.specs.declared.event.RawEvent.{RawEvent}
 use Rattle.stream_text.specs.OrderHistory.{lane_from, order_of_history}
 use Rattle.command_files.specs.Planned.{names_of, run_of}
-use Rattle.command_answers.specs.Race.{RacedSo}
+use Rattle.command_answers.specs.Race.{EndsSettling, RacedSo, finishes_from}
 use Rattle.command_answers.specs.RaceEnds.{DoPlan, EndsRace}
 use Rattle.command_answers.specs.Whole.{AreWhole}
 use Rattle.command_answers.proofs.WholeRun.{sound_whole}
@@ -124,22 +128,35 @@ race_written p past end ends again =
           subst (AreOrderly _) (sym there)
           (orderly_within (mask_has ends.mask) _ (λ c is. sym (ends.finishing_are c) ∙ is) (steps (called end.core.entries)) ends.race.race.orderly);
       settled = less_settled _ _ (mask_has ends.mask) _ (λ c is. ends.finishing_are c ∙ is) prints.settled;
+      few_ticks = subst (λ (h : History). ticks h ≤ moves h + 1) (sym there) ends.race.race.few_ticks;
+      few_idles = subst (λ (h : History). idles h ≤ 81985) (sym there) ends.race.race.few_idles;
+      ends =
+          subst (λ (n : ℕ). EndsSettling (finishes_from 1 plan.channels) n (replay plan.displays (reverse prints.calls))) (length-map p.channels channel_of)
+          (subst (EndsSettling (finishes_from 1 plan.channels) (length plan.channels)) (sym there)
+          (subst (λ f. EndsSettling f (length plan.channels) (steps (called end.core.entries))) (fun_ext ends.finishing_are) ends.ends));
     }
 
--- what holds of an answer by three facts
-pub if_ok_three : {A E : Type 0} (r : Result A E) (P Q R S : A → Type 0)
-    → ((x : A) → P x → Q x → R x → S x) → IfOk r P → IfOk r Q → IfOk r R → IfOk r S
-if_ok_three (Ok x) P Q R S f p q s = f x p q s
-if_ok_three (Err x) P Q R S f p q s = q
+-- what holds of an answer by four facts
+pub if_ok_four : {A E : Type 0} (r : Result A E) (P Q R S T : A → Type 0)
+    → ((x : A) → P x → Q x → R x → S x → T x) → IfOk r P → IfOk r Q → IfOk r R → IfOk r S → IfOk r T
+if_ok_four (Ok x) P Q R S T f p q s t = f x p q s t
+if_ok_four (Err x) P Q R S T f p q s t = q
+
+-- the last calls of a race settle it
+ends_settling : (displays : List ℕ) (finishing : ℕ → Bool) (channels : ℕ) (own : List Own) (cooked : List (ℕ × Args)) (scripts : List (List Call))
+    (h : List (Called Call Reply)) → IsSettledRace displays finishing channels own cooked scripts h → EndsSettling finishing channels (steps h)
+ends_settling displays finishing channels own cooked scripts h s =
+    (steps s.since, steps s.lanes, ap steps s.entries_are ∙ map-append (λ (e : Called Call Reply). (e.1, e.2)) s.since s.lanes, s.stands)
 
 -- a race of lanes that do what a plan has
 pub ends_race : (plan : Plan) (l : Lanes) (own : List Own) (end : RaceEnd) → DoPlan plan.channels plan.steps plan.cooked l
     → calls_made own ≡ reverse (opens plan.channels)
     → Some end.core.displays ≡ Some plan.displays
     → IsRace end.core.displays (mask_has l.finishing) own l.cooked.items (scripted l.scripts.items) end.script_seats.items (called end.core.entries)
+    → IsSettledRace end.core.displays (mask_has l.finishing) l.channels own l.cooked.items (scripted l.scripts.items) (called end.core.entries)
     → IsSound end.core
     → EndsRace plan end
-ends_race plan l own end does opened displays race sound =
+ends_race plan l own end does opened displays race settled sound =
     let same : end.core.displays ≡ plan.displays = cc in
     let scripts = scripted l.scripts.items in
     let seats = end.script_seats.items in
@@ -159,4 +176,7 @@ ends_race plan l own end does opened displays race sound =
         opens_are = opened;
         lanes_are = does.lanes_are;
       };
+      ends =
+          subst (λ n. EndsSettling (mask_has l.finishing) n (steps h)) does.channels_are
+          (ends_settling end.core.displays (mask_has l.finishing) l.channels own l.cooked.items scripts h settled);
     }

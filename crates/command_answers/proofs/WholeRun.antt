@@ -9,7 +9,7 @@ use Rattle.dispatch_history.specs.Known.{known_state}
 use Rattle.dispatch_history.specs.Legal.{Legal}
 use Rattle.dispatch_history.specs.PointerOf.{AllRise}
 use Rattle.dispatch_history.proofs.LegalLaws.{effects_law}
-use Rattle.dispatch_history.proofs.WholeLaws.{removed_law, whole_law, well_formed_law}
+use Rattle.dispatch_history.proofs.WholeLaws.{removed_law, removed_state_law, whole_law, well_formed_law}
 use Rattle.dispatch_tables.specs.Lawful.{Lawful}
 use Rattle.command_answers.specs.Whole.{AreWhole}
 
@@ -19,9 +19,13 @@ lawful_whole displays es lawful rise = record {
   live_ones = λ c alive. subst (λ (xs : List Effect). stream_state (stream xs c) ≡ Some (known_state xs c)) lawful.whole
       (whole_law displays (past_of es) c lawful.legal rise alive);
   removed_ones = λ later before now c is.
-      let kept = removed_law displays later before now c (subst (Legal displays) is lawful.legal) in (
+      let so = subst (Legal displays) is lawful.legal in
+      let kept = removed_law displays later before now c so in (
         ap (λ (h : History). live h c) is ∙ kept.0,
         ap (λ (xs : List Effect). stream xs c) (sym lawful.whole) ∙ ap (λ (h : History). stream (effects displays h) c) is ∙ kept.1,
+        ap (λ (xs : List Effect). stream_state (stream xs c)) (sym lawful.whole)
+            ∙ ap (λ (h : History). stream_state (stream (effects displays h) c)) is
+            ∙ removed_state_law displays later before now c so (subst AllRise is rise),
       );
 }
 
@@ -34,5 +38,5 @@ sound_whole r sound =
       live_ones = λ c alive. sound.whole c (ap (λ (h : History). live h c) (sym same) ∙ alive);
       removed_ones = λ later before now c is.
           let kept = sound.removed later before now c (sym same ∙ is) in
-          (ap (λ (h : History). live h c) same ∙ kept.0, kept.1);
+          (ap (λ (h : History). live h c) same ∙ kept.0, kept.1, kept.2);
     }

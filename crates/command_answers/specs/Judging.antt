@@ -3,7 +3,7 @@ use Rattle.std.specs.Prelude.{◌≡◌, ℕ, ◌+◌, if◌then◌else◌, List
 use Rattle.std.specs.Option.{option_or}
 use Rattle.input_types.specs.declared.message.Message.{Message as Told}
 use Rattle.input_types.specs.StreamRule.{is_well_formed}
-use Rattle.gesture_verifier.specs.Told.{Told as Tables, StandsFor}
+use Rattle.gesture_verifier.specs.Told.{Told as Tables, VerifierStandsFor}
 use Rattle.stream_text.specs.declared.stream_line.StreamLine.{StreamLine}
 use Rattle.stream_text.specs.declared.stream_line.StreamLine.TheVariants.{Channel, Message, End, Naming}
 use Rattle.stream_text.specs.StreamFile.{Event}
@@ -47,7 +47,7 @@ pub record Known : Type 0 where
 
 -- up to the first break the tables are those of the messages of the open section
 abbrev pub Knows : List Told → Known → Type 0
-Knows past j = j.broken ≡ None → StandsFor past j.tables
+Knows past j = j.broken ≡ None → VerifierStandsFor past j.tables
 
 -- what is known behind a line
 pub record Judges (past : List Told) (n : ℕ) (line : StreamLine) (old new : Known) : Type 0 where

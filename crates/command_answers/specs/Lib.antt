@@ -1,9 +1,11 @@
 pub mod Batch
 pub mod Begun
 pub mod Checked
+pub mod Compare
 pub mod Emit
 pub mod Given
 pub mod Hover
+pub mod Judge
 pub mod Judging
 pub mod Plan
 pub mod Program

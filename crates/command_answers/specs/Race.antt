@@ -3,12 +3,15 @@ use Rattle.std.specs.Prelude.{codes, ◌≡◌, ◌<◌, ◌≤◌, ◌==◌, if
 use Rattle.raw_events.specs.declared.event.RawEvent.{RawEvent}
 use Rattle.dispatch_calls.specs.declared.call.Call.{Call}
 use Rattle.dispatch_history.specs.Given as history
+use Rattle.dispatch_history.specs.History.{History}
 use Rattle.dispatch_history.specs.Legal.{run, replay}
 use Rattle.dispatch_history.specs.Plan.{ChannelOf, Plan}
 use Rattle.dispatch_history.specs.Settled.{Settled}
 use Rattle.stream_text.specs.OrderAsks.{line_of}
+use Rattle.replay_actors.specs.Counting.{ticks, moves, idles}
 use Rattle.replay_actors.specs.Finishing.{AreOrderly}
 use Rattle.replay_actors.specs.Orders.{readers, steps_in}
+use Rattle.replay_actors.specs.Settling.{settling, receives_from}
 use Rattle.dispatch_history.specs.Given.{calls_of_lane}
 use Rattle.replay_actors.specs.Texts.{ReadsAgain}
 use Rattle.session_plan.specs.DeviceDisplays.{device_displays}
@@ -36,6 +39,12 @@ pub record AsksForAll (plan : Plan) (order : List OrderLine) : Type 0 where
   pub args : readers order ≡ length plan.cooked
   pub steps : (l : ℕ) → 1 ≤ l → l ≤ 8 → steps_in l order ≡ length (calls_of_lane l plan.steps)
 
+-- the last calls of a history are those that settle it: pumps until nothing waits, one tick, and receives from each of so many channels until it
+-- has nothing more
+abbrev pub EndsSettling : (finishing : ℕ → Bool) → (channels : ℕ) → History → Type 0
+EndsSettling finishing channels h =
+    (since : History) × (before : History) × (h ≡ since ++ before) × (settling finishing since ≡ receives_from (channels + 1))
+
 -- The text is that of one such order, and then the streams of the run of this order, after which nothing is left to do.
 pub record RacedSo (plan : PlanData) (past : List RawEvent) (text : List ℕ) : Type 0 where
   pub order : List OrderLine
@@ -53,6 +62,16 @@ pub record RacedSo (plan : PlanData) (past : List RawEvent) (text : List ℕ) : 
   pub settled :
       Settled (device_displays plan.devices) (replay (device_displays plan.devices) (reverse calls))
       (finishes_from 1 (map channel_of plan.channels))
+  -- it ticks at most once more than it dispatches args or repeats a key, and asks for nothing at most 81,985 times: five threads give up
+  -- after 16,384 such calls each, and what is left finds nothing once for each of at most 64 channels and once for args
+  pub few_ticks :
+      ticks (replay (device_displays plan.devices) (reverse calls))
+      ≤ moves (replay (device_displays plan.devices) (reverse calls)) + 1
+  pub few_idles : idles (replay (device_displays plan.devices) (reverse calls)) ≤ 81985
+  -- the last calls do all that is left to do, and none comes after them
+  pub ends :
+      EndsSettling (finishes_from 1 (map channel_of plan.channels)) (length plan.channels)
+      (replay (device_displays plan.devices) (reverse calls))
 
 -- the text of a race for the events of a recording, the newest first, or that they give too many args
 abbrev pub Races : PlanData → List RawEvent → Answer → Type 0

@@ -1,6 +1,7 @@
 -- A race of a plan, as its functions see it.
 use Rattle.std.specs.Prelude.{◌≡◌, ℕ, List, length, map}
 use Rattle.window_snapshot.specs.Mask.{mask_has}
+use Rattle.dispatch_core.specs.Machine.{called, steps}
 use Rattle.dispatch_core.specs.Recorded.{IsSound}
 use Rattle.dispatch_history.specs.Plan.{ChannelOf, Cooked, Plan, ScriptStep}
 use Rattle.given_run.specs.Planned.{cooked_of}
@@ -14,7 +15,7 @@ use Rattle.session_plan.specs.View.{channel_view}
 use Rattle.session_plan.specs.declared.plan.ChannelPlan.{ChannelPlan}
 use Rattle.session_plan.specs.declared.plan.Step.{Step}
 use Rattle.replay_actors.specs.Session.{channel_of, step_of}
-use Rattle.command_answers.specs.Race.{finishes_from}
+use Rattle.command_answers.specs.Race.{EndsSettling, finishes_from}
 
 -- the mask is that of these channels whose owners finish what they are given
 abbrev pub HasFinishing : Plan → ℕ → Type 0
@@ -47,3 +48,4 @@ pub record EndsRace (plan : Plan) (end : RaceEnd) : Type 0 where
   pub displays_are : end.core.displays ≡ plan.displays
   pub sound : IsSound end.core
   pub race : RaceOf plan (mask_has mask) end.script_seats.items end.core.entries
+  pub ends : EndsSettling (mask_has mask) (length plan.channels) (steps (called end.core.entries))

@@ -8,12 +8,15 @@ use Rattle.dispatch_history.specs.Effects.{effects}
 use Rattle.dispatch_history.specs.History.{History, live}
 use Rattle.dispatch_history.specs.Known.{known_state}
 
--- Nothing follows a removal: the channel stays removed, and its stream is that of just before it.
+-- Nothing follows a removal: the channel stays removed, its stream is that of just before it, and leaves its owner knowing what its window
+-- held then.
 abbrev pub NothingFollows : List ℕ → List Effect → Type 0
 NothingFollows displays es =
     (later before : History) (now c : ℕ)
     → past_of es ≡ later ++ (Remove now c, Done) ∷ before
-    → (live (past_of es) c ≡ false) × (stream es c ≡ stream (effects displays before) c)
+    → (live (past_of es) c ≡ false)
+    × (stream es c ≡ stream (effects displays before) c)
+    × (stream_state (stream es c) ≡ Some (known_state (effects displays before) c))
 
 -- Every stream is well-formed, that of a live channel leaves its owner knowing what its window holds, and nothing follows a removal.
 pub record AreWhole (displays : List ℕ) (es : List Effect) : Type 0 where

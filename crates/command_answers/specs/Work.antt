@@ -3,6 +3,7 @@ use Rattle.std.specs.Prelude.{codes, ◌≡◌, ℕ, zero, suc, ◌+◌, List, �
 use Rattle.std.specs.Fmt.{decimal}
 use Rattle.std.specs.Option.{unwrap_or}
 use Rattle.raw_events.specs.declared.event.RawEvent.{RawEvent}
+use Rattle.session_plan.specs.DeviceDisplays.{device_displays}
 use Rattle.dispatch_history.specs.Due.{counts, namings}
 use Rattle.dispatch_history.specs.Effect.{Effect}
 use Rattle.dispatch_history.specs.Plan.{Cooked}
@@ -16,6 +17,7 @@ use Rattle.command_files.specs.Judged.{Answer}
 use Rattle.command_files.specs.Planned.{given, run_of}
 use Rattle.command_files.specs.Refused.{too_long}
 use Rattle.command_answers.specs.Replay.{Overruns}
+use Rattle.command_answers.specs.Whole.{AreWhole}
 
 -- the first two lines: the workload, and how many args its events give
 abbrev pub head : ℕ → ℕ → ℕ → List ℕ
@@ -39,11 +41,12 @@ work_past seed packets = reverse (events_of seed packets 10)
 abbrev pub work_given : ℕ → ℕ → List Cooked
 work_given seed packets = given session (work_past seed packets)
 
--- the text sums up the ordered run of the workload, whose calls and messages are no more than may be
+-- the text sums up the ordered run of the workload, whose calls and messages are no more than may be, and whose streams are whole
 pub record Worked (seed packets : ℕ) (text : List ℕ) : Type 0 where
   pub es : List Effect
   pub ordered : Ordered (run_of session (work_past seed packets)) es
   pub within : IsWithin es
+  pub whole : AreWhole (device_displays session.devices) es
   pub text_is : text ≡ summary seed packets (length (work_given seed packets)) es
 
 -- the summary of a workload, or that its run is too long

@@ -11,14 +11,17 @@
 //! end 1 sent 2 received 2 finished 2
 //! ```
 //!
-//! Given this text, `verify` says `well formed 1 2`.
+//! Given this text, `verify` says `well formed 1 2`, `judge` says `channel 1 whole 2` and `judged 1 2`, and `compare`
+//! of it with itself says `same 1 2`.
 #![tactic(auto)]
 
 mod batch;
 mod checked;
+mod compare;
 mod emit;
 mod given;
 mod hover;
+mod judge;
 mod plan;
 mod race;
 mod replay;
@@ -28,8 +31,10 @@ mod work;
 
 pub use batch::answer_batch;
 pub use checked::answer_check;
+pub use compare::answer_compare;
 pub use emit::answer_emit;
 pub use hover::answer_hover;
+pub use judge::answer_judge;
 pub use race::answer_race;
 pub use replay::answer_replay;
 pub use verify::answer_verify;

@@ -1,5 +1,7 @@
 -- The files that a run reads, and how each is judged.
 use Rattle.std.specs.Prelude.{codes, ℕ, nat_le, cond, List, length, Option, Result, Ok, Err}
+use Rattle.compare_text.specs.Indexed.{file_sections}
+use Rattle.compare_text.specs.Points.{Section}
 use Rattle.outside_io.specs.Outside.{Entry}
 use Rattle.raw_events.specs.declared.event.RawEvent.{RawEvent}
 use Rattle.raw_events.specs.declared.event.LineError.{LineError}
@@ -12,7 +14,7 @@ use Rattle.stream_text.specs.declared.order_line.OrderLine.{OrderLine}
 use Rattle.stream_text.specs.OrderText.{order_of}
 use Rattle.command_files.specs.Devices.{devices_of}
 use Rattle.command_files.specs.Judged.{IsJudged}
-use Rattle.command_files.specs.Refused.{Refused, bad_order_line, session_refused, recording_refused, too_long}
+use Rattle.command_files.specs.Refused.{Refused, bad_got_line, bad_order_line, bad_want_line, session_refused, recording_refused, too_long}
 
 -- the most bytes of a session, 4 MiB
 abbrev pub session_limit : ℕ
@@ -70,6 +72,23 @@ order_judged bytes = cond (nat_le (length bytes) order_limit) (order_lines (orde
 abbrev pub stream_judged : List ℕ → Result (List ℕ) Refused
 stream_judged bytes = cond (nat_le (length bytes) stream_limit) (Ok bytes) (Err (too_long (codes "stream")))
 
+-- the sections of streams, or the refusal of the first bad or missing line
+abbrev pub sections_said : (ℕ → Refused) → Result (List Section) ℕ → Result (List Section) Refused
+sections_said Bad (Ok sections) = Ok sections
+sections_said Bad (Err n) = Err (Bad n)
+
+-- the sections of a stream file, or why it is refused: its length is looked at first, and then each of its lines
+abbrev pub sections_judged : (ℕ → Refused) → List ℕ → Result (List Section) Refused
+sections_judged Bad bytes = cond (nat_le (length bytes) stream_limit) (sections_said Bad (file_sections bytes)) (Err (too_long (codes "stream")))
+
+-- the sections that were wanted
+abbrev pub want_judged : List ℕ → Result (List Section) Refused
+want_judged bytes = sections_judged bad_want_line bytes
+
+-- the sections that came
+abbrev pub got_judged : List ℕ → Result (List Section) Refused
+got_judged bytes = sections_judged bad_got_line bytes
+
 -- the session under this name is accepted
 abbrev pub IsAccepted : Option (List Entry) → List ℕ → Type 0
 IsAccepted told name = (plan : PlanData) × IsJudged told name session_judged (Ok plan)
@@ -79,3 +98,7 @@ abbrev pub AreAccepted : Option (List Entry) → List ℕ → List ℕ → Type 
 AreAccepted told session events =
     (plan : PlanData) × IsJudged told session session_judged (Ok plan)
     × ((given : List RawEvent) × IsJudged told events (events_judged (devices_of plan)) (Ok given))
+
+-- the wanted streams under this name are accepted
+abbrev pub IsWant : Option (List Entry) → List ℕ → Type 0
+IsWant told want = (sections : List Section) × IsJudged told want want_judged (Ok sections)

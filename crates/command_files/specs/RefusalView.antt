@@ -1,6 +1,8 @@
 -- What a refusal says outside.
 use Rattle.std.specs.Prelude.{codes, ℕ, List, ◌++◌}
 use Rattle.std.specs.Fmt.{decimal}
+use Rattle.compare_text.specs.Lines.{refusal_line as compare_line}
+use Rattle.judge_text.specs.Lines.{refusal_line as judge_line}
 use Rattle.session_plan.specs.ErrorLine.{error_line}
 use Rattle.command_files.specs.declared.refusal.Refusal.{Refusal}
 use Rattle.command_files.specs.declared.refusal.Refusal.TheVariants.{Session, Recording, Order, Stream, ReadFailed, NoMemory, TooLong}
@@ -34,6 +36,10 @@ stream_line (stream.NotWellFormed n) = codes "stream: NotWellFormed " ++ decimal
 stream_line stream.NoChannel = codes "stream: NoChannel"
 stream_line (stream.TooLate n) = codes "stream: TooLate " ++ decimal n
 stream_line (stream.NotAssignable n) = codes "stream: NotAssignable " ++ decimal n
+stream_line (stream.NotWhole error) = judge_line error
+stream_line (stream.BadWant n) = codes "want: BadLine " ++ decimal n
+stream_line (stream.BadGot n) = codes "got: BadLine " ++ decimal n
+stream_line (stream.NotSame error) = compare_line error
 
 -- the word for what is longer than its limit
 abbrev pub subject_word : Subject → List ℕ

@@ -3,6 +3,10 @@ use Rattle.std.specs.Prelude.{codes, ℕ, List, ◌++◌, []}
 use Rattle.std.specs.Fmt.{decimal}
 use Rattle.raw_events.specs.declared.event.LineError.{LineError}
 use Rattle.raw_events.specs.declared.event.LineError.TheVariants as lines
+use Rattle.compare_text.specs.declared.error.CompareError.{CompareError}
+use Rattle.compare_text.specs.Lines.{refusal_line as compare_line}
+use Rattle.judge_text.specs.declared.error.JudgeError.{JudgeError}
+use Rattle.judge_text.specs.Lines.{refusal_line as judge_line}
 use Rattle.session_plan.specs.Fault.{Fault}
 use Rattle.session_plan.specs.ErrorLine.{line_of}
 
@@ -57,6 +61,22 @@ too_late n = refused 1 (codes "stream: TooLate " ++ decimal n)
 -- a motion has a pointer with an id that cooking would not give it
 abbrev pub not_assignable : ℕ → Refused
 not_assignable n = refused 1 (codes "stream: NotAssignable " ++ decimal n)
+
+-- a section of a stream file is not whole, or none has a message
+abbrev pub not_whole : JudgeError → Refused
+not_whole error = refused 1 (judge_line error)
+
+-- a line of the streams that were wanted is not of the grammar of stream files
+abbrev pub bad_want_line : ℕ → Refused
+bad_want_line n = refused 1 (codes "want: BadLine " ++ decimal n)
+
+-- a line of the streams that came is not of the grammar of stream files
+abbrev pub bad_got_line : ℕ → Refused
+bad_got_line n = refused 1 (codes "got: BadLine " ++ decimal n)
+
+-- the streams that came are not those that were wanted
+abbrev pub not_same : CompareError → Refused
+not_same error = refused 1 (compare_line error)
 
 -- something is longer than its limit
 abbrev pub too_long : List ℕ → Refused

@@ -1,5 +1,5 @@
 //! Reading a file to its end or its limit.
-ghost use Rattle.std.specs.Prelude.{◌≡◌, ℕ, ◌+◌, ◌<◌, ◌≤◌, ◌^◌, IfOk, OnOk, OnErr, IsErrOf, IsTrue, None, length};
+ghost use Rattle.std.specs.Prelude.{◌≡◌, ℕ, ◌+◌, ◌<◌, ◌≤◌, ◌^◌, false, IfOk, OnOk, OnErr, IsErrOf, IsTrue, None, length};
 ghost use Rattle.std.specs.Prelude.{vec_len};
 ghost use Rattle.outside_io.specs.Outside.{Rose};
 ghost use Rattle.command_files.specs.Reading.{IsAll, IsFile, IsLonger, IsLongFile, ReadsPiece, ReadsWith, WithAll};
@@ -65,7 +65,9 @@ fn read_piece<S: Source>(
     buffer: &mut [u8],
     bytes: &mut Vec<u8>,
 ) -> Result<usize, ReadError>
-    requires { 0 < length buffer.old }
+    requires some { 0 < length buffer.old }
+    requires going { (S.reading source.old).ended ≡ false }
+    ensures going { IfOk result (λ count. 0 < count → (S.reading source.new).ended ≡ false) }
     ensures piece { IfOk result
         (λ count. ReadsPiece (S.left source.old) (S.left source.new) bytes.old.items bytes.new.items count) }
     ensures bound { IfOk result (λ count. count ≤ length buffer.old) }
@@ -81,7 +83,8 @@ fn read_piece<S: Source>(
 
 /// All bytes that a source has left, at most `limit`.
 fn read_all<S: Source>(alloc: Global, source: &mut S, limit: usize) -> Result<Vec<u8>, ReadError>
-    requires { limit < 2 ^ 32 }
+    requires limit { limit < 2 ^ 32 }
+    requires going { (S.reading source.old).ended ≡ false }
     ensures ok { IfOk result (λ v. IsAll (S.left source.old) v.items × (length v.items ≤ limit)) }
     ensures failed { IsErrOf result ReadError.Failed → Rose (S.faults source.old) (S.faults source.new) }
     ensures too_long { IsErrOf result ReadError.TooLong → IsLonger (S.left source.old) limit }
@@ -107,7 +110,9 @@ fn feed_piece<S: Source>(
     recording: &mut Recording,
 ) -> Result<usize, ReadError>
     requires some { 0 < length buffer.old }
+    requires going { (S.reading source.old).ended ≡ false }
     requires run { IsRun plan.now }
+    ensures going { IfOk result (λ count. 0 < count → (S.reading source.new).ended ≡ false) }
     ensures piece { IfOk result
         (λ count. ReadsWith (S.left source.old) (S.left source.new) count
         (Feeds plan.now recording.old recording.new)) }
@@ -131,6 +136,7 @@ fn feed_all<S: Source>(
     recording: &mut Recording,
 ) -> Result<(), ReadError>
     requires limit { limit < 2 ^ 32 }
+    requires going { (S.reading source.old).ended ≡ false }
     requires run { IsRun plan.now }
     ensures ok { OnOk result (WithAll (S.left source.old) limit (Feeds plan.now recording.old recording.new)) }
     ensures failed { IsErrOf result ReadError.Failed → Rose (S.faults source.old) (S.faults source.new) }

@@ -161,6 +161,10 @@ pub fn read_stream<F: Files>(alloc: Global, files: &mut F, name: &str) -> Result
     ensures err { IfErr result (Refuses
         (λ r. IsJudged (F.entries files.old) name.now stream_judged (Err r)) (F.faults files.old)
         (F.faults files.new)) }
+    ensures later { F.faults files.old ≤ F.faults files.new }
+    ensures free { F.lent files.new ≡ None }
+    ensures entries { F.entries files.new ≡ F.entries files.old }
+    ensures names { F.lends files.new ≡ F.lends files.old }
 {
     match read_file(alloc, files, name, STREAM_LIMIT) {
         Ok(bytes) => Ok(bytes),

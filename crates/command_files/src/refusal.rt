@@ -2,6 +2,8 @@
 ghost use Rattle.std.specs.Prelude.{◌≡◌};
 ghost use Rattle.command_files.specs.declared.refusal.Refusal.TheVariants.{NoMemory};
 
+use compare_text::CompareError;
+use judge_text::JudgeError;
 use raw_events::LineError;
 use session_plan::PlanError;
 use std::alloc::AllocError;
@@ -34,7 +36,7 @@ pub enum OrderError {
 }
 
 /// Why a stream file is refused. Lines are numbered from 1.
-#[derive(Clone, Copy, Debug, PartialEq, Eq)]
+#[derive(Debug, Drop)]
 pub enum StreamError {
     /// The line is not of the grammar of stream files, or is missing.
     BadLine { line: u64 },
@@ -46,6 +48,14 @@ pub enum StreamError {
     TooLate { line: u64 },
     /// The motion of the line has a pointer with an id that cooking would not give it.
     NotAssignable { line: u64 },
+    /// A section is not whole, or none has a message.
+    NotWhole(JudgeError),
+    /// The line of the wanted streams is not of the grammar of stream files, or is missing.
+    BadWant { line: u64 },
+    /// The line of the streams that came is not of the grammar of stream files, or is missing.
+    BadGot { line: u64 },
+    /// The streams that came are not those that were wanted.
+    NotSame(CompareError),
 }
 
 /// Why a run writes no text.

@@ -1,7 +1,7 @@
 -- Words, and the commands that they give.
 use Rattle.std.specs.Prelude.{codes, ◌≡◌, [], ◌∷◌, Some, None, refl}
-use Rattle.command_words.specs.Command.{replay, race, check, verify, work, batch, hover, emit}
-use Rattle.command_words.specs.Forms.{batch_of, check_of, command_with, emit_of, form_of, hover_of, number_of, race_of, recorded_of, replay_of, value_of, verify_of, work_of}
+use Rattle.command_words.specs.Command.{replay, race, check, verify, work, batch, hover, emit, judge, compare}
+use Rattle.command_words.specs.Forms.{batch_of, check_of, command_with, compare_of, emit_of, form_of, hover_of, judge_of, number_of, race_of, recorded_of, replay_of, value_of, verify_of, work_of}
 use Rattle.command_words.specs.Value.{number}
 
 pub no_words : form_of [] ≡ None
@@ -100,6 +100,25 @@ pub emits :
     × (form_of (codes "emit" ∷ codes "--stream" ∷ codes "s" ∷ codes "--channel" ∷ codes "1" ∷ codes "--device" ∷ codes "9" ∷ []) ≡ None)
 unfolding form_of command_with value_of number number_of emit_of
 emits = (refl, refl, refl, refl, refl, refl)
+
+-- a stream file to be judged
+pub judges :
+    (form_of (codes "judge" ∷ codes "--stream" ∷ codes "s" ∷ []) ≡ Some (judge (codes "s")))
+    × (form_of (codes "judge" ∷ codes "--stream=s" ∷ []) ≡ Some (judge (codes "s")))
+    × (form_of (codes "judge" ∷ []) ≡ None)
+    × (form_of (codes "judge" ∷ codes "--stream" ∷ codes "s" ∷ codes "--us" ∷ codes "0" ∷ []) ≡ None)
+unfolding form_of command_with value_of judge_of
+judges = (refl, refl, refl, refl)
+
+-- what was wanted and what came, up to 0 to 1,000,000,000 microseconds and 0 to 16,384 pixels
+pub compares :
+    (form_of (codes "compare" ∷ codes "--pixels=16384" ∷ codes "--got" ∷ codes "g" ∷ codes "--want" ∷ codes "w" ∷ codes "--us=1000000000" ∷ []) ≡ Some (compare (codes "w") (codes "g") 1000000000 16384))
+    × (form_of (codes "compare" ∷ codes "--want=w" ∷ codes "--got=w" ∷ codes "--us=0" ∷ codes "--pixels=0" ∷ []) ≡ Some (compare (codes "w") (codes "w") 0 0))
+    × (form_of (codes "compare" ∷ codes "--want=w" ∷ codes "--got=g" ∷ codes "--us=1000000001" ∷ codes "--pixels=0" ∷ []) ≡ None)
+    × (form_of (codes "compare" ∷ codes "--want=w" ∷ codes "--got=g" ∷ codes "--us=0" ∷ codes "--pixels=16385" ∷ []) ≡ None)
+    × (form_of (codes "compare" ∷ codes "--want=w" ∷ codes "--got=g" ∷ codes "--us=0" ∷ []) ≡ None)
+unfolding form_of command_with value_of number number_of compare_of
+compares = (refl, refl, refl, refl, refl)
 
 -- words of no command
 pub others :

@@ -7,8 +7,9 @@ pub record Recorded : Type 0 where
   pub session : List ℕ
   pub events : List ℕ
 
--- The commands. `replay` and `race` have the files of a run, `check` has an order file beside them, `verify`, `batch` and `emit` have a stream file, `work` has
--- a seed and how many packets, `batch` the length of a frame, `hover` the path of a mouse, `emit` a channel and a device.
+-- The commands. `replay` and `race` have the files of a run, `check` has an order file beside them, `verify`, `batch`, `emit` and `judge` have a stream file,
+-- `work` has a seed and how many packets, `batch` the length of a frame, `hover` the path of a mouse, `emit` a channel and a device. `compare` has the stream file
+-- that was wanted and the one that came, and how many microseconds and how many pixels may lie between them.
 pub data Command : Type 0 where
   replay : Recorded → Command
   race : Recorded → Command
@@ -18,6 +19,8 @@ pub data Command : Type 0 where
   batch : List ℕ → ℕ → Command
   hover : Recorded → List ℕ → Command
   emit : List ℕ → ℕ → ℕ → Command
+  judge : List ℕ → Command
+  compare : List ℕ → List ℕ → ℕ → ℕ → Command
 
 -- the numbers of a command are in their ranges, and the path of its mouse is one
 abbrev pub InRanges : Command → Type 0
@@ -25,4 +28,5 @@ InRanges (work seed packets) = (seed < 2 ^ 32) × (1 ≤ packets) × (packets �
 InRanges (batch stream frame) = (1 ≤ frame) × (frame ≤ 1000000000)
 InRanges (hover recorded mouse) = is_path mouse ≡ true
 InRanges (emit stream channel device) = (1 ≤ channel) × (channel ≤ 64) × (1 ≤ device) × (device ≤ 8)
+InRanges (compare want got us pixels) = (us ≤ 1000000000) × (pixels ≤ 16384)
 InRanges _ = ⊤

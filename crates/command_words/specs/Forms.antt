@@ -1,6 +1,6 @@
 -- The forms of the commands.
 use Rattle.std.specs.Prelude.{codes, ℕ, ◌==◌, ◌&&◌, if◌then◌else◌, List, [], ◌∷◌, length, bytes_eq, Option, Some, None, option_map}
-use Rattle.command_words.specs.Command.{Command, Recorded, replay, race, check, verify, work, batch, hover, emit}
+use Rattle.command_words.specs.Command.{Command, Recorded, replay, race, check, verify, work, batch, hover, emit, judge, compare}
 use Rattle.command_words.specs.Given.{Given}
 use Rattle.command_words.specs.Options.{options_of, values_of}
 use Rattle.command_words.specs.Value.{number, only, path}
@@ -75,6 +75,19 @@ emit_of value = do
   device ← number_of value (codes "--device") 1 8
   Some (emit stream channel device)
 
+-- `judge`, with a stream file
+unfoldable pub judge_of : (List ℕ → Option (List ℕ)) → Option Command
+judge_of value = option_map judge (value (codes "--stream"))
+
+-- `compare`, with the stream file that was wanted and the one that came, at most 1,000,000,000 microseconds, and at most 16,384 pixels
+unfoldable pub compare_of : (List ℕ → Option (List ℕ)) → Option Command
+compare_of value = do
+  want ← value (codes "--want")
+  got ← value (codes "--got")
+  us ← number_of value (codes "--us") 0 1000000000
+  pixels ← number_of value (codes "--pixels") 0 16384
+  Some (compare want got us pixels)
+
 -- the command with a name, from how many options there are, which is how many it has, and what they say
 unfoldable pub command_with : List ℕ → ℕ → (List ℕ → Option (List ℕ)) → Option Command
 command_with name count value =
@@ -86,6 +99,8 @@ command_with name count value =
     else if bytes_eq name (codes "batch") && count == 2 then batch_of value
     else if bytes_eq name (codes "hover") && count == 3 then hover_of value
     else if bytes_eq name (codes "emit") && count == 3 then emit_of value
+    else if bytes_eq name (codes "judge") && count == 1 then judge_of value
+    else if bytes_eq name (codes "compare") && count == 4 then compare_of value
     else None
 
 -- The command that words give. The first word names it, and the others spell options: as many as the command has, and each of

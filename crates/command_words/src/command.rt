@@ -2,7 +2,7 @@
 ghost use Rattle.std.specs.Prelude.{◌≡◌, ◌≤◌, ◌<◌, ◌^◌, IfSome, length, map, option_map, string_bytes};
 ghost use Rattle.command_words.specs.Command.{InRanges};
 ghost use Rattle.command_words.specs.CommandView.{command_view, recorded_view};
-ghost use Rattle.command_words.specs.Forms.{batch_of, check_of, command_with, emit_of, form_of, hover_of, number_of, race_of, recorded_of, replay_of, value_of, verify_of, work_of};
+ghost use Rattle.command_words.specs.Forms.{batch_of, check_of, command_with, compare_of, emit_of, form_of, hover_of, judge_of, number_of, race_of, recorded_of, replay_of, value_of, verify_of, work_of};
 
 use crate::number::number;
 use crate::options::Options;
@@ -59,6 +59,18 @@ pub enum Alone<'a> {
         stream: &'a str,
         channel: u32,
         device: DeviceId,
+    },
+    /// Judges whether each section of printed streams is whole, and says why not.
+    Judge {
+        stream: &'a str,
+    },
+    /// Compares the streams that came with those that were wanted, up to 0 to 1,000,000,000 microseconds and 0 to
+    /// 16,384 pixels.
+    Compare {
+        want: &'a str,
+        got: &'a str,
+        us: u64,
+        pixels: u32,
     },
 }
 
@@ -177,6 +189,34 @@ fn emit_of<'a>(options: &Options<'a>) -> Option<Command<'a>>
     }))
 }
 
+/// `judge`, with a stream file.
+#[tactic(auto, unfolding(crate::specs::Forms::judge_of))]
+fn judge_of<'a>(options: &Options<'a>) -> Option<Command<'a>>
+    ensures value { option_map command_view result ≡ judge_of (value_of options.now) }
+    ensures ranges { IfSome result (λ c. InRanges (command_view c)) }
+{
+    let stream = options.value("--stream")?;
+    Some(Command::Alone(Alone::Judge { stream }))
+}
+
+/// `compare`, with two stream files, 0 to 1,000,000,000 microseconds and 0 to 16,384 pixels.
+#[tactic(auto, unfolding(crate::specs::Forms::compare_of))]
+fn compare_of<'a>(options: &Options<'a>) -> Option<Command<'a>>
+    ensures value { option_map command_view result ≡ compare_of (value_of options.now) }
+    ensures ranges { IfSome result (λ c. InRanges (command_view c)) }
+{
+    let want = options.value("--want")?;
+    let got = options.value("--got")?;
+    let us = number_of(options, "--us", 0, 1_000_000_000)?;
+    let pixels = number_of(options, "--pixels", 0, 16_384)? as u32;
+    Some(Command::Alone(Alone::Compare {
+        want,
+        got,
+        us,
+        pixels,
+    }))
+}
+
 /// The command with a name, where the options are as many as it has and say what they are to.
 #[tactic(auto, unfolding(crate::specs::Forms::command_with))]
 fn command_with<'a>(name: &str, options: &Options<'a>) -> Option<Command<'a>>
@@ -192,6 +232,8 @@ fn command_with<'a>(name: &str, options: &Options<'a>) -> Option<Command<'a>>
         ("batch", 2) => batch_of(options),
         ("hover", 3) => hover_of(options),
         ("emit", 3) => emit_of(options),
+        ("judge", 1) => judge_of(options),
+        ("compare", 4) => compare_of(options),
         _ => None,
     }
 }

@@ -1,5 +1,5 @@
 -- What the calls make of the channels.
-use Rattle.std.specs.Prelude.{◌≡◌, ℕ, ◌+◌, ◌-◌, ◌≤◌, ◌<◌, true, not, ◌&&◌, nat_le, [], ◌∷◌, ◌++◌, slice_set, Option, Some, None, if◌then◌else◌}
+use Rattle.std.specs.Prelude.{◌≡◌, ℕ, ◌+◌, ◌-◌, ◌≤◌, ◌<◌, true, not, ◌&&◌, nat_le, [], ◌∷◌, length, ◌++◌, slice_set, Option, Some, None, if◌then◌else◌}
 use Rattle.input_types.specs.declared.axis.Pixel.{Pixel}
 use Rattle.input_types.specs.declared.message.Body.{Body}
 use Rattle.input_channel.specs.Order.{NoneAfter}
@@ -23,9 +23,12 @@ pub record IsUntold (input : Tracked) : Type 0 where
 abbrev pub new_channel : (limit : ℕ) → ChannelState
 new_channel limit = with_spare 1 (opened_with limit)
 
--- a channel with the next number is opened with a limit, and is live and able
+-- A channel with the next number is opened with a limit, and is live and able. What each window was told is kept as before, and none but
+-- those that were opened was live.
 pub record Opens (limit number : ℕ) (old new : Table) : Type 0 where
   pub few : opened old < 64
+  pub as_many : length old.inputs ≡ opened old
+  pub opened_live : (c : ℕ) → mask_has old.live c ≡ true → c ≤ opened old
   pub number_is : number ≡ opened old + 1
   pub channels_are : new.channels ≡ old.channels ++ new_channel limit ∷ []
   pub inputs_are : new.inputs ≡ old.inputs ++ input_of new number ∷ []
@@ -55,7 +58,7 @@ MayPublish mask clock t =
     (c : ℕ) → mask_has mask c ≡ true → mask_has t.live c ≡ true → NoneAfter clock (channel_of t c).unfinished
 
 -- the live channels of a mask are published at a clock, and all else is as before
-pub record Settles (mask clock : ℕ) (old new : Table) : Type 0 where
+pub record Publishes (mask clock : ℕ) (old new : Table) : Type 0 where
   pub channels_are :
       (c : ℕ) → 1 ≤ c
       → channel_of new c ≡ (if mask_has mask c && mask_has old.live c then published_at clock (channel_of old c) else channel_of old c)
@@ -66,13 +69,13 @@ pub record Settles (mask clock : ℕ) (old new : Table) : Type 0 where
   pub namings_are : new.namings ≡ old.namings
 
 -- a channel once a message of it is finished, and what may be published then is
-abbrev pub settled_after : (seq clock : ℕ) → ChannelState → ChannelState
-settled_after seq clock s = published_at clock (finished_with seq s)
+abbrev pub finished_at : (seq clock : ℕ) → ChannelState → ChannelState
+finished_at seq clock s = published_at clock (finished_with seq s)
 
 -- a message is finished at a clock: its channel is able again, where it is live and no message of it is late then
 abbrev pub finished_in : (channel seq clock : ℕ) → Table → Table
 finished_in c seq clock t =
-    let s = settled_after seq clock (channel_of t c) in
+    let s = finished_at seq clock (channel_of t c) in
     record t {
       channels = slice_set t.channels (c - 1) s;
       able = if mask_has t.live c && not (has_late clock s) then mask_with t.able c else t.able;

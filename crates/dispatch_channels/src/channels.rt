@@ -6,7 +6,7 @@ ghost use Rattle.input_channel.specs.Order.{NoneAfter};
 ghost use Rattle.input_channel.specs.State.{next_of, received_one, received_next, let_go_of, may_finish};
 ghost use Rattle.dispatch_history.specs.Reply.{is_due};
 ghost use Rattle.dispatch_channels.specs.Table.{opened, IsOpened, channel_of, input_of, with_channel, with_room, but_for_room, due_moment};
-ghost use Rattle.dispatch_channels.specs.Changes.{OpensOrNot, Tells, MayPublish, Settles, finished_in, named_in, removed_in};
+ghost use Rattle.dispatch_channels.specs.Changes.{OpensOrNot, Tells, MayPublish, Publishes, finished_in, named_in, removed_in};
 
 mod asked;
 
@@ -14,7 +14,7 @@ use crate::due::{clear_all, due_channels, due_in, set_due};
 use crate::heard::{body_from, motion_from};
 use crate::mask::{less, without};
 use crate::noted::note_all;
-use crate::settle::{able_after, finish_one, settle_all};
+use crate::publishing::{able_after, finish_one, publish_all};
 use crate::tracked::track;
 use anr_tracker::Tracker;
 use cancel_synthesis::InputState;
@@ -167,12 +167,12 @@ impl Channels {
     /// Publishes the live channels of a mask at a clock. Takes no memory.
     ///
     /// The clock may not be below that at which an unfinished message of them was delivered.
-    pub fn settle(&mut self, mask: u64, clock: Moment)
+    pub fn publish(&mut self, mask: u64, clock: Moment)
         requires { MayPublish mask clock self.old }
-        ensures { Settles mask clock self.old self.new }
+        ensures { Publishes mask clock self.old self.new }
     {
         let live = mask & self.live;
-        settle_all(
+        publish_all(
             &mut self.channels,
             &mut self.tracker,
             self.able,

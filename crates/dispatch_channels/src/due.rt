@@ -12,7 +12,7 @@ use input_types::Moment;
 use window_snapshot::mask_with;
 
 /// When a channel is due that is able: its limit after the delivery of its oldest unfinished message.
-fn moment_of(channel: &Channel) -> Option<u64>
+fn due_of_oldest(channel: &Channel) -> Option<u64>
     ensures { result ≡ due_in true channel.now }
 {
     let (_, delivery) = channel.oldest_unfinished()?;
@@ -23,7 +23,11 @@ fn moment_of(channel: &Channel) -> Option<u64>
 pub(crate) fn due_in(is_able: bool, channel: &Channel) -> Option<u64>
     ensures { result ≡ due_in is_able channel.now }
 {
-    if is_able { moment_of(channel) } else { None }
+    if is_able {
+        due_of_oldest(channel)
+    } else {
+        None
+    }
 }
 
 /// A channel is due at a moment, or is not due.

@@ -36,8 +36,6 @@ fn pointers_from(origin: Pixel, pointers: &Pointers) -> Pointers
     ensures { result ≡ map (λ p. record { id = p.id; at = place_from origin p.at }) pointers.now }
 {
     let mut moved = Pointers::empty();
-    // Its clauses say that the ids rise, and that there are at most 16.
-    let _count = pointers.len();
     for pointer in pointers.as_slice() {
         let at = place_from(origin, pointer.at);
         put(&mut moved, Pointer { id: pointer.id, at });

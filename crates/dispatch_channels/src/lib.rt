@@ -8,10 +8,10 @@
 //! open                                 1, live and able
 //! open                                 2, live and able
 //! tell 2 DOWN 0@540,1300 at 0          message 1: DOWN 0@540,100
-//! settle {2} at 0                      published; 2 is due at 5000000
+//! publish {2} at 0                      published; 2 is due at 5000000
 //! receive 2                            1: DOWN 0@540,100
 //! tell 2 MOVE 0@540,1400 at 1000000    message 2: MOVE 0@540,200
-//! settle {2} at 1000000                still due at 5000000, by its oldest message
+//! publish {2} at 1000000                still due at 5000000, by its oldest message
 //! late at 5000000                      {2}
 //! name {2} at 5000000                  2 is not able, and not due; noted: 5000000, channel 2, message 1
 //! finish 2 1 at 5000001                2 is able, and due at 6000000
@@ -26,7 +26,8 @@ mod due;
 mod heard;
 mod mask;
 mod noted;
-mod settle;
+mod publishing;
 mod tracked;
 
 pub use channels::Channels;
+pub use mask::{first_of, without};

@@ -6,7 +6,7 @@ ghost use Rattle.dispatch_tables.specs.Masks.{mask_less};
 use window_snapshot::mask_with;
 
 /// Some channel of a mask that is not 0.
-pub(crate) fn first_of(mask: u64) -> u32
+pub fn first_of(mask: u64) -> u32
     requires { 0 < mask }
     ensures has { mask_has mask result ≡ true }
     ensures from { 1 ≤ result }
@@ -23,7 +23,7 @@ pub(crate) fn less(mask: u64, other: u64) -> u64
 }
 
 /// The mask without a channel.
-pub(crate) fn without(mask: u64, channel: u32) -> u64
+pub fn without(mask: u64, channel: u32) -> u64
     ensures { result ≡ mask_less mask (mask_with 0 channel) }
 {
     less(mask, mask_with(0, channel))

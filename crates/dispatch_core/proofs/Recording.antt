@@ -1,6 +1,7 @@
 -- A dispatcher with its history, and what its history says.
 use Rattle.std.proofs.Common.{◌≡◌, ℕ, suc, ◌+◌, ◌-◌, ◌^◌, ◌<◌, ◌≤◌, max, List, [], ◌∷◌, ◌++◌, length, reverse, arith, refl, sym, subst, ap, ◌∙◌}
 use Rattle.std.proofs.lemmas.List.{length-reverse, reverse-append}
+use Rattle.input_types.specs.StreamRule.{stream_state}
 use Rattle.dispatch_calls.specs.declared.call.Call.{Call}
 use Rattle.dispatch_calls.specs.declared.call.Call.TheVariants.{Open, Windows, FocusOn, Notify, Pump, Tick, Receive, Finish, Pilfer, Remove}
 use Rattle.dispatch_calls.specs.declared.call.Entry.{Entry}
@@ -10,7 +11,7 @@ use Rattle.dispatch_history.specs.History.{History, live}
 use Rattle.dispatch_history.specs.Legal.{Legal, reply}
 use Rattle.dispatch_history.specs.PointerOf.{AllRise}
 use Rattle.dispatch_history.proofs.LegalLaws.{effects_law}
-use Rattle.dispatch_history.proofs.WholeLaws.{whole_law, well_formed_law, removed_law, gone_law}
+use Rattle.dispatch_history.proofs.WholeLaws.{whole_law, well_formed_law, removed_law, removed_state_law, gone_law}
 use Rattle.dispatcher.specs.Access.{gone}
 use Rattle.dispatcher.specs.Dispatching.{Dispatching, StandsFor}
 use Rattle.dispatcher.specs.Memory.{MayCount}
@@ -54,8 +55,13 @@ sound_of entries d n r =
       whole = λ c l. whole_law d.displays (history_of entries) c legal rise l;
       removed =
           λ later before now c is.
-          let kept = removed_law d.displays later before now c (subst (Legal d.displays) is legal) in
-          (ap (λ h. live h c) is ∙ kept.0, ap (λ h. stream (effects d.displays h) c) is ∙ kept.1);
+          let so = subst (Legal d.displays) is legal in
+          let kept = removed_law d.displays later before now c so in (
+            ap (λ h. live h c) is ∙ kept.0,
+            ap (λ h. stream (effects d.displays h) c) is ∙ kept.1,
+            ap (λ h. stream_state (stream (effects d.displays h) c)) is
+                ∙ removed_state_law d.displays later before now c so (subst AllRise is rise),
+          );
     }
 
 -- what is asked of a channel that is not live is answered with Gone

@@ -41,12 +41,15 @@ with_entry e r = record { displays = r.displays; entries = e ∷ r.entries; spar
 abbrev pub with_spare : ℕ → Recorded → Recorded
 with_spare n r = record { displays = r.displays; entries = r.entries; spare = max n r.spare }
 
--- Nothing follows a removal: the channel stays removed, and its stream is that of just before it.
+-- Nothing follows a removal: the channel stays removed, its stream is that of just before it, and leaves its owner knowing what its window
+-- held then.
 abbrev pub KeepsRemoved : Recorded → Type 0
 KeepsRemoved r =
     (later before : History) (now c : ℕ)
     → history_of r.entries ≡ later ++ (Remove now c, Done) ∷ before
-    → (live (history_of r.entries) c ≡ false) × (stream (effects_of r) c ≡ stream (effects r.displays before) c)
+    → (live (history_of r.entries) c ≡ false)
+    × (stream (effects_of r) c ≡ stream (effects r.displays before) c)
+    × (stream_state (stream (effects_of r) c) ≡ Some (known_state (effects r.displays before) c))
 
 -- The history is legal; the stream of each channel is well-formed, and says what the window of a live channel holds; and nothing follows
 -- a removal.

@@ -5,6 +5,7 @@ use Rattle.std.proofs.Math.Path.{fun_ext}
 use Rattle.std.proofs.lemmas.Bool.{cases_Bool, eq-eqb}
 use Rattle.input_types.specs.declared.message.Body.{Body}
 use Rattle.input_types.specs.declared.message.Message.{Message}
+use Rattle.input_types.specs.StreamRule.{stream_state}
 use Rattle.routing_rules.specs.Told.{devices}
 use Rattle.dispatch_calls.specs.declared.call.Call.TheVariants.{Remove}
 use Rattle.dispatch_calls.specs.declared.reply.Reply.TheVariants.{Done, Gone}
@@ -18,7 +19,7 @@ use Rattle.dispatch_history.specs.Focus.{has_focus}
 use Rattle.dispatch_history.specs.Legal.{Legal}
 use Rattle.dispatch_history.specs.PointerOf.{AllRise}
 use Rattle.dispatch_history.specs.Known.{held_ids, known_state, IsNumbered, NeverFalls}
-use Rattle.dispatch_history.specs.Laws.{WholeLaw, WellFormedLaw, RemovedLaw, GoneLaw, NumbersLaw}
+use Rattle.dispatch_history.specs.Laws.{WholeLaw, WellFormedLaw, RemovedLaw, RemovedStateLaw, GoneLaw, NumbersLaw}
 use Rattle.dispatch_history.proofs.LegalLaws.{effects_law}
 use Rattle.dispatch_history.proofs.StreamLaws.{live_law, silent_law}
 use Rattle.dispatch_history.proofs.MotionLaws.{motions_law, motions_come, none_known, new_channel, opened_mono}
@@ -112,6 +113,17 @@ removed_law ds (e ∷ later) h now c l =
       | inr n ↦ n
     ] in
     (gone, silent_law ds e.0 e.1 past c gone ∙ before.1)
+
+rise_before : (later h : History) → AllRise (later ++ h) → AllRise h
+rise_before [] h r = r
+rise_before (e ∷ later) h r = rise_before later h r.1
+
+pub removed_state_law : RemovedStateLaw
+removed_state_law ds later h now c l rise =
+    let r = legal_before ds later ((Remove now c, Done) ∷ h) l in
+    let alive : live h c ≡ true = ap (λ k. live k c) (sym (effects_law ds h)) ∙ was_live (live (past_of (effects ds h)) c) r.0 in
+    ap stream_state (removed_law ds later h now c l).1
+    ∙ whole_law ds h c r.1 (rise_before later ((Remove now c, Done) ∷ h) rise).1 alive
 
 pub gone_law : GoneLaw
 gone_law ds h c n =

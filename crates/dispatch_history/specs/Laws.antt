@@ -190,6 +190,13 @@ RemovedLaw =
     → (live (later ++ (Remove now c, Done) ∷ h) c ≡ false)
     × (stream (effects displays (later ++ (Remove now c, Done) ∷ h)) c ≡ stream (effects displays h) c)
 
+-- The stream of a removed channel leaves its owner knowing what its window held, and whether it was focused, just before the removal.
+abbrev pub RemovedStateLaw : Type 0
+RemovedStateLaw =
+    (displays : List ℕ) (later h : History) (now c : ℕ)
+    → Legal displays (later ++ (Remove now c, Done) ∷ h) → AllRise (later ++ (Remove now c, Done) ∷ h)
+    → stream_state (stream (effects displays (later ++ (Remove now c, Done) ∷ h)) c) ≡ Some (known_state (effects displays h) c)
+
 -- What is asked of a channel that is not live is answered with Gone.
 abbrev pub GoneLaw : Type 0
 GoneLaw =

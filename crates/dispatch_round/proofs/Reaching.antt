@@ -13,7 +13,7 @@ use Rattle.touch_state.specs.Touches.{Touches}
 use Rattle.route_split.specs.Marking.{IsWhole, IsChanged}
 use Rattle.dispatch_tables.specs.Masks.{mask_less}
 use Rattle.dispatch_channels.specs.Table.{Table, channel_of, input_of}
-use Rattle.dispatch_channels.specs.Changes.{Settles}
+use Rattle.dispatch_channels.specs.Changes.{Publishes}
 use Rattle.dispatch_channels.proofs.Picking.{channel_low, has-without, mask_has-and}
 use Rattle.dispatch_channels.proofs.Moved.{reached, all_reached}
 use Rattle.dispatch_round.specs.declared.round.Round.{Round}
@@ -147,7 +147,7 @@ only_first a l none live = sym (and_true_right a) ∙ ap (λ x. a && x) (sym liv
 
 pub tells_all : (s : Scene) (e : Step) (r : Round) (ts us : List Touches) (o : Option (List ℕ)) (mask : ℕ) (origins : List Pixel) (clock : ℕ) (t u v : Table)
     → IsWhole r.mark → ((w : ℕ) → mask_has mask w ≡ (is_concerned ts r w && mask_has t.live w))
-    → HearsEach r us o (mask_has mask) origins clock t u → Settles mask clock u v → IsChanged ts us r.mark o → IsRound s e ts r → AllHoldPointers s t
+    → HearsEach r us o (mask_has mask) origins clock t u → Publishes mask clock u v → IsChanged ts us r.mark o → IsRound s e ts r → AllHoldPointers s t
     → TellsAll mask (told_in r s e) origins clock t v
 tells_all s e r ts us o mask origins clock t u v whole is p q by h holds =
     let lives : (c : ℕ) → mask_has mask c ≡ true → mask_has t.live c ≡ true =
@@ -175,8 +175,8 @@ tells_all s e r ts us o mask origins clock t u v whole is p q by h holds =
     }
 
 -- nothing is let go where channels are published
-pub settled_gone : (mask clock : ℕ) (t u : Table) → Settles mask clock t u → (c : ℕ) → 1 ≤ c → (channel_of u c).gone ≡ (channel_of t c).gone
-settled_gone mask clock t u h c low =
+pub published_gone : (mask clock : ℕ) (t u : Table) → Publishes mask clock t u → (c : ℕ) → 1 ≤ c → (channel_of u c).gone ≡ (channel_of t c).gone
+published_gone mask clock t u h c low =
     ap (λ s. s.gone) (h.channels_are c low) ∙ by_test (mask_has mask c && mask_has t.live c)
   where
     by_test : (b : Bool) → (cond b (published_at clock (channel_of t c)) (channel_of t c)).gone ≡ (channel_of t c).gone

@@ -7,7 +7,7 @@ ghost use Rattle.routing_rules.specs.Told.{devices};
 ghost use Rattle.route_split.specs.Marking.{may_be_told};
 ghost use Rattle.dispatch_round.specs.Rounds.{may_hear, keyed, is_concerned, AreListeners};
 
-use crate::mask::device_at;
+use crate::devices::device_at;
 use crate::motions::may_take;
 use crate::round::Round;
 use dispatch_channels::Channels;

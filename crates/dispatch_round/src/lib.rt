@@ -23,8 +23,8 @@
 #![tactic(auto)]
 
 mod concern;
+mod devices;
 mod listener;
-mod mask;
 mod motions;
 mod room;
 mod round;

@@ -10,8 +10,8 @@ ghost use Rattle.dispatch_channels.specs.Table.{input_of};
 ghost use Rattle.dispatch_round.specs.Rounds.{may_take, count_of, most_motions};
 ghost use Rattle.dispatch_round.specs.Saying.{CanHear, TellsOne, HearsMotions, losses, pilfered_from};
 
+use crate::devices::device_at;
 use crate::listener::Listener;
-use crate::mask::device_at;
 use crate::round::Round;
 use crate::say::{say_cancels, say_found};
 use bits32::Bits32;
@@ -98,7 +98,7 @@ pub(crate) fn say_motions(
 {
     match round.motion {
         Some(motion) => {
-            // Its clauses say that devices have the numbers 1 to 8.
+            // Read for its clause alone: devices have the numbers 1 to 8, which contracts do not see of the type.
             let _number = motion.device.get();
             let before = ids_of(channels.input(to.window).pointers(motion.device));
             let watches = mask_has(round.watchers, to.window);

@@ -8,10 +8,10 @@ ghost use Rattle.dispatch_round.specs.Bodies.{keys_to};
 ghost use Rattle.dispatch_round.specs.Rounds.{count_of, most_motions, most_bodies, is_concerned, HasRoom, IsReady, AreListeners, MakesRoom};
 
 use crate::concern::listeners;
-use crate::mask::{device_at, first_of, without};
+use crate::devices::device_at;
 use crate::round::Round;
 use cancel_synthesis::InputState;
-use dispatch_channels::Channels;
+use dispatch_channels::{Channels, first_of, without};
 use input_types::KeyMsg;
 use key_tables::focus_change;
 use route_split::Touches;

@@ -14,12 +14,11 @@ ghost use Rattle.dispatch_round.specs.Each.{HearsEach};
 ghost use Rattle.dispatch_round.specs.Told.{TellsAll};
 
 use crate::listener::Listener;
-use crate::mask::{first_of, without};
 use crate::motions::say_motions;
 use crate::room::keys_to;
 use crate::round::Round;
 use crate::say::{say_change, say_keys};
-use dispatch_channels::Channels;
+use dispatch_channels::{Channels, first_of, without};
 use input_types::{Moment, Pixel};
 use key_tables::focus_change;
 use pilfer_monitor::Losses;
@@ -108,5 +107,5 @@ pub fn tell_all(
         losses.as_ref(),
         channels,
     );
-    channels.settle(told, clock);
+    channels.publish(told, clock);
 }

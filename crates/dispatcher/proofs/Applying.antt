@@ -7,8 +7,8 @@ use Rattle.dispatch_history.specs.Effect.{Effect}
 use Rattle.dispatch_history.specs.Effects.{step}
 use Rattle.dispatcher.specs.declared.tables.Tables.{Tables}
 use Rattle.dispatcher.specs.Dispatching.{Dispatching, IsOfHistory}
-use Rattle.dispatcher.specs.Dispatching.{StandsFor as Stands}
-use Rattle.dispatcher.specs.Tables.{StandsFor, GoesOn, GoesOnSomehow, SameAll}
+use Rattle.dispatcher.specs.Dispatching.{StandsFor}
+use Rattle.dispatcher.specs.Tables.{TablesStandFor, GoesOn, GoesOnSomehow, SameAll}
 use Rattle.dispatcher.proofs.Rooms.{stands_raw, stands_bare}
 
 -- what contracts see of the tables
@@ -24,11 +24,11 @@ seen t =
       repeat = t.routing.repeat;
     }
 
-pub raw : (es : List Effect) (t : Tables) → Stands es (seen t) → StandsFor es t
+pub raw : (es : List Effect) (t : Tables) → StandsFor es (seen t) → TablesStandFor es t
 raw es t s =
     stands_raw t.routing.displays es t.queueing t.routing.shown t.routing.touches t.routing.channels t.routing.focus t.routing.repeat s
 
-pub bare : (es : List Effect) (t : Tables) → StandsFor es t → Stands es (seen t)
+pub bare : (es : List Effect) (t : Tables) → TablesStandFor es t → StandsFor es (seen t)
 bare es t s =
     stands_bare t.routing.displays es t.queueing t.routing.shown t.routing.touches t.routing.channels t.routing.focus t.routing.repeat s
 
@@ -60,21 +60,21 @@ history_after call (Err e) old new ok err h = subst IsOfHistory (sym (seen_same 
 
 -- whatever it stood for, it stands for that with one step more
 stands_then : (call : Call) (answer : Reply) (old new : Tables) (now : Dispatching) → seen old ≡ now → GoesOn call answer old new
-    → (es : List Effect) → Stands es now → Stands (step now.displays call answer es) (seen new)
+    → (es : List Effect) → StandsFor es now → StandsFor (step now.displays call answer es) (seen new)
 stands_then call answer old new now is goes es s =
-    subst (λ d. Stands (step d.displays call answer es) (seen new)) is
-    (bare (step old.routing.displays call answer es) new (goes.after es (raw es old (subst (Stands es) (sym is) s))))
+    subst (λ d. StandsFor (step d.displays call answer es) (seen new)) is
+    (bare (step old.routing.displays call answer es) new (goes.after es (raw es old (subst (StandsFor es) (sym is) s))))
 
 -- the same of a result
 pub stands_after : {E : Type 0} (call : Call) (r : Result Reply E) (old new : Tables) (now : Dispatching) → seen old ≡ now
-    → IfOk r (λ answer. GoesOn call answer old new) → (es : List Effect) → Stands es now
-    → IfOk r (λ answer. Stands (step now.displays call answer es) (seen new))
+    → IfOk r (λ answer. GoesOn call answer old new) → (es : List Effect) → StandsFor es now
+    → IfOk r (λ answer. StandsFor (step now.displays call answer es) (seen new))
 stands_after call (Err e) old new now is ok es s = tt
 stands_after call (Ok answer) old new now is ok es s = stands_then call answer old new now is ok es s
 
 -- the same where the answer is not read
 pub stands_somehow : {A E : Type 0} (call : Call) (r : Result A E) (old new : Tables) (now : Dispatching) → seen old ≡ now
-    → OnOk r (GoesOnSomehow call old new) → (es : List Effect) → Stands es now
-    → OnOk r ((answer : Reply) × Stands (step now.displays call answer es) (seen new))
+    → OnOk r (GoesOnSomehow call old new) → (es : List Effect) → StandsFor es now
+    → OnOk r ((answer : Reply) × StandsFor (step now.displays call answer es) (seen new))
 stands_somehow call (Err e) old new now is ok es s = tt
 stands_somehow call (Ok a) old new now is ok es s = (ok.0, stands_then call ok.0 old new now is ok.1 es s)

@@ -32,7 +32,7 @@ use Rattle.dispatch_round.specs.Rounds.{IsStepIn}
 use Rattle.dispatcher.specs.Pointing.{step_at}
 use Rattle.dispatcher.specs.Queue.{Queue, QueueGoes}
 use Rattle.dispatcher.specs.Shown.{ShownGoes}
-use Rattle.dispatcher.specs.Knows.{Kept, StandsFor}
+use Rattle.dispatcher.specs.Knows.{Kept, KeptStandsFor}
 use Rattle.dispatcher.specs.Telling.{parted_in, FocusGoes, TellsFocus, told_target, GoesRound}
 use Rattle.dispatcher.proofs.Inputs.{target_live}
 use Rattle.dispatcher.proofs.KeysTold.{target_is}
@@ -46,7 +46,7 @@ use Rattle.dispatcher.proofs.Gone.{room_gone, both_gone}
 use Rattle.dispatcher.proofs.Going.{Told, round_told, Keyed, keyed_none, IsLive, StillGoes, still_round, still_step}
 
 -- the key target is live
-pub target_lives : (ds : List ℕ) (es : List Effect) (k : Kept) (o : Option ℕ) → StandsFor ds es k → target_of k.focus ≡ o → IsLive o k.delivery.live
+pub target_lives : (ds : List ℕ) (es : List Effect) (k : Kept) (o : Option ℕ) → KeptStandsFor ds es k → target_of k.focus ≡ o → IsLive o k.delivery.live
 target_lives ds es k None s e = tt
 target_lives ds es k (Some t) s e =
     ap (λ f. f t) s.knows.delivery.live_is ∙ target_live (past_of es) t (target_is es k.focus (Some t) s.knows.keying.focus_is e)
@@ -74,7 +74,7 @@ pub told_same : (ds : List ℕ) (call : Call) (answer : Reply) (es : List Effect
     → FocusGoes call old.shown.windows mid.live old.focus old.focus
     → Keyed (target_of old.focus) mid.live (told_target call answer (kept queue old) old.focus) keys
     → IsStepIn (scene ds es) old.touches mark motion r.watchers (step_at call answer es)
-    → StandsFor ds (step ds call answer es) (kept later new)
+    → KeptStandsFor ds (step ds call answer es) (kept later new)
 told_same ds call answer es queue later place clock old new r mark motion keys mid t same part carries is shown focus keyed st =
     let alive = mid.live in
     let from : mid.live ≡ old.channels.live = ap (λ x. x.live) same in
@@ -108,7 +108,7 @@ dispatches (w ∷ ws) a due at e = refl
 
 -- a pump of args that tells windows
 pub pumped : (es : List Effect) (now : ℕ) (a : Args) (queue later : Queue) (place clock : ℕ) (old : Routing) → slice_get queue.waiting 0 ≡ Some a → queue.place ≡ place
-    → max now queue.clock ≡ clock → StandsFor old.displays es (kept queue old) → QueueGoes (Pump now) Dispatched queue later
+    → max now queue.clock ≡ clock → KeptStandsFor old.displays es (kept queue old) → QueueGoes (Pump now) Dispatched queue later
     → Told old.displays (Pump now) Dispatched es queue later place clock old
 pumped es now a queue later place clock old first at clk stands goes =
     record {

@@ -22,7 +22,7 @@ use Rattle.dispatch_round.specs.Told.{TellsAll}
 use Rattle.dispatcher.specs.Pointing.{step_at}
 use Rattle.dispatcher.specs.Queue.{Queue, QueueGoes}
 use Rattle.dispatcher.specs.Shown.{ShownGoes}
-use Rattle.dispatcher.specs.Knows.{StandsFor}
+use Rattle.dispatcher.specs.Knows.{KeptStandsFor}
 use Rattle.dispatcher.specs.Telling.{parted_in, is_telling, FocusGoes, TellsFocus, AreKeys, repeat_then, told_target, GoesRound}
 use Rattle.dispatcher.proofs.Rounding.{round_law}
 use Rattle.dispatcher.specs.declared.tables.Routing.{Routing}
@@ -35,7 +35,7 @@ pub record Told
     (ds : List ℕ) (call : Call) (answer : Reply) (es : List Effect) (queue later : Queue) (place clock : ℕ) (old : Routing) : Type 0 where
   pub place_is : queue.place ≡ place
   pub clock_is : max (moment_of call) queue.clock ≡ clock
-  pub stands : StandsFor ds es (kept queue old)
+  pub stands : KeptStandsFor ds es (kept queue old)
   pub goes : QueueGoes call answer queue later
   pub reply_is : answer ≡ reply_to es call
   pub rises : RisesIn call
@@ -48,7 +48,7 @@ pub round_told : (ds : List ℕ) (call : Call) (answer : Reply) (es : List Effec
     → GoesRound call answer r (parted_in call answer later.clock mid).live (kept queue old) (kept later new)
     → IsStepIn (scene ds es) old.touches r.mark (option_copied r.motion) r.watchers (step_at call answer es)
     → TellsRound r old.touches old.shown.origins clock (parted_in call answer later.clock mid) new.channels
-    → StandsFor ds (step ds call answer es) (kept later new)
+    → KeptStandsFor ds (step ds call answer es) (kept later new)
 round_told ds call answer es queue later place clock old new r mid t same goes is tells =
     let at : later.clock ≡ clock = t.goes.clock_is ∙ t.clock_is in
     let p = parted_in call answer later.clock mid in

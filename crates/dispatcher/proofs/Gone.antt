@@ -3,7 +3,7 @@ use Rattle.std.proofs.Common.{◌≡◌, ◌-◌, ℕ, zero, suc, List, [], ◌�
 use Rattle.input_channel.specs.State.{ChannelState, opened_with, received_one}
 use Rattle.dispatch_calls.specs.declared.call.Call.{Call}
 use Rattle.dispatch_channels.specs.Table.{Table, channel_of, with_channel, but_for_room}
-use Rattle.dispatch_channels.specs.Changes.{Opens, new_channel, settled_after, finished_in}
+use Rattle.dispatch_channels.specs.Changes.{Opens, new_channel, finished_at, finished_in}
 use Rattle.dispatcher.specs.declared.tables.Tables.{Tables}
 use Rattle.dispatcher.specs.Tables.{LetsNoneGo, GoesOnSomehow, SameAll}
 use Rattle.dispatcher.proofs.Rooms.{channel_bare}
@@ -30,7 +30,7 @@ received_gone t u k is c low =
 
 pub finished_gone : (t u : Table) (k seq clock : ℕ) → u ≡ finished_in k seq clock t → LetsNoneGo t u
 finished_gone t u k seq clock is c low =
-    ap (λ x. (channel_of x c).gone) is ∙ set_gone t.channels (k - 1) (c - 1) (settled_after seq clock (channel_of t k)) (opened_with 0) refl
+    ap (λ x. (channel_of x c).gone) is ∙ set_gone t.channels (k - 1) (c - 1) (finished_at seq clock (channel_of t k)) (opened_with 0) refl
 
 -- where one is opened
 more_gone : (ss : List ChannelState) (j : ℕ) (s : ChannelState) → s.gone ≡ 0 → (get_or (ss ++ s ∷ []) j (opened_with 0)).gone ≡ (get_or ss j (opened_with 0)).gone

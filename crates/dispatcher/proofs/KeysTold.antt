@@ -21,7 +21,7 @@ use Rattle.key_tables.proofs.Telling.{keys_quiet, target_told_law}
 use Rattle.key_tables.proofs.Repeating.{repeat_step, repeat_left}
 use Rattle.dispatch_tables.specs.Lawful.{Lawful}
 use Rattle.dispatch_round.specs.Bodies.{keys_to}
-use Rattle.dispatcher.specs.Knows.{Kept, StandsFor}
+use Rattle.dispatcher.specs.Knows.{Kept, KeptStandsFor}
 use Rattle.dispatcher.specs.Telling.{told_target, AreKeys, repeat_then}
 use Rattle.dispatcher.proofs.Inputs.{target_live}
 
@@ -31,7 +31,7 @@ target_is es f o is e = sym (focus_read es f is).2 ∙ e
 
 -- the key target is told what is found by what is kept
 target_messages : (ds : List ℕ) (call : Call) (answer : Reply) (es : List Effect) (k : Kept) (later : FocusState) (t : ℕ) → Lawful ds (step ds call answer es)
-    → StandsFor ds es k → FocusIs (step ds call answer es) later → target_of k.focus ≡ Some t → live (past_of (step ds call answer es)) t ≡ true
+    → KeptStandsFor ds es k → FocusIs (step ds call answer es) later → target_of k.focus ≡ Some t → live (past_of (step ds call answer es)) t ≡ true
     → key_messages call answer es t ≡ told_target call answer k later t
 target_messages ds call answer es k later t l s next e lives =
     let h = past_of (step ds call answer es) in
@@ -47,7 +47,7 @@ target_messages ds call answer es k later t l s next e lives =
 
 -- each window is told the key messages that the round tells it
 pub keys_round : (ds : List ℕ) (call : Call) (answer : Reply) (es : List Effect) (k : Kept) (later : FocusState) (alive channel : ℕ) (keys : List KeyMsg) (w : ℕ)
-    → Lawful ds (step ds call answer es) → StandsFor ds es k → FocusIs (step ds call answer es) later
+    → Lawful ds (step ds call answer es) → KeptStandsFor ds es k → FocusIs (step ds call answer es) later
     → ((c : ℕ) → mask_has alive c ≡ live (past_of (step ds call answer es)) c)
     → AreKeys (target_of k.focus) alive (told_target call answer k later) channel keys
     → live (past_of (step ds call answer es)) w ≡ true
@@ -81,7 +81,7 @@ keys_round ds call answer es k later alive channel keys w l s next lives are y =
 
 -- the last key message after a round
 pub repeat_round : (ds : List ℕ) (call : Call) (answer : Reply) (es : List Effect) (k : Kept) (later : FocusState) (last : Option Sent) (alive now channel : ℕ) (keys : List KeyMsg)
-    → Lawful ds (step ds call answer es) → StandsFor ds es k → FocusIs (step ds call answer es) later
+    → Lawful ds (step ds call answer es) → KeptStandsFor ds es k → FocusIs (step ds call answer es) later
     → ((c : ℕ) → mask_has alive c ≡ live (past_of (step ds call answer es)) c)
     → now ≡ clock (past_of (step ds call answer es))
     → AreKeys (target_of k.focus) alive (told_target call answer k later) channel keys

@@ -15,7 +15,7 @@ use Rattle.dispatcher.specs.Queue.{QueueGoes}
 use Rattle.dispatcher.specs.Shown.{ShownGoes}
 use Rattle.dispatcher.specs.Pointing.{TouchesGo}
 use Rattle.dispatcher.specs.Input.{InputIs, InputGoes}
-use Rattle.dispatcher.specs.Knows.{Kept, KeyingIs, StandsFor}
+use Rattle.dispatcher.specs.Knows.{Kept, KeyingIs, KeptStandsFor}
 use Rattle.dispatcher.specs.Laws.{GoesLaw}
 use Rattle.dispatcher.proofs.QueueLaws.{queue_law}
 use Rattle.dispatcher.proofs.ShownLaws.{shown_law, touches_law}
@@ -32,8 +32,8 @@ pub record GoesWith (ds : List ℕ) (call : Call) (answer : Reply) (es : List Ef
       → (old : Tracked) × InputIs ds es w old × InputGoes ds call answer es w old (later.inputs w)
   pub keying : KeyingIs (step ds call answer es) later.focus later.repeat
 
-pub stands_next : (ds : List ℕ) (call : Call) (answer : Reply) (es : List Effect) (k later : Kept) → StandsFor ds es k → answer ≡ reply_to es call
-    → RisesIn call → GoesWith ds call answer es k later → StandsFor ds (step ds call answer es) later
+pub stands_next : (ds : List ℕ) (call : Call) (answer : Reply) (es : List Effect) (k later : Kept) → KeptStandsFor ds es k → answer ≡ reply_to es call
+    → RisesIn call → GoesWith ds call answer es k later → KeptStandsFor ds (step ds call answer es) later
 stands_next ds call answer es k later stands r rises goes =
     let lawful = lawful_step ds call answer es stands.lawful r in
     record {

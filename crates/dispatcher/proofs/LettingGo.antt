@@ -10,13 +10,13 @@ use Rattle.dispatch_tables.specs.Channel.{Keeps}
 use Rattle.dispatcher.proofs.RoomLaws.{let_go_law}
 use Rattle.dispatcher.specs.declared.tables.Routing.{Routing}
 use Rattle.dispatcher.specs.declared.tables.Tables.{Tables}
-use Rattle.dispatcher.specs.Tables.{StandsFor, kept}
+use Rattle.dispatcher.specs.Tables.{TablesStandFor, kept}
 use Rattle.dispatcher.proofs.Rooms.{channel_bare}
 
 -- the tables stand for what they stood for
-pub let_go_stands : (es : List Effect) (old : Tables) (u : Table) (c : ℕ) → StandsFor es old → 1 ≤ c → c ≤ opened old.routing.channels
+pub let_go_stands : (es : List Effect) (old : Tables) (u : Table) (c : ℕ) → TablesStandFor es old → 1 ≤ c → c ≤ opened old.routing.channels
     → u ≡ with_channel c (let_go_of (channel_of old.routing.channels c)) old.routing.channels
-    → StandsFor es (record old { routing = record old.routing { channels = u } })
+    → TablesStandFor es (record old { routing = record old.routing { channels = u } })
 let_go_stands es old u c s low high is =
     let r = old.routing in
     let new : Routing = record r { channels = u } in
@@ -30,7 +30,7 @@ let_go_stands es old u c s low high is =
     is).0
 
 -- all that were received are gone
-pub all_gone : (es : List Effect) (old : Tables) (u : Table) (c : ℕ) → StandsFor es old → 1 ≤ c → c ≤ opened old.routing.channels
+pub all_gone : (es : List Effect) (old : Tables) (u : Table) (c : ℕ) → TablesStandFor es old → 1 ≤ c → c ≤ opened old.routing.channels
     → u ≡ with_channel c (let_go_of (channel_of old.routing.channels c)) old.routing.channels
     → (channel_of (but_for_room u) c).gone ≡ received (past_of es) c
 all_gone es old u c s low high is =

@@ -12,7 +12,7 @@ use Rattle.dispatch_calls.specs.declared.reply.Reply.TheVariants.{Opened}
 use Rattle.cancel_synthesis.specs.Ends.{keys_cancelled}
 use Rattle.dispatch_history.specs.History.{snapshot}
 use Rattle.dispatch_history.specs.Effect.{Effect, past_of}
-use Rattle.dispatcher.specs.Knows.{Kept, StandsFor}
+use Rattle.dispatcher.specs.Knows.{Kept, KeptStandsFor}
 use Rattle.dispatcher.specs.Telling.{Refocuses, AreKeys, told_target}
 use Rattle.dispatcher.specs.RoundLaws.{OpenFocusLaw, OpenKeysLaw, TargetLiveLaw}
 use Rattle.dispatcher.proofs.Inputs.{target_live}
@@ -39,7 +39,7 @@ any_display p q e =
     (ap₂ (λ a b. a || b) (e 1 (omega arith)) (ap₂ (λ a b. a || b) (e 2 (omega arith)) (ap (λ a. a || false) (e 3 (omega arith)))))
 
 -- who may have the focus before a channel is opened, and after it
-may_before : (ds : List ℕ) (es : List Effect) (k : Kept) (y w : ℕ) → StandsFor ds es k → y < 4
+may_before : (ds : List ℕ) (es : List Effect) (k : Kept) (y w : ℕ) → KeptStandsFor ds es k → y < 4
     → may_by k.focus.focusable y w ≡ (mask_has k.delivery.live w && is_focusable_on k.shown.windows y w)
 may_before ds es k y w s lt =
     s.knows.keying.focus_is.masks_are y w lt
@@ -136,7 +136,7 @@ stays_at may later (Some v) t f e = by_may (may v) refl e
         ap (λ b. cond b (Some v) None) (ap later same ∙ f (ap may (sym same) ∙ q)) ∙ x
     by_may false q x = absurd (cc x)
 
-target_stays : (ds : List ℕ) (es : List Effect) (k : Kept) (g : FocusState) (number t : ℕ) → StandsFor ds es k
+target_stays : (ds : List ℕ) (es : List Effect) (k : Kept) (g : FocusState) (number t : ℕ) → KeptStandsFor ds es k
     → Refocuses k.shown.windows (mask_with k.delivery.live number) k.focus g → target_of k.focus ≡ Some t → target_of g ≡ Some t
 target_stays ds es k g number t s r e =
     let y = k.focus.last in

@@ -14,7 +14,7 @@ use Rattle.dispatch_tables.proofs.Keeping.{kept_unopened}
 use Rattle.dispatch_channels.specs.Table.{Table, opened, channel_of, input_of, untold}
 use Rattle.dispatch_channels.specs.Changes.{new_channel}
 use Rattle.dispatcher.specs.Input.{InputIs}
-use Rattle.dispatcher.specs.Knows.{Kept, StandsFor}
+use Rattle.dispatcher.specs.Knows.{Kept, KeptStandsFor}
 use Rattle.dispatcher.specs.Staying.{delivery_of}
 use Rattle.dispatcher.specs.Telling.{OpensWith}
 use Rattle.dispatcher.specs.RoundLaws.{OpenLaw, OpensLaw}
@@ -24,7 +24,7 @@ use Rattle.dispatcher.proofs.RoomLaws.{keeps_room}
 use Rattle.dispatcher.proofs.Rounding.{round_goes}
 
 -- what was told to a window that is live after the step: one that is opened was told nothing
-opened_input : (ds : List ℕ) (limit number : ℕ) (es : List Effect) (k : Kept) (t p : Table) (w : ℕ) → StandsFor ds es k → k.delivery ≡ delivery_of t
+opened_input : (ds : List ℕ) (limit number : ℕ) (es : List Effect) (k : Kept) (t p : Table) (w : ℕ) → KeptStandsFor ds es k → k.delivery ≡ delivery_of t
     → k.inputs ≡ input_of t → OpensWith limit number t p → (w == number || live (past_of es) w) ≡ true → InputIs ds es w (input_of p w)
 opened_input ds limit number es k t p w s e f o y =
     let is : DeliveryIs es (delivery_of t) = subst (DeliveryIs es) e s.knows.delivery in
@@ -107,7 +107,7 @@ index_last [] x d = refl
 index_last (y ∷ ys) x d = index_last ys x d
 
 pub opens_law : OpensLaw
-opens_law limit number old new same o =
+opens_law limit number old new o =
     let place : number - 1 ≡ length old.channels = omega (arith, o.number_is) in
     record {
       room = 1;
@@ -117,7 +117,7 @@ opens_law limit number old new same o =
         ap (λ cs. slice_index_or cs (c - 1) (opened_with 0)) o.channels_are
             ∙ index_before old.channels (new_channel limit) (c - 1) (opened_with 0) (omega (arith, from, to)),
         ap (λ xs. slice_index_or xs (c - 1) untold) o.inputs_are
-            ∙ index_before old.inputs (input_of new number) (c - 1) untold (omega (arith, from, to, same)),
+            ∙ index_before old.inputs (input_of new number) (c - 1) untold (omega (arith, from, to, o.as_many)),
       );
       channel_is =
           ap (λ cs. slice_index_or cs (number - 1) (opened_with 0)) o.channels_are

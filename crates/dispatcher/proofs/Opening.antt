@@ -33,7 +33,7 @@ use Rattle.dispatcher.proofs.OpenFocus.{open_focus, open_keys}
 use Rattle.dispatcher.proofs.Replies.{reply_law}
 use Rattle.dispatcher.proofs.Stepping.{other_steps}
 use Rattle.dispatcher.specs.declared.tables.Routing.{Routing}
-use Rattle.dispatcher.specs.Carrying.{IsOf, Rested, CarriesOut}
+use Rattle.dispatcher.specs.Carrying.{IsOf, CarriesOut}
 use Rattle.dispatcher.specs.Keying.{target_number}
 use Rattle.dispatcher.specs.Opening.{IsWelcome, Welcomes}
 use Rattle.dispatcher.specs.Tables.{kept, Goes}
@@ -112,10 +112,10 @@ welcome limit number t p h =
     }
 
 -- nothing was delivered to it
-pub timely_opened : (limit number clock : ℕ) (t p : Table) → length t.inputs ≡ opened t → ((c : ℕ) → mask_has t.live c ≡ true → c ≤ opened t)
+pub timely_opened : (limit number clock : ℕ) (t p : Table)
     → Opens limit number t p → IsTimely clock t → IsTimely clock p
-timely_opened limit number clock t p many within h timely c lives =
-    let o = opens_law limit number t p many h in
+timely_opened limit number clock t p h timely c lives =
+    let o = opens_law limit number t p h in
     elim (cases_eq number c) [
       | inl is ↦
           let none : (channel_of p c).unfinished ≡ [] = ap (λ n. (channel_of p n).unfinished) (sym is) ∙ ap (λ s. s.unfinished) o.channel_is in
@@ -127,7 +127,7 @@ timely_opened limit number clock t p many within h timely c lives =
           ∙ sym (ap (λ m. mask_has m c) h.live_is)
           ∙ lives in
           let low : 1 ≤ c = channel_low t.live c was in
-          subst (λ s. NoneAfter clock s.unfinished) (sym (o.others c low (within c was)).0) (timely c was)
+          subst (λ s. NoneAfter clock s.unfinished) (sym (o.others c low (h.opened_live c was)).0) (timely c was)
     ]
   where
     or_none : (a b : Bool) → (a || (b && false)) ≡ a
@@ -149,12 +149,11 @@ target_at : (o : Option ℕ) (t : ℕ) → o ≡ Some t → unwrap_or o 0 ≡ t
 target_at o t e = ap (λ x. unwrap_or x 0) e
 
 -- a channel is opened
-pub opens_goes : (limit number place clock : ℕ) (old new : Routing) (p : Table) → length old.channels.inputs ≡ opened old.channels
-    → ((c : ℕ) → mask_has old.channels.live c ≡ true → c ≤ opened old.channels)
+pub opens_goes : (limit number place clock : ℕ) (old new : Routing) (p : Table)
     → Opens limit number old.channels p
     → Welcomes number place clock (record old { channels = p }) new
     → Goes (λ now. Open limit) (Opened number) place clock old new
-opens_goes limit number place clock old new p many within h w =
+opens_goes limit number place clock old new p h w =
     record {
       after = λ es now queue later at clk stands goes.
           let k = kept queue old in
@@ -190,7 +189,7 @@ opens_goes limit number place clock old new p many within h w =
           } in
           open_law old.displays limit number es k (kept later new) r old.channels p new.channels w.carries.channels.changed stands refl refl
           (reply_open (opened old.channels) number h.few h.number_is ∙ sym (reply_law old.displays es k (Open limit) stands tt))
-          (opens_law limit number old.channels p many h)
+          (opens_law limit number old.channels p h)
           (still_round (Open limit) (Opened number) queue later place clock old new r Rests None [] 0 (bit_and w.gained (mask_with 0 number)) p.live is)
           (still_step old.displays (Open limit) (Opened number) es old r Rests None (target_number old.focus) [] 0 (bit_and w.gained (mask_with 0 number)) w.is
           ((other_steps old.displays es k stands).opens limit number r.watchers))
@@ -205,19 +204,17 @@ opens_goes limit number place clock old new p many within h w =
   where
     by_live : (b : Bool) → mask_has old.channels.live number ≡ b → mask_has old.channels.live number ≡ false
     by_live false e = e
-    by_live true e = absurd (omega (arith, within number e, h.number_is))
+    by_live true e = absurd (omega (arith, h.opened_live number e, h.number_is))
 
     reply_open : (count number : ℕ) → count < 64 → number ≡ count + 1 → Opened number ≡ open_reply count
     reply_open count number few is = ap Opened is ∙ sym (ap (λ b. cond b (Opened (count + 1)) Full) (lt-ltb count 64 few))
 
 -- 64 were opened
-pub opens_none : (limit place clock : ℕ) (old new : Routing) → opened old.channels ≡ 64 → Rested place old new
-    → Goes (λ now. Open limit) Full place clock old new
-opens_none limit place clock old new full h =
-    rests_at (λ now. Open limit) Full place clock old new (λ now. refl) (λ now. tt)
+pub opens_none : (limit place clock : ℕ) (old : Routing) → opened old.channels ≡ 64 → Goes (λ now. Open limit) Full place clock old old
+opens_none limit place clock old full =
+    rests_at (λ now. Open limit) Full place clock old (λ now. refl) (λ now. tt)
     (λ es now queue clk stands.
     sym (reply_law old.displays es (kept queue old) (Open limit) stands tt ∙ ap open_reply full))
-    h
 
 -- the window of a new channel is welcome by a round that is carried out
 pub welcomes_by : (number place clock : ℕ) (old new : Routing) (r : Round) (gained : ℕ) (g : FocusState)

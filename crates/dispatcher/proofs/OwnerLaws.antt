@@ -14,7 +14,7 @@ use Rattle.dispatch_history.specs.Effect.{Effect, past_of}
 use Rattle.dispatch_history.specs.Effects.{step, said_at}
 use Rattle.dispatch_history.specs.Reply.{reply_to, receive_reply}
 use Rattle.dispatch_channels.specs.Table.{Table, opened, channel_of, with_channel}
-use Rattle.dispatch_channels.specs.Changes.{settled_after, finished_in}
+use Rattle.dispatch_channels.specs.Changes.{finished_at, finished_in}
 use Rattle.dispatch_tables.specs.Lawful.{Lawful}
 use Rattle.dispatch_tables.specs.Channel.{Receives, Finishes, Untouched, part_of, with_part, enqueued_all}
 use Rattle.dispatch_tables.specs.Masks.{live_mask_after, able_mask_after}
@@ -26,7 +26,7 @@ use Rattle.dispatch_tables.proofs.Keeping.{kept_facts}
 use Rattle.dispatch_tables.proofs.Silence.{silent_calls}
 use Rattle.dispatch_tables.proofs.Unopened.{done_live}
 use Rattle.dispatcher.specs.Queue.{QueueGoes}
-use Rattle.dispatcher.specs.Knows.{Kept, StandsFor}
+use Rattle.dispatcher.specs.Knows.{Kept, KeptStandsFor}
 use Rattle.dispatcher.specs.Staying.{delivery_of}
 use Rattle.dispatcher.specs.OwnerLaws.{GotLaw, DoneLaw}
 use Rattle.dispatcher.proofs.RestLaws.{receive_still, finish_still, touches_rest, still_goes}
@@ -82,7 +82,7 @@ parted ds call answer es t u k was l is p =
     })
 
 -- the clock goes on
-pub clock_next : (ds : List ℕ) (call : Call) (answer : Reply) (es : List Effect) (k later : Kept) → StandsFor ds es k → QueueGoes call answer k.queue later.queue
+pub clock_next : (ds : List ℕ) (call : Call) (answer : Reply) (es : List Effect) (k later : Kept) → KeptStandsFor ds es k → QueueGoes call answer k.queue later.queue
     → later.queue.clock ≡ clock (past_of (step ds call answer es))
 clock_next ds call answer es k later s goes = goes.clock_is ∙ ap (λ x. max (moment_of call) x) s.knows.queue.clock_is
 
@@ -127,13 +127,13 @@ done_law ds now k seq es kept later t u stands r stays e f g =
     let number = live_number ds es k stands.lawful alive in
     let s = channel_of t k in
     let to : k ≤ opened t = subst (λ n. k ≤ n) (sym is.count_is) number.1 in
-    let becomes : published_at at (with_part (part_of call Done k) s) ≡ settled_after seq at s =
+    let becomes : published_at at (with_part (part_of call Done k) s) ≡ finished_at seq at s =
     ap (λ b. published_at at (with_part (cond b (Finishes seq) Untouched) s)) (eq-eqb k k refl) in
     let v = finished_in k seq at t in
-    let set : (c : ℕ) → 1 ≤ c → channel_of v c ≡ cond (c == k) (settled_after seq at s) (channel_of t c) = λ c from.
-    channel_set t c k (settled_after seq at s) from number.0 to in
-    let own : channel_of v k ≡ settled_after seq at s =
-    set k number.0 ∙ ap (λ b. cond b (settled_after seq at s) (channel_of t k)) (eq-eqb k k refl) in
+    let set : (c : ℕ) → 1 ≤ c → channel_of v c ≡ cond (c == k) (finished_at seq at s) (channel_of t c) = λ c from.
+    channel_set t c k (finished_at seq at s) from number.0 to in
+    let own : channel_of v k ≡ finished_at seq at s =
+    set k number.0 ∙ ap (λ b. cond b (finished_at seq at s) (channel_of t k)) (eq-eqb k k refl) in
     let next : DeliveryIs (step ds call Done es) (delivery_of v) =
     parted ds call Done es t v k stands.lawful lawful is
     (record {
@@ -141,12 +141,12 @@ done_law ds now k seq es kept later t u stands r stays e f g =
       quiet = λ c. silent_calls ds call Done es c refl;
       untouched = λ c ne. ap (λ b. cond b (Finishes seq) Untouched) ne;
       opens = λ n. refl;
-      as_many = set_as_many t k (settled_after seq at s);
+      as_many = set_as_many t k (finished_at seq at s);
       channels = λ c from. set c from ∙ ap (λ x. cond (c == k) x (channel_of t c)) (sym becomes);
       live_is = refl;
       able_is =
-          ap (λ b. cond (b && not (late_at at (settled_after seq at s))) (mask_with t.able k) t.able) (live_by es (delivery_of t) k is ∙ alive)
-          ∙ turned (late_at at (settled_after seq at s)) (mask_with t.able k) t.able
+          ap (λ b. cond (b && not (late_at at (finished_at seq at s))) (mask_with t.able k) t.able) (live_by es (delivery_of t) k is ∙ alive)
+          ∙ turned (late_at at (finished_at seq at s)) (mask_with t.able k) t.able
           ∙ ap (λ x. cond (late_at at x) t.able (mask_with t.able k)) (sym own);
       noted_is = refl;
     }) in

@@ -15,11 +15,11 @@ use Rattle.dispatch_history.specs.Effect.{Effect}
 use Rattle.dispatch_history.specs.Reply.{reply_to}
 use Rattle.dispatch_channels.specs.Table.{input_of}
 use Rattle.dispatcher.specs.Queue.{Queue}
-use Rattle.dispatcher.specs.Knows.{StandsFor}
+use Rattle.dispatcher.specs.Knows.{KeptStandsFor}
 use Rattle.dispatcher.proofs.Replies.{reply_law}
 use Rattle.dispatcher.proofs.Stepping.{other_steps}
 use Rattle.dispatcher.specs.declared.tables.Routing.{Routing}
-use Rattle.dispatcher.specs.Carrying.{CarriesSome, IsOf, Rested}
+use Rattle.dispatcher.specs.Carrying.{CarriesSome, IsOf}
 use Rattle.dispatcher.specs.Keying.{target_number}
 use Rattle.dispatcher.specs.Tables.{kept, Goes}
 use Rattle.dispatcher.proofs.Gone.{room_gone, both_gone}
@@ -32,7 +32,7 @@ abbrev answer_by : (lives spy holds : Bool) → Reply
 answer_by lives spy holds = if not lives then Gone else if not spy then NotSpy else if holds then Done else NothingHeld
 
 replies : (old : Routing) (c d now : ℕ) (lives spy holds : Bool) (es : List Effect) (queue : Queue) → mask_has old.channels.live c ≡ lives
-    → list_any (λ v. v.channel == c && is_spy v) old.shown.windows ≡ spy → any_at old.touches c d ≡ holds → StandsFor old.displays es (kept queue old)
+    → list_any (λ v. v.channel == c && is_spy v) old.shown.windows ≡ spy → any_at old.touches c d ≡ holds → KeptStandsFor old.displays es (kept queue old)
     → answer_by lives spy holds ≡ reply_to es (Pilfer now c d)
 replies old c d now lives spy holds es queue l s h stands =
     let has = mask_has old.channels.live c in
@@ -44,28 +44,25 @@ replies old c d now lives spy holds es queue l s h stands =
     ∙ ap (λ b. answer_by lives b any) s
     ∙ ap (λ b. answer_by lives spy b) h)
 
-pub pilfer_gone : (c d place clk : ℕ) (old new : Routing) → mask_has old.channels.live c ≡ false → Rested place old new
-    → Goes (λ now. Pilfer now c d) Gone place clk old new
-pilfer_gone c d place clk old new gone h =
-    rests_at (λ now. Pilfer now c d) Gone place clk old new (λ now. refl) (λ now. tt)
+pub pilfer_gone : (c d place clk : ℕ) (old : Routing) → mask_has old.channels.live c ≡ false
+    → Goes (λ now. Pilfer now c d) Gone place clk old old
+pilfer_gone c d place clk old gone =
+    rests_at (λ now. Pilfer now c d) Gone place clk old (λ now. refl) (λ now. tt)
     (λ es now queue time stands. replies old c d now false _ _ es queue gone refl refl stands)
-    h
 
-pub pilfer_no_spy : (c d place clk : ℕ) (old new : Routing) → mask_has old.channels.live c ≡ true
-    → list_any (λ v. v.channel == c && is_spy v) old.shown.windows ≡ false → Rested place old new
-    → Goes (λ now. Pilfer now c d) NotSpy place clk old new
-pilfer_no_spy c d place clk old new lives none h =
-    rests_at (λ now. Pilfer now c d) NotSpy place clk old new (λ now. refl) (λ now. tt)
+pub pilfer_no_spy : (c d place clk : ℕ) (old : Routing) → mask_has old.channels.live c ≡ true
+    → list_any (λ v. v.channel == c && is_spy v) old.shown.windows ≡ false
+    → Goes (λ now. Pilfer now c d) NotSpy place clk old old
+pilfer_no_spy c d place clk old lives none =
+    rests_at (λ now. Pilfer now c d) NotSpy place clk old (λ now. refl) (λ now. tt)
     (λ es now queue time stands. replies old c d now true false _ es queue lives none refl stands)
-    h
 
-pub pilfer_nothing : (c d place clk : ℕ) (old new : Routing) → mask_has old.channels.live c ≡ true
-    → list_any (λ v. v.channel == c && is_spy v) old.shown.windows ≡ true → any_at old.touches c d ≡ false → Rested place old new
-    → Goes (λ now. Pilfer now c d) NothingHeld place clk old new
-pilfer_nothing c d place clk old new lives spy none h =
-    rests_at (λ now. Pilfer now c d) NothingHeld place clk old new (λ now. refl) (λ now. tt)
+pub pilfer_nothing : (c d place clk : ℕ) (old : Routing) → mask_has old.channels.live c ≡ true
+    → list_any (λ v. v.channel == c && is_spy v) old.shown.windows ≡ true → any_at old.touches c d ≡ false
+    → Goes (λ now. Pilfer now c d) NothingHeld place clk old old
+pilfer_nothing c d place clk old lives spy none =
+    rests_at (λ now. Pilfer now c d) NothingHeld place clk old (λ now. refl) (λ now. tt)
     (λ es now queue time stands. replies old c d now true true false es queue lives spy none stands)
-    h
 
 -- the key target stays, and keeps its keys
 keyed_stays : (f : FocusState) (alive : ℕ) (held : ℕ → List KeyMsg) (o : Option ℕ) → target_of f ≡ o

@@ -20,12 +20,12 @@ use Rattle.dispatch_tables.proofs.Keeping.{kept_counts, kept_oldest}
 use Rattle.dispatch_channels.specs.Table.{Table, opened, channel_of, due_moment as due_in_table}
 use Rattle.dispatch_channels.specs.Changes.{counts_in}
 use Rattle.key_tables.proofs.Telling.{repeat_read}
-use Rattle.dispatcher.specs.Knows.{Kept, StandsFor}
+use Rattle.dispatcher.specs.Knows.{Kept, KeptStandsFor}
 use Rattle.dispatcher.specs.Staying.{delivery_of}
 use Rattle.dispatcher.specs.ReadLaws.{ReadsChannelsLaw, ReadsMomentsLaw, ReadsTouchesLaw, ReadsInputsLaw}
 
 -- the counts of a channel, by whether there is one with this number
-counts_by : (ds : List ℕ) (es : List Effect) (k : Kept) (t : Table) (c : ℕ) (b : Bool) → StandsFor ds es k → DeliveryIs es (delivery_of t)
+counts_by : (ds : List ℕ) (es : List Effect) (k : Kept) (t : Table) (c : ℕ) (b : Bool) → KeptStandsFor ds es k → DeliveryIs es (delivery_of t)
     → (nat_le 1 c && nat_le c (opened t)) ≡ b → counts_in t c ≡ counts es c
 counts_by ds es k t c true s is e =
     let x = and_parts (nat_le 1 c) (nat_le c (opened t)) e in

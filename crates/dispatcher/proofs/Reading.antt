@@ -9,7 +9,7 @@ use Rattle.input_types.specs.declared.message.Message.{Message}
 use Rattle.input_channel.specs.State.{next_of}
 use Rattle.dispatch_history.specs.Effect.{Effect}
 use Rattle.dispatch_history.specs.Reply.{reply_to, got_reply}
-use Rattle.dispatcher.specs.Knows.{Kept, StandsFor}
+use Rattle.dispatcher.specs.Knows.{Kept, KeptStandsFor}
 use Rattle.dispatcher.proofs.Replies.{reply_law}
 use Rattle.dispatcher.specs.Access.{got, any_waits}
 
@@ -28,14 +28,14 @@ got_is : (m : Option Message) → got (got_reply m) ≡ m
 got_is None = refl
 got_is (Some m) = refl
 
-pub next_live : (ds : List ℕ) (es : List Effect) (k : Kept) (c : ℕ) (m : Option Message) → StandsFor ds es k
+pub next_live : (ds : List ℕ) (es : List Effect) (k : Kept) (c : ℕ) (m : Option Message) → KeptStandsFor ds es k
     → mask_has k.delivery.live c ≡ true → m ≡ next_of (k.delivery.channel c) → m ≡ got (reply_to es (Receive c))
 next_live ds es k c m s lives e =
     let r : reply_to es (Receive c) ≡ got_reply (next_of (k.delivery.channel c)) =
     reply_law ds es k (Receive c) s tt ∙ ap (λ b. if not b then Gone else got_reply (next_of (k.delivery.channel c))) lives in
     e ∙ sym (got_is (next_of (k.delivery.channel c))) ∙ sym (ap got r)
 
-pub next_gone : (ds : List ℕ) (es : List Effect) (k : Kept) (c : ℕ) → StandsFor ds es k
+pub next_gone : (ds : List ℕ) (es : List Effect) (k : Kept) (c : ℕ) → KeptStandsFor ds es k
     → mask_has k.delivery.live c ≡ false → None ≡ got (reply_to es (Receive c))
 next_gone ds es k c s lives =
     let r : reply_to es (Receive c) ≡ Gone =

@@ -23,7 +23,7 @@ use Rattle.dispatch_round.specs.Rounds.{IsStepIn}
 use Rattle.dispatcher.specs.Pointing.{step_at}
 use Rattle.dispatcher.specs.Queue.{Queue}
 use Rattle.dispatcher.specs.Shown.{Shown, ShownGoes, origin_at}
-use Rattle.dispatcher.specs.Knows.{StandsFor}
+use Rattle.dispatcher.specs.Knows.{KeptStandsFor}
 use Rattle.dispatcher.specs.Telling.{Refocuses, parted_in, is_telling, FocusGoes, TellsFocus, told_target, GoesRound}
 use Rattle.dispatcher.proofs.Replies.{tick_reply}
 use Rattle.dispatcher.proofs.Stepping.{other_steps}
@@ -78,7 +78,7 @@ pub refocused : (call : ℕ → Call) (place clock : ℕ) (old mid : Routing) (m
     → ((now : ℕ) → FocusGoes (call now) shown.windows old.channels.live old.focus g)
     → IsOnlyIn lost (is_focused (focus_of old.focus)) (is_focused (focus_of g))
     → IsOnlyIn gained (is_focused (focus_of g)) (is_focused (focus_of old.focus))
-    → ((es : List Effect) (now watchers : ℕ) (queue : Queue) → StandsFor old.displays es (kept queue old)
+    → ((es : List Effect) (now watchers : ℕ) (queue : Queue) → KeptStandsFor old.displays es (kept queue old)
     → IsStepIn (scene old.displays es) old.touches mark None watchers (step_at (call now) Done es))
     → Goes call Done place clock old (record mid { focus = g; shown = shown })
 refocused call place clock old mid mark lost gained g shown some telling rises replies part told shows focus l h st =

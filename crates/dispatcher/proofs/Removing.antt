@@ -32,7 +32,7 @@ use Rattle.cancel_synthesis.specs.Ends.{keys_cancelled}
 use Rattle.dispatcher.specs.Shown.{ShownGoes, origin_at}
 use Rattle.dispatcher.specs.Pointing.{step_at}
 use Rattle.dispatcher.specs.Input.{InputIs}
-use Rattle.dispatcher.specs.Knows.{Kept, StandsFor}
+use Rattle.dispatcher.specs.Knows.{Kept, KeptStandsFor}
 use Rattle.dispatcher.specs.Staying.{delivery_of}
 use Rattle.dispatcher.specs.Tracking.{bodies_at}
 use Rattle.dispatcher.specs.RoundLaws.{RemoveLaw}
@@ -69,7 +69,7 @@ focused_stays h now c w n = ap (λ f. list_any f all_displays) (fun_ext (λ y. f
 not_removed : (h : History) (now c w : ℕ) → live ((Remove now c, Done) ∷ h) w ≡ true → (w == c) ≡ false
 not_removed h now c w y = not-true (w == c) (and_parts (not (w == c)) (live h w) y).0
 
-removed_keys : (ds : List ℕ) (now c : ℕ) (es : List Effect) (k : Kept) (w : ℕ) → Lawful ds (step ds (Remove now c) Done es) → StandsFor ds es k
+removed_keys : (ds : List ℕ) (now c : ℕ) (es : List Effect) (k : Kept) (w : ℕ) → Lawful ds (step ds (Remove now c) Done es) → KeptStandsFor ds es k
     → live (past_of (step ds (Remove now c) Done es)) w ≡ true → key_messages (Remove now c) Done es w ≡ []
 removed_keys ds now c es k w l s y =
     elim (cases_Bool (is_target (past_of es) w)) [
@@ -82,7 +82,7 @@ removed_keys ds now c es k w l s y =
       | inr n ↦ keys_quiet ds (Remove now c) Done es w l n
     ]
 
-removed_told : (ds : List ℕ) (now c : ℕ) (es : List Effect) (k : Kept) (w : ℕ) → Lawful ds (step ds (Remove now c) Done es) → StandsFor ds es k
+removed_told : (ds : List ℕ) (now c : ℕ) (es : List Effect) (k : Kept) (w : ℕ) → Lawful ds (step ds (Remove now c) Done es) → KeptStandsFor ds es k
     → live (past_of (step ds (Remove now c) Done es)) w ≡ true → [] ≡ bodies_at ds (Remove now c) Done es w
 removed_told ds now c es k w l s y =
     let f = has_focus (past_of es) w in
@@ -96,7 +96,7 @@ removed_told ds now c es k w l s y =
     same false = refl
 
 -- the last key message, which is kept unless its window is removed
-removed_repeat : (ds : List ℕ) (now c : ℕ) (es : List Effect) (k later : Kept) → Lawful ds (step ds (Remove now c) Done es) → StandsFor ds es k
+removed_repeat : (ds : List ℕ) (now c : ℕ) (es : List Effect) (k later : Kept) → Lawful ds (step ds (Remove now c) Done es) → KeptStandsFor ds es k
     → later.repeat ≡ cond (is_at (target_of k.focus) c) None k.repeat → RepeatIs (step ds (Remove now c) Done es) later.repeat
 removed_repeat ds now c es k later l s e = by_target (target_of k.focus) refl e
   where

@@ -26,7 +26,7 @@ use Rattle.dispatch_tables.proofs.Going.{delivery_due}
 use Rattle.dispatch_tables.proofs.Keeping.{kept_receive, kept_finish}
 use Rattle.route_split.specs.Tables.{any_at}
 use Rattle.key_tables.proofs.Telling.{repeat_read}
-use Rattle.dispatcher.specs.Knows.{Kept, StandsFor}
+use Rattle.dispatcher.specs.Knows.{Kept, KeptStandsFor}
 use Rattle.dispatcher.specs.Replying.{late_by}
 use Rattle.dispatcher.specs.Laws.{ReplyLaw, TickReplyLaw}
 
@@ -55,7 +55,7 @@ finish_by ds es d c seq true l is e =
 finish_by ds es d c seq false l is e = rw e refl
 
 -- the channels that a tick names are those that are due by what is kept
-late_is : (ds : List ℕ) (es : List Effect) (k : Kept) (now : ℕ) → StandsFor ds es k
+late_is : (ds : List ℕ) (es : List Effect) (k : Kept) (now : ℕ) → KeptStandsFor ds es k
     → filter (λ c. is_due (due_moment es c) (max now (clock (past_of es)))) (channels (opened (past_of es))) ≡ late_by k.delivery (max now k.queue.clock)
 late_is ds es k now s =
     let at = max now (clock (past_of es)) in

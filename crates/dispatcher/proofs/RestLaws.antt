@@ -1,14 +1,21 @@
 -- Steps that tell nobody anything.
-use Rattle.std.proofs.Common.{◌≡◌, ◌≤◌, ℕ, ◌&&◌, not, Bool, true, false, cond, List, [], ◌∷◌, ◌++◌, filter, filter_map, refl, sym, ap, ◌∙◌, subst}
+use Rattle.std.proofs.Common.{◌≡◌, ◌≤◌, ℕ, ◌&&◌, ◌||◌, not, Bool, true, false, cond, List, [], ◌∷◌, ◌++◌, filter, filter_map, refl, sym, ap, ◌∙◌, subst}
 use Rattle.std.proofs.Math.Path.{fun_ext}
-use Rattle.std.proofs.lemmas.Bool.{true≢false}
+use Rattle.std.proofs.lemmas.Bool.{true≢false, and_parts}
 use Rattle.std.proofs.lemmas.List.{append-nil}
 use Rattle.input_types.specs.declared.axis.Pixel.{Pixel}
 use Rattle.input_types.specs.declared.message.Args.{Args}
 use Rattle.window_snapshot.specs.declared.window.Window.{Window}
 use Rattle.window_snapshot.specs.Mask.{mask_has}
 use Rattle.window_snapshot.proofs.Masks.{mask_has-zero}
+use Rattle.routing_rules.specs.Marks.{Mark as RuleMark, held, pilfering}
+use Rattle.routing_rules.specs.Pairs.{has_any}
 use Rattle.routing_rules.specs.Scene.{Rests}
+use Rattle.routing_rules.specs.Taking.{pilfers}
+use Rattle.touch_state.specs.Touches.{Touches, none}
+use Rattle.pilfer_monitor.proofs.Takes.{unchanged}
+use Rattle.route_split.specs.Following.{Follows}
+use Rattle.route_split.specs.Tables.{table_of}
 use Rattle.route_split.specs.declared.mark.Mark.TheVariants.{Rests as RestsMark, Mute}
 use Rattle.route_split.specs.Marking.{IsStepOf, IsMark}
 use Rattle.route_split.proofs.Steps.{other_law}
@@ -23,7 +30,7 @@ use Rattle.dispatch_history.specs.Effects.{step, said_at, channels}
 use Rattle.dispatch_history.specs.Delivery.{able}
 use Rattle.dispatch_history.specs.Due.{namings}
 use Rattle.dispatch_history.specs.Focus.{key_target}
-use Rattle.dispatch_history.specs.Step.{scene, step_of}
+use Rattle.dispatch_history.specs.Step.{marks, scene, step_of}
 use Rattle.dispatch_history.specs.PointerOf.{RisesIn}
 use Rattle.dispatch_history.specs.Reply.{reply_to}
 use Rattle.key_tables.specs.Focused.{FocusIs, MasksAre, is_request}
@@ -41,7 +48,8 @@ use Rattle.dispatch_tables.proofs.Resting.{delivery_rests}
 use Rattle.dispatcher.specs.Shown.{Shown, ShownGoes, origin_at}
 use Rattle.dispatcher.specs.Pointing.{TouchesGo, step_at, mark_at}
 use Rattle.dispatcher.specs.Input.{InputGoes}
-use Rattle.dispatcher.specs.Knows.{Kept, StandsFor}
+use Rattle.dispatcher.specs.Knows.{Kept, KeptStandsFor}
+use Rattle.dispatcher.specs.Carrying.{TakesMark}
 use Rattle.dispatcher.specs.Staying.{StaysBut}
 use Rattle.dispatcher.specs.Laws.{RestsLaw, TickIdleLaw}
 use Rattle.dispatcher.proofs.ShownLaws.{touches_scene_law}
@@ -114,8 +122,21 @@ shown_still call k later windows origins e =
       origins_are = λ w low high. ap (λ s. origin_at s.origins w) e ∙ sym (origins w (origin_at k.origins w));
     }
 
+-- a window that is pilfering a device holds a pointer of it
+pilfering_holds : (ms : List RuleMark) (w d : ℕ) → pilfering ms w d ≡ true → has_any (held ms) w d ≡ true
+pilfering_holds [] w d e = absurd (true≢false (sym e))
+pilfering_holds (m ∷ ms) w d e = (and_parts (has_any (held (m ∷ ms)) w d) (pilfers m.taken w d || pilfering ms w d) e).0
+
+-- tables that follow the marks are, as they are, the tables after a step that rests
+pub rests_as_is : (ms : List RuleMark) (ts : List Touches) (place : ℕ) → Follows ms ts → TakesMark RestsMark place ts ts
+rests_as_is ms ts place f d =
+    unchanged (table_of ts d) none
+    (λ w e. sym (f.any_are w d) ∙ pilfering_holds ms w d (f.pilfering_are w d ∙ e))
+    (λ w i h. refl)
+    place
+
 -- the tables of touches rest
-pub touches_rest : (ds : List ℕ) (call : Call) (answer : Reply) (es : List Effect) (k later : Kept) → StandsFor ds es k → step_at call answer es ≡ Rests
+pub touches_rest : (ds : List ℕ) (call : Call) (answer : Reply) (es : List Effect) (k later : Kept) → KeptStandsFor ds es k → step_at call answer es ≡ Rests
     → StaysBut call answer k later → TouchesGo ds call answer es k.queue.place k.touches later.touches
 touches_rest ds call answer es k later stands e stays =
     let s = scene ds es in
@@ -124,14 +145,16 @@ touches_rest ds call answer es k later stands e stays =
       is_mark =
           other_law s k.touches RestsMark (step_at call answer es) (touches_scene_law ds es k.touches stands.knows.touches)
           (subst (IsStepOf RestsMark) (sym e) tt);
-      changes = stays.touches;
+      changes =
+          subst (TakesMark RestsMark k.queue.place k.touches) (sym stays.touches_are)
+          (rests_as_is (marks es) k.touches k.queue.place stands.knows.touches);
     }
 
 -- such a step keeps what stands, where the channels go on
-pub still_goes : (ds : List ℕ) (call : Call) (answer : Reply) (es : List Effect) (k later : Kept) → StandsFor ds es k → answer ≡ reply_to es call
+pub still_goes : (ds : List ℕ) (call : Call) (answer : Reply) (es : List Effect) (k later : Kept) → KeptStandsFor ds es k → answer ≡ reply_to es call
     → RisesIn call → Still call answer → TouchesGo ds call answer es k.queue.place k.touches later.touches → StaysBut call answer k later
     → DeliveryIs (step ds call answer es) later.delivery
-    → StandsFor ds (step ds call answer es) later
+    → KeptStandsFor ds (step ds call answer es) later
 still_goes ds call answer es k later stands r rises still touches stays delivery =
     let lawful = lawful_step ds call answer es stands.lawful r in
     let quiet : (w : ℕ) → said_at ds call answer es w ≡ [] = λ w. silent_calls ds call answer es w (still.silent w) in
@@ -211,7 +234,9 @@ tick_idle ds now es k later stands r stays =
             taken_are = λ w d i number. mutes.taken_are w d i number ∙ mask_has-zero w;
             pilfers_are = mutes.pilfers_are;
           };
-      changes = stays.but.touches;
+      changes =
+          subst (TakesMark RestsMark k.queue.place k.touches) (sym stays.but.touches_are)
+          (rests_as_is (marks es) k.touches k.queue.place stands.knows.touches);
     })
     stays.but
     (subst (DeliveryIs (step ds call (Named 0) es)) (sym stays.delivery_is) (tick_delivery ds now es k.delivery lawful stands.knows.delivery))

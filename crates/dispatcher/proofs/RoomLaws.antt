@@ -16,7 +16,7 @@ use Rattle.dispatcher.specs.Queue.{QueueIs}
 use Rattle.dispatcher.specs.Shown.{ShownIs}
 use Rattle.dispatcher.specs.Pointing.{TouchesAre}
 use Rattle.dispatcher.specs.Input.{InputIs}
-use Rattle.dispatcher.specs.Knows.{Kept, KeyingIs, StandsFor}
+use Rattle.dispatcher.specs.Knows.{Kept, KeyingIs, KeptStandsFor}
 use Rattle.dispatcher.specs.Staying.{delivery_of}
 use Rattle.dispatcher.specs.ReadLaws.{SameBut, RoomLaw, LetGoLaw}
 use Rattle.dispatcher.proofs.Slices.{channel_set, set_as_many, index-map}
@@ -72,8 +72,8 @@ input_bare ds es w i j e is =
     }
 
 -- all but the channels is the same
-same_knows : (ds : List ℕ) (es : List Effect) (k later : Kept) → StandsFor ds es k → SameBut k later → DeliveryIs es later.delivery
-    → ((w : ℕ) → live (past_of es) w ≡ true → InputIs ds es w (later.inputs w)) → StandsFor ds es later
+same_knows : (ds : List ℕ) (es : List Effect) (k later : Kept) → KeptStandsFor ds es k → SameBut k later → DeliveryIs es later.delivery
+    → ((w : ℕ) → live (past_of es) w ≡ true → InputIs ds es w (later.inputs w)) → KeptStandsFor ds es later
 same_knows ds es k later s same delivery inputs =
     record {
       lawful = s.lawful;

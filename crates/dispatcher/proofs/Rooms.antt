@@ -13,7 +13,7 @@ use Rattle.dispatch_channels.specs.Table.{Table, opened, channel_of, input_of, u
 use Rattle.dispatcher.specs.Queue.{Queue}
 use Rattle.dispatcher.specs.Shown.{Shown}
 use Rattle.dispatcher.specs.Input.{InputIs}
-use Rattle.dispatcher.specs.Knows.{StandsFor}
+use Rattle.dispatcher.specs.Knows.{KeptStandsFor}
 use Rattle.dispatcher.specs.Staying.{delivery_of}
 use Rattle.dispatcher.specs.Seen.{kept_of}
 
@@ -70,7 +70,7 @@ delivery_bare es t h =
 
 -- what stands for a history without the room stands for it with the room
 pub stands_raw : (ds : List ℕ) (es : List Effect) (q : Queue) (w : Shown) (ts : List Touches) (t : Table) (f : FocusState) (r : Option Sent)
-    → StandsFor ds es (kept_of q w ts (but_for_room t) f r) → StandsFor ds es (kept_of q w ts t f r)
+    → KeptStandsFor ds es (kept_of q w ts (but_for_room t) f r) → KeptStandsFor ds es (kept_of q w ts t f r)
 stands_raw ds es q w ts t f r s =
     record {
       lawful = s.lawful;
@@ -90,7 +90,7 @@ stands_raw ds es q w ts t f r s =
 
 -- and the other way round
 pub stands_bare : (ds : List ℕ) (es : List Effect) (q : Queue) (w : Shown) (ts : List Touches) (t : Table) (f : FocusState) (r : Option Sent)
-    → StandsFor ds es (kept_of q w ts t f r) → StandsFor ds es (kept_of q w ts (but_for_room t) f r)
+    → KeptStandsFor ds es (kept_of q w ts t f r) → KeptStandsFor ds es (kept_of q w ts (but_for_room t) f r)
 stands_bare ds es q w ts t f r s =
     record {
       lawful = s.lawful;

@@ -40,7 +40,7 @@ use Rattle.dispatch_round.specs.Rounds.{IsStepIn, IsRound, AllHoldPointers, told
 use Rattle.dispatch_round.specs.Told.{TellsAll}
 use Rattle.dispatcher.specs.Pointing.{step_at}
 use Rattle.dispatcher.specs.Input.{InputIs}
-use Rattle.dispatcher.specs.Knows.{Kept, StandsFor}
+use Rattle.dispatcher.specs.Knows.{Kept, KeptStandsFor}
 use Rattle.dispatcher.specs.Staying.{delivery_of}
 use Rattle.dispatcher.specs.Telling.{parted_in, is_telling, told_target, AreKeys, TellsFocus, GoesRound}
 use Rattle.dispatcher.specs.Tracking.{motions_at, bodies_at}
@@ -72,7 +72,7 @@ change_at lost gained w f g p q = ap₂ (λ x y. change_told (cond x (Some false
 
 -- what a round tells a live window is what the step tells it
 round_told : (ds : List ℕ) (call : Call) (answer : Reply) (es : List Effect) (k : Kept) (later : FocusState) (r : Round) (alive w : ℕ)
-    → Lawful ds (step ds call answer es) → StandsFor ds es k → FocusIs (step ds call answer es) later
+    → Lawful ds (step ds call answer es) → KeptStandsFor ds es k → FocusIs (step ds call answer es) later
     → ((c : ℕ) → mask_has alive c ≡ live (past_of (step ds call answer es)) c)
     → AreKeys (target_of k.focus) alive (told_target call answer k later) r.target r.keys.now
     → TellsFocus r.lost r.gained alive k.focus later
@@ -89,7 +89,7 @@ round_told ds call answer es k later r alive w l s next lives keys changes y =
 
 -- the premises of a round, by what becomes of the channels before it
 pub record RoundOf (ds : List ℕ) (call : Call) (answer : Reply) (es : List Effect) (k later : Kept) (r : Round) (t p u : Table) (changed : ℕ) : Type 0 where
-  pub stands : StandsFor ds es k
+  pub stands : KeptStandsFor ds es k
   pub delivery_was : k.delivery ≡ delivery_of t
   pub reply_is : answer ≡ reply_to es call
   pub rises : RisesIn call
@@ -101,7 +101,7 @@ pub record RoundOf (ds : List ℕ) (call : Call) (answer : Reply) (es : List Eff
 
 pub round_goes : (ds : List ℕ) (call : Call) (answer : Reply) (es : List Effect) (k later : Kept) (r : Round) (t p u : Table) (changed : ℕ) (new : ℕ → Bool)
     → RoundOf ds call answer es k later r t p u changed → Parts ds call answer es later.queue.clock t p new
-    → StandsFor ds (step ds call answer es) later
+    → KeptStandsFor ds (step ds call answer es) later
 round_goes ds call answer es k later r t p u changed new o x =
     let s = scene ds es in
     let e = step_at call answer es in
@@ -190,7 +190,7 @@ round_law ds call answer es k later r first t u changed stands e f room reply ri
     let k' : Kept = record k { delivery = delivery_of t; inputs = input_of t } in
     let p = parted_in call answer later.queue.clock t in
     let x = stay call answer later.queue.clock t telling in
-    let now_stands : StandsFor ds es k' =
+    let now_stands : KeptStandsFor ds es k' =
     room_law ds es k k' first t stands (record { queue_is = refl; shown_is = refl; touches_are = refl; focus_is = refl; repeat_is = refl }) e f refl refl room in
     let was : DeliveryIs es (delivery_of t) = now_stands.knows.delivery in
     round_goes ds call answer es k' later r t p u changed (λ c. false)

@@ -20,7 +20,7 @@ use Rattle.dispatch_tables.proofs.Duties.{named_law}
 use Rattle.dispatch_tables.proofs.Going.{delivery_due}
 use Rattle.dispatch_channels.specs.Table.{due_moment}
 use Rattle.dispatcher.specs.Queue.{Queue, QueueGoes}
-use Rattle.dispatcher.specs.Knows.{StandsFor}
+use Rattle.dispatcher.specs.Knows.{KeptStandsFor}
 use Rattle.dispatcher.specs.declared.tables.Routing.{Routing}
 use Rattle.dispatcher.specs.declared.tables.Tables.{Tables}
 use Rattle.dispatcher.specs.Memory.{IsCalm}
@@ -70,7 +70,7 @@ pub routed_on : (old : Tables) (later : Queue) (new : Routing) (call : Call) (an
 routed_on old later new call answer now place clk routed moment time at is g =
     record {
       after = λ es s.
-          subst (λ d. StandsFor d (step old.routing.displays call answer es) (kept later new)) (sym g.displays_are)
+          subst (λ d. KeptStandsFor d (step old.routing.displays call answer es) (kept later new)) (sym g.displays_are)
           (g.after es old.queueing later (sym at) (ap (λ n. max n old.queueing.clock) (sym moment) ∙ sym time) s
           (subst (λ q. QueueGoes call answer old.queueing q) (sym (is ∙ ap (λ n. stepped n old.queueing) moment)) (stepped_goes call answer old.queueing routed)));
       displays_are = g.displays_are;
@@ -85,7 +85,7 @@ pumped_on : (old : Tables) (later : Queue) (new : Routing) (answer : Reply) (fir
 pumped_on old later new answer first now place clk waits time at goes g =
     record {
       after = λ es s.
-          subst (λ d. StandsFor d (step old.routing.displays (Pump now) answer es) (kept later new)) (sym g.displays_are)
+          subst (λ d. KeptStandsFor d (step old.routing.displays (Pump now) answer es) (kept later new)) (sym g.displays_are)
           (g.after es now old.queueing later waits (sym at) (sym time) s goes);
       displays_are = g.displays_are;
       gone_are = g.gone_are;
@@ -117,13 +117,13 @@ idle_on old later new b answer now place clk waits time at is reply g =
     g)
 
 -- a pump that is idle is due nothing
-pub not_idle : (es : List Effect) (q : Queue) (r : Routing) (now clk : ℕ) → StandsFor r.displays es (kept q r) → slice_get q.waiting 0 ≡ None
+pub not_idle : (es : List Effect) (q : Queue) (r : Routing) (now clk : ℕ) → KeptStandsFor r.displays es (kept q r) → slice_get q.waiting 0 ≡ None
     → clk ≡ max now q.clock → is_due (due_of r.repeat) clk ≡ true → IsCalm es (Pump now) → ⊥
 not_idle es q r now clk s none time due calm =
     let same : Repeated ≡ Idle = idle_reply es now q clk r true none (sym time) s due ∙ calm in absurd (cc same)
 
 -- the other calls that need no memory
-pub needs_none : (es : List Effect) (q : Queue) (r : Routing) (call : Call) (now clk : ℕ) → StandsFor r.displays es (kept q r)
+pub needs_none : (es : List Effect) (q : Queue) (r : Routing) (call : Call) (now clk : ℕ) → KeptStandsFor r.displays es (kept q r)
     → now ≡ moment_of call → clk ≡ max now q.clock → is_routed call ≡ true → IsCalm es call → NeedsNone call clk r
 needs_none es q r (Open limit) now clk s m time routed calm = calm
 needs_none es q r (Windows n shown) now clk s m time routed calm = calm

@@ -17,13 +17,13 @@ use Rattle.dispatch_history.specs.Effect.{Effect, past_of}
 use Rattle.dispatch_history.specs.Step.{scene, step_of}
 use Rattle.dispatch_tables.proofs.Keeping.{kept_facts}
 use Rattle.dispatcher.specs.Pointing.{step_at}
-use Rattle.dispatcher.specs.Knows.{Kept, StandsFor}
+use Rattle.dispatcher.specs.Knows.{Kept, KeptStandsFor}
 use Rattle.dispatcher.specs.RoundLaws.{SeesLaw, MotionStepLaw, OtherStepsLaw, TimelyLaw, SameFocusLaw}
 use Rattle.dispatcher.proofs.ShownLaws.{touches_scene_law}
 use Rattle.dispatcher.proofs.Listing.{listed_law}
 
 -- what a pump dispatches, by what waits
-dispatches : (ds : List ℕ) (es : List Effect) (k : Kept) (now : ℕ) (a : Args) → StandsFor ds es k → slice_get k.queue.waiting 0 ≡ Some a
+dispatches : (ds : List ℕ) (es : List Effect) (k : Kept) (now : ℕ) (a : Args) → KeptStandsFor ds es k → slice_get k.queue.waiting 0 ≡ Some a
     → step_at (Pump now) Dispatched es ≡ step_of (snapshot (past_of es)) (Pump now) Dispatched (Some a)
 dispatches ds es k now a s e =
     ap (step_of (snapshot (past_of es)) (Pump now) Dispatched) (ap (λ ws. slice_get ws 0) (sym s.knows.queue.waiting_is) ∙ e)

@@ -31,7 +31,7 @@ use Rattle.dispatcher.specs.Queue.{QueueGoes}
 use Rattle.dispatcher.specs.Shown.{ShownGoes}
 use Rattle.dispatcher.specs.Pointing.{TouchesGo}
 use Rattle.dispatcher.specs.Input.{InputIs, InputGoes}
-use Rattle.dispatcher.specs.Knows.{Kept, StandsFor}
+use Rattle.dispatcher.specs.Knows.{Kept, KeptStandsFor}
 use Rattle.dispatcher.specs.Staying.{delivery_of}
 use Rattle.dispatcher.specs.Tracking.{bodies_at}
 use Rattle.dispatcher.proofs.Inputs.{input_quiet}
@@ -59,7 +59,7 @@ pub record Parts (ds : List ℕ) (call : Call) (answer : Reply) (es : List Effec
 
 -- What is told goes one step on with the channels, whatever the step: bodies that are those of the step for each live window.
 pub record TellsOf (ds : List ℕ) (call : Call) (answer : Reply) (es : List Effect) (k later : Kept) (told : ℕ → List Body) (t p u : Table) (changed : ℕ) : Type 0 where
-  pub stands : StandsFor ds es k
+  pub stands : KeptStandsFor ds es k
   pub delivery_was : k.delivery ≡ delivery_of t
   pub reply_is : answer ≡ reply_to es call
   pub rises : RisesIn call
@@ -81,7 +81,7 @@ lives_then ds call answer es now t p new l was x c =
 
 pub tells_goes : (ds : List ℕ) (call : Call) (answer : Reply) (es : List Effect) (k later : Kept) (told : ℕ → List Body) (t p u : Table) (changed : ℕ) (new : ℕ → Bool)
     → TellsOf ds call answer es k later told t p u changed → Parts ds call answer es later.queue.clock t p new
-    → StandsFor ds (step ds call answer es) later
+    → KeptStandsFor ds (step ds call answer es) later
 tells_goes ds call answer es k later told t p u changed new o x =
     stands_next ds call answer es k later o.stands o.reply_is o.rises
     (record {

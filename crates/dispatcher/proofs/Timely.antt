@@ -7,7 +7,7 @@ use Rattle.dispatch_channels.specs.Changes.{named_in}
 use Rattle.dispatch_history.specs.Effect.{Effect}
 use Rattle.dispatch_tables.proofs.Ables.{live_number}
 use Rattle.dispatch_round.specs.Rounds.{IsTimely}
-use Rattle.dispatcher.specs.Knows.{StandsFor}
+use Rattle.dispatcher.specs.Knows.{KeptStandsFor}
 use Rattle.dispatcher.specs.Queue.{Queue}
 use Rattle.dispatcher.proofs.Replies.{live_by}
 use Rattle.dispatcher.proofs.Stepping.{timely_law}
@@ -24,7 +24,7 @@ timely_room clock t u same h c lives =
     subst (NoneAfter clock) is (h c from)
 
 -- by what the tables stand for
-pub timely : (ds : List ℕ) (es : List Effect) (q : Queue) (r : Routing) (now clock : ℕ) → StandsFor ds es (kept q r) → clock ≡ max now q.clock
+pub timely : (ds : List ℕ) (es : List Effect) (q : Queue) (r : Routing) (now clock : ℕ) → KeptStandsFor ds es (kept q r) → clock ≡ max now q.clock
     → IsTimely clock r.channels
 timely ds es q r now clock s e c lives =
     let number = live_number ds es c s.lawful (sym (live_by es (kept q r).delivery c s.knows.delivery) ∙ lives) in

@@ -10,7 +10,6 @@ use Rattle.routing_rules.specs.Scene.{Scene, Step}
 use Rattle.routing_rules.specs.Taking.{takes, pilfers}
 use Rattle.touch_state.specs.Touches.{Touches}
 use Rattle.route_split.specs.declared.mark.Mark.{Mark}
-use Rattle.route_split.specs.declared.mark.Mark.TheVariants.{Rests}
 use Rattle.route_split.specs.Tables.{ChangesAll}
 use Rattle.route_split.specs.Marking.{gives, taking}
 use Rattle.key_tables.specs.Repeats.{repeat_after}
@@ -32,15 +31,6 @@ pub record TellsRound (round : Round) (touches : List Touches) (origins : List P
   pub tells :
       (s : Scene) (e : Step)
       → IsRound s e touches round → AllHoldPointers s old → TellsAll changed (told_in round s e) origins clock old new
-
--- nothing changes but that the tables of touches count the step
-pub record Rested (place : ℕ) (old new : Routing) : Type 0 where
-  pub touches : TakesMark Rests place old.touches new.touches
-  pub displays_are : new.displays ≡ old.displays
-  pub shown_is : new.shown ≡ old.shown
-  pub channels_are : new.channels ≡ old.channels
-  pub focus_is : new.focus ≡ old.focus
-  pub repeat_is : new.repeat ≡ old.repeat
 
 -- a round is carried out: windows are told it, pointers change hands, and the last key message is kept
 pub record CarriesOut (round : Round) (place clock : ℕ) (old new : Routing) : Type 0 where

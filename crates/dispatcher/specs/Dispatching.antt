@@ -8,7 +8,7 @@ use Rattle.dispatch_history.specs.Effect.{Effect}
 use Rattle.dispatcher.specs.Queue.{Queue}
 use Rattle.dispatcher.specs.Shown.{Shown}
 use Rattle.dispatcher.specs.Knows.{Kept}
-use Rattle.dispatcher.specs.Knows.{StandsFor as Stands}
+use Rattle.dispatcher.specs.Knows.{KeptStandsFor}
 use Rattle.dispatcher.specs.Seen.{kept_of}
 
 -- the displays of the devices, and all tables; of the channels but for the room that they have
@@ -40,7 +40,7 @@ kept d = kept_of d.queue d.shown d.touches d.channels d.focus d.repeat
 
 -- it stands for a legal history with these effects
 abbrev pub StandsFor : List Effect → Dispatching → Type 0
-StandsFor es d = Stands d.displays es (kept d)
+StandsFor es d = KeptStandsFor d.displays es (kept d)
 
 -- it stands for some history
 abbrev pub IsOfHistory : Dispatching → Type 0

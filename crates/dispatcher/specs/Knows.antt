@@ -45,7 +45,7 @@ pub record Knows (displays : List ℕ) (es : List Effect) (k : Kept) : Type 0 wh
   pub keying : KeyingIs es k.focus k.repeat
 
 -- it stands for a history that is legal, in which the pointers of each motion have rising ids
-pub record StandsFor (displays : List ℕ) (es : List Effect) (k : Kept) : Type 0 where
+pub record KeptStandsFor (displays : List ℕ) (es : List Effect) (k : Kept) : Type 0 where
   pub lawful : Lawful displays es
   pub rise : AllRise (past_of es)
   pub knows : Knows displays es k

@@ -29,7 +29,7 @@ use Rattle.focus_resolver.specs.Resolver.{FocusState}
 use Rattle.key_repeat.specs.Due.{Sent}
 use Rattle.key_tables.specs.Focused.{leaves_focus}
 use Rattle.dispatcher.specs.Input.{InputIs, InputGoes}
-use Rattle.dispatcher.specs.Knows.{Kept, KeyingIs, StandsFor, Goes}
+use Rattle.dispatcher.specs.Knows.{Kept, KeyingIs, KeptStandsFor, Goes}
 use Rattle.dispatcher.specs.Pointing.{TouchesAre, TouchesGo, PointersAre, PointersGo}
 use Rattle.dispatcher.specs.First.{IsFirst}
 use Rattle.dispatcher.specs.Replying.{reply_by, IsOfDevice}
@@ -117,8 +117,8 @@ KeyingQuiet =
 abbrev pub GoesLaw : Type 0
 GoesLaw =
     (displays : List ℕ) (call : Call) (answer : Reply) (es : List Effect) (k later : Kept)
-    → StandsFor displays es k → answer ≡ reply_to es call → RisesIn call → Goes displays call answer es k later
-    → StandsFor displays (step displays call answer es) later
+    → KeptStandsFor displays es k → answer ≡ reply_to es call → RisesIn call → Goes displays call answer es k later
+    → KeptStandsFor displays (step displays call answer es) later
 
 -- Args that are planned are taken.
 abbrev pub TakenLaw : Type 0
@@ -136,7 +136,7 @@ RefusedLaw =
 
 -- What is kept before the first call stands for no calls.
 abbrev pub KnowsFirst : Type 0
-KnowsFirst = (displays : List ℕ) (k : Kept) → IsFirst k → StandsFor displays [] k
+KnowsFirst = (displays : List ℕ) (k : Kept) → IsFirst k → KeptStandsFor displays [] k
 
 -- What a step tells a window, in display pixels and tracked body by body, is what it makes of what the window was told.
 abbrev pub TracksAllLaw : Type 0
@@ -150,13 +150,13 @@ ListedLaw = (displays : List ℕ) (es : List Effect) (d : ℕ) → Lawful displa
 
 -- Each call is answered by what is kept.
 abbrev pub ReplyLaw : Type 0
-ReplyLaw = (displays : List ℕ) (es : List Effect) (k : Kept) (call : Call) → StandsFor displays es k → IsOfDevice call → reply_to es call ≡ reply_by k call
+ReplyLaw = (displays : List ℕ) (es : List Effect) (k : Kept) (call : Call) → KeptStandsFor displays es k → IsOfDevice call → reply_to es call ≡ reply_by k call
 
 -- A tick is answered with the mask of the channels that are due at the clock that it makes.
 abbrev pub TickReplyLaw : Type 0
 TickReplyLaw =
     (displays : List ℕ) (es : List Effect) (k : Kept) (now mask : ℕ)
-    → StandsFor displays es k
+    → KeptStandsFor displays es k
     → mask < 2 ^ 64
     → ((c : ℕ) → mask_has mask c ≡ is_due (due_kept k.delivery c) (max now k.queue.clock))
     → reply_to es (Tick now) ≡ Named mask
@@ -166,13 +166,13 @@ TickReplyLaw =
 abbrev pub RestsLaw : Type 0
 RestsLaw =
     (displays : List ℕ) (call : Call) (answer : Reply) (es : List Effect) (k later : Kept)
-    → StandsFor displays es k → answer ≡ reply_to es call → RisesIn call
+    → KeptStandsFor displays es k → answer ≡ reply_to es call → RisesIn call
     → is_resting call answer ≡ true → Stays call answer k later
-    → StandsFor displays (step displays call answer es) later
+    → KeptStandsFor displays (step displays call answer es) later
 
 -- A tick that names nobody leaves all as it is, too.
 abbrev pub TickIdleLaw : Type 0
 TickIdleLaw =
     (displays : List ℕ) (now : ℕ) (es : List Effect) (k later : Kept)
-    → StandsFor displays es k → Named 0 ≡ reply_to es (Tick now) → Stays (Tick now) (Named 0) k later
-    → StandsFor displays (step displays (Tick now) (Named 0) es) later
+    → KeptStandsFor displays es k → Named 0 ≡ reply_to es (Tick now) → Stays (Tick now) (Named 0) k later
+    → KeptStandsFor displays (step displays (Tick now) (Named 0) es) later

@@ -9,29 +9,29 @@ use Rattle.dispatch_history.specs.Effects.{step}
 use Rattle.dispatch_history.specs.Reply.{reply_to}
 use Rattle.dispatch_channels.specs.Table.{Table, channel_of, with_channel}
 use Rattle.dispatch_channels.specs.Changes.{finished_in}
-use Rattle.dispatcher.specs.Knows.{Kept, StandsFor}
+use Rattle.dispatcher.specs.Knows.{Kept, KeptStandsFor}
 use Rattle.dispatcher.specs.Staying.{StaysBut, delivery_of}
 
 -- The owner of a channel gets its next message, which is received.
 abbrev pub GotLaw : Type 0
 GotLaw =
     (displays : List ℕ) (c : ℕ) (m : Message) (es : List Effect) (k later : Kept) (t u : Table)
-    → StandsFor displays es k
+    → KeptStandsFor displays es k
     → Got m ≡ reply_to es (Receive c)
     → StaysBut (Receive c) (Got m) k later
     → k.delivery ≡ delivery_of t
     → later.delivery ≡ delivery_of u
     → u ≡ with_channel c (received_one (channel_of t c)) t
-    → StandsFor displays (step displays (Receive c) (Got m) es) later
+    → KeptStandsFor displays (step displays (Receive c) (Got m) es) later
 
 -- The owner of a channel is done with a message, which is finished at the clock after the step.
 abbrev pub DoneLaw : Type 0
 DoneLaw =
     (displays : List ℕ) (now c seq : ℕ) (es : List Effect) (k later : Kept) (t u : Table)
-    → StandsFor displays es k
+    → KeptStandsFor displays es k
     → Done ≡ reply_to es (Finish now c seq)
     → StaysBut (Finish now c seq) Done k later
     → k.delivery ≡ delivery_of t
     → later.delivery ≡ delivery_of u
     → u ≡ finished_in c seq later.queue.clock t
-    → StandsFor displays (step displays (Finish now c seq) Done es) later
+    → KeptStandsFor displays (step displays (Finish now c seq) Done es) later

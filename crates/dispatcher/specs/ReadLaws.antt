@@ -22,7 +22,7 @@ use Rattle.dispatch_history.specs.Step.{marks}
 use Rattle.dispatch_tables.specs.Dues.{due_moment, due_pair}
 use Rattle.dispatch_channels.specs.Table.{Table, opened, channel_of, input_of, with_channel, but_for_room, due_moment as due_in_table}
 use Rattle.dispatch_channels.specs.Changes.{counts_in}
-use Rattle.dispatcher.specs.Knows.{Kept, StandsFor}
+use Rattle.dispatcher.specs.Knows.{Kept, KeptStandsFor}
 use Rattle.dispatcher.specs.Staying.{delivery_of}
 
 -- all that is kept but for the channels is the same
@@ -37,20 +37,20 @@ pub record SameBut (k later : Kept) : Type 0 where
 abbrev pub RoomLaw : Type 0
 RoomLaw =
     (displays : List ℕ) (es : List Effect) (k later : Kept) (t u : Table)
-    → StandsFor displays es k
+    → KeptStandsFor displays es k
     → SameBut k later
     → k.delivery ≡ delivery_of t
     → k.inputs ≡ input_of t
     → later.delivery ≡ delivery_of u
     → later.inputs ≡ input_of u
     → but_for_room u ≡ but_for_room t
-    → StandsFor displays es later
+    → KeptStandsFor displays es later
 
 -- So do those of which messages are let go that were received; those that were not are left.
 abbrev pub LetGoLaw : Type 0
 LetGoLaw =
     (displays : List ℕ) (es : List Effect) (k later : Kept) (t u : Table) (c : ℕ)
-    → StandsFor displays es k
+    → KeptStandsFor displays es k
     → SameBut k later
     → k.delivery ≡ delivery_of t
     → later.delivery ≡ delivery_of u
@@ -58,7 +58,7 @@ LetGoLaw =
     → 1 ≤ c
     → c ≤ opened t
     → u ≡ with_channel c (let_go_of (channel_of t c)) t
-    → StandsFor displays es later
+    → KeptStandsFor displays es later
     × ((channel_of u c).messages ≡ drop (received (past_of es) c) (reverse (stream es c)))
 
 -- what is read of the channels
@@ -81,7 +81,7 @@ pub record ReadsChannels (es : List Effect) (k : Kept) (t : Table) : Type 0 wher
 abbrev pub ReadsChannelsLaw : Type 0
 ReadsChannelsLaw =
     (displays : List ℕ) (es : List Effect) (k : Kept) (t : Table)
-    → StandsFor displays es k → k.delivery ≡ delivery_of t → ReadsChannels es k t
+    → KeptStandsFor displays es k → k.delivery ≡ delivery_of t → ReadsChannels es k t
 
 -- what is read of the clock and of repeats
 pub record ReadsMoments (es : List Effect) (k : Kept) : Type 0 where
@@ -90,7 +90,7 @@ pub record ReadsMoments (es : List Effect) (k : Kept) : Type 0 where
 
 -- The clock, and when a repeat is due.
 abbrev pub ReadsMomentsLaw : Type 0
-ReadsMomentsLaw = (displays : List ℕ) (es : List Effect) (k : Kept) → StandsFor displays es k → ReadsMoments es k
+ReadsMomentsLaw = (displays : List ℕ) (es : List Effect) (k : Kept) → KeptStandsFor displays es k → ReadsMoments es k
 
 -- who holds what, since when, and who is pilfering which device, by the tables; who holds something is live, able and shown on the display
 -- of the device
@@ -105,14 +105,14 @@ pub record ReadsTouches (displays : List ℕ) (es : List Effect) (ts : List Touc
 
 -- The tables of touches are read as the history says.
 abbrev pub ReadsTouchesLaw : Type 0
-ReadsTouchesLaw = (displays : List ℕ) (es : List Effect) (k : Kept) → StandsFor displays es k → ReadsTouches displays es k.touches
+ReadsTouchesLaw = (displays : List ℕ) (es : List Effect) (k : Kept) → KeptStandsFor displays es k → ReadsTouches displays es k.touches
 
 -- What is kept of a live window are the pointers that it holds, at their last places, and the keys that it holds, each with its last
 -- message.
 abbrev pub ReadsInputsLaw : Type 0
 ReadsInputsLaw =
     (displays : List ℕ) (es : List Effect) (k : Kept) (w : ℕ)
-    → StandsFor displays es k
+    → KeptStandsFor displays es k
     → live (past_of es) w ≡ true
     → ((d : ℕ) → 1 ≤ d → d ≤ 8 → pointers_of (k.inputs w) d ≡ listing (has (held (marks es)) w d) (last es d))
     × KeysAre es w (k.inputs w).keys

@@ -38,7 +38,7 @@ use Rattle.dispatch_round.specs.declared.round.Round.{Round}
 use Rattle.dispatch_round.specs.Rounds.{IsStepIn, IsRound, AllHoldPointers, told_in}
 use Rattle.dispatch_round.specs.Told.{TellsAll}
 use Rattle.dispatcher.specs.Pointing.{step_at}
-use Rattle.dispatcher.specs.Knows.{Kept, StandsFor}
+use Rattle.dispatcher.specs.Knows.{Kept, KeptStandsFor}
 use Rattle.dispatcher.specs.Staying.{delivery_of}
 use Rattle.dispatcher.specs.Telling.{parted_in, is_telling, told_target, AreKeys, TellsFocus, Refocuses, OpensWith, GoesRound, GoesRemoved}
 use Rattle.dispatcher.specs.Tracking.{bodies_at}
@@ -55,7 +55,7 @@ SaidLaw =
 abbrev pub RoundLaw : Type 0
 RoundLaw =
     (displays : List ℕ) (call : Call) (answer : Reply) (es : List Effect) (k later : Kept) (r : Round) (first t u : Table) (changed : ℕ)
-    → StandsFor displays es k
+    → KeptStandsFor displays es k
     → k.delivery ≡ delivery_of first
     → k.inputs ≡ input_of first
     → but_for_room t ≡ but_for_room first
@@ -70,7 +70,7 @@ RoundLaw =
     → TellsAll changed (told_in r s e) k.shown.origins later.queue.clock (parted_in call answer later.queue.clock t) u)
     → later.delivery ≡ delivery_of u
     → later.inputs ≡ input_of u
-    → StandsFor displays (step displays call answer es) later
+    → KeptStandsFor displays (step displays call answer es) later
 
 -- A round lets no messages go.
 abbrev pub GoneLaw : Type 0
@@ -85,7 +85,7 @@ GoneLaw =
 abbrev pub OpenLaw : Type 0
 OpenLaw =
     (displays : List ℕ) (limit number : ℕ) (es : List Effect) (k later : Kept) (r : Round) (t p u : Table) (changed : ℕ)
-    → StandsFor displays es k
+    → KeptStandsFor displays es k
     → k.delivery ≡ delivery_of t
     → k.inputs ≡ input_of t
     → Opened number ≡ reply_to es (Open limit)
@@ -96,19 +96,19 @@ OpenLaw =
     → IsRound s e k.touches r → AllHoldPointers s p → TellsAll changed (told_in r s e) k.shown.origins later.queue.clock p u)
     → later.delivery ≡ delivery_of u
     → later.inputs ≡ input_of u
-    → StandsFor displays (step displays (Open limit) (Opened number) es) later
+    → KeptStandsFor displays (step displays (Open limit) (Opened number) es) later
 
 -- The table of channels opens one so.
 abbrev pub OpensLaw : Type 0
 OpensLaw =
     (limit number : ℕ) (old new : Table)
-    → length old.inputs ≡ opened old → Opens limit number old new → OpensWith limit number old new
+    → Opens limit number old new → OpensWith limit number old new
 
 -- Where a channel is opened it alone can gain the focus, and nobody loses it.
 abbrev pub OpenFocusLaw : Type 0
 OpenFocusLaw =
     (displays : List ℕ) (es : List Effect) (k : Kept) (later : FocusState) (number gained : ℕ)
-    → StandsFor displays es k
+    → KeptStandsFor displays es k
     → mask_has k.delivery.live number ≡ false
     → Refocuses k.shown.windows (mask_with k.delivery.live number) k.focus later
     → IsOnlyIn gained (is_focused (focus_of later)) (is_focused (focus_of k.focus))
@@ -118,7 +118,7 @@ OpenFocusLaw =
 abbrev pub OpenKeysLaw : Type 0
 OpenKeysLaw =
     (displays : List ℕ) (es : List Effect) (k : Kept) (later : FocusState) (limit number channel : ℕ)
-    → StandsFor displays es k
+    → KeptStandsFor displays es k
     → Refocuses k.shown.windows (mask_with k.delivery.live number) k.focus later
     → ((t : ℕ) → target_of k.focus ≡ Some t → channel ≡ t)
     → AreKeys (target_of k.focus) (mask_with k.delivery.live number) (told_target (Open limit) (Opened number) k later) channel []
@@ -127,25 +127,25 @@ OpenKeysLaw =
 abbrev pub TargetLiveLaw : Type 0
 TargetLiveLaw =
     (displays : List ℕ) (es : List Effect) (k : Kept) (t : ℕ)
-    → StandsFor displays es k → target_of k.focus ≡ Some t → mask_has k.delivery.live t ≡ true
+    → KeptStandsFor displays es k → target_of k.focus ≡ Some t → mask_has k.delivery.live t ≡ true
 
 -- The same of a step that removes a channel: nobody is told anything.
 abbrev pub RemoveLaw : Type 0
 RemoveLaw =
     (displays : List ℕ) (now channel : ℕ) (es : List Effect) (k later : Kept) (t : Table)
-    → StandsFor displays es k
+    → KeptStandsFor displays es k
     → k.delivery ≡ delivery_of t
     → k.inputs ≡ input_of t
     → Done ≡ reply_to es (Remove now channel)
     → GoesRemoved now channel t k later
-    → StandsFor displays (step displays (Remove now channel) Done es) later
+    → KeptStandsFor displays (step displays (Remove now channel) Done es) later
 
 -- The scene of a history has the windows that are kept, the channels that a device can reach, where the mask has the live ones that are
 -- shown on its display, and those that are able to take input.
 abbrev pub SeesLaw : Type 0
 SeesLaw =
     (displays : List ℕ) (es : List Effect) (k : Kept) (device reach : ℕ)
-    → StandsFor displays es k
+    → KeptStandsFor displays es k
     → ((c : ℕ) → mask_has reach c ≡ (mask_has k.delivery.live c && is_shown_on k.shown.windows (device_display displays device) c))
     → Sees (scene displays es) k.shown.windows reach k.delivery.able device
 
@@ -153,7 +153,7 @@ SeesLaw =
 abbrev pub MotionStepLaw : Type 0
 MotionStepLaw =
     (displays : List ℕ) (now : ℕ) (es : List Effect) (k : Kept) (m : Motion) (by : Mark) (watchers reach : ℕ)
-    → StandsFor displays es k
+    → KeptStandsFor displays es k
     → slice_get k.queue.waiting 0 ≡ Some (MotionArgs m)
     → ((c : ℕ) → mask_has reach c ≡ (mask_has k.delivery.live c && is_shown_on k.shown.windows (device_display displays m.device) c))
     → ((s : Scene) → Stands s k.touches → Sees s k.shown.windows reach k.delivery.able m.device → IsMark k.touches by (rule_mark s (Moves m)))
@@ -189,13 +189,13 @@ pub record OtherSteps (displays : List ℕ) (es : List Effect) (k : Kept) : Type
 
 -- Each other step is that of a mark which code can say.
 abbrev pub OtherStepsLaw : Type 0
-OtherStepsLaw = (displays : List ℕ) (es : List Effect) (k : Kept) → StandsFor displays es k → OtherSteps displays es k
+OtherStepsLaw = (displays : List ℕ) (es : List Effect) (k : Kept) → KeptStandsFor displays es k → OtherSteps displays es k
 
 -- No message was delivered after a clock that is not before the one that is kept.
 abbrev pub TimelyLaw : Type 0
 TimelyLaw =
     (displays : List ℕ) (es : List Effect) (k : Kept) (c clock : ℕ)
-    → StandsFor displays es k
+    → KeptStandsFor displays es k
     → k.queue.clock ≤ clock
     → 1 ≤ c
     → c ≤ k.delivery.count

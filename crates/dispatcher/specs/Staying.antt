@@ -1,9 +1,5 @@
 -- Steps that change nothing, or the channels alone.
 use Rattle.std.specs.Prelude.{◌≡◌}
-use Rattle.routing_rules.specs.Taking.{takes, pilfers}
-use Rattle.route_split.specs.declared.mark.Mark.TheVariants.{Rests}
-use Rattle.route_split.specs.Tables.{ChangesAll}
-use Rattle.route_split.specs.Marking.{gives, taking}
 use Rattle.dispatch_calls.specs.declared.call.Call.{Call}
 use Rattle.dispatch_calls.specs.declared.reply.Reply.{Reply}
 use Rattle.dispatch_channels.specs.Table.{Table, opened, channel_of}
@@ -15,13 +11,11 @@ use Rattle.dispatcher.specs.Knows.{Kept}
 abbrev pub delivery_of : Table → Delivery
 delivery_of t = record { count = opened t; channel = channel_of t; live = t.live; able = t.able; noted = t.namings }
 
--- The queue goes on, and the tables of touches rest at the place of the step. Neither windows nor the focus nor the last key message
--- change, nor anything that a window was told.
+-- The queue goes on. Neither windows nor who holds what nor the focus nor the last key message change, nor anything that a window was told.
 pub record StaysBut (call : Call) (answer : Reply) (k later : Kept) : Type 0 where
   pub queue : QueueGoes call answer k.queue later.queue
   pub shown_is : later.shown ≡ k.shown
-  pub touches :
-      ChangesAll k.touches later.touches (gives Rests) (takes (taking k.touches Rests)) k.queue.place (pilfers (taking k.touches Rests))
+  pub touches_are : later.touches ≡ k.touches
   pub inputs_are : later.inputs ≡ k.inputs
   pub focus_is : later.focus ≡ k.focus
   pub repeat_is : later.repeat ≡ k.repeat

@@ -9,7 +9,7 @@ use Rattle.dispatch_history.specs.Effect.{Effect}
 use Rattle.dispatch_history.specs.Effects.{step}
 use Rattle.dispatch_history.specs.History.{moment_of}
 use Rattle.dispatcher.specs.Knows.{Kept}
-use Rattle.dispatcher.specs.Knows.{StandsFor as Stands}
+use Rattle.dispatcher.specs.Knows.{KeptStandsFor}
 use Rattle.dispatcher.specs.Queue.{Queue, QueueGoes}
 use Rattle.dispatcher.specs.declared.tables.Routing.{Routing}
 use Rattle.dispatcher.specs.declared.tables.Tables.{Tables}
@@ -20,8 +20,8 @@ abbrev pub kept : Queue → Routing → Kept
 kept q r = kept_of q r.shown r.touches r.channels r.focus r.repeat
 
 -- the tables stand for a legal history with these effects
-abbrev pub StandsFor : List Effect → Tables → Type 0
-StandsFor es t = Stands t.routing.displays es (kept t.queueing t.routing)
+abbrev pub TablesStandFor : List Effect → Tables → Type 0
+TablesStandFor es t = KeptStandsFor t.routing.displays es (kept t.queueing t.routing)
 
 -- of each channel as many messages were let go as before
 abbrev pub LetsNoneGo : (old new : Table) → Type 0
@@ -33,8 +33,8 @@ pub record Goes (call : ℕ → Call) (answer : Reply) (place clock : ℕ) (old 
   pub after :
       (es : List Effect) (now : ℕ) (queue later : Queue)
       → queue.place ≡ place → max (moment_of (call now)) queue.clock ≡ clock
-      → Stands old.displays es (kept queue old) → QueueGoes (call now) answer queue later
-      → Stands old.displays (step old.displays (call now) answer es) (kept later new)
+      → KeptStandsFor old.displays es (kept queue old) → QueueGoes (call now) answer queue later
+      → KeptStandsFor old.displays (step old.displays (call now) answer es) (kept later new)
   pub displays_are : new.displays ≡ old.displays
   pub gone_are : LetsNoneGo old.channels new.channels
 
@@ -43,8 +43,8 @@ pub record GoesAs (call : Call) (answer : Reply) (place clock : ℕ) (old new : 
   pub after :
       (es : List Effect) (queue later : Queue)
       → queue.place ≡ place → max (moment_of call) queue.clock ≡ clock
-      → Stands old.displays es (kept queue old) → QueueGoes call answer queue later
-      → Stands old.displays (step old.displays call answer es) (kept later new)
+      → KeptStandsFor old.displays es (kept queue old) → QueueGoes call answer queue later
+      → KeptStandsFor old.displays (step old.displays call answer es) (kept later new)
   pub displays_are : new.displays ≡ old.displays
   pub gone_are : LetsNoneGo old.channels new.channels
 
@@ -53,8 +53,8 @@ pub record Pumps (first : Option Args) (answer : Reply) (place clock : ℕ) (old
   pub after :
       (es : List Effect) (now : ℕ) (queue later : Queue)
       → slice_get queue.waiting 0 ≡ first → queue.place ≡ place → max now queue.clock ≡ clock
-      → Stands old.displays es (kept queue old) → QueueGoes (Pump now) answer queue later
-      → Stands old.displays (step old.displays (Pump now) answer es) (kept later new)
+      → KeptStandsFor old.displays es (kept queue old) → QueueGoes (Pump now) answer queue later
+      → KeptStandsFor old.displays (step old.displays (Pump now) answer es) (kept later new)
   pub displays_are : new.displays ≡ old.displays
   pub gone_are : LetsNoneGo old.channels new.channels
 
@@ -67,7 +67,7 @@ SameButRoom old new =
 -- the tables may go one step on: they stand for some history, and the number of its steps is not the greatest
 pub record MayStep (t : Tables) : Type 0 where
   pub history : List Effect
-  pub stands : StandsFor history t
+  pub stands : TablesStandFor history t
   pub place : t.queueing.place < 2 ^ 64 - 1
 
 -- the call hands in no args, and dispatches none
@@ -85,7 +85,7 @@ is_owned call = false
 
 -- all tables went one step on: whatever they stood for, they stand for it with this step more
 pub record GoesOn (call : Call) (answer : Reply) (old new : Tables) : Type 0 where
-  pub after : (es : List Effect) → StandsFor es old → StandsFor (step old.routing.displays call answer es) new
+  pub after : (es : List Effect) → TablesStandFor es old → TablesStandFor (step old.routing.displays call answer es) new
   pub displays_are : new.routing.displays ≡ old.routing.displays
   pub gone_are : LetsNoneGo old.routing.channels new.routing.channels
 

@@ -3,22 +3,19 @@ ghost use Rattle.std.specs.Prelude.{◌≡◌, ◌<◌, ◌^◌, true, false, Li
 ghost use Rattle.std.specs.Prelude.{IfOk, OnOk, OnErr, IsOk, IfSome};
 ghost use Rattle.dispatch_calls.specs.declared.call.Call.TheVariants.{Notify, Pump};
 ghost use Rattle.dispatch_history.specs.Effect.{Effect};
-ghost use Rattle.dispatch_history.specs.History.{moment_of};
 ghost use Rattle.dispatch_history.specs.PointerOf.{RisesIn};
 ghost use Rattle.dispatch_round.specs.Rounds.{IsTimely};
 ghost use Rattle.dispatch_calls.specs.declared.reply.Reply.TheVariants.{Inconsistent, Dispatched, Repeated, Idle};
 ghost use Rattle.dispatcher.specs.Memory.{IsCalm, MayCount};
 ghost use Rattle.dispatcher.specs.Needing.{NeedsNone};
-ghost use Rattle.dispatcher.specs.Tables.{StandsFor, MayStep, GoesAs, Pumps, GoesOn, is_routed, is_owned};
+ghost use Rattle.dispatcher.specs.Tables.{TablesStandFor, MayStep, GoesAs, Pumps, GoesOn, is_routed, is_owned};
 ghost use Rattle.dispatcher.specs.Tables.{SameButRoom, SameAll};
 
-use crate::carry::rest;
 use crate::focusing::{open, request, show};
-use crate::keys::{repeat, route_key, route_reset};
+use crate::key_steps::{repeat, route_key, route_reset};
 use crate::motions::{pilfer, route_motion};
 use crate::naming::tick;
 use crate::owners::{finish, receive, remove};
-use crate::queueing::later;
 use crate::tables::{Routing, Tables};
 use dispatch_calls::{Call, Reply};
 use input_types::{Args, Moment};
@@ -26,10 +23,10 @@ use std::alloc::AllocError;
 
 /// Answers a call. Without memory nothing changes but the room that channels have.
 pub(crate) fn apply(tables: &mut Tables, call: &Call) -> Result<Reply, AllocError>
-    requires { (es : List Effect) × StandsFor es tables.old }
+    requires { (es : List Effect) × TablesStandFor es tables.old }
     ensures ok { IfOk result (λ answer. GoesOn call.now answer tables.old tables.new) }
     ensures err { OnErr result (SameAll tables.old tables.new) }
-    ensures calm { (es : List Effect) → StandsFor es tables.old → MayCount es → IsCalm es call.now → IsOk result }
+    ensures calm { (es : List Effect) → TablesStandFor es tables.old → MayCount es → IsCalm es call.now → IsOk result }
 {
     if tables.queueing.place() == u64::MAX {
         return Err(AllocError);
@@ -49,17 +46,14 @@ fn notify(tables: &mut Tables, now: Moment, args: &Args) -> Result<Reply, AllocE
     ensures err { OnErr result (SameAll tables.old tables.new) }
 {
     rises(now, args);
-    let place = tables.queueing.place();
     match tables.queueing.plan(args) {
         Ok(change) => {
             tables.queueing.accept(now, args, &change)?;
-            rest(&mut tables.routing, place);
             Ok(Reply::Taken)
         }
         Err(refused) => {
             let reply = refusal(refused.pointers, refused.key_down);
             tables.queueing.step(now);
-            rest(&mut tables.routing, place);
             Ok(reply)
         }
     }
@@ -73,7 +67,8 @@ fn refusal(pointers: u32, key_down: bool) -> Reply
     Reply::Inconsistent { pointers, key_down }
 }
 
-/// The pointers of args have rising ids, as those of every motion.
+/// The pointers of args have rising ids, as those of every motion. It does nothing: of the list alone contracts do not
+/// see that, and the clause of a call on it says so.
 fn rises(now: Moment, args: &Args)
     ensures { RisesIn (Notify now args.now) }
 {
@@ -87,7 +82,7 @@ fn pump(tables: &mut Tables, now: Moment) -> Result<Reply, AllocError>
     requires { MayStep tables.old }
     ensures ok { IfOk result (λ answer. GoesOn (Pump now) answer tables.old tables.new) }
     ensures err { OnErr result (SameAll tables.old tables.new) }
-    ensures calm { (es : List Effect) → StandsFor es tables.old → IsCalm es (Pump now) → IsOk result }
+    ensures calm { (es : List Effect) → TablesStandFor es tables.old → IsCalm es (Pump now) → IsOk result }
 {
     if tables.queueing.first().is_none() {
         return idle(tables, now);
@@ -103,7 +98,7 @@ fn dispatch_first(tables: &mut Tables, now: Moment) -> Result<(), AllocError>
         (λ args. GoesOn (Pump now) Dispatched tables.old tables.new)) }
     ensures err { OnErr result (SameAll tables.old tables.new) }
 {
-    let clock = later(tables.queueing.clock(), now);
+    let clock = now.later(tables.queueing.clock());
     let place = tables.queueing.place();
     if let Some(args) = tables.queueing.first() {
         dispatch(&mut tables.routing, args, place, clock)?;
@@ -131,9 +126,9 @@ fn idle(tables: &mut Tables, now: Moment) -> Result<Reply, AllocError>
     requires none { slice_get tables.old.queueing.waiting 0 ≡ None }
     ensures ok { IfOk result (λ answer. GoesOn (Pump now) answer tables.old tables.new) }
     ensures err { OnErr result (SameAll tables.old tables.new) }
-    ensures calm { (es : List Effect) → StandsFor es tables.old → IsCalm es (Pump now) → IsOk result }
+    ensures calm { (es : List Effect) → TablesStandFor es tables.old → IsCalm es (Pump now) → IsOk result }
 {
-    let clock = later(tables.queueing.clock(), now);
+    let clock = now.later(tables.queueing.clock());
     let place = tables.queueing.place();
     match repeat(&mut tables.routing, place, clock) {
         Ok(is_due) => {
@@ -157,8 +152,8 @@ fn own(tables: &mut Tables, call: &Call) -> Reply
     requires owned { is_owned call.now ≡ true }
     ensures { GoesOn call.now result tables.old tables.new }
 {
-    let now = moment_of(call);
-    let clock = later(tables.queueing.clock(), now);
+    let now = call.moment();
+    let clock = now.later(tables.queueing.clock());
     let place = tables.queueing.place();
     tables.queueing.step(now);
     answer_owner(&mut tables.routing, call, place, clock)
@@ -171,9 +166,9 @@ fn answer_owner(routing: &mut Routing, call: &Call, place: u64, clock: Moment) -
     ensures { GoesAs call.now result place clock routing.old routing.new }
 {
     match call {
-        Call::Receive { channel } => receive(routing, *channel, place, clock),
-        Call::Finish { channel, seq, .. } => finish(routing, *channel, *seq, place, clock),
-        Call::Remove { channel, .. } => remove(routing, *channel, place, clock),
+        Call::Receive { channel } => receive(routing, *channel),
+        Call::Finish { channel, seq, .. } => finish(routing, *channel, *seq, clock),
+        Call::Remove { channel, .. } => remove(routing, *channel, place),
         _ => unreachable!(),
     }
 }
@@ -185,10 +180,10 @@ fn route(tables: &mut Tables, call: &Call) -> Result<Reply, AllocError>
     requires not_owned { is_owned call.now ≡ false }
     ensures ok { IfOk result (λ answer. GoesOn call.now answer tables.old tables.new) }
     ensures err { OnErr result (SameAll tables.old tables.new) }
-    ensures calm { (es : List Effect) → StandsFor es tables.old → IsCalm es call.now → IsOk result }
+    ensures calm { (es : List Effect) → TablesStandFor es tables.old → IsCalm es call.now → IsOk result }
 {
-    let now = moment_of(call);
-    let clock = later(tables.queueing.clock(), now);
+    let now = call.moment();
+    let clock = now.later(tables.queueing.clock());
     let place = tables.queueing.place();
     match answer(&mut tables.routing, call, place, clock) {
         Ok(reply) => {
@@ -196,23 +191,6 @@ fn route(tables: &mut Tables, call: &Call) -> Result<Reply, AllocError>
             Ok(reply)
         }
         Err(error) => Err(error),
-    }
-}
-
-/// What the call hands in as its moment, 0 where it hands in none.
-fn moment_of(call: &Call) -> Moment
-    ensures { result ≡ moment_of call.now }
-{
-    match call {
-        Call::Open { .. } | Call::Receive { .. } => Moment::zero(),
-        Call::Windows { now, .. }
-        | Call::FocusOn { now, .. }
-        | Call::Notify { now, .. }
-        | Call::Pump { now }
-        | Call::Tick { now }
-        | Call::Finish { now, .. }
-        | Call::Pilfer { now, .. }
-        | Call::Remove { now, .. } => *now,
     }
 }
 

@@ -1,25 +1,17 @@
 //! How a step is carried out.
-ghost use Rattle.std.specs.Prelude.{◌≡◌, ℕ, false, [], OnOk, OnErr, IsOk};
-ghost use Rattle.route_split.specs.declared.mark.Mark.{Mark as MarkView};
+ghost use Rattle.std.specs.Prelude.{◌≡◌, ℕ, false, OnOk, OnErr, IsOk};
 ghost use Rattle.route_split.specs.Marking.{IsWhole};
 ghost use Rattle.dispatch_round.specs.Rounds.{AreListeners, IsReady, IsTimely, is_concerned};
-ghost use Rattle.dispatcher.specs.Carrying.{Rested, IsSilent, CarriesOut, CarriesFrom, CarriesSome};
+ghost use Rattle.dispatcher.specs.Carrying.{IsSilent, CarriesOut, CarriesFrom, CarriesSome};
 ghost use Rattle.dispatcher.specs.Tables.{SameButRoom};
 
 use crate::tables::Routing;
-use dispatch_round::{Round, listeners, make_room, tell_all};
+use dispatch_round::{Round, make_room, tell_all};
 use focus_resolver::Change;
 use input_types::{KeyMsg, Moment};
 use key_tables::remember;
 use route_split::Mark;
 use std::alloc::AllocError;
-
-/// A step that tells nobody anything, and with which no pointer changes hands.
-pub(crate) fn rest(routing: &mut Routing, place: u64)
-    ensures { Rested place routing.old routing.new }
-{
-    let _none_lost = routing.touches.change(&Mark::Rests, place);
-}
 
 /// A round is carried out of which the windows of the mask `told` are told, for which there is room. Takes no memory.
 pub(crate) fn carry_out(routing: &mut Routing, told: u64, round: &Round, place: u64, clock: Moment)
@@ -86,24 +78,6 @@ pub(crate) fn tell_still(
         gained: change.gained,
     };
     tell(routing, &round, place, clock)
-}
-
-/// No window is told anything, and no pointer changes hands. Takes no memory.
-pub(crate) fn tell_nobody(routing: &mut Routing, place: u64, clock: Moment)
-    requires { IsTimely clock routing.old.channels }
-    ensures { CarriesSome MarkView.Rests [] 0 0 place clock routing.old routing.new }
-{
-    let round = Round {
-        mark: Mark::Rests,
-        motion: None,
-        watchers: 0,
-        target: routing.focus.target().unwrap_or(0),
-        keys: &[],
-        lost: 0,
-        gained: 0,
-    };
-    let told = listeners(&round, &routing.touches, &routing.channels);
-    carry_out(routing, told, &round, place, clock);
 }
 
 /// A change of the focus that is none.

@@ -20,7 +20,7 @@ ghost use Rattle.dispatcher.specs.Memory.{IsCalm, MayCount};
 
 use crate::apply::apply;
 use crate::tables::Tables;
-use crate::unread::take;
+use crate::unread::apply_unread;
 use cancel_synthesis::InputState;
 use dispatch_calls::{Call, Counts, Naming, Reply};
 use input_types::{Displays, Message, Moment};
@@ -79,7 +79,7 @@ impl Dispatcher {
 
     /// Answers a call as [`apply`](Dispatcher::apply) does, for one who does not read what it is answered: the message
     /// that a `Receive` hands out is not copied. It is the one that [`next`](Dispatcher::next) lends before.
-    pub fn take(&mut self, call: &Call) -> Result<(), AllocError>
+    pub fn apply_unread(&mut self, call: &Call) -> Result<(), AllocError>
         ensures after { (es : List Effect) → StandsFor es self.old
             → OnOk result ((answer : Answer) × StandsFor (step self.old.displays call.now answer es) self.new) }
         ensures displays { self.new.displays ≡ self.old.displays }
@@ -87,7 +87,7 @@ impl Dispatcher {
         ensures err { OnErr result (self.new ≡ self.old) }
         ensures calm { (es : List Effect) → StandsFor es self.old → MayCount es → IsCalm es call.now → IsOk result }
     {
-        take(&mut self.tables, call)
+        apply_unread(&mut self.tables, call)
     }
 
     /// Drops the messages of a channel that its owner received. They are not needed any more. Their numbers stay in

@@ -1,23 +1,20 @@
 //! What changes who has the focus: a channel that is opened, other windows, and requests.
-ghost use Rattle.std.specs.Prelude.{◌≡◌, ◌<◌, ◌≤◌, ℕ, true, [], length, IfOk, OnOk, OnErr, IsOk};
+ghost use Rattle.std.specs.Prelude.{◌≡◌, ◌<◌, [], IfOk, OnOk, OnErr, IsOk};
 ghost use Rattle.dispatch_calls.specs.declared.call.Call.TheVariants.{Open, Windows, FocusOn};
 ghost use Rattle.route_split.specs.Marking.{IsWhole};
 ghost use Rattle.dispatch_round.specs.Rounds.{IsTimely};
-ghost use Rattle.window_snapshot.specs.Mask.{mask_has};
 ghost use Rattle.focus_resolver.specs.Resolver.{target_of};
-ghost use Rattle.dispatch_channels.specs.Table.{opened};
 ghost use Rattle.dispatcher.specs.Carrying.{CarriesSome, IsSilent};
 ghost use Rattle.dispatcher.specs.Needing.{LeavesFocus};
 ghost use Rattle.dispatcher.specs.Opening.{IsWelcome, Welcomes};
 ghost use Rattle.dispatcher.specs.Keying.{lost_keys};
 ghost use Rattle.dispatcher.specs.Tables.{Goes, SameButRoom};
 
-use crate::carry::{carry_out, rest, tell_still};
-use crate::keys::listening;
+use crate::carry::{carry_out, tell_still};
+use crate::key_steps::listening;
 use crate::stays::staying;
 use crate::tables::Routing;
 use dispatch_calls::Reply;
-use dispatch_channels::Channels;
 use dispatch_round::{Round, listeners};
 use focus_resolver::Change;
 use input_types::{DisplayId, Limit, Moment};
@@ -37,27 +34,14 @@ pub(crate) fn open(
     ensures ok { IfOk result (λ answer. Goes (λ now. Open limit) answer place clock routing.old routing.new) }
     ensures err { OnErr result (SameButRoom routing.old routing.new) }
 {
-    know_opened(&routing.channels);
     match routing.channels.open(limit) {
         Ok(Some(number)) => {
             welcome(routing, number, place, clock);
             Ok(Reply::Opened(number))
         }
-        Ok(None) => {
-            rest(routing, place);
-            Ok(Reply::Full)
-        }
+        Ok(None) => Ok(Reply::Full),
         Err(error) => Err(error),
     }
-}
-
-/// There is an input for each channel, and each that is live was opened.
-fn know_opened(channels: &Channels)
-    ensures many { length channels.now.inputs ≡ opened channels.now }
-    ensures within { (c : ℕ) → mask_has channels.now.live c ≡ true → c ≤ opened channels.now }
-{
-    let _live = channels.live();
-    let _count = channels.opened();
 }
 
 /// The window of a new channel is told that it has the focus, where it has it at once. Takes no memory.
@@ -120,6 +104,7 @@ pub(crate) fn request(
 {
     let mut focus = routing.focus;
     let change = focus.request(display, channel);
+    // Read for its clause alone: a display has one of the numbers 0 to 3, which contracts do not see of the type.
     let _number = display.get();
     refocus(routing, Mark::Rests, &change, place, clock)?;
     routing.focus = focus;

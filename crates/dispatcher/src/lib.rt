@@ -42,7 +42,7 @@ mod apply;
 mod carry;
 mod dispatcher;
 mod focusing;
-mod keys;
+mod key_steps;
 mod motions;
 mod naming;
 mod owners;

@@ -9,7 +9,7 @@ ghost use Rattle.dispatch_calls.specs.declared.reply.Reply.TheVariants.{Done, Di
 ghost use Rattle.dispatch_round.specs.Rounds.{IsTimely};
 ghost use Rattle.dispatcher.specs.Tables.{Goes, Pumps, SameButRoom};
 
-use crate::carry::{no_change, rest, tell, tell_still};
+use crate::carry::{no_change, tell, tell_still};
 use crate::tables::Routing;
 use dispatch_calls::Reply;
 use dispatch_round::Round;
@@ -33,7 +33,7 @@ pub(crate) fn route_motion(
     let reach = routing.channels.live() & windows.on(routing.displays.of(motion.device));
     let able = routing.channels.able();
     let round = Round {
-        mark: routing.touches.mark(motion, windows, reach, able),
+        mark: routing.touches.mark_of(motion, windows, reach, able),
         motion: Some(motion),
         watchers: watchers(motion, windows, reach, able),
         target: routing.focus.target().unwrap_or(0),
@@ -58,15 +58,12 @@ pub(crate) fn pilfer(
     ensures err { OnErr result (SameButRoom routing.old routing.new) }
 {
     if !mask_has(routing.channels.live(), channel) {
-        rest(routing, place);
         return Ok(Reply::Gone);
     }
     if !has_spy(routing.shown.windows().windows(), channel) {
-        rest(routing, place);
         return Ok(Reply::NotSpy);
     }
     if !mask_has(routing.touches.holders(device), channel) {
-        rest(routing, place);
         return Ok(Reply::NothingHeld);
     }
     let mark = Mark::Pilfer {

@@ -8,8 +8,8 @@ ghost use Rattle.dispatcher.specs.Naming.{Names};
 ghost use Rattle.dispatcher.specs.Keying.{named_keys};
 ghost use Rattle.dispatcher.specs.Tables.{Goes, SameButRoom};
 
-use crate::carry::{carry_out, rest};
-use crate::keys::listening;
+use crate::carry::carry_out;
+use crate::key_steps::listening;
 use crate::tables::Routing;
 use dispatch_calls::Reply;
 use dispatch_round::{Round, make_room};
@@ -28,7 +28,6 @@ pub(crate) fn tick(routing: &mut Routing, place: u64, clock: Moment) -> Result<R
 {
     let mask = routing.channels.late(clock);
     if mask == 0 {
-        rest(routing, place);
         return Ok(Reply::Named(0));
     }
     name_some(routing, mask, place, clock)?;

@@ -1,12 +1,11 @@
 //! What the owners of channels ask.
-ghost use Rattle.std.specs.Prelude.{◌≡◌, None, if◌then◌else◌};
+ghost use Rattle.std.specs.Prelude.{◌≡◌, ℕ, None, if◌then◌else◌};
 ghost use Rattle.focus_resolver.specs.Resolver.{is_at};
 ghost use Rattle.dispatch_calls.specs.declared.call.Call.{Call};
 ghost use Rattle.dispatch_calls.specs.declared.reply.Reply.{Reply as Answer};
 ghost use Rattle.dispatch_round.specs.Rounds.{IsTimely};
 ghost use Rattle.dispatcher.specs.Tables.{Goes};
 
-use crate::carry::rest;
 use crate::tables::Routing;
 use dispatch_calls::Reply;
 use input_types::Moment;
@@ -16,10 +15,9 @@ use route_split::Mark;
 use window_snapshot::mask_has;
 
 /// The owner of a channel takes its next message.
-pub(crate) fn receive(routing: &mut Routing, channel: u32, place: u64, clock: Moment) -> Reply
-    ensures { Goes (λ now. Call.Receive channel) result place clock routing.old routing.new }
+pub(crate) fn receive(routing: &mut Routing, channel: u32) -> Reply
+    ensures { (place clock : ℕ) → Goes (λ now. Call.Receive channel) result place clock routing.old routing.new }
 {
-    rest(routing, place);
     if !mask_has(routing.channels.live(), channel) {
         return Reply::Gone;
     }
@@ -32,10 +30,10 @@ pub(crate) fn receive(routing: &mut Routing, channel: u32, place: u64, clock: Mo
 }
 
 /// The owner of a channel has its next message, where there is one, and it is not handed out.
-pub(crate) fn pass(routing: &mut Routing, channel: u32, place: u64, clock: Moment)
-    ensures { (answer : Answer) × Goes (λ now. Call.Receive channel) answer place clock routing.old routing.new }
+pub(crate) fn pass(routing: &mut Routing, channel: u32)
+    ensures { (answer : Answer)
+        × ((place clock : ℕ) → Goes (λ now. Call.Receive channel) answer place clock routing.old routing.new) }
 {
-    rest(routing, place);
     if !mask_has(routing.channels.live(), channel) {
         return;
     }
@@ -46,17 +44,10 @@ pub(crate) fn pass(routing: &mut Routing, channel: u32, place: u64, clock: Momen
 }
 
 /// The owner of a channel is done with a message.
-pub(crate) fn finish(
-    routing: &mut Routing,
-    channel: u32,
-    seq: u64,
-    place: u64,
-    clock: Moment,
-) -> Reply
+pub(crate) fn finish(routing: &mut Routing, channel: u32, seq: u64, clock: Moment) -> Reply
     requires { IsTimely clock routing.old.channels }
-    ensures { Goes (λ now. Call.Finish now channel seq) result place clock routing.old routing.new }
+    ensures { (place : ℕ) → Goes (λ now. Call.Finish now channel seq) result place clock routing.old routing.new }
 {
-    rest(routing, place);
     if !mask_has(routing.channels.live(), channel) {
         return Reply::Gone;
     }
@@ -68,11 +59,10 @@ pub(crate) fn finish(
 
 /// A channel is closed for good. Nobody is told of it: the window is not live any more, and no other one loses or
 /// gains anything.
-pub(crate) fn remove(routing: &mut Routing, channel: u32, place: u64, clock: Moment) -> Reply
-    ensures { Goes (λ now. Call.Remove now channel) result place clock routing.old routing.new }
+pub(crate) fn remove(routing: &mut Routing, channel: u32, place: u64) -> Reply
+    ensures { (clock : ℕ) → Goes (λ now. Call.Remove now channel) result place clock routing.old routing.new }
 {
     if !mask_has(routing.channels.live(), channel) {
-        rest(routing, place);
         return Reply::Gone;
     }
     let target = routing.focus.target();

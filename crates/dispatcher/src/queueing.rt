@@ -78,7 +78,7 @@ impl Queueing {
         requires { self.old.place < 2 ^ 64 - 1 }
         ensures { self.new ≡ stepped now self.old }
     {
-        self.clock = later(self.clock, now);
+        self.clock = now.later(self.clock);
         self.place += 1;
     }
 
@@ -98,7 +98,7 @@ impl Queueing {
         self.waiting.reserve(1)?;
         self.down.apply(change)?;
         self.waiting.put(copy_of(args));
-        self.clock = later(self.clock, now);
+        self.clock = now.later(self.clock);
         self.place += 1;
         Ok(())
     }
@@ -109,19 +109,12 @@ impl Queueing {
         ensures { self.new ≡ dispatched now self.old }
     {
         let _args = self.waiting.pop();
-        self.clock = later(self.clock, now);
+        self.clock = now.later(self.clock);
         self.place += 1;
     }
 }
 
-ghost use Rattle.std.specs.Prelude.{◌-◌, max};
-
-/// The later of two moments.
-pub(crate) fn later(clock: Moment, now: Moment) -> Moment
-    ensures { result ≡ max now clock }
-{
-    if clock.get() < now.get() { now } else { clock }
-}
+ghost use Rattle.std.specs.Prelude.{◌-◌};
 
 fn copy_of(args: &Args) -> Args
     ensures { result ≡ args.now }

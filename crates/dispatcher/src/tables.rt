@@ -1,6 +1,6 @@
 //! All that a dispatcher keeps.
 ghost use Rattle.std.specs.Prelude.{◌≡◌, [], IfOk};
-ghost use Rattle.dispatcher.specs.Tables.{StandsFor};
+ghost use Rattle.dispatcher.specs.Tables.{TablesStandFor};
 
 use crate::queueing::Queueing;
 use crate::shown::Shown;
@@ -32,7 +32,7 @@ pub(crate) struct Tables {
 impl Tables {
     /// Before the first step.
     pub(crate) fn new(alloc: Global, displays: &Displays) -> Result<Tables, AllocError>
-        ensures start { IfOk result (λ t. StandsFor [] t) }
+        ensures start { IfOk result (λ t. TablesStandFor [] t) }
         ensures displays { IfOk result (λ t. t.routing.displays ≡ displays.now) }
     {
         let queueing = Queueing::new(alloc)?;

@@ -3,11 +3,10 @@ ghost use Rattle.std.specs.Prelude.{◌≡◌, List, OnOk, OnErr, IsOk};
 ghost use Rattle.dispatch_calls.specs.declared.call.Call.TheVariants.{Receive, Finish};
 ghost use Rattle.dispatch_history.specs.Effect.{Effect};
 ghost use Rattle.dispatcher.specs.Memory.{IsCalm, MayCount};
-ghost use Rattle.dispatcher.specs.Tables.{StandsFor, MayStep, GoesOnSomehow, SameAll};
+ghost use Rattle.dispatcher.specs.Tables.{TablesStandFor, MayStep, GoesOnSomehow, SameAll};
 
 use crate::apply::apply;
 use crate::owners::{finish, pass};
-use crate::queueing::later;
 use crate::tables::Tables;
 use dispatch_calls::Call;
 use input_types::Moment;
@@ -15,11 +14,11 @@ use std::alloc::AllocError;
 
 /// Answers a call for one who does not read what it is answered: no message is copied. Without memory nothing changes
 /// but the room that channels have.
-pub(crate) fn take(tables: &mut Tables, call: &Call) -> Result<(), AllocError>
-    requires { (es : List Effect) × StandsFor es tables.old }
+pub(crate) fn apply_unread(tables: &mut Tables, call: &Call) -> Result<(), AllocError>
+    requires { (es : List Effect) × TablesStandFor es tables.old }
     ensures ok { OnOk result (GoesOnSomehow call.now tables.old tables.new) }
     ensures err { OnErr result (SameAll tables.old tables.new) }
-    ensures calm { (es : List Effect) → StandsFor es tables.old → MayCount es → IsCalm es call.now → IsOk result }
+    ensures calm { (es : List Effect) → TablesStandFor es tables.old → MayCount es → IsCalm es call.now → IsOk result }
 {
     if tables.queueing.place() == u64::MAX {
         return Err(AllocError);
@@ -33,16 +32,16 @@ pub(crate) fn take(tables: &mut Tables, call: &Call) -> Result<(), AllocError>
             finish_unread(tables, *now, *channel, *seq);
             Ok(())
         }
-        _ => apply_unread(tables, call),
+        _ => apply_dropping(tables, call),
     }
 }
 
 /// A call whose answer is not read.
-fn apply_unread(tables: &mut Tables, call: &Call) -> Result<(), AllocError>
-    requires { (es : List Effect) × StandsFor es tables.old }
+fn apply_dropping(tables: &mut Tables, call: &Call) -> Result<(), AllocError>
+    requires { (es : List Effect) × TablesStandFor es tables.old }
     ensures ok { OnOk result (GoesOnSomehow call.now tables.old tables.new) }
     ensures err { OnErr result (SameAll tables.old tables.new) }
-    ensures calm { (es : List Effect) → StandsFor es tables.old → MayCount es → IsCalm es call.now → IsOk result }
+    ensures calm { (es : List Effect) → TablesStandFor es tables.old → MayCount es → IsCalm es call.now → IsOk result }
 {
     match apply(tables, call) {
         Ok(_) => Ok(()),
@@ -55,11 +54,8 @@ fn pass_next(tables: &mut Tables, channel: u32)
     requires { MayStep tables.old }
     ensures { GoesOnSomehow (Receive channel) tables.old tables.new }
 {
-    let now = Moment::zero();
-    let clock = later(tables.queueing.clock(), now);
-    let place = tables.queueing.place();
-    tables.queueing.step(now);
-    pass(&mut tables.routing, channel, place, clock);
+    tables.queueing.step(Moment::zero());
+    pass(&mut tables.routing, channel);
 }
 
 /// The owner of a channel is done with a message, and its answer is not read. Takes no memory.
@@ -67,8 +63,7 @@ fn finish_unread(tables: &mut Tables, now: Moment, channel: u32, seq: u64)
     requires { MayStep tables.old }
     ensures { GoesOnSomehow (Finish now channel seq) tables.old tables.new }
 {
-    let clock = later(tables.queueing.clock(), now);
-    let place = tables.queueing.place();
+    let clock = now.later(tables.queueing.clock());
     tables.queueing.step(now);
-    let _reply = finish(&mut tables.routing, channel, seq, place, clock);
+    let _reply = finish(&mut tables.routing, channel, seq, clock);
 }

@@ -4,16 +4,16 @@ use Rattle.raw_events.specs.declared.event.RawEvent.{RawEvent}
 use Rattle.device_reader.specs.Cooked.{DevicePlan, Touches, Keys as HasKeys, device_args}
 use Rattle.device_reader.specs.CookedList.{of_device}
 use Rattle.recording_counts.specs.Counted.{counted}
-use Rattle.recording_counts.specs.Keys.{KeysStandFor}
-use Rattle.recording_counts.specs.Touch.{TouchStandsFor}
+use Rattle.recording_counts.specs.KeyTally.{KeysTallyStandsFor}
+use Rattle.recording_counts.specs.Touch.{TouchTallyStandsFor}
 use Rattle.event_counts.specs.declared.device.DeviceTally.{DeviceTally}
 use Rattle.event_counts.specs.declared.device.TallyKind.{TallyKind}
 use Rattle.event_counts.specs.declared.device.TallyKind.TheVariants.{Touch, Keys}
 
 -- the counts of a device by what it is are those of these events
 abbrev pub KindCounted : DevicePlan → List RawEvent → TallyKind → Type 0
-KindCounted (Touches plan) past (Touch t) = TouchStandsFor plan past t
-KindCounted (HasKeys plan) past (Keys t) = KeysStandFor (HasKeys plan) past t
+KindCounted (Touches plan) past (Touch t) = TouchTallyStandsFor plan past t
+KindCounted (HasKeys plan) past (Keys t) = KeysTallyStandsFor (HasKeys plan) past t
 KindCounted (Touches plan) past (Keys t) = ⊥
 KindCounted (HasKeys plan) past (Touch t) = ⊥
 

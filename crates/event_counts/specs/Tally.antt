@@ -19,7 +19,7 @@ pub record EventsState : Type 0 where
   pub events : ℕ
 
 -- the counts are those of these events
-pub record EventsStandFor (plans : List DevicePlan) (past : List RawEvent) (s : EventsState) : Type 0 where
+pub record EventTallyStandsFor (plans : List DevicePlan) (past : List RawEvent) (s : EventsState) : Type 0 where
   pub readers_stand : ReadersStandFor plans past s.readers
   pub devices_counted : AllCounted plans past s.devices
   pub span_is : s.span ≡ span_of past

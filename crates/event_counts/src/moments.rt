@@ -1,5 +1,5 @@
 //! From the first moment to the last.
-ghost use Rattle.std.specs.Prelude.{◌≡◌, min, max, Option, Some};
+ghost use Rattle.std.specs.Prelude.{◌≡◌, min, Option, Some};
 ghost use Rattle.event_counts.specs.Moments.{widened};
 
 use input_types::Moment;
@@ -18,13 +18,6 @@ fn earlier(a: Moment, b: Moment) -> Moment
     if b.get() < a.get() { b } else { a }
 }
 
-/// The greater of two moments.
-fn later(a: Moment, b: Moment) -> Moment
-    ensures { result ≡ max a b }
-{
-    if a.get() < b.get() { b } else { a }
-}
-
 /// The moments with one more.
 pub(crate) fn widened(span: Option<Span>, moment: Moment) -> Option<Span>
     ensures { result ≡ Some (widened span moment) }
@@ -36,7 +29,7 @@ pub(crate) fn widened(span: Option<Span>, moment: Moment) -> Option<Span>
         }),
         Some(span) => Some(Span {
             first: earlier(span.first, moment),
-            last: later(span.last, moment),
+            last: span.last.later(moment),
         }),
     }
 }

@@ -4,7 +4,7 @@ ghost use Rattle.raw_events.specs.declared.event.RawEvent.{RawEvent as Event};
 ghost use Rattle.device_reader.specs.Cooked.{DevicePlan};
 ghost use Rattle.device_reader.specs.CookedList.{ReadersStandFor, added};
 ghost use Rattle.event_counts.specs.Devices.{AllCounted};
-ghost use Rattle.event_counts.specs.Tally.{EventsStandFor};
+ghost use Rattle.event_counts.specs.Tally.{EventTallyStandsFor};
 
 use crate::device::DeviceTally;
 use crate::moments::{Span, widened};
@@ -41,7 +41,7 @@ impl EventTally {
     /// The devices before their first event, in the order of their numbers.
     pub fn new(alloc: Global, readers: Readers, devices: Vec<DeviceTally>) -> EventTally
         ensures { (plans : List DevicePlan) → ReadersStandFor plans [] readers → AllCounted plans [] devices.items
-            → EventsStandFor plans [] result }
+            → EventTallyStandsFor plans [] result }
     {
         EventTally {
             readers,
@@ -54,8 +54,8 @@ impl EventTally {
 
     /// Takes the next event of the recording.
     pub fn take(&mut self, event: RawEvent) -> Result<(), AllocError>
-        ensures { (plans : List DevicePlan) (past : List Event) → EventsStandFor plans past self.old
-            → OnOk result (EventsStandFor plans (event ∷ past) self.new) }
+        ensures { (plans : List DevicePlan) (past : List Event) → EventTallyStandsFor plans past self.old
+            → OnOk result (EventTallyStandsFor plans (event ∷ past) self.new) }
     {
         self.args.clear();
         self.readers.take(event, &mut self.args)?;
@@ -66,8 +66,8 @@ impl EventTally {
 
     /// Takes the next events of the recording, in their order.
     pub fn take_all(&mut self, events: &[RawEvent]) -> Result<(), AllocError>
-        ensures { (plans : List DevicePlan) (past : List Event) → EventsStandFor plans past self.old
-            → OnOk result (EventsStandFor plans (reverse events.now ++ past) self.new) }
+        ensures { (plans : List DevicePlan) (past : List Event) → EventTallyStandsFor plans past self.old
+            → OnOk result (EventTallyStandsFor plans (reverse events.now ++ past) self.new) }
     {
         for event in events {
             self.take(*event)?;
@@ -85,7 +85,7 @@ impl EventTally {
     /// The least and the greatest moment of the events; None exactly where there is no event.
     pub fn span(&self) -> Option<Span>
         ensures value { result ≡ self.now.span }
-        ensures none { (plans : List DevicePlan) → EventsStandFor plans [] self.now → result ≡ None }
+        ensures none { (plans : List DevicePlan) → EventTallyStandsFor plans [] self.now → result ≡ None }
     {
         self.span
     }

@@ -57,6 +57,6 @@ state_of told = record { ids = ids_kept told.sets; repeats = due_kept told.repea
 
 -- A verifier that was shown a list of messages, the newest first, and accepted all of them: the stream is well-formed, its tables say
 -- what a window knows after it, and the count is its length, as far as 64 bits go.
-pub record StandsFor (past : List Message) (told : Told) : Type 0 where
+pub record VerifierStandsFor (past : List Message) (told : Told) : Type 0 where
   pub state : stream_state past ≡ Some (state_of told)
   pub count : told.accepted ≡ min (length past) (2 ^ 64 - 1)

@@ -39,7 +39,7 @@ impl Model for Verifier {
 impl Verifier {
     ghost use Rattle.input_types.specs.StreamRule.{untold, after_body, is_well_formed};
     ghost use Rattle.bits32.specs.Set.{members};
-    ghost use Rattle.gesture_verifier.specs.Told.{state_of, one_more, StandsFor};
+    ghost use Rattle.gesture_verifier.specs.Told.{state_of, one_more, VerifierStandsFor};
     ghost use Rattle.gesture_verifier.specs.Faults.{IsFault, Takes, is_key, ids_of_body, due_of_body};
     ghost use Rattle.gesture_verifier.specs.Held.{are_rising, is_held};
     ghost use Rattle.gesture_verifier.specs.Reasons.{reason_of, is_spelled};
@@ -47,7 +47,7 @@ impl Verifier {
     /// A judge of a stream that has no message yet.
     pub fn new(alloc: Global) -> Verifier
         ensures untold { state_of result ≡ untold }
-        ensures stands { StandsFor [] result }
+        ensures stands { VerifierStandsFor [] result }
     {
         Verifier {
             down: [Bits32::empty(); 8],
@@ -63,11 +63,11 @@ impl Verifier {
     /// knew. `Memory` comes only at a key message. An error leaves the verifier as it was.
     pub fn step(&mut self, message: &Message) -> Result<(), StepError>
         ensures ok { OnOk result (after_body (state_of self.old) message.now.body ≡ Some (state_of self.new)) }
-        ensures stands { (past : List Message) → StandsFor past self.old
-            → OnOk result (StandsFor (message.now ∷ past) self.new) }
+        ensures stands { (past : List Message) → VerifierStandsFor past self.old
+            → OnOk result (VerifierStandsFor (message.now ∷ past) self.new) }
         ensures counted { OnOk result (self.new.accepted ≡ one_more self.old.accepted) }
         ensures fault { (fault : Fault) → result ≡ Err (StepError.Fault fault) → IsFault self.old message.now fault }
-        ensures breaks { (past : List Message) → StandsFor past self.old → (fault : Fault)
+        ensures breaks { (past : List Message) → VerifierStandsFor past self.old → (fault : Fault)
             → result ≡ Err (StepError.Fault fault) → is_well_formed (message.now ∷ past) ≡ false }
         ensures memory { result ≡ Err StepError.Memory → is_key message.now.body ≡ true }
         ensures err { OnErr result (self.new ≡ self.old) }

@@ -5,12 +5,12 @@ use Rattle.bits32.specs.Set.{members}
 use Rattle.input_types.specs.declared.message.Message.{Message as Told}
 use Rattle.gesture_verifier.specs.declared.held.HeldKey.{HeldKey}
 use Rattle.gesture_verifier.specs.Held.{are_rising, is_held}
-use Rattle.gesture_verifier.specs.Told.{StandsFor, Told as Tables, state_of}
+use Rattle.gesture_verifier.specs.Told.{VerifierStandsFor, Told as Tables, state_of}
 use Rattle.judge_text.specs.declared.down.HeldIds.{HeldIds}
 use Rattle.judge_text.specs.Down.{Down, down_after, ids_in, is_nothing, keys_after, on_device, pointers_up_to}
 use Rattle.judge_text.proofs.HeldKeys.{due_exactly, keys_rise, one_list}
 
-pub same_down : (past : List Told) (t : Tables) (pointers : List (ℕ × List ℕ)) (keys : List HeldKey) → StandsFor past t → pointers ≡ pointers_up_to 8 (state_of t).ids
+pub same_down : (past : List Told) (t : Tables) (pointers : List (ℕ × List ℕ)) (keys : List HeldKey) → VerifierStandsFor past t → pointers ≡ pointers_up_to 8 (state_of t).ids
     → are_rising keys ≡ true → ((d s : ℕ) → is_held d s keys ≡ is_some ((state_of t).repeats d s))
     → record { pointers = pointers; keys = keys } ≡ down_after past
 same_down past t pointers keys stands is rising exact =

@@ -2,7 +2,7 @@
 ghost use Rattle.std.specs.Prelude.{◌≡◌, List, map, Some, None, IfOk, OnOk, if◌then◌else◌};
 ghost use Rattle.std.specs.Option.{option_map};
 ghost use Rattle.bits32.specs.Set.{members};
-ghost use Rattle.gesture_verifier.specs.Told.{StandsFor, state_of};
+ghost use Rattle.gesture_verifier.specs.Told.{VerifierStandsFor, state_of};
 ghost use Rattle.input_types.specs.declared.message.Message.{Message as Told};
 ghost use Rattle.judge_text.specs.Down.{Down, down_after, is_nothing, pointers_up_to};
 
@@ -85,7 +85,7 @@ pub(crate) fn still_down(
     alloc: Global,
     verifier: &Verifier,
 ) -> Result<Option<StillDown>, AllocError>
-    ensures { (past : List Told) → StandsFor past verifier.now → IfOk result (λ down. down
+    ensures { (past : List Told) → VerifierStandsFor past verifier.now → IfOk result (λ down. down
         ≡ (if is_nothing (down_after past) then None else Some (down_after past))) }
 {
     let down = StillDown {

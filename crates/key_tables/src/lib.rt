@@ -21,8 +21,8 @@
 #![tactic(auto)]
 
 mod focus;
-mod keys;
+mod key_told;
 pub mod laws;
 
 pub use focus::{focus_change, focusable};
-pub use keys::{key_heard, remember};
+pub use key_told::{key_heard, remember};

@@ -1,6 +1,6 @@
 -- Worked examples of the definitions.
 use Rattle.std.proofs.Common.{◌≡◌, ◌^◌, ◌-◌, List, true, false, [], ◌∷◌, Some, None, refl, arith}
-use Rattle.outside_io.specs.Outside.{raised, Rose, Entry, bytes_of}
+use Rattle.outside_io.specs.Outside.{raised, Rose, Entry, begun, bytes_of, gave}
 use Rattle.outside_io.specs.Calls.{is_listed}
 use Rattle.outside_io.specs.MemFiles.{names_differ_in}
 use Rattle.outside_io.specs.MemSink.{SinkState, write_fails}
@@ -44,10 +44,21 @@ not_listed = refl
 
 -- a full sink fails for a piece that is not empty, and takes an empty one
 abbrev full : SinkState
-full = record { taken = 7 ∷ []; room = 0; piece = 1; failing = []; next = 2; faults = 0 }
+full = record { taken = 7 ∷ []; room = 0; piece = 1; failing = []; next = 2; faults = 0; writes = record { handed = 7 ∷ 8 ∷ []; count = 1 } ∷ [] }
 
 full_fails : write_fails full 1 ≡ true
 full_fails = refl
 
 empty_passes : write_fails full 0 ≡ false
 empty_passes = refl
+
+-- a file `a` of two bytes, into a buffer of three: both come, and then the end
+both : gave (begun (97 ∷ [])) 2 (5 ∷ 6 ∷ 0 ∷ []) ≡ record { name = 97 ∷ []; given = 5 ∷ 6 ∷ []; ended = false }
+both = refl
+
+the_end : gave (record { name = 97 ∷ []; given = 5 ∷ 6 ∷ []; ended = false }) 0 (0 ∷ 0 ∷ 0 ∷ []) ≡ record { name = 97 ∷ []; given = 5 ∷ 6 ∷ []; ended = true }
+the_end = refl
+
+-- nothing is asked for, so nothing is said of the end
+no_room : gave (begun (97 ∷ [])) 0 [] ≡ begun (97 ∷ [])
+no_room = refl

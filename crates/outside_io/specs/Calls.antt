@@ -1,5 +1,5 @@
 -- The calls of an outside in memory: which of them fail, and what each leaves of the counts.
-use Rattle.std.specs.Prelude.{ℕ, Bool, if◌then◌else◌, List, ◌==◌, Result, Ok, Err}
+use Rattle.std.specs.Prelude.{ℕ, Bool, if◌then◌else◌, List, ◌==◌}
 use Rattle.std.specs.List.{list_any}
 use Rattle.outside_io.specs.Outside.{raised}
 
@@ -14,8 +14,3 @@ next_number number = raised number 1
 -- a call that failed counts one fault, and another none
 abbrev pub faults_after : Bool → ℕ → ℕ
 faults_after failed faults = if failed then raised faults 1 else faults
-
--- how many bytes a call moved
-abbrev pub moved : {E : Type 0} → Result ℕ E → ℕ
-moved (Ok count) = count
-moved (Err e) = 0

@@ -1,5 +1,6 @@
--- What the outside may do: how a count of faults goes on, and what a set of files tells of its names.
-use Rattle.std.specs.Prelude.{◌≡◌, ℕ, ◌+◌, ◌-◌, ◌^◌, ◌≤◌, min, Bool, if◌then◌else◌, List, [], ◌∷◌, Option, None, Some, ⊤, IsSomeAnd, bytes_eq}
+-- What the outside may do: how a count of faults and a reading go on, and what a set of files tells of its names.
+use Rattle.std.specs.Prelude.{◌≡◌, ℕ, ◌+◌, ◌-◌, ◌^◌, ◌≤◌, min, nat_eq, nat_lt, Bool, false, ◌&&◌, if◌then◌else◌, List, [], ◌∷◌, ◌++◌, length, take, Option, None, Some, Result, Ok, Err, ⊤, IsSomeAnd, bytes_eq}
+use Rattle.io_trace.specs.Trace.{Reading, Writing}
 
 -- a count that is raised by `more` stands still at the greatest number of 64 bits
 abbrev pub raised : ℕ → ℕ → ℕ
@@ -26,3 +27,27 @@ GivesBytes (Some entries) name left = IsSomeAnd (bytes_of entries name) (λ byte
 -- the loan that is out, of files that lend one source at a time: its number is always 0
 abbrev pub loan_of : Bool → Option ℕ
 loan_of lent = if lent then Some 0 else None
+
+-- how many bytes a call moved
+abbrev pub moved : {E : Type 0} → Result ℕ E → ℕ
+moved (Ok count) = count
+moved (Err e) = 0
+
+-- what was written after a write of these bytes with this answer: it took so many of them from the front, and a write that fails none
+abbrev pub wrote_on : {E : Type 0} → Writing → Result ℕ E → List ℕ → Writing
+wrote_on w r bytes =
+    record { took = w.took ++ take (moved r) bytes; writes = w.writes ++ record { handed = bytes; count = moved r } ∷ [] }
+
+-- the reading of a file that was opened under a name
+abbrev pub begun : List ℕ → Reading
+begun name = record { name = name; given = []; ended = false }
+
+-- A reading after one read more, which gave so many bytes at the front of this buffer: they come behind those before, and none in a
+-- buffer that is not empty is the end.
+abbrev pub gave : Reading → ℕ → List ℕ → Reading
+gave r count buffer = record { name = r.name; given = r.given ++ take count buffer; ended = nat_eq count 0 && nat_lt 0 (length buffer) }
+
+-- a reading after one read more, with this answer, which left the buffer so; a read that fails changes nothing
+abbrev pub read_on : {E : Type 0} → Reading → Result ℕ E → List ℕ → Reading
+read_on r (Ok count) buffer = gave r count buffer
+read_on r (Err e) buffer = r

@@ -27,6 +27,7 @@ mod host_sink;
 mod mem_files;
 mod mem_sink;
 mod outside;
+mod tracing;
 
 pub use host_files::{HostFiles, HostSource};
 pub use host_sink::HostSink;

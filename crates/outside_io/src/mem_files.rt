@@ -1,12 +1,14 @@
-ghost use Rattle.std.specs.Prelude.{◌≡◌, ◌-◌, ◌<◌, ◌≤◌, ◌++◌, ◌↔◌, true, false, min, map, length, take, drop, vec_len, None, Some, option_map, IfOk, OnOk, OnErr, IsErrOf, IsTrue, is_err};
+ghost use Rattle.std.specs.Prelude.{◌≡◌, ◌-◌, ◌<◌, ◌≤◌, ◌++◌, ◌↔◌, true, false, [], ◌∷◌, min, map, length, take, drop, vec_len, None, Some, option_map, IfOk, OnOk, OnErr, IsErrOf, IsTrue, is_err};
 ghost use Rattle.std.specs.Io.{ReadsAtMost};
 ghost use Rattle.std.specs.Io.KnownBytes.{ReadConsumes};
-ghost use Rattle.outside_io.specs.Outside.{raised, Rose, GivesBytes, bytes_of, loan_of};
-ghost use Rattle.outside_io.specs.Calls.{is_listed, next_number, faults_after, moved};
+ghost use Rattle.outside_io.specs.Outside.{raised, Rose, GivesBytes, begun, bytes_of, loan_of, moved, read_on};
+ghost use Rattle.outside_io.specs.Calls.{is_listed, next_number, faults_after};
 ghost use Rattle.outside_io.specs.MemFiles.{SourceState, FilesState, entry, names_differ_in, bytes_granted, after_failure, lending, source_of, after_return};
 
 use crate::copying::copy_front;
 use crate::outside::{Failed, Files, Source, SourceRefused};
+use crate::tracing::{note_read, opened};
+use io_trace::{FilesTrace, ReadingTrace};
 use std::alloc::Global;
 use std::marker::Model;
 use std::mem;
@@ -22,6 +24,7 @@ pub struct MemFiles {
     next: u64,
     lent: bool,
     faults: u64,
+    readings: FilesTrace,
 }
 
 impl Model for MemFiles {
@@ -34,6 +37,7 @@ impl Model for MemFiles {
       next = f.next;
       lent = f.lent;
       faults = f.faults;
+      readings = f.readings.readings;
     } };
 
     ghost invariant = { λ f. 0 < f.piece };
@@ -48,6 +52,7 @@ pub struct MemSource {
     failing: Vec<u64>,
     next: u64,
     faults: u64,
+    reading: ReadingTrace,
 }
 
 impl Model for MemSource {
@@ -59,6 +64,7 @@ impl Model for MemSource {
       failing = s.failing.items;
       next = s.next;
       faults = s.faults;
+      reading = s.reading.reading;
     } };
 
     ghost invariant = { λ s. (s.at ≤ vec_len s.bytes) × (0 < s.piece) };
@@ -104,6 +110,7 @@ impl MemFiles {
               next = 1;
               lent = false;
               faults = 0;
+              readings = [];
             } }
     {
         MemFiles {
@@ -113,6 +120,7 @@ impl MemFiles {
             next: 1,
             lent: false,
             faults: 0,
+            readings: FilesTrace::new(),
         }
     }
 
@@ -126,18 +134,19 @@ impl MemFiles {
         file_bytes(&self.files, name)
     }
 
-    /// Counts a call that failed.
-    fn refuse(&mut self)
-        ensures { self.new ≡ after_failure self.old }
+    /// Counts a call for this name that failed.
+    fn refuse(&mut self, name: &str)
+        ensures { self.new ≡ after_failure self.old name.now }
     {
+        self.readings.note(&opened(name));
         self.next = self.next.saturating_add(1);
         self.faults = self.faults.saturating_add(1);
     }
 
-    /// Lends a source for these bytes.
-    fn lend(&mut self, alloc: Global, bytes: Vec<u8>) -> MemSource
+    /// Lends a source for these bytes, under this name.
+    fn lend(&mut self, alloc: Global, name: &str, bytes: Vec<u8>) -> MemSource
         ensures files { self.new ≡ lending self.old }
-        ensures source { result ≡ source_of self.old bytes.items }
+        ensures source { result ≡ source_of self.old name.now bytes.items }
     {
         self.lent = true;
         MemSource {
@@ -147,6 +156,7 @@ impl MemFiles {
             failing: mem::replace(&mut self.failing, Vec::new(alloc)),
             next: self.next.saturating_add(1),
             faults: 0,
+            reading: opened(name),
         }
     }
 }
@@ -155,6 +165,8 @@ impl Files for MemFiles {
     type In = MemSource;
 
     ghost entries = { λ f. Some f.files };
+
+    ghost readings = { λ f. f.readings };
 
     ghost faults = { λ f. f.faults };
 
@@ -167,14 +179,19 @@ impl Files for MemFiles {
         requires { loan_of self.old.lent ≡ None }
 
         ensures fails { IsErrOf result SourceRefused.Failed ↔ (bytes_granted self.old name.now ≡ None) }
-        ensures failed { IsErrOf result SourceRefused.Failed → self.new ≡ after_failure self.old }
+        ensures failed { IsErrOf result SourceRefused.Failed → self.new ≡ after_failure self.old name.now }
         ensures unchanged { IsErrOf result SourceRefused.Memory → self.new ≡ self.old }
         ensures lending { OnOk result (self.new ≡ lending self.old) }
         ensures granted { IfOk result (λ source. bytes_granted self.old name.now ≡ Some source.left) }
-        ensures numbers { IfOk result (λ source. source ≡ source_of self.old source.left) }
+        ensures numbers { IfOk result (λ source. source ≡ source_of self.old name.now source.left) }
 
         ensures bytes { IfOk result (λ source. GivesBytes (Some self.old.files) name.now (Some source.left)) }
         ensures fresh { IfOk result (λ source. source.faults ≡ 0) }
+        ensures begun { IfOk result (λ source. source.reading ≡ begun name.now) }
+        ensures opened { OnOk result (self.new.readings ≡ self.old.readings) }
+        ensures not_opened { IsErrOf result SourceRefused.Failed
+            → self.new.readings ≡ self.old.readings ++ begun name.now ∷ [] }
+        ensures not_asked { IsErrOf result SourceRefused.Memory → self.new.readings ≡ self.old.readings }
         ensures lent { IfOk result (λ source. loan_of self.new.lent ≡ Some 0) }
         ensures not_lent { OnErr result (loan_of self.new.lent ≡ None) }
         ensures later { self.old.faults ≤ self.new.faults }
@@ -183,12 +200,12 @@ impl Files for MemFiles {
         ensures entries { Some self.new.files ≡ Some self.old.files }
     {
         let Some(bytes) = self.granted(name) else {
-            self.refuse();
+            self.refuse(name);
             return Err(SourceRefused::Failed);
         };
         let alloc = *self.files.allocator();
         let bytes = Vec::from_slice(alloc, bytes)?;
-        Ok(self.lend(alloc, bytes))
+        Ok(self.lend(alloc, name, bytes))
     }
 
     /// Takes the source back, with its list, its next number and its faults.
@@ -197,6 +214,7 @@ impl Files for MemFiles {
         ensures back { self.new ≡ after_return self.old source }
         ensures later { self.old.faults ≤ self.new.faults }
         ensures faults { self.new.faults ≡ raised self.old.faults source.faults }
+        ensures readings { self.new.readings ≡ self.old.readings ++ source.reading ∷ [] }
         ensures free { loan_of self.new.lent ≡ None }
         ensures entries { Some self.new.files ≡ Some self.old.files }
     {
@@ -204,11 +222,14 @@ impl Files for MemFiles {
         self.next = source.next;
         self.lent = false;
         self.faults = self.faults.saturating_add(source.faults);
+        self.readings.note(&source.reading);
     }
 }
 
 impl Source for MemSource {
     ghost left = { λ s. Some s.left };
+
+    ghost reading = { λ s. s.reading };
 
     ghost faults = { λ s. s.faults };
 
@@ -217,6 +238,8 @@ impl Source for MemSource {
     /// A call fails where its number is listed. Any other gives as much as the piece, `buf` and the
     /// bytes that are left allow.
     fn read(&mut self, buf: &mut [u8]) -> Result<usize, Failed>
+        requires going { self.old.reading.ended ≡ false }
+        ensures reading { self.new.reading ≡ read_on self.old.reading result buf.new }
         ensures fails { is_err result ≡ is_listed self.old.next self.old.failing }
         ensures count { IfOk result (λ n. n ≡ min self.old.piece (min (length buf.old) (length self.old.left))) }
         ensures left { self.new.left ≡ drop (moved result) self.old.left }
@@ -238,6 +261,7 @@ impl Source for MemSource {
         }
         let count = copy_front(buf, self.bytes.split_at(self.at).1, self.piece);
         self.at += count;
+        note_read(&mut self.reading, buf, count);
         Ok(count)
     }
 }

@@ -1,12 +1,12 @@
-ghost use Rattle.std.specs.Prelude.{◌≡◌, ◌-◌, ◌<◌, ◌≤◌, min, [], length, take, vec_len, Some, IfOk, OnErr, is_err};
+ghost use Rattle.std.specs.Prelude.{◌≡◌, ◌-◌, ◌<◌, ◌≤◌, min, [], length, take, vec_len, IfOk, OnErr, is_err};
 ghost use Rattle.std.specs.Io.{WritesAtMost};
-ghost use Rattle.std.specs.Io.KnownBytes.{WriteAppends};
-ghost use Rattle.outside_io.specs.Outside.{Rose};
-ghost use Rattle.outside_io.specs.Calls.{next_number, faults_after, moved};
-ghost use Rattle.outside_io.specs.MemSink.{SinkState, write_fails};
+ghost use Rattle.outside_io.specs.Outside.{Rose, moved, wrote_on};
+ghost use Rattle.outside_io.specs.Calls.{next_number, faults_after};
+ghost use Rattle.outside_io.specs.MemSink.{SinkState, write_fails, written};
 
 use crate::copying::copy_front;
 use crate::outside::{Failed, Sink};
+use io_trace::SinkTrace;
 use std::marker::Model;
 
 /// A sink in memory, for tests: it takes a few bytes a call, has a limited room, and fails at the
@@ -19,6 +19,7 @@ pub struct MemSink {
     failing: Vec<u64>,
     next: u64,
     faults: u64,
+    trace: SinkTrace,
 }
 
 impl Model for MemSink {
@@ -31,6 +32,7 @@ impl Model for MemSink {
       failing = s.failing.items;
       next = s.next;
       faults = s.faults;
+      writes = s.trace.writing.writes;
     } };
 
     ghost invariant = { λ s. (s.at ≤ vec_len s.room) × (0 < s.piece) };
@@ -42,7 +44,15 @@ impl MemSink {
     pub fn new(room: Vec<u8>, piece: usize, failing: Vec<u64>) -> MemSink
         requires { 0 < piece }
         ensures { result
-            ≡ record { taken = []; room = vec_len room; piece = piece; failing = failing.items; next = 1; faults = 0 } }
+            ≡ record {
+              taken = [];
+              room = vec_len room;
+              piece = piece;
+              failing = failing.items;
+              next = 1;
+              faults = 0;
+              writes = [];
+            } }
     {
         MemSink {
             room,
@@ -51,6 +61,7 @@ impl MemSink {
             failing,
             next: 1,
             faults: 0,
+            trace: SinkTrace::new(),
         }
     }
 
@@ -63,7 +74,7 @@ impl MemSink {
 }
 
 impl Sink for MemSink {
-    ghost taken = { λ s. Some s.taken };
+    ghost writing = { written };
 
     ghost faults = { λ s. s.faults };
 
@@ -79,7 +90,7 @@ impl Sink for MemSink {
 
         ensures bound { WritesAtMost result buf.now }
         ensures some { 0 < length buf.now → IfOk result (λ n. 0 < n) }
-        ensures bytes { WriteAppends (Some self.old.taken) (Some self.new.taken) result buf.now }
+        ensures writing { written self.new ≡ wrote_on (written self.old) result buf.now }
         ensures later { self.old.faults ≤ self.new.faults }
         ensures cause { OnErr result (Rose self.old.faults self.new.faults) }
     {
@@ -87,10 +98,12 @@ impl Sink for MemSink {
         self.next = number.saturating_add(1);
         let rest = &mut self.room[self.at..];
         if self.failing.contains(&number) || (rest.is_empty() && !buf.is_empty()) {
+            self.trace.note(buf, &buf[..0]);
             self.faults = self.faults.saturating_add(1);
             return Err(Failed);
         }
         let count = copy_front(rest, buf, self.piece);
+        self.trace.note(buf, &buf[..count]);
         self.at += count;
         Ok(count)
     }

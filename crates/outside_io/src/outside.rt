@@ -1,7 +1,8 @@
-ghost use Rattle.std.specs.Prelude.{◌≡◌, ℕ, ◌<◌, ◌≤◌, Bool, List, length, Option, IfOk, OnErr, IsErrOf, IsTrue};
+ghost use Rattle.std.specs.Prelude.{◌≡◌, ℕ, ◌<◌, ◌≤◌, ◌++◌, Bool, false, List, [], ◌∷◌, length, Option, IfOk, OnOk, OnErr, IsErrOf, IsTrue};
 ghost use Rattle.std.specs.Io.{ReadsAtMost, WritesAtMost};
-ghost use Rattle.std.specs.Io.KnownBytes.{ReadConsumes, WriteAppends};
-ghost use Rattle.outside_io.specs.Outside.{raised, Rose, Entry, GivesBytes};
+ghost use Rattle.std.specs.Io.KnownBytes.{ReadConsumes};
+ghost use Rattle.io_trace.specs.Trace.{Reading, Writing};
+ghost use Rattle.outside_io.specs.Outside.{raised, Rose, Entry, GivesBytes, begun, read_on, wrote_on};
 ghost use Rattle.outside_io.specs.declared.outside.SourceRefused.TheVariants.{Memory};
 
 use std::alloc::AllocError;
@@ -15,6 +16,9 @@ pub trait Source {
     /// The bytes that are left, where the source tells them.
     ghost left: { Self → Option (List ℕ) };
 
+    /// How it was read so far.
+    ghost reading: { Self → Reading };
+
     /// How often it failed so far. It begins at 0.
     ghost faults: { Self → ℕ };
 
@@ -22,9 +26,11 @@ pub trait Source {
     ghost loan: { Self → ℕ };
 
     /// Moves bytes from the front of those left into `buf`, and answers how many. The answer 0 for a
-    /// buffer that is not empty is the end. A call that fails moves none.
+    /// buffer that is not empty is the end, behind which nothing is read. A call that fails moves none.
     fn read(&mut self, buf: &mut [u8]) -> Result<usize, Failed>
+        requires going { (reading self.old).ended ≡ false }
         ensures bound { ReadsAtMost result buf.new }
+        ensures reading { reading self.new ≡ read_on (reading self.old) result buf.new }
         ensures bytes { ReadConsumes (left self.old) (left self.new) result buf.new }
         ensures later { faults self.old ≤ faults self.new }
         ensures cause { OnErr result (Rose (faults self.old) (faults self.new)) }
@@ -33,8 +39,8 @@ pub trait Source {
 
 /// Where bytes go to, as standard output.
 pub trait Sink {
-    /// The bytes that it took so far, where the sink tells them.
-    ghost taken: { Self → Option (List ℕ) };
+    /// The bytes that it took so far, and the writes that it was asked for.
+    ghost writing: { Self → Writing };
 
     /// How often it failed so far. It begins at 0.
     ghost faults: { Self → ℕ };
@@ -44,7 +50,7 @@ pub trait Sink {
     fn write(&mut self, buf: &[u8]) -> Result<usize, Failed>
         ensures bound { WritesAtMost result buf.now }
         ensures some { 0 < length buf.now → IfOk result (λ n. 0 < n) }
-        ensures bytes { WriteAppends (taken self.old) (taken self.new) result buf.now }
+        ensures writing { writing self.new ≡ wrote_on (writing self.old) result buf.now }
         ensures later { faults self.old ≤ faults self.new }
         ensures cause { OnErr result (Rose (faults self.old) (faults self.new)) };
 }
@@ -73,6 +79,9 @@ pub trait Files {
     /// The files, where they are told.
     ghost entries: { Self → Option (List Entry) };
 
+    /// The readings so far: of each source that came back, and of each name for which the outside failed.
+    ghost readings: { Self → List Reading };
+
     /// How often it failed so far, with the faults of the sources that came back. It begins at 0.
     ghost faults: { Self → ℕ };
 
@@ -90,6 +99,11 @@ pub trait Files {
 
         ensures bytes { IfOk result (λ source. GivesBytes (entries self.old) name.now (Self.In.left source)) }
         ensures fresh { IfOk result (λ source. Self.In.faults source ≡ 0) }
+        ensures begun { IfOk result (λ source. Self.In.reading source ≡ begun name.now) }
+        ensures opened { OnOk result (readings self.new ≡ readings self.old) }
+        ensures not_opened { IsErrOf result SourceRefused.Failed
+            → readings self.new ≡ readings self.old ++ begun name.now ∷ [] }
+        ensures not_asked { IsErrOf result SourceRefused.Memory → readings self.new ≡ readings self.old }
         ensures lent { IfOk result (λ source. lent self.new ≡ Some (Self.In.loan source)) }
         ensures not_lent { OnErr result (lent self.new ≡ None) }
 
@@ -106,6 +120,7 @@ pub trait Files {
 
         ensures later { faults self.old ≤ faults self.new }
         ensures faults { faults self.new ≡ raised (faults self.old) (Self.In.faults source) }
+        ensures readings { readings self.new ≡ readings self.old ++ Self.In.reading source ∷ [] }
         ensures free { lent self.new ≡ None }
 
         ensures entries { entries self.new ≡ entries self.old }

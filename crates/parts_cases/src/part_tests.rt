@@ -6,7 +6,7 @@ use input_types::{
     Body, DeviceId, FLAG_CANCELED, KeyArgs, KeyMsg, Motion, MotionAction, Pixel, Pointer,
     PointerId, Pointers,
 };
-use split_motion::{about, part, plain, rest, split};
+use split_motion::{about, part, part_but, plain, split};
 use std::alloc::Global;
 use std::test::Fail;
 
@@ -50,7 +50,7 @@ fn two_ids() -> Bits32 {
 fn pointers_are_picked(rt: HostRuntime) -> Result<(), Fail> {
     let three = pointers(&[0, 1, 2])?;
     assert_eq!(rt; part(&three, two_ids()), pointers(&[0, 2])?);
-    assert_eq!(rt; rest(&three, two_ids()), pointers(&[1])?);
+    assert_eq!(rt; part_but(&three, two_ids()), pointers(&[1])?);
     let third = PointerId::new(2).ok_or("an id")?;
     let up = about(device(2)?, MotionAction::PointerUp, third, 0, three);
     assert_eq!(rt; up, motion(2, MotionAction::PointerUp, 2, &[0, 1, 2])?);

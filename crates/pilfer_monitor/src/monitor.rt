@@ -23,13 +23,13 @@ pub fn pilfer(state: &mut TouchState, channel: u32) -> Losses
     state.start_pilfer(channel);
     let mut lost = [Bits32::empty(); 64];
     for k in 0..64 {
-        lost[k as usize] = take(state, k + 1, channel, ids);
+        lost[k as usize] = remove(state, k + 1, channel, ids);
     }
     Losses::new(lost)
 }
 
-/// Takes these ids from a window, unless it is the spy; the answer is those that it held.
-fn take(state: &mut TouchState, channel: u32, spy: u32, ids: Bits32) -> Bits32
+/// Removes these ids from a window, unless it is the spy; the answer is those that it held.
+fn remove(state: &mut TouchState, channel: u32, spy: u32, ids: Bits32) -> Bits32
     requires { is_channel channel ≡ true }
     ensures state { (place : ℕ) →
         Changes state.old state.new none (λ w i. w == channel && (not (w == spy) && is_in i ids)) place nobody }

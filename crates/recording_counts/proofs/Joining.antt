@@ -6,7 +6,7 @@ use Rattle.raw_events.specs.Pieces.{Parts, parts, with_byte, last_line}
 use Rattle.raw_events.specs.Recording.{line_len, lines_of}
 use Rattle.raw_events.proofs.Parts.{lines_are, begun_unended}
 use Rattle.recording_counts.specs.declared.lines.LineCounts.{LineCounts}
-use Rattle.recording_counts.specs.Tally.{LinesStandFor, TallyStandsFor}
+use Rattle.recording_counts.specs.Tally.{LineCountsStandFor, LineTallyStandsFor}
 use Rattle.recording_counts.proofs.Oks.{both_ok}
 
 -- these lines, and what a piece makes of the line that has begun
@@ -49,18 +49,18 @@ all_lines bs =
 
 -- a piece was taken, unless memory ran out
 pub took : {T E : Type 0} (r : Result T E) (devices there lent : Known) (bytes piece begun after : List ℕ) (old new : LineCounts) → there ≡ devices → lent ≡ devices
-    → begun ≡ (parts bytes).begun → LinesStandFor devices (reverse (parts bytes).ended) old
-    → ((past : List (List ℕ)) → line_len begun ≡ length begun → LinesStandFor lent past old → OnOk r (LinesStandFor lent (reverse (parts (begun ++ piece)).ended ++ past) new))
+    → begun ≡ (parts bytes).begun → LineCountsStandFor devices (reverse (parts bytes).ended) old
+    → ((past : List (List ℕ)) → line_len begun ≡ length begun → LineCountsStandFor lent past old → OnOk r (LineCountsStandFor lent (reverse (parts (begun ++ piece)).ended ++ past) new))
     → (line_len begun ≡ length begun → OnOk r (after ≡ (parts (begun ++ piece)).begun))
-    → OnOk r (TallyStandsFor devices (bytes ++ piece) (record { devices = there; begun = after; counts = new }))
+    → OnOk r (LineTallyStandsFor devices (bytes ++ piece) (record { devices = there; begun = after; counts = new }))
 took r devices there lent bytes piece begun after old new k m b h counts ends =
     let unended : line_len begun ≡ length begun = subst (λ (bs : List ℕ). line_len bs ≡ length bs) (sym b) (begun_unended bytes) in
     both_ok r
     (λ l a. record {
       devices_are = k;
       begun_is = a ∙ ap (λ bs. (parts (bs ++ piece)).begun) b ∙ ap (λ (p : Parts). p.begun) (sym (parts_more bytes piece));
-      lines_stand = subst (λ (d : Known). LinesStandFor d (reverse (parts (bytes ++ piece)).ended) new) m
-          (subst (λ (ls : List (List ℕ)). LinesStandFor lent ls new) (ap (λ bs. reverse (parts (bs ++ piece)).ended ++ reverse (parts bytes).ended) b ∙ lines_more bytes piece) l);
+      lines_stand = subst (λ (d : Known). LineCountsStandFor d (reverse (parts (bytes ++ piece)).ended) new) m
+          (subst (λ (ls : List (List ℕ)). LineCountsStandFor lent ls new) (ap (λ bs. reverse (parts (bs ++ piece)).ended ++ reverse (parts bytes).ended) b ∙ lines_more bytes piece) l);
     })
-    (counts (reverse (parts bytes).ended) unended (subst (λ (d : Known). LinesStandFor d (reverse (parts bytes).ended) old) (sym m) h))
+    (counts (reverse (parts bytes).ended) unended (subst (λ (d : Known). LineCountsStandFor d (reverse (parts bytes).ended) old) (sym m) h))
     (ends unended)

@@ -9,7 +9,7 @@ use Rattle.recording_counts.specs.declared.lines.LineCounts.{LineCounts}
 use Rattle.recording_counts.specs.Counted.{counted, risen}
 use Rattle.recording_counts.specs.Lines.{IsRead, given_by, is_blank_line, is_other_line, is_unknown_line, passes, path_in, path_named, text_of, unknown_paths}
 use Rattle.recording_counts.specs.Paths.{PathTable, PathsStandFor}
-use Rattle.recording_counts.specs.Tally.{LinesStandFor, SortsLines}
+use Rattle.recording_counts.specs.Tally.{LineCountsStandFor, SortsLines}
 use Rattle.recording_counts.proofs.Forms.{formed_passes, read_formed}
 
 pub counted_more : {X : Type 0} (x : X) (xs : List X) → risen (counted xs) ≡ counted (x ∷ xs)
@@ -85,8 +85,8 @@ module _ (devices : Known) (past : List (List ℕ)) (line : List ℕ) (old new :
     paths_stand = paths_step devices line past unknown new.paths s.unknown_is p;
   }
 
-  pub blank_more : LinesStandFor devices past old → text_of line ≡ [] → new.lines ≡ risen old.lines → new.blank ≡ risen old.blank → new.other ≡ old.other
-      → new.unknown ≡ old.unknown → new.paths ≡ old.paths → LinesStandFor devices (line ∷ past) new
+  pub blank_more : LineCountsStandFor devices past old → text_of line ≡ [] → new.lines ≡ risen old.lines → new.blank ≡ risen old.blank → new.other ≡ old.other
+      → new.unknown ≡ old.unknown → new.paths ≡ old.paths → LineCountsStandFor devices (line ∷ past) new
   blank_more h e l b o u p = record {
     lines_are = l ∙ ap risen h.lines_are ∙ counted_more line past;
     sorted = λ r.
@@ -95,8 +95,8 @@ module _ (devices : Known) (past : List (List ℕ)) (line : List ℕ) (old new :
         (rw p (h.sorted r.1).paths_stand) (h.sorted r.1);
   }
 
-  pub other_more : LinesStandFor devices past old → (c : ℕ) (cs : List ℕ) → text_of line ≡ c ∷ cs → (c == 91) ≡ false → new.lines ≡ risen old.lines → new.blank ≡ old.blank
-      → new.other ≡ risen old.other → new.unknown ≡ old.unknown → new.paths ≡ old.paths → LinesStandFor devices (line ∷ past) new
+  pub other_more : LineCountsStandFor devices past old → (c : ℕ) (cs : List ℕ) → text_of line ≡ c ∷ cs → (c == 91) ≡ false → new.lines ≡ risen old.lines → new.blank ≡ old.blank
+      → new.other ≡ risen old.other → new.unknown ≡ old.unknown → new.paths ≡ old.paths → LineCountsStandFor devices (line ∷ past) new
   other_more h c cs e n l b o u p = record {
     lines_are = l ∙ ap risen h.lines_are ∙ counted_more line past;
     sorted = λ r.
@@ -117,11 +117,11 @@ module _ (devices : Known) (past : List (List ℕ)) (line : List ℕ) (old new :
   turned_paths true path paths table h = h
   turned_paths false path paths table h = h
 
-  pub event_more : LinesStandFor devices past old → (text : List ℕ) → text_of line ≡ 91 ∷ text → new.lines ≡ risen old.lines → new.blank ≡ old.blank → new.other ≡ old.other
+  pub event_more : LineCountsStandFor devices past old → (text : List ℕ) → text_of line ≡ 91 ∷ text → new.lines ≡ risen old.lines → new.blank ≡ old.blank → new.other ≡ old.other
       → (is_some (formed devices text) ≡ true → new.unknown ≡ (if is_some (sender devices (path_in text)) then old.unknown else risen old.unknown))
       → ((paths : List (List ℕ)) → is_some (formed devices text) ≡ true → PathsStandFor paths old.paths
       → PathsStandFor (if is_some (sender devices (path_in text)) then paths else unwrap_or (path_in text) (codes "-") ∷ paths) new.paths)
-      → LinesStandFor devices (line ∷ past) new
+      → LineCountsStandFor devices (line ∷ past) new
   event_more h text e l b o u p = record {
     lines_are = l ∙ ap risen h.lines_are ∙ counted_more line past;
     sorted = λ r.
@@ -134,10 +134,10 @@ module _ (devices : Known) (past : List (List ℕ)) (line : List ℕ) (old new :
   }
 
   -- the same, unless memory ran out
-  pub event_ok : {T E : Type 0} (r : Result T E) → LinesStandFor devices past old → (text : List ℕ) → text_of line ≡ 91 ∷ text → new.lines ≡ risen old.lines → new.blank ≡ old.blank → new.other ≡ old.other
+  pub event_ok : {T E : Type 0} (r : Result T E) → LineCountsStandFor devices past old → (text : List ℕ) → text_of line ≡ 91 ∷ text → new.lines ≡ risen old.lines → new.blank ≡ old.blank → new.other ≡ old.other
       → (is_some (formed devices text) ≡ true → OnOk r (new.unknown ≡ (if is_some (sender devices (path_in text)) then old.unknown else risen old.unknown)))
       → ((paths : List (List ℕ)) → is_some (formed devices text) ≡ true → PathsStandFor paths old.paths
       → OnOk r (PathsStandFor (if is_some (sender devices (path_in text)) then paths else unwrap_or (path_in text) (codes "-") ∷ paths) new.paths))
-      → OnOk r (LinesStandFor devices (line ∷ past) new)
+      → OnOk r (LineCountsStandFor devices (line ∷ past) new)
   event_ok (Ok x) h text e l b o u p = event_more h text e l b o u p
   event_ok (Err x) h text e l b o u p = tt

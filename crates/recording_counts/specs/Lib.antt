@@ -1,7 +1,7 @@
 pub mod Counted
 pub mod Events
 pub mod Touch
-pub mod Keys
+pub mod KeyTally
 pub mod Cut
 pub mod Lines
 pub mod Paths

@@ -15,7 +15,7 @@ pub record SortsLines (devices : Known) (past : List (List ℕ)) (c : LineCounts
   pub paths_stand : PathsStandFor (unknown_paths devices past) c.paths
 
 -- the counts are those of these lines
-pub record LinesStandFor (devices : Known) (past : List (List ℕ)) (c : LineCounts) : Type 0 where
+pub record LineCountsStandFor (devices : Known) (past : List (List ℕ)) (c : LineCounts) : Type 0 where
   pub lines_are : c.lines ≡ counted past
   pub sorted : AreRead devices past → SortsLines devices past c
 
@@ -26,7 +26,7 @@ pub record TallyState : Type 0 where
   pub counts : LineCounts
 
 -- these bytes were counted: the lines that a newline ended, and what stands behind the last newline has begun
-pub record TallyStandsFor (devices : Known) (bytes : List ℕ) (t : TallyState) : Type 0 where
+pub record LineTallyStandsFor (devices : Known) (bytes : List ℕ) (t : TallyState) : Type 0 where
   pub devices_are : t.devices ≡ devices
   pub begun_is : t.begun ≡ (parts bytes).begun
-  pub lines_stand : LinesStandFor devices (reverse (parts bytes).ended) t.counts
+  pub lines_stand : LineCountsStandFor devices (reverse (parts bytes).ended) t.counts

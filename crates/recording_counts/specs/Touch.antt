@@ -95,7 +95,7 @@ abbrev pub ranges_of : TouchPlan → Ranges
 ranges_of plan = record { x = plan.cook.x; y = plan.cook.y; slots = plan.slots }
 
 -- the counts are those of these events of the device
-pub record TouchStandsFor (plan : TouchPlan) (past : List RawEvent) (t : TouchTally) : Type 0 where
+pub record TouchTallyStandsFor (plan : TouchPlan) (past : List RawEvent) (t : TouchTally) : Type 0 where
   pub ranges_are : t.ranges ≡ ranges_of plan
   pub touching_is : TouchesAfter plan.slots past t.touching
   pub events_are : t.events ≡ event_counts is_touch_used past

@@ -19,7 +19,7 @@
 
 mod cut;
 mod events;
-mod keys;
+mod key_tally;
 mod lines;
 mod number;
 mod paths;
@@ -27,7 +27,7 @@ mod tally;
 mod touch;
 
 pub use events::EventCounts;
-pub use keys::{KeyCounts, KeysTally};
+pub use key_tally::{KeyCounts, KeysTally};
 pub use lines::LineCounts;
 pub use paths::UnknownPaths;
 pub use tally::LineTally;

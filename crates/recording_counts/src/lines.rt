@@ -7,7 +7,7 @@ ghost use Rattle.recording_counts.specs.Counted.{risen};
 ghost use Rattle.recording_counts.specs.Cut.{behind_bracket};
 ghost use Rattle.recording_counts.specs.Lines.{path_in, text_of};
 ghost use Rattle.recording_counts.specs.Paths.{PathsStandFor};
-ghost use Rattle.recording_counts.specs.Tally.{LinesStandFor};
+ghost use Rattle.recording_counts.specs.Tally.{LineCountsStandFor};
 
 use crate::cut::next_line;
 use crate::number::risen_if;
@@ -31,7 +31,7 @@ pub struct LineCounts {
 impl LineCounts {
     /// Before the first line.
     pub(crate) fn new(alloc: Global) -> LineCounts
-        ensures { (devices : Known) → LinesStandFor devices [] result }
+        ensures { (devices : Known) → LineCountsStandFor devices [] result }
     {
         LineCounts {
             lines: 0,
@@ -153,8 +153,8 @@ pub(crate) fn count_line(
     counts: &mut LineCounts,
     line: &[u8],
 ) -> Result<(), AllocError>
-    ensures { (past : List (List ℕ)) → LinesStandFor (known devices.now) past counts.old
-        → OnOk result (LinesStandFor (known devices.now) (line.now ∷ past) counts.new) }
+    ensures { (past : List (List ℕ)) → LineCountsStandFor (known devices.now) past counts.old
+        → OnOk result (LineCountsStandFor (known devices.now) (line.now ∷ past) counts.new) }
 {
     counts.lines = risen_if(counts.lines, true);
     let Some((first, text)) = first_byte(text_of(line)) else {
@@ -174,8 +174,8 @@ pub(crate) fn count_lines<'a>(
     counts: &mut LineCounts,
     bytes: &'a [u8],
 ) -> Result<&'a [u8], AllocError>
-    ensures counts { (past : List (List ℕ)) → LinesStandFor (known devices.now) past counts.old
-        → OnOk result (LinesStandFor (known devices.now) (reverse (parts bytes.now).ended ++ past) counts.new) }
+    ensures counts { (past : List (List ℕ)) → LineCountsStandFor (known devices.now) past counts.old
+        → OnOk result (LineCountsStandFor (known devices.now) (reverse (parts bytes.now).ended ++ past) counts.new) }
     ensures begun { IfOk result (λ rest. rest.now ≡ (parts bytes.now).begun) }
 {
     let mut rest = bytes;

@@ -3,7 +3,7 @@ ghost use Rattle.std.specs.Prelude.{◌≡◌, ◌++◌, [], ℕ, List, length, 
 ghost use Rattle.raw_events.specs.Line.{Known, known};
 ghost use Rattle.raw_events.specs.Pieces.{last_line, parts};
 ghost use Rattle.raw_events.specs.Recording.{line_len, lines_of};
-ghost use Rattle.recording_counts.specs.Tally.{LinesStandFor, TallyStandsFor};
+ghost use Rattle.recording_counts.specs.Tally.{LineCountsStandFor, LineTallyStandsFor};
 
 use crate::cut::next_line;
 use crate::lines::{LineCounts, count_line, count_lines};
@@ -35,7 +35,7 @@ impl Model for LineTally {
 impl LineTally {
     /// Before the first byte of a recording. The first entry is the first device of the session.
     pub fn new(paths: Vec<(String, DeviceId)>) -> LineTally
-        ensures { TallyStandsFor (known paths.items) [] result }
+        ensures { LineTallyStandsFor (known paths.items) [] result }
     {
         let alloc = *paths.allocator();
         LineTally {
@@ -45,18 +45,18 @@ impl LineTally {
         }
     }
 
-    /// Takes the next piece.
-    pub fn take(&mut self, piece: &[u8]) -> Result<(), AllocError>
-        ensures { (devices : Known) (bytes : List ℕ) → TallyStandsFor devices bytes self.old
-            → OnOk result (TallyStandsFor devices (bytes ++ piece.now) self.new) }
+    /// Feeds the next piece.
+    pub fn feed(&mut self, piece: &[u8]) -> Result<(), AllocError>
+        ensures { (devices : Known) (bytes : List ℕ) → LineTallyStandsFor devices bytes self.old
+            → OnOk result (LineTallyStandsFor devices (bytes ++ piece.now) self.new) }
     {
         go_on(&self.devices, &mut self.begun, &mut self.counts, piece)
     }
 
     /// Takes what has begun as a last line, where there is anything. It is the last call before `counts`.
     pub fn finish(&mut self) -> Result<(), AllocError>
-        ensures { (devices : Known) (bytes : List ℕ) → TallyStandsFor devices bytes self.old
-            → OnOk result (LinesStandFor devices (reverse (lines_of bytes)) self.new.counts) }
+        ensures { (devices : Known) (bytes : List ℕ) → LineTallyStandsFor devices bytes self.old
+            → OnOk result (LineCountsStandFor devices (reverse (lines_of bytes)) self.new.counts) }
     {
         count_last(&self.devices, &mut self.counts, &self.begun)
     }
@@ -69,15 +69,15 @@ impl LineTally {
     }
 }
 
-/// Takes bytes that begin with a new line. What has begun before goes away.
+/// Feeds bytes that begin with a new line. What has begun before goes away.
 fn begin(
     devices: &[(String, DeviceId)],
     begun: &mut Vec<u8>,
     counts: &mut LineCounts,
     bytes: &[u8],
 ) -> Result<(), AllocError>
-    ensures counts { (past : List (List ℕ)) → LinesStandFor (known devices.now) past counts.old
-        → OnOk result (LinesStandFor (known devices.now) (reverse (parts bytes.now).ended ++ past) counts.new) }
+    ensures counts { (past : List (List ℕ)) → LineCountsStandFor (known devices.now) past counts.old
+        → OnOk result (LineCountsStandFor (known devices.now) (reverse (parts bytes.now).ended ++ past) counts.new) }
     ensures begun { OnOk result (begun.new.items ≡ (parts bytes.now).begun) }
 {
     let rest = count_lines(devices, counts, bytes)?;
@@ -85,7 +85,7 @@ fn begin(
     begun.extend_from_slice(rest)
 }
 
-/// Takes a piece behind the bytes of the line that has begun, which have no newline.
+/// Feeds a piece behind the bytes of the line that has begun, which have no newline.
 fn go_on(
     devices: &[(String, DeviceId)],
     begun: &mut Vec<u8>,
@@ -93,8 +93,8 @@ fn go_on(
     piece: &[u8],
 ) -> Result<(), AllocError>
     ensures counts { (past : List (List ℕ)) → line_len begun.old.items ≡ length begun.old.items
-        → LinesStandFor (known devices.now) past counts.old → OnOk result
-        (LinesStandFor (known devices.now) (reverse (parts (begun.old.items ++ piece.now)).ended ++ past) counts.new) }
+        → LineCountsStandFor (known devices.now) past counts.old → OnOk result (LineCountsStandFor (known devices.now)
+        (reverse (parts (begun.old.items ++ piece.now)).ended ++ past) counts.new) }
     ensures begun { line_len begun.old.items ≡ length begun.old.items
         → OnOk result (begun.new.items ≡ (parts (begun.old.items ++ piece.now)).begun) }
 {
@@ -112,8 +112,8 @@ fn count_last(
     counts: &mut LineCounts,
     last: &[u8],
 ) -> Result<(), AllocError>
-    ensures { (past : List (List ℕ)) → LinesStandFor (known devices.now) past counts.old
-        → OnOk result (LinesStandFor (known devices.now) (last_line last.now ++ past) counts.new) }
+    ensures { (past : List (List ℕ)) → LineCountsStandFor (known devices.now) past counts.old
+        → OnOk result (LineCountsStandFor (known devices.now) (last_line last.now ++ past) counts.new) }
 {
     if last.is_empty() {
         return Ok(());

@@ -6,7 +6,7 @@ ghost use Rattle.slot_accumulator.specs.declared.contacts.Contact.{Contact as Co
 ghost use Rattle.slot_accumulator.specs.SlotContacts.{SlotsStandFor, contacts_at};
 ghost use Rattle.pointer_ids.specs.PointerIds.{assigned, fingers as fingers_of, named_after};
 ghost use Rattle.device_reader.specs.Cooked.{TouchPlan};
-ghost use Rattle.recording_counts.specs.Touch.{TouchStandsFor, TouchesAfter, ends_contact, held_at, is_astray, is_beyond};
+ghost use Rattle.recording_counts.specs.Touch.{TouchTallyStandsFor, TouchesAfter, ends_contact, held_at, is_astray, is_beyond};
 ghost use Rattle.recording_counts.specs.Touch.{is_outside, is_position, is_single, packet_at, palms as palms_of};
 ghost use Rattle.recording_counts.specs.Touch.{ranges_of, touch_counts};
 ghost use Rattle.recording_counts.specs.Events.{event_counts, is_touch_used as touch_used};
@@ -234,7 +234,7 @@ impl TouchTally {
     pub fn new(x: Axis, y: Axis, slots: u8) -> TouchTally
         requires { (1 ≤ slots) × (slots ≤ 16) }
         ensures { (plan : TouchPlan) → ranges_of plan ≡ record { x = x; y = y; slots = slots }
-            → TouchStandsFor plan [] result }
+            → TouchTallyStandsFor plan [] result }
     {
         TouchTally {
             ranges: Ranges { x, y, slots },
@@ -246,8 +246,8 @@ impl TouchTally {
 
     /// Takes the next event of the device.
     pub fn take(&mut self, event: &RawEvent)
-        ensures { (plan : TouchPlan) (past : List Event) → TouchStandsFor plan past self.old
-            → TouchStandsFor plan (event.now ∷ past) self.new }
+        ensures { (plan : TouchPlan) (past : List Event) → TouchTallyStandsFor plan past self.old
+            → TouchTallyStandsFor plan (event.now ∷ past) self.new }
     {
         let void = self.touching.void;
         self.events.take(event, is_touch_used(event), void);
@@ -257,7 +257,7 @@ impl TouchTally {
 
     /// What is counted of the events of every device.
     pub fn events(&self) -> &EventCounts
-        ensures { (plan : TouchPlan) (past : List Event) → TouchStandsFor plan past self.now
+        ensures { (plan : TouchPlan) (past : List Event) → TouchTallyStandsFor plan past self.now
             → result.now ≡ event_counts touch_used past }
     {
         &self.events
@@ -265,7 +265,7 @@ impl TouchTally {
 
     /// What only touch devices count.
     pub fn counts(&self) -> &TouchCounts
-        ensures { (plan : TouchPlan) (past : List Event) → TouchStandsFor plan past self.now
+        ensures { (plan : TouchPlan) (past : List Event) → TouchTallyStandsFor plan past self.now
             → result.now ≡ touch_counts (ranges_of plan) past }
     {
         &self.counts
@@ -273,7 +273,7 @@ impl TouchTally {
 
     /// The pointers that the reader of the device holds, in rising id.
     pub fn held(&self) -> &Assigned
-        ensures { (plan : TouchPlan) (past : List Event) → TouchStandsFor plan past self.now
+        ensures { (plan : TouchPlan) (past : List Event) → TouchTallyStandsFor plan past self.now
             → result.now.pointers ≡ held_at plan.slots past }
     {
         self.touching.held()

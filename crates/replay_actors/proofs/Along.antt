@@ -10,29 +10,29 @@ use Rattle.dispatch_history.specs.Legal.{Legal}
 use Rattle.dispatch_core.specs.Machine.{steps}
 use Rattle.turnstile.specs.History.{Entry as Called, calls_by, of_zero}
 use Rattle.replay_actors.specs.Finishing.{given, IsOrderly, AreOrderly}
-use Rattle.replay_actors.specs.Lanes.{Own, Taking, takes, owes, strays_off, next_channel, after_take, taking_then, taking}
+use Rattle.replay_actors.specs.Lanes.{Own, Receiving, receives, owes, strays_off, next_channel, after_receive, receiving_then, receiving}
 use Rattle.replay_actors.specs.Raced.{OnlyOpens}
 use Rattle.replay_actors.specs.Race.{Each, opens}
 use Rattle.replay_actors.proofs.Deeds.{Deed, about, caller, reader, dispatcher, script, app}
 use Rattle.replay_actors.proofs.Firsts.{begun, none_else}
 use Rattle.replay_actors.proofs.Gathering.{Entries}
-use Rattle.replay_actors.proofs.Stages.{weigh, idle_one, Belongs, one_owner, TakesOn, TakeCount, took_on, took}
+use Rattle.replay_actors.proofs.Stages.{weigh, idle_one, Belongs, one_owner, ReceivesOn, ReceiveCount, received_on, took}
 use Rattle.replay_actors.proofs.Pairs.{Even, Owes, Keeps, is_about, even_other, owes_other, keeps_other, got_owes, none_given, orderly, finish_even, finish_keeps}
 
 -- what a channel's owner was given and asked, where an application stands so
-abbrev PairAt : ℕ → Taking → History → Type 0
-PairAt c (takes n d) h = Even c h
+abbrev PairAt : ℕ → Receiving → History → Type 0
+PairAt c (receives n d) h = Even c h
 PairAt c (owes n d seq) h = (d ≡ c → Owes c seq h) × ((d ≡ c → ⊥) → Even c h)
 PairAt c strays_off h = ⊥
 
 -- a call about another channel leaves it
-pair_other : (stage : Taking) (call : Call) (answer : Reply) (c : ℕ) (h : History) → is_about call c ≡ false → PairAt c stage h → PairAt c stage ((call, answer) ∷ h)
-pair_other (takes n d) call answer c h other p = even_other call answer c h other p
+pair_other : (stage : Receiving) (call : Call) (answer : Reply) (c : ℕ) (h : History) → is_about call c ≡ false → PairAt c stage h → PairAt c stage ((call, answer) ∷ h)
+pair_other (receives n d) call answer c h other p = even_other call answer c h other p
 pair_other (owes n d seq) call answer c h other p = (λ e. owes_other call answer c seq h other (p.0 e), λ ne. even_other call answer c h other (p.1 ne))
 pair_other strays_off call answer c h other p = absurd p
 
 module _ (ds : List ℕ) (f : ℕ → Bool) (channels j : ℕ) where
-  record Paired (c : ℕ) (later : Taking) (call : Call) (answer : Reply) (h : History) : Type 0 where
+  record Paired (c : ℕ) (later : Receiving) (call : Call) (answer : Reply) (h : History) : Type 0 where
     at : PairAt c later ((call, answer) ∷ h)
     keeps : Keeps c ((call, answer) ∷ h)
     order : is_about call c ≡ true → IsOrderly f h call
@@ -40,10 +40,10 @@ module _ (ds : List ℕ) (f : ℕ → Bool) (channels j : ℕ) where
   receive_keeps : (c d : ℕ) (answer : Reply) (h : History) → Keeps c h → Keeps c ((Receive d, answer) ∷ h)
   receive_keeps c d answer h k = k
 
-  pair_take : (c n d : ℕ) (answer : Reply) (h : History) → f c ≡ true → Even c h → Keeps c h → Paired c (after_take f channels j n d answer) (Receive d) answer h
+  pair_take : (c n d : ℕ) (answer : Reply) (h : History) → f c ≡ true → Even c h → Keeps c h → Paired c (after_receive f channels j n d answer) (Receive d) answer h
   pair_take c n d (Got m) h on even keeps = by_set (f d) refl
     where
-      by_set : (b : Bool) → f d ≡ b → Paired c (cond b (owes n d m.seq) (takes n (next_channel channels j d))) (Receive d) (Got m) h
+      by_set : (b : Bool) → f d ≡ b → Paired c (cond b (owes n d m.seq) (receives n (next_channel channels j d))) (Receive d) (Got m) h
       by_set true yes_d =
           record {
             at = (λ e. subst (λ x. Owes c m.seq ((Receive x, Got m) ∷ h)) (sym e) (got_owes c m h even), λ ne. even_other (Receive d) (Got m) c h (ne_eqb c d (λ e. ne (sym e))) even);
@@ -54,21 +54,21 @@ module _ (ds : List ℕ) (f : ℕ → Bool) (channels j : ℕ) where
           record { at = even_other (Receive d) (Got m) c h (ne_eqb c d (λ e. true≢false (sym on ∙ ap f e ∙ off))) even; keeps = keeps; order = λ a. tt }
   pair_take c n d answer h on even keeps = record { at = none_given d answer c (given h c) (λ m e. absurd (cc)) ∙ even; keeps = keeps; order = λ a. tt }
 
-  pair_step : (stage : Taking) (call : Call) (answer : Reply) (c i : ℕ) (h : History) → Legal ds ((call, answer) ∷ h) → f c ≡ true → TakeCount f channels j stage i
-      → TakesOn f channels j (taking_then f channels j stage call answer) → PairAt c stage h → Keeps c h → Paired c (taking_then f channels j stage call answer) call answer h
-  pair_step (takes n d) (Receive x) answer c i h l on k s p keeps = by_channel (x == d) refl s
+  pair_step : (stage : Receiving) (call : Call) (answer : Reply) (c i : ℕ) (h : History) → Legal ds ((call, answer) ∷ h) → f c ≡ true → ReceiveCount f channels j stage i
+      → ReceivesOn f channels j (receiving_then f channels j stage call answer) → PairAt c stage h → Keeps c h → Paired c (receiving_then f channels j stage call answer) call answer h
+  pair_step (receives n d) (Receive x) answer c i h l on k s p keeps = by_channel (x == d) refl s
     where
-      by_channel : (b : Bool) → x == d ≡ b → TakesOn f channels j (cond b (after_take f channels j n d answer) strays_off)
-          → Paired c (cond b (after_take f channels j n d answer) strays_off) (Receive x) answer h
-      by_channel true e s = subst (λ y. Paired c (after_take f channels j n d answer) (Receive y) answer h) (sym (eqb-true x d e)) (pair_take c n d answer h on p keeps)
+      by_channel : (b : Bool) → x == d ≡ b → ReceivesOn f channels j (cond b (after_receive f channels j n d answer) strays_off)
+          → Paired c (cond b (after_receive f channels j n d answer) strays_off) (Receive x) answer h
+      by_channel true e s = subst (λ y. Paired c (after_receive f channels j n d answer) (Receive y) answer h) (sym (eqb-true x d e)) (pair_take c n d answer h on p keeps)
       by_channel false e s = absurd s
   pair_step (owes n d seq) (Finish now x y) answer c i h l on k s p keeps = by_tests (now == 0 && x == d && y == seq) refl s
     where
-      paired : Legal ds ((Finish now d seq, answer) ∷ h) → (d ≡ c) ⊎ (d ≡ c → ⊥) → Paired c (takes n (next_channel channels j d)) (Finish now d seq) answer h
+      paired : Legal ds ((Finish now d seq, answer) ∷ h) → (d ≡ c) ⊎ (d ≡ c → ⊥) → Paired c (receives n (next_channel channels j d)) (Finish now d seq) answer h
       paired l (inl e) =
           let owed : Owes c seq h = p.0 e in
           let l' : Legal ds ((Finish now c seq, answer) ∷ h) = subst (λ x. Legal ds ((Finish now x seq, answer) ∷ h)) e l in
-          subst (λ x. Paired c (takes n (next_channel channels j d)) (Finish now x seq) answer h) (sym e)
+          subst (λ x. Paired c (receives n (next_channel channels j d)) (Finish now x seq) answer h) (sym e)
           (record { at = finish_even answer now c seq h owed; keeps = finish_keeps ds answer now c seq h l' owed keeps; order = λ a. orderly ds h f now c seq l'.1 on owed })
       paired l (inr ne) =
           let other : is_about (Finish now d seq) c ≡ false = ne_eqb c d (λ e. ne (sym e)) in
@@ -78,15 +78,15 @@ module _ (ds : List ℕ) (f : ℕ → Bool) (channels j : ℕ) where
             order = λ a. absurd (true≢false (sym a ∙ other));
           }
 
-      by_tests : (b : Bool) → (now == 0 && x == d && y == seq) ≡ b → TakesOn f channels j (cond b (takes n (next_channel channels j d)) strays_off)
-          → Paired c (cond b (takes n (next_channel channels j d)) strays_off) (Finish now x y) answer h
+      by_tests : (b : Bool) → (now == 0 && x == d && y == seq) ≡ b → ReceivesOn f channels j (cond b (receives n (next_channel channels j d)) strays_off)
+          → Paired c (cond b (receives n (next_channel channels j d)) strays_off) (Finish now x y) answer h
       by_tests true e s =
           let a = and_parts (now == 0 && x == d) (y == seq) e in
           let b = and_parts (now == 0) (x == d) a.0 in
           let same : x ≡ d = eqb-true x d b.1 in
           let number : y ≡ seq = eqb-true y seq a.1 in
-          subst (λ z. Paired c (takes n (next_channel channels j d)) (Finish now z y) answer h) (sym same)
-          (subst (λ z. Paired c (takes n (next_channel channels j d)) (Finish now d z) answer h) (sym number)
+          subst (λ z. Paired c (receives n (next_channel channels j d)) (Finish now z y) answer h) (sym same)
+          (subst (λ z. Paired c (receives n (next_channel channels j d)) (Finish now d z) answer h) (sym number)
           (paired (subst (λ z. Legal ds ((Finish now d z, answer) ∷ h)) number (subst (λ z. Legal ds ((Finish now z y, answer) ∷ h)) same l)) (cases_eq d c)))
       by_tests false e s = absurd s
   pair_step stage call answer c i h l on k s p keeps = absurd s
@@ -106,12 +106,12 @@ owner (suc c) =
 
 module _ (ds : List ℕ) (f : ℕ → Bool) (channels s m : ℕ) (own : List Own) where
   -- the stage of an application in a history
-  abbrev stage : ℕ → Entries → Taking
-  stage j h = taking f channels j (calls_by (3 + s + j) h)
+  abbrev stage : ℕ → Entries → Receiving
+  stage j h = receiving f channels j (calls_by (3 + s + j) h)
 
   -- all applications make the calls that are due
   abbrev pub AllOn : Entries → Type 0
-  AllOn h = (j : ℕ) → j < m → TakesOn f channels j (stage j h)
+  AllOn h = (j : ℕ) → j < m → ReceivesOn f channels j (stage j h)
 
   calls_same : (k : ℕ) (e : Called Call Reply) (h : Entries) → e.0 ≡ k → calls_by k (e ∷ h) ≡ (length h, e.1, e.2) ∷ calls_by k h
   calls_same k e h is = ap (λ b. cond b ((length h, e.1, e.2) ∷ calls_by k h) (calls_by k h)) (eq-eqb e.0 k is)
@@ -122,8 +122,8 @@ module _ (ds : List ℕ) (f : ℕ → Bool) (channels s m : ℕ) (own : List Own
   on_before : (e : Called Call Reply) (h : Entries) → AllOn (e ∷ h) → AllOn h
   on_before e h on j lt =
       elim (cases_eq e.0 (3 + s + j)) [
-        | inl y ↦ took_on f channels j (stage j h) e.1 e.2 (subst (λ o. TakesOn f channels j (taking f channels j o)) (calls_same (3 + s + j) e h y) (on j lt))
-        | inr ne ↦ subst (λ o. TakesOn f channels j (taking f channels j o)) (calls_other (3 + s + j) e h ne) (on j lt)
+        | inl y ↦ received_on f channels j (stage j h) e.1 e.2 (subst (λ o. ReceivesOn f channels j (receiving f channels j o)) (calls_same (3 + s + j) e h y) (on j lt))
+        | inr ne ↦ subst (λ o. ReceivesOn f channels j (receiving f channels j o)) (calls_other (3 + s + j) e h ne) (on j lt)
       ]
 
   -- a channel that an application has
@@ -132,7 +132,7 @@ module _ (ds : List ℕ) (f : ℕ → Bool) (channels s m : ℕ) (own : List Own
       → PairAt c (stage j (later ++ of_zero own)) (steps (later ++ of_zero own)) × Keeps c (steps (later ++ of_zero own))
   owned j c [] few lt b on only l deeds shut all =
       let g = begun own c only in (
-        subst (λ o. PairAt c (taking f channels j o) (steps (of_zero own))) (sym (none_else (3 + s + j) own (omega arith))) (g.given_none ∙ sym g.asked_none),
+        subst (λ o. PairAt c (receiving f channels j o) (steps (of_zero own))) (sym (none_else (3 + s + j) own (omega arith))) (g.given_none ∙ sym g.asked_none),
         λ lives. g.finished_none ∙ sym g.asked_none,
       )
   owned j c (e ∷ later) few lt b on only l deeds shut all =
@@ -140,13 +140,13 @@ module _ (ds : List ℕ) (f : ℕ → Bool) (channels s m : ℕ) (own : List Own
       let before = owned j c later few lt b on only l.1 deeds.1 shut.1 (on_before e h all) in
       elim (cases_eq e.0 (3 + s + j)) [
         | inl y ↦
-            let now_on = subst (λ o. TakesOn f channels j (taking f channels j o)) (calls_same (3 + s + j) e h y) (all j lt) in
+            let now_on = subst (λ o. ReceivesOn f channels j (receiving f channels j o)) (calls_same (3 + s + j) e h y) (all j lt) in
             let k = took f channels j (calls_by (3 + s + j) h) (on_before e h all j lt) in
             let p = pair_step ds f channels j (stage j h) e.1 e.2 c (weigh idle_one (calls_by (3 + s + j) h)) (steps h) l on k.count now_on before.0 before.1 in
-            (subst (λ o. PairAt c (taking f channels j o) (steps (e ∷ h))) (sym (calls_same (3 + s + j) e h y)) p.at, p.keeps)
+            (subst (λ o. PairAt c (receiving f channels j o) (steps (e ∷ h))) (sym (calls_same (3 + s + j) e h y)) p.at, p.keeps)
         | inr ne ↦
             let other : is_about e.1 c ≡ false = about deeds.0 c (λ i low is has. ne (is ∙ ap (λ x. 3 + s + x) (one_owner i j c (omega arith) (omega arith) has b))) in (
-              subst (λ o. PairAt c (taking f channels j o) (steps (e ∷ h))) (sym (calls_other (3 + s + j) e h ne)) (pair_other (stage j h) e.1 e.2 c (steps h) other before.0),
+              subst (λ o. PairAt c (receiving f channels j o) (steps (e ∷ h))) (sym (calls_other (3 + s + j) e h ne)) (pair_other (stage j h) e.1 e.2 c (steps h) other before.0),
               keeps_other e.1 e.2 c (steps h) shut.0 other before.1,
             )
       ]
@@ -163,7 +163,7 @@ module _ (ds : List ℕ) (f : ℕ → Bool) (channels s m : ℕ) (own : List Own
 
   -- where all applications have finished what they owe
   abbrev pub AllEven : Entries → Type 0
-  AllEven h = (j : ℕ) → j < m → (n : ℕ) × (c : ℕ) × (stage j h ≡ takes n c)
+  AllEven h = (j : ℕ) → j < m → (n : ℕ) × (c : ℕ) × (stage j h ≡ receives n c)
 
   pub even_all : (c : ℕ) (later : Entries) → m ≤ 4 → f c ≡ true → OnlyOpens own → Legal ds (steps (later ++ of_zero own))
       → Each (λ e. Deed s m f channels e.0 e.1 e.2) later → Each (λ e. opens e.1 ≡ false) later → AllOn (later ++ of_zero own) → AllEven (later ++ of_zero own)
@@ -201,7 +201,7 @@ module _ (ds : List ℕ) (f : ℕ → Bool) (channels s m : ℕ) (own : List Own
       by_deed (script i lt a o) = absurd (omega (arith, o))
       by_deed (app j lt y o) =
           let p = owned j c later few lt o.1 o.2 only l.1 deeds.1 shut.1 (on_before e h all) in
-          let now_on = subst (λ o. TakesOn f channels j (taking f channels j o)) (calls_same (3 + s + j) e h y) (all j lt) in
+          let now_on = subst (λ o. ReceivesOn f channels j (receiving f channels j o)) (calls_same (3 + s + j) e h y) (all j lt) in
           let t = took f channels j (calls_by (3 + s + j) h) (on_before e h all j lt) in
           (pair_step ds f channels j (stage j h) (Finish now c seq) r c (weigh idle_one (calls_by (3 + s + j) h)) (steps h) l o.2 t.count now_on p.0 p.1).order (eq-eqb c c refl)
   orderly_one (k, Open limit, r) later few only l deeds shut all = tt

@@ -8,9 +8,9 @@ use Rattle.dispatch_calls.specs.declared.reply.Reply.{Reply}
 use Rattle.dispatch_calls.specs.declared.reply.Reply.TheVariants.{Idle, Got}
 use Rattle.dispatch_history.specs.Legal.{Legal}
 use Rattle.dispatch_core.specs.Recorded.{Recorded, history_of, with_entry, IsSound}
-use Rattle.replay_actors.specs.Settling.{Settling, pumps_out, looks, takes_from, owes_to, strays, after_pump, after_take, settling_then}
-use Rattle.replay_actors.specs.Came.{Came, pumps_left, untaken}
-use Rattle.replay_actors.proofs.Measures.{pump_less, take_less, finish_same}
+use Rattle.replay_actors.specs.Settling.{Settling, pumps_out, looks, receives_from, owes_to, strays, after_pump, after_receive, settling_then}
+use Rattle.replay_actors.specs.Came.{Came, pumps_left, unreceived}
+use Rattle.replay_actors.proofs.Measures.{pump_less, receive_less, finish_same}
 
 -- a call of the caller was answered
 abbrev pub Called : Call → Reply → Recorded → Recorded → Type 0
@@ -42,9 +42,9 @@ pumped_on : (f : ℕ → Bool) (answer : Reply) → (answer ≡ Idle → ⊥) �
 pumped_on f Idle ne = absurd (ne refl)
 pumped_on f answer ne = refl
 
-took_none : (f : ℕ → Bool) (c : ℕ) (answer : Reply) → ((m : Message) → answer ≡ Got m → ⊥) → after_take f c answer ≡ takes_from (c + 1)
-took_none f c (Got m) ne = absurd (ne m refl)
-took_none f c answer ne = refl
+received_none : (f : ℕ → Bool) (c : ℕ) (answer : Reply) → ((m : Message) → answer ≡ Got m → ⊥) → after_receive f c answer ≡ receives_from (c + 1)
+received_none f c (Got m) ne = absurd (ne m refl)
+received_none f c answer ne = refl
 
 module _ (f : ℕ → Bool) (start old new : Recorded) where
   -- a pump
@@ -55,34 +55,34 @@ module _ (f : ℕ → Bool) (start old new : Recorded) where
   pump_more answer is ne c = subst (λ s. Came f start s new) (pumped_on f answer ne) (came_more f start old new pumps_out (Pump 0) answer is c)
 
   -- a tick
-  pub ticked : (answer : Reply) → Called (Tick 0) answer old new → Came f start looks old → Came f start (takes_from 1) new
+  pub ticked : (answer : Reply) → Called (Tick 0) answer old new → Came f start looks old → Came f start (receives_from 1) new
   ticked answer is c = came_more f start old new looks (Tick 0) answer is c
 
   -- a receive
-  pub take_owes : (c : ℕ) (m : Message) → Called (Receive c) (Got m) old new → f c ≡ true → Came f start (takes_from c) old → Came f start (owes_to c m.seq) new
-  take_owes c m is on came =
+  pub receive_owes : (c : ℕ) (m : Message) → Called (Receive c) (Got m) old new → f c ≡ true → Came f start (receives_from c) old → Came f start (owes_to c m.seq) new
+  receive_owes c m is on came =
       subst (λ s. Came f start s new)
-      (ap (λ b. cond b (after_take f c (Got m)) strays) (eq-eqb c c refl) ∙ ap (λ b. cond b (owes_to c m.seq) (takes_from c)) on)
-      (came_more f start old new (takes_from c) (Receive c) (Got m) is came)
+      (ap (λ b. cond b (after_receive f c (Got m)) strays) (eq-eqb c c refl) ∙ ap (λ b. cond b (owes_to c m.seq) (receives_from c)) on)
+      (came_more f start old new (receives_from c) (Receive c) (Got m) is came)
 
-  pub take_more : (c : ℕ) (m : Message) → Called (Receive c) (Got m) old new → f c ≡ false → Came f start (takes_from c) old → Came f start (takes_from c) new
-  take_more c m is off came =
+  pub receive_more : (c : ℕ) (m : Message) → Called (Receive c) (Got m) old new → f c ≡ false → Came f start (receives_from c) old → Came f start (receives_from c) new
+  receive_more c m is off came =
       subst (λ s. Came f start s new)
-      (ap (λ b. cond b (after_take f c (Got m)) strays) (eq-eqb c c refl) ∙ ap (λ b. cond b (owes_to c m.seq) (takes_from c)) off)
-      (came_more f start old new (takes_from c) (Receive c) (Got m) is came)
+      (ap (λ b. cond b (after_receive f c (Got m)) strays) (eq-eqb c c refl) ∙ ap (λ b. cond b (owes_to c m.seq) (receives_from c)) off)
+      (came_more f start old new (receives_from c) (Receive c) (Got m) is came)
 
-  pub take_none : (c : ℕ) (answer : Reply) → Called (Receive c) answer old new → ((m : Message) → answer ≡ Got m → ⊥) → Came f start (takes_from c) old
-      → Came f start (takes_from (c + 1)) new
-  take_none c answer is ne came =
+  pub receive_none : (c : ℕ) (answer : Reply) → Called (Receive c) answer old new → ((m : Message) → answer ≡ Got m → ⊥) → Came f start (receives_from c) old
+      → Came f start (receives_from (c + 1)) new
+  receive_none c answer is ne came =
       subst (λ s. Came f start s new)
-      (ap (λ b. cond b (after_take f c answer) strays) (eq-eqb c c refl) ∙ took_none f c answer ne)
-      (came_more f start old new (takes_from c) (Receive c) answer is came)
+      (ap (λ b. cond b (after_receive f c answer) strays) (eq-eqb c c refl) ∙ received_none f c answer ne)
+      (came_more f start old new (receives_from c) (Receive c) answer is came)
 
   -- a finish
-  pub finished : (c seq : ℕ) (answer : Reply) → Called (Finish 0 c seq) answer old new → Came f start (owes_to c seq) old → Came f start (takes_from c) new
+  pub finished : (c seq : ℕ) (answer : Reply) → Called (Finish 0 c seq) answer old new → Came f start (owes_to c seq) old → Came f start (receives_from c) new
   finished c seq answer is came =
       subst (λ s. Came f start s new)
-      (ap₂ (λ a b. cond (a && b) (takes_from c) strays) (eq-eqb c c refl) (eq-eqb seq seq refl))
+      (ap₂ (λ a b. cond (a && b) (receives_from c) strays) (eq-eqb c c refl) (eq-eqb seq seq refl))
       (came_more f start old new (owes_to c seq) (Finish 0 c seq) answer is came)
 
 module _ (old new : Recorded) where
@@ -97,13 +97,13 @@ module _ (old new : Recorded) where
       (pump_less old.displays answer (history_of old.entries) (legal_then (Pump 0) answer is sound) ne)
 
   pub take_left : (c : ℕ) (m : Message) → Called (Receive c) (Got m) old new → IsSound new
-      → untaken new.displays (history_of new.entries) c < untaken old.displays (history_of old.entries) c
+      → unreceived new.displays (history_of new.entries) c < unreceived old.displays (history_of old.entries) c
   take_left c m is sound =
-      subst (λ r. untaken r.displays (history_of r.entries) c < untaken old.displays (history_of old.entries) c) (sym is)
-      (take_less old.displays c m (history_of old.entries) (legal_then (Receive c) (Got m) is sound))
+      subst (λ r. unreceived r.displays (history_of r.entries) c < unreceived old.displays (history_of old.entries) c) (sym is)
+      (receive_less old.displays c m (history_of old.entries) (legal_then (Receive c) (Got m) is sound))
 
   pub finish_left : (c seq : ℕ) (answer : Reply) → Called (Finish 0 c seq) answer old new → IsSound new
-      → untaken new.displays (history_of new.entries) c ≡ untaken old.displays (history_of old.entries) c
+      → unreceived new.displays (history_of new.entries) c ≡ unreceived old.displays (history_of old.entries) c
   finish_left c seq answer is sound =
-      subst (λ r. untaken r.displays (history_of r.entries) c ≡ untaken old.displays (history_of old.entries) c) (sym is)
+      subst (λ r. unreceived r.displays (history_of r.entries) c ≡ unreceived old.displays (history_of old.entries) c) (sym is)
       (finish_same old.displays 0 c seq answer (history_of old.entries) (legal_then (Finish 0 c seq) answer is sound))

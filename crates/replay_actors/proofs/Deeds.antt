@@ -9,12 +9,12 @@ use Rattle.dispatch_calls.specs.declared.call.Call.TheVariants.{Open, Windows, F
 use Rattle.dispatch_calls.specs.declared.reply.Reply.{Reply}
 use Rattle.dispatch_history.specs.Ordered.{is_notified, is_scripted}
 use Rattle.turnstile.specs.History.{calls_by}
-use Rattle.replay_actors.specs.Lanes.{Own, notifies, taking}
+use Rattle.replay_actors.specs.Lanes.{Own, notifies, receiving}
 use Rattle.replay_actors.specs.Raced.{Raced, OnlyOpens, is_opening}
 use Rattle.replay_actors.specs.Race.{Each, opens, IsTimeless}
 use Rattle.replay_actors.proofs.Listing.{each_reverse, each_under}
 use Rattle.replay_actors.proofs.SettleSteps.{Settles}
-use Rattle.replay_actors.proofs.Stages.{tick_one, idle_one, IsPumping, PumpsOn, pumped, Belongs, IsTaking, TakesOn, took}
+use Rattle.replay_actors.proofs.Stages.{tick_one, idle_one, IsPumping, PumpsOn, pumped, Belongs, IsTaking, ReceivesOn, took}
 use Rattle.replay_actors.proofs.Gathering.{Entries, each_by}
 use Rattle.replay_actors.proofs.Pairs.{is_about}
 
@@ -64,7 +64,7 @@ module _ (ds : List ℕ) (f : ℕ → Bool) (channels : ℕ) (own : List Own) (c
           let below : j < min 4 channels = omega arith in
           let same : 3 + length scripts + j ≡ suc (suc (suc k)) = omega arith in
           let a = r.applications j below in
-          let on : TakesOn f channels j (taking f channels j (calls_by (3 + length scripts + j) h)) = subst (TakesOn f channels j) (sym a.1) tt in
+          let on : ReceivesOn f channels j (receiving f channels j (calls_by (3 + length scripts + j) h)) = subst (ReceivesOn f channels j) (sym a.1) tt in
           subst (λ n. Each (λ o. Deed (length scripts) (min 4 channels) f channels n o.1 o.2) (calls_by n h)) same
           (each_one (λ o. IsTaking f channels j o.1) (λ o. Deed (length scripts) (min 4 channels) f channels (3 + length scripts + j) o.1 o.2) (λ o e. app j below refl e)
           (calls_by (3 + length scripts + j) h) (took f channels j (calls_by (3 + length scripts + j) h) on).each)

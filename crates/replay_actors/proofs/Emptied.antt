@@ -12,7 +12,7 @@ use Rattle.turnstile.specs.History.{Entry as Called}
 use Rattle.replay_actors.specs.Came.{Came}
 use Rattle.replay_actors.specs.Finishing.{IsQuiet}
 use Rattle.replay_actors.specs.Race.{Each}
-use Rattle.replay_actors.specs.Settling.{takes_from}
+use Rattle.replay_actors.specs.Settling.{receives_from}
 use Rattle.replay_actors.proofs.Deeds.{of_settles}
 use Rattle.replay_actors.proofs.Orders.{history_same}
 use Rattle.replay_actors.proofs.Races.{open_same}
@@ -24,7 +24,7 @@ opened_still [] h a = refl
 opened_still (e ∷ s) h a = open_same e.0 e.1 (s ++ h) (of_settles e.0 a.0).opens_is ∙ opened_still s h a.1
 
 -- Where the caller has taken from all channels, nothing is left to do.
-pub nothing_left : (f : ℕ → Bool) (n : ℕ) (old new : Recorded) → Came f old (takes_from (n + 1)) new → IsSound new
+pub nothing_left : (f : ℕ → Bool) (n : ℕ) (old new : Recorded) → Came f old (receives_from (n + 1)) new → IsSound new
     → IsQuiet f (history_of old.entries) → opened (history_of old.entries) ≤ n → Settled new.displays (history_of new.entries) f
 nothing_left f n old new came sound quiet few =
     let ds = new.displays in
@@ -37,6 +37,6 @@ nothing_left f n old new came sound quiet few =
     ∙ ap (λ h. since ++ h) (history_same old.entries) in
     let legal : Legal ds (since ++ before) = subst (Legal ds) is sound.legal in
     let so_far = settled_so_far ds f since before legal quiet (subst Straight (sym came.stands) tt) in
-    let at : At ds f (takes_from (n + 1)) (since ++ before) = subst (λ s. At ds f s (since ++ before)) came.stands so_far.at in
+    let at : At ds f (receives_from (n + 1)) (since ++ before) = subst (λ s. At ds f s (since ++ before)) came.stands so_far.at in
     let still = opened_still since before so_far.settles_each in
     subst (λ h. Settled ds h f) (sym is) (settled_at ds f (since ++ before) n legal (omega (arith, few, still)) at)

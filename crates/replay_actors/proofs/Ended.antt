@@ -17,7 +17,7 @@ use Rattle.turnstile.specs.declared.turnstile.Seat.{Seat}
 use Rattle.turnstile.specs.declared.view.Record.{Record}
 use Rattle.input_service.specs.declared.service.Service.{Service}
 use Rattle.session_plan.specs.declared.plan.Step.{Step}
-use Rattle.replay_actors.specs.Lanes.{calls_made, taking, takes}
+use Rattle.replay_actors.specs.Lanes.{calls_made, receiving, receives}
 use Rattle.replay_actors.specs.Raced.{Raced, OnlyOpens}
 use Rattle.replay_actors.specs.Seats.{Known}
 use Rattle.replay_actors.specs.Parts.{calls_of, Did, IsPart}
@@ -125,14 +125,14 @@ module _ (h : List (Entry Call Reply)) where
 
   -- each application was done by its number
   owners_did : (channels finishing number n count : ℕ) → AllDid h n (owners_from channels finishing number count)
-      → (j : ℕ) → j < count → (c : ℕ) × (taking (mask_has finishing) channels (number + j) (calls_by (n + j) h) ≡ takes 16384 c)
+      → (j : ℕ) → j < count → (c : ℕ) × (receiving (mask_has finishing) channels (number + j) (calls_by (n + j) h) ≡ receives 16384 c)
   owners_did channels finishing number n zero did j below = absurd (omega arith)
   owners_did channels finishing number n (suc count) did zero below =
       rw (add-zero number, add-zero n) did.0
   owners_did channels finishing number n (suc count) did (suc j) below =
       let e : n + 1 + j ≡ n + suc j = omega arith in
       let f : number + 1 + j ≡ number + suc j = omega arith in
-      let P : ℕ → ℕ → Type 0 = λ a b. (c : ℕ) × (taking (mask_has finishing) channels a (calls_by b h) ≡ takes 16384 c) in
+      let P : ℕ → ℕ → Type 0 = λ a b. (c : ℕ) × (receiving (mask_has finishing) channels a (calls_by b h) ≡ receives 16384 c) in
       subst (λ a. P a (n + suc j)) f (subst (P (number + 1 + j)) e (owners_did channels finishing (number + 1) (n + 1) count did.1 j (omega arith)))
 
 pub scripted_many : (ss : List (Vec Step Global)) → length (scripted ss) ≡ length ss
@@ -159,8 +159,8 @@ module _ {G : Ghosts Recorded (List ℕ) Call Reply} where
       let others = owners_from l.channels l.finishing 0 (min 4 l.channels) in
       let rest : AllDid h (3 + length l.scripts.items) others = after_scripts h others 0 3 l.scripts.items did.1.1 in
       let applications : (j : ℕ) → j < min 4 l.channels
-      → (c : ℕ) × (taking (mask_has l.finishing) l.channels j (calls_by (3 + length l.scripts.items + j) h) ≡ takes 16384 c) =
-      λ j below. subst (λ a. (c : ℕ) × (taking (mask_has l.finishing) l.channels a (calls_by (3 + length l.scripts.items + j) h) ≡ takes 16384 c)) (zero-add j)
+      → (c : ℕ) × (receiving (mask_has l.finishing) l.channels j (calls_by (3 + length l.scripts.items + j) h) ≡ receives 16384 c) =
+      λ j below. subst (λ a. (c : ℕ) × (receiving (mask_has l.finishing) l.channels a (calls_by (3 + length l.scripts.items + j) h) ≡ receives 16384 c)) (zero-add j)
       (owners_did h l.channels l.finishing 0 (3 + length l.scripts.items) (min 4 l.channels) rest j below) in
       record {
         legal = subst (λ d. IsLegal d h) (some_same (sym finds.legal_then.1 ∙ setup)) finds.legal_then.2;

@@ -19,10 +19,10 @@ use Rattle.stream_text.specs.declared.order_line.OrderLine.TheVariants as words
 use Rattle.turnstile.specs.History.{calls_by}
 use Rattle.replay_actors.specs.Counting.{ticks, moves, idles}
 use Rattle.replay_actors.specs.Finishing.{given as given_to, asked, AreOrderly}
-use Rattle.replay_actors.specs.Lanes.{pumping, pumps, strays, taking, takes, owes, strays_off}
+use Rattle.replay_actors.specs.Lanes.{pumping, pumps, strays, receiving, receives, owes, strays_off}
 use Rattle.stream_text.specs.OrderAsks.{line_of}
 use Rattle.replay_actors.specs.Race.{calls_of_seat, notified_in}
-use Rattle.replay_actors.specs.Settling.{settling, takes_from, looks, strays as astray}
+use Rattle.replay_actors.specs.Settling.{settling, receives_from, looks, strays as astray}
 
 -- one channel, a step of lane 1 and one args
 abbrev plan : Plan
@@ -82,18 +82,18 @@ a_step_too_many = refl
 the_dispatcher : pumping (calls_by 2 (called entries)) ≡ pumps 1
 the_dispatcher = refl
 
-the_application : taking (λ c. true) 1 0 (calls_by 4 (called entries)) ≡ takes 0 1
+the_application : receiving (λ c. true) 1 0 (calls_by 4 (called entries)) ≡ receives 0 1
 the_application = refl
 
 -- it owes a finish once it was given a message, and may not go on without it
-it_owes_a_finish : taking (λ c. true) 1 0 (calls_by 4 (called (drop 5 entries))) ≡ owes 0 1 1
+it_owes_a_finish : receiving (λ c. true) 1 0 (calls_by 4 (called (drop 5 entries))) ≡ owes 0 1 1
 it_owes_a_finish = refl
 
-it_may_not_go_on : taking (λ c. true) 1 0 ((9, Receive 1, Empty) ∷ calls_by 4 (called (drop 5 entries))) ≡ strays_off
+it_may_not_go_on : receiving (λ c. true) 1 0 ((9, Receive 1, Empty) ∷ calls_by 4 (called (drop 5 entries))) ≡ strays_off
 it_may_not_go_on = refl
 
 -- a channel that does not finish is taken from again
-none_is_owed : taking (λ c. false) 1 0 (calls_by 4 (called (drop 5 entries))) ≡ takes 0 1
+none_is_owed : receiving (λ c. false) 1 0 (calls_by 4 (called (drop 5 entries))) ≡ receives 0 1
 none_is_owed = refl
 
 -- a dispatcher that pumps where it should tick
@@ -101,7 +101,7 @@ no_tick : pumping ((5, Pump 0, Idle) ∷ (4, Pump 0, Dispatched) ∷ []) ≡ str
 no_tick = refl
 
 -- settling
-the_caller_is_done : settling (λ c. true) (history_of (take 3 entries)) ≡ takes_from 2
+the_caller_is_done : settling (λ c. true) (history_of (take 3 entries)) ≡ receives_from 2
 the_caller_is_done = refl
 
 it_looks_after_the_last_pump : settling (λ c. true) (history_of (take 1 (drop 2 entries))) ≡ looks

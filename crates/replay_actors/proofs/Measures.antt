@@ -32,7 +32,7 @@ use Rattle.key_tables.proofs.Repeating.{repeat_step}
 use Rattle.key_tables.proofs.Telling.{repeat_read}
 use Rattle.replay_actors.proofs.Numbers.{got_at}
 use Rattle.replay_actors.proofs.Staying.{received_published}
-use Rattle.replay_actors.specs.Came.{pumps_left, untaken}
+use Rattle.replay_actors.specs.Came.{pumps_left, unreceived}
 
 -- of some messages the last one is kept, where it is a down
 last_kept : (now t : ℕ) (ms : List KeyMsg) (m : KeyMsg) (last : Option Sent) → m.key.down ≡ true
@@ -160,8 +160,8 @@ stream_stays ds call answer h c l silent =
     stream_step ds call answer h c l ∙ ap (λ bs. told_on (clock ((call, answer) ∷ h)) bs (stream (effects ds h) c)) (silent_calls ds call answer (effects ds h) c silent)
 
 -- a message that is taken is one less
-pub take_less : (ds : List ℕ) (c : ℕ) (m : Message) (h : History) → Legal ds ((Receive c, Got m) ∷ h) → untaken ds ((Receive c, Got m) ∷ h) c < untaken ds h c
-take_less ds c m h l =
+pub receive_less : (ds : List ℕ) (c : ℕ) (m : Message) (h : History) → Legal ds ((Receive c, Got m) ∷ h) → unreceived ds ((Receive c, Got m) ∷ h) c < unreceived ds h c
+receive_less ds c m h l =
     let s = ap length (stream_stays ds (Receive c) (Got m) h c l refl) in
     let at = got_at (effects ds h) c m l.0 in
     let lt = ltb-true (received (past_of (effects ds h)) c) (published (effects ds h) c) at.1 in
@@ -171,5 +171,5 @@ take_less ds c m h l =
     omega (arith, s, lt, same, most, more)
 
 -- a finish leaves as many
-pub finish_same : (ds : List ℕ) (now c seq : ℕ) (answer : Reply) (h : History) → Legal ds ((Finish now c seq, answer) ∷ h) → untaken ds ((Finish now c seq, answer) ∷ h) c ≡ untaken ds h c
+pub finish_same : (ds : List ℕ) (now c seq : ℕ) (answer : Reply) (h : History) → Legal ds ((Finish now c seq, answer) ∷ h) → unreceived ds ((Finish now c seq, answer) ∷ h) c ≡ unreceived ds h c
 finish_same ds now c seq answer h l = ap (λ ms. length ms - received h c) (stream_stays ds (Finish now c seq) answer h c l refl)

@@ -10,7 +10,7 @@ use Rattle.dispatch_calls.specs.declared.call.Call.TheVariants.{Notify}
 use Rattle.dispatch_calls.specs.declared.reply.Reply.{Reply}
 use Rattle.session_plan.specs.declared.plan.Step.{Step}
 use Rattle.replay_actors.specs.Session.{call_of}
-use Rattle.replay_actors.specs.Lanes.{Taking, calls_made, notifies, pumping, pumping_then, taking, taking_then, takes, next_channel}
+use Rattle.replay_actors.specs.Lanes.{Receiving, calls_made, notifies, pumping, pumping_then, receiving, receiving_then, receives, next_channel}
 use Rattle.replay_actors.specs.Seats.{Known, Adds}
 use Rattle.replay_actors.specs.Parts.{calls_of}
 
@@ -41,9 +41,9 @@ pub pumping_next : (v w : Known) (call : Call) (reply : Reply) → Adds call rep
 pumping_next v w call reply adds = ap pumping adds.1
 
 -- one call of an application more
-pub taking_next : (finishing : ℕ → Bool) (channels j : ℕ) (v w : Known) (call : Call) (reply : Reply) → Adds call reply v w
-    → taking finishing channels j w.mine.own ≡ taking_then finishing channels j (taking finishing channels j v.mine.own) call reply
-taking_next finishing channels j v w call reply adds = ap (taking finishing channels j) adds.1
+pub receiving_next : (finishing : ℕ → Bool) (channels j : ℕ) (v w : Known) (call : Call) (reply : Reply) → Adds call reply v w
+    → receiving finishing channels j w.mine.own ≡ receiving_then finishing channels j (receiving finishing channels j v.mine.own) call reply
+receiving_next finishing channels j v w call reply adds = ap (receiving finishing channels j) adds.1
 
 next_within : (channels j c : ℕ) → channels ≤ 64 → j < 4 → (b : Bool) → nat_le (c + 4) channels ≡ b → next_channel channels j c ≤ 64
 next_within channels j c few fits true is = rw is (let le : c + 4 ≤ channels = grind (arith, nat_tests) in omega arith)
@@ -54,8 +54,8 @@ pub next_fits : (channels j c d : ℕ) → channels ≤ 64 → j < 4 → d ≡ n
 next_fits channels j c d few fits is = let e = next_within channels j c few fits (nat_le (c + 4) channels) refl in omega (arith, e, is)
 
 -- an application's next state, by what a take gave
-pub taken_none : (n next after : ℕ) (none : Bool) (t : Taking) → none ≡ true → after ≡ next → t ≡ takes (if none then n + 1 else n) next → t ≡ takes (n + 1) after
-taken_none n next after none t is e so = so ∙ (ap (λ b. takes (if b then n + 1 else n) next) is ∙ ap (takes (n + 1)) (sym e))
+pub got_none : (n next after : ℕ) (none : Bool) (t : Receiving) → none ≡ true → after ≡ next → t ≡ receives (if none then n + 1 else n) next → t ≡ receives (n + 1) after
+got_none n next after none t is e so = so ∙ (ap (λ b. receives (if b then n + 1 else n) next) is ∙ ap (receives (n + 1)) (sym e))
 
-pub taken_some : (n next after : ℕ) (none : Bool) (t : Taking) → none ≡ false → after ≡ next → t ≡ takes (if none then n + 1 else n) next → t ≡ takes n after
-taken_some n next after none t is e so = so ∙ (ap (λ b. takes (if b then n + 1 else n) next) is ∙ ap (takes n) (sym e))
+pub got_some : (n next after : ℕ) (none : Bool) (t : Receiving) → none ≡ false → after ≡ next → t ≡ receives (if none then n + 1 else n) next → t ≡ receives n after
+got_some n next after none t is e so = so ∙ (ap (λ b. receives (if b then n + 1 else n) next) is ∙ ap (receives n) (sym e))

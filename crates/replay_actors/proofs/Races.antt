@@ -21,17 +21,17 @@ use Rattle.dispatch_core.specs.Machine.{IsLegal, steps}
 use Rattle.turnstile.specs.History.{Entry as Called, calls_by, of_zero}
 use Rattle.replay_actors.specs.Counting.{ticks, moves, idles}
 use Rattle.replay_actors.specs.Finishing.{AreOrderly, IsQuiet}
-use Rattle.replay_actors.specs.Lanes.{Own, taking}
+use Rattle.replay_actors.specs.Lanes.{Own, receiving}
 use Rattle.replay_actors.specs.Laws.{RaceLaw}
 use Rattle.replay_actors.specs.Raced.{Raced}
 use Rattle.replay_actors.specs.Race.{Each, has_seat, seats_from, SeatsDiffer, calls_of_seat, notified_in, IsTimeless, opens, IsScripts, ScriptsMade}
-use Rattle.replay_actors.specs.Settling.{settling, takes_from}
+use Rattle.replay_actors.specs.Settling.{settling, receives_from}
 use Rattle.replay_actors.proofs.Along.{AllOn, AllEven, even_all, orderly_all}
 use Rattle.replay_actors.proofs.Deeds.{Deed, deeds, of_settles, reads, timeless, shut, below, scripted, no_tick, no_idle}
 use Rattle.replay_actors.proofs.Firsts.{firsts, begun}
 use Rattle.replay_actors.proofs.Gathering.{Entries, seat_is, projected, weight, part_weighs, one_weighs, weights, sum_below, times, sum_bounded, ticks_are, idles_are, moves_are, weight_append}
 use Rattle.replay_actors.proofs.Listing.{each_append, each_first, each_map, each_under}
-use Rattle.replay_actors.proofs.Stages.{worked, tick_one, idle_one, weigh, PumpsOn, PumpCount, pumped, TakesOn, TakeCount, took}
+use Rattle.replay_actors.proofs.Stages.{worked, tick_one, idle_one, weigh, PumpsOn, PumpCount, pumped, ReceivesOn, ReceiveCount, took}
 use Rattle.replay_actors.proofs.Pairs.{Even, Keeps}
 use Rattle.replay_actors.proofs.SettleSteps.{At, Count, Settles, Straight, settled_so_far, settled_at}
 
@@ -125,8 +125,8 @@ module _ (ds : List ℕ) (f : ℕ → Bool) (own : List Own) (cooked : List (ℕ
       (λ e d same. no_idle d (λ two. ne (sym same ∙ two)) (subst (λ n. n < 3 + s) (sym same) lt)) h all_deeds) in
       let app : (i : ℕ) → i < m → g (3 + s + i) ≤ 16384 =
       λ i lt. (let a = r.applications i lt in
-      let on : TakesOn f (length own) i (taking f (length own) i (calls_by (3 + s + i) h)) = subst (TakesOn f (length own) i) (sym a.1) tt in
-      (subst (λ x. TakeCount f (length own) i x (g (3 + s + i))) a.1 (took f (length own) i (calls_by (3 + s + i) h) on).count).1) in
+      let on : ReceivesOn f (length own) i (receiving f (length own) i (calls_by (3 + s + i) h)) = subst (ReceivesOn f (length own) i) (sym a.1) tt in
+      (subst (λ x. ReceiveCount f (length own) i x (g (3 + s + i))) a.1 (took f (length own) i (calls_by (3 + s + i) h) on).count).1) in
       let pump = subst (λ x. PumpCount x (g 2) (weigh tick_one (calls_by 2 h)) (weigh worked (calls_by 2 h))) r.dispatcher
       (pumped (calls_by 2 h) (subst PumpsOn (sym r.dispatcher) tt)).count in
       let a : sum_below (3 + s + m) g ≤ times m 16384 + sum_below (3 + s) g = sum_bounded (3 + s) m 16384 g app in
@@ -161,7 +161,7 @@ module _ (ds : List ℕ) (f : ℕ → Bool) (own : List Own) (cooked : List (ℕ
 
   -- where the lanes stand at the end
   all_on : AllOn ds f (length own) (length scripts) (min 4 (length own)) own h
-  all_on j lt = (let a = r.applications j lt in subst (TakesOn f (length own) j) (sym a.1) tt)
+  all_on j lt = (let a = r.applications j lt in subst (ReceivesOn f (length own) j) (sym a.1) tt)
 
   quiet_lanes : IsQuiet f (steps h) × AreOrderly f (steps h) × (opened (steps h) ≡ length own)
   quiet_lanes =
@@ -199,8 +199,8 @@ race_law ds f own cooked scripts s h r made legal zeros stage =
     let q = quiet_lanes ds f own cooked scripts h r made in
     let straight : Straight (settling f (steps s)) = subst Straight (sym stage) tt in
     let so_far = settled_so_far ds f (steps s) (steps h) legal_parts q.0 straight in
-    let at : At ds f (takes_from (length own + 1)) (steps s ++ steps h) = subst (λ x. At ds f x (steps s ++ steps h)) stage so_far.at in
-    let counted : Count (takes_from (length own + 1)) (ticks (steps s)) (idles (steps s)) = subst (λ x. Count x (ticks (steps s)) (idles (steps s))) stage so_far.counted in
+    let at : At ds f (receives_from (length own + 1)) (steps s ++ steps h) = subst (λ x. At ds f x (steps s ++ steps h)) stage so_far.at in
+    let counted : Count (receives_from (length own + 1)) (ticks (steps s)) (idles (steps s)) = subst (λ x. Count x (ticks (steps s)) (idles (steps s))) stage so_far.counted in
     let settles : Each (λ e. Settles e.1) s = each_under (λ (e : Called Call Reply). (e.1, e.2)) (λ (e : Call × Reply). Settles e.0) s so_far.settles_each in
     let p = split ds f own cooked scripts h r made in
     let closed = shut_later ds f own cooked scripts h r made p.0 p.1 p.2 in

@@ -9,7 +9,7 @@ use Rattle.window_snapshot.specs.Mask.{mask_has}
 use Rattle.replay_actors.specs.Lanes.{Own}
 use Rattle.replay_actors.specs.Raced.{Raced}
 use Rattle.replay_actors.specs.Race.{Each, IsRace, seats_from}
-use Rattle.replay_actors.specs.Settling.{settling, takes_from}
+use Rattle.replay_actors.specs.Settling.{settling, receives_from}
 use Rattle.replay_actors.proofs.Orders.{history_same}
 use Rattle.replay_actors.proofs.Races.{race_law}
 use Rattle.replay_actors.specs.Came.{Came}
@@ -22,7 +22,7 @@ use Rattle.replay_actors.proofs.Ended.{scripted_many}
 pub settled : (l : Lanes) (own : List Own) (old new : Recorded) (seats : List ℕ) → length own ≡ l.channels
     → Raced old.displays (mask_has l.finishing) l.channels own l.cooked.items (scripted l.scripts.items) (called old.entries)
     → Each (Each (λ call. is_scripted call ≡ 1)) (scripted l.scripts.items)
-    → Came (mask_has l.finishing) old (takes_from (l.channels + 1)) new → IsSound new → seats ≡ seats_from 3 (length l.scripts.items)
+    → Came (mask_has l.finishing) old (receives_from (l.channels + 1)) new → IsSound new → seats ≡ seats_from 3 (length l.scripts.items)
     → IsRace new.displays (mask_has l.finishing) own l.cooked.items (scripted l.scripts.items) seats (called new.entries)
 settled l own old new seats many raced made came sound are =
     let f = mask_has l.finishing in
@@ -31,7 +31,7 @@ settled l own old new seats many raced made came sound are =
     let all : P new.displays (length own) = subst (λ d. P d (length own)) (sym came.displays_are) (subst (P old.displays) (sym many) raced) in
     let legal : IsLegal new.displays (came.since ++ called old.entries) =
     subst (IsLegal new.displays) came.entries_are (subst (Legal new.displays) (sym (history_same new.entries)) sound.legal) in
-    let stands : settling f (steps came.since) ≡ takes_from (length own + 1) = came.stands ∙ ap (λ n. takes_from (n + 1)) (sym many) in
+    let stands : settling f (steps came.since) ≡ receives_from (length own + 1) = came.stands ∙ ap (λ n. receives_from (n + 1)) (sym many) in
     let race = race_law new.displays f own l.cooked.items scripts came.since (called old.entries) all made legal came.of_caller stands in
     let named : seats_from 3 (length scripts) ≡ seats = ap (seats_from 3) (scripted_many l.scripts.items) ∙ sym are in
     subst (λ h. IsRace new.displays f own l.cooked.items scripts seats h) (sym came.entries_are)
@@ -42,7 +42,7 @@ pub settled_race : (l : Lanes) (own : List Own) (old new : Recorded)
     → let f = mask_has l.finishing in
     let scripts = scripted l.scripts.items in
     Raced old.displays f l.channels own l.cooked.items scripts (called old.entries)
-    → Came f old (takes_from (l.channels + 1)) new
+    → Came f old (receives_from (l.channels + 1)) new
     → IsSettledRace new.displays f l.channels own l.cooked.items scripts (called new.entries)
 settled_race l own old new raced came =
     let scripts = scripted l.scripts.items in

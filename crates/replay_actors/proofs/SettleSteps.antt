@@ -16,22 +16,22 @@ use Rattle.dispatch_tables.specs.Silent.{is_silent}
 use Rattle.replay_actors.specs.Counting.{ticks, ticks_after, idles, idles_after}
 use Rattle.replay_actors.specs.Finishing.{given, IsOrderly, AreOrderly, IsQuiet}
 use Rattle.replay_actors.specs.Race.{Each}
-use Rattle.replay_actors.specs.Settling.{Settling, pumps_out, looks, takes_from, owes_to, strays, after_pump, after_take, settling_then, settling}
+use Rattle.replay_actors.specs.Settling.{Settling, pumps_out, looks, receives_from, owes_to, strays, after_pump, after_receive, settling_then, settling}
 use Rattle.replay_actors.proofs.Pairs.{Even, Owes, Keeps, even_other, keeps_other, got_owes, none_given, orderly, finish_even, finish_keeps, all_finished}
-use Rattle.replay_actors.proofs.Staying.{NoRepeat, TookAll, no_repeat_after, idle_waits, published_stays, none_left}
+use Rattle.replay_actors.proofs.Staying.{NoRepeat, ReceivedAll, no_repeat_after, idle_waits, published_stays, none_left}
 
 -- no args wait, no repeat is due, and a tick came after the last pump; the owners of the channels below c have taken all
 pub record Looked (ds : List ℕ) (c : ℕ) (h : History) : Type 0 where
   pub idle : inbound h ≡ []
   pub no_repeat : NoRepeat ds h
   pub looked : ticked h ≡ true
-  pub taken : (d : ℕ) → 1 ≤ d → d < c → TookAll ds d h
+  pub taken : (d : ℕ) → 1 ≤ d → d < c → ReceivedAll ds d h
 
 -- what holds where the caller stands so
 abbrev pub At : List ℕ → (ℕ → Bool) → Settling → History → Type 0
 At ds f pumps_out h = IsQuiet f h
 At ds f looks h = IsQuiet f h × (inbound h ≡ []) × NoRepeat ds h
-At ds f (takes_from c) h = IsQuiet f h × Looked ds c h
+At ds f (receives_from c) h = IsQuiet f h × Looked ds c h
 At ds f (owes_to c seq) h = (f c ≡ true) × Owes c seq h × Keeps c h × ((d : ℕ) → (d ≡ c → ⊥) → f d ≡ true → Even d h × Keeps d h) × Looked ds c h
 At ds f strays h = ⊥
 
@@ -39,7 +39,7 @@ At ds f strays h = ⊥
 abbrev pub Count : Settling → ℕ → ℕ → Type 0
 Count pumps_out n m = (n ≡ 0) × (m ≡ 0)
 Count looks n m = (n ≡ 0) × (m ≡ 1)
-Count (takes_from c) n m = (n ≡ 1) × (m ≤ c)
+Count (receives_from c) n m = (n ≡ 1) × (m ≤ c)
 Count (owes_to c seq) n m = (n ≡ 1) × (m ≤ c)
 Count strays n m = Unit {0}
 
@@ -80,7 +80,7 @@ part_finish now c seq d answer ne = refl
 
 -- what the owner of a channel has taken stays so
 stays : (ds : List ℕ) (call : Call) (answer : Reply) (h : History) (d : ℕ) → Legal ds ((call, answer) ∷ h) → is_silent call answer d ≡ true
-    → part_of call answer d ≡ Untouched → (live ((call, answer) ∷ h) d ≡ true → live h d ≡ true) → TookAll ds d h → TookAll ds d ((call, answer) ∷ h)
+    → part_of call answer d ≡ Untouched → (live ((call, answer) ∷ h) d ≡ true → live h d ≡ true) → ReceivedAll ds d h → ReceivedAll ds d ((call, answer) ∷ h)
 stays ds call answer h d l silent part lived took lives =
     let s = published_stays ds call answer h d l silent part in
     s.1 ∙ took (lived lives) ∙ sym s.0
@@ -115,7 +115,7 @@ module _ (ds : List ℕ) (f : ℕ → Bool) where
         taken = λ d low high.
             elim (cases_eq d c) [
               | inl e ↦
-                  subst (λ x. TookAll ds x ((Receive c, answer) ∷ h)) (sym e)
+                  subst (λ x. ReceivedAll ds x ((Receive c, answer) ∷ h)) (sym e)
                   (stays ds (Receive c) answer h c l refl (part_none c c answer never) (λ lives. lives) (none_left ds h c answer l.1 l.0 never))
               | inr ne ↦ same.taken d low (omega (arith, ne))
             ];
@@ -149,7 +149,7 @@ module _ (ds : List ℕ) (f : ℕ → Bool) where
       }
   one_pump now answer h z l q = record { at = quiet_pump now answer h q; order = tt; settles = z; count = λ n m c. c }
 
-  one_tick : (now : ℕ) (answer : Reply) (h : History) → now ≡ 0 → Legal ds ((Tick now, answer) ∷ h) → At ds f looks h → Goes ds f looks (takes_from 1) (Tick now) answer h
+  one_tick : (now : ℕ) (answer : Reply) (h : History) → now ≡ 0 → Legal ds ((Tick now, answer) ∷ h) → At ds f looks h → Goes ds f looks (receives_from 1) (Tick now) answer h
   one_tick now answer h z l a =
       record {
         at = (
@@ -166,10 +166,10 @@ module _ (ds : List ℕ) (f : ℕ → Bool) where
         count = λ n m c. (ap suc c.0, omega (arith, c.1));
       }
 
-  one_take : (c : ℕ) (answer : Reply) (h : History) → Legal ds ((Receive c, answer) ∷ h) → At ds f (takes_from c) h → Goes ds f (takes_from c) (after_take f c answer) (Receive c) answer h
+  one_take : (c : ℕ) (answer : Reply) (h : History) → Legal ds ((Receive c, answer) ∷ h) → At ds f (receives_from c) h → Goes ds f (receives_from c) (after_receive f c answer) (Receive c) answer h
   one_take c (Got m) h l a = by_set (f c) refl
     where
-      by_set : (b : Bool) → f c ≡ b → Goes ds f (takes_from c) (cond b (owes_to c m.seq) (takes_from c)) (Receive c) (Got m) h
+      by_set : (b : Bool) → f c ≡ b → Goes ds f (receives_from c) (cond b (owes_to c m.seq) (receives_from c)) (Receive c) (Got m) h
       by_set true on =
           record {
             at = (on, got_owes c m h (a.0 c on).0, (a.0 c on).1, (λ d ne also. quiet_receive c (Got m) h d ne (a.0 d also)), looked_receive c (Got m) h l a.1);
@@ -192,7 +192,7 @@ module _ (ds : List ℕ) (f : ℕ → Bool) where
       record { at = (quiet_none c answer h (λ m e. absurd (cc)) a.0, looked_next c answer h l (λ m e. absurd (cc)) a.1); order = tt; settles = tt; count = λ n m c. (c.0, omega (arith, c.1)) }
 
   one_finish : (now c seq : ℕ) (answer : Reply) (h : History) → now ≡ 0 → Legal ds ((Finish now c seq, answer) ∷ h) → At ds f (owes_to c seq) h
-      → Goes ds f (owes_to c seq) (takes_from c) (Finish now c seq) answer h
+      → Goes ds f (owes_to c seq) (receives_from c) (Finish now c seq) answer h
   one_finish now c seq answer h z l a =
       record {
         at = (
@@ -217,27 +217,27 @@ module _ (ds : List ℕ) (f : ℕ → Bool) where
       by_moment false e s = absurd s
   one_step looks (Tick now) answer h l a s = by_moment (now == 0) refl s
     where
-      by_moment : (b : Bool) → now == 0 ≡ b → Straight (cond b (takes_from 1) strays) → Goes ds f looks (cond b (takes_from 1) strays) (Tick now) answer h
+      by_moment : (b : Bool) → now == 0 ≡ b → Straight (cond b (receives_from 1) strays) → Goes ds f looks (cond b (receives_from 1) strays) (Tick now) answer h
       by_moment true e s = one_tick now answer h (eqb-true now 0 e) l a
       by_moment false e s = absurd s
-  one_step (takes_from c) (Receive d) answer h l a s = by_channel (d == c) refl s
+  one_step (receives_from c) (Receive d) answer h l a s = by_channel (d == c) refl s
     where
-      by_channel : (b : Bool) → d == c ≡ b → Straight (cond b (after_take f c answer) strays) → Goes ds f (takes_from c) (cond b (after_take f c answer) strays) (Receive d) answer h
+      by_channel : (b : Bool) → d == c ≡ b → Straight (cond b (after_receive f c answer) strays) → Goes ds f (receives_from c) (cond b (after_receive f c answer) strays) (Receive d) answer h
       by_channel true e s =
           let same : d ≡ c = eqb-true d c e in
-          subst (λ x. Goes ds f (takes_from c) (after_take f c answer) (Receive x) answer h) (sym same)
+          subst (λ x. Goes ds f (receives_from c) (after_receive f c answer) (Receive x) answer h) (sym same)
           (one_take c answer h (subst (λ x. Legal ds ((Receive x, answer) ∷ h)) same l) a)
       by_channel false e s = absurd s
   one_step (owes_to c seq) (Finish now d k) answer h l a s = by_tests (now == 0 && d == c && k == seq) refl s
     where
-      by_tests : (b : Bool) → (now == 0 && d == c && k == seq) ≡ b → Straight (cond b (takes_from c) strays) → Goes ds f (owes_to c seq) (cond b (takes_from c) strays) (Finish now d k) answer h
+      by_tests : (b : Bool) → (now == 0 && d == c && k == seq) ≡ b → Straight (cond b (receives_from c) strays) → Goes ds f (owes_to c seq) (cond b (receives_from c) strays) (Finish now d k) answer h
       by_tests true e s =
           let p = and_parts (now == 0 && d == c) (k == seq) e in
           let q = and_parts (now == 0) (d == c) p.0 in
           let same : d ≡ c = eqb-true d c q.1 in
           let number : k ≡ seq = eqb-true k seq p.1 in
-          subst (λ x. Goes ds f (owes_to c seq) (takes_from c) (Finish now x k) answer h) (sym same)
-          (subst (λ x. Goes ds f (owes_to c seq) (takes_from c) (Finish now c x) answer h) (sym number)
+          subst (λ x. Goes ds f (owes_to c seq) (receives_from c) (Finish now x k) answer h) (sym same)
+          (subst (λ x. Goes ds f (owes_to c seq) (receives_from c) (Finish now c x) answer h) (sym number)
           (one_finish now c seq answer h (eqb-true now 0 q.0) (subst (λ x. Legal ds ((Finish now c x, answer) ∷ h)) number (subst (λ x. Legal ds ((Finish now x k, answer) ∷ h)) same l)) a))
       by_tests false e s = absurd s
   one_step stage call answer h l a s = absurd s
@@ -247,7 +247,7 @@ module _ (ds : List ℕ) (f : ℕ → Bool) where
   was_straight strays call answer s = s
   was_straight pumps_out call answer s = tt
   was_straight looks call answer s = tt
-  was_straight (takes_from c) call answer s = tt
+  was_straight (receives_from c) call answer s = tt
   was_straight (owes_to c seq) call answer s = tt
 
   -- All that is known of some settling calls behind a history.
@@ -270,7 +270,7 @@ module _ (ds : List ℕ) (f : ℕ → Bool) where
       }
 
   -- where the caller has taken from all channels, nothing is left to do
-  pub settled_at : (h : History) (n : ℕ) → Legal ds h → opened h ≤ n → At ds f (takes_from (n + 1)) h → Settled ds h f
+  pub settled_at : (h : History) (n : ℕ) → Legal ds h → opened h ≤ n → At ds f (receives_from (n + 1)) h → Settled ds h f
   settled_at h n l few a =
       record {
         idle = a.1.idle;

@@ -8,7 +8,7 @@ use Rattle.dispatch_calls.specs.declared.reply.Reply.{Reply}
 use Rattle.dispatch_calls.specs.declared.reply.Reply.TheVariants.{Idle, Got, Empty, Gone}
 use Rattle.replay_actors.specs.Counting.{ticks_after, idles_after}
 use Rattle.replay_actors.specs.Race.{Each}
-use Rattle.replay_actors.specs.Lanes.{Own, Pumping, pumps, ticks, strays, after_pump, pumping_then, pumping, Taking, takes, owes, strays_off, next_channel, after_take, taking_then, taking}
+use Rattle.replay_actors.specs.Lanes.{Own, Pumping, pumps, ticks, strays, after_pump, pumping_then, pumping, Receiving, receives, owes, strays_off, next_channel, after_receive, receiving_then, receiving}
 
 -- a pump that was answered with more than Idle
 abbrev pub worked : Call → Reply → ℕ
@@ -105,53 +105,53 @@ module _ (f : ℕ → Bool) (channels j : ℕ) where
   IsTaking (Finish now c seq) = (now ≡ 0) × Belongs j c × (f c ≡ true)
   IsTaking call = ⊥
 
-  abbrev pub TakesOn : Taking → Type 0
-  TakesOn strays_off = ⊥
-  TakesOn stage = Unit {0}
+  abbrev pub ReceivesOn : Receiving → Type 0
+  ReceivesOn strays_off = ⊥
+  ReceivesOn stage = Unit {0}
 
   -- whose channel it stands at, and how many calls for nothing it has made at most
-  abbrev pub TakeCount : Taking → ℕ → Type 0
-  TakeCount (takes n c) idle = Belongs j c × (idle ≤ n)
-  TakeCount (owes n c seq) idle = Belongs j c × (idle ≤ n) × (f c ≡ true)
-  TakeCount strays_off idle = Unit {0}
+  abbrev pub ReceiveCount : Receiving → ℕ → Type 0
+  ReceiveCount (receives n c) idle = Belongs j c × (idle ≤ n)
+  ReceiveCount (owes n c seq) idle = Belongs j c × (idle ≤ n) × (f c ≡ true)
+  ReceiveCount strays_off idle = Unit {0}
 
-  pub record Took (own : List Own) : Type 0 where
+  pub record Received (own : List Own) : Type 0 where
     pub each : Each (λ o. IsTaking o.1) own
-    pub count : TakeCount (taking f channels j own) (weigh idle_one own)
+    pub count : ReceiveCount (receiving f channels j own) (weigh idle_one own)
     pub no_ticks : weigh tick_one own ≡ 0
 
-  pub took_on : (stage : Taking) (call : Call) (answer : Reply) → TakesOn (taking_then f channels j stage call answer) → TakesOn stage
-  took_on strays_off call answer s = s
-  took_on (takes n c) call answer s = tt
-  took_on (owes n c seq) call answer s = tt
+  pub received_on : (stage : Receiving) (call : Call) (answer : Reply) → ReceivesOn (receiving_then f channels j stage call answer) → ReceivesOn stage
+  received_on strays_off call answer s = s
+  received_on (receives n c) call answer s = tt
+  received_on (owes n c seq) call answer s = tt
 
-  record TakeGoes (stage later : Taking) (call : Call) (answer : Reply) : Type 0 where
+  record ReceiveGoes (stage later : Receiving) (call : Call) (answer : Reply) : Type 0 where
     own : IsTaking call
-    count : (i : ℕ) → TakeCount stage i → TakeCount later (idle_one call answer + i)
+    count : (i : ℕ) → ReceiveCount stage i → ReceiveCount later (idle_one call answer + i)
     no_tick : tick_one call answer ≡ 0
 
-  take_one : (n c : ℕ) (answer : Reply) → Belongs j c → TakeGoes (takes n c) (after_take f channels j n c answer) (Receive c) answer
-  take_one n c (Got m) b = by_set (f c) refl
+  receive_one : (n c : ℕ) (answer : Reply) → Belongs j c → ReceiveGoes (receives n c) (after_receive f channels j n c answer) (Receive c) answer
+  receive_one n c (Got m) b = by_set (f c) refl
     where
-      by_set : (x : Bool) → f c ≡ x → TakeGoes (takes n c) (cond x (owes n c m.seq) (takes n (next_channel channels j c))) (Receive c) (Got m)
+      by_set : (x : Bool) → f c ≡ x → ReceiveGoes (receives n c) (cond x (owes n c m.seq) (receives n (next_channel channels j c))) (Receive c) (Got m)
       by_set true on = record { own = b; count = λ i k. (k.0, omega (arith, k.1), on); no_tick = refl }
       by_set false off = record { own = b; count = λ i k. (next_belongs channels j c k.0, omega (arith, k.1)); no_tick = refl }
-  take_one n c Empty b = record { own = b; count = λ i k. (next_belongs channels j c k.0, omega (arith, k.1)); no_tick = refl }
-  take_one n c Gone b = record { own = b; count = λ i k. (next_belongs channels j c k.0, omega (arith, k.1)); no_tick = refl }
-  take_one n c answer b = record { own = b; count = λ i k. (next_belongs channels j c k.0, omega (arith, k.1)); no_tick = refl }
+  receive_one n c Empty b = record { own = b; count = λ i k. (next_belongs channels j c k.0, omega (arith, k.1)); no_tick = refl }
+  receive_one n c Gone b = record { own = b; count = λ i k. (next_belongs channels j c k.0, omega (arith, k.1)); no_tick = refl }
+  receive_one n c answer b = record { own = b; count = λ i k. (next_belongs channels j c k.0, omega (arith, k.1)); no_tick = refl }
 
-  take_step : (stage : Taking) (call : Call) (answer : Reply) (i : ℕ) → TakeCount stage i → TakesOn (taking_then f channels j stage call answer)
-      → TakeGoes stage (taking_then f channels j stage call answer) call answer
-  take_step (takes n c) (Receive d) answer i k s = by_channel (d == c) refl s
+  receive_step : (stage : Receiving) (call : Call) (answer : Reply) (i : ℕ) → ReceiveCount stage i → ReceivesOn (receiving_then f channels j stage call answer)
+      → ReceiveGoes stage (receiving_then f channels j stage call answer) call answer
+  receive_step (receives n c) (Receive d) answer i k s = by_channel (d == c) refl s
     where
-      by_channel : (b : Bool) → d == c ≡ b → TakesOn (cond b (after_take f channels j n c answer) strays_off)
-          → TakeGoes (takes n c) (cond b (after_take f channels j n c answer) strays_off) (Receive d) answer
-      by_channel true e s = subst (λ x. TakeGoes (takes n c) (after_take f channels j n c answer) (Receive x) answer) (sym (eqb-true d c e)) (take_one n c answer k.0)
+      by_channel : (b : Bool) → d == c ≡ b → ReceivesOn (cond b (after_receive f channels j n c answer) strays_off)
+          → ReceiveGoes (receives n c) (cond b (after_receive f channels j n c answer) strays_off) (Receive d) answer
+      by_channel true e s = subst (λ x. ReceiveGoes (receives n c) (after_receive f channels j n c answer) (Receive x) answer) (sym (eqb-true d c e)) (receive_one n c answer k.0)
       by_channel false e s = absurd s
-  take_step (owes n c seq) (Finish now d x) answer i k s = by_tests (now == 0 && d == c && x == seq) refl s
+  receive_step (owes n c seq) (Finish now d x) answer i k s = by_tests (now == 0 && d == c && x == seq) refl s
     where
-      by_tests : (b : Bool) → (now == 0 && d == c && x == seq) ≡ b → TakesOn (cond b (takes n (next_channel channels j c)) strays_off)
-          → TakeGoes (owes n c seq) (cond b (takes n (next_channel channels j c)) strays_off) (Finish now d x) answer
+      by_tests : (b : Bool) → (now == 0 && d == c && x == seq) ≡ b → ReceivesOn (cond b (receives n (next_channel channels j c)) strays_off)
+          → ReceiveGoes (owes n c seq) (cond b (receives n (next_channel channels j c)) strays_off) (Finish now d x) answer
       by_tests true e s =
           let p = and_parts (now == 0 && d == c) (x == seq) e in
           let q = and_parts (now == 0) (d == c) p.0 in
@@ -162,13 +162,13 @@ module _ (f : ℕ → Bool) (channels j : ℕ) where
             no_tick = refl;
           }
       by_tests false e s = absurd s
-  take_step stage call answer i k s = absurd s
+  receive_step stage call answer i k s = absurd s
 
-  pub took : (own : List Own) → TakesOn (taking f channels j own) → Took own
+  pub took : (own : List Own) → ReceivesOn (receiving f channels j own) → Received own
   took [] s = record { each = tt; count = (first_belongs j, omega arith); no_ticks = refl }
   took (o ∷ own) s =
-      let before = took own (took_on (taking f channels j own) o.1 o.2 s) in
-      let goes = take_step (taking f channels j own) o.1 o.2 (weigh idle_one own) before.count s in
+      let before = took own (received_on (receiving f channels j own) o.1 o.2 s) in
+      let goes = receive_step (receiving f channels j own) o.1 o.2 (weigh idle_one own) before.count s in
       record {
         each = (goes.own, before.each);
         count = goes.count (weigh idle_one own) before.count;

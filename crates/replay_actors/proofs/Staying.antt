@@ -31,8 +31,8 @@ abbrev pub NoRepeat : List ℕ → History → Type 0
 NoRepeat ds h = IfSome (repeat_due (effects ds h)) (λ t. clock h < t)
 
 -- the owner of a channel has taken all that is published, while that is live
-abbrev pub TookAll : List ℕ → ℕ → History → Type 0
-TookAll ds c h = live h c ≡ true → received h c ≡ published (effects ds h) c
+abbrev pub ReceivedAll : List ℕ → ℕ → History → Type 0
+ReceivedAll ds c h = live h c ≡ true → received h c ≡ published (effects ds h) c
 
 -- a call at moment 0 that dispatches nothing brings no repeat
 pub no_repeat_after : (ds : List ℕ) (call : Call) (answer : Reply) (h : History) → Legal ds ((call, answer) ∷ h) → moment_of call ≡ 0
@@ -95,7 +95,7 @@ received_published ds h c l =
     (omega (arith, same, f.0.received_published), omega (arith, f.1, f.0.published_sent))
 
 -- where the owner of a live channel gets no message, it has taken all that is published
-pub none_left : (ds : List ℕ) (h : History) (c : ℕ) (answer : Reply) → Legal ds h → answer ≡ reply ds h (Receive c) → ((m : Message) → answer ≡ Got m → ⊥) → TookAll ds c h
+pub none_left : (ds : List ℕ) (h : History) (c : ℕ) (answer : Reply) → Legal ds h → answer ≡ reply ds h (Receive c) → ((m : Message) → answer ≡ Got m → ⊥) → ReceivedAll ds c h
 none_left ds h c answer l is never lives =
     let most = received_published ds h c l in
     let same : received (past_of (effects ds h)) c ≡ received h c = ap (λ g. received g c) (effects_law ds h) in

@@ -36,5 +36,5 @@ abbrev pub pumps_left : List ℕ → History → ℕ
 pumps_left displays h = length (inbound h) + length (inbound h) + (if is_due (repeat_due (effects displays h)) (clock h) then 1 else 0)
 
 -- how many messages of a channel its owner has not taken
-abbrev pub untaken : List ℕ → History → ℕ → ℕ
-untaken displays h c = length (stream (effects displays h) c) - received h c
+abbrev pub unreceived : List ℕ → History → ℕ → ℕ
+unreceived displays h c = length (stream (effects displays h) c) - received h c

@@ -8,7 +8,7 @@ use Rattle.turnstile.specs.History.{Entry as Called}
 use Rattle.replay_actors.specs.Lanes.{Own}
 use Rattle.replay_actors.specs.Race.{Each}
 use Rattle.replay_actors.specs.Raced.{Raced}
-use Rattle.replay_actors.specs.Settling.{settling, takes_from}
+use Rattle.replay_actors.specs.Settling.{settling, receives_from}
 
 -- the calls of the lanes come first, and then those of the caller, number 0, by which it does all that is left to do:
 -- no call comes between them, and none after them
@@ -19,4 +19,4 @@ pub record IsSettledRace (displays : List ℕ) (finishing : ℕ → Bool) (chann
   pub since : List (Called Call Reply)
   pub entries_are : h ≡ since ++ lanes
   pub of_caller : Each (λ e. e.0 ≡ 0) since
-  pub stands : settling finishing (steps since) ≡ takes_from (channels + 1)
+  pub stands : settling finishing (steps since) ≡ receives_from (channels + 1)

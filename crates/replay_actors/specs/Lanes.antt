@@ -40,12 +40,12 @@ abbrev pub pumping : List Own → Pumping
 pumping [] = pumps 0
 pumping (e ∷ own) = pumping_then (pumping own) e.1 e.2
 
--- where an application stands: after so many answers without a message it takes from this channel next, or it finishes a message of it
+-- where an application stands: after so many answers without a message it receives from this channel next, or it finishes a message of it
 -- first, or it made another call than was due
-pub data Taking : Type 0 where
-  takes : (idle channel : ℕ) → Taking
-  owes : (idle channel seq : ℕ) → Taking
-  strays_off : Taking
+pub data Receiving : Type 0 where
+  receives : (idle channel : ℕ) → Receiving
+  owes : (idle channel seq : ℕ) → Receiving
+  strays_off : Receiving
 
 -- the channels of application j are every fourth one from j + 1 on, again and again
 abbrev pub next_channel : ℕ → ℕ → ℕ → ℕ
@@ -53,18 +53,18 @@ next_channel channels j c = if nat_le (c + 4) channels then c + 4 else j + 1
 
 module _ (finishing : ℕ → Bool) (channels j : ℕ) where
   -- after a message of a channel that finishes it finishes that, after any other answer it goes on
-  abbrev pub after_take : ℕ → ℕ → Reply → Taking
-  after_take n c (Got m) = if finishing c then owes n c m.seq else takes n (next_channel channels j c)
-  after_take n c reply = takes (n + 1) (next_channel channels j c)
+  abbrev pub after_receive : ℕ → ℕ → Reply → Receiving
+  after_receive n c (Got m) = if finishing c then owes n c m.seq else receives n (next_channel channels j c)
+  after_receive n c reply = receives (n + 1) (next_channel channels j c)
 
   -- one call of an application
-  abbrev pub taking_then : Taking → Call → Reply → Taking
-  taking_then (takes n c) (Receive d) reply = if d == c then after_take n c reply else strays_off
-  taking_then (owes n c seq) (Finish now d s) reply =
-      if now == 0 && d == c && s == seq then takes n (next_channel channels j c) else strays_off
-  taking_then stage call reply = strays_off
+  abbrev pub receiving_then : Receiving → Call → Reply → Receiving
+  receiving_then (receives n c) (Receive d) reply = if d == c then after_receive n c reply else strays_off
+  receiving_then (owes n c seq) (Finish now d s) reply =
+      if now == 0 && d == c && s == seq then receives n (next_channel channels j c) else strays_off
+  receiving_then stage call reply = strays_off
 
   -- where application j stands after its calls
-  abbrev pub taking : List Own → Taking
-  taking [] = takes 0 (j + 1)
-  taking (e ∷ own) = taking_then (taking own) e.1 e.2
+  abbrev pub receiving : List Own → Receiving
+  receiving [] = receives 0 (j + 1)
+  receiving (e ∷ own) = receiving_then (receiving own) e.1 e.2

@@ -21,7 +21,7 @@ use Rattle.stream_text.specs.StreamsHistory.{streams_text}
 use Rattle.replay_actors.specs.Texts.{race_output}
 use Rattle.replay_actors.specs.Race.{Each, IsRace, seats_from}
 use Rattle.replay_actors.specs.Raced.{Raced}
-use Rattle.replay_actors.specs.Settling.{settling, takes_from}
+use Rattle.replay_actors.specs.Settling.{settling, receives_from}
 use Rattle.turnstile.specs.History.{Entry as Called}
 
 -- A race did what a plan has, and these are its entries.
@@ -60,7 +60,7 @@ RaceLaw =
     → Each (Each (λ call. is_scripted call ≡ 1)) scripts
     → IsLegal displays (s ++ h)
     → Each (λ e. e.0 ≡ 0) s
-    → settling finishing (steps s) ≡ takes_from (length opened + 1)
+    → settling finishing (steps s) ≡ receives_from (length opened + 1)
     → IsRace displays finishing opened cooked scripts (seats_from 3 (length scripts)) (s ++ h)
 
 -- A race prints an order, and the streams of the plan run in that order, after which nothing is left to do.

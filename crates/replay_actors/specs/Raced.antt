@@ -7,7 +7,7 @@ use Rattle.dispatch_calls.specs.declared.reply.Reply.{Reply}
 use Rattle.dispatch_calls.specs.declared.reply.Reply.TheVariants.{Opened}
 use Rattle.dispatch_core.specs.Machine.{IsLegal}
 use Rattle.turnstile.specs.History.{Entry as Called, calls_by}
-use Rattle.replay_actors.specs.Lanes.{Own, calls_made, notifies, pumping, pumps, taking, takes}
+use Rattle.replay_actors.specs.Lanes.{Own, calls_made, notifies, pumping, pumps, receiving, receives}
 
 -- a channel was opened
 abbrev pub is_opening : Call → Reply → Bool
@@ -30,5 +30,5 @@ pub record Raced (displays : List ℕ) (finishing : ℕ → Bool) (channels : �
   pub reader : calls_made (calls_by 1 h) ≡ reverse (notifies cooked)
   pub dispatcher : pumping (calls_by 2 h) ≡ pumps 16384
   pub scripted : (l : ℕ) (steps : List Call) → slice_get scripts l ≡ Some steps → calls_made (calls_by (3 + l) h) ≡ reverse steps
-  pub applications : (j : ℕ) → j < min 4 channels → (c : ℕ) × (taking finishing channels j (calls_by (3 + length scripts + j) h) ≡ takes 16384 c)
+  pub applications : (j : ℕ) → j < min 4 channels → (c : ℕ) × (receiving finishing channels j (calls_by (3 + length scripts + j) h) ≡ receives 16384 c)
   pub others : (k : ℕ) → 3 + length scripts + min 4 channels ≤ k → calls_by k h ≡ []

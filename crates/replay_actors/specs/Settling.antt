@@ -6,12 +6,12 @@ use Rattle.dispatch_calls.specs.declared.reply.Reply.{Reply}
 use Rattle.dispatch_calls.specs.declared.reply.Reply.TheVariants.{Idle, Got}
 use Rattle.dispatch_history.specs.History.{History}
 
--- where the caller stands: it pumps, or ticks next, or takes from this channel next, or finishes a message of it first, or it made another
+-- where the caller stands: it pumps, or ticks next, or receives from this channel next, or finishes a message of it first, or it made another
 -- call than was due
 pub data Settling : Type 0 where
   pumps_out : Settling
   looks : Settling
-  takes_from : (channel : ℕ) → Settling
+  receives_from : (channel : ℕ) → Settling
   owes_to : (channel seq : ℕ) → Settling
   strays : Settling
 
@@ -21,17 +21,17 @@ module _ (finishing : ℕ → Bool) where
   after_pump Idle = looks
   after_pump reply = pumps_out
 
-  -- after a message of a channel that finishes it finishes that, and takes from the channel until it gets none
-  abbrev pub after_take : ℕ → Reply → Settling
-  after_take c (Got m) = if finishing c then owes_to c m.seq else takes_from c
-  after_take c reply = takes_from (c + 1)
+  -- after a message of a channel that finishes it finishes that, and receives from the channel until it gets none
+  abbrev pub after_receive : ℕ → Reply → Settling
+  after_receive c (Got m) = if finishing c then owes_to c m.seq else receives_from c
+  after_receive c reply = receives_from (c + 1)
 
   -- one call, at moment 0
   abbrev pub settling_then : Settling → Call → Reply → Settling
   settling_then pumps_out (Pump now) reply = if now == 0 then after_pump reply else strays
-  settling_then looks (Tick now) reply = if now == 0 then takes_from 1 else strays
-  settling_then (takes_from c) (Receive d) reply = if d == c then after_take c reply else strays
-  settling_then (owes_to c seq) (Finish now d s) reply = if now == 0 && d == c && s == seq then takes_from c else strays
+  settling_then looks (Tick now) reply = if now == 0 then receives_from 1 else strays
+  settling_then (receives_from c) (Receive d) reply = if d == c then after_receive c reply else strays
+  settling_then (owes_to c seq) (Finish now d s) reply = if now == 0 && d == c && s == seq then receives_from c else strays
   settling_then stage call reply = strays
 
   -- where the caller stands after these calls, newest first

@@ -3,7 +3,7 @@ ghost use Rattle.std.specs.Prelude.{◌≡◌, ◌+◌, ◌<◌, ◌≤◌, ℕ,
 ghost use Rattle.turnstile.specs.Seats.{view};
 ghost use Rattle.window_snapshot.specs.Mask.{mask_has};
 ghost use Rattle.input_service.specs.Services.{IsOf};
-ghost use Rattle.replay_actors.specs.Lanes.{pumping, pumps, taking, takes, next_channel};
+ghost use Rattle.replay_actors.specs.Lanes.{pumping, pumps, receiving, receives, next_channel};
 ghost use Rattle.replay_actors.specs.Seats.{Stays};
 
 use crate::gate::Gate;
@@ -74,7 +74,7 @@ impl Owner {
     }
 
     /// Takes the next message of a channel, and finishes it where the channel does so. True where there was none.
-    fn take<'a, R: Wait, G: Gate>(
+    fn receive<'a, R: Wait, G: Gate>(
         &self,
         shared: &Shared<'a, R, G>,
         lane: &mut Lane,
@@ -84,9 +84,9 @@ impl Owner {
         ensures of { IsOf shared.now.service.now lane.new.seat }
         ensures stays { Stays (view lane.old.seat) (view lane.new.seat) }
         ensures did { let o = self.now in (n : ℕ)
-            → taking (mask_has o.finishing) o.channels o.number (view lane.old.seat).mine.own ≡ takes n channel
-            → IfOk result (λ none. taking (mask_has o.finishing) o.channels o.number (view lane.new.seat).mine.own
-            ≡ takes (if none then n + 1 else n) (next_channel o.channels o.number channel)) }
+            → receiving (mask_has o.finishing) o.channels o.number (view lane.old.seat).mine.own ≡ receives n channel
+            → IfOk result (λ none. receiving (mask_has o.finishing) o.channels o.number (view lane.new.seat).mine.own
+            ≡ receives (if none then n + 1 else n) (next_channel o.channels o.number channel)) }
     {
         let Reply::Got(message) = lane.call(shared, Call::Receive { channel })? else {
             return Ok(true);
@@ -111,16 +111,16 @@ impl Owner {
         ensures of { IsOf shared.now.service.now lane.new.seat }
         ensures stays { Stays (view lane.old.seat) (view lane.new.seat) }
         ensures did { let o = self.now in OnOk result
-            ((c : ℕ) × (taking (mask_has o.finishing) o.channels o.number (view lane.new.seat).mine.own
-            ≡ takes 16384 c)) }
+            ((c : ℕ) × (receiving (mask_has o.finishing) o.channels o.number (view lane.new.seat).mine.own
+            ≡ receives 16384 c)) }
     {
         let mut idle = 0;
         let mut channel = self.number + 1;
-        'takes: for _ in shared.rt.forever() {
+        'receives: for _ in shared.rt.forever() {
             if idle == IDLE {
                 return Ok(());
             }
-            let none = self.take(shared, lane, channel)?;
+            let none = self.receive(shared, lane, channel)?;
             channel = self.after(channel);
             if none {
                 idle += 1;

@@ -33,11 +33,11 @@ mod part;
 mod planned;
 mod pumping;
 mod race;
+mod receiving;
 mod run;
 mod scripts;
 mod settling;
 mod streams;
-mod taking;
 mod text;
 
 pub use acts::call_of;

@@ -1,7 +1,7 @@
 //! Pumps until nothing waits.
 ghost use Rattle.std.specs.Prelude.{◌≡◌, ◌<◌, ℕ, Bool, true, IfOk, OnOk, OnErr, if◌then◌else◌};
 ghost use Rattle.dispatch_core.specs.Recorded.{Recorded, history_of, IsSound};
-ghost use Rattle.replay_actors.specs.Settling.{Settling, pumps_out, looks, takes_from};
+ghost use Rattle.replay_actors.specs.Settling.{Settling, pumps_out, looks, receives_from};
 ghost use Rattle.replay_actors.specs.Came.{Came, pumps_left};
 
 use dispatch_calls::{Call, Reply};
@@ -51,7 +51,7 @@ pub(crate) fn pump_out(core: &mut Core) -> Result<(), AllocError>
 /// One tick.
 pub(crate) fn look(core: &mut Core) -> Result<(), AllocError>
     ensures came { (f : ℕ → Bool) (start : Recorded) → Came f start looks core.old
-        → OnOk result (Came f start (takes_from 1) core.new) }
+        → OnOk result (Came f start (receives_from 1) core.new) }
     ensures err { OnErr result (core.new ≡ core.old) }
     ensures sound { IsSound core.new }
 {

@@ -16,22 +16,23 @@ ghost use Rattle.std.specs.Prelude.{◌≡◌, ◌≤◌, ◌+◌, OnOk, OnErr};
 ghost use Rattle.dispatch_history.specs.History.{opened};
 ghost use Rattle.dispatch_history.specs.Settled.{Settled};
 ghost use Rattle.dispatch_core.specs.Recorded.{IsSound, history_of};
-ghost use Rattle.replay_actors.specs.Settling.{takes_from};
+ghost use Rattle.replay_actors.specs.Settling.{receives_from};
 ghost use Rattle.replay_actors.specs.Came.{Came, CameSome};
 ghost use Rattle.replay_actors.specs.Finishing.{IsQuiet};
 ghost use Rattle.window_snapshot.specs.Mask.{mask_has};
 
 use crate::pumping::{look, pump_out};
-use crate::taking::take_all;
+use crate::receiving::receive_all;
 use dispatch_core::Core;
 use std::alloc::AllocError;
 use window_snapshot::mask_has;
 
 /// Does all that is left to do, in calls of number 0 at moment 0: pumps until nothing waits, looks once for windows
-/// that do not answer, and takes from the channels 1 to `channels` until each has nothing more. The owners of the
-/// channels in the mask `finishing` finish each message that they are given. Without memory only some of this is done.
+/// that do not answer, and receives from the channels 1 to `channels`, one after the other, until there is nothing
+/// more. The owners of the channels in the mask `finishing` finish each message that they are given. Without memory
+/// only some of this is done.
 pub fn settle(core: &mut Core, channels: u32, finishing: u64) -> Result<(), AllocError>
-    ensures came { OnOk result (Came (mask_has finishing) core.old (takes_from (channels + 1)) core.new) }
+    ensures came { OnOk result (Came (mask_has finishing) core.old (receives_from (channels + 1)) core.new) }
 
     // Where no more channels were opened, and what the owners of `finishing` were given before was finished, nothing is
     // left to do.
@@ -44,7 +45,7 @@ pub fn settle(core: &mut Core, channels: u32, finishing: u64) -> Result<(), Allo
     pump_out(core)?;
     look(core)?;
     for place in 0..channels {
-        take_all(core, place + 1, mask_has(finishing, place + 1))?;
+        receive_all(core, place + 1, mask_has(finishing, place + 1))?;
     }
     Ok(())
 }

@@ -1,3 +1,3 @@
 pub mod Answering
-pub mod Parts
 pub mod Told
+pub mod Took

@@ -23,7 +23,7 @@ refused_by told words before now (Recording e) status fb fn eb en refuses said n
 refused_by told words before now (Order e) status fb fn eb en refuses said no4 no6 =
     elim said [ inl s ↦ (refusal_view (Order e), sym s.0, refuses, s.1) | inr s ↦ absurd (no6 s.0) ]
 refused_by told words before now (Stream e) status fb fn eb en refuses said no4 no6 =
-    elim said [ inl s ↦ (refusal_view (Stream e), sym s.0, refuses, s.1) | inr s ↦ absurd (no6 s.0) ]
+    elim said [ inl s ↦ (refusal_view (Stream e), sym s.1.0, refuses, s.1.1) | inr s ↦ absurd (no6 s.0) ]
 refused_by told words before now ReadFailed status fb fn eb en refuses said no4 no6 = absurd (no4 said.0)
 refused_by told words before now NoMemory status fb fn eb en refuses said no4 no6 = absurd (no6 said.0)
 refused_by told words before now (TooLong what) status fb fn eb en refuses said no4 no6 = (refusal_view (TooLong what), sym said.0, refuses, said.1)
@@ -39,7 +39,7 @@ complete_refusal (Some es) words before now (Recording e) status fb fn eb en ref
 complete_refusal (Some es) words before now (Order e) status fb fn eb en refuses kept said =
     elim said [ inl s ↦ inl (Err (refusal_view (Order e)), refuses, s.0) | inr s ↦ inr s.0 ]
 complete_refusal (Some es) words before now (Stream e) status fb fn eb en refuses kept said =
-    elim said [ inl s ↦ inl (Err (refusal_view (Stream e)), refuses, s.0) | inr s ↦ inr s.0 ]
+    elim said [ inl s ↦ inl (Err (refusal_view (Stream e)), refuses, s.1.0) | inr s ↦ inr s.0 ]
 complete_refusal (Some es) words before now ReadFailed status fb fn eb en refuses kept said = absurd (kept refuses)
 complete_refusal (Some es) words before now NoMemory status fb fn eb en refuses kept said = inr said.0
 complete_refusal (Some es) words before now (TooLong what) status fb fn eb en refuses kept said = inl (Err (refusal_view (TooLong what)), refuses, said.0)
@@ -49,7 +49,7 @@ pub too_long_said : (r : Refusal) (status fb fn : ℕ) (eb en : Option (List ℕ
 too_long_said (Session e) status fb fn eb en said seven = elim said [ inl s ↦ absurd (omega (arith, s.1.0, seven)) | inr s ↦ absurd (omega (arith, s.0, seven)) ]
 too_long_said (Recording e) status fb fn eb en said seven = elim said [ inl s ↦ absurd (omega (arith, s.1.0, seven)) | inr s ↦ absurd (omega (arith, s.0, seven)) ]
 too_long_said (Order e) status fb fn eb en said seven = elim said [ inl s ↦ absurd (omega (arith, s.0, seven)) | inr s ↦ absurd (omega (arith, s.0, seven)) ]
-too_long_said (Stream e) status fb fn eb en said seven = elim said [ inl s ↦ absurd (omega (arith, s.0, seven)) | inr s ↦ absurd (omega (arith, s.0, seven)) ]
+too_long_said (Stream e) status fb fn eb en said seven = elim said [ inl s ↦ absurd (omega (arith, s.1.0, seven)) | inr s ↦ absurd (omega (arith, s.0, seven)) ]
 too_long_said ReadFailed status fb fn eb en said seven = absurd (omega (arith, said.0, seven))
 too_long_said NoMemory status fb fn eb en said seven = absurd (omega (arith, said.0, seven))
 too_long_said (TooLong what) status fb fn eb en said seven = (what, said.1)
@@ -60,7 +60,7 @@ pub some_said : (r : Refusal) (status fb fn : ℕ) (eb en : Option (List ℕ)) �
 some_said (Session e) status fb fn eb en said no6 = elim said [ inl s ↦ (Session e, s.0, sym s.1.0, s.1.1) | inr s ↦ absurd (no6 s.0) ]
 some_said (Recording e) status fb fn eb en said no6 = elim said [ inl s ↦ (Recording e, s.0, sym s.1.0, s.1.1) | inr s ↦ absurd (no6 s.0) ]
 some_said (Order e) status fb fn eb en said no6 = elim said [ inl s ↦ (Order e, tt, sym s.0, s.1) | inr s ↦ absurd (no6 s.0) ]
-some_said (Stream e) status fb fn eb en said no6 = elim said [ inl s ↦ (Stream e, tt, sym s.0, s.1) | inr s ↦ absurd (no6 s.0) ]
+some_said (Stream e) status fb fn eb en said no6 = elim said [ inl s ↦ (Stream e, s.0, sym s.1.0, s.1.1) | inr s ↦ absurd (no6 s.0) ]
 some_said ReadFailed status fb fn eb en said no6 = (ReadFailed, tt, sym said.0, said.1)
 some_said NoMemory status fb fn eb en said no6 = (NoMemory, tt, sym said.0, said.1)
 some_said (TooLong what) status fb fn eb en said no6 = (TooLong what, tt, sym said.0, said.1)
@@ -71,7 +71,7 @@ read_rose : (told : Option (List Entry)) (words : List (List ℕ)) (before now :
 read_rose told words before now (Session e) status fb fn eb en refuses said four = elim said [ inl s ↦ absurd (omega (arith, s.1.0, four)) | inr s ↦ absurd (omega (arith, s.0, four)) ]
 read_rose told words before now (Recording e) status fb fn eb en refuses said four = elim said [ inl s ↦ absurd (omega (arith, s.1.0, four)) | inr s ↦ absurd (omega (arith, s.0, four)) ]
 read_rose told words before now (Order e) status fb fn eb en refuses said four = elim said [ inl s ↦ absurd (omega (arith, s.0, four)) | inr s ↦ absurd (omega (arith, s.0, four)) ]
-read_rose told words before now (Stream e) status fb fn eb en refuses said four = elim said [ inl s ↦ absurd (omega (arith, s.0, four)) | inr s ↦ absurd (omega (arith, s.0, four)) ]
+read_rose told words before now (Stream e) status fb fn eb en refuses said four = elim said [ inl s ↦ absurd (omega (arith, s.1.0, four)) | inr s ↦ absurd (omega (arith, s.0, four)) ]
 read_rose told words before now ReadFailed status fb fn eb en refuses said four = refuses
 read_rose told words before now NoMemory status fb fn eb en refuses said four = absurd (omega (arith, said.0, four))
 read_rose told words before now (TooLong what) status fb fn eb en refuses said four = absurd (omega (arith, said.0, four))
@@ -81,7 +81,7 @@ read_said : (r : Refusal) (status fb fn : ℕ) (eb en : Option (List ℕ)) → I
 read_said (Session e) status fb fn eb en said four = elim said [ inl s ↦ absurd (omega (arith, s.1.0, four)) | inr s ↦ absurd (omega (arith, s.0, four)) ]
 read_said (Recording e) status fb fn eb en said four = elim said [ inl s ↦ absurd (omega (arith, s.1.0, four)) | inr s ↦ absurd (omega (arith, s.0, four)) ]
 read_said (Order e) status fb fn eb en said four = elim said [ inl s ↦ absurd (omega (arith, s.0, four)) | inr s ↦ absurd (omega (arith, s.0, four)) ]
-read_said (Stream e) status fb fn eb en said four = elim said [ inl s ↦ absurd (omega (arith, s.0, four)) | inr s ↦ absurd (omega (arith, s.0, four)) ]
+read_said (Stream e) status fb fn eb en said four = elim said [ inl s ↦ absurd (omega (arith, s.1.0, four)) | inr s ↦ absurd (omega (arith, s.0, four)) ]
 read_said ReadFailed status fb fn eb en said four = said.1
 read_said NoMemory status fb fn eb en said four = absurd (omega (arith, said.0, four))
 read_said (TooLong what) status fb fn eb en said four = absurd (omega (arith, said.0, four))
@@ -91,7 +91,7 @@ memory_said : (r : Refusal) (status fb fn : ℕ) (eb en : Option (List ℕ)) →
 memory_said (Session e) status fb fn eb en said six = elim said [ inl s ↦ absurd (omega (arith, s.1.0, six)) | inr s ↦ s.1 ]
 memory_said (Recording e) status fb fn eb en said six = elim said [ inl s ↦ absurd (omega (arith, s.1.0, six)) | inr s ↦ s.1 ]
 memory_said (Order e) status fb fn eb en said six = elim said [ inl s ↦ absurd (omega (arith, s.0, six)) | inr s ↦ s.1 ]
-memory_said (Stream e) status fb fn eb en said six = elim said [ inl s ↦ absurd (omega (arith, s.0, six)) | inr s ↦ s.1 ]
+memory_said (Stream e) status fb fn eb en said six = elim said [ inl s ↦ absurd (omega (arith, s.1.0, six)) | inr s ↦ s.1 ]
 memory_said ReadFailed status fb fn eb en said six = absurd (omega (arith, said.0, six))
 memory_said NoMemory status fb fn eb en said six = said.1
 memory_said (TooLong what) status fb fn eb en said six = absurd (omega (arith, said.0, six))
@@ -102,7 +102,7 @@ pub refusal_status : (r : Refusal) (status fb fn : ℕ) (eb en : Option (List �
 refusal_status (Session e) status fb fn eb en said = elim said [ inl s ↦ (rw s.1.0 refl, λ zero. omega (arith, s.1.0, zero), λ two. omega (arith, s.1.0, two), λ five. omega (arith, s.1.0, five)) | inr s ↦ (rw s.0 refl, λ zero. omega (arith, s.0, zero), λ two. omega (arith, s.0, two), λ five. omega (arith, s.0, five)) ]
 refusal_status (Recording e) status fb fn eb en said = elim said [ inl s ↦ (rw s.1.0 refl, λ zero. omega (arith, s.1.0, zero), λ two. omega (arith, s.1.0, two), λ five. omega (arith, s.1.0, five)) | inr s ↦ (rw s.0 refl, λ zero. omega (arith, s.0, zero), λ two. omega (arith, s.0, two), λ five. omega (arith, s.0, five)) ]
 refusal_status (Order e) status fb fn eb en said = elim said [ inl s ↦ (rw s.0 refl, λ zero. omega (arith, s.0, zero), λ two. omega (arith, s.0, two), λ five. omega (arith, s.0, five)) | inr s ↦ (rw s.0 refl, λ zero. omega (arith, s.0, zero), λ two. omega (arith, s.0, two), λ five. omega (arith, s.0, five)) ]
-refusal_status (Stream e) status fb fn eb en said = elim said [ inl s ↦ (rw s.0 refl, λ zero. omega (arith, s.0, zero), λ two. omega (arith, s.0, two), λ five. omega (arith, s.0, five)) | inr s ↦ (rw s.0 refl, λ zero. omega (arith, s.0, zero), λ two. omega (arith, s.0, two), λ five. omega (arith, s.0, five)) ]
+refusal_status (Stream e) status fb fn eb en said = elim said [ inl s ↦ (rw s.1.0 refl, λ zero. omega (arith, s.1.0, zero), λ two. omega (arith, s.1.0, two), λ five. omega (arith, s.1.0, five)) | inr s ↦ (rw s.0 refl, λ zero. omega (arith, s.0, zero), λ two. omega (arith, s.0, two), λ five. omega (arith, s.0, five)) ]
 refusal_status ReadFailed status fb fn eb en said = (rw said.0 refl, λ zero. omega (arith, said.0, zero), λ two. omega (arith, said.0, two), λ five. omega (arith, said.0, five))
 refusal_status NoMemory status fb fn eb en said = (rw said.0 refl, λ zero. omega (arith, said.0, zero), λ two. omega (arith, said.0, two), λ five. omega (arith, said.0, five))
 refusal_status (TooLong what) status fb fn eb en said = (rw said.0 refl, λ zero. omega (arith, said.0, zero), λ two. omega (arith, said.0, two), λ five. omega (arith, said.0, five))

@@ -6,14 +6,14 @@ use Rattle.command_files.specs.declared.refusal.Refusal.{Refusal}
 use Rattle.command_files.specs.declared.refusal.Subject.{Subject}
 use Rattle.command_files.specs.Judged.{Answer, IfTold}
 use Rattle.command_answers.specs.Program.{IsAnswer, usage}
-use Rattle.command_files.specs.Inputs.{AreAccepted, IsAccepted}
+use Rattle.command_files.specs.Inputs.{AreAccepted, IsAccepted, IsWant}
 use Rattle.command_files.specs.Refused.{Refused, too_long}
 use Rattle.replay_engine.specs.Telling.{HasCause}
 use Rattle.command_files.specs.RefusalView.{subject_word, status_of, refusal_view}
-use Rattle.command_words.specs.Command.{Command, replay, race, check, verify, work, batch, hover, emit}
+use Rattle.command_words.specs.Command.{Command, replay, race, check, verify, work, batch, hover, emit, judge, compare}
 
--- The files lend each name that the words give: that of a recording only where the session is accepted, and that of an order file only
--- where both are.
+-- The files lend each name that the words give: that of a recording only where the session is accepted, that of an order file only
+-- where both are, and that of the streams that came only where those that were wanted are accepted.
 abbrev pub LendsNames : Option (List Entry) → (List ℕ → Bool) → Option Command → Type 0
 LendsNames told lends None = ⊤
 LendsNames told lends (Some (replay files)) = IsTrue (lends files.session) × (IsAccepted told files.session → IsTrue (lends files.events))
@@ -26,6 +26,8 @@ LendsNames told lends (Some (work seed packets)) = ⊤
 LendsNames told lends (Some (batch stream frame)) = IsTrue (lends stream)
 LendsNames told lends (Some (hover files mouse)) = IsTrue (lends files.session) × (IsAccepted told files.session → IsTrue (lends files.events))
 LendsNames told lends (Some (emit stream channel device)) = IsTrue (lends stream)
+LendsNames told lends (Some (judge stream)) = IsTrue (lends stream)
+LendsNames told lends (Some (compare want got us pixels)) = IsTrue (lends want) × (IsWant told want → IsTrue (lends got))
 
 -- where the files are told, this is what the program answers
 abbrev pub ComesTo : Option (List Entry) → List (List ℕ) → Answer → Type 0

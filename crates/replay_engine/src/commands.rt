@@ -7,11 +7,12 @@ ghost use Rattle.command_answers.specs.Program.{Answers};
 ghost use Rattle.replay_engine.specs.Outcome.{LendsNames};
 
 use command_answers::{
-    answer_batch, answer_check, answer_emit, answer_hover, answer_replay, answer_verify,
-    answer_work,
+    answer_batch, answer_check, answer_compare, answer_emit, answer_hover, answer_judge,
+    answer_replay, answer_verify, answer_work,
 };
 use command_files::Refusal;
 use command_words::Alone;
+use compare_text::Tolerance;
 use outside_io::Files;
 use std::alloc::Global;
 use text_pieces::Pieces;
@@ -41,5 +42,18 @@ pub fn answer_alone<F: Files>(
             channel,
             device,
         } => answer_emit(alloc, files, stream, *channel, *device),
+        Alone::Judge { stream } => answer_judge(alloc, files, stream),
+        Alone::Compare {
+            want,
+            got,
+            us,
+            pixels,
+        } => {
+            let tolerance = Tolerance {
+                us: *us,
+                pixels: *pixels,
+            };
+            answer_compare(alloc, files, want, got, tolerance)
+        }
     }
 }

@@ -10,7 +10,8 @@ use session_plan::PlanError;
 use std::alloc::{AllocError, Global};
 
 /// The line that tells the commands.
-pub const USAGE: &str = "usage: inputflinger replay|race|check|verify|work|batch|hover|emit\n";
+pub const USAGE: &str =
+    "usage: inputflinger replay|race|check|verify|work|batch|hover|emit|judge|compare\n";
 
 /// The line for what is longer than its limit.
 pub fn too_long_line(what: Subject) -> &'static str
@@ -58,8 +59,8 @@ fn order_text(alloc: Global, error: OrderError) -> Result<String, AllocError>
 }
 
 /// The line of a refused stream file.
-fn stream_text(alloc: Global, error: StreamError) -> Result<String, AllocError>
-    ensures { IfOk result (λ text. string_bytes text ≡ stream_said error) }
+fn stream_text(alloc: Global, error: &StreamError) -> Result<String, AllocError>
+    ensures { IfOk result (λ text. string_bytes text ≡ stream_said error.now) }
 {
     match error {
         StreamError::BadLine { line } => format!(in alloc; "stream: BadLine {line}"),
@@ -67,6 +68,10 @@ fn stream_text(alloc: Global, error: StreamError) -> Result<String, AllocError>
         StreamError::NoChannel => String::from_str(alloc, "stream: NoChannel"),
         StreamError::TooLate { line } => format!(in alloc; "stream: TooLate {line}"),
         StreamError::NotAssignable { line } => format!(in alloc; "stream: NotAssignable {line}"),
+        StreamError::NotWhole(error) => error.line(alloc),
+        StreamError::BadWant { line } => format!(in alloc; "want: BadLine {line}"),
+        StreamError::BadGot { line } => format!(in alloc; "got: BadLine {line}"),
+        StreamError::NotSame(error) => error.line(alloc),
     }
 }
 
@@ -92,8 +97,8 @@ pub fn order_line(alloc: Global, error: OrderError) -> Result<String, AllocError
 }
 
 /// The line of a refused stream file.
-pub fn stream_line(alloc: Global, error: StreamError) -> Result<String, AllocError>
-    ensures { IfOk result (λ line. string_bytes line ≡ stream_said error ++ codes "\n") }
+pub fn stream_line(alloc: Global, error: &StreamError) -> Result<String, AllocError>
+    ensures { IfOk result (λ line. string_bytes line ≡ stream_said error.now ++ codes "\n") }
 {
     with_newline(stream_text(alloc, error)?)
 }

@@ -1,5 +1,5 @@
 //! The top calls.
-ghost use Rattle.std.specs.Prelude.{◌≡◌, ◌↔◌, map, string_bytes, IsTrue, None};
+ghost use Rattle.std.specs.Prelude.{◌≡◌, ◌↔◌, map, string_bytes, IsTrue, None, Some};
 ghost use Rattle.command_words.specs.Forms.{form_of};
 ghost use Rattle.command_answers.specs.Program.{IsAlone};
 ghost use Rattle.replay_engine.specs.Outcome.{Completes, FaultsBy, LendsNames, Tells, Writes, is_status};
@@ -28,10 +28,11 @@ pub fn run_alone<F: Files, O: Sink, E: Sink>(
     requires free { F.lent files.old ≡ None }
     ensures status { IsTrue (is_status result) }
     ensures words { (form_of (map string_bytes words.now) ≡ None) ↔ (result ≡ 2) }
-    ensures writes { Writes (F.entries files.old) (map string_bytes words.now) (O.taken out.old) (O.taken out.new)
+    ensures writes { Writes (F.entries files.old) (map string_bytes words.now)
+        (Some (O.writing out.old).took) (Some (O.writing out.new).took)
         result }
     ensures tells { Tells (F.entries files.old) (map string_bytes words.now) (E.faults err.old) (E.faults err.new)
-        (E.taken err.old) (E.taken err.new) result }
+        (Some (E.writing err.old).took) (Some (E.writing err.new).took) result }
     ensures faults { FaultsBy (F.faults files.old) (F.faults files.new) (O.faults out.old) (O.faults out.new) result }
     ensures complete { Completes (F.entries files.old) (map string_bytes words.now) (F.faults files.old)
         (F.faults files.new) (O.faults out.old) (O.faults out.new) result }
@@ -52,8 +53,8 @@ pub fn run_alone<F: Files, O: Sink, E: Sink>(
 /// | status | where |
 /// |---|---|
 /// | 0 | the whole text was written to `out` |
-/// | 1 | a line of an order or of a stream file is bad, asks for a step that does not exist, or may not come; or a stream |
-/// |   | is not to be written as a recording |
+/// | 1 | a line of an order or of a stream file is bad, asks for a step that does not exist, or may not come; or streams |
+/// |   | are not to be written as a recording, are not whole, or are not those that were wanted |
 /// | 2 | the words are not of the form of a command |
 /// | 3 | the session or a line of the recording is refused |
 /// | 4 | a file could not be read |
@@ -75,10 +76,11 @@ pub fn run<R: Threads + Wait + Sync, F: Files, O: Sink, E: Sink, G: Gate + Sync>
     requires free { F.lent files.old ≡ None }
     ensures status { IsTrue (is_status result) }
     ensures words { (form_of (map string_bytes words.now) ≡ None) ↔ (result ≡ 2) }
-    ensures writes { Writes (F.entries files.old) (map string_bytes words.now) (O.taken out.old) (O.taken out.new)
+    ensures writes { Writes (F.entries files.old) (map string_bytes words.now)
+        (Some (O.writing out.old).took) (Some (O.writing out.new).took)
         result }
     ensures tells { Tells (F.entries files.old) (map string_bytes words.now) (E.faults err.old) (E.faults err.new)
-        (E.taken err.old) (E.taken err.new) result }
+        (Some (E.writing err.old).took) (Some (E.writing err.new).took) result }
     ensures faults { FaultsBy (F.faults files.old) (F.faults files.new) (O.faults out.old) (O.faults out.new) result }
     ensures complete { Completes (F.entries files.old) (map string_bytes words.now) (F.faults files.old)
         (F.faults files.new) (O.faults out.old) (O.faults out.new) result }

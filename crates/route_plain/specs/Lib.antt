@@ -3,7 +3,7 @@ pub mod State
 pub mod Loss
 pub mod Route
 pub mod Telling
-pub mod Moment
+pub mod Seen
 pub mod Slipping
 pub mod Changing
 pub mod Laws

@@ -7,7 +7,7 @@ ghost use Rattle.routing_rules.specs.Slip.{slip};
 ghost use Rattle.routing_rules.specs.Given.{given, taken, pairs, slips_in, changed};
 ghost use Rattle.routing_rules.specs.Choice.{takers, is_candidate_of};
 ghost use Rattle.route_plain.specs.Loss.{taking_of};
-ghost use Rattle.route_plain.specs.Moment.{scene_at};
+ghost use Rattle.route_plain.specs.Seen.{scene_at};
 ghost use Rattle.route_plain.specs.Route.{hold_from, step_of};
 ghost use Rattle.route_plain.specs.Slipping.{rule_slip};
 ghost use Rattle.route_plain.specs.Changing.{IsChange, IsNoMotion};
@@ -15,7 +15,7 @@ ghost use Rattle.route_plain.specs.Changing.{IsChange, IsNoMotion};
 use crate::choice::{choice_at, is_taker, some_pilfering};
 use crate::hold::{Hold, began, ids_with};
 use crate::loss::Loss;
-use crate::moment::Moment;
+use crate::seen::Seen;
 use crate::slip::{Slip, slip_of};
 use crate::turn::Turn;
 use bits32::Bits32;
@@ -30,21 +30,21 @@ pub(crate) struct Change {
 }
 
 /// The hold of a window that is given a pointer at a turn.
-fn hold_from(moment: &Moment, turn: u64, window: u32, device: DeviceId, id: PointerId) -> Hold
-    ensures { result ≡ hold_from turn moment.now.holds.now (record { window = window; device = device; id = id }) }
+fn hold_from(seen: &Seen, turn: u64, window: u32, device: DeviceId, id: PointerId) -> Hold
+    ensures { result ≡ hold_from turn seen.now.holds.now (record { window = window; device = device; id = id }) }
 {
     Hold {
         window,
         device,
         id,
-        since: began(moment.holds, window, device).unwrap_or(turn),
+        since: began(seen.holds, window, device).unwrap_or(turn),
     }
 }
 
 /// The holds of those that get a pointer, of these candidates.
 fn taken_by(
     alloc: Global,
-    moment: &Moment,
+    seen: &Seen,
     turn: u64,
     device: DeviceId,
     id: PointerId,
@@ -52,69 +52,61 @@ fn taken_by(
     spies: u64,
     some_pilfering: bool,
 ) -> Result<Vec<Hold>, AllocError>
-    ensures { let s = scene_at moment.now in
+    ensures { let s = scene_at seen.now in
         IfOk result (λ v. v.items
-        ≡ map (λ w. hold_from turn moment.now.holds.now (record { window = w.channel; device = device; id = id }))
+        ≡ map (λ w. hold_from turn seen.now.holds.now (record { window = w.channel; device = device; id = id }))
         (filter (λ w. is_candidate_of chosen (mask_has spies) w.channel
         && (s.pilfering w.channel device || not some_pilfering) && s.able w.channel) s.windows)) }
 {
-    moment
-        .snapshot
+    seen.snapshot
         .windows()
         .iter()
-        .filter(|window| is_taker(
-            moment,
-            device,
-            chosen,
-            spies,
-            some_pilfering,
-            window.channel,
-        ))
-        .map(|window| hold_from(moment, turn, window.channel, device, id))
+        .filter(|window| is_taker(seen, device, chosen, spies, some_pilfering, window.channel))
+        .map(|window| hold_from(seen, turn, window.channel, device, id))
         .collect(alloc)
 }
 
 /// The spies of the snapshot at a point.
-fn spies(moment: &Moment, device: DeviceId, at: Pixel) -> u64
-    ensures { let s = scene_at moment.now in (c : ℕ)
+fn spies(seen: &Seen, device: DeviceId, at: Pixel) -> u64
+    ensures { let s = scene_at seen.now in (c : ℕ)
         → mask_has result c ≡ is_spy_at s.windows (s.reach device) at.x at.y c }
 {
-    moment.snapshot.spies(at.x, at.y, moment.live)
+    seen.snapshot.spies(at.x, at.y, seen.live)
 }
 
 /// The holds of those that get a pointer that goes down.
 fn gained_down(
     alloc: Global,
-    moment: &Moment,
+    seen: &Seen,
     turn: u64,
     device: DeviceId,
     pointer: Pointer,
 ) -> Result<Vec<Hold>, AllocError>
-    ensures { let s = scene_at moment.now in
+    ensures { let s = scene_at seen.now in
         IfOk result (λ v. v.items
-        ≡ map (hold_from turn moment.now.holds.now) (pairs device pointer.id (takers s device pointer.at))) }
+        ≡ map (hold_from turn seen.now.holds.now) (pairs device pointer.id (takers s device pointer.at))) }
 {
-    let chosen = choice_at(moment, device, pointer.at).window;
-    let spies = spies(moment, device, pointer.at);
-    let some = some_pilfering(moment, device, chosen, spies);
-    taken_by(alloc, moment, turn, device, pointer.id, chosen, spies, some)
+    let chosen = choice_at(seen, device, pointer.at).window;
+    let spies = spies(seen, device, pointer.at);
+    let some = some_pilfering(seen, device, chosen, spies);
+    taken_by(alloc, seen, turn, device, pointer.id, chosen, spies, some)
 }
 
 /// The hold of the window that a pointer slips to.
 fn gained_slip(
     alloc: Global,
-    moment: &Moment,
+    seen: &Seen,
     turn: u64,
     device: DeviceId,
     id: PointerId,
     slipped: Option<Slip>,
 ) -> Result<Vec<Hold>, AllocError>
     ensures { IfOk result
-        (λ v. v.items ≡ map (hold_from turn moment.now.holds.now) (slips_in device id (option_map rule_slip slipped))) }
+        (λ v. v.items ≡ map (hold_from turn seen.now.holds.now) (slips_in device id (option_map rule_slip slipped))) }
 {
     let mut gained = Vec::new(alloc);
     if let Some(slip) = slipped {
-        gained.push(hold_from(moment, turn, slip.to, device, id))?;
+        gained.push(hold_from(seen, turn, slip.to, device, id))?;
     }
     Ok(gained)
 }
@@ -129,14 +121,14 @@ pub(crate) fn changed(motion: &Motion) -> Option<Pointer>
 /// What a motion gives.
 fn gained(
     alloc: Global,
-    moment: &Moment,
+    seen: &Seen,
     turn: u64,
     motion: &Motion,
     slipped: Option<Slip>,
 ) -> Result<Vec<Hold>, AllocError>
-    requires { option_map rule_slip slipped ≡ slip (scene_at moment.now) motion.now }
+    requires { option_map rule_slip slipped ≡ slip (scene_at seen.now) motion.now }
     ensures { IfOk result
-        (λ v. v.items ≡ map (hold_from turn moment.now.holds.now) (given (scene_at moment.now) (Moves motion.now))) }
+        (λ v. v.items ≡ map (hold_from turn seen.now.holds.now) (given (scene_at seen.now) (Moves motion.now))) }
 {
     let Some(pointer) = changed(motion) else {
         return Ok(Vec::new(alloc));
@@ -144,20 +136,20 @@ fn gained(
     match motion.action {
         MotionAction::Down | MotionAction::PointerDown => gained_down(
             alloc,
-            moment,
+            seen,
             turn,
             motion.device,
             pointer,
         ),
-        MotionAction::Move => gained_slip(alloc, moment, turn, motion.device, pointer.id, slipped),
+        MotionAction::Move => gained_slip(alloc, seen, turn, motion.device, pointer.id, slipped),
         _ => Ok(Vec::new(alloc)),
     }
 }
 
 /// What a motion takes.
-fn lost(moment: &Moment, motion: &Motion, slipped: Option<Slip>) -> Loss
-    requires { option_map rule_slip slipped ≡ slip (scene_at moment.now) motion.now }
-    ensures { taking_of moment.now.snapshot.now result ≡ taken (scene_at moment.now) (Moves motion.now) }
+fn lost(seen: &Seen, motion: &Motion, slipped: Option<Slip>) -> Loss
+    requires { option_map rule_slip slipped ≡ slip (scene_at seen.now) motion.now }
+    ensures { taking_of seen.now.snapshot.now result ≡ taken (scene_at seen.now) (Moves motion.now) }
 {
     let Some(pointer) = changed(motion) else {
         return Loss::None;
@@ -180,25 +172,20 @@ fn lost(moment: &Moment, motion: &Motion, slipped: Option<Slip>) -> Loss
 }
 
 /// What a motion changes.
-fn change_by(
-    alloc: Global,
-    moment: &Moment,
-    turn: u64,
-    motion: &Motion,
-) -> Result<Change, AllocError>
+fn change_by(alloc: Global, seen: &Seen, turn: u64, motion: &Motion) -> Result<Change, AllocError>
     ensures { IfOk result
-        (λ k. IsChange (scene_at moment.now) (Moves motion.now) turn moment.now.holds.now k.gained.items k.loss) }
+        (λ k. IsChange (scene_at seen.now) (Moves motion.now) turn seen.now.holds.now k.gained.items k.loss) }
 {
-    let slipped = slip_of(moment, motion);
-    let gained = gained(alloc, moment, turn, motion, slipped)?;
-    let loss = lost(moment, motion, slipped);
+    let slipped = slip_of(seen, motion);
+    let gained = gained(alloc, seen, turn, motion, slipped)?;
+    let loss = lost(seen, motion, slipped);
     Ok(Change { gained, loss })
 }
 
 /// What a turn that is no motion takes; such a turn gives nothing.
-fn loss_of(moment: &Moment, turn: &Turn) -> Loss
+fn loss_of(seen: &Seen, turn: &Turn) -> Loss
     requires { IsNoMotion turn.now }
-    ensures { let s = scene_at moment.now in taking_of s.windows result ≡ taken s (step_of turn.now s.windows) }
+    ensures { let s = scene_at seen.now in taking_of s.windows result ≡ taken s (step_of turn.now s.windows) }
 {
     match *turn {
         Turn::Pointers(_) => unreachable!(),
@@ -206,7 +193,7 @@ fn loss_of(moment: &Moment, turn: &Turn) -> Loss
         Turn::Pilfer { channel, device } => Loss::Pilfer {
             window: channel,
             device,
-            ids: ids_with(Bits32::empty(), moment.holds, channel, device),
+            ids: ids_with(Bits32::empty(), seen.holds, channel, device),
         },
         Turn::Windows => Loss::Unnamed,
         Turn::Mute { channels } => Loss::Mute { channels },
@@ -217,18 +204,18 @@ fn loss_of(moment: &Moment, turn: &Turn) -> Loss
 /// What a turn changes.
 pub(crate) fn change_of(
     alloc: Global,
-    moment: &Moment,
+    seen: &Seen,
     number: u64,
     turn: &Turn,
 ) -> Result<Change, AllocError>
-    ensures { let s = scene_at moment.now in IfOk result
-        (λ k. IsChange s (step_of turn.now s.windows) number moment.now.holds.now k.gained.items k.loss) }
+    ensures { let s = scene_at seen.now in IfOk result
+        (λ k. IsChange s (step_of turn.now s.windows) number seen.now.holds.now k.gained.items k.loss) }
 {
     match turn {
-        Turn::Pointers(motion) => change_by(alloc, moment, number, motion),
+        Turn::Pointers(motion) => change_by(alloc, seen, number, motion),
         _ => Ok(Change {
             gained: Vec::new(alloc),
-            loss: loss_of(moment, turn),
+            loss: loss_of(seen, turn),
         }),
     }
 }

@@ -6,35 +6,35 @@ ghost use Rattle.routing_rules.specs.Scene.{shows, which};
 ghost use Rattle.window_snapshot.specs.Mask.{mask_has};
 ghost use Rattle.window_snapshot.specs.Window.{prevents_splitting};
 ghost use Rattle.window_snapshot.specs.Hits.{touched};
-ghost use Rattle.route_plain.specs.Moment.{scene_at};
+ghost use Rattle.route_plain.specs.Seen.{scene_at};
 
 use crate::hold::{holds_any, is_earlier, is_pilfering};
-use crate::moment::Moment;
+use crate::seen::Seen;
 use input_types::{DeviceId, Pixel};
 use routing_rules::{Choice, Row};
 use window_snapshot::{Window, mask_has};
 
 /// Whether the window is no spy and holds something of the device.
-fn is_holder(moment: &Moment, device: DeviceId, window: &Window) -> bool
-    ensures { result ≡ is_holder (scene_at moment.now) device window.now }
+fn is_holder(seen: &Seen, device: DeviceId, window: &Window) -> bool
+    ensures { result ≡ is_holder (scene_at seen.now) device window.now }
 {
-    !window.is_spy() && holds_any(moment.holds, window.channel, device)
+    !window.is_spy() && holds_any(seen.holds, window.channel, device)
 }
 
 /// Whether it prevents splitting besides.
-fn is_whole_holder(moment: &Moment, device: DeviceId, window: &Window) -> bool
-    ensures { result ≡ (is_holder (scene_at moment.now) device window.now && prevents_splitting window.now) }
+fn is_whole_holder(seen: &Seen, device: DeviceId, window: &Window) -> bool
+    ensures { result ≡ (is_holder (scene_at seen.now) device window.now && prevents_splitting window.now) }
 {
-    is_holder(moment, device, window) && window.prevents_splitting()
+    is_holder(seen, device, window) && window.prevents_splitting()
 }
 
 /// Of the best so far and a window behind it, the one that began first.
-fn sooner(moment: &Moment, device: DeviceId, best: Option<u32>, channel: u32) -> Option<u32>
-    ensures { result ≡ sooner (scene_at moment.now) device best channel }
+fn sooner(seen: &Seen, device: DeviceId, best: Option<u32>, channel: u32) -> Option<u32>
+    ensures { result ≡ sooner (scene_at seen.now) device best channel }
 {
     match best {
         Some(first) => {
-            if is_earlier(moment.holds, channel, first, device) {
+            if is_earlier(seen.holds, channel, first, device) {
                 Some(channel)
             } else {
                 Some(first)
@@ -45,46 +45,44 @@ fn sooner(moment: &Moment, device: DeviceId, best: Option<u32>, channel: u32) ->
 }
 
 /// The earliest holder.
-fn earliest_holder(moment: &Moment, device: DeviceId) -> Option<u32>
-    ensures { let s = scene_at moment.now in result ≡ earliest s device (which s (is_holder s device)) }
+fn earliest_holder(seen: &Seen, device: DeviceId) -> Option<u32>
+    ensures { let s = scene_at seen.now in result ≡ earliest s device (which s (is_holder s device)) }
 {
-    moment
-        .snapshot
+    seen.snapshot
         .windows()
         .iter()
-        .filter(|window| is_holder(moment, device, window))
+        .filter(|window| is_holder(seen, device, window))
         .map(|window| window.channel)
-        .fold(None, |best, channel| sooner(moment, device, best, channel))
+        .fold(None, |best, channel| sooner(seen, device, best, channel))
 }
 
 /// The earliest holder that prevents splitting.
-fn earliest_whole_holder(moment: &Moment, device: DeviceId) -> Option<u32>
-    ensures { let s = scene_at moment.now in result
+fn earliest_whole_holder(seen: &Seen, device: DeviceId) -> Option<u32>
+    ensures { let s = scene_at seen.now in result
         ≡ earliest s device (which s (λ v. is_holder s device v && prevents_splitting v)) }
 {
-    moment
-        .snapshot
+    seen.snapshot
         .windows()
         .iter()
-        .filter(|window| is_whole_holder(moment, device, window))
+        .filter(|window| is_whole_holder(seen, device, window))
         .map(|window| window.channel)
-        .fold(None, |best, channel| sooner(moment, device, best, channel))
+        .fold(None, |best, channel| sooner(seen, device, best, channel))
 }
 
 /// Whether the channel's window prevents splitting.
-fn shows_whole(moment: &Moment, channel: u32) -> bool
-    ensures { result ≡ shows (scene_at moment.now) prevents_splitting channel }
+fn shows_whole(seen: &Seen, channel: u32) -> bool
+    ensures { result ≡ shows (scene_at seen.now) prevents_splitting channel }
 {
-    moment.snapshot.windows().iter().any(|window| window.channel == channel
+    seen.snapshot.windows().iter().any(|window| window.channel == channel
         && window.prevents_splitting())
 }
 
 /// Whether the touched window prevents splitting and holds nothing of the device.
-fn is_alone(moment: &Moment, device: DeviceId, touched: Option<u32>) -> bool
-    ensures { result ≡ is_alone (scene_at moment.now) device touched }
+fn is_alone(seen: &Seen, device: DeviceId, touched: Option<u32>) -> bool
+    ensures { result ≡ is_alone (scene_at seen.now) device touched }
 {
     match touched {
-        Some(channel) => shows_whole(moment, channel) && !holds_any(moment.holds, channel, device),
+        Some(channel) => shows_whole(seen, channel) && !holds_any(seen.holds, channel, device),
         None => false,
     }
 }
@@ -109,13 +107,13 @@ fn choose(first: Option<u32>, whole: Option<u32>, touched: Option<u32>, alone: b
 }
 
 /// What is chosen for a pointer that goes down there, and by which row.
-pub(crate) fn choice_at(moment: &Moment, device: DeviceId, at: Pixel) -> Choice
-    ensures { result ≡ choice_at (scene_at moment.now) device at }
+pub(crate) fn choice_at(seen: &Seen, device: DeviceId, at: Pixel) -> Choice
+    ensures { result ≡ choice_at (scene_at seen.now) device at }
 {
-    let first = earliest_holder(moment, device);
-    let whole = earliest_whole_holder(moment, device);
-    let touched = moment.snapshot.touched(at.x, at.y, moment.live);
-    choose(first, whole, touched, is_alone(moment, device, touched))
+    let first = earliest_holder(seen, device);
+    let whole = earliest_whole_holder(seen, device);
+    let touched = seen.snapshot.touched(at.x, at.y, seen.live);
+    choose(first, whole, touched, is_alone(seen, device, touched))
 }
 
 /// Whether the window is the chosen one or one of these spies.
@@ -130,30 +128,25 @@ fn is_candidate(chosen: Option<u32>, spies: u64, channel: u32) -> bool
 
 /// Whether a candidate is pilfering the device.
 fn is_pilfering_candidate(
-    moment: &Moment,
+    seen: &Seen,
     device: DeviceId,
     chosen: Option<u32>,
     spies: u64,
     channel: u32,
 ) -> bool
     ensures { result
-        ≡ (is_candidate_of chosen (mask_has spies) channel && (scene_at moment.now).pilfering channel device) }
+        ≡ (is_candidate_of chosen (mask_has spies) channel && (scene_at seen.now).pilfering channel device) }
 {
-    is_candidate(chosen, spies, channel) && is_pilfering(moment.pilferers, channel, device)
+    is_candidate(chosen, spies, channel) && is_pilfering(seen.pilferers, channel, device)
 }
 
 /// Whether some candidate is.
-pub(crate) fn some_pilfering(
-    moment: &Moment,
-    device: DeviceId,
-    chosen: Option<u32>,
-    spies: u64,
-) -> bool
-    ensures { let s = scene_at moment.now in result
+pub(crate) fn some_pilfering(seen: &Seen, device: DeviceId, chosen: Option<u32>, spies: u64) -> bool
+    ensures { let s = scene_at seen.now in result
         ≡ list_any (λ v. is_candidate_of chosen (mask_has spies) v.channel && s.pilfering v.channel device) s.windows }
 {
-    moment.snapshot.windows().iter().any(|window| is_pilfering_candidate(
-        moment,
+    seen.snapshot.windows().iter().any(|window| is_pilfering_candidate(
+        seen,
         device,
         chosen,
         spies,
@@ -163,18 +156,18 @@ pub(crate) fn some_pilfering(
 
 /// Whether the window gets a pointer that goes down.
 pub(crate) fn is_taker(
-    moment: &Moment,
+    seen: &Seen,
     device: DeviceId,
     chosen: Option<u32>,
     spies: u64,
     some_pilfering: bool,
     channel: u32,
 ) -> bool
-    ensures { let s = scene_at moment.now in result
+    ensures { let s = scene_at seen.now in result
         ≡ (is_candidate_of chosen (mask_has spies) channel && (s.pilfering channel device || not some_pilfering)
         && s.able channel) }
 {
     is_candidate(chosen, spies, channel)
-        && (is_pilfering(moment.pilferers, channel, device) || !some_pilfering)
-        && mask_has(moment.able, channel)
+        && (is_pilfering(seen.pilferers, channel, device) || !some_pilfering)
+        && mask_has(seen.able, channel)
 }

@@ -11,8 +11,8 @@ ghost use Rattle.route_plain.specs.Route.{step_of, said_at, state_after, holds_l
 use crate::change::{Change, change_of};
 use crate::hold::{Hold, Pilferer, holds_any, ids_with, is_pilfering};
 use crate::loss::{Loss, is_taken};
-use crate::moment::Moment;
 use crate::said::said_at;
+use crate::seen::Seen;
 use crate::turn::{Said, Turn};
 use bits32::Bits32;
 use input_types::{DeviceId, Pointers};
@@ -89,7 +89,7 @@ impl Plain {
         ensures err { OnErr result (self.new ≡ self.old) }
     {
         let alloc = *self.holds.allocator();
-        let moment = Moment {
+        let seen = Seen {
             snapshot,
             live,
             able,
@@ -97,8 +97,8 @@ impl Plain {
             pilferers: &self.pilferers,
             last: &self.last,
         };
-        let change = change_of(alloc, &moment, self.turns, turn)?;
-        let said = said_at(alloc, &moment, turn, self.turns, &change)?;
+        let change = change_of(alloc, &seen, self.turns, turn)?;
+        let said = said_at(alloc, &seen, turn, self.turns, &change)?;
         self.holds.reserve(change.gained.len())?;
         self.pilferers.reserve(1)?;
         lose(&mut self.holds, &change.loss, snapshot.windows());

@@ -10,7 +10,7 @@ ghost use Rattle.routing_rules.specs.Told.{after};
 ghost use Rattle.route_plain.specs.Changing.{IsChange};
 ghost use Rattle.route_plain.specs.Holds.{pairs_of, ids_with};
 ghost use Rattle.route_plain.specs.Loss.{taking_of, mark_of};
-ghost use Rattle.route_plain.specs.Moment.{scene_at};
+ghost use Rattle.route_plain.specs.Seen.{scene_at};
 ghost use Rattle.route_plain.specs.Route.{to_channel, said_up_to, said_at, holds_left, step_of};
 ghost use Rattle.route_plain.specs.Telling.{told_moved, told_lost, told_losses};
 ghost use Rattle.routing_rules.specs.Watching.{is_watching};
@@ -18,7 +18,7 @@ ghost use Rattle.routing_rules.specs.Watching.{is_watching};
 use crate::change::{Change, changed};
 use crate::hold::{Hold, channels_with, ids_with, is_of, with_id};
 use crate::loss::{Loss, is_taken};
-use crate::moment::{Moment, last_of};
+use crate::seen::{Seen, last_of};
 use crate::telling::{Held, tell_cancels, tell_motion};
 use crate::turn::{Said, Turn};
 use bits32::Bits32;
@@ -29,45 +29,46 @@ use window_snapshot::{Window, mask_has};
 /// What is said at a turn that changes this.
 pub(crate) fn said_at(
     alloc: Global,
-    moment: &Moment,
+    seen: &Seen,
     turn: &Turn,
     number: u64,
     change: &Change,
 ) -> Result<Vec<Said>, AllocError>
-    requires whole { length moment.now.last.now ≡ 8 }
-    requires change { let s = scene_at moment.now in IsChange s
-        (step_of turn.now s.windows) number moment.now.holds.now change.now.gained.items change.now.loss }
-    ensures { let s = scene_at moment.now in IfOk result (λ v. v.items ≡ said_at s (step_of turn.now s.windows)) }
+    requires whole { length seen.now.last.now ≡ 8 }
+    requires change { let s = scene_at seen.now in IsChange s
+        (step_of turn.now s.windows) number seen.now.holds.now change.now.gained.items change.now.loss }
+    ensures { let s = scene_at seen.now in IfOk result (λ v. v.items ≡ said_at s (step_of turn.now s.windows)) }
 {
     match turn {
-        Turn::Pointers(motion) => said_of_motion(alloc, moment, motion, change),
+        Turn::Pointers(motion) => said_of_motion(alloc, seen, motion, change),
         Turn::Forget { .. } => Ok(Vec::new(alloc)),
-        _ => said_of_loss(alloc, moment, change),
+        _ => said_of_loss(alloc, seen, change),
     }
 }
 
 /// What is said of a motion.
 fn said_of_motion(
     alloc: Global,
-    moment: &Moment,
+    seen: &Seen,
     motion: &Motion,
     change: &Change,
 ) -> Result<Vec<Said>, AllocError>
-    requires { length moment.now.last.now ≡ 8 }
-    ensures said { let s = scene_at moment.now in
+    requires { length seen.now.last.now ≡ 8 }
+    ensures said { let s = scene_at seen.now in
         IfOk result (λ v. v.items
         ≡ said_up_to (told_moved s (mark_of s.windows change.now.gained.items change.now.loss) motion.now) 64) }
     ensures device { (1 ≤ motion.now.device) × (motion.now.device ≤ 8) }
 {
     let mut out = Vec::new(alloc);
-    let _last = last_of(moment.last, motion.device);
-    let watching = watching(moment, motion, changed(motion));
-    let concerned = channels_with(channels_with(watching, moment.holds), &change.gained);
+    // Its clause `range` says that the number of the device is one of 1 to 8, which nothing else here reads.
+    let _last = last_of(seen.last, motion.device);
+    let watching = watching(seen, motion, changed(motion));
+    let concerned = channels_with(channels_with(watching, seen.holds), &change.gained);
     for below in 0..64 {
         let channel = below + 1;
         if mask_has(concerned, channel) {
             let watches = mask_has(watching, channel);
-            tell_channel(&mut out, channel, moment, motion, change, watches)?;
+            tell_channel(&mut out, channel, seen, motion, change, watches)?;
         }
     }
     Ok(out)
@@ -77,33 +78,33 @@ fn said_of_motion(
 fn tell_channel(
     out: &mut Vec<Said>,
     channel: u32,
-    moment: &Moment,
+    seen: &Seen,
     motion: &Motion,
     change: &Change,
     watches: bool,
 ) -> Result<(), AllocError>
-    requires whole { length moment.now.last.now ≡ 8 }
-    requires watching { watches ≡ is_watching (scene_at moment.now) motion.now (changed motion.now) channel }
-    ensures { let s = scene_at moment.now in
+    requires whole { length seen.now.last.now ≡ 8 }
+    requires watching { watches ≡ is_watching (scene_at seen.now) motion.now (changed motion.now) channel }
+    ensures { let s = scene_at seen.now in
         OnOk result (out.new.items
         ≡ out.old.items
         ++ to_channel channel
         (told_moved s (mark_of s.windows change.now.gained.items change.now.loss) motion.now channel)) }
 {
-    let held = held_around(moment, change, channel, motion.device);
-    tell_motion(out, channel, moment, motion, &held, watches)
+    let held = held_around(seen, change, channel, motion.device);
+    tell_motion(out, channel, seen, motion, &held, watches)
 }
 
 /// What is said of a loss.
-fn said_of_loss(alloc: Global, moment: &Moment, change: &Change) -> Result<Vec<Said>, AllocError>
-    requires { length moment.now.last.now ≡ 8 }
-    ensures { let s = scene_at moment.now in
+fn said_of_loss(alloc: Global, seen: &Seen, change: &Change) -> Result<Vec<Said>, AllocError>
+    requires { length seen.now.last.now ≡ 8 }
+    ensures { let s = scene_at seen.now in
         IfOk result (λ v. v.items
         ≡ said_up_to (told_losses s (mark_of s.windows change.now.gained.items change.now.loss)) 64) }
 {
     let mut out = Vec::new(alloc);
     for below in 0..64 {
-        tell_losses(&mut out, below + 1, moment, change)?;
+        tell_losses(&mut out, below + 1, seen, change)?;
     }
     Ok(out)
 }
@@ -112,11 +113,11 @@ fn said_of_loss(alloc: Global, moment: &Moment, change: &Change) -> Result<Vec<S
 fn tell_losses(
     out: &mut Vec<Said>,
     channel: u32,
-    moment: &Moment,
+    seen: &Seen,
     change: &Change,
 ) -> Result<(), AllocError>
-    requires { length moment.now.last.now ≡ 8 }
-    ensures { let s = scene_at moment.now in
+    requires { length seen.now.last.now ≡ 8 }
+    ensures { let s = scene_at seen.now in
         OnOk result (out.new.items
         ≡ out.old.items
         ++ to_channel channel (told_losses s (mark_of s.windows change.now.gained.items change.now.loss) channel)) }
@@ -125,7 +126,7 @@ fn tell_losses(
         let Some(device) = DeviceId::new(below + 1) else {
             unreachable!();
         };
-        tell_loss(out, channel, moment, change, device)?;
+        tell_loss(out, channel, seen, change, device)?;
     }
     Ok(())
 }
@@ -134,30 +135,30 @@ fn tell_losses(
 fn tell_loss(
     out: &mut Vec<Said>,
     channel: u32,
-    moment: &Moment,
+    seen: &Seen,
     change: &Change,
     device: DeviceId,
 ) -> Result<(), AllocError>
-    requires { length moment.now.last.now ≡ 8 }
-    ensures { let s = scene_at moment.now in
+    requires { length seen.now.last.now ≡ 8 }
+    ensures { let s = scene_at seen.now in
         OnOk result (out.new.items
         ≡ out.old.items
         ++ to_channel channel
         (told_lost s (mark_of s.windows change.now.gained.items change.now.loss) channel device)) }
 {
-    let held = held_around(moment, change, channel, device);
-    let last = last_of(moment.last, device);
+    let held = held_around(seen, change, channel, device);
+    let last = last_of(seen.last, device);
     tell_cancels(out, channel, device, last, &held)
 }
 
 /// What a window holds of a device before and after a turn that changes this.
-fn held_around(moment: &Moment, change: &Change, window: u32, device: DeviceId) -> Held
-    ensures before { (λ i. is_in i result.before) ≡ (scene_at moment.now).holds window device }
-    ensures later { let s = scene_at moment.now in (λ i. is_in i result.later)
+fn held_around(seen: &Seen, change: &Change, window: u32, device: DeviceId) -> Held
+    ensures before { (λ i. is_in i result.before) ≡ (scene_at seen.now).holds window device }
+    ensures later { let s = scene_at seen.now in (λ i. is_in i result.later)
         ≡ after s (mark_of s.windows change.now.gained.items change.now.loss) window device }
 {
-    let before = ids_with(Bits32::empty(), moment.holds, window, device);
-    let kept = ids_kept(before, moment, &change.loss, window, device);
+    let before = ids_with(Bits32::empty(), seen.holds, window, device);
+    let kept = ids_kept(before, seen, &change.loss, window, device);
     Held {
         before,
         later: ids_with(kept, &change.gained, window, device),
@@ -165,19 +166,19 @@ fn held_around(moment: &Moment, change: &Change, window: u32, device: DeviceId) 
 }
 
 /// Those of the ids that a window held of a device that a loss leaves.
-fn ids_kept(before: Bits32, moment: &Moment, loss: &Loss, window: u32, device: DeviceId) -> Bits32
-    requires { before ≡ ids_with 0 moment.now.holds.now window device }
+fn ids_kept(before: Bits32, seen: &Seen, loss: &Loss, window: u32, device: DeviceId) -> Bits32
+    requires { before ≡ ids_with 0 seen.now.holds.now window device }
     ensures { (i : ℕ)
         → is_in i result
-        ≡ (has (pairs_of moment.now.holds.now) window device i
-        && not (takes (taking_of moment.now.snapshot.now loss.now) window device i)) }
+        ≡ (has (pairs_of seen.now.holds.now) window device i
+        && not (takes (taking_of seen.now.snapshot.now loss.now) window device i)) }
 {
     match *loss {
         Loss::None => before,
         _ => ids_left(
-            moment.holds,
+            seen.holds,
             loss,
-            moment.snapshot.windows(),
+            seen.snapshot.windows(),
             Bits32::empty(),
             window,
             device,
@@ -204,20 +205,20 @@ fn ids_left(
 }
 
 /// The channels that watch for touches outside of them, where this pointer begins a gesture.
-fn watching(moment: &Moment, motion: &Motion, pointer: Option<Pointer>) -> u64
-    ensures { (c : ℕ) → mask_has result c ≡ is_watching (scene_at moment.now) motion.now pointer c }
+fn watching(seen: &Seen, motion: &Motion, pointer: Option<Pointer>) -> u64
+    ensures { (c : ℕ) → mask_has result c ≡ is_watching (scene_at seen.now) motion.now pointer c }
 {
     match (motion.action, pointer) {
-        (MotionAction::Down, Some(pointer)) => moment.able
-            & watchers(moment, motion.device, pointer.at),
+        (MotionAction::Down, Some(pointer)) => seen.able
+            & watchers(seen, motion.device, pointer.at),
         _ => 0,
     }
 }
 
 /// The watchers of the snapshot at a point.
-fn watchers(moment: &Moment, device: DeviceId, at: Pixel) -> u64
-    ensures { let s = scene_at moment.now in (c : ℕ)
+fn watchers(seen: &Seen, device: DeviceId, at: Pixel) -> u64
+    ensures { let s = scene_at seen.now in (c : ℕ)
         → mask_has result c ≡ is_watcher_at s.windows (s.reach device) at.x at.y c }
 {
-    moment.snapshot.watchers(at.x, at.y, moment.live)
+    seen.snapshot.watchers(at.x, at.y, seen.live)
 }

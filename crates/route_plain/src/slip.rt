@@ -3,11 +3,11 @@ ghost use Rattle.std.specs.Prelude.{◌≡◌, ◌&&◌, not, fold, map, filter,
 ghost use Rattle.window_snapshot.specs.Window.{is_spy, is_slippery};
 ghost use Rattle.routing_rules.specs.Scene.{shows};
 ghost use Rattle.routing_rules.specs.Slip.{only, holders_of, slips_to, slip};
-ghost use Rattle.route_plain.specs.Moment.{scene_at};
+ghost use Rattle.route_plain.specs.Seen.{scene_at};
 ghost use Rattle.route_plain.specs.Slipping.{rule_slip, and_one, the_one};
 
 use crate::hold::holds_pointer;
-use crate::moment::Moment;
+use crate::seen::Seen;
 use input_types::{DeviceId, Motion, MotionAction, PointerId};
 use window_snapshot::{Window, mask_has};
 
@@ -47,52 +47,50 @@ fn the_one(found: Found) -> Option<u32>
 }
 
 /// Whether the window is no spy and holds the pointer.
-fn is_holder_of(moment: &Moment, device: DeviceId, id: PointerId, window: &Window) -> bool
-    ensures { result ≡ (not (is_spy window.now) && (scene_at moment.now).holds window.now.channel device id) }
+fn is_holder_of(seen: &Seen, device: DeviceId, id: PointerId, window: &Window) -> bool
+    ensures { result ≡ (not (is_spy window.now) && (scene_at seen.now).holds window.now.channel device id) }
 {
-    !window.is_spy() && holds_pointer(moment.holds, window.channel, device, id)
+    !window.is_spy() && holds_pointer(seen.holds, window.channel, device, id)
 }
 
 /// The windows without SPY that hold the pointer.
-fn found_holders(moment: &Moment, device: DeviceId, id: PointerId) -> Found
-    ensures { let s = scene_at moment.now in result
+fn found_holders(seen: &Seen, device: DeviceId, id: PointerId) -> Found
+    ensures { let s = scene_at seen.now in result
         ≡ fold and_one Found.Nobody
         (map (λ v. v.channel) (filter (λ v. not (is_spy v) && s.holds v.channel device id) s.windows)) }
 {
-    moment
-        .snapshot
+    seen.snapshot
         .windows()
         .iter()
-        .filter(|window| is_holder_of(moment, device, id, window))
+        .filter(|window| is_holder_of(seen, device, id, window))
         .map(|window| window.channel)
         .fold(Found::Nobody, |found, channel| and_one(found, channel))
 }
 
 /// The only window without SPY that holds the pointer.
-fn only_holder(moment: &Moment, device: DeviceId, id: PointerId) -> Option<u32>
-    ensures { result ≡ only (holders_of (scene_at moment.now) device id) }
+fn only_holder(seen: &Seen, device: DeviceId, id: PointerId) -> Option<u32>
+    ensures { result ≡ only (holders_of (scene_at seen.now) device id) }
 {
-    the_one(found_holders(moment, device, id))
+    the_one(found_holders(seen, device, id))
 }
 
 /// Whether the channel's window is slippery.
-fn is_slippery(moment: &Moment, channel: u32) -> bool
-    ensures { result ≡ shows (scene_at moment.now) is_slippery channel }
+fn is_slippery(seen: &Seen, channel: u32) -> bool
+    ensures { result ≡ shows (scene_at seen.now) is_slippery channel }
 {
-    moment
-        .snapshot
+    seen.snapshot
         .windows()
         .iter()
         .any(|window| window.channel == channel && window.is_slippery())
 }
 
 /// From the one holder to the touched window, where it may slip there.
-fn slips_to(moment: &Moment, holder: Option<u32>, touched: Option<u32>) -> Option<Slip>
-    ensures { option_map rule_slip result ≡ slips_to (scene_at moment.now) holder touched }
+fn slips_to(seen: &Seen, holder: Option<u32>, touched: Option<u32>) -> Option<Slip>
+    ensures { option_map rule_slip result ≡ slips_to (scene_at seen.now) holder touched }
 {
     match (holder, touched) {
         (Some(from), Some(to)) => {
-            if is_slippery(moment, from) && to != from && mask_has(moment.able, to) {
+            if is_slippery(seen, from) && to != from && mask_has(seen.able, to) {
                 Some(Slip { from, to })
             } else {
                 None
@@ -103,20 +101,14 @@ fn slips_to(moment: &Moment, holder: Option<u32>, touched: Option<u32>) -> Optio
 }
 
 /// Whether a motion lets a pointer slip: a move that lists it alone.
-pub(crate) fn slip_of(moment: &Moment, motion: &Motion) -> Option<Slip>
-    ensures { option_map rule_slip result ≡ slip (scene_at moment.now) motion.now }
+pub(crate) fn slip_of(seen: &Seen, motion: &Motion) -> Option<Slip>
+    ensures { option_map rule_slip result ≡ slip (scene_at seen.now) motion.now }
 {
     match motion.action {
         MotionAction::Move => match motion.pointers.as_slice() {
             [pointer] => {
-                let touched = moment
-                    .snapshot
-                    .touched(pointer.at.x, pointer.at.y, moment.live);
-                slips_to(
-                    moment,
-                    only_holder(moment, motion.device, pointer.id),
-                    touched,
-                )
+                let touched = seen.snapshot.touched(pointer.at.x, pointer.at.y, seen.live);
+                slips_to(seen, only_holder(seen, motion.device, pointer.id), touched)
             }
             _ => None,
         },

@@ -4,14 +4,14 @@ ghost use Rattle.std.specs.List.{list_any};
 ghost use Rattle.bits32.specs.Set.{is_in};
 ghost use Rattle.routing_rules.specs.Given.{changed};
 ghost use Rattle.routing_rules.specs.Told.{listing, cancelled_ups, cancels, moves, or_else, told_motion};
-ghost use Rattle.route_plain.specs.Moment.{scene_at};
+ghost use Rattle.route_plain.specs.Seen.{scene_at};
 ghost use Rattle.route_plain.specs.Route.{to_channel};
 ghost use Rattle.routing_rules.specs.Watching.{is_watching, outside_of};
 
 use crate::change::changed;
 use crate::hold::has_id;
 use crate::listing::{about, closing, is_cancelled, is_up, listing, opening, plain, single};
-use crate::moment::{Moment, last_of};
+use crate::seen::{Seen, last_of};
 use crate::turn::Said;
 use bits32::Bits32;
 use input_types::{DeviceId, FLAG_CANCELED, Motion, MotionAction, Pointer, PointerId, Pointers};
@@ -28,22 +28,22 @@ pub(crate) struct Held {
 pub(crate) fn tell_motion(
     out: &mut Vec<Said>,
     channel: u32,
-    moment: &Moment,
+    seen: &Seen,
     motion: &Motion,
     held: &Held,
     watching: bool,
 ) -> Result<(), AllocError>
-    requires whole { length moment.now.last.now ≡ 8 }
-    requires watching { watching ≡ is_watching (scene_at moment.now) motion.now (changed motion.now) channel }
+    requires whole { length seen.now.last.now ≡ 8 }
+    requires watching { watching ≡ is_watching (scene_at seen.now) motion.now (changed motion.now) channel }
     ensures { OnOk result
         (out.new.items ≡ out.old.items
         ++ to_channel channel
-        (told_motion (scene_at moment.now) motion.now (changed motion.now) channel (λ i. is_in i held.now.before)
+        (told_motion (scene_at seen.now) motion.now (changed motion.now) channel (λ i. is_in i held.now.before)
         (λ i. is_in i held.now.later))) }
 {
     match changed(motion) {
-        Some(pointer) => tell_changed(out, channel, moment, motion, pointer, held, watching),
-        None => tell_rest(out, channel, moment, motion, held, None),
+        Some(pointer) => tell_changed(out, channel, seen, motion, pointer, held, watching),
+        None => tell_rest(out, channel, seen, motion, held, None),
     }
 }
 
@@ -73,18 +73,18 @@ pub(crate) fn tell_cancels(
 fn tell_changed(
     out: &mut Vec<Said>,
     channel: u32,
-    moment: &Moment,
+    seen: &Seen,
     motion: &Motion,
     pointer: Pointer,
     held: &Held,
     watching: bool,
 ) -> Result<(), AllocError>
-    requires whole { length moment.now.last.now ≡ 8 }
-    requires watching { watching ≡ is_watching (scene_at moment.now) motion.now (Some pointer) channel }
+    requires whole { length seen.now.last.now ≡ 8 }
+    requires watching { watching ≡ is_watching (scene_at seen.now) motion.now (Some pointer) channel }
     ensures { OnOk result
         (out.new.items ≡ out.old.items
         ++ to_channel channel
-        (told_motion (scene_at moment.now) motion.now (Some pointer) channel (λ i. is_in i held.now.before)
+        (told_motion (scene_at seen.now) motion.now (Some pointer) channel (λ i. is_in i held.now.before)
         (λ i. is_in i held.now.later))) }
 {
     if is_given(held, pointer.id) {
@@ -101,20 +101,20 @@ fn tell_changed(
         );
     }
     let watched = if watching { Some(pointer) } else { None };
-    tell_rest(out, channel, moment, motion, held, watched)
+    tell_rest(out, channel, seen, motion, held, watched)
 }
 
 /// Says to a channel what it loses, else what moves, else that a pointer is outside where it watches this one.
 fn tell_rest(
     out: &mut Vec<Said>,
     channel: u32,
-    moment: &Moment,
+    seen: &Seen,
     motion: &Motion,
     held: &Held,
     watched: Option<Pointer>,
 ) -> Result<(), AllocError>
-    requires { length moment.now.last.now ≡ 8 }
-    ensures { let s = scene_at moment.now in
+    requires { length seen.now.last.now ≡ 8 }
+    ensures { let s = scene_at seen.now in
         let m = motion.now in
         OnOk result (out.new.items
         ≡ out.old.items
@@ -122,7 +122,7 @@ fn tell_rest(
         (or_else (cancels m.device (s.last m.device) (λ i. is_in i held.now.before) (λ i. is_in i held.now.later))
         (or_else (moves m.device (listing (λ i. is_in i held.now.later) m.pointers)) (outside_of m.device watched)))) }
 {
-    let last = last_of(moment.last, motion.device);
+    let last = last_of(seen.last, motion.device);
     if loses_some(last, held) {
         return tell_cancels(out, channel, motion.device, last, held);
     }

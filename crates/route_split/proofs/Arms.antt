@@ -9,7 +9,7 @@ use Rattle.route_split.specs.declared.mark.Mark.{Mark}
 use Rattle.route_split.specs.declared.mark.Mark.TheVariants.{Lift, Slip, Empty, Pilfer, Unnamed, Forget}
 use Rattle.route_split.specs.Tables.{table_of, ChangesAll}
 use Rattle.route_split.specs.Marking.{gives, taking}
-use Rattle.route_split.proofs.Changing.{same_changes, dropped_by}
+use Rattle.route_split.proofs.Changing.{same_changes, emptied_by}
 
 -- what the tables change by with a mark
 abbrev pub ChangesBy : List Touches → List Touches → Mark → ℕ → Type 0
@@ -65,9 +65,9 @@ pub by_unnamed : (ts us : List Touches) (stays mask place : ℕ) → ((w : ℕ) 
     → ChangesAll ts us (λ w d i. none w i) (λ w d i. mask_has mask w) place (λ w d. nobody w)
     → ChangesBy ts us (Unnamed stays) place
 by_unnamed ts us stays mask place are c =
-    dropped_by ts us mask (λ w. not (mask_has stays w)) place (λ w h. are w ∙ ap (λ b. b && not (mask_has stays w)) h) c
+    emptied_by ts us mask (λ w. not (mask_has stays w)) place (λ w h. are w ∙ ap (λ b. b && not (mask_has stays w)) h) c
 
 pub by_forget : (ts us : List Touches) (window mask place : ℕ) → ((w : ℕ) → mask_has mask w ≡ (is_channel w && w == window))
     → ChangesAll ts us (λ w d i. none w i) (λ w d i. mask_has mask w) place (λ w d. nobody w)
     → ChangesBy ts us (Forget window) place
-by_forget ts us window mask place are c = dropped_by ts us mask (λ w. w == window) place (λ w h. are w ∙ ap (λ b. b && w == window) h) c
+by_forget ts us window mask place are c = emptied_by ts us mask (λ w. w == window) place (λ w h. are w ∙ ap (λ b. b && w == window) h) c

@@ -125,18 +125,18 @@ held_device ts w d i h =
       | inr f ↦ absurd (both_ways (holds (table_of ts d) w i) (ap (λ z. holds z w i) (no_device ts d f) ∙ nothing_at w i) h)
     ]
 
--- what is dropped of no device, of one more, and of all
-pub none_dropped : (ts : List Touches) (m : ℕ → Bool) (place : ℕ) → IsTables ts
+-- what is taken of no device, of one more, and of all
+pub none_emptied : (ts : List Touches) (m : ℕ → Bool) (place : ℕ) → IsTables ts
     → ChangesAll ts ts (λ w d i. none w i) (λ w d i. nat_le d 0 && m w) place (λ w d. nobody w)
-none_dropped ts m place tables d =
+none_emptied ts m place tables d =
     unchanged (table_of ts d) (λ w i. nat_le d 0 && m w) (tables.within d)
     (λ w i h. let p = held_device ts w d i h in ap (λ b. b && m w) (lt-leb d 0 p.0)) place
 
-pub one_dropped : (old ts : List Touches) (m : ℕ → Bool) (k : ℕ) (z x : Touches) → IsTables ts → k < 8
+pub one_emptied : (old ts : List Touches) (m : ℕ → Bool) (k : ℕ) (z x : Touches) → IsTables ts → k < 8
     → ((place : ℕ) → ChangesAll old ts (λ w d i. none w i) (λ w d i. nat_le d k && m w) place (λ w d. nobody w))
     → ((place : ℕ) → Changes (get_or ts k z) x none (λ w i. m w) place nobody)
     → (place : ℕ) → ChangesAll old (set ts k x) (λ w d i. none w i) (λ w d i. nat_le d (k + 1) && m w) place (λ w d. nobody w)
-one_dropped old ts m k z x tables lt before c place d =
+one_emptied old ts m k z x tables lt before c place d =
     let device : is_device (k + 1) ≡ true = rw (le-leb 1 (k + 1) (omega arith), le-leb (k + 1) 8 (omega (arith, lt))) refl in
     two_changes (table_of old d) (table_of ts d) (table_of (set ts k x) d) (λ w i. nat_le d k && m w) (λ w i. d == k + 1 && m w) (λ w i. nat_le d (k + 1) && m w) nobody
     (λ at. before at d)
@@ -146,10 +146,10 @@ one_dropped old ts m k z x tables lt before c place d =
     (changes_at ts (k + 1) k z x none (λ w i. m w) at nobody tables device (omega arith) (c at) d))
     (λ w i h. one_reached d k (m w)) place
 
-pub all_dropped : (old ts : List Touches) (m : ℕ → Bool) (k : ℕ) → 8 ≤ k
+pub all_emptied : (old ts : List Touches) (m : ℕ → Bool) (k : ℕ) → 8 ≤ k
     → ((place : ℕ) → ChangesAll old ts (λ w d i. none w i) (λ w d i. nat_le d k && m w) place (λ w d. nobody w))
     → (place : ℕ) → ChangesAll old ts (λ w d i. none w i) (λ w d i. m w) place (λ w d. nobody w)
-all_dropped old ts m k le c place d =
+all_emptied old ts m k le c place d =
     retold (table_of old d) (table_of ts d) (λ w i. nat_le d k && m w) (λ w i. m w) place nobody
     (λ w i h. let p = held_device old w d i h in ap (λ b. b && m w) (le-leb d k (omega (arith, le, p.1)))) (c place d)
 
@@ -163,22 +163,22 @@ held_channel t w i h =
           absurd (both_ways (holds t w i) (nothing ∙ (rw (bit_at-zero i) refl)) h)
     ]
 
--- what is dropped of windows, by a mask that says it of channels
-pub dropped_by : (old ts : List Touches) (mask : ℕ) (m : ℕ → Bool) (place : ℕ) → ((w : ℕ) → is_channel w ≡ true → mask_has mask w ≡ m w)
+-- what is taken of windows, by a mask that says it of channels
+pub emptied_by : (old ts : List Touches) (mask : ℕ) (m : ℕ → Bool) (place : ℕ) → ((w : ℕ) → is_channel w ≡ true → mask_has mask w ≡ m w)
     → ChangesAll old ts (λ w d i. none w i) (λ w d i. mask_has mask w) place (λ w d. nobody w)
     → ChangesAll old ts (λ w d i. none w i) (λ w d i. m w) place (λ w d. nobody w)
-dropped_by old ts mask m place same c d =
+emptied_by old ts mask m place same c d =
     retold (table_of old d) (table_of ts d) (λ w i. mask_has mask w) (λ w i. m w) place nobody
     (λ w i h. same w (held_channel (table_of old d) w i h)) (c d)
 
 -- windows from which nothing is taken, as none of them holds anything
-pub none_hit : (t : Touches) (holders dropped : ℕ) → bit_and holders dropped ≡ 0 → ((w : ℕ) → mask_has holders w ≡ any t w)
-    → (w i : ℕ) → holds t w i ≡ true → mask_has dropped w ≡ false
-none_hit t holders dropped z are w i h =
+pub none_hit : (t : Touches) (holders emptied : ℕ) → bit_and holders emptied ≡ 0 → ((w : ℕ) → mask_has holders w ≡ any t w)
+    → (w i : ℕ) → holds t w i ≡ true → mask_has emptied w ≡ false
+none_hit t holders emptied z are w i h =
     let some : mask_has holders w ≡ true = are w ∙ ap not (not_empty i (held t w) h) in
-    let both : (mask_has holders w && mask_has dropped w) ≡ false =
-    sym (mask_has-and holders dropped w) ∙ ap (λ n. mask_has n w) z ∙ mask_has-zero w in
-    sym (ap (λ b. b && mask_has dropped w) some) ∙ both
+    let both : (mask_has holders w && mask_has emptied w) ≡ false =
+    sym (mask_has-and holders emptied w) ∙ ap (λ n. mask_has n w) z ∙ mask_has-zero w in
+    sym (ap (λ b. b && mask_has emptied w) some) ∙ both
 
 -- one window more
 pub one_window : (w k : ℕ) (m : ℕ → Bool) → (nat_le w k && m w || (w == k + 1 && m (k + 1))) ≡ (nat_le w (k + 1) && m w)

@@ -9,7 +9,7 @@
 //! after it  1 holds {0}, 2 holds {1}
 //! ```
 //!
-//! [`Touches::mark`] finds what a motion gives and takes; the marks of all other steps are named by [`Mark`] itself.
+//! [`Touches::mark_of`] finds what a motion gives and takes; the marks of all other steps are named by [`Mark`] itself.
 //! [`Touches::concerned`] says which windows can be told anything at the step. [`Touches::change`] changes the tables
 //! by the mark, and answers what each window lost where one pilfers. Then [`Touches::tells`] says what a window is told
 //! of a motion, by what it held before and holds now. None of these takes memory or fails.

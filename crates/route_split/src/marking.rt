@@ -80,9 +80,9 @@ fn change_plain(states: &mut [TouchState], mark: &Mark, place: u64)
         } => slip(states, device, id, from, to, place),
         Mark::Empty { device } => empty(states, device),
         Mark::Pilfer { .. } => unreachable!(),
-        Mark::Unnamed { stays } => drop_all(states, others(stays)),
-        Mark::Mute { channels } => drop_all(states, channels),
-        Mark::Forget { window } => drop_all(states, alone(window)),
+        Mark::Unnamed { stays } => empty_windows(states, others(stays)),
+        Mark::Mute { channels } => empty_windows(states, channels),
+        Mark::Forget { window } => empty_windows(states, alone(window)),
     }
 }
 
@@ -169,36 +169,36 @@ fn pilfer_one(state: &mut TouchState, window: u32) -> Option<Losses>
 }
 
 /// Takes everything from these windows.
-fn drop_all(states: &mut [TouchState], dropped: u64)
+fn empty_windows(states: &mut [TouchState], emptied: u64)
     requires { IsTables states.old }
     ensures { (place : ℕ)
-        → ChangesAll states.old states.new (λ w d i. none w i) (λ w d i. mask_has dropped w) place (λ w d. nobody w) }
+        → ChangesAll states.old states.new (λ w d i. none w i) (λ w d i. mask_has emptied w) place (λ w d. nobody w) }
 {
     for number in 0..8 {
-        drop_windows(&mut states[number], dropped);
+        empty_windows_of(&mut states[number], emptied);
     }
 }
 
 /// The same of the state of one device.
-fn drop_windows(state: &mut TouchState, dropped: u64)
-    ensures { (place : ℕ) → Changes state.old state.new none (λ w i. mask_has dropped w) place nobody }
+fn empty_windows_of(state: &mut TouchState, emptied: u64)
+    ensures { (place : ℕ) → Changes state.old state.new none (λ w i. mask_has emptied w) place nobody }
 {
-    let hit = state.holders() & dropped;
+    let hit = state.holders() & emptied;
     if hit == 0 {
         return;
     }
     for k in 0..64 {
-        drop_window(state, k + 1, mask_has(dropped, k + 1));
+        empty_window(state, k + 1, mask_has(emptied, k + 1));
     }
 }
 
 /// Takes everything from one window, where it is to be taken.
-fn drop_window(state: &mut TouchState, channel: u32, dropped: bool)
+fn empty_window(state: &mut TouchState, channel: u32, emptied: bool)
     requires { is_channel channel ≡ true }
-    ensures { (place : ℕ) → Changes state.old state.new none (λ w i. w == channel && dropped) place nobody }
+    ensures { (place : ℕ) → Changes state.old state.new none (λ w i. w == channel && emptied) place nobody }
 {
     let holders = state.holders();
-    if dropped && mask_has(holders, channel) {
+    if emptied && mask_has(holders, channel) {
         let ids = state.held(channel);
         state.lose(channel, ids);
     }

@@ -77,7 +77,7 @@ impl Touches {
     /// The mark of a motion: who gets a pointer that goes down, from whom one goes that goes up, and between which
     /// windows one slips. The masks are those of the channels that the device can reach, and of those that are able to
     /// take input.
-    pub fn mark(&self, motion: &Motion, windows: &Snapshot, reach: u64, able: u64) -> Mark
+    pub fn mark_of(&self, motion: &Motion, windows: &Snapshot, reach: u64, able: u64) -> Mark
         ensures mark { (s : Scene) → Stands s self.now → Sees s windows.now reach able motion.now.device
             → IsMark self.now result (rule_mark s (Moves motion.now)) }
         ensures whole { IsWhole result }

@@ -55,7 +55,7 @@ impl SplitSide {
         let mut said = Vec::new(self.alloc);
         match turn {
             Turn::Pointers(motion) => {
-                let mark = self.touches.mark(motion, windows, masks.0, masks.1);
+                let mark = self.touches.mark_of(motion, windows, masks.0, masks.1);
                 let watching = watchers(motion, windows, masks.0, masks.1);
                 let _none_lost = self.touches.change(&mark, number);
                 self.tell_motion(&mut said, motion, watching)?;
@@ -64,9 +64,19 @@ impl SplitSide {
                 let mark = mark_of(turn, windows);
                 let losses = self.touches.change(&mark, number);
                 self.tell_losses(&mut said, &mark, losses.as_ref())?;
+                self.forget(turn);
             }
         }
         Ok(said)
+    }
+
+    /// A channel that is removed is told nothing any more, and what it was told is forgotten.
+    fn forget(&mut self, turn: &Turn) {
+        if let Turn::Forget { channel } = turn {
+            if let Some(state) = self.states.get_mut(place_of(*channel)) {
+                *state = InputState::new(self.alloc);
+            }
+        }
     }
 
     /// Tells each window of a motion, by which the tables have changed.

@@ -6,7 +6,7 @@ use std::test::Fail;
 #[test]
 fn both_routers_tell_the_same(rt: HostRuntime) -> Result<(), Fail> {
     let mut actions = 0;
-    for seed in 1..2 {
+    for seed in 1..11 {
         let (differs_at, told) = run(rt.alloc(), seed, 60)?;
         assert_eq!(rt; differs_at, None, "with seed {seed}");
         actions |= told;

@@ -26,6 +26,10 @@ const HOVER: &str = "hover --session session --events events --mouse /dev/input/
 
 const EMIT: &str = "emit --stream stream --channel 1 --device 1";
 
+const JUDGE: &str = "judge --stream stream";
+
+const COMPARE: &str = "compare --want stream --got other --us 0 --pixels 0";
+
 /// A run that comes to a text: each read and each write fails in turn.
 fn told<'a>(name: &'a str, words: &'a str, files: Files<'a>) -> Case<'a> {
     Case {
@@ -144,6 +148,25 @@ fn add_streams<R: Threads + Wait + Sync>(rt: &R, text: &mut Vec<u8>) -> io::Resu
     add_each(rt, text, &cases)
 }
 
+/// Adds streams that are judged to be whole, and that are compared.
+fn add_judged<R: Threads + Wait + Sync>(rt: &R, text: &mut Vec<u8>) -> io::Result<()> {
+    let cases = [
+        told("two fingers whole", JUDGE, &[("stream", &[TWO_FINGERS])]),
+        refused("a finger still down", JUDGE, &[("stream", &[REPLACED])]),
+        told(
+            "two fingers compared",
+            COMPARE,
+            &[("stream", &[TWO_FINGERS]), ("other", &[TWO_FINGERS])],
+        ),
+        refused(
+            "another finger compared",
+            COMPARE,
+            &[("stream", &[TWO_FINGERS]), ("other", &[REPLACED])],
+        ),
+    ];
+    add_each(rt, text, &cases)
+}
+
 /// Adds runs of an order, of a number, and of a mouse.
 fn add_runs<R: Threads + Wait + Sync>(rt: &R, text: &mut Vec<u8>) -> io::Result<()> {
     let cases = [
@@ -196,6 +219,7 @@ pub(crate) fn add_all<R: Threads + Wait + Sync>(rt: &R, text: &mut Vec<u8>) -> i
     add_taps(rt, text)?;
     add_nothing(rt, text)?;
     add_streams(rt, text)?;
+    add_judged(rt, text)?;
     add_runs(rt, text)?;
     add_race(rt, text)
 }

@@ -17,7 +17,7 @@ ghost use Rattle.schedule.specs.Receives.{receives_of};
 ghost use Rattle.schedule.specs.Run.{messages_in};
 ghost use Rattle.schedule.specs.State.{Caught, HasWith, ReadyWith, counted};
 
-use crate::choose::{first_step, moment, next_due};
+use crate::choose::{first_step, next_due};
 use crate::due::Due;
 use crate::plan::Plan;
 use crate::schedule::Schedule;
@@ -104,7 +104,7 @@ impl Schedule {
         ensures more { (es : List Effect) → ComesTo es self.old.dispatcher → ComesTo es self.new.dispatcher }
         ensures latest { self.new.latest ≡ self.old.latest }
     {
-        if until.get() < moment(call).get() {
+        if until.get() < call.moment().get() {
             return Ok(false);
         }
         let next = self.next + 1;

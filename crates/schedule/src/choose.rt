@@ -3,7 +3,7 @@ ghost use Rattle.std.specs.Prelude.{IsSome, ◌≡◌, ◌≤◌, ◌<◌, ◌+�
 ghost use Rattle.std.specs.List.{All};
 ghost use Rattle.dispatch_history.specs.Effect.{Effect, past_of};
 ghost use Rattle.dispatch_history.specs.Due.{first_due};
-ghost use Rattle.dispatch_history.specs.History.{moment_of, opened};
+ghost use Rattle.dispatch_history.specs.History.{opened};
 ghost use Rattle.dispatch_history.specs.Ordered.{soonest};
 ghost use Rattle.dispatch_history.specs.Plan.{Plan as PlanView};
 ghost use Rattle.dispatcher.specs.Access.{is_opened, next_repeat};
@@ -16,26 +16,8 @@ ghost use Rattle.schedule.specs.State.{Caught};
 
 use crate::due::{Due, What, sooner};
 use crate::plan::{Channel, Step};
-use dispatch_calls::Call;
 use dispatcher::Dispatcher;
 use input_types::Moment;
-
-/// The moment that a call hands in.
-pub(crate) fn moment(call: &Call) -> Moment
-    ensures { result ≡ moment_of call.now }
-{
-    match call {
-        Call::Open { .. } | Call::Receive { .. } => Moment::zero(),
-        Call::Windows { now, .. }
-        | Call::FocusOn { now, .. }
-        | Call::Notify { now, .. }
-        | Call::Pump { now }
-        | Call::Tick { now }
-        | Call::Finish { now, .. }
-        | Call::Pilfer { now, .. }
-        | Call::Remove { now, .. } => *now,
-    }
-}
 
 /// Whether a moment is before what is due, if anything is.
 pub(crate) fn is_before(at: Moment, due: Option<Due>) -> bool
@@ -129,7 +111,7 @@ pub(crate) fn first_step(steps: &[Step], next: usize, due: Option<Due>) -> Optio
     ensures within { IsSome result → next < length steps.now }
 {
     let step = steps.get(next)?;
-    if is_before(moment(&step.call), due) {
+    if is_before(step.call.moment(), due) {
         Some(step)
     } else {
         None

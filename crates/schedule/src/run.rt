@@ -1,7 +1,6 @@
 //! The run from its beginning to its end.
-ghost use Rattle.std.specs.Prelude.{◌≡◌, ◌≤◌, ◌++◌, ℕ, true, false, List, [], ◌∷◌, IfOk, OnOk, IsTrue, IsFalse, length, fold, max};
+ghost use Rattle.std.specs.Prelude.{◌≡◌, ◌≤◌, ◌++◌, ℕ, true, false, List, [], ◌∷◌, IfOk, OnOk, IsTrue, IsFalse, length, fold};
 ghost use Rattle.dispatch_history.specs.Effect.{Effect};
-ghost use Rattle.dispatch_history.specs.History.{moment_of};
 ghost use Rattle.dispatch_history.specs.Ordered.{end_of};
 ghost use Rattle.dispatch_history.specs.Plan.{Plan as PlanView, Cooked};
 ghost use Rattle.schedule.specs.declared.keeping.Lines.{Lines};
@@ -11,7 +10,6 @@ ghost use Rattle.schedule.specs.More.{ComesTo};
 ghost use Rattle.schedule.specs.State.{RanWith, CompletedWith, ReadyWith, is_over};
 ghost use Rattle.schedule.specs.Ends.{last_step};
 
-use crate::choose::moment;
 use crate::plan::{Plan, Step};
 use crate::schedule::Schedule;
 use input_types::{Args, Moment};
@@ -20,20 +18,13 @@ use std::alloc::AllocError;
 /// The most calls of a run, and the most messages of its channels together.
 const LIMIT: u64 = 4_000_000;
 
-/// The later of two moments.
-fn later(a: Moment, b: Moment) -> Moment
-    ensures { result ≡ max a b }
-{
-    if a.get() < b.get() { b } else { a }
-}
-
 /// The latest moment of steps.
 fn last_step(steps: &[Step]) -> Moment
     ensures { result ≡ last_step 0 steps.now }
 {
     let mut last = Moment::zero();
     for step in steps {
-        last = later(last, moment(&step.call));
+        last = last.later(step.call.moment());
     }
     last
 }
@@ -67,7 +58,7 @@ impl Schedule {
             (given ++ record { moment = moment; args = args.now } ∷ []) self.new) }
         ensures more { (es : List Effect) → ComesTo es self.old.dispatcher → ComesTo es self.new.dispatcher }
     {
-        self.latest = later(self.latest, moment);
+        self.latest = self.latest.later(moment);
         'rounds: while !self.is_too_long() {
             if !self.advance(plan, moment)? {
                 return self.hand_in(moment, args);
@@ -84,7 +75,7 @@ impl Schedule {
             → OnOk result (CompletedWith how (plan_of plan.now) given self.new) }
         ensures more { (es : List Effect) → ComesTo es self.old.dispatcher → ComesTo es self.new.dispatcher }
     {
-        let end = later(plan.until, later(last_step(&plan.steps), self.latest));
+        let end = plan.until.later(last_step(&plan.steps).later(self.latest));
         'rounds: while !self.is_too_long() {
             if !self.advance(plan, end)? {
                 return Ok(());

@@ -70,7 +70,7 @@ impl Schedule {
         ensures more { (es : List Effect) → ComesTo es self.old.dispatcher → ComesTo es self.new.dispatcher }
         ensures latest { self.new.latest ≡ self.old.latest }
     {
-        match self.dispatcher.take(call) {
+        match self.dispatcher.apply_unread(call) {
             Ok(()) => {
                 self.next = next;
                 self.calls = self.calls.saturating_add(1);
@@ -90,7 +90,7 @@ impl Schedule {
         ensures latest { self.new.latest ≡ self.old.latest }
     {
         hear_next(&mut self.streams, &self.dispatcher, channel)?;
-        match self.dispatcher.take(&Call::Receive { channel }) {
+        match self.dispatcher.apply_unread(&Call::Receive { channel }) {
             Ok(()) => {
                 self.calls = self.calls.saturating_add(1);
                 Ok(())

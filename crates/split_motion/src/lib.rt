@@ -19,5 +19,5 @@ pub mod laws;
 mod listed;
 mod window;
 
-pub use listed::{about, part, plain, rest};
+pub use listed::{about, part, part_but, plain};
 pub use window::split;

@@ -12,8 +12,6 @@ pub fn part(pointers: &Pointers, set: Bits32) -> Pointers
     ensures { result ≡ listing (λ i. is_in i set) pointers.now }
 {
     let mut listed = Pointers::empty();
-    // Its clauses say that the ids rise, and that there are at most 16.
-    let _count = pointers.len();
     for pointer in pointers.as_slice() {
         if set.has(pointer.id.get()) {
             put(&mut listed, *pointer);
@@ -23,11 +21,10 @@ pub fn part(pointers: &Pointers, set: Bits32) -> Pointers
 }
 
 /// The pointers whose ids are not in the set, in the same order.
-pub fn rest(pointers: &Pointers, set: Bits32) -> Pointers
+pub fn part_but(pointers: &Pointers, set: Bits32) -> Pointers
     ensures { result ≡ listing (λ i. not (is_in i set)) pointers.now }
 {
     let mut listed = Pointers::empty();
-    let _count = pointers.len();
     for pointer in pointers.as_slice() {
         if !set.has(pointer.id.get()) {
             put(&mut listed, *pointer);

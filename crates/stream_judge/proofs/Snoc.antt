@@ -2,7 +2,7 @@
 use Rattle.std.proofs.Common.{◌≡◌, ℕ, suc, ◌+◌, Bool, true, false, if◌then◌else◌, List, [], ◌∷◌, ◌++◌, length, Some, None, is_some, refl, ap, ◌∙◌, arith}
 use Rattle.input_types.specs.declared.message.Message.{Message}
 use Rattle.input_types.specs.StreamRule.{is_well_formed}
-use Rattle.gesture_verifier.specs.Told.{Told, StandsFor}
+use Rattle.gesture_verifier.specs.Told.{Told, VerifierStandsFor}
 use Rattle.stream_judge.specs.Breaks.{HasPassed, break_from, past_from, past_of}
 
 past_more : (past ms : List Message) (m : Message) → past_from past (ms ++ m ∷ []) ≡ m ∷ past_from past ms
@@ -33,7 +33,7 @@ broken_here : (line : ℕ) (past : List Message) (m : Message) (behind : List Me
 broken_here line past m behind e = rw e refl
 
 -- a message that may come
-pub passed_more : (messages : List Message) (m : Message) (old new : Told) → HasPassed messages old → StandsFor (m ∷ past_of messages) new
+pub passed_more : (messages : List Message) (m : Message) (old new : Told) → HasPassed messages old → VerifierStandsFor (m ∷ past_of messages) new
     → HasPassed (messages ++ m ∷ []) new
 passed_more messages m old new h s =
     let well : is_well_formed (m ∷ past_of messages) ≡ true = ap is_some s.state in

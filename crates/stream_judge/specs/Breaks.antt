@@ -3,7 +3,7 @@ use Rattle.std.specs.Prelude.{◌≡◌, ℕ, ◌+◌, Bool, true, false, if◌t
 use Rattle.std.specs.Option.{option_or}
 use Rattle.input_types.specs.declared.message.Message.{Message}
 use Rattle.input_types.specs.StreamRule.{is_well_formed}
-use Rattle.gesture_verifier.specs.Told.{Told, StandsFor}
+use Rattle.gesture_verifier.specs.Told.{Told, VerifierStandsFor}
 use Rattle.stream_text.specs.StreamFile.{Stream}
 
 -- The line of the first message that may not come where it stands, of messages that stand from line `line` on behind those of `past`, the
@@ -29,7 +29,7 @@ past_of ms = past_from [] ms
 -- a judge has gone through these messages of a section, and each of them might come: wherever the section begins, it has no break so far
 pub record HasPassed (messages : List Message) (told : Told) : Type 0 where
   pub unbroken : (line : ℕ) → break_from line [] messages ≡ None
-  pub stands : StandsFor (past_of messages) told
+  pub stands : VerifierStandsFor (past_of messages) told
 
 -- What is known behind one message more: it was passed, or it is a break, whatever stands behind it.
 abbrev pub Passes : List Message → Message → Bool → Told → Type 0

@@ -15,7 +15,7 @@ pub fn add_word(text: &mut Vec<u8>, word: &str) -> Result<(), AllocError>
 }
 
 /// Adds a number in decimal digits.
-#[inline]
+#[inline(always)]
 pub fn add_number(text: &mut Vec<u8>, number: u64) -> Result<(), AllocError>
     ensures { IfOk result (λ _. text.new.items ≡ text.old.items ++ decimal number) }
 {
@@ -24,7 +24,7 @@ pub fn add_number(text: &mut Vec<u8>, number: u64) -> Result<(), AllocError>
 }
 
 /// Adds a number that may be negative.
-#[inline]
+#[inline(always)]
 pub fn add_signed(text: &mut Vec<u8>, number: i32) -> Result<(), AllocError>
     ensures { IfOk result (λ _. text.new.items ≡ text.old.items ++ signed_decimal number) }
 {

@@ -2,11 +2,11 @@
 use Rattle.std.specs.Prelude.{◌≡◌, true, false, [], ◌∷◌, refl}
 use Rattle.bits32.specs.Set.{marked, cleared}
 use Rattle.touch_state.specs.declared.row.Row.{Row}
-use Rattle.touch_state.specs.Rows.{no_row, given, left_with, row_of}
+use Rattle.touch_state.specs.Rows.{no_row, after_give, left_with, row_of}
 
 -- two fingers go down in one window at 5 and 7
 abbrev two_fingers : Row
-two_fingers = given true 2 7 (given true 0 5 no_row)
+two_fingers = after_give true 2 7 (after_give true 0 5 no_row)
 
 they_are_the_ids_0_and_2 : two_fingers.ids ≡ 5
 unfolding marked cleared
@@ -17,16 +17,16 @@ unfolding marked cleared
 it_holds_something_since_the_first = refl
 
 -- the first goes up and a third one comes at 9
-it_still_does_after_the_first_is_gone : (given true 1 9 (left_with 4 two_fingers)).since ≡ 5
+it_still_does_after_the_first_is_gone : (after_give true 1 9 (left_with 4 two_fingers)).since ≡ 5
 unfolding marked cleared
 it_still_does_after_the_first_is_gone = refl
 
 -- both go up, and then one comes at 9
-it_begins_anew_after_both_are_gone : (given true 1 9 (left_with 0 two_fingers)).since ≡ 9
+it_begins_anew_after_both_are_gone : (after_give true 1 9 (left_with 0 two_fingers)).since ≡ 9
 unfolding marked cleared
 it_begins_anew_after_both_are_gone = refl
 
-a_window_outside_of_the_mask_gets_nothing : given false 1 9 two_fingers ≡ two_fingers
+a_window_outside_of_the_mask_gets_nothing : after_give false 1 9 two_fingers ≡ two_fingers
 a_window_outside_of_the_mask_gets_nothing = refl
 
 windows_go_by_their_channels : (row_of (no_row ∷ two_fingers ∷ []) 2).since ≡ 5

@@ -9,7 +9,7 @@ use Rattle.bits32.specs.Set.{is_in}
 use Rattle.bits32.proofs.Members.{is_in_marked}
 use Rattle.window_snapshot.specs.Mask.{is_channel, mask_has, mask_with}
 use Rattle.touch_state.specs.declared.row.Row.{Row}
-use Rattle.touch_state.specs.Rows.{no_row, row_of, given, left_with, IsTaken, IsSlipped, Kept}
+use Rattle.touch_state.specs.Rows.{no_row, row_of, after_give, left_with, IsTaken, IsSlipped, Kept}
 use Rattle.touch_state.specs.Touches.{Touches, holds, any, since, pilfering, Changes, none, everything, nobody}
 use Rattle.touch_state.proofs.Passes.{noted_one}
 use Rattle.touch_state.proofs.Sets.{and_true, and_false, none_in, marked_some}
@@ -70,7 +70,7 @@ not_begun : (x y : Bool) → (x ≡ true → y ≡ true) → (x && not y) ≡ fa
 not_begun true y e = rw (e refl) refl
 not_begun false y e = refl
 
-pub given_turns : (hit : Bool) (id place : ℕ) (row : Row) → Turns row (given hit id place row) (λ i. hit && i == id) (λ i. false) place
+pub given_turns : (hit : Bool) (id place : ℕ) (row : Row) → Turns row (after_give hit id place row) (λ i. hit && i == id) (λ i. false) place
 given_turns true id place row =
     record {
       ids = λ i. is_in_marked i id row.ids ∙ ap (λ b. i == id || b) (and_true (is_in i row.ids));
@@ -107,7 +107,7 @@ pub slipped_turns : (from to : Bool) (id place : ℕ) (old new : Row) → IsSlip
     → Turns old new (λ i. to && i == id) (λ i. from && i == id) place
 slipped_turns from true id place old new e =
     subst (λ r. Turns old r (λ i. true && i == id) (λ i. from && i == id) place) (sym e)
-    (let g : Turns old (given true id place old) (λ i. true && i == id) (λ i. false) place = given_turns true id place old in
+    (let g : Turns old (after_give true id place old) (λ i. true && i == id) (λ i. false) place = given_turns true id place old in
     record { ids = λ i. g.ids i ∙ but (i == id) from (is_in i old.ids); since = g.since })
   where
     but : (x f y : Bool) → (x || y && not false) ≡ (x || y && not (f && x))

@@ -12,9 +12,9 @@ no_row = record { ids = 0; since = 0 }
 abbrev pub row_of : List Row → ℕ → Row
 row_of rows w = if is_channel w then slice_index_or rows (w - 1) no_row else no_row
 
--- the row, where the window is given an id at a place
-abbrev pub given : Bool → ℕ → ℕ → Row → Row
-given hit id place row =
+-- the row after the window is given an id at a place, where it is given that
+abbrev pub after_give : Bool → ℕ → ℕ → Row → Row
+after_give hit id place row =
     if hit then record { ids = marked id row.ids; since = if row.ids == 0 then place else row.since } else row
 
 -- the row of a window that is left with this set
@@ -28,7 +28,7 @@ pub record IsTaken (takes : ℕ → Bool) (old new : Row) : Type 0 where
 
 -- the row of one of the windows of a slip: it is given the id, or it is taken from it, or neither
 abbrev pub IsSlipped : (from to : Bool) → ℕ → ℕ → Row → Row → Type 0
-IsSlipped from true id place old new = new ≡ given true id place old
+IsSlipped from true id place old new = new ≡ after_give true id place old
 IsSlipped from false id place old new = IsTaken (λ i. from && i == id) old new
 
 -- one mask has the windows that hold something, and the other some of these

@@ -2,7 +2,7 @@
 ghost use Rattle.std.specs.Prelude.{◌≡◌, ℕ, ◌<◌, ◌≤◌, true, false, ◌==◌, not, ◌&&◌, ◌||◌, if◌then◌else◌};
 ghost use Rattle.bits32.specs.Set.{is_in};
 ghost use Rattle.window_snapshot.specs.Mask.{is_channel, mask_has};
-ghost use Rattle.touch_state.specs.Rows.{no_row, row_of, given, left_with, IsTaken, IsSlipped, IsLeastSince, sooner};
+ghost use Rattle.touch_state.specs.Rows.{no_row, row_of, after_give, left_with, IsTaken, IsSlipped, IsLeastSince, sooner};
 
 use bits32::Bits32;
 use input_types::PointerId;
@@ -27,9 +27,9 @@ pub(crate) fn no_row() -> Row
     }
 }
 
-/// The row, where the window is given an id at a place.
-fn given(row: Row, hit: bool, id: PointerId, place: u64) -> Row
-    ensures { result ≡ given hit id place row }
+/// The row after the window is given an id at a place, where it is given that.
+fn after_give(row: Row, hit: bool, id: PointerId, place: u64) -> Row
+    ensures { result ≡ after_give hit id place row }
 {
     if !hit {
         return row;
@@ -101,7 +101,7 @@ pub(crate) fn slip(rows: &mut [Row; 64], from: u32, to: u32, id: PointerId, plac
     requires to_is { is_channel to ≡ true }
     ensures { (w : ℕ) → IsSlipped (w == from) (w == to) id place (row_of rows.old w) (row_of rows.new w) }
 {
-    let row = given(row_at(rows, to), true, id, place);
+    let row = after_give(row_at(rows, to), true, id, place);
     if from != to {
         let left = lifted(row_at(rows, from), id);
         put(rows, from, left);
@@ -109,8 +109,8 @@ pub(crate) fn slip(rows: &mut [Row; 64], from: u32, to: u32, id: PointerId, plac
     put(rows, to, row);
 }
 
-/// Takes a set of ids from one window.
-pub(crate) fn take(rows: &mut [Row; 64], channel: u32, ids: Bits32)
+/// Removes a set of ids from one window.
+pub(crate) fn remove(rows: &mut [Row; 64], channel: u32, ids: Bits32)
     requires { is_channel channel ≡ true }
     ensures { (w : ℕ) → IsTaken (λ i. w == channel && is_in i ids) (row_of rows.old w) (row_of rows.new w) }
 {
@@ -147,10 +147,10 @@ pub(crate) fn top_of(mask: u64) -> usize
 pub(crate) fn give_all(rows: &mut [Row; 64], to: u64, id: PointerId, place: u64, top: usize)
     requires few { top ≤ 64 }
     requires above { (w : ℕ) → top < w → mask_has to w ≡ false }
-    ensures { (w : ℕ) → row_of rows.new w ≡ given (mask_has to w) id place (row_of rows.old w) }
+    ensures { (w : ℕ) → row_of rows.new w ≡ after_give (mask_has to w) id place (row_of rows.old w) }
 {
     for k in 0..top {
-        rows[k] = given(rows[k], mask_has(to, k as u32 + 1), id, place);
+        rows[k] = after_give(rows[k], mask_has(to, k as u32 + 1), id, place);
     }
 }
 

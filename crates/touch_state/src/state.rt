@@ -6,8 +6,8 @@ ghost use Rattle.touch_state.specs.Touches.{held, since, pilfering, holds, any, 
 ghost use Rattle.touch_state.specs.Touches.{one, of_mask, of_all, of_set, everything, nobody, IsEarliest};
 
 use crate::row::{
-    Row, began_at, empty_all, give_all, holders_of, least_since, lift_all, no_row, row_at, slip,
-    take, top_of,
+    Row, began_at, empty_all, give_all, holders_of, least_since, lift_all, no_row, remove, row_at,
+    slip, top_of,
 };
 use bits32::Bits32;
 use input_types::{DeviceId, PointerId};
@@ -101,7 +101,7 @@ impl TouchState {
         requires { is_channel channel ≡ true }
         ensures { (place : ℕ) → Changes self.old self.new none (of_set channel ids) place nobody }
     {
-        take(&mut self.rows, channel, ids);
+        remove(&mut self.rows, channel, ids);
         self.holders = holders_of(&self.rows, 64);
         self.pilferers &= self.holders;
     }

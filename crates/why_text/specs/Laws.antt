@@ -1,5 +1,5 @@
 -- What is proved of the causes of a run. Each law is the clause of a function of its own.
-use Rattle.std.specs.Prelude.{ℕ, Bool, true, false, not, ◌==◌, ◌&&◌, ◌||◌, ◌≡◌, if◌then◌else◌, List, is_some, Option, Some, None}
+use Rattle.std.specs.Prelude.{ℕ, Bool, true, false, not, ◌==◌, ◌&&◌, ◌||◌, ◌≡◌, if◌then◌else◌, List, [], ◌∷◌, is_some, Option, Some, None}
 use Rattle.std.specs.List.{list_any}
 use Rattle.input_types.specs.declared.axis.Pixel.{Pixel}
 use Rattle.input_types.specs.declared.motion.Motion.{Motion}
@@ -7,6 +7,10 @@ use Rattle.input_types.specs.declared.pointer.Pointer.{Pointer}
 use Rattle.input_types.specs.Pointers.{IsRising}
 use Rattle.window_snapshot.specs.Window.{prevents_splitting}
 use Rattle.window_snapshot.specs.Hits.{touched}
+use Rattle.dispatch_calls.specs.declared.call.Call.{Call}
+use Rattle.dispatch_calls.specs.declared.call.Call.TheVariants.{Open, Windows, FocusOn, Notify, Pump, Receive, Remove}
+use Rattle.dispatch_calls.specs.declared.reply.Reply.{Reply}
+use Rattle.dispatch_calls.specs.declared.reply.Reply.TheVariants.{Opened, Done, Idle}
 use Rattle.routing_rules.specs.declared.choice.Choice.{Choice}
 use Rattle.routing_rules.specs.declared.choice.Row.{Row}
 use Rattle.routing_rules.specs.declared.choice.Row.TheVariants.{First, Unsplit, Nothing, Whole, Split}
@@ -17,7 +21,10 @@ use Rattle.routing_rules.specs.Given.{changed}
 use Rattle.routing_rules.specs.Told.{is_down, told}
 use Rattle.routing_rules.specs.Watching.{is_watching}
 use Rattle.routing_rules.specs.Fits.{Fits, down_after, is_motion_of}
+use Rattle.dispatch_history.specs.History.{History}
+use Rattle.dispatch_history.specs.Effect.{Effect, past_of}
 use Rattle.why_text.specs.Down.{down_of, targets}
+use Rattle.why_text.specs.Text.{focus_words, step_text}
 
 -- some window holds a pointer of the device, spies left out
 abbrev pub has_holder : Scene → ℕ → Bool
@@ -79,3 +86,29 @@ OutsideLaw =
     (s : Scene) (m : Motion) (p : Pointer) (w : ℕ) (down next : List ℕ)
     → Fits s m.device down → IsRising m.pointers → down_after (Moves m) m.device down ≡ Some next → changed m ≡ Some p → is_down m.action ≡ true
     → (down_of s m p).outside w ≡ (is_watching s m (Some p) w && not ((down_of s m p).given w))
+
+-- a step that has no line of its own and changes no focus: args are handed in, a message is received, or a pump has nothing to do
+abbrev pub is_silent : Call → Reply → Bool
+is_silent (Notify now args) reply = true
+is_silent (Receive channel) reply = true
+is_silent (Pump now) Idle = true
+is_silent call reply = false
+
+-- Such a step tells nothing.
+abbrev pub SilentLaw : Type 0
+SilentLaw =
+    (displays : List ℕ) (x : Effect) (before : List Effect) (call : Call) (reply : Reply)
+    → x.past ≡ (call, reply) ∷ past_of before → is_silent call reply ≡ true → step_text displays x before ≡ []
+
+-- a step that can change the focus of a display, or the window that keys go to: a channel is opened or removed, windows are shown, or a
+-- focus is requested
+abbrev pub may_move_focus : Call → Reply → Bool
+may_move_focus (Open limit) (Opened k) = true
+may_move_focus (Windows now ws) reply = true
+may_move_focus (FocusOn now display channel) reply = true
+may_move_focus (Remove now channel) Done = true
+may_move_focus call reply = false
+
+-- No other step tells a change of the focus.
+abbrev pub FocusLaw : Type 0
+FocusLaw = (call : Call) (reply : Reply) (h : History) → may_move_focus call reply ≡ false → focus_words h ((call, reply) ∷ h) ≡ []

@@ -3,6 +3,7 @@ use Rattle.std.specs.Prelude.{codes, ℕ, Bool, not, ◌==◌, ◌&&◌, ◌||�
 use Rattle.std.specs.List.{list_any}
 use Rattle.std.specs.Fmt.{decimal, signed_decimal}
 use Rattle.input_types.specs.declared.key.KeyArgs.{KeyArgs}
+use Rattle.input_types.specs.declared.key.KeyMsg.{KeyMsg}
 use Rattle.input_types.specs.declared.message.Args.{Args}
 use Rattle.input_types.specs.declared.message.Args.TheVariants.{Motion as MotionArgs, Key as KeyOfDevice, Reset}
 use Rattle.input_types.specs.declared.message.Message.{Message}
@@ -36,26 +37,45 @@ window_words v =
     codes " " ++ decimal v.channel ++ codes "@" ++ decimal v.display ++ codes ":" ++ signed_decimal v.frame.left ++ codes ","
     ++ signed_decimal v.frame.top ++ codes "," ++ signed_decimal v.frame.right ++ codes "," ++ signed_decimal v.frame.bottom
 
+-- a snapshot, window by window
+abbrev pub snapshot_words : List Window → List ℕ
+snapshot_words ws = codes "windows" ++ flat_map window_words ws
+
+-- a window that loses this
+abbrev pub gone_word : ℕ → (lost : List ℕ) → List ℕ
+gone_word w lost = codes "gone " ++ decimal w ++ codes " " ++ lost
+
 -- each window that loses something is gone with it
 abbrev pub gone_words : Effect → List Effect → List (List ℕ)
-gone_words x before = map (λ w. codes "gone " ++ decimal w ++ codes " " ++ lost_word x before w) (losers x before)
+gone_words x before = map (λ w. gone_word w (lost_word x before w)) (losers x before)
 
 -- a pointer of a device with its place on the display
 abbrev pub pointer_words : ℕ → Pointer → List ℕ
 pointer_words d p = decimal d ++ codes " " ++ decimal p.id ++ codes " " ++ signed_decimal p.at.x ++ codes "," ++ signed_decimal p.at.y
 
+-- the window under the place, and the choice with its row
+abbrev pub choice_words : Down → List ℕ
+choice_words k =
+    codes " touched " ++ channel_word k.touched ++ codes " row " ++ row_word k.choice.row ++ codes " chosen " ++ channel_word k.choice.window
+
+-- the sets of windows
+abbrev pub sets_words : Down → List ℕ
+sets_words k =
+    codes " spies " ++ windows_word k.spies ++ codes " pilfering " ++ windows_word k.pilfering ++ codes " given " ++ windows_word k.given ++ codes " mute "
+    ++ windows_word k.mute ++ codes " outside " ++ windows_word k.outside
+
 -- a pointer goes down, with the causes
 abbrev pub down_words : ℕ → Pointer → Down → List ℕ
-down_words d p k =
-    codes "down " ++ pointer_words d p ++ codes " touched " ++ channel_word k.touched ++ codes " row " ++ row_word k.choice.row
-    ++ codes " chosen " ++ channel_word k.choice.window ++ codes " spies " ++ windows_word k.spies ++ codes " pilfering " ++ windows_word k.pilfering
-    ++ codes " given " ++ windows_word k.given ++ codes " mute " ++ windows_word k.mute ++ codes " outside " ++ windows_word k.outside
+down_words d p k = codes "down " ++ pointer_words d p ++ choice_words k ++ sets_words k
 
--- a pointer slips
+-- a pointer slips from one window to another
+abbrev pub slip_word : ℕ → Pointer → (from to : ℕ) → List ℕ
+slip_word d p from to = codes "slip " ++ pointer_words d p ++ codes " from " ++ decimal from ++ codes " to " ++ decimal to
+
+-- a pointer that may slip
 abbrev pub slip_words : ℕ → Pointer → Option Slip → List (List ℕ)
 slip_words d p None = []
-slip_words d p (Some way) =
-    (codes "slip " ++ pointer_words d p ++ codes " from " ++ decimal way.from ++ codes " to " ++ decimal way.to) ∷ []
+slip_words d p (Some way) = slip_word d p way.from way.to ∷ []
 
 -- a pointer goes up, or is found to be of a palm, with the windows that held it
 abbrev pub up_words : (cancelled : Bool) → ℕ → ℕ → (ℕ → Bool) → List ℕ
@@ -83,17 +103,27 @@ first_of (c ∷ cs) = Some c
 abbrev pub key_words : KeyArgs → List ℕ
 key_words k = codes "key " ++ decimal k.device ++ codes " " ++ decimal k.scan
 
--- a key goes down, with the key target and the window that comes to hold it; or it goes up, with the window that held it
+-- a key goes down, with the key target and the window that comes to hold it
+abbrev pub key_down_word : KeyArgs → (target given : Option ℕ) → List ℕ
+key_down_word k target given = key_words k ++ codes " down target " ++ channel_word target ++ codes " given " ++ channel_word given
+
+-- a key goes up, with the window that held it
+abbrev pub key_up_word : KeyArgs → (from : Option ℕ) → List ℕ
+key_up_word k from = key_words k ++ codes " up from " ++ channel_word from
+
+-- a key, with the windows that hold it before and after
 abbrev pub key_line : KeyArgs → Effect → List Effect → List ℕ
 key_line k x before =
-    if k.down then
-    key_words k ++ codes " down target " ++ channel_word (key_target (past_of before)) ++ codes " given " ++ channel_word (first_of (key_holders (x ∷ before) k))
-    else key_words k ++ codes " up from " ++ channel_word (first_of (key_holders before k))
+    if k.down then key_down_word k (key_target (past_of before)) (first_of (key_holders (x ∷ before) k))
+    else key_up_word k (first_of (key_holders before k))
 
--- a device begins anew, with the windows that held a pointer or a key of it
+-- a device begins anew, with these windows
+abbrev pub reset_word : ℕ → (ℕ → Bool) → List ℕ
+reset_word d held = codes "reset " ++ decimal d ++ codes " from " ++ windows_word held
+
+-- the windows are those that held a pointer or a key of it
 abbrev pub reset_words : ℕ → Scene → List Effect → List ℕ
-reset_words d s before =
-    codes "reset " ++ decimal d ++ codes " from " ++ windows_word (λ w. s.any w d || list_any (λ k. k.device == d) (keys before w))
+reset_words d s before = reset_word d (λ w. s.any w d || list_any (λ k. k.device == d) (keys before w))
 
 -- what a step that dispatches args tells of them
 abbrev pub args_words : List ℕ → Option Args → Effect → List Effect → List (List ℕ)
@@ -102,17 +132,23 @@ args_words displays (Some (MotionArgs m)) x before = motion_words (scene display
 args_words displays (Some (KeyOfDevice k)) x before = key_line k x before ∷ []
 args_words displays (Some (Reset d)) x before = reset_words d (scene displays before) before ∷ []
 
--- a key is repeated
+-- a key is repeated for the window that holds it
+abbrev pub repeat_word : KeyMsg → (window : ℕ) → List ℕ
+repeat_word m window = key_words m.key ++ codes " repeat " ++ decimal m.repeat ++ codes " to " ++ decimal window
+
+-- the last key, repeated
 abbrev pub repeat_words : Option Sent → List (List ℕ)
 repeat_words None = []
-repeat_words (Some s) =
-    let m = repeated s.key in (key_words m.key ++ codes " repeat " ++ decimal m.repeat ++ codes " to " ++ decimal s.channel) ∷ []
+repeat_words (Some s) = repeat_word (repeated s.key) s.channel ∷ []
+
+-- ids that a spy takes, and the windows that lose some of them
+abbrev pub taken_word : (ids : List ℕ) → (ℕ → Bool) → List ℕ
+taken_word ids losers = set_word ids ++ codes " from " ++ windows_word losers
 
 -- a pilfer: the ids that the spy holds, and the windows that lose some of them
 abbrev pub pilfer_done : Scene → ℕ → ℕ → List ℕ
 pilfer_done s c d =
-    let ids = ids_that (s.holds c d) in
-    set_word ids ++ codes " from " ++ windows_word (λ w. list_any (λ i. s.holds w d i && takes (Pilfered c d (s.holds c d)) w d i) ids)
+    let ids = ids_that (s.holds c d) in taken_word ids (λ w. list_any (λ i. s.holds w d i && takes (Pilfered c d (s.holds c d)) w d i) ids)
 
 -- what it is answered, where it is not done
 abbrev pub refusal_word : Reply → List ℕ
@@ -121,35 +157,53 @@ refusal_word NotSpy = codes "NotSpy"
 refusal_word NothingHeld = codes "NothingHeld"
 refusal_word reply = []
 
--- a pilfer, with what it took, or with what it was answered
+-- a pilfer by a window of a device, and what comes of it
+abbrev pub pilfer_word : ℕ → ℕ → (what : List ℕ) → List ℕ
+pilfer_word c d what = codes "pilfer " ++ decimal c ++ codes " " ++ decimal d ++ codes " " ++ what
+
+-- that is what it took, or what it was answered
 abbrev pub pilfer_words : Reply → Scene → ℕ → ℕ → List ℕ
-pilfer_words Done s c d = codes "pilfer " ++ decimal c ++ codes " " ++ decimal d ++ codes " " ++ pilfer_done s c d
-pilfer_words reply s c d = codes "pilfer " ++ decimal c ++ codes " " ++ decimal d ++ codes " " ++ refusal_word reply
+pilfer_words Done s c d = pilfer_word c d (pilfer_done s c d)
+pilfer_words reply s c d = pilfer_word c d (refusal_word reply)
 
 -- the number of a message, where there is one
 abbrev pub seq_word : Option Message → List ℕ
 seq_word None = []
 seq_word (Some m) = decimal m.seq
 
--- a window is named unresponsive, with its oldest message that is published and not finished, and what it loses
+-- a window is named unresponsive, with the number of a message, and what it loses
+abbrev pub timeout_word : ℕ → (seq lost : List ℕ) → List ℕ
+timeout_word c seq lost = codes "timeout " ++ decimal c ++ codes " " ++ seq ++ codes " " ++ lost
+
+-- the message is its oldest one that is published and not finished
 abbrev pub timeout_words : Effect → List Effect → ℕ → List ℕ
-timeout_words x before c = codes "timeout " ++ decimal c ++ codes " " ++ seq_word (oldest before c) ++ codes " " ++ lost_word x before c
+timeout_words x before c = timeout_word c (seq_word (oldest before c)) (lost_word x before c)
+
+-- a window is removed, with what it loses
+abbrev pub removed_word : ℕ → (lost : List ℕ) → List ℕ
+removed_word c lost = codes "removed " ++ decimal c ++ codes " " ++ lost
 
 -- what is removed loses all, where it was there
 abbrev pub removed_words : Reply → Effect → List Effect → ℕ → List ℕ
-removed_words Done x before c = codes "removed " ++ decimal c ++ codes " " ++ lost_word x before c
-removed_words reply x before c = codes "removed " ++ decimal c ++ codes " Gone"
+removed_words Done x before c = removed_word c (lost_word x before c)
+removed_words reply x before c = removed_word c (codes "Gone")
+
+-- a window answers again
+abbrev pub responsive_word : ℕ → List ℕ
+responsive_word c = codes "responsive " ++ decimal c
 
 -- a finish after which the channel is responsive and before which it was not
 abbrev pub finish_words : Effect → List Effect → ℕ → List (List ℕ)
-finish_words x before c =
-    if unresponsive before c && not (unresponsive (x ∷ before) c) then (codes "responsive " ++ decimal c) ∷ [] else []
+finish_words x before c = if unresponsive before c && not (unresponsive (x ∷ before) c) then responsive_word c ∷ [] else []
+
+-- the focus of a display is requested
+abbrev pub request_word : (display : ℕ) → Option ℕ → List ℕ
+request_word display c = codes "request " ++ decimal display ++ codes " " ++ channel_word c
 
 -- The lines of a step with this call and reply.
 abbrev pub call_words : List ℕ → Call → Reply → Effect → List Effect → List (List ℕ)
-call_words displays (Windows now ws) reply x before = (codes "windows" ++ flat_map window_words ws) ∷ gone_words x before
-call_words displays (FocusOn now y c) reply x before =
-    (codes "request " ++ decimal y ++ codes " " ++ channel_word c) ∷ gone_words x before
+call_words displays (Windows now ws) reply x before = snapshot_words ws ∷ gone_words x before
+call_words displays (FocusOn now y c) reply x before = request_word y c ∷ gone_words x before
 call_words displays (Pump now) Dispatched x before = args_words displays x.args x before
 call_words displays (Pump now) Repeated x before = repeat_words (last_key before)
 call_words displays (Tick now) (Named mask) x before = map (timeout_words x before) (channels_that (mask_has mask))

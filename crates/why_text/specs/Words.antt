@@ -22,7 +22,7 @@ channel_word None = codes "-"
 channel_word (Some c) = decimal c
 
 -- the channels that pass a test, in rising order
-abbrev pub channels_that : (ℕ → Bool) → List ℕ
+unfoldable pub channels_that : (ℕ → Bool) → List ℕ
 channels_that test = filter test (channels 64)
 
 -- a set of channels
@@ -35,7 +35,7 @@ below zero = []
 below (suc n) = below n ++ n ∷ []
 
 -- the pointer ids that pass a test, in rising order: ids are 0 to 31
-abbrev pub ids_that : (ℕ → Bool) → List ℕ
+unfoldable pub ids_that : (ℕ → Bool) → List ℕ
 ids_that test = filter test (below 32)
 
 -- a row of the table of the choice

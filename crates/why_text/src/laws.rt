@@ -1,5 +1,5 @@
 //! What is proved of the causes of a run. Each function has the laws as its clauses, and does nothing.
-ghost use Rattle.why_text.specs.Laws.{GivenLaw, OthersLaw, OutsideLaw, PartsLaw, RowLaw};
+ghost use Rattle.why_text.specs.Laws.{FocusLaw, GivenLaw, OthersLaw, OutsideLaw, PartsLaw, RowLaw, SilentLaw};
 
 /// The row that is told of a choice says what holds at that moment.
 pub fn choosing()
@@ -20,4 +20,14 @@ pub fn giving()
 /// The windows that are told of a touch outside are those that watch for it and are not given the pointer.
 pub fn watching()
     ensures { OutsideLaw }
+{}
+
+/// Args that are handed in, a message that is received, and a pump that has nothing to do are not told.
+pub fn resting()
+    ensures { SilentLaw }
+{}
+
+/// The focus changes only where a channel is opened or removed, windows are shown, or a focus is requested.
+pub fn focusing()
+    ensures { FocusLaw }
 {}

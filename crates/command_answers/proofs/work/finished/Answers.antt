@@ -1,11 +1,13 @@
 -- A run that is done, or that is too long.
-use Rattle.std.proofs.Common.{◌∙◌, ℕ, sym, subst, refl, ap}
+use Rattle.std.proofs.Common.{◌∙◌, ℕ, List, sym, subst, refl, ap}
 use Rattle.dispatch_history.specs.Plan.{Plan}
 use Rattle.schedule.specs.declared.keeping.Lines.TheVariants.{Counted}
 use Rattle.schedule.specs.State.{CompletedWith, RanWith}
 use Rattle.workload_maker.specs.Session.{session}
 use Rattle.command_files.specs.Planned.{script_of}
 use Rattle.command_answers.specs.Work.{summary, work_given}
+use Rattle.command_answers.specs.Whole.{AreWhole}
+use Rattle.command_answers.proofs.WholeRun.{lawful_whole}
 use Rattle.command_answers.proofs.WorkRuns.{counted_exactly, rounds_so_far}
 use Rattle.command_answers.proofs.work.finished.Goals as goal
 
@@ -43,6 +45,8 @@ returns-clause-ok c = λ run ran count.
       es = completed.es;
       ordered = completed.ordered within;
       within = within;
+      whole = subst (λ (ds : List ℕ). AreWhole ds completed.es) completed.ready.has.displays_are
+          (lawful_whole c.finish.new.self.dispatcher.displays completed.es completed.ready.has.stands.lawful completed.ready.has.stands.rise);
       text_is = c.of.ensures
           ∙ c.in_ok-summed_up.ensures (script_of session) completed.es completed.ready.has
           ∙ ap (λ (n : ℕ). summary c.args.seed c.args.packets n completed.es) (count ∙ counted_exactly (script_of session) given c.args.schedule.now ran before);

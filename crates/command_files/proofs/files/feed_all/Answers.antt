@@ -30,6 +30,7 @@ pieces-preserved g c =
       buffer = search rules;
       consumed = Consumes-trans _ _ _ before.bytes one.piece before.consumed one.taken;
       later = omega (arith, before.later, c.in_ok-count.ensures.later);
+      going = c.in_ok-count.ensures.going (omega (arith, c.if-count-eq0.false));
       loan = c.in_ok-count.ensures.loan ∙ before.loan;
       takes = λ p bytes run taken. subst (λ (xs : List ℕ). HasRead p xs c.feed_piece.new.recording) (append_assoc bytes before.bytes one.piece)
           (one.done p (bytes ++ before.bytes) run (before.takes p bytes run taken));

@@ -1,4 +1,4 @@
-use Rattle.std.proofs.Common.{◌≡◌, ◌+◌, ◌-◌, ◌≤◌, List, ℕ, length, vec_len}
+use Rattle.std.proofs.Common.{◌≡◌, ◌+◌, ◌-◌, ◌≤◌, false, List, ℕ, length, vec_len}
 use Rattle.std.specs.Io.KnownBytes.{Consumes}
 use Rattle.command_files.specs.Recorded.{Feeds}
 use Rattle.command_files.proofs.files.feed_all.Given as goal
@@ -13,6 +13,7 @@ invariant-pieces g l =
       buffer : vec_len l.buffer ≡ 65536;
       consumed : Consumes (g.S.Source.left l.initial.source) (g.S.Source.left l.source) bytes;
       later : g.S.Source.faults l.initial.source ≤ g.S.Source.faults l.source;
+      going : (g.S.Source.reading l.source).ended ≡ false;
       loan : g.S.Source.loan l.source ≡ g.S.Source.loan l.initial.source;
       takes : Feeds l.plan l.initial.recording l.recording bytes;
     }

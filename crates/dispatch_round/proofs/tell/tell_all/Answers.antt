@@ -4,7 +4,7 @@ use Rattle.std.specs.Option.{option_copied}
 use Rattle.std.proofs.lemmas.Bool.{and_parts}
 use Rattle.route_split.specs.Marking.{IsChanged, AreLosses}
 use Rattle.dispatch_round.specs.Rounds.{is_concerned}
-use Rattle.dispatch_round.proofs.Reaching.{tells_all, settled_gone}
+use Rattle.dispatch_round.proofs.Reaching.{tells_all, published_gone}
 use Rattle.dispatch_round.proofs.tell.tell_all.Goals as goal
 
 pub tell_each-requires-clause-opened : goal.tell_each-requires-clause-opened
@@ -26,8 +26,8 @@ returns-clause-told c s e h holds =
       losses_are = subst (λ o. IfSome o (AreLosses c.args.touches.now c.args.round.now.mark)) (sym c.as_ref.ensures.value) c.change-losses.ensures.losses;
     } in
     tells_all s e c.args.round.now c.args.touches.now c.change-losses.new.self (option_copied c.as_ref.result) c.args.told c.args.origins.now c.args.clock c.args.channels.now
-    c.tell_each.new.channels c.settle.new.self c.requires.whole c.requires.told.are c.tell_each.ensures c.settle.ensures by h holds
+    c.tell_each.new.channels c.publish.new.self c.requires.whole c.requires.told.are c.tell_each.ensures c.publish.ensures by h holds
 
 pub returns-clause-gone : goal.returns-clause-gone
 returns-clause-gone c k low =
-    settled_gone _ c.args.clock c.tell_each.new.channels c.settle.new.self c.settle.ensures k low ∙ c.tell_each.ensures.gone_is k low
+    published_gone _ c.args.clock c.tell_each.new.channels c.publish.new.self c.publish.ensures k low ∙ c.tell_each.ensures.gone_is k low

@@ -7,28 +7,25 @@ use Rattle.dispatcher.proofs.motions.pilfer.Goals as goal
 
 pub returns-then-not-mask_has-clause-ok : goal.returns-then-not-mask_has-clause-ok
 returns-then-not-mask_has-clause-ok c =
-    pilfer_gone c.args.channel c.args.device c.args.place c.args.clock c.args.routing.now c.rest.new.routing
+    pilfer_gone c.args.channel c.args.device c.args.place c.args.clock c.args.routing.now
     (ap (λ m. mask_has m c.args.channel) (sym c.live.ensures.value) ∙ sym c.mask_has.ensures ∙ c.if-not-mask_has.true)
-    c.rest.ensures
 
 pub returns-then-not-has_spy-clause-ok : goal.returns-then-not-has_spy-clause-ok
 returns-then-not-has_spy-clause-ok c =
-    pilfer_no_spy c.args.channel c.args.device c.args.place c.args.clock c.args.routing.now c.rest-then-not-has_spy.new.routing
+    pilfer_no_spy c.args.channel c.args.device c.args.place c.args.clock c.args.routing.now
     (ap (λ m. mask_has m c.args.channel) (sym c.live.ensures.value) ∙ sym c.mask_has.ensures ∙ c.if-not-mask_has.false)
     (ap (λ ws. list_any (λ v. v.channel == c.args.channel && is_spy v) ws) (sym (c.windows-2.ensures.windows ∙ c.windows.ensures))
     ∙ sym c.has_spy.ensures
     ∙ c.if-not-has_spy.true)
-    c.rest-then-not-has_spy.ensures
 
 pub returns-then-not-mask_has-2-clause-ok : goal.returns-then-not-mask_has-2-clause-ok
 returns-then-not-mask_has-2-clause-ok c =
-    pilfer_nothing c.args.channel c.args.device c.args.place c.args.clock c.args.routing.now c.rest-then-not-mask_has-2.new.routing
+    pilfer_nothing c.args.channel c.args.device c.args.place c.args.clock c.args.routing.now
     (ap (λ m. mask_has m c.args.channel) (sym c.live.ensures.value) ∙ sym c.mask_has.ensures ∙ c.if-not-mask_has.false)
     (ap (λ ws. list_any (λ v. v.channel == c.args.channel && is_spy v) ws) (sym (c.windows-2.ensures.windows ∙ c.windows.ensures))
     ∙ sym c.has_spy.ensures
     ∙ c.if-not-has_spy.false)
     (sym (c.holders.ensures c.args.channel) ∙ sym c.mask_has-2.ensures ∙ c.if-not-mask_has-2.true)
-    c.rest-then-not-mask_has-2.ensures
 
 pub returns-clause-ok : goal.returns-clause-ok
 returns-clause-ok c =

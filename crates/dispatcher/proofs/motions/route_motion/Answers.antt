@@ -8,7 +8,7 @@ returns-clause-ok c =
     let old = c.args.routing.now in
     on_ok _ _ c.tell.result c.tell.ensures.ok
     (λ from.
-    motion_told old c.tell.new.routing c.args.place c.args.clock c.args.motion.now _ c.mark.result c.live.result c.on.result c.able-able.result
+    motion_told old c.tell.new.routing c.args.place c.args.clock c.args.motion.now _ c.mark_of.result c.live.result c.on.result c.able-able.result
     c.windows-windows.result.now
     c.of.result
     (record {
@@ -25,5 +25,5 @@ returns-clause-ok c =
     c.able-able.ensures.value
     c.of.ensures
     c.on.ensures
-    c.mark.ensures.mark
+    c.mark_of.ensures.mark
     c.watchers.ensures)

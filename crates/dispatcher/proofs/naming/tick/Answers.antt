@@ -7,9 +7,8 @@ use Rattle.dispatcher.proofs.naming.tick.Goals as goal
 
 pub returns-then-mask-eq0-clause-ok : goal.returns-then-mask-eq0-clause-ok
 returns-then-mask-eq0-clause-ok c =
-    names_none c.args.place c.args.clock c.args.routing.now c.rest.new.routing
+    names_none c.args.place c.args.clock c.args.routing.now
     (λ k. sym (c.late-mask.ensures k) ∙ ap (λ m. mask_has m k) c.if-mask-eq0.true ∙ mask_has-zero k)
-    c.rest.ensures
 
 pub returns-in_err-name_some-clause-calm : goal.returns-in_err-name_some-clause-calm
 returns-in_err-name_some-clause-calm c =

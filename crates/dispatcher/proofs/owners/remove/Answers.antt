@@ -7,14 +7,15 @@ use Rattle.dispatcher.proofs.owners.remove.Goals as goal
 
 pub returns-then-not-mask_has : goal.returns-then-not-mask_has
 returns-then-not-mask_has c =
-    remove_gone c.args.channel c.args.place c.args.clock c.args.routing.now c.rest.new.routing
+    λ clock.
+    remove_gone c.args.channel c.args.place clock c.args.routing.now
     (ap (λ m. mask_has m c.args.channel) (sym c.live.ensures.value) ∙ sym c.mask_has.ensures ∙ c.if-not-mask_has.true)
-    c.rest.ensures
 
 pub returns : goal.returns
 returns c =
+    λ clock.
     let old = c.args.routing.now in
-    removes c.args.channel c.args.place c.args.clock old _
+    removes c.args.channel c.args.place clock old _
     (ap (λ m. mask_has m c.args.channel) (sym c.live.ensures.value) ∙ sym c.mask_has.ensures ∙ c.if-not-mask_has.false)
     c.change-not_told.ensures.changes
     refl

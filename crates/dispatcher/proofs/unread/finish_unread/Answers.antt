@@ -12,16 +12,18 @@ finish-reply-requires c =
 pub returns : goal.returns
 returns c =
     let channel = c.args.channel in
-    let seq = c.args.seq in (
+    let seq = c.args.seq in
+    let old = c.args.tables.now in
+    let place = old.queueing.place in (
       c.finish-reply.result,
-      routed_on c.args.tables.now c.step.new.self c.finish-reply.new.routing (Finish c.args.now channel seq) c.finish-reply.result c.args.now c.place-place.result c.later-clock.result
+      routed_on old c.step.new.self c.finish-reply.new.routing (Finish c.args.now channel seq) c.finish-reply.result c.args.now place c.later-clock.result
           refl
           refl
           (c.later-clock.ensures ∙ ap (λ n. max c.args.now n) c.clock.ensures)
-          c.place-place.ensures
+          refl
           c.step.ensures
-          (as_at (λ now. Finish now channel seq) (Finish c.args.now channel seq) c.args.now c.finish-reply.result c.place-place.result c.later-clock.result c.args.tables.now.routing
+          (as_at (λ now. Finish now channel seq) (Finish c.args.now channel seq) c.args.now c.finish-reply.result place c.later-clock.result old.routing
           c.finish-reply.new.routing
           refl
-          c.finish-reply.ensures),
+          (c.finish-reply.ensures place)),
     )

@@ -15,14 +15,14 @@ loop-k-init c = (
 
 pub loop-k-preserved : goal.loop-k-preserved
 loop-k-preserved c = (
-  two_changes c.args.state.now c.loop-k.state c.take.new.state (λ w i. nat_le w c.loop-k.k && pilfered c.args.state.now c.args.channel w i)
+  two_changes c.args.state.now c.loop-k.state c.remove.new.state (λ w i. nat_le w c.loop-k.k && pilfered c.args.state.now c.args.channel w i)
       (λ w i. w == c.loop-k.k + 1 && (not (w == c.args.channel) && is_in i c.held-ids.result))
-      (λ w i. nat_le w (c.loop-k.k + 1) && pilfered c.args.state.now c.args.channel w i) (λ w. w == c.args.channel) c.loop-k.invariant.0 c.take.ensures.state
+      (λ w i. nat_le w (c.loop-k.k + 1) && pilfered c.args.state.now c.args.channel w i) (λ w. w == c.args.channel) c.loop-k.invariant.0 c.remove.ensures.state
       (λ w i h.
       ap (λ n. nat_le w c.loop-k.k && pilfered c.args.state.now c.args.channel w i || (w == c.loop-k.k + 1 && (not (w == c.args.channel) && is_in i n))) c.held-ids.ensures
       ∙ one_reached w c.loop-k.k (pilfered c.args.state.now c.args.channel w i)),
-  one_lost c.args.state.now c.loop-k.state c.loop-k.lost c.take.result c.args.channel c.held-ids.result c.loop-k.k (omega arith) c.loop-k-test.true
-      c.held-ids.ensures (c.loop-k.invariant.0 0).hold c.take.ensures.lost c.loop-k.invariant.1,
+  one_lost c.args.state.now c.loop-k.state c.loop-k.lost c.remove.result c.args.channel c.held-ids.result c.loop-k.k (omega arith) c.loop-k-test.true
+      c.held-ids.ensures (c.loop-k.invariant.0 0).hold c.remove.ensures.lost c.loop-k.invariant.1,
 )
 
 pub returns-clause-state : goal.returns-clause-state

@@ -1,7 +1,7 @@
 use Rattle.std.proofs.Common.{◌≡◌, ◌++◌, List, ℕ, length, reverse}
 use Rattle.raw_events.specs.Line.{known}
 use Rattle.raw_events.specs.Pieces.{parts}
-use Rattle.recording_counts.specs.Tally.{LinesStandFor}
+use Rattle.recording_counts.specs.Tally.{LineCountsStandFor}
 use Rattle.recording_counts.proofs.lines.count_lines.Given as goal
 
 -- the lines so far, with those that are left, are all
@@ -10,7 +10,7 @@ invariant-lines l = record {
   done : List (List ℕ);
   split : done ++ (parts l.rest).ended ≡ (parts l.bytes).ended;
   begun : (parts l.rest).begun ≡ (parts l.bytes).begun;
-  counts : (past : List (List ℕ)) → LinesStandFor (known l.devices) past l.fn.counts → LinesStandFor (known l.devices) (reverse done ++ past) l.counts;
+  counts : (past : List (List ℕ)) → LineCountsStandFor (known l.devices) past l.fn.counts → LineCountsStandFor (known l.devices) (reverse done ++ past) l.counts;
 }
 
 abbrev pub decreases-lines : goal.decreases-lines

@@ -2,7 +2,7 @@ use Rattle.std.proofs.Common.{◌≡◌, ◌<◌, ap, ap₂, sym, ◌∙◌, ◌
 use Rattle.window_snapshot.specs.Mask.{mask_has}
 use Rattle.routing_rules.specs.Given.{changed}
 use Rattle.route_plain.specs.Holds.{channels_with}
-use Rattle.route_plain.specs.Moment.{scene_at}
+use Rattle.route_plain.specs.Seen.{scene_at}
 use Rattle.routing_rules.specs.Watching.{is_watching}
 use Rattle.route_plain.proofs.Silence.{unconcerned, one_of_64}
 use Rattle.route_plain.proofs.SaidLaws.{said_none, said_step}
@@ -14,7 +14,7 @@ loop-below-init c = c.new-out.ensures.items ∙ sym (said_none _)
 
 pub loop-below-preserved : goal.loop-below-preserved
 loop-below-preserved c =
-    let s = scene_at c.args.moment.now in
+    let s = scene_at c.args.seen.now in
     let k = c.loop-below.below + 1 in
     let gained = c.args.change.now.gained.items in
     let watched : mask_has c.watching-watching.result k ≡ is_watching s c.args.motion.now (changed c.args.motion.now) k =
@@ -30,7 +30,7 @@ loop-below-preserved c =
           ap (λ o. o.items) w.out-is
           ∙ said_step _ c.loop-below.below c.loop-below.out.items c.loop-below.out.items [] (sym (append-nil c.loop-below.out.items)) c.loop-below.invariant
           (sym
-          (unconcerned s c.args.motion.now c.args.moment.now.snapshot.now gained c.args.change.now.loss c.args.moment.now.holds.now
+          (unconcerned s c.args.motion.now c.args.seen.now.snapshot.now gained c.args.change.now.loss c.args.seen.now.holds.now
           c.watching-watching.result k refl (one_of_64 c.loop-below.below lt) watched
           (ap (λ m. mask_has m k) (sym concerned) ∙ sym c.mask_has.ensures ∙ w.if-mask_has.false)))
     ]

@@ -3,7 +3,7 @@ use Rattle.std.specs.Prelude.{flat_map}
 use Rattle.input_types.specs.declared.motion.Motion.{Motion}
 use Rattle.routing_rules.specs.Told.{devices}
 use Rattle.route_plain.specs.Loss.{mark_of}
-use Rattle.route_plain.specs.Moment.{scene_at}
+use Rattle.route_plain.specs.Seen.{scene_at}
 use Rattle.route_plain.specs.Route.{to_channel}
 use Rattle.route_plain.specs.Telling.{told_lost}
 use Rattle.route_plain.proofs.SaidLaws.{say_many, losses_step}
@@ -11,8 +11,8 @@ use Rattle.route_plain.proofs.said.tell_losses.Goals as goal
 
 pub loop-below-preserved : goal.loop-below-preserved
 loop-below-preserved c =
-    let k = mark_of c.args.moment.now.snapshot.now c.args.change.now.gained.items c.args.change.now.loss in
-    let told = told_lost (scene_at c.args.moment.now) k c.args.channel in
+    let k = mark_of c.args.seen.now.snapshot.now c.args.change.now.gained.items c.args.change.now.loss in
+    let told = told_lost (scene_at c.args.seen.now) k c.args.channel in
     let lt : c.loop-below.below < 8 = omega arith in
     rw (c.in_ok-tell_loss.ensures, c.in-Some.ensures.value)
     (say_many c.loop-below.out.items c.args.channel (told (c.loop-below.below + 1)) (flat_map told (drop (c.loop-below.below + 1) devices))

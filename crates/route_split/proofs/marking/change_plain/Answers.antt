@@ -19,14 +19,14 @@ returns-in-Empty c =
 
 pub returns-in-Unnamed : goal.returns-in-Unnamed
 returns-in-Unnamed c =
-    by_equal c.args.states.now c.drop_all.new.states c.args.mark.now (Unnamed c.in-Unnamed.stays) c.args.place c.in-Unnamed.is
-    (by_unnamed c.args.states.now c.drop_all.new.states c.in-Unnamed.stays c.others.result c.args.place c.others.ensures (c.drop_all.ensures c.args.place))
+    by_equal c.args.states.now c.empty_windows.new.states c.args.mark.now (Unnamed c.in-Unnamed.stays) c.args.place c.in-Unnamed.is
+    (by_unnamed c.args.states.now c.empty_windows.new.states c.in-Unnamed.stays c.others.result c.args.place c.others.ensures (c.empty_windows.ensures c.args.place))
 
 pub returns-in-Mute : goal.returns-in-Mute
 returns-in-Mute c =
-    by_equal c.args.states.now c.drop_all-in-Mute.new.states c.args.mark.now (Mute c.in-Mute.channels) c.args.place c.in-Mute.is (c.drop_all-in-Mute.ensures c.args.place)
+    by_equal c.args.states.now c.empty_windows-in-Mute.new.states c.args.mark.now (Mute c.in-Mute.channels) c.args.place c.in-Mute.is (c.empty_windows-in-Mute.ensures c.args.place)
 
 pub returns-in-Forget : goal.returns-in-Forget
 returns-in-Forget c =
-    by_equal c.args.states.now c.drop_all-in-Forget.new.states c.args.mark.now (Forget c.in-Forget.window) c.args.place c.in-Forget.is
-    (by_forget c.args.states.now c.drop_all-in-Forget.new.states c.in-Forget.window c.alone.result c.args.place c.alone.ensures (c.drop_all-in-Forget.ensures c.args.place))
+    by_equal c.args.states.now c.empty_windows-in-Forget.new.states c.args.mark.now (Forget c.in-Forget.window) c.args.place c.in-Forget.is
+    (by_forget c.args.states.now c.empty_windows-in-Forget.new.states c.in-Forget.window c.alone.result c.args.place c.alone.ensures (c.empty_windows-in-Forget.ensures c.args.place))

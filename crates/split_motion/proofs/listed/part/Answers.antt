@@ -12,8 +12,7 @@ put-requires-clause-room c =
       listing_is_short (λ i. is_in i c.args.set) c.args.pointers.now c.loop-pointer.pointer-index,
       c.loop-pointer-test.true,
       ap length c.as_slice-pointer-items.ensures.value,
-      c.len-count.ensures.value,
-      c.len-count.ensures.range,
+      c.as_slice-pointer-items.ensures.range,
     ))
 
 pub put-requires-clause-rises : goal.put-requires-clause-rises
@@ -21,5 +20,5 @@ put-requires-clause-rises c =
     let lt : c.loop-pointer.pointer-index < length c.args.pointers.now =
     omega (arith, c.loop-pointer-test.true, ap length c.as_slice-pointer-items.ensures.value) in
     rw c.loop-pointer.invariant
-    (listing_ends_below (λ i. is_in i c.args.set) c.args.pointers.now c.loop-pointer.pointer-index c.pointer-item.result c.len-count.ensures.rises lt
+    (listing_ends_below (λ i. is_in i c.args.set) c.args.pointers.now c.loop-pointer.pointer-index c.pointer-item.result (rw c.as_slice-pointer-items.ensures.value at c.as_slice-pointer-items.ensures.rises) lt
     (rw c.as_slice-pointer-items.ensures.value at c.pointer-item.is))

@@ -12,6 +12,6 @@ returns c =
     let had = c.pointers_at-had.result.now in
     let lost : ℕ → Bool = λ i. is_in i c.args.lost in
     c.new.ensures
-    ∙ ap₂ (cancels_of d had) c.rest.ensures c.part.ensures
+    ∙ ap₂ (cancels_of d had) c.part_but.ensures c.part.ensures
     ∙ sym (as_cases d lost had)
     ∙ ap (pointers_cancelled d lost) (c.pointers_at-had.ensures ∙ ap (λ t. pointers_of t d) c.self.view_is)

@@ -11,6 +11,6 @@ returns c =
     let d = c.args.device in
     let had = c.pointers_at-had.result.now in
     c.new.ensures
-    ∙ ap₂ (cancels_of d had) c.part.ensures c.rest.ensures
+    ∙ ap₂ (cancels_of d had) c.part.ensures c.part_but.ensures
     ∙ sym (as_kept d (λ i. is_in i c.args.kept) had)
     ∙ ap (pointers_cancelled d (λ i. not (is_in i c.args.kept))) (c.pointers_at-had.ensures ∙ ap (λ t. pointers_of t d) c.self.view_is)

@@ -10,13 +10,13 @@ use Rattle.schedule.proofs.schedule.Schedule.receive_one.Goals as goal
 pub returns-in-Ok-clause-after : goal.returns-in-Ok-clause-after
 returns-in-Ok-clause-after c = λ how plan es h.
     let before = subst (HasWith how plan es) (sym c.self.view_is) h in
-    let there = (rw c.in-Ok.is at c.take.ensures.after) es before.stands in
-    has_received how plan es _ _ before c.take.ensures.displays there.0 c.args.channel there.1 (c.in_ok-hear_next.ensures es before.stands) refl
+    let there = (rw c.in-Ok.is at c.apply_unread.ensures.after) es before.stands in
+    has_received how plan es _ _ before c.apply_unread.ensures.displays there.0 c.args.channel there.1 (c.in_ok-hear_next.ensures es before.stands) refl
     c.saturating_add-self-inside.ensures
 
 pub returns-in-Ok-clause-more : goal.returns-in-Ok-clause-more
 returns-in-Ok-clause-more c = λ es k.
-    one_more es _ _ (Receive c.args.channel) c.take.ensures.displays (rw c.in-Ok.is at c.take.ensures.after)
+    one_more es _ _ (Receive c.args.channel) c.apply_unread.ensures.displays (rw c.in-Ok.is at c.apply_unread.ensures.after)
     (subst (λ (s : ScheduleState). ComesTo es s.dispatcher) (sym c.self.view_is) k)
 
 pub returns-clause-more : goal.returns-clause-more

@@ -9,13 +9,13 @@ use Rattle.schedule.proofs.schedule.Schedule.step.Goals as goal
 pub returns-in-Ok-clause-after : goal.returns-in-Ok-clause-after
 returns-in-Ok-clause-after c = λ how plan es h never next.
     let before = subst (HasWith how plan es) (sym c.self.view_is) h in
-    let there = (rw c.in-Ok.is at c.take.ensures.after) es before.stands in
-    has_step how plan es _ _ before c.take.ensures.displays c.args.call.now there.0 there.1 never refl next
+    let there = (rw c.in-Ok.is at c.apply_unread.ensures.after) es before.stands in
+    has_step how plan es _ _ before c.apply_unread.ensures.displays c.args.call.now there.0 there.1 never refl next
     c.saturating_add-self-inside.ensures
 
 pub returns-in-Ok-clause-more : goal.returns-in-Ok-clause-more
 returns-in-Ok-clause-more c = λ es k.
-    one_more es _ _ c.args.call.now c.take.ensures.displays (rw c.in-Ok.is at c.take.ensures.after)
+    one_more es _ _ c.args.call.now c.apply_unread.ensures.displays (rw c.in-Ok.is at c.apply_unread.ensures.after)
     (subst (λ (s : ScheduleState). ComesTo es s.dispatcher) (sym c.self.view_is) k)
 
 pub returns-in-Err-clause-more : goal.returns-in-Err-clause-more

@@ -1,7 +1,7 @@
 use Rattle.std.specs.Prelude.{bit_and}
 use Rattle.std.proofs.Common.{Bool, false, sym, ap, ◌∙◌, subst, arith}
 use Rattle.touch_state.specs.declared.row.Row.{Row}
-use Rattle.touch_state.specs.Rows.{row_of, given}
+use Rattle.touch_state.specs.Rows.{row_of, after_give}
 use Rattle.touch_state.specs.Touches.{Touches, Changes, nobody, none, of_mask}
 use Rattle.touch_state.proofs.Steps.{Turns, kept_after, changes, given_turns}
 use Rattle.window_snapshot.specs.Mask.{mask_has}
@@ -26,7 +26,7 @@ give_all-requires-clause-above c w lt = c.top_of-given.ensures.above w (omega (a
 pub holders_of-self-inside-requires-clause-above : goal.holders_of-self-inside-requires-clause-above
 holders_of-self-inside-requires-clause-above c w lt =
     ap (λ (r : Row). r.ids) (c.give_all.ensures w)
-    ∙ ap (λ (b : Bool). (given b c.args.id c.args.place (row_of c.self.inside.rows w)).ids)
+    ∙ ap (λ (b : Bool). (after_give b c.args.id c.args.place (row_of c.self.inside.rows w)).ids)
     (c.top_of-given.ensures.above w (omega (arith, lt, c.max-top.ensures)))
     ∙ held_none c.self.inside.rows c.self.inside.holders c.self.inside.pilferers w c.self.invariant
     (c.top_of-held.ensures.above w (omega (arith, lt, c.max-top.ensures)))

@@ -1,0 +1,35 @@
+-- What `compare` answers of two stream files.
+use Rattle.std.specs.Prelude.{◌≡◌, ℕ, List, Result, Ok, Err}
+use Rattle.outside_io.specs.Outside.{Entry}
+use Rattle.compare_text.specs.declared.error.CompareError.{CompareError}
+use Rattle.compare_text.specs.declared.error.CompareError.TheVariants.{Differs, Missing, Added, NoSection, NewSection, Memory}
+use Rattle.compare_text.specs.Compared.{compared}
+use Rattle.compare_text.specs.Points.{Section}
+use Rattle.command_files.specs.Inputs.{got_judged}
+use Rattle.command_files.specs.Judged.{Answer, Reads}
+use Rattle.command_files.specs.Refused.{not_same}
+use Rattle.command_files.specs.declared.refusal.Refusal.{Refusal}
+use Rattle.command_files.specs.declared.refusal.Refusal.TheVariants as refusal
+use Rattle.command_files.specs.declared.refusal.StreamError.TheVariants as stream
+
+-- that two stream files agree, or where they do not
+abbrev pub same_answer : Result (List ℕ) CompareError → Answer
+same_answer (Ok text) = Ok text
+same_answer (Err error) = Err (not_same error)
+
+-- whether sections that came agree with those that were wanted, up to so many microseconds and pixels
+abbrev pub SameAnswers : ℕ → ℕ → List Section → List Section → Answer → Type 0
+SameAnswers us pixels want got a = same_answer (compared us pixels want got) ≡ a
+
+-- the answer once the wanted streams are accepted: those that came are judged, and then compared with them
+abbrev pub GotAnswers : List Entry → List ℕ → ℕ → ℕ → List Section → Answer → Type 0
+GotAnswers entries got us pixels want a = Reads entries got got_judged (SameAnswers us pixels want) a
+
+-- the refusal for streams that are compared
+abbrev pub refusal_of_compare : CompareError → Refusal
+refusal_of_compare (Differs want got) = refusal.Stream (stream.NotSame (Differs want got))
+refusal_of_compare (Missing want) = refusal.Stream (stream.NotSame (Missing want))
+refusal_of_compare (Added got) = refusal.Stream (stream.NotSame (Added got))
+refusal_of_compare (NoSection want) = refusal.Stream (stream.NotSame (NoSection want))
+refusal_of_compare (NewSection got) = refusal.Stream (stream.NotSame (NewSection got))
+refusal_of_compare Memory = refusal.NoMemory

@@ -1,0 +1,114 @@
+//! `compare`: whether the streams that came agree with those that were wanted, up to a time and a place.
+ghost use Rattle.std.specs.Prelude.{◌≡◌, IsTrue, None, Ok, Err, IfOk, IfErr};
+ghost use Rattle.command_words.specs.Command.{compare};
+ghost use Rattle.compare_text.specs.Indexed.{file_sections};
+ghost use Rattle.command_files.specs.Inputs.{IsWant, sections_said};
+ghost use Rattle.command_files.specs.Judged.{After, IfTold};
+ghost use Rattle.command_files.specs.Refused.{bad_got_line, bad_want_line};
+ghost use Rattle.command_files.specs.Refusing.{Refuses, RefusesSo};
+ghost use Rattle.command_answers.specs.Compare.{GotAnswers, SameAnswers, refusal_of_compare};
+ghost use Rattle.command_answers.specs.Program.{Answers};
+
+use command_files::{Refusal, StreamError, read_stream};
+use compare_text::{CompareError, Sections, Tolerance, compare_text};
+use outside_io::Files;
+use std::alloc::Global;
+use text_pieces::Pieces;
+
+/// The sections that were wanted.
+fn wanted(alloc: Global, bytes: &[u8]) -> Result<Sections<'_>, Refusal>
+    ensures ok { IfOk result (λ sections. sections_said bad_want_line (file_sections bytes.now) ≡ Ok sections) }
+    ensures err { IfErr result (RefusesSo (λ r. sections_said bad_want_line (file_sections bytes.now) ≡ Err r)) }
+{
+    match Sections::read(alloc, bytes) {
+        Ok(sections) => Ok(sections),
+        Err(stream_text::StreamError::BadLine { line }) => {
+            Err(Refusal::Stream(StreamError::BadWant { line }))
+        }
+        Err(stream_text::StreamError::Memory) => Err(Refusal::NoMemory),
+    }
+}
+
+/// The sections that came.
+fn came(alloc: Global, bytes: &[u8]) -> Result<Sections<'_>, Refusal>
+    ensures ok { IfOk result (λ sections. sections_said bad_got_line (file_sections bytes.now) ≡ Ok sections) }
+    ensures err { IfErr result (RefusesSo (λ r. sections_said bad_got_line (file_sections bytes.now) ≡ Err r)) }
+{
+    match Sections::read(alloc, bytes) {
+        Ok(sections) => Ok(sections),
+        Err(stream_text::StreamError::BadLine { line }) => {
+            Err(Refusal::Stream(StreamError::BadGot { line }))
+        }
+        Err(stream_text::StreamError::Memory) => Err(Refusal::NoMemory),
+    }
+}
+
+/// Why streams that are compared are not the same.
+fn compare_refusal(error: CompareError) -> Refusal
+    ensures { result ≡ refusal_of_compare error }
+{
+    match error {
+        CompareError::Memory => Refusal::NoMemory,
+        error => Refusal::Stream(StreamError::NotSame(error)),
+    }
+}
+
+/// What is said of sections that came and of those that were wanted.
+#[tactic(auto, using(crate::proofs::Answering::compare_refused))]
+fn compared(
+    alloc: Global,
+    want: &Sections<'_>,
+    got: &Sections<'_>,
+    tolerance: Tolerance,
+) -> Result<Pieces, Refusal>
+    ensures ok { IfOk result (λ text. SameAnswers tolerance.us tolerance.pixels want.now got.now (Ok text)) }
+    ensures err { IfErr result (RefusesSo (λ r. SameAnswers tolerance.us tolerance.pixels want.now got.now (Err r))) }
+{
+    match compare_text(alloc, want, got, tolerance) {
+        Ok(text) => Ok(Pieces::of(alloc, text)),
+        Err(error) => Err(compare_refusal(error)),
+    }
+}
+
+/// Reads and judges the streams that came, and compares them with the sections that were wanted.
+fn answer_got<F: Files>(
+    alloc: Global,
+    files: &mut F,
+    want: &Sections<'_>,
+    name: &str,
+    tolerance: Tolerance,
+) -> Result<Pieces, Refusal>
+    requires lends { IsTrue (F.lends files.old name.now) }
+    requires free { F.lent files.old ≡ None }
+    ensures ok { IfOk result (λ text. IfTold (F.entries files.old)
+        (λ es. GotAnswers es name.now tolerance.us tolerance.pixels want.now (Ok text))) }
+    ensures err { IfErr result (Refuses (λ r. IfTold (F.entries files.old)
+        (λ es. GotAnswers es name.now tolerance.us tolerance.pixels want.now (Err r)))
+        (F.faults files.old) (F.faults files.new)) }
+{
+    let bytes = read_stream(alloc, files, name)?;
+    let got = came(alloc, &bytes)?;
+    compared(alloc, want, &got, tolerance)
+}
+
+/// Reads and judges two stream files, those that were wanted first, and makes the text.
+pub fn answer_compare<F: Files>(
+    alloc: Global,
+    files: &mut F,
+    want: &str,
+    got: &str,
+    tolerance: Tolerance,
+) -> Result<Pieces, Refusal>
+    requires want { IsTrue (F.lends files.old want.now) }
+    requires got { IsWant (F.entries files.old) want.now → IsTrue (F.lends files.old got.now) }
+    requires free { F.lent files.old ≡ None }
+    ensures ok { IfOk result (λ text. Answers (F.entries files.old)
+        (compare want.now got.now tolerance.us tolerance.pixels) (Ok text)) }
+    ensures err { IfErr result (Refuses (λ r. Answers (F.entries files.old)
+        (compare want.now got.now tolerance.us tolerance.pixels) (Err r))
+        (F.faults files.old) (F.faults files.new)) }
+{
+    let bytes = read_stream(alloc, files, want)?;
+    let sections = wanted(alloc, &bytes)?;
+    answer_got(alloc, files, &sections, got, tolerance)
+}

@@ -1,0 +1,28 @@
+use Rattle.std.proofs.Common.{sym, ap, ◌∙◌, subst}
+use Rattle.dispatcher.specs.Access.{gone}
+use Rattle.dispatcher.specs.Dispatching.{StandsFor}
+use Rattle.dispatcher.proofs.Gone.{answered_gone}
+use Rattle.dispatcher.proofs.Applying.{raw, history_after, stands_somehow}
+use Rattle.dispatcher.proofs.dispatcher.Dispatcher.apply_unread.Goals as goal
+
+pub apply_unread-requires : goal.apply_unread-requires
+apply_unread-requires c = let s = c.self.invariant in (s.0, raw s.0 c.self.inside.tables s.1)
+
+pub invariant_of-self : goal.invariant_of-self
+invariant_of-self c =
+    history_after c.args.call.now c.apply_unread.result c.self.inside.tables c.apply_unread.new.tables c.apply_unread.ensures.ok c.apply_unread.ensures.err c.self.invariant
+
+pub returns-clause-after : goal.returns-clause-after
+returns-clause-after c =
+    λ es s.
+    stands_somehow c.args.call.now c.apply_unread.result c.self.inside.tables c.apply_unread.new.tables c.args.self.now c.self.view_is c.apply_unread.ensures.ok es s
+
+pub returns-clause-calm : goal.returns-clause-calm
+returns-clause-calm c =
+    λ es s. c.apply_unread.ensures.calm es (raw es c.self.inside.tables (subst (StandsFor es) (sym c.self.view_is) s))
+
+pub returns-clause-gone : goal.returns-clause-gone
+returns-clause-gone c =
+    λ k low.
+    answered_gone c.args.call.now c.apply_unread.result c.self.inside.tables c.apply_unread.new.tables c.apply_unread.ensures.ok c.apply_unread.ensures.err k low
+    ∙ ap (λ d. gone d k) c.self.view_is

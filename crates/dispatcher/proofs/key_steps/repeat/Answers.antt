@@ -1,0 +1,26 @@
+use Rattle.std.proofs.Common.{option_map, sym, ap, ◌∙◌}
+use Rattle.dispatch_history.specs.Reply.{is_due}
+use Rattle.dispatcher.proofs.KeySteps.{idle_pump, repeat_pump, due_next}
+use Rattle.dispatcher.proofs.key_steps.repeat.Goals as goal
+
+pub returns-then-not-is_due-clause-ok : goal.returns-then-not-is_due-clause-ok
+returns-then-not-is_due-clause-ok c =
+    idle_pump c.args.place c.args.clock c.args.routing.now
+    (ap (λ o. is_due o c.args.clock) (sym c.due.ensures) ∙ sym c.is_due.ensures ∙ c.if-not-is_due.true)
+
+pub returns-in_default-clause-ok : goal.returns-in_default-clause-ok
+returns-in_default-clause-ok c =
+    let due = ap (λ o. is_due o c.args.clock) (sym c.due.ensures) ∙ sym c.is_due.ensures ∙ c.if-not-is_due.false in
+    absurd
+    (due_next c.args.routing.now.repeat c.args.clock due (sym c.next.ensures ∙ ap (λ o. option_map (λ n. (n.0, n.1)) o) c.in_default.is))
+
+pub returns-clause-ok : goal.returns-clause-ok
+returns-clause-ok c =
+    let due = ap (λ o. is_due o c.args.clock) (sym c.due.ensures) ∙ sym c.is_due.ensures ∙ c.if-not-is_due.false in
+    repeat_pump c.args.routing.now c.tell_still.new.routing c.args.place c.args.clock (c.in-Some.field-0-0, c.in-Some.message) c.no_change-change.result.lost
+    c.no_change-change.result.gained
+    c.no_change-change.ensures.0
+    c.no_change-change.ensures.1
+    due
+    (sym c.next.ensures ∙ ap (λ o. option_map (λ n. (n.0, n.1)) o) c.in-Some.is)
+    c.in_ok-tell_still.ensures.ok

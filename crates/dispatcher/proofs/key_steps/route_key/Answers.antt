@@ -1,0 +1,47 @@
+use Rattle.std.proofs.Common.{◌∷◌, [], sym, ap, ◌∙◌}
+use Rattle.input_types.specs.declared.message.Args.TheVariants.{Key as KeyOfDevice}
+use Rattle.window_snapshot.specs.Mask.{mask_has}
+use Rattle.focus_resolver.specs.Resolver.{target_of}
+use Rattle.key_tables.specs.Held.{key_heard, one_told}
+use Rattle.route_split.specs.declared.mark.Mark.TheVariants.{Rests}
+use Rattle.dispatcher.proofs.Stepping.{other_steps}
+use Rattle.dispatcher.specs.Tables.{kept}
+use Rattle.dispatcher.proofs.Oks.{on_ok}
+use Rattle.dispatcher.proofs.KeySteps.{keyed_nobody, keyed_one, nobody_pump, args_pump}
+use Rattle.dispatcher.proofs.key_steps.route_key.Goals as goal
+
+pub returns-in_default-clause-ok : goal.returns-in_default-clause-ok
+returns-in_default-clause-ok c =
+    let old = c.args.routing.now in
+    nobody_pump old c.args.place c.args.clock c.args.key.now
+    (λ now. keyed_nobody (target_of old.focus) old.channels.live _ (sym c.in_default.is ∙ c.listening.ensures.value))
+
+pub returns-in-Some-key_heard-clause-ok : goal.returns-in-Some-key_heard-clause-ok
+returns-in-Some-key_heard-clause-ok c =
+    let old = c.args.routing.now in
+    let t = c.in-Some.target in
+    let heard =
+    sym c.in-Some-key_heard.is
+    ∙ c.key_heard.ensures
+    ∙ ap (λ b. key_heard c.args.key.now b c.keys.result.now) (c.mask_has-hears.ensures ∙ ap (λ m. mask_has m t) c.able.ensures.value)
+    ∙ ap (λ ks. key_heard c.args.key.now (mask_has old.channels.able t) ks) (c.keys.ensures ∙ ap (λ i. i.keys) c.input.ensures) in
+    on_ok _ _ c.tell_still.result c.tell_still.ensures.ok
+    (λ some.
+    args_pump old c.tell_still.new.routing c.args.place c.args.clock (KeyOfDevice c.args.key.now) Rests (c.in-Some-key_heard.message ∷ []) _ _
+    c.no_change-change.ensures.0
+    c.no_change-change.ensures.1
+    some
+    (λ es now w queue stands first. (other_steps old.displays es (kept queue old) stands).keys now w c.args.key.now first)
+    (λ now. keyed_one (target_of old.focus) old.channels.live _ t _ (sym c.in-Some.is ∙ c.listening.ensures.value) (ap one_told heard)))
+
+pub returns-in-None-clause-ok : goal.returns-in-None-clause-ok
+returns-in-None-clause-ok c =
+    let old = c.args.routing.now in
+    let t = c.in-Some.target in
+    let heard =
+    sym c.in-None.is
+    ∙ c.key_heard.ensures
+    ∙ ap (λ b. key_heard c.args.key.now b c.keys.result.now) (c.mask_has-hears.ensures ∙ ap (λ m. mask_has m t) c.able.ensures.value)
+    ∙ ap (λ ks. key_heard c.args.key.now (mask_has old.channels.able t) ks) (c.keys.ensures ∙ ap (λ i. i.keys) c.input.ensures) in
+    nobody_pump old c.args.place c.args.clock c.args.key.now
+    (λ now. keyed_one (target_of old.focus) old.channels.live _ t _ (sym c.in-Some.is ∙ c.listening.ensures.value) (ap one_told heard))

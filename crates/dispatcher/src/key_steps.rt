@@ -1,0 +1,105 @@
+//! Keys: dispatched, cancelled by a reset of their device, and repeated.
+ghost use Rattle.std.specs.Prelude.{◌≡◌, None, Some, true, OnOk, OnErr, IfOk, IfSome, if◌then◌else◌};
+ghost use Rattle.input_types.specs.declared.message.Args.TheVariants.{Key as KeyOfDevice, Reset as ResetOf};
+ghost use Rattle.key_repeat.specs.Due.{due_of};
+ghost use Rattle.dispatch_calls.specs.declared.reply.Reply.TheVariants.{Dispatched, Repeated, Idle};
+ghost use Rattle.dispatch_history.specs.Reply.{is_due};
+ghost use Rattle.dispatch_round.specs.Rounds.{IsTimely};
+ghost use Rattle.dispatch_channels.specs.Table.{IsOpened};
+ghost use Rattle.dispatcher.specs.Keying.{listening};
+ghost use Rattle.dispatcher.specs.Tables.{Pumps, SameButRoom};
+
+use crate::carry::{no_change, tell_still};
+use crate::tables::Routing;
+use input_types::{DeviceId, KeyArgs, Moment};
+use key_tables::key_heard;
+use route_split::Mark;
+use std::alloc::AllocError;
+use window_snapshot::mask_has;
+
+/// The key target, where it is live.
+pub(crate) fn listening(routing: &Routing) -> Option<u32>
+    ensures value { result ≡ listening routing.now.focus routing.now.channels.live }
+    ensures opened { IfSome result (λ t. IsOpened routing.now.channels t) }
+{
+    let target = routing.focus.target()?;
+    let live = routing.channels.live();
+    if mask_has(live, target) {
+        Some(target)
+    } else {
+        None
+    }
+}
+
+/// A key is dispatched.
+pub(crate) fn route_key(
+    routing: &mut Routing,
+    key: &KeyArgs,
+    place: u64,
+    clock: Moment,
+) -> Result<(), AllocError>
+    requires { IsTimely clock routing.old.channels }
+    ensures ok { OnOk result (Pumps (Some (KeyOfDevice key.now)) Dispatched place clock routing.old routing.new) }
+    ensures err { OnErr result (SameButRoom routing.old routing.new) }
+{
+    let Some(target) = listening(routing) else {
+        return Ok(());
+    };
+    let hears = mask_has(routing.channels.able(), target);
+    match key_heard(key, hears, routing.channels.input(target).keys()) {
+        Some(message) => {
+            let change = no_change(routing);
+            tell_still(routing, Mark::Rests, &[message], &change, place, clock)
+        }
+        None => Ok(()),
+    }
+}
+
+/// A reset is dispatched: all that is down on the device is taken from all windows.
+pub(crate) fn route_reset(
+    routing: &mut Routing,
+    device: DeviceId,
+    place: u64,
+    clock: Moment,
+) -> Result<(), AllocError>
+    requires { IsTimely clock routing.old.channels }
+    ensures ok { OnOk result (Pumps (Some (ResetOf device)) Dispatched place clock routing.old routing.new) }
+    ensures err { OnErr result (SameButRoom routing.old routing.new) }
+{
+    let mark = Mark::Empty { device };
+    let change = no_change(routing);
+    let Some(target) = listening(routing) else {
+        return tell_still(routing, mark, &[], &change, place, clock);
+    };
+    let keys = routing.channels.input(target).cancel_device_keys(device)?;
+    tell_still(routing, mark, &keys, &change, place, clock)
+}
+
+/// Whether a repeat is due at the clock.
+fn is_due(due: Option<u64>, clock: Moment) -> bool
+    ensures { result ≡ is_due due clock }
+{
+    match due {
+        Some(at) => at <= clock.get(),
+        None => false,
+    }
+}
+
+/// Nothing waits: a key that is held is repeated, where that is due. Answers whether it was.
+pub(crate) fn repeat(routing: &mut Routing, place: u64, clock: Moment) -> Result<bool, AllocError>
+    requires { IsTimely clock routing.old.channels }
+    ensures ok { IfOk result
+        (λ is_due. Pumps None (if is_due then Repeated else Idle) place clock routing.old routing.new) }
+    ensures err { OnErr result (SameButRoom routing.old routing.new) }
+    ensures calm { OnErr result (is_due (due_of routing.old.repeat) clock ≡ true) }
+{
+    if !is_due(routing.repeat.due(), clock) {
+        return Ok(false);
+    }
+    let Some((_, message)) = routing.repeat.next() else {
+        return Ok(true);
+    };
+    let change = no_change(routing);
+    tell_still(routing, Mark::Rests, &[message], &change, place, clock)?;
+    Ok(true)
+}

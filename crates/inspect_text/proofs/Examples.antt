@@ -1,0 +1,75 @@
+-- Worked examples: what is told of recordings that are written out, lines and events with the newest first. All of them compute.
+use Rattle.std.specs.Prelude.{codes, ◌≡◌, ℕ, pos, List, [], ◌∷◌, ◌++◌, refl}
+use Rattle.std.specs.Fmt.{digits}
+use Rattle.input_types.specs.declared.axis.Rotation.TheVariants.{R0}
+use Rattle.raw_events.specs.declared.event.RawEvent.{RawEvent}
+use Rattle.raw_events.specs.Line.{Known, judged, judged_text, formed, fields_of, moment_at, seconds_at, path_at}
+use Rattle.raw_events.specs.Text.{number_at}
+use Rattle.pointer_ids.specs.PointerIds.{assigned, least_free}
+use Rattle.device_reader.specs.Cooked.{DevicePlan, Touches, Keys}
+use Rattle.session_plan.specs.declared.plan.Step.{Step}
+use Rattle.session_plan.specs.declared.plan.Act.TheVariants.{Remove}
+use Rattle.inspect_text.specs.Inspected.{inspected}
+
+abbrev screen : DevicePlan
+screen = Touches (record {
+  device = 1;
+  slots = 10;
+  cook = record { x = record { min = pos 0; max = pos 1079 }; y = record { min = pos 0; max = pos 2399 }; width = 1080; height = 2400; rotation = R0 };
+})
+
+abbrev keyboard : DevicePlan
+keyboard = Keys (record { device = 1; layout = [] })
+
+abbrev step : ℕ → Step
+step at = record { at = at; lane = 1; act = Remove 1 }
+
+abbrev event : (kind code value : ℕ) → RawEvent
+event kind code value = record { device = 1; moment = 1000000; kind = kind; code = code; value = pos value }
+
+abbrev one_device : Known
+one_device = (codes "/dev/input/event2", 1) ∷ []
+
+abbrev one_finger : List (List ℕ)
+one_finger =
+    codes "[       1.500000] /dev/input/event5: 0001 0073 00000001"
+    ∷ codes "[       1.000000] /dev/input/event2: 0000 0000 00000000"
+    ∷ codes "[       1.000000] /dev/input/event2: 0003 0036 000004b0"
+    ∷ codes "[       1.000000] /dev/input/event2: 0003 0035 0000021c"
+    ∷ codes "[       1.000000] /dev/input/event2: 0003 0039 0000002d"
+    ∷ codes "add device 1: /dev/input/event2"
+    ∷ []
+
+a_finger_stays_down :
+    inspected one_device one_finger (screen ∷ []) (event 0 0 0 ∷ event 3 54 1200 ∷ event 3 53 540 ∷ event 3 57 45 ∷ []) (step 2000000 ∷ [])
+    (codes "key display.depth\n")
+    ≡ codes "lines 6 blank 0 other 1 unknown 1 events 4\nmoments 1000000 1000000\n"
+    ++ codes "device 1 touch events 4 used 4 void 0 drops 0 packets 1 fingers 1 palms 0 clamped 0 strayed 0 args 1\n"
+    ++ codes "path /dev/input/event5 1\nsteps 1 before 0 within 0 after 1\nkey display.depth\nhint device 1 still down 0\nhint steps after\n"
+unfolding digits judged judged_text formed fields_of moment_at seconds_at path_at number_at assigned least_free
+a_finger_stays_down = refl
+
+-- a mouse's positions are of a single touch, and its buttons are no contacts
+a_single_touch :
+    inspected one_device
+    (codes "[ 1.000000] /dev/input/event2: 0000 0000 00000000" ∷ codes "[ 1.000000] /dev/input/event2: 0003 0000 00000010" ∷ codes " " ∷ [])
+    (screen ∷ []) (event 0 0 0 ∷ event 3 0 16 ∷ []) (step 1000000 ∷ step 999999 ∷ []) []
+    ≡ codes "lines 3 blank 1 other 0 unknown 0 events 2\nmoments 1000000 1000000\n"
+    ++ codes "device 1 touch events 2 used 1 void 0 drops 0 packets 1 fingers 0 palms 0 clamped 0 strayed 0 args 0\n"
+    ++ codes "steps 2 before 1 within 1 after 0\nhint device 1 single touch\n"
+unfolding digits judged judged_text formed fields_of moment_at seconds_at path_at number_at assigned least_free
+a_single_touch = refl
+
+a_silent_keyboard :
+    inspected one_device [] (keyboard ∷ []) [] [] []
+    ≡ codes "lines 0 blank 0 other 0 unknown 0 events 0\ndevice 1 keys events 0 used 0 void 0 drops 0 downs 0 unnamed 0 args 0\n"
+    ++ codes "steps 0 before 0 within 0 after 0\nhint device 1 silent\n"
+unfolding digits
+a_silent_keyboard = refl
+
+-- a line that names no path counts for `-` where there is no device
+no_device :
+    inspected [] (codes "[ 1.500000] 0001 0073 00000001" ∷ codes "[ 1.000000] 0001 0073 00000001" ∷ []) [] [] (step 5 ∷ []) []
+    ≡ codes "lines 2 blank 0 other 0 unknown 2 events 0\npath - 2\nsteps 1 before 1 within 0 after 0\nhint no device\n"
+unfolding digits judged judged_text formed fields_of moment_at seconds_at path_at number_at
+no_device = refl

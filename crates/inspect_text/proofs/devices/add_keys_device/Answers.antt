@@ -1,0 +1,23 @@
+use Rattle.std.proofs.Common.{◌++◌, ap, ◌∙◌}
+use Rattle.std.specs.Prelude.{codes}
+use Rattle.std.specs.Fmt.{decimal}
+use Rattle.text_lines.specs.Written.{labeled}
+use Rattle.inspect_text.specs.Lines.{event_words, key_words, keys_line}
+use Rattle.inspect_text.proofs.Growing.{grown, regroup_device}
+use Rattle.inspect_text.proofs.devices.add_keys_device.Goals as goal
+
+pub returns : goal.returns
+unfolding labeled
+returns c =
+    let text = c.args.text.now.items in
+    let events = event_words c.args.events.now in
+    let more = key_words c.args.keys.now in
+    grown c.add_args.result c.add_args.new.text.items c.add_keys.new.text.items (codes " args " ++ decimal c.args.args ++ codes "\n")
+    (text ++ keys_line c.args.device c.args.events.now c.args.keys.now c.args.args)
+    c.add_args.ensures
+    (ap (λ xs. xs ++ (codes " args " ++ decimal c.args.args ++ codes "\n"))
+    (c.in_ok-add_keys.ensures
+    ∙ ap (λ xs. xs ++ more)
+    (c.in_ok-add_events.ensures
+    ∙ ap (λ xs. xs ++ events) (c.in_ok-add_word.ensures ∙ ap (λ xs. xs ++ codes " keys") c.in_ok-add_labeled.ensures)))
+    ∙ regroup_device text (codes "device " ++ decimal c.args.device) (codes " keys") events more (codes " args ") (decimal c.args.args) (codes "\n"))

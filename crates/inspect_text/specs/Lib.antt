@@ -1,0 +1,4 @@
+pub mod Lines
+pub mod Hints
+pub mod Inspected
+pub mod Laws

@@ -1,0 +1,18 @@
+//! What is proved of the numbers of the text. Each function has a law as its clause, and does nothing.
+ghost use Rattle.inspect_text.specs.Laws.{ArgsLaw, KeysHintLaw, LinesLaw};
+
+/// The lines of a recording are the blank ones, those of another form, those of devices that are not in the session,
+/// and those that give an event.
+pub fn lines_add_up()
+    ensures { LinesLaw }
+{}
+
+/// The args of the devices are all that is cooked.
+pub fn args_add_up()
+    ensures { ArgsLaw }
+{}
+
+/// A device with keys at which nothing is hinted gives some args.
+pub fn keys_are_cooked()
+    ensures { KeysHintLaw }
+{}

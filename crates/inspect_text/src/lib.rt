@@ -1,0 +1,37 @@
+//! What a recording and a session hold, as a text: was the input read as it was meant?
+//!
+//! A session has a touch device at `/dev/input/event2` and one step, at 2000000. Of the recording
+//!
+//! ```text
+//! add device 1: /dev/input/event2
+//! [       1.000000] /dev/input/event2: 0003 0039 0000002d
+//! [       1.000000] /dev/input/event2: 0003 0035 0000021c
+//! [       1.000000] /dev/input/event2: 0003 0036 000004b0
+//! [       1.000000] /dev/input/event2: 0000 0000 00000000
+//! [       1.500000] /dev/input/event5: 0001 0073 00000001
+//! ```
+//!
+//! the text is
+//!
+//! ```text
+//! lines 6 blank 0 other 1 unknown 1 events 4
+//! moments 1000000 1000000
+//! device 1 touch events 4 used 4 void 0 drops 0 packets 1 fingers 1 palms 0 clamped 0 strayed 0 args 1
+//! path /dev/input/event5 1
+//! steps 1 before 0 within 0 after 1
+//! hint device 1 still down 0
+//! hint steps after
+//! ```
+//!
+//! Each number is that of a list of lines, events, steps or args (specs/Inspected), and a hint says what looks as if
+//! it was not meant so. The counts come from `recording_counts` and `event_counts`, which keep no list.
+#![tactic(auto, unfolding(text_lines::specs::Written::labeled))]
+
+mod devices;
+mod hints;
+pub mod laws;
+mod lines;
+mod steps;
+mod text;
+
+pub use text::inspect_text;

@@ -1,0 +1,43 @@
+ghost use Rattle.std.specs.Prelude.{◌≡◌, true, false, [], ◌++◌};
+ghost use Rattle.std.specs.Borrow.{ftrue};
+ghost use Rattle.io_trace.specs.Trace.{Reading};
+
+use std::marker::Model;
+
+/// How one file is read.
+#[derive(Drop)]
+pub struct ReadingTrace {
+    pub ghost reading: { Reading },
+}
+
+impl Model for ReadingTrace {
+    ghost also_owns = { λ _. ftrue };
+}
+
+impl ReadingTrace {
+    /// Nothing is read yet, and no name is known.
+    #[inline(always)]
+    pub fn new() -> ReadingTrace
+        ensures { result.reading ≡ record { name = []; given = []; ended = false } }
+    {
+        ReadingTrace {}
+    }
+
+    /// The file is opened under this name.
+    #[inline(always)]
+    pub fn open(&mut self, _name: &[u8])
+        ensures { self.new.reading ≡ record self.old.reading { name = _name.now } }
+    {}
+
+    /// These bytes are given.
+    #[inline(always)]
+    pub fn note(&mut self, _piece: &[u8])
+        ensures { self.new.reading ≡ record self.old.reading { given = self.old.reading.given ++ _piece.now } }
+    {}
+
+    /// The end is told.
+    #[inline(always)]
+    pub fn end(&mut self)
+        ensures { self.new.reading ≡ record self.old.reading { ended = true } }
+    {}
+}

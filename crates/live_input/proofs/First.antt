@@ -1,0 +1,34 @@
+-- A service before its first call.
+use Rattle.std.proofs.Common.{◌≡◌, ℕ, zero, suc, ◌-◌, List, [], length, replicate, slice_index_or, None, refl, sym, ap, ◌∙◌, arith}
+use Rattle.std.proofs.lemmas.Bool.{true≢false}
+use Rattle.dispatcher.specs.Dispatching.{StandsFor}
+use Rattle.live_input.specs.Seats.{is_held, seat_of, vacant}
+use Rattle.live_input.specs.Standing.{LiveIs}
+use Rattle.live_input.specs.State.{LiveState}
+
+same_at : {X : Type 0} (x : X) (n i : ℕ) → slice_index_or (replicate n x) i x ≡ x
+same_at x zero i = refl
+same_at x (suc n) zero = refl
+same_at x (suc n) (suc i) = same_at x n i
+
+pub live_first : (ds : List ℕ) (s : LiveState) → StandsFor [] s.dispatcher → s.dispatcher.displays ≡ ds → s.windows ≡ []
+    → s.requested ≡ replicate 4 None → s.asked ≡ 0 → s.seats ≡ replicate 64 vacant → LiveIs ds [] s
+live_first ds s stands displays windows requested asked seats =
+    record {
+      stands = stands;
+      displays_are = displays;
+      windows_are = windows;
+      requests_are =
+          record {
+            four = ap length requested;
+            channels_are = λ y low. ap (λ rs. slice_index_or rs y None) requested ∙ same_at None 4 y;
+            display_is = asked;
+            within = omega (arith, asked);
+          };
+      seats_are =
+          record {
+            all = ap length seats;
+            lives = λ c low high. absurd (omega (arith, low, high));
+            held = λ c low high is. absurd (true≢false (sym is ∙ ap (λ ss. is_held (seat_of ss c)) seats ∙ ap is_held (same_at vacant 64 (c - 1))));
+          };
+    }

@@ -1,0 +1,168 @@
+-- Calls that are made one after another.
+use Rattle.std.proofs.Common.{◌≡◌, ℕ, ◌||◌, Bool, true, false, cond, List, [], ◌∷◌, ◌++◌, length, Option, Some, None, refl, sym, ap, ◌∙◌, subst}
+use Rattle.std.specs.Prelude.{nat_le, nat_lt, option_map}
+use Rattle.dispatch_calls.specs.declared.call.Call.{Call}
+use Rattle.dispatch_calls.specs.declared.call.Call.TheVariants.{Pump, Tick, Receive, Finish}
+use Rattle.dispatch_history.specs.Delivery.{is_named_by, oldest}
+use Rattle.dispatch_history.specs.Effect.{Effect, past_of, stream}
+use Rattle.dispatch_history.specs.History.{received}
+use Rattle.dispatch_history.specs.KeyTold.{repeat_due}
+use Rattle.dispatch_history.specs.Legal.{answered}
+use Rattle.dispatch_history.specs.Ordered.{extend}
+use Rattle.dispatch_history.specs.Reply.{reply_to}
+use Rattle.dispatcher.specs.Access.{is_waiting}
+use Rattle.window_snapshot.specs.Mask.{mask_has}
+use Rattle.live_input.specs.Advancing.{Advances, Advanced}
+use Rattle.live_input.specs.Settling.{Follows, Reaches, is_named_in, next_waiting, next_left, next_due, left_call, tick_by, repeat_by, sooner_call, timeout}
+use Rattle.live_input.specs.Standing.{LiveIs, is_plain}
+use Rattle.live_input.specs.State.{LiveState}
+
+-- one call behind others
+pub extend_last : (ds : List ℕ) (es : List Effect) (calls : List Call) (call : Call)
+    → extend ds es (calls ++ call ∷ []) ≡ answered ds call (extend ds es calls)
+extend_last ds es [] call = refl
+extend_last ds es (c ∷ cs) call = extend_last ds (answered ds c es) cs call
+
+-- it is the next one then
+pub follows_last : (next : List Effect → Option Call) (ds : List ℕ) (es : List Effect) (calls : List Call) (call : Call)
+    → Follows next ds es calls → next (extend ds es calls) ≡ Some call → Follows next ds es (calls ++ call ∷ [])
+follows_last next ds es [] call f e = (e, tt)
+follows_last next ds es (c ∷ cs) call f e = (f.0, follows_last next ds (answered ds c es) cs call f.1 e)
+
+-- the channels that are named, by one call more
+pub named_last : (ds : List ℕ) (es : List Effect) (calls : List Call) (call : Call) (c : ℕ)
+    → is_named_in ds es (calls ++ call ∷ []) c ≡ (is_named_in ds es calls c || is_named_by call (reply_to (extend ds es calls) call) c)
+named_last ds es [] call c = or_false (is_named_by call (reply_to es call) c)
+  where
+    or_false : (b : Bool) → (b || false) ≡ b
+    or_false true = refl
+    or_false false = refl
+named_last ds es (k ∷ ks) call c =
+    ap (λ b. is_named_by k (reply_to es k) c || b) (named_last ds (answered ds k es) ks call c)
+    ∙ sym (or_more (is_named_by k (reply_to es k) c) (is_named_in ds (answered ds k es) ks c) (is_named_by call (reply_to (extend ds (answered ds k es) ks) call) c))
+  where
+    or_more : (a b c : Bool) → ((a || b) || c) ≡ (a || (b || c))
+    or_more true b c = refl
+    or_more false b c = refl
+
+-- nothing was done yet
+pub reaches_first : (ds : List ℕ) (next : List Effect → Option Call) (es : List Effect) (s : LiveState) → LiveIs ds es s → Reaches ds next es s
+reaches_first ds next es s h = record { calls = []; follows = tt; is = h }
+
+-- one call more is made, which is the next one
+pub reaches_more : (ds : List ℕ) (next : List Effect → Option Call) (es : List Effect) (s t : LiveState) (call : Call)
+    → (r : Reaches ds next es s) → next (extend ds es r.calls) ≡ Some call → LiveIs ds (answered ds call (extend ds es r.calls)) t
+    → Reaches ds next es t
+reaches_more ds next es s t call r e h =
+    record {
+      calls = r.calls ++ call ∷ [];
+      follows = follows_last next ds es r.calls call r.follows e;
+      is = subst (λ fs. LiveIs ds fs t) (sym (extend_last ds es r.calls call)) h;
+    }
+
+-- what is next is a plain call
+plain_of : (o : Option Call) → Type 0
+plain_of None = Unit {0}
+plain_of (Some call) = is_plain call ≡ true
+
+plain_some : (o : Option Call) (call : Call) → plain_of o → o ≡ Some call → is_plain call ≡ true
+unfolding plain_of
+plain_some o call p e = let P : Option Call → Type 0 = plain_of in subst P e p
+
+plain_cond : (b : Bool) (x y : Option Call) → plain_of x → plain_of y → plain_of (cond b x y)
+plain_cond true x y p q = p
+plain_cond false x y p q = q
+
+pub plain_waiting : (now : ℕ) (es : List Effect) (call : Call) → next_waiting now es ≡ Some call → is_plain call ≡ true
+unfolding plain_of
+plain_waiting now es call e = plain_some (next_waiting now es) call (plain_cond (is_waiting es) (Some (Pump now)) None refl tt) e
+
+left_plain : (now c received sent : ℕ) (o : Option ℕ) → plain_of (left_call now c received sent o)
+unfolding plain_of
+left_plain now c received sent None = plain_cond (nat_lt received sent) (Some (Receive c)) None refl tt
+left_plain now c received sent (Some seq) =
+    plain_cond (nat_le seq received) (Some (Finish now c seq)) (cond (nat_lt received sent) (Some (Receive c)) None) refl
+    (plain_cond (nat_lt received sent) (Some (Receive c)) None refl tt)
+
+pub plain_left : (now c : ℕ) (es : List Effect) (call : Call) → next_left now c es ≡ Some call → is_plain call ≡ true
+plain_left now c es call e =
+    plain_some (next_left now c es) call
+    (left_plain now c (received (past_of es) c) (length (stream es c)) (option_map (λ m. m.seq) (oldest es c)))
+    e
+
+tick_plain : (now : ℕ) (o : Option ℕ) → plain_of (tick_by now o)
+unfolding plain_of
+tick_plain now None = tt
+tick_plain now (Some t) = plain_cond (nat_le t now) (Some (Tick t)) None refl tt
+
+repeat_plain : (now : ℕ) (o : Option ℕ) → plain_of (repeat_by now o)
+unfolding plain_of
+repeat_plain now None = tt
+repeat_plain now (Some t) = plain_cond (nat_le t now) (Some (Pump t)) None refl tt
+
+sooner_plain : (now : ℕ) (a b : Option ℕ) → plain_of (sooner_call now a b)
+sooner_plain now None b = repeat_plain now b
+sooner_plain now (Some t) None = tick_plain now (Some t)
+sooner_plain now (Some t) (Some r) =
+    plain_cond (nat_lt r t) (repeat_by now (Some r)) (tick_by now (Some t)) (repeat_plain now (Some r)) (tick_plain now (Some t))
+
+pub plain_due : (now : ℕ) (es : List Effect) (call : Call) → next_due now es ≡ Some call → is_plain call ≡ true
+unfolding plain_of
+plain_due now es call e =
+    plain_some (next_due now es) call
+    (plain_cond (is_waiting es) (Some (Pump now)) (sooner_call now (timeout es) (repeat_due es)) refl (sooner_plain now (timeout es) (repeat_due es)))
+    e
+
+-- a service that stands for the same reaches the same
+abbrev pub reaches_same : (ds : List ℕ) (next : List Effect → Option Call) (es : List Effect) (s t : LiveState) → (r : Reaches ds next es s)
+    → LiveIs ds (extend ds es r.calls) t → Reaches ds next es t
+reaches_same ds next es s t r h = record { calls = r.calls; follows = r.follows; is = h }
+
+pub or_none : (b : Bool) → b ≡ (b || false)
+or_none true = refl
+or_none false = refl
+
+pub or_more : (a b c : Bool) → ((a || b) || c) ≡ (a || (b || c))
+or_more true b c = refl
+or_more false b c = refl
+
+-- what is noted of names does not matter
+pub live_noted : (ds : List ℕ) (es : List Effect) (s : LiveState) (n : ℕ) → LiveIs ds es s → LiveIs ds es (record s { named = n })
+live_noted ds es s n h =
+    record { stands = h.stands; displays_are = h.displays_are; windows_are = h.windows_are; requests_are = h.requests_are; seats_are = h.seats_are }
+
+-- nothing that is due was done yet
+pub advances_first : (ds : List ℕ) (now : ℕ) (es : List Effect) (s : LiveState) → LiveIs ds es s → Advances ds now es s s
+advances_first ds now es s h = record { calls = []; follows = tt; is = h; named_are = λ c. or_none (mask_has s.named c) }
+
+-- one call more
+pub advances_more : (ds : List ℕ) (now : ℕ) (es : List Effect) (old s t : LiveState) (call : Call) → (a : Advances ds now es old s)
+    → next_due now (extend ds es a.calls) ≡ Some call
+    → LiveIs ds (answered ds call (extend ds es a.calls)) t
+    → ((c : ℕ) → mask_has t.named c ≡ (mask_has s.named c || is_named_by call (reply_to (extend ds es a.calls) call) c))
+    → Advances ds now es old t
+advances_more ds now es old s t call a e h n =
+    record {
+      calls = a.calls ++ call ∷ [];
+      follows = follows_last (next_due now) ds es a.calls call a.follows e;
+      is = subst (λ fs. LiveIs ds fs t) (sym (extend_last ds es a.calls call)) h;
+      named_are = λ c.
+          n c
+          ∙ ap (λ b. b || is_named_by call (reply_to (extend ds es a.calls) call) c) (a.named_are c)
+          ∙ or_more (mask_has old.named c) (is_named_in ds es a.calls c) (is_named_by call (reply_to (extend ds es a.calls) call) c)
+          ∙ ap (λ b. mask_has old.named c || b) (sym (named_last ds es a.calls call c));
+    }
+
+-- all was done, and the names are told
+pub advanced : (ds : List ℕ) (now : ℕ) (es : List Effect) (old s t : LiveState) (mask : ℕ) → (a : Advances ds now es old s)
+    → next_due now (extend ds es a.calls) ≡ None → mask ≡ s.named → LiveIs ds (extend ds es a.calls) t → t.named ≡ 0
+    → Advanced ds now es mask old t
+advanced ds now es old s t mask a e m h z =
+    record {
+      calls = a.calls;
+      follows = a.follows;
+      done = e;
+      is = h;
+      named_are = λ c. ap (λ n. mask_has n c) m ∙ a.named_are c;
+      told = z;
+    }

@@ -1,0 +1,12 @@
+pub mod Results
+pub mod Following
+pub mod Vacant
+pub mod Stepping
+pub mod Opened
+pub mod Unshown
+pub mod Fewer
+pub mod Silence
+pub mod Untold
+pub mod Union
+pub mod Awaiting
+pub mod First

@@ -1,0 +1,14 @@
+use Rattle.std.proofs.Common.{ℕ, List}
+use Rattle.dispatch_history.specs.Effect.{Effect}
+use Rattle.live_input.specs.Advancing.{Advances}
+use Rattle.live_input.specs.Answers.{SameClients}
+use Rattle.live_input.specs.Standing.{LiveIs}
+use Rattle.live_input.proofs.live.Live.advance.Given as goal
+
+-- some of what is due was done
+abbrev pub invariant-loop : goal.invariant-loop
+invariant-loop l =
+    record {
+      advances : (ds : List ℕ) (es : List Effect) → LiveIs ds es l.initial.self → Advances ds l.now es l.initial.self l.self;
+      clients : SameClients l.initial.self l.self;
+    }

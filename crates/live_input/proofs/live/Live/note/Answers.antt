@@ -1,0 +1,20 @@
+-- The names of the call are noted beside those before.
+use Rattle.std.proofs.Common.{◌||◌, sym, ap, ap₂, ◌∙◌, subst}
+use Rattle.window_snapshot.specs.Mask.{mask_has}
+use Rattle.dispatch_history.specs.Delivery.{is_named_by}
+use Rattle.dispatch_history.specs.Legal.{answered}
+use Rattle.live_input.specs.Standing.{LiveIs}
+use Rattle.live_input.specs.State.{LiveState}
+use Rattle.live_input.proofs.Following.{live_noted}
+use Rattle.live_input.proofs.Union.{mask_union}
+use Rattle.live_input.proofs.live.Live.note.Goals as goal
+
+pub returns-in-Ok-clause-after : goal.returns-in-Ok-clause-after
+returns-in-Ok-clause-after c = λ ds es h plain.
+    live_noted ds (answered ds c.args.call.now es) _ _ (subst (LiveIs ds (answered ds c.args.call.now es)) (sym c.self.view_is) (c.in-Ok.ensures.after ds es h plain))
+
+pub returns-in-Ok-clause-named : goal.returns-in-Ok-clause-named
+returns-in-Ok-clause-named c = λ ds es h k.
+    mask_union _ _ k
+    ∙ ap₂ (λ a b. a || b) (ap (λ (s : LiveState). mask_has s.named k) (c.self.view_is ∙ c.apply.ensures.rest))
+    (c.named_by.ensures k ∙ ap (λ r. is_named_by c.args.call.now r k) (c.in-Ok.ensures.reply ds es h))

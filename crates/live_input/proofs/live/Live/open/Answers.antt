@@ -1,0 +1,48 @@
+-- The first vacant channel gets a client.
+use Rattle.std.proofs.Common.{◌≡◌, ◌+◌, Some, refl, sym, ap, ◌∙◌, subst}
+use Rattle.live_input.specs.Opening.{opening}
+use Rattle.live_input.specs.Seats.{first_vacant, seat_of}
+use Rattle.live_input.specs.Standing.{LiveIs}
+use Rattle.live_input.specs.State.{LiveState}
+use Rattle.live_input.proofs.Opened.{full_by_none, not_full}
+use Rattle.live_input.proofs.Stepping.{seat_goes}
+use Rattle.live_input.proofs.Vacant.{seat_set, vacant_next}
+use Rattle.live_input.proofs.live.Live.open.Goals as goal
+
+pub returns-in_default-clause-full : goal.returns-in_default-clause-full
+returns-in_default-clause-full c =
+    let value = c.first_vacant.ensures.value ∙ ap (λ (s : LiveState). first_vacant s.seats) c.self.view_is in
+    (λ e. full_by_none c.args.self.now.seats (sym c.in_default.is ∙ value), λ f. refl)
+
+pub returns-then-self-clause-full : goal.returns-then-self-clause-full
+returns-then-self-clause-full c =
+    let value = c.first_vacant.ensures.value ∙ ap (λ (s : LiveState). first_vacant s.seats) c.self.view_is in
+    (λ e. absurd cc, λ f. absurd (not_full c.args.self.now.seats c.in-Some.channel (sym c.in-Some.is ∙ value) f))
+
+pub returns-in-Ok-clause-full : goal.returns-in-Ok-clause-full
+returns-in-Ok-clause-full c =
+    let value = c.first_vacant.ensures.value ∙ ap (λ (s : LiveState). first_vacant s.seats) c.self.view_is in
+    (λ e. absurd cc, λ f. absurd (not_full c.args.self.now.seats c.in-Some.channel (sym c.in-Some.is ∙ value) f))
+
+pub returns-in-Err-clause-full : goal.returns-in-Err-clause-full
+returns-in-Err-clause-full c =
+    let value = c.first_vacant.ensures.value ∙ ap (λ (s : LiveState). first_vacant s.seats) c.self.view_is in
+    (λ e. absurd cc, λ f. absurd (not_full c.args.self.now.seats c.in-Some.channel (sym c.in-Some.is ∙ value) f))
+
+pub returns-in-Ok-clause-after : goal.returns-in-Ok-clause-after
+returns-in-Ok-clause-after c = λ ds es h.
+    let k = c.in-Some.channel in
+    let at : first_vacant c.args.self.now.seats ≡ Some k =
+    sym (c.first_vacant.ensures.value ∙ ap (λ (s : LiveState). first_vacant s.seats) c.self.view_is) ∙ c.in-Some.is in
+    let next = vacant_next es c.args.self.now.seats k h.seats_are at in
+    let fs = opening ds c.args.self.now.limit k es in
+    let there = subst (LiveIs ds fs) (sym c.self-2.view_is) (c.in-Ok.ensures.after ds es h next) in
+    record {
+      is =
+          seat_goes ds fs _ there k _ next.from next.to (c.in-Ok.ensures.opened ds es h next) (c.self-2.inside.opened + 1) c.occupy.new.seats
+          c.occupy.ensures;
+      before_is =
+          ap (λ s. s.before)
+          (ap (λ ss. seat_of ss k) c.occupy.ensures ∙ seat_set c.self-2.inside.seats k _ there.seats_are.all next.from next.to)
+          ∙ c.in-Ok.ensures.sent ds es h next;
+    }

@@ -1,0 +1,79 @@
+-- What calls of the service come to.
+use Rattle.std.specs.Prelude.{ℕ, ◌≡◌, ◌-◌, Bool, true, false, List, Option, Some, None, Result, Ok, Err}
+use Rattle.input_types.specs.declared.message.Message.{Message}
+use Rattle.dispatch_calls.specs.declared.call.Call.{Call}
+use Rattle.dispatch_calls.specs.declared.reply.Reply.{Reply}
+use Rattle.dispatch_calls.specs.declared.reply.Reply.TheVariants.{Done, NotSpy, Taken}
+use Rattle.dispatch_history.specs.Effect.{Effect}
+use Rattle.dispatch_history.specs.Legal.{answered}
+use Rattle.dispatch_history.specs.Reply.{reply_to}
+use Rattle.live_input.specs.declared.client.Seat.{Seat}
+use Rattle.live_input.specs.declared.refused.ArgsRefused.{ArgsRefused}
+use Rattle.live_input.specs.declared.refused.ArgsRefused.TheVariants as args
+use Rattle.live_input.specs.declared.refused.FinishRefused.{FinishRefused}
+use Rattle.live_input.specs.declared.refused.FinishRefused.TheVariants as finish
+use Rattle.live_input.specs.declared.refused.PilferRefused.{PilferRefused}
+use Rattle.live_input.specs.declared.refused.PilferRefused.TheVariants as pilfer
+use Rattle.live_input.specs.Settling.{Reaches, Settles, next_waiting}
+use Rattle.live_input.specs.Standing.{LiveIs}
+use Rattle.live_input.specs.State.{LiveState}
+
+-- a call did what it says
+abbrev pub is_done : Reply → Bool
+is_done Done = true
+is_done answer = false
+
+-- the current windows have no spy of the channel
+abbrev pub is_no_spy : Reply → Bool
+is_no_spy NotSpy = true
+is_no_spy answer = false
+
+-- args were taken
+abbrev pub is_taken : Reply → Bool
+is_taken Taken = true
+is_taken answer = false
+
+-- a message as its client gets it: its number counts from the first one for the client
+abbrev pub for_client : Seat → Message → Message
+for_client s m = record { seq = m.seq - s.before; moment = m.moment; body = m.body }
+
+-- what a client gets of the answer to a receive
+abbrev pub handed : Seat → Option Message → Option Message
+handed s None = None
+handed s (Some m) = Some (for_client s m)
+
+-- The clients are the same, and so is the limit.
+pub record SameClients (old new : LiveState) : Type 0 where
+  pub seats_are : new.seats ≡ old.seats
+  pub opened_is : new.opened ≡ old.opened
+  pub limit_is : new.limit ≡ old.limit
+
+-- After a finish by this call the service stands for the history with it. Without memory nothing changes.
+abbrev pub Finishes : List ℕ → List Effect → Call → Result (Unit {0}) FinishRefused → (old new : LiveState) → Type 0
+Finishes displays es call (Ok done) old new =
+    (is_done (reply_to es call) ≡ true) × LiveIs displays (answered displays call es) new
+Finishes displays es call (Err finish.NotOpen) old new = ⊥
+Finishes displays es call (Err finish.UnknownSeq) old new =
+    (is_done (reply_to es call) ≡ false) × LiveIs displays (answered displays call es) new
+Finishes displays es call (Err finish.Memory) old new = new ≡ old
+
+-- So does it after a pilfer, which says which of the two reasons of a refusal it is.
+abbrev pub Pilfers : List ℕ → List Effect → Call → Result (Unit {0}) PilferRefused → (old new : LiveState) → Type 0
+Pilfers displays es call (Ok done) old new = (is_done (reply_to es call) ≡ true) × LiveIs displays (answered displays call es) new
+Pilfers displays es call (Err pilfer.NotOpen) old new = ⊥
+Pilfers displays es call (Err pilfer.NotSpy) old new =
+    (is_no_spy (reply_to es call) ≡ true) × LiveIs displays (answered displays call es) new
+Pilfers displays es call (Err pilfer.NothingHeld) old new =
+    (is_done (reply_to es call) ≡ false) × (is_no_spy (reply_to es call) ≡ false)
+    × LiveIs displays (answered displays call es) new
+Pilfers displays es call (Err pilfer.Memory) old new = new ≡ old
+
+-- After args came by this call the service stands for the history with it, and then with all pumps by which what waits is dispatched.
+abbrev pub Dispatches : List ℕ → List Effect → (now : ℕ) → Call → Result (Unit {0}) ArgsRefused → (old new : LiveState) → Type 0
+Dispatches displays es now call (Ok done) old new =
+    (is_taken (reply_to es call) ≡ true) × Settles displays (next_waiting now) (answered displays call es) new
+Dispatches displays es now call (Err args.Inconsistent) old new =
+    (is_taken (reply_to es call) ≡ false) × LiveIs displays (answered displays call es) new
+Dispatches displays es now call (Err args.Memory) old new = new ≡ old
+Dispatches displays es now call (Err args.Waits) old new =
+    (is_taken (reply_to es call) ≡ true) × Reaches displays (next_waiting now) (answered displays call es) new

@@ -1,0 +1,11 @@
+pub mod Seats
+pub mod State
+pub mod Standing
+pub mod Settling
+pub mod Advancing
+pub mod Answers
+pub mod Closing
+pub mod Showing
+pub mod Opening
+pub mod Windows
+pub mod Laws

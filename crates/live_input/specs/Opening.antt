@@ -1,0 +1,64 @@
+-- Clients that come and go.
+use Rattle.std.specs.Prelude.{ℕ, ◌≡◌, ◌+◌, ◌≤◌, true, nat_le, List, length, Some, None, Result, Ok, Err, if◌then◌else◌}
+use Rattle.dispatch_calls.specs.declared.call.Call.TheVariants.{Open}
+use Rattle.dispatch_history.specs.Effect.{Effect, past_of, stream}
+use Rattle.dispatch_history.specs.History.{opened}
+use Rattle.dispatch_history.specs.Legal.{answered}
+use Rattle.live_input.specs.declared.client.Client.{Client}
+use Rattle.live_input.specs.declared.client.Seat.{Seat}
+use Rattle.live_input.specs.Seats.{with_seat, seat_of, is_held, first_vacant}
+use Rattle.live_input.specs.declared.refused.CloseRefused.{CloseRefused}
+use Rattle.live_input.specs.declared.refused.CloseRefused.TheVariants.{NotOpen, Memory}
+use Rattle.live_input.specs.Answers.{SameClients}
+use Rattle.live_input.specs.Closing.{hidden, forgotten}
+use Rattle.live_input.specs.Settling.{Settles, next_left}
+use Rattle.live_input.specs.Standing.{LiveIs, IsLive}
+use Rattle.live_input.specs.State.{LiveState}
+
+-- a channel that was opened before is used again, and another one is opened
+abbrev pub opening : List ℕ → (limit channel : ℕ) → List Effect → List Effect
+opening displays limit c es = if nat_le c (opened (past_of es)) then es else answered displays (Open limit) es
+
+-- The client has the first vacant channel, and a generation that no client had before. The other seats stay as they are.
+pub record Opens (client : Client) (old new : LiveState) : Type 0 where
+  pub first : first_vacant old.seats ≡ Some client.channel
+  pub generation_is : client.generation ≡ old.opened + 1
+  pub opened_is : new.opened ≡ old.opened + 1
+  pub before : ℕ
+  pub seats_are :
+      new.seats ≡ with_seat client.channel (record { holder = Some client.generation; before = before }) old.seats
+  pub limit_is : new.limit ≡ old.limit
+  pub named_is : new.named ≡ old.named
+
+-- a channel was opened, or is the first one that was not
+pub record IsNext (c : ℕ) (es : List Effect) : Type 0 where
+  pub from : 1 ≤ c
+  pub to : c ≤ 64
+  pub next : c ≤ opened (past_of es) + 1
+
+-- After that the service stands for the history with what opens the channel, and the client's seat says how many messages of the channel
+-- are from before it.
+pub record OpensOn (displays : List ℕ) (es : List Effect) (client : Client) (old new : LiveState) : Type 0 where
+  pub is : LiveIs displays (opening displays old.limit client.channel es) new
+  pub before_is : (seat_of new.seats client.channel).before ≡ length (stream (opening displays old.limit client.channel es) client.channel)
+
+-- somebody is open on a channel
+abbrev pub IsHeld : ℕ → List Seat → Type 0
+IsHeld c seats = (1 ≤ c) × (c ≤ 64) × (is_held (seat_of seats c) ≡ true)
+
+-- The seat of the client is vacant, and all others stay as they are.
+pub record Closes (client : Client) (old new : LiveState) : Type 0 where
+  pub seats_are :
+      new.seats
+      ≡ with_seat client.channel (record { holder = None; before = (seat_of old.seats client.channel).before }) old.seats
+  pub opened_is : new.opened ≡ old.opened
+  pub limit_is : new.limit ≡ old.limit
+
+-- A client that is open is closed: its window is hidden, its requests are forgotten, and all that is left for it is received and finished.
+-- Without memory it is still open, and the service stands for some history, with some of these calls.
+abbrev pub CloseGoes : List ℕ → (now : ℕ) → Client → List Effect → Result (Unit {0}) CloseRefused → (old new : LiveState) → Type 0
+CloseGoes displays now k es (Ok done) old new =
+    Closes k old new
+    × Settles displays (next_left now k.channel) (forgotten displays now k.channel (hidden displays now k.channel es)) new
+CloseGoes displays now k es (Err NotOpen) old new = ⊥
+CloseGoes displays now k es (Err Memory) old new = SameClients old new × IsLive displays new

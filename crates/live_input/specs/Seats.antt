@@ -1,0 +1,52 @@
+-- Who is open on which channel.
+use Rattle.std.specs.Prelude.{ℕ, ◌-◌, ◌+◌, min, ◌^◌, Bool, false, ◌==◌, ◌&&◌, not, is_some, List, slice_index_or, slice_set, Option, Some, None, option_map}
+use Rattle.std.specs.List.{list_all, position}
+use Rattle.window_snapshot.specs.Mask.{is_channel}
+use Rattle.live_input.specs.declared.client.Client.{Client}
+use Rattle.live_input.specs.declared.client.Seat.{Seat}
+
+-- a channel on which nobody is open
+abbrev pub vacant : Seat
+vacant = record { holder = None; before = 0 }
+
+-- the seat of a channel; channels have the numbers from 1
+abbrev pub seat_of : List Seat → ℕ → Seat
+seat_of seats c = slice_index_or seats (c - 1) vacant
+
+-- somebody is open on it
+abbrev pub is_held : Seat → Bool
+is_held s = is_some s.holder
+
+-- it is of this generation
+abbrev pub is_of : ℕ → Option ℕ → Bool
+is_of generation None = false
+is_of generation (Some held) = held == generation
+
+-- a client is open: its channel is held by its generation
+abbrev pub is_open : List Seat → Client → Bool
+is_open seats k = is_channel k.channel && is_of k.generation (seat_of seats k.channel).holder
+
+-- all channels are held
+abbrev pub is_full : List Seat → Bool
+is_full seats = list_all is_held seats
+
+-- the first channel that nobody holds, if there is one
+abbrev pub first_vacant : List Seat → Option ℕ
+first_vacant seats = option_map (λ i. i + 1) (position (λ s. not (is_held s)) seats)
+
+-- the seats with that of a channel changed
+abbrev pub with_seat : ℕ → Seat → List Seat → List Seat
+with_seat c s seats = slice_set seats (c - 1) s
+
+-- the client of this generation on a channel
+abbrev pub client_of : ℕ → Option ℕ → Option Client
+client_of c None = None
+client_of c (Some generation) = Some (record { channel = c; generation = generation })
+
+-- the client that is open on a channel, if one is
+abbrev pub client_at : List Seat → ℕ → Option Client
+client_at seats c = client_of c (seat_of seats c).holder
+
+-- the number in its channel of a message that has this number for its client: those before the client are not counted for it
+abbrev pub number_of : Seat → ℕ → ℕ
+number_of s seq = min (s.before + seq) (2 ^ 64 - 1)

@@ -1,0 +1,45 @@
+-- Windows of clients.
+use Rattle.std.specs.Prelude.{ℕ, ◌≡◌, not, List, map, Option, Some, None, Result, Ok, Err}
+use Rattle.std.specs.List.{position}
+use Rattle.window_snapshot.specs.declared.snapshot.SnapshotError.{SnapshotError}
+use Rattle.window_snapshot.specs.declared.snapshot.SnapshotError.TheVariants as snapshot
+use Rattle.window_snapshot.specs.declared.window.Window.{Window}
+use Rattle.window_snapshot.specs.Snapshot.{snapshot_of}
+use Rattle.dispatch_calls.specs.declared.call.Call.TheVariants.{Windows}
+use Rattle.dispatch_history.specs.Effect.{Effect}
+use Rattle.dispatch_history.specs.Legal.{answered}
+use Rattle.live_input.specs.declared.client.Seat.{Seat}
+use Rattle.live_input.specs.declared.refused.WindowsRefused.{WindowsRefused}
+use Rattle.live_input.specs.declared.refused.WindowsRefused.TheVariants.{NotOpen, TooMany, Twice, Memory}
+use Rattle.live_input.specs.declared.windows.ClientWindow.{ClientWindow}
+use Rattle.live_input.specs.Seats.{is_open}
+use Rattle.live_input.specs.Standing.{LiveIs}
+use Rattle.live_input.specs.State.{LiveState}
+
+-- the window by its channel
+abbrev pub window_of : ClientWindow → Window
+window_of w = record { channel = w.client.channel; display = w.display; frame = w.frame; region = w.region; flags = w.flags }
+
+-- the place of the first window whose client is not open
+abbrev pub first_stale : List Seat → List ClientWindow → Option ℕ
+first_stale seats ws = position (λ w. not (is_open seats w.client)) ws
+
+-- A snapshot is made of the windows where they make one. Want of memory is free.
+abbrev pub IsSnapshotOf : List Window → Result (List Window) SnapshotError → Type 0
+IsSnapshotOf ws (Ok shown) = (shown ≡ ws) × (snapshot_of ws ≡ Ok ws)
+IsSnapshotOf ws (Err snapshot.Memory) = Unit {0}
+IsSnapshotOf ws (Err error) = snapshot_of ws ≡ Err error
+
+-- After windows are shown the service stands for the history with that. Windows of a client that is not open, too many of them, and two of
+-- one client are refused, in this order; what is refused changes nothing.
+abbrev pub WindowsGo :
+    List ℕ → (now : ℕ) → List ClientWindow → List Effect → Result (Unit {0}) WindowsRefused → (old new : LiveState) → Type 0
+WindowsGo displays now ws es (Ok done) old new =
+    (first_stale old.seats ws ≡ None) × (snapshot_of (map window_of ws) ≡ Ok (map window_of ws))
+    × LiveIs displays (answered displays (Windows now (map window_of ws)) es) new
+WindowsGo displays now ws es (Err (NotOpen place)) old new = (first_stale old.seats ws ≡ Some place) × (new ≡ old)
+WindowsGo displays now ws es (Err TooMany) old new =
+    (first_stale old.seats ws ≡ None) × (snapshot_of (map window_of ws) ≡ Err snapshot.TooMany) × (new ≡ old)
+WindowsGo displays now ws es (Err (Twice c)) old new =
+    (first_stale old.seats ws ≡ None) × (snapshot_of (map window_of ws) ≡ Err (snapshot.Twice c)) × (new ≡ old)
+WindowsGo displays now ws es (Err Memory) old new = (first_stale old.seats ws ≡ None) × (new ≡ old)

@@ -1,0 +1,135 @@
+//! Clients, and the seats that they have.
+ghost use Rattle.std.specs.Prelude.{◌≡◌, ◌+◌, true, None, Some, is_some};
+ghost use Rattle.dispatcher.specs.Access.{got};
+ghost use Rattle.window_snapshot.specs.Mask.{is_channel};
+ghost use Rattle.live_input.specs.Answers.{for_client, handed};
+ghost use Rattle.live_input.specs.Seats.{is_open, is_of, is_held, seat_of, with_seat, number_of, client_of};
+
+use dispatch_calls::Reply;
+use input_types::Message;
+use window_snapshot::is_channel;
+
+/// A client of a live service: a channel, and which of the clients that were opened on it one after another. Once it is
+/// closed it is stale for good: no call takes it for the one that has its channel later.
+#[derive(Clone, Copy, Debug, PartialEq, Eq)]
+pub struct Client {
+    pub(crate) channel: u32,
+    /// How many clients were opened up to this one, on any channel.
+    pub(crate) generation: u64,
+}
+
+impl Client {
+    /// The number of its channel, as masks have it.
+    pub fn channel(&self) -> u32
+        ensures { result ≡ self.now.channel }
+    {
+        self.channel
+    }
+}
+
+/// What is kept of a channel: the generation of the client that is open on it, if one is, and how many of its messages
+/// are from before that.
+#[derive(Clone, Copy, Debug, PartialEq, Eq)]
+pub(crate) struct Seat {
+    pub(crate) holder: Option<u64>,
+    pub(crate) before: u64,
+}
+
+impl Seat {
+    /// Whether somebody is open on it.
+    pub(crate) fn is_held(&self) -> bool
+        ensures { result ≡ is_held self.now }
+    {
+        self.holder.is_some()
+    }
+
+    /// The number in its channel of a message that has this number for the client.
+    pub(crate) fn number_of(&self, seq: u64) -> u64
+        ensures { result ≡ number_of self.now seq }
+    {
+        self.before.saturating_add(seq)
+    }
+
+    /// What the client gets of the answer to a receive.
+    pub(crate) fn handed(&self, reply: &Reply) -> Option<Message>
+        ensures { result ≡ handed self.now (got reply.now) }
+    {
+        match reply {
+            Reply::Got(message) => Some(self.for_client(message)),
+            _ => None,
+        }
+    }
+
+    /// A message as the client gets it.
+    fn for_client(&self, message: &Message) -> Message
+        ensures { result ≡ for_client self.now message.now }
+    {
+        Message {
+            seq: message.seq.saturating_sub(self.before),
+            moment: message.moment,
+            body: message.body,
+        }
+    }
+}
+
+/// The seat of a channel.
+pub(crate) fn seat_of(seats: &[Seat; 64], channel: u32) -> Seat
+    requires { is_channel channel ≡ true }
+    ensures { result ≡ seat_of seats.now channel }
+{
+    seats[channel as usize - 1]
+}
+
+/// Whether a client is open.
+pub(crate) fn is_open(seats: &[Seat; 64], client: Client) -> bool
+    ensures { result ≡ is_open seats.now client }
+{
+    is_channel(client.channel) && is_of(client.generation, seat_of(seats, client.channel).holder)
+}
+
+/// Whether a holder is of the generation.
+fn is_of(generation: u64, holder: Option<u64>) -> bool
+    ensures { result ≡ is_of generation holder }
+{
+    match holder {
+        Some(held) => held == generation,
+        None => false,
+    }
+}
+
+/// The client of a generation on a channel.
+pub(crate) fn client_of(channel: u32, holder: Option<u64>) -> Option<Client>
+    ensures { result ≡ client_of channel holder }
+{
+    match holder {
+        Some(generation) => Some(Client {
+            channel,
+            generation,
+        }),
+        None => None,
+    }
+}
+
+/// A client has the seat of a channel.
+pub(crate) fn occupy(seats: &mut [Seat; 64], channel: u32, generation: u64, before: u64)
+    requires { is_channel channel ≡ true }
+    ensures { seats.new ≡ with_seat channel (record { holder = Some generation; before = before }) seats.old }
+{
+    seats[channel as usize - 1] = Seat {
+        holder: Some(generation),
+        before,
+    };
+}
+
+/// Nobody has the seat of a channel any more.
+pub(crate) fn vacate(seats: &mut [Seat; 64], channel: u32)
+    requires { is_channel channel ≡ true }
+    ensures { seats.new ≡ with_seat channel
+        (record { holder = None; before = (seat_of seats.old channel).before }) seats.old }
+{
+    let before = seat_of(seats, channel).before;
+    seats[channel as usize - 1] = Seat {
+        holder: None,
+        before,
+    };
+}

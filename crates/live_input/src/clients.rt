@@ -1,0 +1,163 @@
+//! Clients that come and go.
+ghost use Rattle.std.specs.Prelude.{◌≡◌, ℕ, ◌+◌, ◌≤◌, ◌↔◌, true, false, not, List, length, Option, None, Some, Ok, Err, IfOk, OnOk, OnErr, option_map, if◌then◌else◌};
+ghost use Rattle.std.specs.List.{position};
+ghost use Rattle.dispatch_history.specs.Effect.{Effect, past_of, stream};
+ghost use Rattle.dispatch_history.specs.History.{opened};
+ghost use Rattle.dispatcher.specs.Access.{is_opened};
+ghost use Rattle.dispatcher.specs.Dispatching.{StandsFor};
+ghost use Rattle.window_snapshot.specs.Mask.{is_channel};
+ghost use Rattle.live_input.specs.Seats.{is_open, is_held, is_full, client_at, first_vacant};
+ghost use Rattle.live_input.specs.Opening.{Opens, OpensOn, CloseGoes, IsNext, IsHeld, opening};
+ghost use Rattle.live_input.specs.Answers.{SameClients};
+ghost use Rattle.live_input.specs.Closing.{hidden, forgotten};
+ghost use Rattle.live_input.specs.Settling.{Settles, next_left};
+ghost use Rattle.live_input.specs.Standing.{LiveIs, IsLive};
+
+use crate::client::{Client, Seat, client_of, is_open, occupy, seat_of, vacate};
+use crate::live::Live;
+use crate::refused::{CloseRefused, OpenRefused};
+use dispatch_calls::Call;
+use dispatcher::Dispatcher;
+use input_types::Moment;
+use std::alloc::AllocError;
+use window_snapshot::is_channel;
+
+impl Live {
+    /// Whether a client is open.
+    pub fn is_open(&self, client: Client) -> bool
+        ensures { result ≡ is_open self.now.seats client }
+    {
+        is_open(&self.seats, client)
+    }
+
+    /// The client that is open on a channel, for masks.
+    pub fn client_at(&self, channel: u32) -> Option<Client>
+        ensures { result ≡ (if is_channel channel then client_at self.now.seats channel else None) }
+    {
+        if is_channel(channel) {
+            client_of(channel, seat_of(&self.seats, channel).holder)
+        } else {
+            None
+        }
+    }
+
+    /// A client more, on the first channel on which nobody is open.
+    ///
+    /// A channel that was used is used again; what it was told before is none of the new client's. Its generation is
+    /// one that no client had before.
+    pub fn open(&mut self) -> Result<Client, OpenRefused>
+        ensures full { (result ≡ Err OpenRefused.Full) ↔ (is_full self.old.seats ≡ true) }
+        ensures seat { IfOk result (λ client. Opens client self.old self.new) }
+        ensures after { (ds : List ℕ) (es : List Effect) → LiveIs ds es self.old → IfOk result
+            (λ client. OpensOn ds es client self.old self.new) }
+        ensures err { OnErr result (self.new ≡ self.old) }
+    {
+        let Some(channel) = first_vacant(&self.seats) else {
+            return Err(OpenRefused::Full);
+        };
+        if self.opened == u64::MAX {
+            return Err(OpenRefused::Memory);
+        }
+        match self.open_channel(channel) {
+            Ok(sent) => {
+                let generation = self.opened + 1;
+                self.opened = generation;
+                occupy(&mut self.seats, channel, generation, sent);
+                Ok(Client {
+                    channel,
+                    generation,
+                })
+            }
+            Err(_) => Err(OpenRefused::Memory),
+        }
+    }
+
+    /// A channel that was not opened yet is opened. The answer is how many messages it has. Without memory nothing
+    /// changes.
+    fn open_channel(&mut self, channel: u32) -> Result<u64, AllocError>
+        ensures after { (ds : List ℕ) (es : List Effect) → LiveIs ds es self.old → IsNext channel es
+            → OnOk result (LiveIs ds (opening ds self.old.limit channel es) self.new) }
+        ensures opened { (ds : List ℕ) (es : List Effect) → LiveIs ds es self.old → IsNext channel es
+            → OnOk result (channel ≤ opened (past_of (opening ds self.old.limit channel es))) }
+        ensures sent { (ds : List ℕ) (es : List Effect) → LiveIs ds es self.old → IsNext channel es
+            → IfOk result (λ n. n ≡ length (stream (opening ds self.old.limit channel es) channel)) }
+        ensures rest { self.new ≡ record self.old { dispatcher = self.new.dispatcher } }
+        ensures err { OnErr result (self.new ≡ self.old) }
+    {
+        if self.dispatcher.opened() < channel {
+            match self.dispatcher.apply(&Call::Open { limit: self.limit }) {
+                Ok(_) => Ok(sent(&self.dispatcher, channel)),
+                Err(error) => Err(error),
+            }
+        } else {
+            Ok(sent(&self.dispatcher, channel))
+        }
+    }
+
+    /// A client less. Its window is not shown any more, so its pointers and keys are cancelled and it loses the focus;
+    /// the focus is requested for it on no display, and keys go to the display to which they went; all its messages are
+    /// received and finished. Nothing of it is left, and its channel can be used again.
+    pub fn close(&mut self, now: Moment, client: Client) -> Result<(), CloseRefused>
+        ensures stale { is_open self.old.seats client ≡ false
+            → (result ≡ Err CloseRefused.NotOpen) × (self.new ≡ self.old) }
+        ensures after { (ds : List ℕ) (es : List Effect) → LiveIs ds es self.old → is_open self.old.seats client ≡ true
+            → CloseGoes ds now client es result self.old self.new }
+        ensures named { self.new.named ≡ self.old.named }
+    {
+        if !is_open(&self.seats, client) {
+            return Err(CloseRefused::NotOpen);
+        }
+        let channel = client.channel;
+        match self.empty(now, channel) {
+            Ok(()) => {
+                vacate(&mut self.seats, channel);
+                Ok(())
+            }
+            Err(_) => Err(CloseRefused::Memory),
+        }
+    }
+
+    /// Nothing is left of the client of a channel.
+    fn empty(&mut self, now: Moment, channel: u32) -> Result<(), AllocError>
+        ensures done { (ds : List ℕ) (es : List Effect) → LiveIs ds es self.old → IsHeld channel self.old.seats
+            → OnOk result (Settles ds (next_left now channel)
+            (forgotten ds now channel (hidden ds now channel es)) self.new) }
+        ensures stands { (ds : List ℕ) (es : List Effect) → LiveIs ds es self.old → IsHeld channel self.old.seats
+            → IsLive ds self.new }
+        ensures clients { SameClients self.old self.new }
+        ensures named { self.new.named ≡ self.old.named }
+    {
+        self.hide(now, channel)?;
+        self.forget(now, channel)?;
+        self.drain(now, channel)
+    }
+}
+
+/// The first channel on which nobody is open.
+fn first_vacant(seats: &[Seat; 64]) -> Option<u32>
+    ensures value { result ≡ first_vacant seats.now }
+    ensures channel { (c : ℕ) → result ≡ Some c → is_channel c ≡ true }
+{
+    match place_vacant(seats) {
+        Some(place) => Some(place as u32 + 1),
+        None => None,
+    }
+}
+
+/// The place of the first seat on which nobody is.
+fn place_vacant(seats: &[Seat]) -> Option<usize>
+    ensures { result ≡ position (λ s. not (is_held s)) seats.now }
+{
+    seats.iter().position(|seat| !seat.is_held())
+}
+
+/// How many messages a channel has.
+fn sent(dispatcher: &Dispatcher, channel: u32) -> u64
+    ensures { (es : List Effect) → StandsFor es dispatcher.now → is_opened es channel ≡ true
+        → result ≡ length (stream es channel) }
+{
+    match dispatcher.counts(channel) {
+        Some(counts) => counts.sent,
+        None => 0,
+    }
+}

@@ -1,0 +1,187 @@
+//! What is taken from a client that is closed.
+ghost use Rattle.std.specs.Prelude.{◌≡◌, ◌==◌, ℕ, ◌≤◌, true, false, List, Option, None, Some, option_map, IfOk, OnOk, OnErr};
+ghost use Rattle.std.specs.List.{list_any};
+ghost use Rattle.focus_resolver.specs.Resolver.{is_at};
+ghost use Rattle.window_snapshot.specs.Mask.{is_channel};
+ghost use Rattle.dispatch_history.specs.Effect.{Effect, past_of};
+ghost use Rattle.dispatch_history.specs.Focus.{requested};
+ghost use Rattle.dispatch_history.specs.Delivery.{oldest};
+ghost use Rattle.dispatcher.specs.Access.{is_opened};
+ghost use Rattle.dispatcher.specs.Dispatching.{StandsFor};
+ghost use Rattle.live_input.specs.Answers.{SameClients};
+ghost use Rattle.live_input.specs.Closing.{without, hidden, forgotten_on, forgotten};
+ghost use Rattle.live_input.specs.Opening.{IsHeld};
+ghost use Rattle.live_input.specs.Settling.{Reaches, Settles, next_left};
+ghost use Rattle.live_input.specs.Standing.{LiveIs, IsLive};
+
+use crate::live::Live;
+use crate::settling::left_call;
+use dispatch_calls::Call;
+use dispatcher::Dispatcher;
+use input_types::{DisplayId, Moment};
+use std::alloc::{AllocError, Global};
+use window_snapshot::{Snapshot, Window};
+
+impl Live {
+    /// The windows are shown without that of a channel, where it has one. Without memory nothing changes.
+    pub(crate) fn hide(&mut self, now: Moment, channel: u32) -> Result<(), AllocError>
+        ensures after { (ds : List ℕ) (es : List Effect) → LiveIs ds es self.old
+            → OnOk result (LiveIs ds (hidden ds now channel es) self.new) }
+        ensures clients { SameClients self.old self.new }
+        ensures named { self.new.named ≡ self.old.named }
+        ensures err { OnErr result (self.new ≡ self.old) }
+    {
+        if !has_window(self.windows.windows(), channel) {
+            return Ok(());
+        }
+        let others = without(self.alloc, &self.windows, channel)?;
+        self.show(now, others)
+    }
+
+    /// Where the focus of a display was requested for a channel, it is requested for none. Without memory nothing
+    /// changes.
+    fn forget_on(&mut self, now: Moment, display: DisplayId, channel: u32) -> Result<(), AllocError>
+        ensures after { (ds : List ℕ) (es : List Effect) → LiveIs ds es self.old
+            → OnOk result (LiveIs ds (forgotten_on ds now channel display es) self.new) }
+        ensures clients { SameClients self.old self.new }
+        ensures named { self.new.named ≡ self.old.named }
+        ensures err { OnErr result (self.new ≡ self.old) }
+    {
+        if is_at(self.requested_on(display), channel) {
+            self.request(now, display, None)
+        } else {
+            Ok(())
+        }
+    }
+
+    /// The focus of each display that was requested for a channel is requested for none, and then keys go to the
+    /// display to which they went.
+    pub(crate) fn forget(&mut self, now: Moment, channel: u32) -> Result<(), AllocError>
+        ensures after { (ds : List ℕ) (es : List Effect) → LiveIs ds es self.old
+            → OnOk result (LiveIs ds (forgotten ds now channel es) self.new) }
+        ensures stands { (ds : List ℕ) (es : List Effect) → LiveIs ds es self.old → IsLive ds self.new }
+        ensures clients { SameClients self.old self.new }
+        ensures named { self.new.named ≡ self.old.named }
+    {
+        if !is_requested(&self.requested, channel) {
+            return Ok(());
+        }
+        let asked = self.asked;
+        self.forget_on(now, display(0), channel)?;
+        self.forget_on(now, display(1), channel)?;
+        self.forget_on(now, display(2), channel)?;
+        self.forget_on(now, display(3), channel)?;
+        let requested = self.requested_on(asked);
+        self.request(now, asked, requested)
+    }
+
+    /// The channel for which the focus of a display was requested last.
+    fn requested_on(&self, display: DisplayId) -> Option<u32>
+        ensures { (ds : List ℕ) (es : List Effect) → LiveIs ds es self.now → result ≡ requested (past_of es) display }
+    {
+        self.requested[usize::from(display.get())]
+    }
+
+    /// All messages of a channel are received and finished, and the channel lets them go.
+    pub(crate) fn drain(&mut self, now: Moment, channel: u32) -> Result<(), AllocError>
+        ensures done { (ds : List ℕ) (es : List Effect) → LiveIs ds es self.old → IsHeld channel self.old.seats
+            → OnOk result (Settles ds (next_left now channel) es self.new) }
+        ensures goes { (ds : List ℕ) (es : List Effect) → LiveIs ds es self.old → IsHeld channel self.old.seats
+            → Reaches ds (next_left now channel) es self.new }
+        ensures clients { SameClients self.old self.new }
+        ensures named { self.new.named ≡ self.old.named }
+    {
+        for _ in 0..u64::MAX {
+            let Some(call) = next_left(&self.dispatcher, now, channel) else {
+                self.dispatcher.let_go(channel);
+                return Ok(());
+            };
+            self.make(&call)?;
+        }
+        Err(AllocError)
+    }
+}
+
+/// What is left to do on a channel, until all of its messages are received and finished.
+fn next_left(dispatcher: &Dispatcher, now: Moment, channel: u32) -> Option<Call>
+    ensures { (es : List Effect) → StandsFor es dispatcher.now → is_opened es channel ≡ true
+        → result ≡ next_left now channel es }
+{
+    match dispatcher.counts(channel) {
+        Some(counts) => left_call(
+            now,
+            channel,
+            counts.received,
+            counts.sent,
+            oldest(dispatcher, channel),
+        ),
+        None => None,
+    }
+}
+
+/// The number of the oldest message of a channel that is published and not finished.
+fn oldest(dispatcher: &Dispatcher, channel: u32) -> Option<u64>
+    ensures { (es : List Effect) → StandsFor es dispatcher.now → is_opened es channel ≡ true
+        → result ≡ option_map (λ m. m.seq) (oldest es channel) }
+{
+    match dispatcher.oldest(channel) {
+        Some((seq, _)) => Some(seq),
+        None => None,
+    }
+}
+
+/// The display with this number.
+fn display(number: u8) -> DisplayId
+    requires { number ≤ 3 }
+    ensures { result ≡ number }
+{
+    DisplayId::new(number).unwrap()
+}
+
+/// Whether the focus of some display was requested last for a channel.
+fn is_requested(requested: &[Option<u32>; 4], channel: u32) -> bool
+    ensures { result ≡ list_any (λ r. is_at r channel) requested.now }
+{
+    requested.iter().any(|request| is_at(*request, channel))
+}
+
+/// Whether a channel has one of the windows.
+fn has_window(windows: &[Window], channel: u32) -> bool
+    ensures { result ≡ list_any (λ v. v.channel == channel) windows.now }
+{
+    windows.iter().any(|window| window.channel == channel)
+}
+
+/// Whether a request is one for the channel.
+fn is_at(requested: Option<u32>, channel: u32) -> bool
+    ensures { result ≡ is_at requested channel }
+{
+    match requested {
+        Some(other) => channel == other,
+        None => false,
+    }
+}
+
+/// The windows without that of a channel.
+fn without(alloc: Global, windows: &Snapshot, channel: u32) -> Result<Snapshot, AllocError>
+    ensures { IfOk result (λ others. others ≡ without channel windows.now) }
+{
+    let others = copies(alloc, windows.windows(), channel)?;
+    match Snapshot::new(others) {
+        Ok(others) => Ok(others),
+        Err(_) => unreachable!(),
+    }
+}
+
+/// Copies of the windows but for that of a channel.
+fn copies(alloc: Global, windows: &[Window], channel: u32) -> Result<Vec<Window>, AllocError>
+    ensures { IfOk result (λ others. others.items ≡ without channel windows.now) }
+{
+    let mut others = Vec::new(alloc);
+    for window in windows {
+        if window.channel != channel {
+            others.push(window.copy()?)?;
+        }
+    }
+    Ok(others)
+}

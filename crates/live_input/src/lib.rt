@@ -1,0 +1,44 @@
+//! The dispatcher as a service that runs for weeks: clients come and go, and nothing keeps a history.
+//!
+//! A client has a window over the display, and a finger goes down on it. Then the client is closed under the finger,
+//! and another one is opened on its channel:
+//!
+//! ```text
+//! open                                     channel 1, generation 1
+//! windows [its window]
+//! args Motion(1 Down 0@540,1200)
+//! next, of the first client                1 1000 Motion(1 Down 0@540,1200)
+//! close, of the first client               it is told a CANCEL, which it does not get any more
+//! open                                     channel 1, generation 2
+//! next, of the second client               nothing: the finger was never its own
+//! finish 1, of the first client            NotOpen
+//! ```
+//!
+//! A [`Live`] is a dispatcher with the seats of 64 channels. What it keeps stands for a history of the dispatcher's
+//! calls (`LiveIs` of specs/Standing), as the dispatcher does: each call of the service is a stated list of those, and
+//! after it the service stands for the same history with these calls more (specs/Opening, Closing, Settling and
+//! Showing). So all that the history's definitions say of what windows are told holds here.
+//!
+//! Why a channel can be used again: a channel whose window is not shown is told nothing, and all that it was told
+//! leaves nothing known (`laws`).
+#![tactic(auto)]
+
+mod client;
+mod clients;
+mod closing;
+mod driving;
+pub mod laws;
+mod live;
+mod messages;
+mod refused;
+mod settling;
+mod showing;
+mod windows;
+
+pub use client::Client;
+pub use live::Live;
+pub use refused::{
+    ArgsRefused, CloseRefused, FinishRefused, FocusRefused, OpenRefused, PilferRefused,
+    WindowsRefused,
+};
+pub use windows::ClientWindow;

@@ -1,0 +1,123 @@
+//! The service.
+ghost use Rattle.std.specs.Prelude.{◌≡◌, ℕ, true, [], List, replicate, None, IfOk, OnOk, OnErr};
+ghost use Rattle.dispatch_history.specs.Effect.{Effect, past_of};
+ghost use Rattle.dispatch_history.specs.History.{clock};
+ghost use Rattle.dispatch_history.specs.Legal.{answered};
+ghost use Rattle.dispatch_history.specs.Reply.{reply_to};
+ghost use Rattle.live_input.specs.Answers.{SameClients};
+ghost use Rattle.live_input.specs.Seats.{vacant};
+ghost use Rattle.live_input.specs.Standing.{LiveIs, is_plain};
+
+use crate::client::Seat;
+use dispatch_calls::{Call, Reply};
+use dispatcher::Dispatcher;
+use input_types::{DisplayId, Displays, Limit, Moment};
+use std::alloc::{AllocError, Global};
+use std::marker::Model;
+use window_snapshot::Snapshot;
+
+/// A live service: the dispatcher, with clients that come and go.
+///
+/// What it keeps stands for a history of the dispatcher's calls, as the dispatcher does: each call of the service is a
+/// stated list of those, and after it the service stands for the same history with these calls more.
+#[derive(Drop)]
+pub struct Live {
+    pub(crate) alloc: Global,
+    pub(crate) limit: Limit,
+    pub(crate) dispatcher: Dispatcher,
+    /// That of channel 1 first.
+    pub(crate) seats: [Seat; 64],
+    /// How many clients were opened so far.
+    pub(crate) opened: u64,
+    pub(crate) windows: Snapshot,
+    /// For which channel the focus of each display was requested last, and for which display it was.
+    pub(crate) requested: [Option<u32>; 4],
+    pub(crate) asked: DisplayId,
+    /// The channels that were named unresponsive by an `advance` that ended for want of memory.
+    pub(crate) named: u64,
+}
+
+impl Model for Live {
+    ghost use Rattle.live_input.specs.State.{LiveState};
+
+    ghost Value = { LiveState };
+
+    ghost view = { λ l. record {
+      limit = l.limit;
+      dispatcher = l.dispatcher;
+      seats = l.seats;
+      opened = l.opened;
+      windows = l.windows;
+      requested = l.requested;
+      asked = l.asked;
+      named = l.named;
+    } };
+}
+
+impl Live {
+    /// A service without clients, whose devices are on these displays. A client that leaves a message unfinished for
+    /// the limit is named unresponsive.
+    pub fn new(alloc: Global, limit: Limit, displays: &Displays) -> Result<Live, AllocError>
+        ensures start { IfOk result (λ l. LiveIs displays.now [] l) }
+        ensures limit { IfOk result (λ l. l.limit ≡ limit) }
+        ensures seats { IfOk result (λ l. l.seats ≡ replicate 64 vacant) }
+        ensures opened { IfOk result (λ l. l.opened ≡ 0) }
+        ensures named { IfOk result (λ l. l.named ≡ 0) }
+    {
+        let dispatcher = Dispatcher::new(alloc, displays)?;
+        Ok(Live {
+            alloc,
+            limit,
+            dispatcher,
+            seats: vacant(),
+            opened: 0,
+            windows: Snapshot::empty(alloc),
+            requested: [None; 4],
+            asked: DisplayId::zero(),
+            named: 0,
+        })
+    }
+
+    /// The greatest moment that was handed in.
+    pub fn clock(&self) -> Moment
+        ensures { (ds : List ℕ) (es : List Effect) → LiveIs ds es self.now → result ≡ clock (past_of es) }
+    {
+        self.dispatcher.clock()
+    }
+
+    /// One call of the dispatcher. Without memory nothing changes.
+    pub(crate) fn apply(&mut self, call: &Call) -> Result<Reply, AllocError>
+        ensures after { (ds : List ℕ) (es : List Effect) → LiveIs ds es self.old → is_plain call.now ≡ true
+            → OnOk result (LiveIs ds (answered ds call.now es) self.new) }
+        ensures reply { (ds : List ℕ) (es : List Effect) → LiveIs ds es self.old
+            → IfOk result (λ answer. answer ≡ reply_to es call.now) }
+        ensures rest { self.new ≡ record self.old { dispatcher = self.new.dispatcher } }
+        ensures err { OnErr result (self.new ≡ self.old) }
+    {
+        self.dispatcher.apply(call)
+    }
+
+    /// One call of the dispatcher whose answer is not read. Without memory nothing changes.
+    pub(crate) fn make(&mut self, call: &Call) -> Result<(), AllocError>
+        ensures after { (ds : List ℕ) (es : List Effect) → LiveIs ds es self.old → is_plain call.now ≡ true
+            → OnOk result (LiveIs ds (answered ds call.now es) self.new) }
+        ensures clients { SameClients self.old self.new }
+        ensures named { self.new.named ≡ self.old.named }
+        ensures err { OnErr result (self.new ≡ self.old) }
+    {
+        match self.apply(call) {
+            Ok(_) => Ok(()),
+            Err(error) => Err(error),
+        }
+    }
+}
+
+/// Nobody is open on any channel.
+fn vacant() -> [Seat; 64]
+    ensures { result ≡ replicate 64 vacant }
+{
+    [Seat {
+        holder: None,
+        before: 0,
+    }; 64]
+}

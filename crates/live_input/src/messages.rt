@@ -1,0 +1,162 @@
+//! What clients get, and what they are done with.
+ghost use Rattle.std.specs.Prelude.{◌≡◌, ◌&&◌, ℕ, true, false, List, Option, None, Ok, Err, IfOk, OnOk, OnErr, is_some, if◌then◌else◌};
+ghost use Rattle.dispatch_calls.specs.declared.call.Call.TheVariants.{Receive, Finish, Pilfer};
+ghost use Rattle.dispatch_history.specs.Effect.{Effect};
+ghost use Rattle.dispatch_history.specs.Legal.{answered};
+ghost use Rattle.dispatch_history.specs.Reply.{reply_to};
+ghost use Rattle.dispatcher.specs.Access.{got};
+ghost use Rattle.dispatcher.specs.Dispatching.{StandsFor};
+ghost use Rattle.window_snapshot.specs.Mask.{mask_has, mask_with, is_channel};
+ghost use Rattle.live_input.specs.Answers.{SameClients, Finishes, Pilfers, handed, is_done, is_no_spy};
+ghost use Rattle.live_input.specs.Seats.{is_open, seat_of, number_of};
+ghost use Rattle.live_input.specs.Standing.{LiveIs};
+
+use crate::client::{Client, is_open, seat_of};
+use crate::live::Live;
+use crate::refused::{FinishRefused, PilferRefused};
+use dispatch_calls::{Call, Reply};
+use dispatcher::Dispatcher;
+use input_types::{DeviceId, Message, Moment};
+use std::alloc::AllocError;
+use window_snapshot::mask_with;
+
+impl Live {
+    /// The next message of a client, which the service lets go: None where there is none, and for one that is not open.
+    /// Its number is counted from the messages that its channel had before the client. Without memory, which is asked
+    /// for only where the calls cannot be counted in 64 bits, nothing changes.
+    pub fn next(&mut self, client: Client) -> Result<Option<Message>, AllocError>
+        ensures stale { is_open self.old.seats client ≡ false → (result ≡ Ok None) × (self.new ≡ self.old) }
+        ensures message { (ds : List ℕ) (es : List Effect) → LiveIs ds es self.old
+            → is_open self.old.seats client ≡ true → IfOk result
+            (λ m. m ≡ handed (seat_of self.old.seats client.channel) (got (reply_to es (Receive client.channel)))) }
+        ensures after { (ds : List ℕ) (es : List Effect) → LiveIs ds es self.old
+            → is_open self.old.seats client ≡ true → OnOk result
+            (LiveIs ds (answered ds (Receive client.channel) es) self.new) }
+        ensures clients { SameClients self.old self.new }
+        ensures named { self.new.named ≡ self.old.named }
+        ensures err { OnErr result (self.new ≡ self.old) }
+    {
+        if !is_open(&self.seats, client) {
+            return Ok(None);
+        }
+        let channel = client.channel;
+        let seat = seat_of(&self.seats, channel);
+        match self.apply(&Call::Receive { channel }) {
+            Ok(reply) => {
+                self.dispatcher.let_go(channel);
+                Ok(seat.handed(&reply))
+            }
+            Err(error) => Err(error),
+        }
+    }
+
+    /// A client is done with a message that it got.
+    pub fn finish(&mut self, now: Moment, client: Client, seq: u64) -> Result<(), FinishRefused>
+        ensures stale { is_open self.old.seats client ≡ false
+            → (result ≡ Err FinishRefused.NotOpen) × (self.new ≡ self.old) }
+        ensures after { (ds : List ℕ) (es : List Effect) → LiveIs ds es self.old
+            → is_open self.old.seats client ≡ true → Finishes ds es
+            (Finish now client.channel (number_of (seat_of self.old.seats client.channel) seq))
+            result self.old self.new }
+        ensures clients { SameClients self.old self.new }
+        ensures named { self.new.named ≡ self.old.named }
+    {
+        if !is_open(&self.seats, client) {
+            return Err(FinishRefused::NotOpen);
+        }
+        let channel = client.channel;
+        let seq = seat_of(&self.seats, channel).number_of(seq);
+        match self.apply(&Call::Finish { now, channel, seq }) {
+            Ok(reply) => {
+                if is_done(&reply) {
+                    Ok(())
+                } else {
+                    Err(FinishRefused::UnknownSeq)
+                }
+            }
+            Err(_) => Err(FinishRefused::Memory),
+        }
+    }
+
+    /// A client whose window is a spy takes the pointers of a device that it holds from all other windows.
+    pub fn pilfer(
+        &mut self,
+        now: Moment,
+        client: Client,
+        device: DeviceId,
+    ) -> Result<(), PilferRefused>
+        ensures stale { is_open self.old.seats client ≡ false
+            → (result ≡ Err PilferRefused.NotOpen) × (self.new ≡ self.old) }
+        ensures after { (ds : List ℕ) (es : List Effect) → LiveIs ds es self.old → is_open self.old.seats client ≡ true
+            → Pilfers ds es (Pilfer now client.channel device) result self.old self.new }
+        ensures clients { SameClients self.old self.new }
+        ensures named { self.new.named ≡ self.old.named }
+    {
+        if !is_open(&self.seats, client) {
+            return Err(PilferRefused::NotOpen);
+        }
+        let channel = client.channel;
+        match self.apply(&Call::Pilfer {
+            now,
+            channel,
+            device,
+        }) {
+            Ok(reply) => {
+                if is_done(&reply) {
+                    Ok(())
+                } else if is_no_spy(&reply) {
+                    Err(PilferRefused::NotSpy)
+                } else {
+                    Err(PilferRefused::NothingHeld)
+                }
+            }
+            Err(_) => Err(PilferRefused::Memory),
+        }
+    }
+
+    /// The mask of the channels that have a message for their client: bit `channel - 1` stands for a channel.
+    pub fn waiting(&self) -> u64
+        ensures { (ds : List ℕ) (es : List Effect) → LiveIs ds es self.now
+            → (c : ℕ) → mask_has result c ≡ (is_channel c && is_some (got (reply_to es (Receive c)))) }
+    {
+        waiting(&self.dispatcher)
+    }
+}
+
+/// The mask of the channels that have a message.
+fn waiting(dispatcher: &Dispatcher) -> u64
+    ensures { (es : List Effect) → StandsFor es dispatcher.now
+        → (c : ℕ) → mask_has result c ≡ (is_channel c && is_some (got (reply_to es (Receive c)))) }
+{
+    let mut mask = 0;
+    for place in 0..64 {
+        mask = with_waiting(dispatcher, mask, place + 1);
+    }
+    mask
+}
+
+/// The mask with a channel, where that has a message.
+fn with_waiting(dispatcher: &Dispatcher, mask: u64, channel: u32) -> u64
+    ensures { (es : List Effect) → StandsFor es dispatcher.now
+        → result ≡ (if is_some (got (reply_to es (Receive channel))) then mask_with mask channel else mask) }
+{
+    if dispatcher.next(channel).is_some() {
+        mask_with(mask, channel)
+    } else {
+        mask
+    }
+}
+
+/// Whether a call did what it says.
+fn is_done(reply: &Reply) -> bool
+    ensures { result ≡ is_done reply.now }
+{
+    matches!(reply, Reply::Done)
+}
+
+/// Whether the current windows have no spy of the channel.
+fn is_no_spy(reply: &Reply) -> bool
+    ensures { result ≡ is_no_spy reply.now }
+{
+    matches!(reply, Reply::NotSpy)
+}

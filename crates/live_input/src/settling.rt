@@ -1,0 +1,147 @@
+//! What is done next, as long as there is something.
+ghost use Rattle.std.specs.Prelude.{◌≡◌, ◌≤◌, List, Some, None, option_map};
+ghost use Rattle.dispatch_history.specs.Effect.{Effect};
+ghost use Rattle.dispatcher.specs.Dispatching.{StandsFor};
+ghost use Rattle.live_input.specs.Settling.{next_due, next_waiting, left_call, sooner, sooner_call, tick_by, repeat_by, timeout};
+
+use dispatch_calls::Call;
+use dispatcher::Dispatcher;
+use input_types::Moment;
+
+/// The pump by which the first args that wait are dispatched, where some wait.
+pub(crate) fn next_waiting(dispatcher: &Dispatcher, now: Moment) -> Option<Call>
+    ensures { (es : List Effect) → StandsFor es dispatcher.now → result ≡ next_waiting now es }
+{
+    if dispatcher.is_waiting() {
+        Some(Call::Pump { now })
+    } else {
+        None
+    }
+}
+
+/// What is done next of what is due up to now: args that wait are dispatched; else the sooner of the first timeout and
+/// the next repeat.
+pub(crate) fn next_due(dispatcher: &Dispatcher, now: Moment) -> Option<Call>
+    ensures { (es : List Effect) → StandsFor es dispatcher.now → result ≡ next_due now es }
+{
+    if dispatcher.is_waiting() {
+        Some(Call::Pump { now })
+    } else {
+        sooner_call(now, timeout(dispatcher), dispatcher.repeat_due())
+    }
+}
+
+/// When the first channel is due to be named unresponsive.
+pub(crate) fn timeout(dispatcher: &Dispatcher) -> Option<u64>
+    ensures { (es : List Effect) → StandsFor es dispatcher.now → result ≡ timeout es }
+{
+    match dispatcher.first_due() {
+        Some((moment, _)) => Some(moment),
+        None => None,
+    }
+}
+
+/// The sooner of two moments that may be there.
+pub(crate) fn sooner(first: Option<u64>, second: Option<u64>) -> Option<u64>
+    ensures { result ≡ sooner first second }
+{
+    match (first, second) {
+        (Some(t), Some(u)) => Some(t.min(u)),
+        (None, at) => at,
+        (at, None) => at,
+    }
+}
+
+/// The sooner of a timeout and a repeat, where that is not later than now; of one moment the timeout.
+fn sooner_call(now: Moment, timeout: Option<u64>, repeat: Option<u64>) -> Option<Call>
+    ensures { result ≡ sooner_call now timeout repeat }
+{
+    match (timeout, repeat) {
+        (Some(t), Some(r)) => {
+            if r < t {
+                repeat_by(now, repeat)
+            } else {
+                tick_by(now, timeout)
+            }
+        }
+        (None, _) => repeat_by(now, repeat),
+        (_, None) => tick_by(now, timeout),
+    }
+}
+
+/// A tick at the moment of a timeout, where that is not later than now.
+fn tick_by(now: Moment, timeout: Option<u64>) -> Option<Call>
+    ensures { result ≡ tick_by now timeout }
+{
+    match timeout {
+        Some(t) => {
+            if t <= now.get() {
+                Some(Call::Tick {
+                    now: moment_by(now, t),
+                })
+            } else {
+                None
+            }
+        }
+        None => None,
+    }
+}
+
+/// A pump at the moment of a repeat, where that is not later than now.
+fn repeat_by(now: Moment, repeat: Option<u64>) -> Option<Call>
+    ensures { result ≡ repeat_by now repeat }
+{
+    match repeat {
+        Some(t) => {
+            if t <= now.get() {
+                Some(Call::Pump {
+                    now: moment_by(now, t),
+                })
+            } else {
+                None
+            }
+        }
+        None => None,
+    }
+}
+
+/// The moment at so many microseconds, which are not later than now.
+fn moment_by(now: Moment, us: u64) -> Moment
+    requires { us ≤ now }
+    ensures { result ≡ us }
+{
+    // For the proof alone: a moment says that it is in range only where it is read.
+    let _latest = now.get();
+    Moment::new(us).unwrap()
+}
+
+/// What is left to do on a channel of which so many messages were received, of so many, and whose oldest message that
+/// is published and not finished has this number.
+pub(crate) fn left_call(
+    now: Moment,
+    channel: u32,
+    received: u64,
+    sent: u64,
+    oldest: Option<u64>,
+) -> Option<Call>
+    ensures { result ≡ left_call now channel received sent oldest }
+{
+    match oldest {
+        Some(seq) => {
+            if seq <= received {
+                Some(Call::Finish { now, channel, seq })
+            } else if received < sent {
+                Some(Call::Receive { channel })
+            } else {
+                None
+            }
+        }
+        None => {
+            if received < sent {
+                Some(Call::Receive { channel })
+            } else {
+                None
+            }
+        }
+    }
+}

@@ -1,0 +1,113 @@
+//! Windows, and the focus.
+ghost use Rattle.std.specs.Prelude.{◌≡◌, ℕ, ◌-◌, true, false, List, Option, None, Some, Ok, Err, IfOk, OnOk, OnErr, slice_set};
+ghost use Rattle.dispatch_calls.specs.declared.call.Call.TheVariants.{Windows, FocusOn};
+ghost use Rattle.dispatch_history.specs.Effect.{Effect};
+ghost use Rattle.dispatch_history.specs.Legal.{answered};
+ghost use Rattle.live_input.specs.Answers.{SameClients};
+ghost use Rattle.live_input.specs.Showing.{FocusGoes, may_ask, channel_of};
+ghost use Rattle.live_input.specs.Standing.{LiveIs};
+
+use crate::client::{Client, Seat, is_open};
+use crate::live::Live;
+use crate::refused::FocusRefused;
+use dispatch_calls::Call;
+use input_types::{DisplayId, Moment};
+use std::alloc::AllocError;
+use window_snapshot::Snapshot;
+
+impl Live {
+    /// The windows are these from now on. Without memory nothing changes.
+    pub(crate) fn show(&mut self, now: Moment, snapshot: Snapshot) -> Result<(), AllocError>
+        ensures after { (ds : List ℕ) (es : List Effect) → LiveIs ds es self.old
+            → OnOk result (LiveIs ds (answered ds (Windows now snapshot) es) self.new) }
+        ensures windows { OnOk result (self.new.windows ≡ snapshot) }
+        ensures clients { SameClients self.old self.new }
+        ensures requests { (self.new.requested ≡ self.old.requested) × (self.new.asked ≡ self.old.asked) }
+        ensures named { self.new.named ≡ self.old.named }
+        ensures err { OnErr result (self.new ≡ self.old) }
+    {
+        let call = Call::Windows { now, snapshot };
+        match self.dispatcher.apply(&call) {
+            Ok(_) => {
+                if let Call::Windows { snapshot, .. } = call {
+                    self.windows = snapshot;
+                }
+                Ok(())
+            }
+            Err(error) => Err(error),
+        }
+    }
+
+    /// The focus of a display is requested for a channel, or for none. Without memory nothing changes.
+    pub(crate) fn request(
+        &mut self,
+        now: Moment,
+        display: DisplayId,
+        channel: Option<u32>,
+    ) -> Result<(), AllocError>
+        ensures after { (ds : List ℕ) (es : List Effect) → LiveIs ds es self.old
+            → OnOk result (LiveIs ds (answered ds (FocusOn now display channel) es) self.new) }
+        ensures requests { OnOk result
+            ((self.new.requested ≡ slice_set self.old.requested display channel) × (self.new.asked ≡ display)) }
+        ensures clients { SameClients self.old self.new }
+        ensures windows { self.new.windows ≡ self.old.windows }
+        ensures named { self.new.named ≡ self.old.named }
+        ensures err { OnErr result (self.new ≡ self.old) }
+    {
+        match self.dispatcher.apply(&Call::FocusOn {
+            now,
+            display,
+            channel,
+        }) {
+            Ok(_) => {
+                self.requested[usize::from(display.get())] = channel;
+                self.asked = display;
+                Ok(())
+            }
+            Err(error) => Err(error),
+        }
+    }
+
+    /// The focus of a display is requested for a client, or for none. Keys go to the display of the last request.
+    pub fn focus(
+        &mut self,
+        now: Moment,
+        display: DisplayId,
+        client: Option<Client>,
+    ) -> Result<(), FocusRefused>
+        ensures after { (ds : List ℕ) (es : List Effect) → LiveIs ds es self.old
+            → FocusGoes ds now display client es result self.old self.new }
+        ensures stale { may_ask self.old.seats client ≡ false
+            → (result ≡ Err FocusRefused.NotOpen) × (self.new ≡ self.old) }
+        ensures clients { SameClients self.old self.new }
+        ensures named { self.new.named ≡ self.old.named }
+    {
+        if !may_ask(&self.seats, client) {
+            return Err(FocusRefused::NotOpen);
+        }
+        match self.request(now, display, channel_of(client)) {
+            Ok(()) => Ok(()),
+            Err(_) => Err(FocusRefused::Memory),
+        }
+    }
+}
+
+/// Whether it is no client, or one that is open.
+fn may_ask(seats: &[Seat; 64], client: Option<Client>) -> bool
+    ensures { result ≡ may_ask seats.now client }
+{
+    match client {
+        Some(client) => is_open(seats, client),
+        None => true,
+    }
+}
+
+/// The channel of a client, if it is one.
+fn channel_of(client: Option<Client>) -> Option<u32>
+    ensures { result ≡ channel_of client }
+{
+    match client {
+        Some(client) => Some(client.channel),
+        None => None,
+    }
+}

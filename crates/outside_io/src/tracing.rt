@@ -1,0 +1,25 @@
+ghost use Rattle.std.specs.Prelude.{◌≡◌, ◌≤◌, false, length};
+ghost use Rattle.outside_io.specs.Outside.{begun, gave};
+
+use io_trace::ReadingTrace;
+
+/// The trace of a file that is opened under this name.
+pub fn opened(name: &str) -> ReadingTrace
+    ensures { result.reading ≡ begun name.now }
+{
+    let mut reading = ReadingTrace::new();
+    reading.open(name.as_bytes());
+    reading
+}
+
+/// Notes a read that answered this count, with the end where it is 0 for a buffer that is not empty.
+pub fn note_read(reading: &mut ReadingTrace, buf: &[u8], count: usize)
+    requires bound { count ≤ length buf.now }
+    requires going { reading.old.reading.ended ≡ false }
+    ensures { reading.new.reading ≡ gave reading.old.reading count buf.now }
+{
+    reading.note(&buf[..count]);
+    if count == 0 && !buf.is_empty() {
+        reading.end();
+    }
+}

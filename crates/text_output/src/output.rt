@@ -1,0 +1,50 @@
+ghost use Rattle.std.specs.Prelude.{◌≤◌, map, OnOk, OnErr};
+ghost use Rattle.outside_io.specs.Outside.{Rose};
+ghost use Rattle.text_output.specs.Passing.{StopsWithin, WritesAll};
+ghost use Rattle.text_output.specs.Together.{together};
+
+use outside_io::{Failed, Sink};
+use text_pieces::Pieces;
+
+/// Writes all of the text: the whole rest of it is handed to each write.
+pub fn write_all<O: Sink>(out: &mut O, text: &[u8]) -> Result<(), Failed>
+    ensures ok { OnOk result (WritesAll (O.writing out.old) (O.writing out.new) text.now) }
+    ensures err { OnErr result (StopsWithin (O.writing out.old) (O.writing out.new) text.now) }
+    ensures cause { OnErr result (Rose (O.faults out.old) (O.faults out.new)) }
+    ensures later { O.faults out.old ≤ O.faults out.new }
+{
+    let mut at = 0;
+    'pieces: while at < text.len() {
+        at += out.write(text.split_at(at).1)?;
+    }
+    Ok(())
+}
+
+/// Writes all pieces of the text.
+pub fn write_text<O: Sink>(out: &mut O, text: &Pieces) -> Result<(), Failed>
+    ensures ok { OnOk result (WritesAll (O.writing out.old) (O.writing out.new) text.now) }
+    ensures err { OnErr result (StopsWithin (O.writing out.old) (O.writing out.new) text.now) }
+    ensures cause { OnErr result (Rose (O.faults out.old) (O.faults out.new)) }
+    ensures later { O.faults out.old ≤ O.faults out.new }
+{
+    let (before, last) = text.parts();
+    for piece in before {
+        write_all(out, piece)?;
+    }
+    write_all(out, last)
+}
+
+/// Writes all of these parts.
+pub fn write_parts<O: Sink>(out: &mut O, parts: &[&str]) -> Result<(), Failed>
+    ensures ok { OnOk result (WritesAll (O.writing out.old) (O.writing out.new)
+        (together (map (λ p. p.now) parts.now))) }
+    ensures err { OnErr result (StopsWithin (O.writing out.old) (O.writing out.new)
+        (together (map (λ p. p.now) parts.now))) }
+    ensures cause { OnErr result (Rose (O.faults out.old) (O.faults out.new)) }
+    ensures later { O.faults out.old ≤ O.faults out.new }
+{
+    for part in parts {
+        write_all(out, part.as_bytes())?;
+    }
+    Ok(())
+}

@@ -1,0 +1,5 @@
+use Rattle.why_text.proofs.RestLaws.{silent_law}
+use Rattle.why_text.proofs.laws.resting.Goals as goal
+
+pub returns : goal.returns
+returns c = silent_law

@@ -1,0 +1,28 @@
+//! The lines that tell the causes of a run, one at a time: a function for each kind of line.
+//!
+//! ```text
+//! 1000000 down 1 0 100,200 touched 1 row first chosen 1 spies - pilfering - given 1 mute - outside -
+//! 1020000 up 1 0 from 1
+//! ```
+//!
+//! Each puts its line, with the clock in front and the newline behind, at the end of a text. What the words of a line
+//! are is defined in `why_text`. Sets of windows come as masks, sets of pointer ids as `Bits32`.
+#![tactic(auto, unfolding(text_lines::specs::Written::labeled))]
+
+mod changes;
+mod channels;
+mod downs;
+mod keys;
+mod line;
+mod losing;
+mod motions;
+mod sets;
+mod snapshot;
+
+pub use changes::{focus, target};
+pub use channels::{pilfer, pilfer_refused, removed, removed_gone, request, responsive, timeout};
+pub use downs::{Causes, down};
+pub use keys::{key_down, key_up, repeat};
+pub use losing::{Lost, gone};
+pub use motions::{palm, reset, slip, up};
+pub use snapshot::windows;
