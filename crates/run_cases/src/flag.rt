@@ -2,8 +2,9 @@
 use std::sync::atomic::{AtomicU64, Ordering};
 use std::thread::yield_now;
 
-/// How many turns a wait takes before it gives up. At each it lets others run.
-const TURNS: u64 = 10_000_000;
+/// How many turns a wait takes before it gives up: some ten seconds and more, so that a machine with much to do is
+/// waited for. At each turn others run.
+const TURNS: u64 = 50_000_000;
 
 /// Whether a lane has arrived somewhere, and whether one that waited for it gave up.
 #[derive(Drop)]

@@ -1,8 +1,10 @@
 //! What holds a step open.
 use std::sync::atomic::{AtomicU64, Ordering};
+use std::thread::yield_now;
 
-/// How many turns a wait takes before it gives up.
-const TURNS: u64 = 10_000_000;
+/// How many turns a wait takes before it gives up: some ten seconds and more, so that a machine with much to do is
+/// waited for. At each turn others run.
+const TURNS: u64 = 50_000_000;
 
 /// What a step tells of itself, and what it waits for.
 #[derive(Drop)]
@@ -43,6 +45,7 @@ fn reaches_one(number: &AtomicU64) -> bool {
         if number.load(Ordering::SeqCst) == 1 {
             return true;
         }
+        yield_now();
     }
     false
 }
