@@ -8,3 +8,4 @@ pub mod Steps
 pub mod Cuts
 pub mod Heads
 pub mod Fields
+pub mod LineByLine

@@ -73,37 +73,6 @@ fn is_same(a: &[u8], b: &[u8]) -> bool
     a == b
 }
 
-/// The moment between two brackets, behind a line with this one.
-#[inline(always)]
-fn moment_after(last: &[u8], moment: Moment, time: &[u8]) -> Option<Moment>
-    requires { TimeSays last.now moment }
-    ensures { IfSome result (λ m. TimeSays time.now m) }
-{
-    if is_same(time, last) {
-        Some(moment)
-    } else {
-        time_says(time)
-    }
-}
-
-/// The device of the path between blanks, behind a line with this one.
-#[inline(always)]
-fn device_after(
-    devices: &[(String, DeviceId)],
-    last: &[u8],
-    device: Option<DeviceId>,
-    part: &[u8],
-) -> Option<Option<DeviceId>>
-    requires { PathSays (known devices.now) last.now device }
-    ensures { IfSome result (λ d. PathSays (known devices.now) part.now d) }
-{
-    if is_same(part, last) {
-        Some(device)
-    } else {
-        part_says(devices, part)
-    }
-}
-
 /// What a line with this front and these fields says.
 #[inline(always)]
 fn line_of(front: &Front, fields: Fields) -> Line
@@ -121,16 +90,50 @@ fn line_of(front: &Front, fields: Fields) -> Line
     }
 }
 
-/// What a line says whose front is as long as the one of the line before it, and the front of it. None says nothing.
+/// Takes the time of the next line, of which nothing changes where it is that of the line before.
+#[inline(always)]
+fn take_time<'a>(front: &mut Front<'a>, time: &'a [u8]) -> Option<()>
+    requires { TimeSays front.old.time.now front.old.moment }
+    ensures time { TimeSays front.new.time.now front.new.moment }
+    ensures taken { IfSome result (λ done. front.new.time.now ≡ time.now) }
+    ensures part { (front.new.part.now ≡ front.old.part.now) × (front.new.device ≡ front.old.device) }
+{
+    if !is_same(time, front.time) {
+        front.moment = time_says(time)?;
+        front.time = time;
+    }
+    Some(())
+}
+
+/// Takes the path of the next line with its blanks, of which nothing changes where it is that of the line before.
+#[inline(always)]
+fn take_part<'a>(
+    devices: &[(String, DeviceId)],
+    front: &mut Front<'a>,
+    part: &'a [u8],
+) -> Option<()>
+    requires { PathSays (known devices.now) front.old.part.now front.old.device }
+    ensures part { PathSays (known devices.now) front.new.part.now front.new.device }
+    ensures taken { IfSome result (λ done. front.new.part.now ≡ part.now) }
+    ensures time { (front.new.time.now ≡ front.old.time.now) × (front.new.moment ≡ front.old.moment) }
+{
+    if !is_same(part, front.part) {
+        front.device = part_says(devices, part)?;
+        front.part = part;
+    }
+    Some(())
+}
+
+/// What a line says whose front is as long as the one of the line before it, which becomes its own. None says nothing.
 #[inline(always)]
 pub(crate) fn quick<'a>(
     devices: &[(String, DeviceId)],
-    front: &Front<'a>,
+    front: &mut Front<'a>,
     text: &'a [u8],
-) -> Option<(Line, Front<'a>)>
-    requires { FrontSays (known devices.now) front.now.time.now front.now.moment front.now.part.now front.now.device }
-    ensures line { IfSome result (λ r. r.0 ≡ judged_text (known devices.now) text.now) }
-    ensures front { IfSome result (λ r. FrontSays (known devices.now) r.1.time.now r.1.moment r.1.part.now r.1.device) }
+) -> Option<Line>
+    requires { FrontSays (known devices.now) front.old.time.now front.old.moment front.old.part.now front.old.device }
+    ensures line { IfSome result (λ line. line ≡ judged_text (known devices.now) text.now) }
+    ensures front { FrontSays (known devices.now) front.new.time.now front.new.moment front.new.part.now front.new.device }
 {
     if text.len() < front.time.len() {
         return None;
@@ -141,13 +144,7 @@ pub(crate) fn quick<'a>(
     }
     let (part, end) = rest.split_at(front.part.len());
     let fields = usual_fields(end)?;
-    let moment = moment_after(front.time, front.moment, time)?;
-    let device = device_after(devices, front.part, front.device, part)?;
-    let next = Front {
-        time,
-        moment,
-        part,
-        device,
-    };
-    Some((line_of(&next, fields), next))
+    take_time(front, time)?;
+    take_part(devices, front, part)?;
+    Some(line_of(front, fields))
 }

@@ -203,49 +203,52 @@ pub(crate) fn judge(devices: &[(String, DeviceId)], line: &[u8]) -> Line
     judge_text(devices, skip_blanks(strip_return(line)))
 }
 
-/// What a line says, and its front, where the front of the line before it helps to read it.
+/// What a line says, with the help of the front of the line before it, which becomes its own.
 #[inline(always)]
 #[tactic(auto, unfolding(crate::specs::Line::judged))]
 pub(crate) fn judge_next<'a>(
     devices: &[(String, DeviceId)],
-    front: &Option<Front<'a>>,
+    front: &mut Option<Front<'a>>,
     line: &'a [u8],
-) -> (Line, Option<Front<'a>>)
-    requires { IfSome front.now (λ f. FrontSays (known devices.now) f.time.now f.moment f.part.now f.device) }
-    ensures line { result.0 ≡ judged (known devices.now) line.now }
-    ensures front { IfSome result.1 (λ f. FrontSays (known devices.now) f.time.now f.moment f.part.now f.device) }
+) -> Line
+    requires { IfSome front.old (λ f. FrontSays (known devices.now) f.time.now f.moment f.part.now f.device) }
+    ensures line { result ≡ judged (known devices.now) line.now }
+    ensures front { IfSome front.new (λ f. FrontSays (known devices.now) f.time.now f.moment f.part.now f.device) }
 {
     if line.len() > MAX_LINE {
-        return (Line::Refused(Cause::TooLong), None);
+        return Line::Refused(Cause::TooLong);
     }
-    let text = skip_blanks(strip_return(line));
-    match front {
-        Some(front) => judge_behind(devices, front, text),
-        None => judge_alone(devices, text),
-    }
+    judge_behind(devices, front, skip_blanks(strip_return(line)))
 }
 
-/// What a line says that has no blanks in front, and its front, behind a line with this front.
+/// What a line says that has no blanks in front, behind a line with this front.
 #[inline(always)]
 fn judge_behind<'a>(
     devices: &[(String, DeviceId)],
-    front: &Front<'a>,
+    front: &mut Option<Front<'a>>,
     text: &'a [u8],
-) -> (Line, Option<Front<'a>>)
-    requires { FrontSays (known devices.now) front.now.time.now front.now.moment front.now.part.now front.now.device }
-    ensures line { result.0 ≡ judged_text (known devices.now) text.now }
-    ensures front { IfSome result.1 (λ f. FrontSays (known devices.now) f.time.now f.moment f.part.now f.device) }
+) -> Line
+    requires { IfSome front.old (λ f. FrontSays (known devices.now) f.time.now f.moment f.part.now f.device) }
+    ensures line { result ≡ judged_text (known devices.now) text.now }
+    ensures front { IfSome front.new (λ f. FrontSays (known devices.now) f.time.now f.moment f.part.now f.device) }
 {
-    match quick(devices, front, text) {
-        Some((line, next)) => (line, Some(next)),
-        None => judge_alone(devices, text),
+    if let Some(kept) = front {
+        if let Some(line) = quick(devices, kept, text) {
+            return line;
+        }
     }
+    judge_alone(devices, front, text)
 }
 
-/// What a line says that has no blanks in front, and its front.
-fn judge_alone<'a>(devices: &[(String, DeviceId)], text: &'a [u8]) -> (Line, Option<Front<'a>>)
-    ensures line { result.0 ≡ judged_text (known devices.now) text.now }
-    ensures front { IfSome result.1 (λ f. FrontSays (known devices.now) f.time.now f.moment f.part.now f.device) }
+/// What a line says that has no blanks in front, by itself; its front is kept.
+fn judge_alone<'a>(
+    devices: &[(String, DeviceId)],
+    front: &mut Option<Front<'a>>,
+    text: &'a [u8],
+) -> Line
+    ensures line { result ≡ judged_text (known devices.now) text.now }
+    ensures front { IfSome front.new (λ f. FrontSays (known devices.now) f.time.now f.moment f.part.now f.device) }
 {
-    (judge_text(devices, text), front_of(devices, text))
+    *front = front_of(devices, text);
+    judge_text(devices, text)
 }

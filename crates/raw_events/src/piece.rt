@@ -85,9 +85,8 @@ pub(crate) fn read_lines<'a>(
     let mut rest = bytes;
     let mut front: Option<Front> = None;
     'lines: while let Some((line, after)) = next_line(rest) {
-        let (said, next) = judge_next(devices, &front, line);
+        let said = judge_next(devices, &mut front, line);
         number = tell_line(&said, number, events)?;
-        front = next;
         rest = after;
     }
     Ok((number, rest))

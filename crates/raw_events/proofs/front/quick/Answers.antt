@@ -1,13 +1,15 @@
-use Rattle.std.proofs.Common.{◌≡◌, ◌++◌, sym, ◌∙◌, ap}
+use Rattle.std.proofs.Common.{◌≡◌, ◌++◌, sym, ◌∙◌, ap, ap₂}
 use Rattle.std.proofs.lemmas.List.{take-append-drop}
-use Rattle.raw_events.specs.Line.{known, judged_text}
+use Rattle.raw_events.specs.Line.{known, judged_text, sent}
 use Rattle.raw_events.proofs.Heads.{line_says}
 use Rattle.raw_events.proofs.front.quick.Goals as goal
 
 pub returns-clause-line : goal.returns-clause-line
 returns-clause-line c =
-    let inner : c.split_at-2.result.0.now ++ c.split_at-2.result.1.now ≡ c.split_at.result.1.now = rw (c.split_at-2.ensures.front, c.split_at-2.ensures.back) (take-append-drop _ _) in
+    let behind : c.take_part.new.front.part.now ++ c.split_at-2.result.1.now ≡ c.split_at.result.1.now =
+    ap (λ part. part ++ c.split_at-2.result.1.now) c.in_ok-take_part.ensures.taken ∙ (rw (c.split_at-2.ensures.front, c.split_at-2.ensures.back) (take-append-drop _ _)) in
     let whole : c.split_at.result.0.now ++ c.split_at.result.1.now ≡ c.args.text.now = rw (c.split_at.ensures.front, c.split_at.ensures.back) (take-append-drop _ _) in
-    let says = line_says (known c.args.devices.now) c.split_at.result.0.now c.split_at-2.result.0.now c.split_at-2.result.1.now c.in_ok-moment.moment c.in_ok-device.device c.in_ok-fields.fields
-    c.in_ok-moment.ensures c.in_ok-device.ensures c.in_ok-fields.ensures.plain c.in_ok-fields.ensures.fields in
-    c.line_of.ensures ∙ (sym says ∙ ap (judged_text (known c.args.devices.now)) (ap (λ ys. c.split_at.result.0.now ++ ys) inner ∙ whole))
+    let says = line_says (known c.args.devices.now) c.take_time.new.front.time.now c.take_part.new.front.part.now c.split_at-2.result.1.now c.take_time.new.front.moment c.take_part.new.front.device c.in_ok-fields.fields
+    c.in_ok-take_time.ensures.time c.in_ok-take_part.ensures.part c.in_ok-fields.ensures.plain c.in_ok-fields.ensures.fields in
+    c.line_of.ensures ∙ ap (λ moment. sent c.take_part.new.front.device moment c.in_ok-fields.fields) c.in_ok-take_part.ensures.time.1
+    ∙ (sym says ∙ ap (judged_text (known c.args.devices.now)) (ap₂ (λ time rest. time ++ rest) c.in_ok-take_time.ensures.taken behind ∙ whole))

@@ -23,7 +23,7 @@ lines-preserved c = record {
       (rw (c.judge_next-said.ensures.line) at c.in_ok-number.ensures) ∙ (rw (c.in-Some.ensures.parts) at c.lines.invariant.told);
   begun = (rw (c.in-Some.ensures.parts) at c.lines.invariant.begun);
   front = c.judge_next-said.ensures.front;
-  before = line_begins c.args.events.now.items c.lines.events.items c.tell_line.new.events.items c.judge_next-said.result.0 c.in_ok-number.number c.lines.number c.in_ok-number.ensures c.lines.invariant.before;
+  before = line_begins c.args.events.now.items c.lines.events.items c.tell_line.new.events.items c.judge_next-said.result c.in_ok-number.number c.lines.number c.in_ok-number.ensures c.lines.invariant.before;
 }
 
 pub returns-clause-told : goal.returns-clause-told
