@@ -12,21 +12,21 @@ use Rattle.text_lines.specs.Blanks.{is_blank}
 use Rattle.raw_events.specs.Line.{fields_of}
 use Rattle.raw_events.specs.Front.{plain}
 
-number_some : (digits : List ℕ) (n : ℕ) → number 16 digits ≡ Some n → (list_all (λ b. is_digit b 16) digits ≡ true) × (digits_value 16 digits ≡ n)
-number_some digits n h =
-    (elim (list_all (λ b. is_digit b 16) digits) as (λ v. cond v (Some (digits_value 16 digits)) None ≡ Some n → (v ≡ true) × (digits_value 16 digits ≡ n))
+pub number_some : (base : ℕ) (digits : List ℕ) (n : ℕ) → number base digits ≡ Some n → (list_all (λ b. is_digit b base) digits ≡ true) × (digits_value base digits ≡ n)
+number_some base digits n h =
+    (elim (list_all (λ b. is_digit b base) digits) as (λ v. cond v (Some (digits_value base digits)) None ≡ Some n → (v ≡ true) × (digits_value base digits ≡ n))
     [ true ↦ λ k. (refl, cc) | false ↦ λ k. cc ]) h
 
-number_is : (digits : List ℕ) (n : ℕ) → list_all (λ b. is_digit b 16) digits ≡ true → digits_value 16 digits ≡ n → number 16 digits ≡ Some n
-number_is digits n h k = rw (h, k) refl
+pub number_is : (base : ℕ) (digits : List ℕ) (n : ℕ) → list_all (λ b. is_digit b base) digits ≡ true → digits_value base digits ≡ n → number base digits ≡ Some n
+number_is base digits n h k = rw (h, k) refl
 
 -- eight digits, from four and four
 eight : (a b c d e f g h high low : ℕ) → number 16 (a ∷ b ∷ c ∷ d ∷ []) ≡ Some high → number 16 (e ∷ f ∷ g ∷ h ∷ []) ≡ Some low
     → number 16 (a ∷ b ∷ c ∷ d ∷ e ∷ f ∷ g ∷ h ∷ []) ≡ Some (high * 65536 + low)
 eight a b c d e f g h high low p q =
-    let s = number_some (a ∷ b ∷ c ∷ d ∷ []) high p in
-    let t = number_some (e ∷ f ∷ g ∷ h ∷ []) low q in
-    number_is (a ∷ b ∷ c ∷ d ∷ e ∷ f ∷ g ∷ h ∷ []) (high * 65536 + low)
+    let s = number_some 16 (a ∷ b ∷ c ∷ d ∷ []) high p in
+    let t = number_some 16 (e ∷ f ∷ g ∷ h ∷ []) low q in
+    number_is 16 (a ∷ b ∷ c ∷ d ∷ e ∷ f ∷ g ∷ h ∷ []) (high * 65536 + low)
     (list_all-append (λ x. is_digit x 16) (a ∷ b ∷ c ∷ d ∷ []) (e ∷ f ∷ g ∷ h ∷ []) ∙ (rw (s.0, t.0) refl))
     (omega (arith, s.1, t.1))
 
@@ -41,7 +41,7 @@ digit_plain x h =
     ]) refl
 
 first_plain : (x n : ℕ) (xs : List ℕ) → number 16 (x ∷ xs) ≡ Some n → is_blank x ≡ false
-first_plain x n xs h = digit_plain x (and_parts (is_digit x 16) (list_all (λ b. is_digit b 16) xs) (number_some (x ∷ xs) n h).0).0
+first_plain x n xs h = digit_plain x (and_parts (is_digit x 16) (list_all (λ b. is_digit b 16) xs) (number_some 16 (x ∷ xs) n h).0).0
 
 pub usual_says : (xs : List ℕ) (kind code high low : ℕ) → length xs ≡ 18 → slice_index xs 4 ≡ 32 → slice_index xs 9 ≡ 32
     → number 16 (slice_index xs 0 ∷ slice_index xs 1 ∷ slice_index xs 2 ∷ slice_index xs 3 ∷ []) ≡ Some kind

@@ -1,5 +1,5 @@
 -- What was read stays read, whatever stands behind it.
-use Rattle.std.proofs.Common.{◌≡◌, ℕ, ◌+◌, ◌-◌, ◌<◌, ◌≤◌, ◌==◌, ◌||◌, cond, not, suc, List, [], ◌∷◌, ◌++◌, length, take, drop, Option, Some, None, refl, ap, ◌∙◌, arith, Bool, true, false, ltb, ltb-false, le-ltb, eqb-true}
+use Rattle.std.proofs.Common.{◌≡◌, ℕ, ◌+◌, ◌-◌, ◌*◌, ◌^◌, ◌<◌, ◌≤◌, ◌==◌, ◌||◌, cond, not, suc, List, [], ◌∷◌, ◌++◌, length, take, drop, Option, Some, None, refl, ap, ◌∙◌, arith, Bool, true, false, ltb, ltb-false, le-ltb, eqb-true}
 use Rattle.std.specs.Prelude.{option_map, is_some}
 use Rattle.std.specs.Char.{is_digit}
 use Rattle.std.specs.List.{prefix_len}
@@ -10,17 +10,17 @@ use Rattle.raw_events.specs.declared.line.Fields.{Fields}
 use Rattle.raw_events.specs.Text.{◌>>=◌, after_blanks, after_byte, number, number_at}
 use Rattle.text_lines.specs.Blanks.{is_blank, skip_blanks, ends_in, word_len}
 use Rattle.raw_events.specs.Line.{Known, seconds_at, moment_at, path_at, fields_of, sender, sent, formed, judged_text}
-use Rattle.raw_events.specs.Front.{plain, TimeSays, PathSays}
+use Rattle.raw_events.specs.Front.{plain, SecondsSay, MicrosSay, PathSays}
 
 both : {A B : Type 0} (o : Option A) (f : A → Option B) (y : B) → (o >>= f) ≡ Some y → (x : A) × (o ≡ Some x) × (f x ≡ Some y)
 both None f y h = cc
 both (Some x) f y h = (x, refl, h)
 
-abbrev more : {A : Type 0} → List ℕ → A × List ℕ → A × List ℕ
+abbrev pub more : {A : Type 0} → List ℕ → A × List ℕ → A × List ℕ
 more r read = (read.0, read.1 ++ r)
 
 -- the numbers of a piece that is long enough
-number_more : (base len : ℕ) (bs r : List ℕ) (x : ℕ × List ℕ) → number_at base len bs ≡ Some x → number_at base len (bs ++ r) ≡ Some (more r x)
+pub number_more : (base len : ℕ) (bs r : List ℕ) (x : ℕ × List ℕ) → number_at base len bs ≡ Some x → number_at base len (bs ++ r) ≡ Some (more r x)
 unfolding number_at
 number_more base len bs r x h =
     (elim (ltb (length bs) len) as (λ v. ltb (length bs) len ≡ v → cond v None (number base (take len bs) >>= λ n. Some (n, drop len bs)) ≡ Some x
@@ -89,31 +89,27 @@ unfolding seconds_at
 seconds_some [] x h = cc
 seconds_some (b ∷ bs) x h = omega arith
 
-moment_more : (bs r : List ℕ) (x : ℕ × List ℕ) → moment_at bs ≡ Some x → moment_at (bs ++ r) ≡ Some (more r x)
-unfolding moment_at
-moment_more bs r x h =
-    let s = both (seconds_at (skip_blanks bs)) _ x h in
-    let p = both (after_byte (byte ".") s.0.1) _ x s.2 in
-    let f = both (number_at 10 6 p.0) _ x p.2 in
-    let q = both (after_byte (byte "]") (skip_blanks f.0.1)) _ x f.2 in
-    rw (
-      skip_more bs r (seconds_some (skip_blanks bs) s.0 s.1),
-      seconds_more (skip_blanks bs) r s.0 s.1 (byte_some (byte ".") s.0.1 p.0 p.1),
-      byte_more (byte ".") s.0.1 r p.0 p.1,
-      number_more 10 6 p.0 r f.0 f.1,
-      skip_more f.0.1 r (byte_some (byte "]") (skip_blanks f.0.1) q.0 q.1),
-      byte_more (byte "]") (skip_blanks f.0.1) r q.0 q.1,
-    )
-    (ap (option_map (more r)) q.2)
-
 byte_is : (c : ℕ) (bs x : List ℕ) → after_byte c bs ≡ Some x → bs ≡ c ∷ x
 byte_is c [] x h = cc
 byte_is c (b ∷ bs) x h =
     (elim (b == c) as (λ v. (b == c) ≡ v → cond v (Some bs) None ≡ Some x → b ∷ bs ≡ c ∷ x)
     [ true ↦ λ e k. let same : b ≡ c = eqb-true b c e in cc | false ↦ λ e k. cc ]) refl h
 
-pub time_is : (time inside : List ℕ) (us : ℕ) → after_byte (byte "[") time ≡ Some inside → moment_at inside ≡ Some (us, []) → TimeSays time us
-time_is time inside us h k = record { inside = inside; bracket = byte_is (byte "[") time inside h; says = λ r. moment_more inside r (us, []) k }
+pub seconds_are : (front inside point : List ℕ) (seconds : ℕ) → after_byte (byte "[") front ≡ Some inside → seconds_at (skip_blanks inside) ≡ Some (seconds, point)
+    → after_byte (byte ".") point ≡ Some [] → seconds < 10 ^ 12 → SecondsSay front seconds
+unfolding moment_at
+seconds_are front inside point seconds h s p few = record {
+  inside = inside;
+  bracket = byte_is (byte "[") front inside h;
+  says = λ r.
+      rw (
+        skip_more inside r (seconds_some (skip_blanks inside) (seconds, point) s),
+        seconds_more (skip_blanks inside) r (seconds, point) s (byte_some (byte ".") point [] p),
+        byte_more (byte ".") point r [] p,
+      )
+      refl;
+  few = few;
+}
 
 blanks_more : (bs r x : List ℕ) → after_blanks bs ≡ Some x → 0 < length x → after_blanks (bs ++ r) ≡ Some (x ++ r)
 blanks_more [] r x h some = cc
@@ -210,7 +206,9 @@ part_is devices part (b ∷ bs) path device h k some s = record {
   sent = s;
 }
 
-pub line_says : (devices : Known) (time part text : List ℕ) (us : ℕ) (device : Option DeviceId) (fields : Fields) → TimeSays time us → PathSays devices part device → plain text ≡ true → fields_of text ≡ Some fields
-    → judged_text devices (time ++ (part ++ text)) ≡ sent device us fields
+pub line_says : (devices : Known) (to_point digits part text : List ℕ) (seconds micros : ℕ) (device : Option DeviceId) (fields : Fields) → SecondsSay to_point seconds → MicrosSay digits micros
+    → PathSays devices part device → plain text ≡ true → fields_of text ≡ Some fields
+    → judged_text devices (to_point ++ (digits ++ (part ++ text))) ≡ sent device (seconds * 1000000 + micros) fields
 unfolding judged_text formed
-line_says devices time part text us device fields t p k h = rw (t.bracket, t.says (part ++ text), p.blanks text, p.says text k, h, p.sent) refl
+line_says devices to_point digits part text seconds micros device fields t m p k h =
+    rw (t.bracket, t.says (digits ++ (part ++ text)), m seconds (part ++ text), p.blanks text, p.says text k, h, p.sent) refl

@@ -9,3 +9,5 @@ pub mod Cuts
 pub mod Heads
 pub mod Fields
 pub mod LineByLine
+pub mod SixDigits
+pub mod BothEnds

@@ -1,9 +1,9 @@
 -- The front of a line, from its first bracket up to its type, and what it says whatever stands behind it.
-use Rattle.std.specs.Prelude.{ℕ, ◌≡◌, Bool, true, not, List, [], ◌∷◌, ◌++◌, Option, Some}
+use Rattle.std.specs.Prelude.{ℕ, ◌+◌, ◌*◌, ◌^◌, ◌<◌, ◌≡◌, Bool, true, not, List, [], ◌∷◌, ◌++◌, Option, Some}
 use Rattle.std.specs.Str.{byte}
 use Rattle.input_types.specs.declared.number.DeviceId.{DeviceId}
-use Rattle.raw_events.specs.Text.{after_blanks}
-use Rattle.text_lines.specs.Blanks.{is_blank}
+use Rattle.raw_events.specs.Text.{◌>>=◌, after_blanks, after_byte, number_at}
+use Rattle.text_lines.specs.Blanks.{is_blank, skip_blanks}
 use Rattle.raw_events.specs.Line.{Known, moment_at, path_at, sender}
 
 -- no blank stands in front
@@ -11,11 +11,23 @@ abbrev pub plain : List ℕ → Bool
 plain [] = true
 plain (b ∷ bs) = not (is_blank b)
 
--- bytes from the first bracket to the second one, with this moment between them
-pub record TimeSays (time : List ℕ) (moment : ℕ) : Type 0 where
+-- behind the point of a moment with so many seconds: the moment in microseconds, and what stands behind the second bracket
+abbrev pub fraction_at : ℕ → List ℕ → Option (ℕ × List ℕ)
+fraction_at seconds bs = do
+  fraction ← number_at 10 6 bs
+  rest ← after_byte (byte "]") (skip_blanks fraction.1)
+  Some (seconds * 1000000 + fraction.0, rest)
+
+-- bytes from the first bracket to the point, with so many seconds between them
+pub record SecondsSay (front : List ℕ) (seconds : ℕ) : Type 0 where
   pub inside : List ℕ
-  pub bracket : time ≡ byte "[" ∷ inside
-  pub says : (rest : List ℕ) → moment_at (inside ++ rest) ≡ Some (moment, rest)
+  pub bracket : front ≡ byte "[" ∷ inside
+  pub says : (rest : List ℕ) → moment_at (inside ++ rest) ≡ fraction_at seconds rest
+  pub few : seconds < 10 ^ 12
+
+-- bytes from the point to the second bracket, with so many microseconds between them
+abbrev pub MicrosSay : List ℕ → ℕ → Type 0
+MicrosSay digits micros = (seconds : ℕ) (rest : List ℕ) → fraction_at seconds (digits ++ rest) ≡ Some (seconds * 1000000 + micros, rest)
 
 -- bytes behind the second bracket up to the type, with the path of this device between blanks
 pub record PathSays (devices : Known) (part : List ℕ) (device : Option DeviceId) : Type 0 where
@@ -25,6 +37,6 @@ pub record PathSays (devices : Known) (part : List ℕ) (device : Option DeviceI
   pub says : (rest : List ℕ) → plain rest ≡ true → path_at (inside ++ rest) ≡ Some (path, rest)
   pub sent : sender devices path ≡ device
 
--- both parts of a front
+-- both parts of a front, between which the microseconds stand
 abbrev pub FrontSays : Known → List ℕ → ℕ → List ℕ → Option DeviceId → Type 0
-FrontSays devices time moment part device = TimeSays time moment × PathSays devices part device
+FrontSays devices to_point seconds part device = SecondsSay to_point seconds × PathSays devices part device

@@ -1,37 +1,41 @@
-//! The front of a line, from its first bracket up to its type. Lines that follow one another mostly have the same one,
-//! so that it is read once for many lines.
-ghost use Rattle.std.specs.Prelude.{◌≡◌, IfSome, IsTrue};
+//! The front of a line, from its first bracket up to its type. Lines that follow one another mostly have the same one but
+//! for the microseconds, so that it is read once for many lines.
+ghost use Rattle.std.specs.Prelude.{◌≡◌, ◌+◌, ◌*◌, ◌^◌, ◌<◌, IfSome};
 ghost use Rattle.raw_events.specs.Line.{known, sent, judged_text};
-ghost use Rattle.raw_events.specs.Front.{TimeSays, PathSays, FrontSays};
+ghost use Rattle.raw_events.specs.Front.{SecondsSay, PathSays, FrontSays};
 
 use crate::event::RawEvent;
-use crate::line::{Fields, Line, moment, path, sender_of};
+use crate::line::{Fields, Line, path, seconds, sender_of};
+use crate::micros::{MICROS_LEN, micros};
+use crate::same::is_same;
 use crate::text::{past_blanks, past_byte};
 use crate::usual::{USUAL_LEN, usual_fields};
 use input_types::{DeviceId, Moment};
 use memchr::memchr;
+use text_lines::skip_blanks;
 
 /// The front of a line, and what it says whatever stands behind it.
 #[derive(Clone, Copy)]
 pub(crate) struct Front<'a> {
-    /// From the first bracket to the second.
-    time: &'a [u8],
-    moment: Moment,
+    /// From the first bracket to the point of the seconds.
+    to_point: &'a [u8],
+    seconds: u64,
 
-    /// From there up to the type.
+    /// From the second bracket up to the type.
     part: &'a [u8],
     device: Option<DeviceId>,
 }
 
-/// The moment between two brackets.
-fn time_says(time: &[u8]) -> Option<Moment>
-    ensures { IfSome result (λ m. TimeSays time.now m) }
+/// The seconds between the first bracket and the point.
+fn seconds_say(to_point: &[u8]) -> Option<u64>
+    ensures { IfSome result (λ s. SecondsSay to_point.now s) }
 {
-    let (us, rest) = moment(past_byte(b'[', time)?)?;
-    if !rest.is_empty() {
+    let (seconds, rest) = seconds(skip_blanks(past_byte(b'[', to_point)?))?;
+    let behind = past_byte(b'.', rest)?;
+    if !behind.is_empty() {
         return None;
     }
-    Some(Moment::new(us).unwrap())
+    Some(seconds)
 }
 
 /// The device of the path that stands between blanks.
@@ -45,62 +49,38 @@ fn part_says(devices: &[(String, DeviceId)], part: &[u8]) -> Option<Option<Devic
     Some(sender_of(devices, path))
 }
 
-/// The front of a line whose type, code and value are written as usual.
+/// The front of a line whose microseconds, type, code and value are written as usual.
 pub(crate) fn front_of<'a>(devices: &[(String, DeviceId)], text: &'a [u8]) -> Option<Front<'a>>
-    ensures { IfSome result (λ f. FrontSays (known devices.now) f.time.now f.moment f.part.now f.device) }
+    ensures { IfSome result (λ f. FrontSays (known devices.now) f.to_point.now f.seconds f.part.now f.device) }
 {
     let bracket = memchr(b']', text)?;
     let (time, rest) = text.split_at(bracket + 1);
-    if rest.len() < USUAL_LEN {
+    if time.len() < MICROS_LEN || rest.len() < USUAL_LEN {
         return None;
     }
+    let (to_point, _) = time.split_at(time.len() - MICROS_LEN);
     let (part, _) = rest.split_at(rest.len() - USUAL_LEN);
-    let moment = time_says(time)?;
+    let seconds = seconds_say(to_point)?;
     let device = part_says(devices, part)?;
     Some(Front {
-        time,
-        moment,
+        to_point,
+        seconds,
         part,
         device,
     })
 }
 
-/// Whether two texts are the same.
+/// Takes the seconds of the next line, of which nothing changes where they are those of the line before.
 #[inline(always)]
-fn is_same(a: &[u8], b: &[u8]) -> bool
-    ensures { IsTrue result → a.now ≡ b.now }
-{
-    a == b
-}
-
-/// What a line with this front and these fields says.
-#[inline(always)]
-fn line_of(front: &Front, fields: Fields) -> Line
-    ensures { result ≡ sent front.now.device front.now.moment fields }
-{
-    match front.device {
-        Some(device) => Line::Event(RawEvent {
-            device,
-            moment: front.moment,
-            kind: fields.kind,
-            code: fields.code,
-            value: fields.value,
-        }),
-        None => Line::PassedOver,
-    }
-}
-
-/// Takes the time of the next line, of which nothing changes where it is that of the line before.
-#[inline(always)]
-fn take_time<'a>(front: &mut Front<'a>, time: &'a [u8]) -> Option<()>
-    requires { TimeSays front.old.time.now front.old.moment }
-    ensures time { TimeSays front.new.time.now front.new.moment }
-    ensures taken { IfSome result (λ done. front.new.time.now ≡ time.now) }
+fn take_seconds<'a>(front: &mut Front<'a>, to_point: &'a [u8]) -> Option<()>
+    requires { SecondsSay front.old.to_point.now front.old.seconds }
+    ensures seconds { SecondsSay front.new.to_point.now front.new.seconds }
+    ensures taken { IfSome result (λ done. front.new.to_point.now ≡ to_point.now) }
     ensures part { (front.new.part.now ≡ front.old.part.now) × (front.new.device ≡ front.old.device) }
 {
-    if !is_same(time, front.time) {
-        front.moment = time_says(time)?;
-        front.time = time;
+    if !is_same(to_point, front.to_point) {
+        front.seconds = seconds_say(to_point)?;
+        front.to_point = to_point;
     }
     Some(())
 }
@@ -115,13 +95,40 @@ fn take_part<'a>(
     requires { PathSays (known devices.now) front.old.part.now front.old.device }
     ensures part { PathSays (known devices.now) front.new.part.now front.new.device }
     ensures taken { IfSome result (λ done. front.new.part.now ≡ part.now) }
-    ensures time { (front.new.time.now ≡ front.old.time.now) × (front.new.moment ≡ front.old.moment) }
+    ensures seconds { (front.new.to_point.now ≡ front.old.to_point.now) × (front.new.seconds ≡ front.old.seconds) }
 {
     if !is_same(part, front.part) {
         front.device = part_says(devices, part)?;
         front.part = part;
     }
     Some(())
+}
+
+/// The moment of so many seconds and microseconds.
+#[inline(always)]
+fn moment_of(seconds: u64, micros: u64) -> Moment
+    requires seconds { seconds < 10 ^ 12 }
+    requires micros { micros < 10 ^ 6 }
+    ensures { result ≡ seconds * 1000000 + micros }
+{
+    Moment::new(seconds * 1_000_000 + micros).unwrap()
+}
+
+/// What a line with these fields says, from this device at this moment.
+#[inline(always)]
+fn line_of(device: Option<DeviceId>, moment: Moment, fields: Fields) -> Line
+    ensures { result ≡ sent device moment fields }
+{
+    match device {
+        Some(device) => Line::Event(RawEvent {
+            device,
+            moment,
+            kind: fields.kind,
+            code: fields.code,
+            value: fields.value,
+        }),
+        None => Line::PassedOver,
+    }
 }
 
 /// What a line says whose front is as long as the one of the line before it, which becomes its own. None says nothing.
@@ -131,20 +138,27 @@ pub(crate) fn quick<'a>(
     front: &mut Front<'a>,
     text: &'a [u8],
 ) -> Option<Line>
-    requires { FrontSays (known devices.now) front.old.time.now front.old.moment front.old.part.now front.old.device }
+    requires { FrontSays (known devices.now) front.old.to_point.now front.old.seconds front.old.part.now
+        front.old.device }
     ensures line { IfSome result (λ line. line ≡ judged_text (known devices.now) text.now) }
-    ensures front { FrontSays (known devices.now) front.new.time.now front.new.moment front.new.part.now front.new.device }
+    ensures front { FrontSays (known devices.now) front.new.to_point.now front.new.seconds front.new.part.now
+        front.new.device }
 {
-    if text.len() < front.time.len() {
+    if text.len() < front.to_point.len() {
         return None;
     }
-    let (time, rest) = text.split_at(front.time.len());
+    let (to_point, rest) = text.split_at(front.to_point.len());
+    if rest.len() < MICROS_LEN {
+        return None;
+    }
+    let (digits, rest) = rest.split_at(MICROS_LEN);
     if rest.len() < front.part.len() {
         return None;
     }
     let (part, end) = rest.split_at(front.part.len());
     let fields = usual_fields(end)?;
-    take_time(front, time)?;
+    let micros = micros(digits)?;
+    take_seconds(front, to_point)?;
     take_part(devices, front, part)?;
-    Some(line_of(front, fields))
+    Some(line_of(front.device, moment_of(front.seconds, micros), fields))
 }

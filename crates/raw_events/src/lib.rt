@@ -11,7 +11,7 @@
 //! the events of the devices of a session up to the first line that it refuses. Cut behind `[   12345.10` and fed in
 //! two pieces, the line above gives its event with the second piece.
 //!
-//! Lines that follow one another mostly have the same moment and path, and their numbers are written alike. Such a line
+//! Lines that follow one another mostly have the same seconds and path, and their numbers are written alike. Such a line
 //! is read by its front, which the line before it left; nobody can tell which way a line went.
 #![tactic(auto)]
 
@@ -20,9 +20,11 @@ mod digits;
 mod event;
 mod front;
 mod line;
+mod micros;
 mod piece;
 mod reader;
 mod recording;
+mod same;
 mod text;
 mod usual;
 

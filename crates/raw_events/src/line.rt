@@ -54,7 +54,7 @@ pub(crate) enum Line {
 /// 1 to 12 decimal digits.
 #[inline(always)]
 #[tactic(auto, unfolding(crate::specs::Line::seconds_at))]
-fn seconds(bytes: &[u8]) -> Option<(u64, &[u8])>
+pub(crate) fn seconds(bytes: &[u8]) -> Option<(u64, &[u8])>
     ensures value { option_map (λ read. (read.0, read.1.now)) result ≡ seconds_at bytes.now }
     ensures bound { IfSome result (λ read. read.0 < 10 ^ 12) }
 {
@@ -68,7 +68,7 @@ fn seconds(bytes: &[u8]) -> Option<(u64, &[u8])>
 /// The moment behind the first bracket, in microseconds, and the second bracket.
 #[inline(always)]
 #[tactic(auto, unfolding(crate::specs::Line::moment_at))]
-pub(crate) fn moment(bytes: &[u8]) -> Option<(u64, &[u8])>
+fn moment(bytes: &[u8]) -> Option<(u64, &[u8])>
     ensures value { option_map (λ read. (read.0, read.1.now)) result ≡ moment_at bytes.now }
     ensures bound { IfSome result (λ read. read.0 < 10 ^ 18) }
 {
@@ -211,9 +211,9 @@ pub(crate) fn judge_next<'a>(
     front: &mut Option<Front<'a>>,
     line: &'a [u8],
 ) -> Line
-    requires { IfSome front.old (λ f. FrontSays (known devices.now) f.time.now f.moment f.part.now f.device) }
+    requires { IfSome front.old (λ f. FrontSays (known devices.now) f.to_point.now f.seconds f.part.now f.device) }
     ensures line { result ≡ judged (known devices.now) line.now }
-    ensures front { IfSome front.new (λ f. FrontSays (known devices.now) f.time.now f.moment f.part.now f.device) }
+    ensures front { IfSome front.new (λ f. FrontSays (known devices.now) f.to_point.now f.seconds f.part.now f.device) }
 {
     if line.len() > MAX_LINE {
         return Line::Refused(Cause::TooLong);
@@ -228,9 +228,9 @@ fn judge_behind<'a>(
     front: &mut Option<Front<'a>>,
     text: &'a [u8],
 ) -> Line
-    requires { IfSome front.old (λ f. FrontSays (known devices.now) f.time.now f.moment f.part.now f.device) }
+    requires { IfSome front.old (λ f. FrontSays (known devices.now) f.to_point.now f.seconds f.part.now f.device) }
     ensures line { result ≡ judged_text (known devices.now) text.now }
-    ensures front { IfSome front.new (λ f. FrontSays (known devices.now) f.time.now f.moment f.part.now f.device) }
+    ensures front { IfSome front.new (λ f. FrontSays (known devices.now) f.to_point.now f.seconds f.part.now f.device) }
 {
     if let Some(kept) = front {
         if let Some(line) = quick(devices, kept, text) {
@@ -247,7 +247,7 @@ fn judge_alone<'a>(
     text: &'a [u8],
 ) -> Line
     ensures line { result ≡ judged_text (known devices.now) text.now }
-    ensures front { IfSome front.new (λ f. FrontSays (known devices.now) f.time.now f.moment f.part.now f.device) }
+    ensures front { IfSome front.new (λ f. FrontSays (known devices.now) f.to_point.now f.seconds f.part.now f.device) }
 {
     *front = front_of(devices, text);
     judge_text(devices, text)
