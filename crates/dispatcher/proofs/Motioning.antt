@@ -27,6 +27,12 @@ both_channels : (a b x : Bool) → ((a && b) && (a && x)) ≡ ((a && b) && x)
 both_channels true b x = refl
 both_channels false b x = refl
 
+-- a motion can reach a channel that is live and shown on the display of its device
+pub reaches : (live shown : ℕ) (windows : List Window) (display c : ℕ) → mask_has shown c ≡ (is_channel c && is_shown_on windows display c)
+    → mask_has (bit_and live shown) c ≡ (mask_has live c && is_shown_on windows display c)
+reaches live shown windows display c shows =
+    mask_has-and live shown c ∙ ap (λ b. mask_has live c && b) shows ∙ both_channels (is_channel c) _ (is_shown_on windows display c)
+
 -- by what is found of it in the tables
 pub motion_told : (old new : Routing) (place clk : ℕ) (m : Motion) (r : Round) (by : Mark) (live shown able : ℕ) (windows : List Window) (display : ℕ)
     → IsOf by (Some m) (target_number old.focus) [] 0 0 r
@@ -42,9 +48,7 @@ motion_told old new place clk m r by live shown able windows display is from ws 
     λ s h. subst (λ v. Sees s v reach able m.device) (sym ws) (subst (λ n. Sees s old.shown.windows reach n m.device) (sym a) h) in
     motion_pumps old new place clk m r by reach is from
     (λ c.
-    mask_has-and live shown c
-    ∙ ap (λ b. mask_has live c && b) (shows c)
-    ∙ both_channels (is_channel c) _ (is_shown_on windows display c)
+    reaches live shown windows display c (shows c)
     ∙ ap (λ n. mask_has n c && is_shown_on windows display c) l
     ∙ ap (λ v. mask_has old.channels.live c && is_shown_on v display c) ws
     ∙ ap (λ y. mask_has old.channels.live c && is_shown_on old.shown.windows y c) d)

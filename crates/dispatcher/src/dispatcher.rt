@@ -18,6 +18,8 @@ ghost use Rattle.dispatcher.specs.Access.{is_waiting, next_repeat, HoldsInput};
 ghost use Rattle.dispatcher.specs.Dispatching.{StandsFor};
 ghost use Rattle.dispatcher.specs.Memory.{IsCalm, MayCount};
 
+mod asked;
+
 use crate::apply::apply;
 use crate::tables::Tables;
 use crate::unread::apply_unread;

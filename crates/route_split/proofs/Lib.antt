@@ -1,3 +1,4 @@
+pub mod Passed
 pub mod Changing
 pub mod Arms
 pub mod MaskSets

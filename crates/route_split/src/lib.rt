@@ -20,6 +20,7 @@
 
 mod choice;
 mod concern;
+mod holding;
 pub mod laws;
 mod mark;
 mod marking;
@@ -33,6 +34,7 @@ mod touches;
 mod watching;
 
 pub use mark::Mark;
+pub use slip::Way;
 pub use tells::Tells;
 pub use touches::Touches;
 pub use watching::watchers;

@@ -13,10 +13,10 @@ use input_types::{DeviceId, Motion, MotionAction, Pointer, PointerId};
 use window_snapshot::{Window, mask_has};
 
 /// From which window to which one a pointer slips.
-#[derive(Clone, Copy)]
-pub(crate) struct Way {
-    pub(crate) from: u32,
-    pub(crate) to: u32,
+#[derive(Clone, Copy, Debug)]
+pub struct Way {
+    pub from: u32,
+    pub to: u32,
 }
 
 /// The windows that were found.

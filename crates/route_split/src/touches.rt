@@ -1,28 +1,33 @@
 //! The touch states of all devices.
-ghost use Rattle.std.specs.Prelude.{◌≡◌, ℕ, true, IfOk, IfSome};
+ghost use Rattle.std.specs.Prelude.{◌≡◌, ◌==◌, ℕ, true, IfOk, IfSome, option_map};
+ghost use Rattle.std.specs.List.{list_any};
 ghost use Rattle.bits32.specs.Set.{is_in};
 ghost use Rattle.window_snapshot.specs.Mask.{is_channel, mask_has};
-ghost use Rattle.routing_rules.specs.Choice.{choice_at};
+ghost use Rattle.routing_rules.specs.Choice.{choice_at, takers};
 ghost use Rattle.routing_rules.specs.Taking.{takes, pilfers};
 ghost use Rattle.routing_rules.specs.Scene.{Scene, Moves};
 ghost use Rattle.routing_rules.specs.Given.{changed, mark as rule_mark};
 ghost use Rattle.routing_rules.specs.Told.{after, told};
+ghost use Rattle.routing_rules.specs.Slip.{slip};
 ghost use Rattle.route_split.specs.Seen.{Sees};
+ghost use Rattle.route_split.specs.Slipping.{rule_slip};
 ghost use Rattle.route_split.specs.Telling.{IsTold, IsListed};
 ghost use Rattle.routing_rules.specs.Watching.{is_watching};
-ghost use Rattle.route_split.specs.Tables.{table_of, any_at, holds_at, Stands, IsFresh, ChangesAll};
+ghost use Rattle.route_split.specs.Tables.{table_of, any_at, holds_at, pilfering_at, Stands, IsFresh, ChangesAll};
 ghost use Rattle.route_split.specs.Marking.{gives, taking, IsWhole, IsMark, AreLosses, may_be_told};
 
-use crate::choice::choice_at;
+use crate::choice::{choice_at, takers};
 use crate::concern::given_windows;
+use crate::holding::holding;
 use crate::mark::Mark;
 use crate::marking::{change_by, fresh_states, index_of};
 use crate::motion::mark_of;
 use crate::seen::Seen;
+use crate::slip::{Way, slip_of};
 use crate::telling::tells_of;
 use crate::tells::Tells;
 use bits32::Bits32;
-use input_types::{DeviceId, Motion, Pixel};
+use input_types::{DeviceId, Motion, Pixel, PointerId};
 use pilfer_monitor::Losses;
 use routing_rules::Choice;
 use std::alloc::{AllocError, Global};
@@ -74,6 +79,13 @@ impl Touches {
         self.states[index_of(device)].holders()
     }
 
+    /// The mask of the windows that are pilfering a device.
+    pub fn pilfering(&self, device: DeviceId) -> u64
+        ensures { (w : ℕ) → mask_has result w ≡ pilfering_at self.now w device }
+    {
+        self.states[index_of(device)].pilfering()
+    }
+
     /// The mark of a motion: who gets a pointer that goes down, from whom one goes that goes up, and between which
     /// windows one slips. The masks are those of the channels that the device can reach, and of those that are able to
     /// take input.
@@ -111,6 +123,50 @@ impl Touches {
             table: &self.states[index_of(device)],
         };
         choice_at(&seen, device, at)
+    }
+
+    /// The mask of the windows that get a pointer of a device that goes down at a place. The masks are those of the
+    /// channels that the device can reach, and of those that are able to take input.
+    pub fn takers(
+        &self,
+        device: DeviceId,
+        at: Pixel,
+        windows: &Snapshot,
+        reach: u64,
+        able: u64,
+    ) -> u64
+        ensures { (s : Scene) → Stands s self.now → Sees s windows.now reach able device → (w : ℕ)
+            → mask_has result w ≡ list_any (λ v. v == w) (takers s device at) }
+    {
+        let seen = Seen {
+            windows,
+            reach,
+            able,
+            table: &self.states[index_of(device)],
+        };
+        takers(&seen, device, at)
+    }
+
+    /// From which window to which one the pointer of a motion slips; None exactly where it slips nowhere. The masks are
+    /// those of the channels that the device can reach, and of those that are able to take input.
+    pub fn slip(&self, motion: &Motion, windows: &Snapshot, reach: u64, able: u64) -> Option<Way>
+        ensures { (s : Scene) → Stands s self.now → Sees s windows.now reach able motion.now.device
+            → option_map rule_slip result ≡ slip s motion.now }
+    {
+        let seen = Seen {
+            windows,
+            reach,
+            able,
+            table: &self.states[index_of(motion.device)],
+        };
+        slip_of(&seen, motion)
+    }
+
+    /// The mask of the windows that hold a pointer of a device.
+    pub fn holding(&self, device: DeviceId, id: PointerId) -> u64
+        ensures { (w : ℕ) → mask_has result w ≡ holds_at self.now w device id }
+    {
+        holding(&self.states[index_of(device)], id)
     }
 
     /// The mask of the windows that may be told something of a device at the step of a mark: those that hold something

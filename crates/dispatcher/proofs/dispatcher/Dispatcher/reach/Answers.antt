@@ -1,0 +1,29 @@
+use Rattle.std.proofs.Common.{◌≡◌, ◌&&◌, ℕ, sym, ap, ◌∙◌, subst, bit_and}
+use Rattle.input_types.specs.Displays.{device_display}
+use Rattle.window_snapshot.specs.Mask.{mask_has}
+use Rattle.window_snapshot.specs.Named.{is_shown_on}
+use Rattle.dispatch_history.specs.Step.{reach}
+use Rattle.dispatcher.specs.Dispatching.{Dispatching, StandsFor}
+use Rattle.dispatcher.proofs.Motioning.{reaches}
+use Rattle.dispatcher.proofs.Rooms.{stands_raw}
+use Rattle.dispatcher.proofs.Stepping.{sees_law}
+use Rattle.dispatcher.proofs.dispatcher.Dispatcher.reach.Goals as goal
+
+pub returns : goal.returns
+returns c =
+    λ es s k.
+    let r = c.self.inside.tables.routing in
+    let d = c.args.device in
+    let live = c.live.result in
+    let shown = c.on-shown.result in
+    let mask = bit_and live shown in
+    let stands =
+    stands_raw r.displays es c.self.inside.tables.queueing r.shown r.touches r.channels r.focus r.repeat
+    (subst (StandsFor es) (sym c.self.view_is) s) in
+    let has : (j : ℕ) → mask_has mask j ≡ (mask_has r.channels.live j && is_shown_on r.shown.windows (device_display r.displays d) j) =
+    λ j.
+    reaches live shown c.windows.result.now c.of.result j (c.on-shown.ensures j)
+    ∙ ap (λ n. mask_has n j && is_shown_on c.windows.result.now c.of.result j) c.live.ensures.value
+    ∙ ap (λ ws. mask_has r.channels.live j && is_shown_on ws c.of.result j) c.windows.ensures
+    ∙ ap (λ y. mask_has r.channels.live j && is_shown_on r.shown.windows y j) c.of.ensures in
+    sym (ap (λ f. f k) (sees_law r.displays es _ d mask stands has).reach_is) ∙ ap (λ (x : Dispatching). reach x.displays es d k) c.self.view_is

@@ -1,0 +1,78 @@
+//! What is asked of what decides where input goes: the args that wait, the windows, the channels that can have input,
+//! the focus, and the key that is to be repeated.
+ghost use Rattle.std.specs.Prelude.{◌≡◌, ℕ, List, option_map, slice_get};
+ghost use Rattle.std.specs.Option.{option_copied};
+ghost use Rattle.window_snapshot.specs.Mask.{mask_has};
+ghost use Rattle.key_repeat.specs.Due.{next_of};
+ghost use Rattle.dispatch_history.specs.Delivery.{able};
+ghost use Rattle.dispatch_history.specs.Effect.{Effect, past_of};
+ghost use Rattle.dispatch_history.specs.Focus.{focus, key_target};
+ghost use Rattle.dispatch_history.specs.History.{snapshot};
+ghost use Rattle.dispatch_history.specs.KeyTold.{last_key, while_held};
+ghost use Rattle.dispatch_history.specs.Queue.{inbound};
+ghost use Rattle.dispatch_history.specs.Step.{reach};
+ghost use Rattle.dispatcher.specs.Dispatching.{StandsFor};
+
+use crate::dispatcher::Dispatcher;
+use input_types::{Args, DeviceId, DisplayId, KeyMsg};
+use window_snapshot::Snapshot;
+
+impl Dispatcher {
+    /// The args that are dispatched next; None exactly where none wait.
+    pub fn first(&self) -> Option<&Args>
+        ensures { (es : List Effect) → StandsFor es self.now
+            → option_copied result ≡ slice_get (inbound (past_of es)) 0 }
+    {
+        self.tables.queueing.first()
+    }
+
+    /// The windows of the last snapshot; none before the first one.
+    pub fn windows(&self) -> &Snapshot
+        ensures { (es : List Effect) → StandsFor es self.now → result.now ≡ snapshot (past_of es) }
+    {
+        self.tables.routing.shown.windows()
+    }
+
+    /// The mask of the channels that a motion of a device can reach: those that are live, and have a window on its
+    /// display.
+    pub fn reach(&self, device: DeviceId) -> u64
+        ensures { (es : List Effect) → StandsFor es self.now → (c : ℕ)
+            → mask_has result c ≡ reach self.now.displays es device c }
+    {
+        let routing = &self.tables.routing;
+        let shown = routing.shown.windows().on(routing.displays.of(device));
+        routing.channels.live() & shown
+    }
+
+    /// The mask of the channels that are able to take input: live, and not unresponsive.
+    pub fn able(&self) -> u64
+        ensures { (es : List Effect) → StandsFor es self.now → (c : ℕ) → mask_has result c ≡ able es c }
+    {
+        self.tables.routing.channels.able()
+    }
+
+    /// The channel whose window has the focus of a display, where there is one.
+    pub fn focused(&self, display: DisplayId) -> Option<u32>
+        ensures { (es : List Effect) → StandsFor es self.now → result ≡ focus (past_of es) display }
+    {
+        // Read for its clause alone: a display has one of the numbers 0 to 3.
+        let _number = display.get();
+        self.tables.routing.focus.current(display)
+    }
+
+    /// The channel whose window keys go to, where there is one.
+    pub fn target(&self) -> Option<u32>
+        ensures { (es : List Effect) → StandsFor es self.now → result ≡ key_target (past_of es) }
+    {
+        self.tables.routing.focus.target()
+    }
+
+    /// The channel that the key message that was told last is repeated for, and the repeat; None exactly where its
+    /// window does not hold the key any more, or it is not repeated.
+    pub fn repeat(&self) -> Option<(u32, KeyMsg)>
+        ensures { (es : List Effect) → StandsFor es self.now
+            → option_map (λ n. (n.0, n.1)) result ≡ next_of (while_held es (last_key es)) }
+    {
+        self.tables.routing.repeat.next()
+    }
+}
