@@ -1,5 +1,5 @@
-//! The front of a line, from its first bracket up to its type. Lines that follow one another mostly have the same one but
-//! for the microseconds, so that it is read once for many lines.
+//! The front of a line, from its first bracket up to its type. Lines that follow one another mostly have the same one
+//! but for the microseconds, so that it is read once for many lines.
 ghost use Rattle.std.specs.Prelude.{◌≡◌, ◌+◌, ◌*◌, ◌^◌, ◌<◌, IfSome};
 ghost use Rattle.raw_events.specs.Line.{known, sent, judged_text};
 ghost use Rattle.raw_events.specs.Front.{SecondsSay, PathSays, FrontSays};
