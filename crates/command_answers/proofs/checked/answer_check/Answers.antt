@@ -1,13 +1,13 @@
 -- A session, a recording and an order that are accepted, and what comes of them.
-use Rattle.std.proofs.Common.{◌∙◌, List, [], ◌∷◌, Option, Ok, Err, ap, sym, subst}
+use Rattle.std.proofs.Common.{◌∙◌, ℕ, Bool, IsTrue, List, [], ◌∷◌, Option, Ok, Err, ap, sym, subst}
 use Rattle.std.proofs.lemmas.Result.{err_from_is_err_and}
 use Rattle.outside_io.specs.Outside.{Entry}
 use Rattle.raw_events.specs.declared.event.RawEvent.{RawEvent}
 use Rattle.raw_events.specs.Line.{Known, known}
 use Rattle.session_plan.specs.View.{plan_view}
 use Rattle.command_files.specs.Devices.{devices_of}
-use Rattle.command_files.specs.Inputs.{events_file, order_file, order_limit, recording_limit, session_file, session_limit}
-use Rattle.command_files.specs.Judged.{Ends}
+use Rattle.command_files.specs.Inputs.{events_file, events_judged, order_file, order_limit, recording_limit, session_file, session_limit}
+use Rattle.command_files.specs.Judged.{Ends, IsJudged}
 use Rattle.command_files.specs.Logged.{IsRead, RefusesFile}
 use Rattle.command_files.proofs.Logs.{any_log, file_by, file_goes, last_by, last_file, then_by}
 use Rattle.command_files.proofs.Outcomes.{if_err_map, if_ok_map}
@@ -59,6 +59,19 @@ returns-in_err-events-clause-err g c =
     (then_by told before mid now c.args.names.session.now session_file ((name, recording_limit) ∷ (c.args.order.now, order_limit) ∷ []) plan (CheckAnswers name c.args.order.now) fb fm fn refusal c.in_ok-session.ensures.later c.in_ok-session.ensures.ok
     (file_by told mid now name (events_file devices) ((c.args.order.now, order_limit) ∷ []) (OrderedBy c.args.order.now plan) fm fn refusal why))
 
+pub read_order-requires-clause-lends : goal.read_order-requires-clause-lends
+read_order-requires-clause-lends g c =
+    let told = g.F.Files.entries c.args.files.now in
+    let plan = plan_view c.in_ok-session.session in
+    let name = c.args.names.events.now in
+    let events : List RawEvent = c.in_ok-events.events.items in
+    let second : IsJudged told name (events_judged (devices_of plan)) (Ok events) =
+    subst (λ (ds : Known). IsJudged told name (events_judged ds) (Ok events)) (ap known c.deref.ensures.value ∙ c.in_ok-devices.ensures)
+    (subst (λ (o : Option (List Entry)). IsJudged o name (events_judged (known c.deref.result.now)) (Ok events)) c.in_ok-session.ensures.entries
+    c.in_ok-events.ensures.told) in
+    subst (λ (lends : List ℕ → Bool). IsTrue (lends c.args.order.now)) (sym (c.in_ok-events.ensures.names ∙ c.in_ok-session.ensures.names))
+    (c.requires.order (plan, c.in_ok-session.ensures.told, (events, second)))
+
 pub returns-in_err-order-clause-err : goal.returns-in_err-order-clause-err
 returns-in_err-order-clause-err g c =
     let told = g.F.Files.entries c.args.files.now in
@@ -76,9 +89,8 @@ returns-in_err-order-clause-err g c =
     let last = c.args.order.now in
     let files = (name, recording_limit) ∷ (last, order_limit) ∷ [] in
     let devices = devices_of plan in
-    let events : List RawEvent = c.deref-2.result.now in
+    let events : List RawEvent = c.in_ok-events.events.items in
     let two : IsRead told mid more name (events_file devices) (Ok events) =
-    subst (λ (es : List RawEvent). IsRead told mid more name (events_file devices) (Ok es)) (sym c.deref-2.ensures.value)
     (subst (λ (ds : Known). IsRead told mid more name (events_file ds) (Ok c.in_ok-events.events.items)) (ap known c.deref.ensures.value ∙ c.in_ok-devices.ensures)
     (subst (λ (o : Option (List Entry)). IsRead o mid more name (events_file (known c.deref.result.now)) (Ok c.in_ok-events.events.items)) c.in_ok-session.ensures.entries
     c.in_ok-events.ensures.ok)) in
