@@ -186,8 +186,8 @@ pub fn feed_file<F: Files>(
     requires lends { IsTrue (F.lends files.old name.now) }
     requires free { F.lent files.old ≡ None }
     requires run { IsRun plan.now }
-    ensures ok { OnOk result (WithFile (F.entries files.old) (F.readings files.old) (F.readings files.new) name.now limit
-        (Feeds plan.now recording.old recording.new)) }
+    ensures ok { OnOk result (WithFile (F.entries files.old) (F.readings files.old) (F.readings files.new)
+        name.now limit (Feeds plan.now recording.old recording.new)) }
     ensures err { IfErr result (StopsReading (F.entries files.old) (F.readings files.old) (F.readings files.new)
         name.now limit (F.faults files.old) (F.faults files.new)) }
     ensures later { F.faults files.old ≤ F.faults files.new }

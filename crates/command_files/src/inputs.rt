@@ -73,7 +73,8 @@ pub fn read_session<F: Files>(alloc: Global, files: &mut F, name: &str) -> Resul
     requires free { F.lent files.old ≡ None }
     ensures ok { IfOk result (λ plan. IsRead (F.entries files.old) (F.readings files.old) (F.readings files.new)
         name.now session_file (Ok (plan_view plan))) }
-    ensures told { IfOk result (λ plan. IsJudged (F.entries files.old) name.now (judged session_file) (Ok (plan_view plan))) }
+    ensures told { IfOk result
+        (λ plan. IsJudged (F.entries files.old) name.now (judged session_file) (Ok (plan_view plan))) }
     ensures valid { IfOk result IsPlan }
     ensures err { IfErr result (RefusesFile (F.entries files.old) (F.readings files.old) (F.readings files.new)
         name.now session_file (F.faults files.old) (F.faults files.new)) }
@@ -99,7 +100,8 @@ pub fn read_events<F: Files>(
     requires free { F.lent files.old ≡ None }
     ensures ok { IfOk result (λ events. IsRead (F.entries files.old) (F.readings files.old) (F.readings files.new)
         name.now (events_file (known devices.now)) (Ok events.items)) }
-    ensures told { IfOk result (λ events. IsJudged (F.entries files.old) name.now (judged (events_file (known devices.now))) (Ok events.items)) }
+    ensures told { IfOk result (λ events. IsJudged (F.entries files.old) name.now
+        (judged (events_file (known devices.now))) (Ok events.items)) }
     ensures err { IfErr result (RefusesFile (F.entries files.old) (F.readings files.old) (F.readings files.new)
         name.now (events_file (known devices.now)) (F.faults files.old) (F.faults files.new)) }
     ensures later { F.faults files.old ≤ F.faults files.new }
