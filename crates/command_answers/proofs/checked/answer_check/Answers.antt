@@ -1,5 +1,5 @@
 -- A session, a recording and an order that are accepted, and what comes of them.
-use Rattle.std.proofs.Common.{◌∙◌, ℕ, Bool, IsTrue, List, [], ◌∷◌, Option, Ok, Err, ap, sym, subst}
+use Rattle.std.proofs.Common.{◌∙◌, ℕ, Bool, IsTrue, List, [], ◌∷◌, Option, Ok, ap, sym, subst}
 use Rattle.std.proofs.lemmas.Result.{err_from_is_err_and}
 use Rattle.outside_io.specs.Outside.{Entry}
 use Rattle.raw_events.specs.declared.event.RawEvent.{RawEvent}

@@ -1,15 +1,14 @@
 -- A session and a recording that are accepted, and what comes of them.
-use Rattle.std.proofs.Common.{List, [], ◌∷◌, Option, Ok, Err, ◌∙◌, ap, sym, subst}
+use Rattle.std.proofs.Common.{List, [], ◌∷◌, Option, Ok, ◌∙◌, ap, sym, subst}
 use Rattle.std.proofs.lemmas.Result.{err_from_is_err_and}
 use Rattle.outside_io.specs.Outside.{Entry}
 use Rattle.raw_events.specs.declared.event.RawEvent.{RawEvent}
 use Rattle.raw_events.specs.Line.{Known, known}
 use Rattle.session_plan.specs.View.{plan_view}
 use Rattle.command_files.specs.Inputs.{events_file, recording_limit, session_file, session_limit}
-use Rattle.command_files.specs.Judged.{Ends, by_log}
-use Rattle.command_files.specs.Logged.{IsRead, Logged, RefusesBy, RefusesFile}
-use Rattle.command_files.proofs.Logs.{any_log, file_by, file_goes, last_by, last_file, more_log, then_by}
-use Rattle.command_files.proofs.Outcomes.{if_err_map, if_ok_map}
+use Rattle.command_files.specs.Judged.{Ends}
+use Rattle.command_files.specs.Logged.{IsRead, Logged, RefusesFile}
+use Rattle.command_files.proofs.Logs.{any_log, file_by, file_goes, last_file, more_log, then_by}
 use Rattle.command_answers.specs.Hover.{HoverAnswers, MouseAnswers, mouse_alone}
 use Rattle.command_answers.proofs.hover.answer_hover.Goals as goal
 

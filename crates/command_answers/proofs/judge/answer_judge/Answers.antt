@@ -1,5 +1,5 @@
 -- A stream file that is accepted, and what is answered of its bytes.
-use Rattle.std.proofs.Common.{ℕ, List, [], Ok, Err, sym, subst}
+use Rattle.std.proofs.Common.{ℕ, List, [], Ok, sym, subst}
 use Rattle.std.proofs.lemmas.Result.{err_from_is_err_and}
 use Rattle.command_files.specs.Inputs.{stream_file}
 use Rattle.command_files.specs.Logged.{IsRead}

@@ -1,5 +1,5 @@
 -- A session and a recording that are accepted, and what comes of them.
-use Rattle.std.proofs.Common.{List, [], ◌∷◌, Option, Ok, Err, ◌∙◌, ap, sym, subst}
+use Rattle.std.proofs.Common.{List, [], ◌∷◌, Option, Ok, ◌∙◌, ap, sym, subst}
 use Rattle.std.proofs.lemmas.Result.{err_from_is_err_and}
 use Rattle.outside_io.specs.Outside.{Entry}
 use Rattle.raw_events.specs.declared.event.RawEvent.{RawEvent}
@@ -7,8 +7,8 @@ use Rattle.raw_events.specs.Line.{Known, known}
 use Rattle.session_plan.specs.View.{plan_view}
 use Rattle.command_files.specs.Devices.{devices_of}
 use Rattle.command_files.specs.Inputs.{events_file, recording_limit, session_file, session_limit}
-use Rattle.command_files.specs.Judged.{Ends, by_log}
-use Rattle.command_files.specs.Logged.{IsRead, Logged, RefusesBy, RefusesFile}
+use Rattle.command_files.specs.Judged.{Ends}
+use Rattle.command_files.specs.Logged.{IsRead, RefusesFile}
 use Rattle.command_files.proofs.Logs.{any_log, file_by, file_goes, last_by, last_file, then_by}
 use Rattle.command_files.proofs.Outcomes.{if_err_map, if_ok_map}
 use Rattle.command_answers.specs.Race.{RaceAnswers, ThreadsAnswer}

@@ -1,5 +1,5 @@
 -- The file of a recording and its text.
-use Rattle.std.proofs.Common.{ℕ, List, [], ◌∷◌, Ok, Err, refl, sym, subst}
+use Rattle.std.proofs.Common.{[], ◌∷◌, Ok, Err, refl, sym, subst}
 use Rattle.command_files.specs.declared.refusal.Refusal.{Refusal}
 use Rattle.command_files.specs.declared.refusal.Subject.TheVariants as subject
 use Rattle.command_files.specs.Devices.{devices_of}
