@@ -8,5 +8,6 @@ pub mod Orders
 pub mod Overruns
 pub mod RaceTexts
 pub mod Ties
+pub mod Told
 pub mod WholeRun
 pub mod WorkRuns

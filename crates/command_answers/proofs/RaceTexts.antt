@@ -1,6 +1,6 @@
 -- What the end of a race of a session's run says of its text.
 use Rattle.std.proofs.Common.{◌≡◌, ◌∙◌, ◌-◌, ◌<◌, ℕ, zero, suc, ◌+◌, Bool, true, false, List, ◌∷◌, cond, length, map, reverse, Some, Result, Ok, Err, IfOk, ap, sym, subst, refl, arith, []}
-use Rattle.std.specs.Prelude.{◌==◌, ◌≤◌, ◌++◌, is_some}
+use Rattle.std.specs.Prelude.{◌==◌, ◌≤◌, is_some}
 use Rattle.std.proofs.Math.Path.{fun_ext}
 use Rattle.std.proofs.lemmas.Bool.{eqb-true, eq-eqb}
 use Rattle.std.proofs.lemmas.List.{length-map, map-append}

@@ -9,14 +9,13 @@ use Rattle.session_plan.specs.DeviceDisplays.{device_displays}
 use Rattle.session_plan.specs.Plan.{PlanData}
 use Rattle.stream_text.specs.declared.order_line.OrderLine.{OrderLine}
 use Rattle.stream_text.specs.StreamsHistory.{streams_text}
-use Rattle.command_files.specs.Judged.{Answer, Reads}
+use Rattle.command_files.specs.Judged.{Answer, Ends, Origin, Reads}
 use Rattle.command_files.specs.Planned.{given, names_of, run_of}
 use Rattle.command_files.specs.Refused.{no_step, too_long}
 use Rattle.command_answers.specs.Whole.{AreWhole}
-use Rattle.command_files.specs.Inputs.{events_judged, order_judged}
+use Rattle.command_files.specs.Inputs.{events_file, order_file}
 use Rattle.command_files.specs.Devices.{devices_of}
 use Rattle.command_answers.specs.Given.{given_limit}
-use Rattle.outside_io.specs.Outside.{Entry}
 
 -- the most lines of an order that is run
 abbrev pub line_limit : ℕ
@@ -52,6 +51,9 @@ abbrev pub OrderAnswers : PlanData → List RawEvent → List OrderLine → Answ
 OrderAnswers plan events lines a = IsFollowed plan (reverse events) lines a
 
 -- the answer once session and recording are accepted: the order file is judged, and then comes the run
-abbrev pub CheckAnswers : List Entry → List ℕ → List ℕ → PlanData → Answer → Type 0
-CheckAnswers entries events order plan a =
-    Reads entries events (events_judged (devices_of plan)) (λ given. Reads entries order order_judged (OrderAnswers plan given)) a
+abbrev pub OrderedBy : List ℕ → PlanData → Origin → List RawEvent → Answer → Type 0
+OrderedBy order plan from given a = Reads from order order_file (λ last lines. Ends (OrderAnswers plan given lines) last) a
+
+-- the answer once the session is accepted: the recording is judged, and then the order file
+abbrev pub CheckAnswers : List ℕ → List ℕ → Origin → PlanData → Answer → Type 0
+CheckAnswers events order from plan a = Reads from events (events_file (devices_of plan)) (OrderedBy order plan) a

@@ -1,12 +1,11 @@
 -- What `compare` answers of two stream files.
 use Rattle.std.specs.Prelude.{◌≡◌, ℕ, List, Result, Ok, Err}
-use Rattle.outside_io.specs.Outside.{Entry}
 use Rattle.compare_text.specs.declared.error.CompareError.{CompareError}
 use Rattle.compare_text.specs.declared.error.CompareError.TheVariants.{Differs, Missing, Added, NoSection, NewSection, Memory}
 use Rattle.compare_text.specs.Compared.{compared}
 use Rattle.compare_text.specs.Points.{Section}
-use Rattle.command_files.specs.Inputs.{got_judged}
-use Rattle.command_files.specs.Judged.{Answer, Reads}
+use Rattle.command_files.specs.Inputs.{got_file}
+use Rattle.command_files.specs.Judged.{Answer, Ends, Origin, Reads}
 use Rattle.command_files.specs.Refused.{not_same}
 use Rattle.command_files.specs.declared.refusal.Refusal.{Refusal}
 use Rattle.command_files.specs.declared.refusal.Refusal.TheVariants as refusal
@@ -22,8 +21,8 @@ abbrev pub SameAnswers : ℕ → ℕ → List Section → List Section → Answe
 SameAnswers us pixels want got a = same_answer (compared us pixels want got) ≡ a
 
 -- the answer once the wanted streams are accepted: those that came are judged, and then compared with them
-abbrev pub GotAnswers : List Entry → List ℕ → ℕ → ℕ → List Section → Answer → Type 0
-GotAnswers entries got us pixels want a = Reads entries got got_judged (SameAnswers us pixels want) a
+abbrev pub GotAnswers : List ℕ → ℕ → ℕ → Origin → List Section → Answer → Type 0
+GotAnswers got us pixels from want a = Reads from got got_file (λ rest came. Ends (SameAnswers us pixels want came) rest) a
 
 -- the refusal for streams that are compared
 abbrev pub refusal_of_compare : CompareError → Refusal

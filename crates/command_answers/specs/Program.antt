@@ -1,10 +1,13 @@
 -- The program as a relation of what it answers to its words and to the files.
-use Rattle.std.specs.Prelude.{codes, ◌≡◌, List, Option, Some, None, Err, ℕ, ⊤}
+use Rattle.std.specs.Prelude.{codes, ◌≡◌, List, [], ◌∷◌, Option, Some, None, Err, ℕ, ⊤}
+use Rattle.io_trace.specs.Trace.{Reading}
 use Rattle.outside_io.specs.Outside.{Entry}
 use Rattle.command_words.specs.Command.{Command, replay, race, check, verify, work, batch, hover, emit, judge, compare}
 use Rattle.command_words.specs.Forms.{form_of}
-use Rattle.command_files.specs.Inputs.{session_judged, stream_judged, want_judged}
-use Rattle.command_files.specs.Judged.{Answer, IfTold, Reads}
+use Rattle.command_files.specs.declared.refusal.Refusal.{Refusal}
+use Rattle.command_files.specs.Inputs.{order_limit, recording_limit, session_file, session_limit, stream_file, stream_limit, want_file}
+use Rattle.command_files.specs.Judged.{Answer, Ends, Origin, Reads, by_log}
+use Rattle.command_files.specs.Logged.{Logged, RefusesBy}
 use Rattle.command_files.specs.Refused.{Refused, refused}
 use Rattle.command_answers.specs.Batch.{BatchAnswers}
 use Rattle.command_answers.specs.Checked.{CheckAnswers}
@@ -26,24 +29,44 @@ abbrev pub IsAlone : Option Command → Type 0
 IsAlone (Some (race files)) = ⊥
 IsAlone command = ⊤
 
--- the answer to a command, whose files have to be there
-abbrev pub AnswersTo : List Entry → Option Command → Answer → Type 0
-AnswersTo entries None a = a ≡ Err usage
-AnswersTo entries (Some (replay files)) a = Reads entries files.session session_judged (RecordingAnswers entries files.events) a
-AnswersTo entries (Some (race files)) a = Reads entries files.session session_judged (ThreadsAnswer entries files.events) a
-AnswersTo entries (Some (check files order)) a = Reads entries files.session session_judged (CheckAnswers entries files.events order) a
-AnswersTo entries (Some (verify stream)) a = Reads entries stream stream_judged StreamAnswers a
-AnswersTo entries (Some (work seed packets)) a = Works seed packets a
-AnswersTo entries (Some (batch stream frame)) a = Reads entries stream stream_judged (BatchAnswers frame) a
-AnswersTo entries (Some (hover files mouse)) a = Reads entries files.session session_judged (MouseAnswers entries files.events mouse) a
-AnswersTo entries (Some (emit stream channel device)) a = Reads entries stream stream_judged (EmitAnswers channel device) a
-AnswersTo entries (Some (judge stream)) a = Reads entries stream stream_judged JudgeAnswers a
-AnswersTo entries (Some (compare want got us pixels)) a = Reads entries want want_judged (GotAnswers entries got us pixels) a
+-- the answer to a command, whose files have to be there: under their names, or as they were read in a call
+abbrev pub AnswersTo : Origin → Option Command → Answer → Type 0
+AnswersTo from None a = Ends (λ b. b ≡ Err usage) from a
+AnswersTo from (Some (replay files)) a = Reads from files.session session_file (RecordingAnswers files.events) a
+AnswersTo from (Some (race files)) a = Reads from files.session session_file (ThreadsAnswer files.events) a
+AnswersTo from (Some (check files order)) a = Reads from files.session session_file (CheckAnswers files.events order) a
+AnswersTo from (Some (verify stream)) a = Reads from stream stream_file (λ rest bytes. Ends (StreamAnswers bytes) rest) a
+AnswersTo from (Some (work seed packets)) a = Ends (Works seed packets) from a
+AnswersTo from (Some (batch stream frame)) a = Reads from stream stream_file (λ rest bytes. Ends (BatchAnswers frame bytes) rest) a
+AnswersTo from (Some (hover files mouse)) a = Reads from files.session session_file (MouseAnswers files.events mouse) a
+AnswersTo from (Some (emit stream channel device)) a =
+    Reads from stream stream_file (λ rest bytes. Ends (EmitAnswers channel device bytes) rest) a
+AnswersTo from (Some (judge stream)) a = Reads from stream stream_file (λ rest bytes. Ends (JudgeAnswers bytes) rest) a
+AnswersTo from (Some (compare want got us pixels)) a = Reads from want want_file (GotAnswers got us pixels) a
 
 -- what the program answers: the text that it writes or why it refuses, from the words and the files
-abbrev pub IsAnswer : List Entry → List (List ℕ) → Answer → Type 0
-IsAnswer entries words a = AnswersTo entries (form_of words) a
+abbrev pub IsAnswer : Origin → List (List ℕ) → Answer → Type 0
+IsAnswer from words a = AnswersTo from (form_of words) a
 
--- where the files are told, this is the answer to a command
-abbrev pub Answers : Option (List Entry) → Command → Answer → Type 0
-Answers told command a = IfTold told (λ entries. AnswersTo entries (Some command) a)
+-- the files of a command in the order in which they are read, each with the most bytes that it may have
+abbrev pub files_of : Command → List (List ℕ × ℕ)
+files_of (replay files) = (files.session, session_limit) ∷ (files.events, recording_limit) ∷ []
+files_of (race files) = (files.session, session_limit) ∷ (files.events, recording_limit) ∷ []
+files_of (check files order) = (files.session, session_limit) ∷ (files.events, recording_limit) ∷ (order, order_limit) ∷ []
+files_of (verify stream) = (stream, stream_limit) ∷ []
+files_of (work seed packets) = []
+files_of (batch stream frame) = (stream, stream_limit) ∷ []
+files_of (hover files mouse) = (files.session, session_limit) ∷ (files.events, recording_limit) ∷ []
+files_of (emit stream channel device) = (stream, stream_limit) ∷ []
+files_of (judge stream) = (stream, stream_limit) ∷ []
+files_of (compare want got us pixels) = (want, stream_limit) ∷ (got, stream_limit) ∷ []
+
+-- files of a command were read so far as this is its answer by what they gave
+abbrev pub Answers : Option (List Entry) → List Reading → List Reading → Command → Answer → Type 0
+Answers told before now command a =
+    Logged told before now (files_of command) (λ readings. AnswersTo (by_log readings) (Some command) a)
+
+-- a command has no text: a read failed, memory ran out, or this is its answer; files of it were read
+abbrev pub RefusesCommand : Option (List Entry) → List Reading → List Reading → Command → ℕ → ℕ → Refusal → Type 0
+RefusesCommand told before now command faults_before faults_now r =
+    RefusesBy (λ x. Answers told before now command (Err x)) (Logged told before now (files_of command) (λ readings. ⊤)) faults_before faults_now r

@@ -20,14 +20,13 @@ use Rattle.stream_text.specs.declared.order_line.OrderLine.{OrderLine}
 use Rattle.stream_text.specs.Order.{order_spelling}
 use Rattle.stream_text.specs.StreamsHistory.{streams_text}
 use Rattle.command_answers.specs.Given.{given_limit}
-use Rattle.command_files.specs.Judged.{Answer, Reads}
+use Rattle.command_files.specs.Judged.{Answer, Ends, Origin, Reads}
 use Rattle.replay_actors.specs.Session.{channel_of}
 use Rattle.command_files.specs.Planned.{given, names_of, run_of}
 use Rattle.command_files.specs.Refused.{too_long}
 use Rattle.command_answers.specs.Whole.{AreWhole}
-use Rattle.command_files.specs.Inputs.{events_judged}
+use Rattle.command_files.specs.Inputs.{events_file}
 use Rattle.command_files.specs.Devices.{devices_of}
-use Rattle.outside_io.specs.Outside.{Entry}
 
 -- the owner of a channel finishes what it is given, where the first of these channels has the number k
 abbrev pub finishes_from : ℕ → List ChannelOf → ℕ → Bool
@@ -83,5 +82,6 @@ abbrev pub RaceAnswers : PlanData → List RawEvent → Answer → Type 0
 RaceAnswers plan events a = Races plan (reverse events) a
 
 -- the answer once the session is accepted: the recording is judged, and then comes the race
-abbrev pub ThreadsAnswer : List Entry → List ℕ → PlanData → Answer → Type 0
-ThreadsAnswer entries events plan a = Reads entries events (events_judged (devices_of plan)) (RaceAnswers plan) a
+abbrev pub ThreadsAnswer : List ℕ → Origin → PlanData → Answer → Type 0
+ThreadsAnswer events from plan a =
+    Reads from events (events_file (devices_of plan)) (λ rest given. Ends (RaceAnswers plan given) rest) a

@@ -10,10 +10,9 @@ use Rattle.schedule.specs.Run.{IsWithin, IsTooLong}
 use Rattle.command_files.specs.Planned.{run_of, names_of}
 use Rattle.command_files.specs.Refused.{Refused, too_long}
 use Rattle.command_answers.specs.Whole.{AreWhole}
-use Rattle.command_files.specs.Judged.{Answer, Reads}
-use Rattle.command_files.specs.Inputs.{events_judged}
+use Rattle.command_files.specs.Judged.{Answer, Ends, Origin, Reads}
+use Rattle.command_files.specs.Inputs.{events_file}
 use Rattle.command_files.specs.Devices.{devices_of}
-use Rattle.outside_io.specs.Outside.{Entry}
 
 -- The text of the streams of the ordered run, whose calls and messages are no more than may be. Events stand with the newest first.
 pub record Replayed (plan : PlanData) (past : List RawEvent) (text : List ℕ) : Type 0 where
@@ -39,5 +38,6 @@ abbrev pub RunAnswers : PlanData → List RawEvent → Answer → Type 0
 RunAnswers plan events a = Replays plan (reverse events) a
 
 -- the answer once the session is accepted: the recording is judged, and then comes the run
-abbrev pub RecordingAnswers : List Entry → List ℕ → PlanData → Answer → Type 0
-RecordingAnswers entries events plan a = Reads entries events (events_judged (devices_of plan)) (RunAnswers plan) a
+abbrev pub RecordingAnswers : List ℕ → Origin → PlanData → Answer → Type 0
+RecordingAnswers events from plan a =
+    Reads from events (events_file (devices_of plan)) (λ rest given. Ends (RunAnswers plan given) rest) a

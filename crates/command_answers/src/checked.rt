@@ -9,13 +9,13 @@ ghost use Rattle.session_plan.specs.Valid.{IsPlan};
 ghost use Rattle.command_words.specs.Command.{check};
 ghost use Rattle.command_words.specs.CommandView.{recorded_view};
 ghost use Rattle.command_files.specs.Inputs.{AreAccepted, IsAccepted};
-ghost use Rattle.command_answers.specs.Program.{Answers};
+ghost use Rattle.command_answers.specs.Program.{Answers, RefusesCommand};
 ghost use Rattle.session_plan.specs.View.{channel_view, plan_view};
 ghost use Rattle.command_answers.specs.Plan.{IsPlanned};
 ghost use Rattle.command_files.specs.Cooked.{plans_of};
 ghost use Rattle.command_answers.specs.Checked.{IsFollowed, OrderAnswers};
 ghost use Rattle.command_files.specs.Planned.{given};
-ghost use Rattle.command_files.specs.Refusing.{Refuses, RefusesSo};
+ghost use Rattle.command_files.specs.Refusing.{RefusesSo};
 
 use crate::given::{GIVEN_LIMIT, cook_events};
 use crate::plan::{Planned, plan_run};
@@ -105,11 +105,14 @@ pub fn answer_check<F: Files>(
     requires order { AreAccepted (F.entries files.old) names.session.now names.events.now
         → IsTrue (F.lends files.old order.now) }
     requires free { F.lent files.old ≡ None }
-    ensures ok { IfOk result
-        (λ text. Answers (F.entries files.old) (check (recorded_view names.entry) order.now) (Ok text)) }
-    ensures err { IfErr result (Refuses
-        (λ r. Answers (F.entries files.old) (check (recorded_view names.entry) order.now) (Err r))
-        (F.faults files.old) (F.faults files.new)) }
+    ensures ok { IfOk result (λ text. Answers (F.entries files.old) (F.readings files.old) (F.readings files.new)
+        (check (recorded_view names.entry) order.now) (Ok text)) }
+    ensures err { IfErr result (RefusesCommand (F.entries files.old) (F.readings files.old) (F.readings files.new)
+        (check (recorded_view names.entry) order.now) (F.faults files.old) (F.faults files.new)) }
+    ensures later { F.faults files.old ≤ F.faults files.new }
+    ensures free { F.lent files.new ≡ None }
+    ensures entries { F.entries files.new ≡ F.entries files.old }
+    ensures names { F.lends files.new ≡ F.lends files.old }
 {
     let session = read_session(alloc, files, names.session)?;
     let devices = numbered_devices(alloc, &session)?;

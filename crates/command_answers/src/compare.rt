@@ -1,13 +1,14 @@
 //! `compare`: whether the streams that came agree with those that were wanted, up to a time and a place.
-ghost use Rattle.std.specs.Prelude.{◌≡◌, IsTrue, None, Ok, Err, IfOk, IfErr};
+ghost use Rattle.std.specs.Prelude.{◌≡◌, ◌≤◌, [], ◌∷◌, ⊤, IsTrue, None, Ok, Err, IfOk, IfErr};
 ghost use Rattle.command_words.specs.Command.{compare};
 ghost use Rattle.compare_text.specs.Indexed.{file_sections};
-ghost use Rattle.command_files.specs.Inputs.{IsWant, sections_said};
-ghost use Rattle.command_files.specs.Judged.{After, IfTold};
+ghost use Rattle.command_files.specs.Inputs.{IsWant, sections_said, stream_limit};
+ghost use Rattle.command_files.specs.Judged.{by_log};
+ghost use Rattle.command_files.specs.Logged.{Logged, RefusesBy};
 ghost use Rattle.command_files.specs.Refused.{bad_got_line, bad_want_line};
-ghost use Rattle.command_files.specs.Refusing.{Refuses, RefusesSo};
+ghost use Rattle.command_files.specs.Refusing.{RefusesSo};
 ghost use Rattle.command_answers.specs.Compare.{GotAnswers, SameAnswers, refusal_of_compare};
-ghost use Rattle.command_answers.specs.Program.{Answers};
+ghost use Rattle.command_answers.specs.Program.{Answers, RefusesCommand};
 
 use command_files::{Refusal, StreamError, read_stream};
 use compare_text::{CompareError, Sections, Tolerance, compare_text};
@@ -80,11 +81,19 @@ fn answer_got<F: Files>(
 ) -> Result<Pieces, Refusal>
     requires lends { IsTrue (F.lends files.old name.now) }
     requires free { F.lent files.old ≡ None }
-    ensures ok { IfOk result (λ text. IfTold (F.entries files.old)
-        (λ es. GotAnswers es name.now tolerance.us tolerance.pixels want.now (Ok text))) }
-    ensures err { IfErr result (Refuses (λ r. IfTold (F.entries files.old)
-        (λ es. GotAnswers es name.now tolerance.us tolerance.pixels want.now (Err r)))
-        (F.faults files.old) (F.faults files.new)) }
+    ensures ok { IfOk result (λ text. Logged (F.entries files.old) (F.readings files.old) (F.readings files.new)
+        ((name.now, stream_limit) ∷ [])
+        (λ rs. GotAnswers name.now tolerance.us tolerance.pixels (by_log rs) want.now (Ok text))) }
+    ensures err { IfErr result (RefusesBy
+        (λ x. Logged (F.entries files.old) (F.readings files.old) (F.readings files.new)
+        ((name.now, stream_limit) ∷ [])
+        (λ rs. GotAnswers name.now tolerance.us tolerance.pixels (by_log rs) want.now (Err x)))
+        (Logged (F.entries files.old) (F.readings files.old) (F.readings files.new)
+        ((name.now, stream_limit) ∷ []) (λ rs. ⊤)) (F.faults files.old) (F.faults files.new)) }
+    ensures later { F.faults files.old ≤ F.faults files.new }
+    ensures free { F.lent files.new ≡ None }
+    ensures entries { F.entries files.new ≡ F.entries files.old }
+    ensures names { F.lends files.new ≡ F.lends files.old }
 {
     let bytes = read_stream(alloc, files, name)?;
     let got = came(alloc, &bytes)?;
@@ -102,11 +111,14 @@ pub fn answer_compare<F: Files>(
     requires want { IsTrue (F.lends files.old want.now) }
     requires got { IsWant (F.entries files.old) want.now → IsTrue (F.lends files.old got.now) }
     requires free { F.lent files.old ≡ None }
-    ensures ok { IfOk result (λ text. Answers (F.entries files.old)
+    ensures ok { IfOk result (λ text. Answers (F.entries files.old) (F.readings files.old) (F.readings files.new)
         (compare want.now got.now tolerance.us tolerance.pixels) (Ok text)) }
-    ensures err { IfErr result (Refuses (λ r. Answers (F.entries files.old)
-        (compare want.now got.now tolerance.us tolerance.pixels) (Err r))
-        (F.faults files.old) (F.faults files.new)) }
+    ensures err { IfErr result (RefusesCommand (F.entries files.old) (F.readings files.old) (F.readings files.new)
+        (compare want.now got.now tolerance.us tolerance.pixels) (F.faults files.old) (F.faults files.new)) }
+    ensures later { F.faults files.old ≤ F.faults files.new }
+    ensures free { F.lent files.new ≡ None }
+    ensures entries { F.entries files.new ≡ F.entries files.old }
+    ensures names { F.lends files.new ≡ F.lends files.old }
 {
     let bytes = read_stream(alloc, files, want)?;
     let sections = wanted(alloc, &bytes)?;

@@ -1,14 +1,13 @@
 //! `hover`: what the windows of a session are told of a mouse.
-ghost use Rattle.std.specs.Prelude.{◌≡◌, IsTrue, None, Ok, Err, IfOk, IfErr};
+ghost use Rattle.std.specs.Prelude.{◌≡◌, ◌≤◌, IsTrue, None, Ok, Err, IfOk, IfErr};
 ghost use Rattle.command_words.specs.Command.{hover};
 ghost use Rattle.command_words.specs.CommandView.{recorded_view};
 ghost use Rattle.raw_events.specs.Line.{known};
 ghost use Rattle.session_plan.specs.Valid.{IsPlan};
 ghost use Rattle.session_plan.specs.View.{plan_view};
 ghost use Rattle.command_files.specs.Inputs.{IsAccepted};
-ghost use Rattle.command_files.specs.Refusing.{Refuses};
 ghost use Rattle.command_answers.specs.Hover.{HoverAnswers, mouse_alone};
-ghost use Rattle.command_answers.specs.Program.{Answers};
+ghost use Rattle.command_answers.specs.Program.{Answers, RefusesCommand};
 
 use command_files::{Refusal, device_number, read_events, read_session};
 use command_words::Recorded;
@@ -50,11 +49,14 @@ pub fn answer_hover<F: Files>(
     requires session { IsTrue (F.lends files.old names.session.now) }
     requires events { IsAccepted (F.entries files.old) names.session.now → IsTrue (F.lends files.old names.events.now) }
     requires free { F.lent files.old ≡ None }
-    ensures ok { IfOk result
-        (λ text. Answers (F.entries files.old) (hover (recorded_view names.entry) mouse.now) (Ok text)) }
-    ensures err { IfErr result (Refuses
-        (λ r. Answers (F.entries files.old) (hover (recorded_view names.entry) mouse.now) (Err r))
-        (F.faults files.old) (F.faults files.new)) }
+    ensures ok { IfOk result (λ text. Answers (F.entries files.old) (F.readings files.old) (F.readings files.new)
+        (hover (recorded_view names.entry) mouse.now) (Ok text)) }
+    ensures err { IfErr result (RefusesCommand (F.entries files.old) (F.readings files.old) (F.readings files.new)
+        (hover (recorded_view names.entry) mouse.now) (F.faults files.old) (F.faults files.new)) }
+    ensures later { F.faults files.old ≤ F.faults files.new }
+    ensures free { F.lent files.new ≡ None }
+    ensures entries { F.entries files.new ≡ F.entries files.old }
+    ensures names { F.lends files.new ≡ F.lends files.old }
 {
     let session = read_session(alloc, files, names.session)?;
     let devices = mouse_alone(alloc, mouse)?;

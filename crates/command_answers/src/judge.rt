@@ -1,9 +1,9 @@
 //! `judge`: whether each section of a stream file is whole, and if not, why.
-ghost use Rattle.std.specs.Prelude.{◌≡◌, IsTrue, None, Ok, Err, IfOk, IfErr};
+ghost use Rattle.std.specs.Prelude.{◌≡◌, ◌≤◌, IsTrue, None, Ok, Err, IfOk, IfErr};
 ghost use Rattle.command_words.specs.Command.{judge};
-ghost use Rattle.command_files.specs.Refusing.{Refuses, RefusesSo};
+ghost use Rattle.command_files.specs.Refusing.{RefusesSo};
 ghost use Rattle.command_answers.specs.Judge.{JudgeAnswers, refusal_of_judge};
-ghost use Rattle.command_answers.specs.Program.{Answers};
+ghost use Rattle.command_answers.specs.Program.{Answers, RefusesCommand};
 
 use command_files::{Refusal, StreamError, read_stream};
 use judge_text::{JudgeError, judge_text};
@@ -37,9 +37,14 @@ fn judged(alloc: Global, bytes: &[u8]) -> Result<Pieces, Refusal>
 pub fn answer_judge<F: Files>(alloc: Global, files: &mut F, name: &str) -> Result<Pieces, Refusal>
     requires lends { IsTrue (F.lends files.old name.now) }
     requires free { F.lent files.old ≡ None }
-    ensures ok { IfOk result (λ text. Answers (F.entries files.old) (judge name.now) (Ok text)) }
-    ensures err { IfErr result (Refuses
-        (λ r. Answers (F.entries files.old) (judge name.now) (Err r)) (F.faults files.old) (F.faults files.new)) }
+    ensures ok { IfOk result (λ text. Answers (F.entries files.old) (F.readings files.old) (F.readings files.new)
+        (judge name.now) (Ok text)) }
+    ensures err { IfErr result (RefusesCommand (F.entries files.old) (F.readings files.old) (F.readings files.new)
+        (judge name.now) (F.faults files.old) (F.faults files.new)) }
+    ensures later { F.faults files.old ≤ F.faults files.new }
+    ensures free { F.lent files.new ≡ None }
+    ensures entries { F.entries files.new ≡ F.entries files.old }
+    ensures names { F.lends files.new ≡ F.lends files.old }
 {
     let bytes = read_stream(alloc, files, name)?;
     judged(alloc, &bytes)

@@ -10,10 +10,10 @@ ghost use Rattle.session_plan.specs.View.{channel_view, plan_view};
 ghost use Rattle.replay_actors.specs.Session.{channel_of, step_of};
 ghost use Rattle.command_files.specs.Inputs.{IsAccepted};
 ghost use Rattle.command_files.specs.Planned.{given};
-ghost use Rattle.command_answers.specs.Program.{Answers};
+ghost use Rattle.command_answers.specs.Program.{Answers, RefusesCommand};
 ghost use Rattle.command_answers.specs.Race.{RaceAnswers, Races, finishes_from};
 ghost use Rattle.command_answers.specs.RaceEnds.{DoPlan, EndsRace, raced_plan};
-ghost use Rattle.command_files.specs.Refusing.{Refuses, RefusesSo};
+ghost use Rattle.command_files.specs.Refusing.{RefusesSo};
 
 use crate::given::{GIVEN_LIMIT, cook_events};
 use command_files::{Refusal, Subject, numbered_devices, read_events, read_session, readers_of};
@@ -160,10 +160,14 @@ pub fn answer_race<R: Threads + Wait + Sync, F: Files, G: Gate + Sync>(
     requires session { IsTrue (F.lends files.old names.session.now) }
     requires events { IsAccepted (F.entries files.old) names.session.now → IsTrue (F.lends files.old names.events.now) }
     requires free { F.lent files.old ≡ None }
-    ensures ok { IfOk result (λ text. Answers (F.entries files.old) (race (recorded_view names.entry)) (Ok text)) }
-    ensures err { IfErr result (Refuses
-        (λ r. Answers (F.entries files.old) (race (recorded_view names.entry)) (Err r)) (F.faults files.old)
-        (F.faults files.new)) }
+    ensures ok { IfOk result (λ text. Answers (F.entries files.old) (F.readings files.old) (F.readings files.new)
+        (race (recorded_view names.entry)) (Ok text)) }
+    ensures err { IfErr result (RefusesCommand (F.entries files.old) (F.readings files.old) (F.readings files.new)
+        (race (recorded_view names.entry)) (F.faults files.old) (F.faults files.new)) }
+    ensures later { F.faults files.old ≤ F.faults files.new }
+    ensures free { F.lent files.new ≡ None }
+    ensures entries { F.entries files.new ≡ F.entries files.old }
+    ensures names { F.lends files.new ≡ F.lends files.old }
 {
     let session = read_session(alloc, files, names.session)?;
     let devices = numbered_devices(alloc, &session)?;

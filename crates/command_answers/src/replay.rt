@@ -1,5 +1,5 @@
 //! `replay`: the run of a session and of a recording that is read in pieces.
-ghost use Rattle.std.specs.Prelude.{◌≡◌, ℕ, ◌≤◌, List, map, length, IsTrue, None, Ok, Err, IfOk, IfErr};
+ghost use Rattle.std.specs.Prelude.{◌≡◌, ℕ, ◌≤◌, List, [], ◌∷◌, ⊤, map, length, IsTrue, None, Ok, Err, IfOk, IfErr};
 ghost use Rattle.command_words.specs.Command.{replay};
 ghost use Rattle.command_words.specs.CommandView.{recorded_view};
 ghost use Rattle.raw_events.specs.Recording.{recorded};
@@ -10,19 +10,20 @@ ghost use Rattle.session_plan.specs.View.{channel_view, plan_view};
 ghost use Rattle.schedule.specs.Planned.{IsRun, plan_of};
 ghost use Rattle.schedule.specs.State.{Completed};
 ghost use Rattle.command_files.specs.Devices.{devices_of};
-ghost use Rattle.command_files.specs.Inputs.{IsAccepted, lines_judged};
-ghost use Rattle.command_files.specs.Judged.{After, IfTold};
+ghost use Rattle.command_files.specs.Inputs.{IsAccepted, lines_judged, recording_limit};
+ghost use Rattle.command_files.specs.Judged.{Behind, by_log};
+ghost use Rattle.command_files.specs.Logged.{Logged, RefusesBy};
 ghost use Rattle.command_files.specs.Planned.{given, script_of};
 ghost use Rattle.command_files.specs.Recorded.{HasRead};
-ghost use Rattle.command_files.specs.Refusing.{Refuses, RefusesSo};
+ghost use Rattle.command_files.specs.Refusing.{RefusesSo};
 ghost use Rattle.command_answers.specs.Begun.{BeginsWith};
-ghost use Rattle.command_answers.specs.Program.{Answers};
+ghost use Rattle.command_answers.specs.Program.{Answers, RefusesCommand};
 ghost use Rattle.command_answers.specs.Replay.{RecordingAnswers, Replays, RunAnswers};
 
 use crate::plan::plan_run;
 use crate::texts::text_of;
 use command_files::{
-    RECORDING_LIMIT, ReadError, Recording, Refusal, Subject, feed_file, numbered_devices,
+    RECORDING_LIMIT, Recording, Refusal, Subject, feed_file, numbered_devices, read_refusal,
     read_session, readers_of,
 };
 use command_words::Recorded;
@@ -84,11 +85,11 @@ fn ended_text(alloc: Global, begun: Begun) -> Result<Pieces, Refusal>
     ensures ok { (p : PlanData) (bytes : List ℕ) → map channel_view begun.channels.items ≡ p.channels
         → plan_of begun.plan ≡ script_of p
         → HasRead p bytes begun.recording
-        → IfOk result (λ text. After (RunAnswers p) (lines_judged (recorded (devices_of p) bytes)) (Ok text)) }
+        → IfOk result (λ text. Behind (RunAnswers p) (lines_judged (recorded (devices_of p) bytes)) (Ok text)) }
     ensures err { (p : PlanData) (bytes : List ℕ) → map channel_view begun.channels.items ≡ p.channels
         → plan_of begun.plan ≡ script_of p
         → HasRead p bytes begun.recording
-        → IfErr result (RefusesSo (λ r. After (RunAnswers p) (lines_judged (recorded (devices_of p) bytes)) (Err r))) }
+        → IfErr result (RefusesSo (λ r. Behind (RunAnswers p) (lines_judged (recorded (devices_of p) bytes)) (Err r))) }
 {
     let Begun {
         channels,
@@ -115,12 +116,18 @@ fn recording_text<F: Files>(
     requires free { F.lent files.old ≡ None }
     requires run { IsRun begun.plan }
     requires few { length begun.channels.items ≤ 64 }
-    ensures ok { (p : PlanData) → BeginsWith p begun
-        → IfOk result (λ text. IfTold (F.entries files.old) (λ es. RecordingAnswers es name.now p (Ok text))) }
-    ensures err { (p : PlanData) → BeginsWith p begun
-        → IfErr result (Refuses (λ r. IfTold (F.entries files.old)
-        (λ es. RecordingAnswers es name.now p (Err r))) (F.faults files.old) (F.faults files.new)) }
+    ensures ok { (p : PlanData) → BeginsWith p begun → IfOk result
+        (λ text. Logged (F.entries files.old) (F.readings files.old) (F.readings files.new)
+        ((name.now, recording_limit) ∷ []) (λ rs. RecordingAnswers name.now (by_log rs) p (Ok text))) }
+    ensures err { (p : PlanData) → BeginsWith p begun → IfErr result
+        (RefusesBy (λ x. Logged (F.entries files.old) (F.readings files.old) (F.readings files.new)
+        ((name.now, recording_limit) ∷ []) (λ rs. RecordingAnswers name.now (by_log rs) p (Err x)))
+        (Logged (F.entries files.old) (F.readings files.old) (F.readings files.new)
+        ((name.now, recording_limit) ∷ []) (λ rs. ⊤)) (F.faults files.old) (F.faults files.new)) }
     ensures later { F.faults files.old ≤ F.faults files.new }
+    ensures free { F.lent files.new ≡ None }
+    ensures entries { F.entries files.new ≡ F.entries files.old }
+    ensures names { F.lends files.new ≡ F.lends files.old }
 {
     let mut begun = begun;
     let fed = feed_file(
@@ -133,9 +140,7 @@ fn recording_text<F: Files>(
     );
     match fed {
         Ok(()) => ended_text(alloc, begun),
-        Err(ReadError::Failed) => Err(Refusal::ReadFailed),
-        Err(ReadError::Memory) => Err(Refusal::NoMemory),
-        Err(ReadError::TooLong) => Err(Refusal::TooLong(Subject::Recording)),
+        Err(error) => Err(read_refusal(error, Subject::Recording)),
     }
 }
 
@@ -148,10 +153,14 @@ pub fn answer_replay<F: Files>(
     requires session { IsTrue (F.lends files.old names.session.now) }
     requires events { IsAccepted (F.entries files.old) names.session.now → IsTrue (F.lends files.old names.events.now) }
     requires free { F.lent files.old ≡ None }
-    ensures ok { IfOk result (λ text. Answers (F.entries files.old) (replay (recorded_view names.entry)) (Ok text)) }
-    ensures err { IfErr result (Refuses
-        (λ r. Answers (F.entries files.old) (replay (recorded_view names.entry)) (Err r)) (F.faults files.old)
-        (F.faults files.new)) }
+    ensures ok { IfOk result (λ text. Answers (F.entries files.old) (F.readings files.old) (F.readings files.new)
+        (replay (recorded_view names.entry)) (Ok text)) }
+    ensures err { IfErr result (RefusesCommand (F.entries files.old) (F.readings files.old) (F.readings files.new)
+        (replay (recorded_view names.entry)) (F.faults files.old) (F.faults files.new)) }
+    ensures later { F.faults files.old ≤ F.faults files.new }
+    ensures free { F.lent files.new ≡ None }
+    ensures entries { F.entries files.new ≡ F.entries files.old }
+    ensures names { F.lends files.new ≡ F.lends files.old }
 {
     let plan = read_session(alloc, files, names.session)?;
     let begun = begin(alloc, plan)?;

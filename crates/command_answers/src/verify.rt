@@ -1,12 +1,12 @@
 //! `verify`: how many channels and messages a stream file has, where it is well-formed.
-ghost use Rattle.std.specs.Prelude.{◌≡◌, ℕ, ◌+◌, ◌^◌, ◌<◌, List, ◌∷◌, Ok, Err, None, IsTrue, IfOk, IfErr, OnOk};
+ghost use Rattle.std.specs.Prelude.{◌≡◌, ℕ, ◌+◌, ◌^◌, ◌<◌, ◌≤◌, List, ◌∷◌, Ok, Err, None, IsTrue, IfOk, IfErr, OnOk};
 ghost use Rattle.command_words.specs.Command.{verify};
-ghost use Rattle.command_answers.specs.Program.{Answers};
+ghost use Rattle.command_answers.specs.Program.{Answers, RefusesCommand};
 ghost use Rattle.command_answers.specs.Verify.{StreamAnswers};
 ghost use Rattle.std.specs.Option.{option_or};
 ghost use Rattle.input_types.specs.declared.message.Message.{Message as Told};
 ghost use Rattle.command_answers.specs.Judging.{Knows, Judges, break_at};
-ghost use Rattle.command_files.specs.Refusing.{Refuses, RefusesSo};
+ghost use Rattle.command_files.specs.Refusing.{RefusesSo};
 ghost use Rattle.command_answers.specs.Verify.{said, verdict};
 
 use command_files::{Refusal, StreamError, read_stream};
@@ -152,9 +152,14 @@ fn verdict_of(alloc: Global, bytes: &[u8]) -> Result<Pieces, Refusal>
 pub fn answer_verify<F: Files>(alloc: Global, files: &mut F, name: &str) -> Result<Pieces, Refusal>
     requires lends { IsTrue (F.lends files.old name.now) }
     requires free { F.lent files.old ≡ None }
-    ensures ok { IfOk result (λ text. Answers (F.entries files.old) (verify name.now) (Ok text)) }
-    ensures err { IfErr result (Refuses
-        (λ r. Answers (F.entries files.old) (verify name.now) (Err r)) (F.faults files.old) (F.faults files.new)) }
+    ensures ok { IfOk result (λ text. Answers (F.entries files.old) (F.readings files.old) (F.readings files.new)
+        (verify name.now) (Ok text)) }
+    ensures err { IfErr result (RefusesCommand (F.entries files.old) (F.readings files.old) (F.readings files.new)
+        (verify name.now) (F.faults files.old) (F.faults files.new)) }
+    ensures later { F.faults files.old ≤ F.faults files.new }
+    ensures free { F.lent files.new ≡ None }
+    ensures entries { F.entries files.new ≡ F.entries files.old }
+    ensures names { F.lends files.new ≡ F.lends files.old }
 {
     let bytes = read_stream(alloc, files, name)?;
     verdict_of(alloc, &bytes)

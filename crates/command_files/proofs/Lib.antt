@@ -1,7 +1,11 @@
 pub mod Answering
-pub mod KnownEnd
+pub mod Examples
+pub mod FileJudged
+pub mod Logs
 pub mod Newest
 pub mod NextGiven
 pub mod NextPiece
 pub mod Outcomes
 pub mod Readers
+pub mod Readings
+pub mod StreamKinds

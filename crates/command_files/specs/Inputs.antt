@@ -13,7 +13,7 @@ use Rattle.session_plan.specs.Session.{session_of}
 use Rattle.stream_text.specs.declared.order_line.OrderLine.{OrderLine}
 use Rattle.stream_text.specs.OrderText.{order_of}
 use Rattle.command_files.specs.Devices.{devices_of}
-use Rattle.command_files.specs.Judged.{IsJudged}
+use Rattle.command_files.specs.Judged.{FileKind, IsJudged, judged}
 use Rattle.command_files.specs.Refused.{Refused, bad_got_line, bad_order_line, bad_want_line, session_refused, recording_refused, too_long}
 
 -- the most bytes of a session, 4 MiB
@@ -45,49 +45,60 @@ abbrev pub plan_judged : Result PlanData Fault → Result PlanData Refused
 plan_judged (Ok plan) = runnable plan
 plan_judged (Err fault) = Err (session_refused fault)
 
--- the plan of a session file, or why it is refused: its length is looked at first, then its rules, and then the number of steps
+-- session files: their rules are looked at, and then the number of steps
+abbrev pub session_file : FileKind PlanData
+session_file = record { limit = session_limit; what = codes "session"; rule = λ bytes. plan_judged (session_of bytes) }
+
+-- the plan of a session file, or why it is refused
 abbrev pub session_judged : List ℕ → Result PlanData Refused
-session_judged bytes = cond (nat_le (length bytes) session_limit) (plan_judged (session_of bytes)) (Err (too_long (codes "session")))
+session_judged bytes = judged session_file bytes
 
 -- the events of all lines, or the refusal of the first refused line
 abbrev pub lines_judged : Result (List RawEvent) LineError → Result (List RawEvent) Refused
 lines_judged (Ok events) = Ok events
 lines_judged (Err error) = Err (recording_refused error)
 
--- the events of a recording of these devices, or why it is refused: its length is looked at first, and then each of its lines
+-- recordings of these devices: each of their lines is looked at
+abbrev pub events_file : Known → FileKind (List RawEvent)
+events_file devices = record { limit = recording_limit; what = codes "recording"; rule = λ bytes. lines_judged (recorded devices bytes) }
+
+-- the events of a recording of these devices, or why it is refused
 abbrev pub events_judged : Known → List ℕ → Result (List RawEvent) Refused
-events_judged devices bytes =
-    cond (nat_le (length bytes) recording_limit) (lines_judged (recorded devices bytes)) (Err (too_long (codes "recording")))
+events_judged devices bytes = judged (events_file devices) bytes
 
 -- the lines of an order, or the refusal of its first bad or missing line
 abbrev pub order_lines : Result (List OrderLine) ℕ → Result (List OrderLine) Refused
 order_lines (Ok lines) = Ok lines
 order_lines (Err n) = Err (bad_order_line n)
 
--- the lines of an order file, or why it is refused: its length is looked at first, and then each of its lines
-abbrev pub order_judged : List ℕ → Result (List OrderLine) Refused
-order_judged bytes = cond (nat_le (length bytes) order_limit) (order_lines (order_of bytes)) (Err (too_long (codes "order")))
+-- order files: each of their lines is looked at
+abbrev pub order_file : FileKind (List OrderLine)
+order_file = record { limit = order_limit; what = codes "order"; rule = λ bytes. order_lines (order_of bytes) }
 
--- a stream file, unless it is too long
-abbrev pub stream_judged : List ℕ → Result (List ℕ) Refused
-stream_judged bytes = cond (nat_le (length bytes) stream_limit) (Ok bytes) (Err (too_long (codes "stream")))
+-- stream files, of which the length alone is looked at here
+abbrev pub stream_file : FileKind (List ℕ)
+stream_file = record { limit = stream_limit; what = codes "stream"; rule = λ bytes. Ok bytes }
 
 -- the sections of streams, or the refusal of the first bad or missing line
 abbrev pub sections_said : (ℕ → Refused) → Result (List Section) ℕ → Result (List Section) Refused
 sections_said Bad (Ok sections) = Ok sections
 sections_said Bad (Err n) = Err (Bad n)
 
--- the sections of a stream file, or why it is refused: its length is looked at first, and then each of its lines
-abbrev pub sections_judged : (ℕ → Refused) → List ℕ → Result (List Section) Refused
-sections_judged Bad bytes = cond (nat_le (length bytes) stream_limit) (sections_said Bad (file_sections bytes)) (Err (too_long (codes "stream")))
+-- stream files whose sections are compared: each of their lines is looked at
+abbrev pub sections_file : (ℕ → Refused) → FileKind (List Section)
+sections_file Bad = record { limit = stream_limit; what = codes "stream"; rule = λ bytes. sections_said Bad (file_sections bytes) }
 
 -- the sections that were wanted
-abbrev pub want_judged : List ℕ → Result (List Section) Refused
-want_judged bytes = sections_judged bad_want_line bytes
+abbrev pub want_file : FileKind (List Section)
+want_file = sections_file bad_want_line
 
 -- the sections that came
-abbrev pub got_judged : List ℕ → Result (List Section) Refused
-got_judged bytes = sections_judged bad_got_line bytes
+abbrev pub got_file : FileKind (List Section)
+got_file = sections_file bad_got_line
+
+-- the sections that were wanted, or why their file is refused
+abbrev pub want_judged : List ℕ → Result (List Section) Refused
+want_judged bytes = judged want_file bytes
 
 -- the session under this name is accepted
 abbrev pub IsAccepted : Option (List Entry) → List ℕ → Type 0

@@ -1,8 +1,9 @@
 -- Files that are read and judged one after another.
-use Rattle.std.specs.Prelude.{◌≡◌, ℕ, List, Option, Some, None, Result, Ok, Err, ⊤}
+use Rattle.std.specs.Prelude.{◌≡◌, true, ℕ, ◌+◌, ◌≤◌, nat_le, cond, List, [], ◌∷◌, length, Option, Some, None, Result, Ok, Err, ⊤, ◌⊎◌}
 use Rattle.std.specs.Option.{IsSomeAnd}
+use Rattle.io_trace.specs.Trace.{Reading}
 use Rattle.outside_io.specs.Outside.{Entry, bytes_of}
-use Rattle.command_files.specs.Refused.{Refused}
+use Rattle.command_files.specs.Refused.{Refused, too_long}
 
 -- what the program answers: a text that it writes, or why it refuses
 abbrev pub Answer : Type 0
@@ -13,16 +14,52 @@ abbrev pub IfTold : Option (List Entry) → (List Entry → Type 0) → Type 0
 IfTold None Holds = ⊤
 IfTold (Some entries) Holds = Holds entries
 
--- the answer behind a judgement: a refusal is the answer, and what was accepted is gone on with
-abbrev pub After : {A : Type 0} → (A → Answer → Type 0) → Result A Refused → Answer → Type 0
-After Next (Err refused) a = a ≡ Err refused
-After Next (Ok accepted) a = Next accepted a
+-- a kind of files: the most bytes that one may have, the word for one that has more, and how the bytes of another are judged
+pub record FileKind (A : Type 0) : Type 0 where
+  pub limit : ℕ
+  pub what : List ℕ
+  pub rule : List ℕ → Result A Refused
 
--- the file under a name is there, and this is the answer behind its judgement
-abbrev pub Reads : {A : Type 0} → List Entry → List ℕ → (List ℕ → Result A Refused) → (A → Answer → Type 0) → Answer → Type 0
-Reads entries name judge Next a = IsSomeAnd (bytes_of entries name) (λ bytes. After Next (judge bytes) a)
+-- how a file of a kind is judged: its length is looked at first
+abbrev pub judged : {A : Type 0} → FileKind A → List ℕ → Result A Refused
+judged kind bytes = cond (nat_le (length bytes) kind.limit) (kind.rule bytes) (Err (too_long kind.what))
+
+-- where the bytes of files come from: files under their names, or the readings of a call, one after another
+pub data Origin : Type 0 where
+  by_name : List Entry → Origin
+  by_log : List Reading → Origin
+
+-- a reading says what the judgement of a file wants: all its bytes, or one more than it may have
+abbrev pub IsEnough : ℕ → Reading → Type 0
+IsEnough limit r = ((r.ended ≡ true) × (length r.given ≤ limit)) ⊎ (length r.given ≡ limit + 1)
+
+-- nothing more is read
+abbrev pub NoMore : Origin → Type 0
+NoMore (by_name entries) = ⊤
+NoMore (by_log readings) = readings ≡ []
+
+-- the answer behind a judgement: a refusal is the answer, and nothing more is read; what was accepted is gone on with
+abbrev pub After : {A : Type 0} → (Origin → A → Answer → Type 0) → Origin → Result A Refused → Answer → Type 0
+After Next from (Err refused) a = (a ≡ Err refused) × NoMore from
+After Next from (Ok accepted) a = Next from accepted a
+
+-- the next file is one of this kind under a name, and this is the answer behind its judgement
+abbrev pub Reads : {A : Type 0} → Origin → List ℕ → FileKind A → (Origin → A → Answer → Type 0) → Answer → Type 0
+Reads (by_name entries) name kind Next a = IsSomeAnd (bytes_of entries name) (λ bytes. After Next (by_name entries) (judged kind bytes) a)
+Reads (by_log []) name kind Next a = ⊥
+Reads (by_log (r ∷ rs)) name kind Next a =
+    (r.name ≡ name) × (IsEnough kind.limit r × After Next (by_log rs) (judged kind r.given) a)
+
+-- this is the answer, and nothing more is read
+abbrev pub Ends : (Answer → Type 0) → Origin → Answer → Type 0
+Ends Is from a = Is a × NoMore from
+
+-- the answer that a judgement leads to, where no file is left: a refusal, or what comes of what was accepted
+abbrev pub Behind : {A : Type 0} → (A → Answer → Type 0) → Result A Refused → Answer → Type 0
+Behind Next (Err refused) a = a ≡ Err refused
+Behind Next (Ok accepted) a = Next accepted a
 
 -- where the files are told, the file under a name is there and is judged so
 abbrev pub IsJudged : {A : Type 0} → Option (List Entry) → List ℕ → (List ℕ → Result A Refused) → Result A Refused → Type 0
-IsJudged None name judge r = ⊤
-IsJudged (Some entries) name judge r = IsSomeAnd (bytes_of entries name) (λ bytes. judge bytes ≡ r)
+IsJudged None name rule r = ⊤
+IsJudged (Some entries) name rule r = IsSomeAnd (bytes_of entries name) (λ bytes. rule bytes ≡ r)

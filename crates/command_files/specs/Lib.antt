@@ -2,6 +2,7 @@ pub mod Cooked
 pub mod Devices
 pub mod Inputs
 pub mod Judged
+pub mod Logged
 pub mod Planned
 pub mod ReadErrors
 pub mod Reading

@@ -1,6 +1,5 @@
 -- What the steps before the writing refuse.
-use Rattle.std.specs.Prelude.{ℕ, ⊤}
-use Rattle.outside_io.specs.Outside.{Rose}
+use Rattle.std.specs.Prelude.{⊤}
 use Rattle.command_files.specs.declared.refusal.Refusal.{Refusal}
 use Rattle.command_files.specs.declared.refusal.Refusal.TheVariants.{ReadFailed, NoMemory}
 use Rattle.command_files.specs.Refused.{Refused}
@@ -11,9 +10,3 @@ abbrev pub RefusesSo : (Refused → Type 0) → Refusal → Type 0
 RefusesSo Comes ReadFailed = ⊥
 RefusesSo Comes NoMemory = ⊤
 RefusesSo Comes r = Comes (refusal_view r)
-
--- a fault of the files arose, memory ran out, or what is judged is refused so
-abbrev pub Refuses : (Refused → Type 0) → ℕ → ℕ → Refusal → Type 0
-Refuses Comes before now ReadFailed = Rose before now
-Refuses Comes before now NoMemory = ⊤
-Refuses Comes before now r = Comes (refusal_view r)

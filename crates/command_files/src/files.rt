@@ -1,13 +1,12 @@
 //! Reading a file to its end or its limit.
-ghost use Rattle.std.specs.Prelude.{◌≡◌, ℕ, ◌+◌, ◌<◌, ◌≤◌, ◌^◌, false, IfOk, OnOk, OnErr, IsErrOf, IsTrue, None, length};
-ghost use Rattle.std.specs.Prelude.{vec_len};
+ghost use Rattle.std.specs.Prelude.{◌≡◌, ◌+◌, ◌<◌, ◌≤◌, ◌^◌, true, false, [], IfOk, IfErr, OnOk, IsErrOf, IsTrue, None, length, vec_len};
 ghost use Rattle.outside_io.specs.Outside.{Rose};
-ghost use Rattle.command_files.specs.Reading.{IsAll, IsFile, IsLonger, IsLongFile, ReadsPiece, ReadsWith, WithAll};
-ghost use Rattle.command_files.specs.Reading.{WithFile};
+ghost use Rattle.command_files.specs.Logged.{IsWhole};
+ghost use Rattle.command_files.specs.Reading.{GivesMore, GivesWith};
 ghost use Rattle.command_files.specs.declared.files.ReadError.TheVariants.{Failed as ReadFailed, Memory, TooLong};
 ghost use Rattle.schedule.specs.Planned.{IsRun};
 ghost use Rattle.command_files.specs.Recorded.{Feeds};
-ghost use Rattle.command_files.specs.ReadErrors.{read_error_of};
+ghost use Rattle.command_files.specs.ReadErrors.{StopsReading, WithFile, read_error_of};
 
 use crate::recording::Recording;
 use outside_io::{Failed, Files, Source, SourceRefused};
@@ -68,9 +67,13 @@ fn read_piece<S: Source>(
     requires some { 0 < length buffer.old }
     requires going { (S.reading source.old).ended ≡ false }
     ensures going { IfOk result (λ count. 0 < count → (S.reading source.new).ended ≡ false) }
-    ensures piece { IfOk result
-        (λ count. ReadsPiece (S.left source.old) (S.left source.new) bytes.old.items bytes.new.items count) }
+    ensures ended { IfOk result (λ count. count ≡ 0 → (S.reading source.new).ended ≡ true) }
+    ensures same { (S.reading source.old).given ≡ bytes.old.items
+        → OnOk result ((S.reading source.new).given ≡ bytes.new.items) }
+    ensures longer { IfOk result (λ count. length bytes.new.items ≡ length bytes.old.items + count) }
     ensures bound { IfOk result (λ count. count ≤ length buffer.old) }
+    ensures gives { GivesMore (S.left source.old) (S.left source.new) (S.reading source.old) (S.reading source.new) }
+    ensures few { length (S.reading source.new).given ≤ length (S.reading source.old).given + length buffer.old }
     ensures failed { IsErrOf result ReadError.Failed → Rose (S.faults source.old) (S.faults source.new) }
     ensures no_limit { ¬ (IsErrOf result ReadError.TooLong) }
     ensures later { S.faults source.old ≤ S.faults source.new }
@@ -81,13 +84,18 @@ fn read_piece<S: Source>(
     Ok(count)
 }
 
-/// All bytes that a source has left, at most `limit`.
+/// All bytes that a source has, of which nothing was read, at most `limit`.
 fn read_all<S: Source>(alloc: Global, source: &mut S, limit: usize) -> Result<Vec<u8>, ReadError>
     requires limit { limit < 2 ^ 32 }
     requires going { (S.reading source.old).ended ≡ false }
-    ensures ok { IfOk result (λ v. IsAll (S.left source.old) v.items × (length v.items ≤ limit)) }
+    requires unread { (S.reading source.old).given ≡ [] }
+    ensures ok { IfOk result (λ v. (S.reading source.new).given ≡ v.items) }
+    ensures within { IfOk result (λ v. length v.items ≤ limit) }
+    ensures ended { OnOk result ((S.reading source.new).ended ≡ true) }
+    ensures too_long { IsErrOf result ReadError.TooLong → length (S.reading source.new).given ≡ limit + 1 }
+    ensures gives { GivesMore (S.left source.old) (S.left source.new) (S.reading source.old) (S.reading source.new) }
+    ensures few { length (S.reading source.new).given ≤ limit + 1 }
     ensures failed { IsErrOf result ReadError.Failed → Rose (S.faults source.old) (S.faults source.new) }
-    ensures too_long { IsErrOf result ReadError.TooLong → IsLonger (S.left source.old) limit }
     ensures later { S.faults source.old ≤ S.faults source.new }
     ensures loan { S.loan source.new ≡ S.loan source.old }
 {
@@ -113,10 +121,13 @@ fn feed_piece<S: Source>(
     requires going { (S.reading source.old).ended ≡ false }
     requires run { IsRun plan.now }
     ensures going { IfOk result (λ count. 0 < count → (S.reading source.new).ended ≡ false) }
-    ensures piece { IfOk result
-        (λ count. ReadsWith (S.left source.old) (S.left source.new) count
+    ensures ended { IfOk result (λ count. count ≡ 0 → (S.reading source.new).ended ≡ true) }
+    ensures fed { IfOk result
+        (λ count. GivesWith (S.reading source.old) (S.reading source.new) count
         (Feeds plan.now recording.old recording.new)) }
     ensures bound { IfOk result (λ count. count ≤ length buffer.old) }
+    ensures gives { GivesMore (S.left source.old) (S.left source.new) (S.reading source.old) (S.reading source.new) }
+    ensures few { length (S.reading source.new).given ≤ length (S.reading source.old).given + length buffer.old }
     ensures failed { IsErrOf result ReadError.Failed → Rose (S.faults source.old) (S.faults source.new) }
     ensures no_limit { ¬ (IsErrOf result ReadError.TooLong) }
     ensures later { S.faults source.old ≤ S.faults source.new }
@@ -127,7 +138,7 @@ fn feed_piece<S: Source>(
     Ok(count)
 }
 
-/// Hands all bytes that a source has left to a recording, at most `limit`.
+/// Hands all bytes that a source has, of which nothing was read, to a recording, at most `limit`.
 fn feed_all<S: Source>(
     alloc: Global,
     source: &mut S,
@@ -137,10 +148,15 @@ fn feed_all<S: Source>(
 ) -> Result<(), ReadError>
     requires limit { limit < 2 ^ 32 }
     requires going { (S.reading source.old).ended ≡ false }
+    requires unread { (S.reading source.old).given ≡ [] }
     requires run { IsRun plan.now }
-    ensures ok { OnOk result (WithAll (S.left source.old) limit (Feeds plan.now recording.old recording.new)) }
+    ensures ok { OnOk result (Feeds plan.now recording.old recording.new (S.reading source.new).given) }
+    ensures within { OnOk result (length (S.reading source.new).given ≤ limit) }
+    ensures ended { OnOk result ((S.reading source.new).ended ≡ true) }
+    ensures too_long { IsErrOf result ReadError.TooLong → length (S.reading source.new).given ≡ limit + 1 }
+    ensures gives { GivesMore (S.left source.old) (S.left source.new) (S.reading source.old) (S.reading source.new) }
+    ensures few { length (S.reading source.new).given ≤ limit + 1 }
     ensures failed { IsErrOf result ReadError.Failed → Rose (S.faults source.old) (S.faults source.new) }
-    ensures too_long { IsErrOf result ReadError.TooLong → IsLonger (S.left source.old) limit }
     ensures later { S.faults source.old ≤ S.faults source.new }
     ensures loan { S.loan source.new ≡ S.loan source.old }
 {
@@ -157,7 +173,7 @@ fn feed_all<S: Source>(
     Err(ReadError::TooLong)
 }
 
-/// Hands the bytes of a file to a recording, piece by piece, at most `limit`.
+/// Hands the bytes of a file to a recording, piece by piece, at most `limit`. At most one byte more is read.
 pub fn feed_file<F: Files>(
     alloc: Global,
     files: &mut F,
@@ -170,11 +186,14 @@ pub fn feed_file<F: Files>(
     requires lends { IsTrue (F.lends files.old name.now) }
     requires free { F.lent files.old ≡ None }
     requires run { IsRun plan.now }
-    ensures ok { OnOk result (WithFile (F.entries files.old) name.now limit
-        (Feeds plan.now recording.old recording.new)) }
-    ensures failed { IsErrOf result ReadError.Failed → Rose (F.faults files.old) (F.faults files.new) }
-    ensures too_long { IsErrOf result ReadError.TooLong → IsLongFile (F.entries files.old) name.now limit }
+    ensures ok { OnOk result (WithFile (F.entries files.old) (F.readings files.old) (F.readings files.new)
+        name.now limit (Feeds plan.now recording.old recording.new)) }
+    ensures err { IfErr result (StopsReading (F.entries files.old) (F.readings files.old) (F.readings files.new)
+        name.now limit (F.faults files.old) (F.faults files.new)) }
     ensures later { F.faults files.old ≤ F.faults files.new }
+    ensures free { F.lent files.new ≡ None }
+    ensures entries { F.entries files.new ≡ F.entries files.old }
+    ensures names { F.lends files.new ≡ F.lends files.old }
 {
     let mut source = files.source(name)?;
     let fed = feed_all(alloc, &mut source, limit, plan, recording);
@@ -182,7 +201,7 @@ pub fn feed_file<F: Files>(
     fed
 }
 
-/// The bytes of a file, at most `limit`.
+/// The bytes of a file, at most `limit`. At most one byte more is read.
 pub fn read_file<F: Files>(
     alloc: Global,
     files: &mut F,
@@ -192,9 +211,10 @@ pub fn read_file<F: Files>(
     requires limit { limit < 2 ^ 32 }
     requires lends { IsTrue (F.lends files.old name.now) }
     requires free { F.lent files.old ≡ None }
-    ensures ok { IfOk result (λ v. IsFile (F.entries files.old) name.now v.items × (length v.items ≤ limit)) }
-    ensures failed { IsErrOf result ReadError.Failed → Rose (F.faults files.old) (F.faults files.new) }
-    ensures too_long { IsErrOf result ReadError.TooLong → IsLongFile (F.entries files.old) name.now limit }
+    ensures ok { IfOk result (λ v. IsWhole (F.entries files.old) (F.readings files.old) (F.readings files.new) name.now
+        limit v.items) }
+    ensures err { IfErr result (StopsReading (F.entries files.old) (F.readings files.old) (F.readings files.new)
+        name.now limit (F.faults files.old) (F.faults files.new)) }
     ensures later { F.faults files.old ≤ F.faults files.new }
     ensures free { F.lent files.new ≡ None }
     ensures entries { F.entries files.new ≡ F.entries files.old }

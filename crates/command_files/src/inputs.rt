@@ -7,10 +7,12 @@ ghost use Rattle.session_plan.specs.Session.{session_of};
 ghost use Rattle.session_plan.specs.Valid.{IsPlan};
 ghost use Rattle.session_plan.specs.View.{plan_view};
 ghost use Rattle.stream_text.specs.OrderText.{order_of};
-ghost use Rattle.command_files.specs.Inputs.{order_judged, order_lines, stream_judged};
-ghost use Rattle.command_files.specs.Judged.{IsJudged};
-ghost use Rattle.command_files.specs.Inputs.{events_judged, lines_judged, plan_judged, session_judged};
-ghost use Rattle.command_files.specs.Refusing.{Refuses, RefusesSo};
+ghost use Rattle.command_files.specs.Inputs.{events_file, lines_judged, order_file, order_lines, plan_judged};
+ghost use Rattle.command_files.specs.Inputs.{session_file, stream_file};
+ghost use Rattle.command_files.specs.Judged.{IsJudged, judged};
+ghost use Rattle.command_files.specs.Logged.{IsRead, RefusesFile};
+ghost use Rattle.command_files.specs.ReadErrors.{refusal_of_read};
+ghost use Rattle.command_files.specs.Refusing.{RefusesSo};
 
 use crate::files::{ReadError, read_file};
 use crate::recording::recording_refusal;
@@ -54,27 +56,37 @@ fn plan_from(alloc: Global, bytes: &[u8]) -> Result<Plan, Refusal>
     Ok(plan)
 }
 
+/// The refusal of a file that was not read, of which this would be too long.
+pub fn read_refusal(error: ReadError, what: Subject) -> Refusal
+    ensures { result ≡ refusal_of_read what error }
+{
+    match error {
+        ReadError::Failed => Refusal::ReadFailed,
+        ReadError::Memory => Refusal::NoMemory,
+        ReadError::TooLong => Refusal::TooLong(what),
+    }
+}
+
 /// Reads and judges the session.
 pub fn read_session<F: Files>(alloc: Global, files: &mut F, name: &str) -> Result<Plan, Refusal>
     requires lends { IsTrue (F.lends files.old name.now) }
     requires free { F.lent files.old ≡ None }
-    ensures ok { IfOk result (λ plan. IsJudged (F.entries files.old) name.now session_judged (Ok (plan_view plan))) }
+    ensures ok { IfOk result (λ plan. IsRead (F.entries files.old) (F.readings files.old) (F.readings files.new)
+        name.now session_file (Ok (plan_view plan))) }
+    ensures told { IfOk result
+        (λ plan. IsJudged (F.entries files.old) name.now (judged session_file) (Ok (plan_view plan))) }
     ensures valid { IfOk result IsPlan }
-    ensures err { IfErr result (Refuses
-        (λ r. IsJudged (F.entries files.old) name.now session_judged (Err r)) (F.faults files.old)
-        (F.faults files.new)) }
+    ensures err { IfErr result (RefusesFile (F.entries files.old) (F.readings files.old) (F.readings files.new)
+        name.now session_file (F.faults files.old) (F.faults files.new)) }
     ensures later { F.faults files.old ≤ F.faults files.new }
     ensures free { F.lent files.new ≡ None }
     ensures entries { F.entries files.new ≡ F.entries files.old }
     ensures names { F.lends files.new ≡ F.lends files.old }
 {
-    let bytes = match read_file(alloc, files, name, SESSION_LIMIT) {
-        Ok(bytes) => bytes,
-        Err(ReadError::Failed) => return Err(Refusal::ReadFailed),
-        Err(ReadError::Memory) => return Err(Refusal::NoMemory),
-        Err(ReadError::TooLong) => return Err(Refusal::TooLong(Subject::Session)),
-    };
-    plan_from(alloc, &bytes)
+    match read_file(alloc, files, name, SESSION_LIMIT) {
+        Ok(bytes) => plan_from(alloc, &bytes),
+        Err(error) => Err(read_refusal(error, Subject::Session)),
+    }
 }
 
 /// Reads and judges a recording of these devices.
@@ -86,23 +98,21 @@ pub fn read_events<F: Files>(
 ) -> Result<Vec<RawEvent>, Refusal>
     requires lends { IsTrue (F.lends files.old name.now) }
     requires free { F.lent files.old ≡ None }
-    ensures ok { IfOk result
-        (λ events. IsJudged (F.entries files.old) name.now (events_judged (known devices.now)) (Ok events.items)) }
-    ensures err { IfErr result (Refuses
-        (λ r. IsJudged (F.entries files.old) name.now (events_judged (known devices.now)) (Err r))
-        (F.faults files.old) (F.faults files.new)) }
+    ensures ok { IfOk result (λ events. IsRead (F.entries files.old) (F.readings files.old) (F.readings files.new)
+        name.now (events_file (known devices.now)) (Ok events.items)) }
+    ensures told { IfOk result (λ events. IsJudged (F.entries files.old) name.now
+        (judged (events_file (known devices.now))) (Ok events.items)) }
+    ensures err { IfErr result (RefusesFile (F.entries files.old) (F.readings files.old) (F.readings files.new)
+        name.now (events_file (known devices.now)) (F.faults files.old) (F.faults files.new)) }
     ensures later { F.faults files.old ≤ F.faults files.new }
     ensures free { F.lent files.new ≡ None }
     ensures entries { F.entries files.new ≡ F.entries files.old }
     ensures names { F.lends files.new ≡ F.lends files.old }
 {
-    let bytes = match read_file(alloc, files, name, RECORDING_LIMIT) {
-        Ok(bytes) => bytes,
-        Err(ReadError::Failed) => return Err(Refusal::ReadFailed),
-        Err(ReadError::Memory) => return Err(Refusal::NoMemory),
-        Err(ReadError::TooLong) => return Err(Refusal::TooLong(Subject::Recording)),
-    };
-    events_in(alloc, devices, &bytes)
+    match read_file(alloc, files, name, RECORDING_LIMIT) {
+        Ok(bytes) => events_in(alloc, devices, &bytes),
+        Err(error) => Err(read_refusal(error, Subject::Recording)),
+    }
 }
 
 /// The events of a recording's bytes.
@@ -124,18 +134,19 @@ fn events_in(
 pub fn read_order<F: Files>(alloc: Global, files: &mut F, name: &str) -> Result<Order, Refusal>
     requires lends { IsTrue (F.lends files.old name.now) }
     requires free { F.lent files.old ≡ None }
-    ensures ok { IfOk result (λ order. IsJudged (F.entries files.old) name.now order_judged (Ok order)) }
-    ensures err { IfErr result (Refuses
-        (λ r. IsJudged (F.entries files.old) name.now order_judged (Err r)) (F.faults files.old) (F.faults files.new)) }
+    ensures ok { IfOk result (λ order. IsRead (F.entries files.old) (F.readings files.old) (F.readings files.new)
+        name.now order_file (Ok order)) }
+    ensures err { IfErr result (RefusesFile (F.entries files.old) (F.readings files.old) (F.readings files.new)
+        name.now order_file (F.faults files.old) (F.faults files.new)) }
     ensures later { F.faults files.old ≤ F.faults files.new }
+    ensures free { F.lent files.new ≡ None }
+    ensures entries { F.entries files.new ≡ F.entries files.old }
+    ensures names { F.lends files.new ≡ F.lends files.old }
 {
-    let bytes = match read_file(alloc, files, name, ORDER_LIMIT) {
-        Ok(bytes) => bytes,
-        Err(ReadError::Failed) => return Err(Refusal::ReadFailed),
-        Err(ReadError::Memory) => return Err(Refusal::NoMemory),
-        Err(ReadError::TooLong) => return Err(Refusal::TooLong(Subject::Order)),
-    };
-    order_in(alloc, &bytes)
+    match read_file(alloc, files, name, ORDER_LIMIT) {
+        Ok(bytes) => order_in(alloc, &bytes),
+        Err(error) => Err(read_refusal(error, Subject::Order)),
+    }
 }
 
 /// The order of an order file's bytes.
@@ -156,11 +167,11 @@ fn order_in(alloc: Global, bytes: &[u8]) -> Result<Order, Refusal>
 pub fn read_stream<F: Files>(alloc: Global, files: &mut F, name: &str) -> Result<Vec<u8>, Refusal>
     requires lends { IsTrue (F.lends files.old name.now) }
     requires free { F.lent files.old ≡ None }
-    ensures ok { IfOk result (λ bytes. IsJudged (F.entries files.old) name.now stream_judged (Ok bytes.items)) }
+    ensures ok { IfOk result (λ bytes. IsRead (F.entries files.old) (F.readings files.old) (F.readings files.new)
+        name.now stream_file (Ok bytes.items)) }
     ensures few { IfOk result (λ bytes. length bytes.items ≤ 67108864) }
-    ensures err { IfErr result (Refuses
-        (λ r. IsJudged (F.entries files.old) name.now stream_judged (Err r)) (F.faults files.old)
-        (F.faults files.new)) }
+    ensures err { IfErr result (RefusesFile (F.entries files.old) (F.readings files.old) (F.readings files.new)
+        name.now stream_file (F.faults files.old) (F.faults files.new)) }
     ensures later { F.faults files.old ≤ F.faults files.new }
     ensures free { F.lent files.new ≡ None }
     ensures entries { F.entries files.new ≡ F.entries files.old }
@@ -168,8 +179,6 @@ pub fn read_stream<F: Files>(alloc: Global, files: &mut F, name: &str) -> Result
 {
     match read_file(alloc, files, name, STREAM_LIMIT) {
         Ok(bytes) => Ok(bytes),
-        Err(ReadError::Failed) => Err(Refusal::ReadFailed),
-        Err(ReadError::Memory) => Err(Refusal::NoMemory),
-        Err(ReadError::TooLong) => Err(Refusal::TooLong(Subject::Stream)),
+        Err(error) => Err(read_refusal(error, Subject::Stream)),
     }
 }

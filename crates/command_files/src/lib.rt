@@ -19,6 +19,8 @@ mod refusal;
 
 pub use devices::{device_number, numbered_devices, readers_of};
 pub use files::{ReadError, feed_file, read_file};
-pub use inputs::{RECORDING_LIMIT, read_events, read_order, read_session, read_stream};
+pub use inputs::{
+    RECORDING_LIMIT, read_events, read_order, read_refusal, read_session, read_stream,
+};
 pub use recording::{Recording, cook_event, run_event};
 pub use refusal::{OrderError, Refusal, StreamError, Subject};

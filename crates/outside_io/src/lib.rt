@@ -4,9 +4,13 @@
 //! A [`Sink`] takes bytes. Each of the three counts its faults, and answers that it failed only in a
 //! call in which that count rose: nobody above can claim a fault that the outside did not have.
 //!
-//! Contracts see bytes where the object tells them. [`MemFiles`] and [`MemSink`] always do, and fail
-//! at the calls that they are told to. [`HostFiles`] and [`HostSink`] stand over the machine's files
-//! and streams, and tell only their counts. The form of the traits is this project's own choice.
+//! Each of them logs what passed through it: a source the bytes that it gave and whether its end was
+//! told, files their readings one after another, a sink the bytes that it took and the writes that it
+//! was asked for. Contracts see that of every object, and what a file holds where the object tells it.
+//! [`MemFiles`] always does, and fails, as [`MemSink`], at the calls that it is told to. [`HostFiles`]
+//! and [`HostSink`] stand over the machine's files and streams: they log what its reads gave and its
+//! writes took, and tell nothing of what the files hold. The form of the traits is this project's own
+//! choice.
 //!
 //! For example, with the file `greeting` of the five bytes `hello`, a piece of 3, and call 3 to fail:
 //!

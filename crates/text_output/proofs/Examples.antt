@@ -1,7 +1,7 @@
 -- Worked examples of the definitions.
 use Rattle.std.proofs.Common.{◌≡◌, [], ◌∷◌, refl, arith}
 use Rattle.io_trace.specs.Trace.{Write}
-use Rattle.text_output.specs.Passing.{Passes}
+use Rattle.text_output.specs.Passing.{PassAll, Passes}
 use Rattle.text_output.specs.Together.{together}
 
 -- `on` and `e`
@@ -18,14 +18,15 @@ second = record { handed = 110 ∷ []; count = 1 }
 abbrev third : Write
 third = record { handed = 101 ∷ []; count = 1 }
 
-passed : Passes (111 ∷ 110 ∷ 101 ∷ []) (first ∷ second ∷ third ∷ []) []
+passed : PassAll ((111 ∷ 110 ∷ []) ∷ (101 ∷ []) ∷ []) (first ∷ second ∷ third ∷ [])
 passed = (
-  record { behind = 101 ∷ []; front = refl; some = omega arith; fits = omega arith },
-  (
-    omega arith,
-    (
-      record { behind = 101 ∷ []; front = refl; some = omega arith; fits = omega arith },
-      (omega arith, (record { behind = []; front = refl; some = omega arith; fits = omega arith }, (omega arith, refl))),
-    ),
-  ),
+  first ∷ second ∷ [],
+  third ∷ [],
+  refl,
+  (refl, (omega arith, (omega arith, (refl, (omega arith, (omega arith, refl)))))),
+  (third ∷ [], [], refl, (refl, (omega arith, (omega arith, refl))), refl),
 )
+
+-- a write of the front of `on` alone is none of that piece
+cut_short : Passes (111 ∷ 110 ∷ []) (record { handed = 111 ∷ []; count = 1 } ∷ []) (110 ∷ []) → ⊥
+cut_short p = cc (p.0)

@@ -1,9 +1,10 @@
 -- Writes one after another: what each leaves is handed on.
 use Rattle.std.specs.Prelude.{Result, Ok, Err, OnOk, OnErr}
-use Rattle.std.proofs.Common.{◌≡◌, ◌∙◌, ◌<◌, ◌≤◌, ◌+◌, ℕ, List, [], ◌∷◌, ◌++◌, length, take, drop, refl, sym, ap, subst, arith, append_assoc, append-nil}
-use Rattle.std.proofs.lemmas.List.{length-append, take-append-drop, drop-append-le}
+use Rattle.std.proofs.Common.{◌≡◌, ◌∙◌, ◌<◌, ◌≤◌, ℕ, List, [], ◌∷◌, ◌++◌, length, take, drop, refl, sym, ap, subst, append_assoc, append-nil}
+use Rattle.std.proofs.lemmas.List.{take-append-drop}
 use Rattle.io_trace.specs.Trace.{Write, Writing}
-use Rattle.text_output.specs.Passing.{IsHanded, Passes, StopsWithin, WritesAll, WritesUpTo}
+use Rattle.text_output.specs.Passing.{PassAll, Passes, StopsWithin, WritesAll, WritesPiece, WritesUpTo}
+use Rattle.text_output.specs.Together.{together}
 
 -- what holds where a call ended so
 pub on_err_any : {A E : Type 0} (r : Result A E) (P : Type 0) → P → OnErr r P
@@ -18,72 +19,97 @@ pub on_err_map : {A E : Type 0} (r : Result A E) (P Q : Type 0) → (P → Q) �
 on_err_map (Ok x) P Q f h = h
 on_err_map (Err x) P Q f h = f h
 
--- a front part of some bytes is one of them with more behind
-handed_more : (bytes rest : List ℕ) (w : Write) → IsHanded bytes w → IsHanded (bytes ++ rest) w
-handed_more bytes rest w h =
-    record {
-      behind = h.behind ++ rest;
-      front = ap (λ (xs : List ℕ). xs ++ rest) h.front ∙ append_assoc w.handed h.behind rest;
-      some = h.some;
-      fits = h.fits;
-    }
+together_append : (ps qs : List (List ℕ)) → together (ps ++ qs) ≡ together ps ++ together qs
+together_append [] qs = refl
+together_append (p ∷ ps) qs = ap (λ (xs : List ℕ). p ++ xs) (together_append ps qs) ∙ sym (append_assoc p (together ps) (together qs))
 
--- what is taken of a front part is no more than all
-handed_within : (bytes : List ℕ) (w : Write) → IsHanded bytes w → w.count ≤ length bytes
-handed_within bytes w h =
-    let size : length bytes ≡ length w.handed + length h.behind = ap length h.front ∙ length-append w.handed h.behind in omega (arith, size, h.fits)
+-- writes of a piece, and then writes of what they left
+passes_on : (piece mid left : List ℕ) (ws vs : List Write) → Passes piece ws mid → Passes mid vs left → Passes piece (ws ++ vs) left
+passes_on piece mid left [] vs p q = subst (λ (xs : List ℕ). Passes xs vs left) (sym p) q
+passes_on piece mid left (w ∷ ws) vs p q = (p.0, (p.1.0, (p.1.1.0, passes_on (drop w.count piece) mid left ws vs p.1.1.1 q)))
 
--- writes of some bytes are writes of them with more behind
-passes_more : (bytes rest left : List ℕ) (ws : List Write) → Passes bytes ws left → Passes (bytes ++ rest) ws (left ++ rest)
-passes_more bytes rest left [] p = ap (λ (xs : List ℕ). xs ++ rest) p
-passes_more bytes rest left (w ∷ ws) p = (
-  handed_more bytes rest w p.0,
-  (
-    p.1.0,
-    subst (λ (xs : List ℕ). Passes xs ws (left ++ rest)) (sym (drop-append-le w.count bytes rest (handed_within bytes w p.0)))
-        (passes_more (drop w.count bytes) rest left ws p.1.1),
-  ),
+-- writes of pieces, and then of further ones
+all_on : (ps qs : List (List ℕ)) (ws vs : List Write) → PassAll ps ws → PassAll qs vs → PassAll (ps ++ qs) (ws ++ vs)
+all_on [] qs ws vs p q = subst (λ (xs : List Write). PassAll qs (xs ++ vs)) (sym p) q
+all_on (p ∷ ps) qs ws vs h q = (
+  h.0,
+  h.1 ++ vs,
+  ap (λ (xs : List Write). xs ++ vs) h.2 ∙ append_assoc h.0 h.1 vs,
+  h.3,
+  all_on ps qs h.1 vs h.4 q,
 )
 
--- writes, and then writes of what they left
-passes_on : (bytes mid left : List ℕ) (ws vs : List Write) → Passes bytes ws mid → Passes mid vs left → Passes bytes (ws ++ vs) left
-passes_on bytes mid left [] vs p q = subst (λ (xs : List ℕ). Passes xs vs left) (sym p) q
-passes_on bytes mid left (w ∷ ws) vs p q = (p.0, (p.1.0, passes_on (drop w.count bytes) mid left ws vs p.1.1 q))
-
 -- before the first write all is left
-pub none_written : (w : Writing) (text left : List ℕ) → text ≡ left → WritesUpTo w w text left
-none_written w text left is =
+pub none_of_piece : (w : Writing) (piece left : List ℕ) → piece ≡ left → WritesPiece w w piece left
+none_of_piece w piece left is =
     record { taken = []; parts = is; took = sym (append-nil w.took); asked = []; writes = sym (append-nil w.writes); passes = is }
 
--- a text, and then what is left of it
-pub written_on : (before mid now : Writing) (text rest left : List ℕ) → WritesUpTo before mid text rest → WritesUpTo mid now rest left
-    → WritesUpTo before now text left
-written_on before mid now text rest left p q =
+pub none_written : (w : Writing) (text left : List ℕ) → text ≡ left → WritesUpTo w w text left
+none_written w text left is =
+    record { pieces = []; parts = is; took = sym (append-nil w.took); asked = []; writes = sym (append-nil w.writes); passes = refl }
+
+-- a piece, and then what is left of it
+pub piece_on : (before mid now : Writing) (piece rest left : List ℕ) → WritesPiece before mid piece rest → WritesPiece mid now rest left
+    → WritesPiece before now piece left
+piece_on before mid now piece rest left p q =
     record {
       taken = p.taken ++ q.taken;
       parts = p.parts ∙ ap (λ (xs : List ℕ). p.taken ++ xs) q.parts ∙ sym (append_assoc p.taken q.taken left);
       took = q.took ∙ ap (λ (xs : List ℕ). xs ++ q.taken) p.took ∙ append_assoc before.took p.taken q.taken;
       asked = p.asked ++ q.asked;
       writes = q.writes ∙ ap (λ (xs : List Write). xs ++ q.asked) p.writes ∙ append_assoc before.writes p.asked q.asked;
-      passes = passes_on text rest left p.asked q.asked p.passes q.passes;
+      passes = passes_on piece rest left p.asked q.asked p.passes q.passes;
+    }
+
+-- a text, and then what is left of it
+pub written_on : (before mid now : Writing) (text rest left : List ℕ) → WritesUpTo before mid text rest → WritesUpTo mid now rest left
+    → WritesUpTo before now text left
+written_on before mid now text rest left p q =
+    record {
+      pieces = p.pieces ++ q.pieces;
+      parts = p.parts
+          ∙ ap (λ (xs : List ℕ). together p.pieces ++ xs) q.parts
+          ∙ sym (append_assoc (together p.pieces) (together q.pieces) left)
+          ∙ ap (λ (xs : List ℕ). xs ++ left) (sym (together_append p.pieces q.pieces));
+      took = q.took
+          ∙ ap (λ (xs : List ℕ). xs ++ together q.pieces) p.took
+          ∙ append_assoc before.took (together p.pieces) (together q.pieces)
+          ∙ ap (λ (xs : List ℕ). before.took ++ xs) (sym (together_append p.pieces q.pieces));
+      asked = p.asked ++ q.asked;
+      writes = q.writes ∙ ap (λ (xs : List Write). xs ++ q.asked) p.writes ∙ append_assoc before.writes p.asked q.asked;
+      passes = all_on p.pieces q.pieces p.asked q.asked p.passes q.passes;
     }
 
 -- a part of a text, with more behind it
 pub written_more : (before now : Writing) (text left rest : List ℕ) → WritesUpTo before now text left → WritesUpTo before now (text ++ rest) (left ++ rest)
 written_more before now text left rest p =
     record {
-      taken = p.taken;
-      parts = ap (λ (xs : List ℕ). xs ++ rest) p.parts ∙ append_assoc p.taken left rest;
+      pieces = p.pieces;
+      parts = ap (λ (xs : List ℕ). xs ++ rest) p.parts ∙ append_assoc (together p.pieces) left rest;
       took = p.took;
       asked = p.asked;
       writes = p.writes;
-      passes = passes_more text rest left p.asked p.passes;
+      passes = p.passes;
+    }
+
+-- a piece that was written whole is a text that was
+pub piece_written : (before now : Writing) (piece : List ℕ) → WritesPiece before now piece [] → WritesAll before now piece
+piece_written before now piece p =
+    let whole : piece ≡ together (piece ∷ []) = sym (append-nil piece) in
+    let taken : p.taken ≡ together (piece ∷ []) = sym (append-nil p.taken) ∙ sym p.parts ∙ whole in
+    record {
+      pieces = piece ∷ [];
+      parts = whole ∙ sym (append-nil (together (piece ∷ [])));
+      took = p.took ∙ ap (λ (xs : List ℕ). before.took ++ xs) taken;
+      asked = p.asked;
+      writes = p.writes;
+      passes = (p.asked, [], sym (append-nil p.asked), p.passes, refl);
     }
 
 -- one write, which was handed all of it and took some of it
 pub one_write : (before now : Writing) (bytes : List ℕ) (n : ℕ) → 0 < n → n ≤ length bytes
     → now ≡ record { took = before.took ++ take n bytes; writes = before.writes ++ record { handed = bytes; count = n } ∷ [] }
-    → WritesUpTo before now bytes (drop n bytes)
+    → WritesPiece before now bytes (drop n bytes)
 one_write before now bytes n some fits is =
     record {
       taken = take n bytes;
@@ -91,21 +117,25 @@ one_write before now bytes n some fits is =
       took = ap (λ (w : Writing). w.took) is;
       asked = record { handed = bytes; count = n } ∷ [];
       writes = ap (λ (w : Writing). w.writes) is;
-      passes = (record { behind = []; front = sym (append-nil bytes); some = omega (arith, some, fits); fits = fits }, (some, refl));
+      passes = (refl, (some, (fits, refl)));
     }
 
--- one write that failed, which was handed all that was left
-pub one_failed : (before mid now : Writing) (text left : List ℕ) → WritesUpTo before mid text left → 0 < length left
+-- one write that failed, which was handed all that was left of a piece
+pub one_failed : (before mid now : Writing) (piece left : List ℕ) → WritesPiece before mid piece left → 0 < length left
     → now ≡ record { took = mid.took ++ take 0 left; writes = mid.writes ++ record { handed = left; count = 0 } ∷ [] }
-    → StopsWithin before now text
-one_failed before mid now text left goes some is =
+    → StopsWithin before now piece
+one_failed before mid now piece left begins some is =
     record {
-      left = left;
-      mid = mid;
-      goes = goes;
-      last = record { handed = left; count = 0 };
-      handed = record { behind = []; front = sym (append-nil left); some = some; fits = omega arith };
-      nothing = refl;
+      left = piece;
+      mid = before;
+      goes = none_written before piece piece refl;
+      piece = piece;
+      behind = [];
+      parts = sym (append-nil piece);
+      rest = left;
+      until = mid;
+      begins = begins;
+      some = some;
       took = ap (λ (w : Writing). w.took) is ∙ append-nil mid.took;
       writes = ap (λ (w : Writing). w.writes) is;
     }
@@ -117,9 +147,13 @@ stops_on before mid now text rest p s =
       left = s.left;
       mid = s.mid;
       goes = written_on before mid s.mid text rest s.left p s.goes;
-      last = s.last;
-      handed = s.handed;
-      nothing = s.nothing;
+      piece = s.piece;
+      behind = s.behind;
+      parts = s.parts;
+      rest = s.rest;
+      until = s.until;
+      begins = s.begins;
+      some = s.some;
       took = s.took;
       writes = s.writes;
     }
@@ -130,9 +164,13 @@ stops_more before now text rest s =
       left = s.left ++ rest;
       mid = s.mid;
       goes = written_more before s.mid text s.left rest s.goes;
-      last = s.last;
-      handed = handed_more s.left rest s.last s.handed;
-      nothing = s.nothing;
+      piece = s.piece;
+      behind = s.behind ++ rest;
+      parts = ap (λ (xs : List ℕ). xs ++ rest) s.parts ∙ append_assoc s.piece s.behind rest;
+      rest = s.rest;
+      until = s.until;
+      begins = s.begins;
+      some = s.some;
       took = s.took;
       writes = s.writes;
     }
@@ -140,8 +178,16 @@ stops_more before now text rest s =
 -- what the sink took of a text that was written whole
 pub took_all : (before now : Writing) (text : List ℕ) → WritesAll before now text → now.took ≡ before.took ++ text
 took_all before now text w =
-    w.took ∙ ap (λ (xs : List ℕ). before.took ++ xs) (sym (append-nil w.taken) ∙ sym w.parts)
+    w.took ∙ ap (λ (xs : List ℕ). before.took ++ xs) (sym (append-nil (together w.pieces)) ∙ sym w.parts)
 
 -- what it took where a write failed is a front part
 pub took_front : (before now : Writing) (text : List ℕ) → StopsWithin before now text → (taken : List ℕ) × (rest : List ℕ) × (text ≡ taken ++ rest) × (now.took ≡ before.took ++ taken)
-took_front before now text s = (s.goes.taken, s.left, s.goes.parts, s.took ∙ s.goes.took)
+took_front before now text s =
+    let whole = together s.goes.pieces in (
+      whole ++ s.begins.taken,
+      s.rest ++ s.behind,
+      s.goes.parts
+          ∙ ap (λ (xs : List ℕ). whole ++ xs) (s.parts ∙ ap (λ (xs : List ℕ). xs ++ s.behind) s.begins.parts ∙ append_assoc s.begins.taken s.rest s.behind)
+          ∙ sym (append_assoc whole s.begins.taken (s.rest ++ s.behind)),
+      s.took ∙ s.begins.took ∙ ap (λ (xs : List ℕ). xs ++ s.begins.taken) s.goes.took ∙ append_assoc before.took whole s.begins.taken,
+    )

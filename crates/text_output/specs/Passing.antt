@@ -2,43 +2,58 @@
 use Rattle.std.specs.Prelude.{◌≡◌, ◌<◌, ◌≤◌, ℕ, List, [], ◌∷◌, ◌++◌, length, drop, ◌⊎◌}
 use Rattle.io_trace.specs.Trace.{Write, Writing}
 use Rattle.outside_io.specs.Outside.{Rose}
+use Rattle.text_output.specs.Together.{together}
 
--- a write is handed a front part of these bytes, which is not empty
-pub record IsHanded (bytes : List ℕ) (w : Write) : Type 0 where
-  pub behind : List ℕ
-  pub front : bytes ≡ w.handed ++ behind
-  pub some : 0 < length w.handed
-  pub fits : w.count ≤ length w.handed
-
--- These writes are handed the bytes in their order: each a front part of what those before it did not take, and each takes some of it.
--- What none of them took is left.
+-- Writes of a piece, in their order: each is handed all that is left of it and takes some of that, from the front. What none of them took
+-- is left.
 abbrev pub Passes : List ℕ → List Write → List ℕ → Type 0
-Passes bytes [] left = bytes ≡ left
-Passes bytes (w ∷ ws) left = IsHanded bytes w × ((0 < w.count) × Passes (drop w.count bytes) ws left)
+Passes piece [] left = piece ≡ left
+Passes piece (w ∷ ws) left =
+    (w.handed ≡ piece) × ((0 < w.count) × ((w.count ≤ length piece) × Passes (drop w.count piece) ws left))
 
--- a text was written up to these bytes, which are left of it
-pub record WritesUpTo (before now : Writing) (text left : List ℕ) : Type 0 where
+-- writes of some pieces, one behind the other, none of which leaves anything
+abbrev pub PassAll : List (List ℕ) → List Write → Type 0
+PassAll [] ws = ws ≡ []
+PassAll (p ∷ ps) ws = (own : List Write) × (others : List Write) × (ws ≡ own ++ others) × Passes p own [] × PassAll ps others
+
+-- a piece was written up to these bytes, which are left of it
+pub record WritesPiece (before now : Writing) (piece left : List ℕ) : Type 0 where
   pub taken : List ℕ
-  pub parts : text ≡ taken ++ left
+  pub parts : piece ≡ taken ++ left
   pub took : now.took ≡ before.took ++ taken
   pub asked : List Write
   pub writes : now.writes ≡ before.writes ++ asked
-  pub passes : Passes text asked left
+  pub passes : Passes piece asked left
+
+-- a text was written piece by piece, up to these bytes, which are left of it
+pub record WritesUpTo (before now : Writing) (text left : List ℕ) : Type 0 where
+  pub pieces : List (List ℕ)
+  pub parts : text ≡ together pieces ++ left
+  pub took : now.took ≡ before.took ++ together pieces
+  pub asked : List Write
+  pub writes : now.writes ≡ before.writes ++ asked
+  pub passes : PassAll pieces asked
 
 -- the whole text was written
 abbrev pub WritesAll : Writing → Writing → List ℕ → Type 0
 WritesAll before now text = WritesUpTo before now text []
 
--- A write of the text failed, and none came behind it: it was handed a front part of what was left, and took nothing.
+-- A write of the text failed, and none came behind it: it was handed all that was left of a piece, and took nothing.
 pub record StopsWithin (before now : Writing) (text : List ℕ) : Type 0 where
+  -- the pieces before that one
   pub left : List ℕ
   pub mid : Writing
   pub goes : WritesUpTo before mid text left
-  pub last : Write
-  pub handed : IsHanded left last
-  pub nothing : last.count ≡ 0
-  pub took : now.took ≡ mid.took
-  pub writes : now.writes ≡ mid.writes ++ last ∷ []
+  -- that one, up to the write
+  pub piece : List ℕ
+  pub behind : List ℕ
+  pub parts : left ≡ piece ++ behind
+  pub rest : List ℕ
+  pub until : Writing
+  pub begins : WritesPiece mid until piece rest
+  pub some : 0 < length rest
+  pub took : now.took ≡ until.took
+  pub writes : now.writes ≡ until.writes ++ record { handed = rest; count = 0 } ∷ []
 
 -- a line is told: the sink takes it, or it has a fault and takes a front part of it
 abbrev pub Tells : ℕ → ℕ → Writing → Writing → List ℕ → Type 0

@@ -1,27 +1,65 @@
 -- A session that is accepted, and what its recording comes to.
-use Rattle.std.proofs.Common.{List, Option, Ok, Err, subst}
+use Rattle.std.proofs.Common.{List, [], ◌∷◌, Option, Ok, Err, subst}
+use Rattle.std.proofs.lemmas.Result.{err_from_is_err_and}
 use Rattle.outside_io.specs.Outside.{Entry}
 use Rattle.session_plan.specs.View.{plan_view}
-use Rattle.command_files.specs.Judged.{Answer, IfTold, Reads}
-use Rattle.command_answers.specs.Replay.{RecordingAnswers}
-use Rattle.command_files.specs.Inputs.{session_judged}
-use Rattle.command_files.proofs.Answering.{goes_on, refuses_map}
+use Rattle.command_files.specs.Inputs.{recording_limit, session_file, session_limit}
+use Rattle.command_files.specs.Judged.{by_log}
+use Rattle.command_files.specs.Logged.{Logged, RefusesBy}
+use Rattle.command_files.proofs.Logs.{any_log, file_by, file_goes, then_by}
 use Rattle.command_files.proofs.Outcomes.{if_err_map, if_ok_map}
+use Rattle.command_answers.specs.Replay.{RecordingAnswers}
 use Rattle.command_answers.proofs.replay.answer_replay.Goals as goal
 
-pub returns : goal.returns
-returns g c =
+pub returns-in_err-plan-clause-err : goal.returns-in_err-plan-clause-err
+returns-in_err-plan-clause-err g c =
     let told = g.F.Files.entries c.args.files.now in
+    let before = g.F.Files.readings c.args.files.now in
+    let now = g.F.Files.readings c.read_session.new.files in
+    let fb = g.F.Files.faults c.args.files.now in
+    let fn = g.F.Files.faults c.read_session.new.files in
+    let events = c.args.names.events.now in
+    let p = err_from_is_err_and c.from_residual.result c.from_residual.ensures.1 in
+    rw (p.1, p.2)
+    (file_by told before now c.args.names.session.now session_file ((events, recording_limit) ∷ []) (RecordingAnswers events) fb fn c.in_err-plan.field-0.0 c.in_err-plan.ensures.err)
+
+pub returns-in_err-begun-clause-err : goal.returns-in_err-begun-clause-err
+returns-in_err-begun-clause-err g c =
+    let told = g.F.Files.entries c.args.files.now in
+    let before = g.F.Files.readings c.args.files.now in
+    let now = g.F.Files.readings c.read_session.new.files in
+    let p = err_from_is_err_and c.from_residual-in_err-begun.result c.from_residual-in_err-begun.ensures.1 in
+    rw (p.1, p.2) (any_log told before now c.args.names.session.now session_limit ((c.args.names.events.now, recording_limit) ∷ []) _ c.in_ok-plan.ensures.ok)
+
+pub returns-clause-ok : goal.returns-clause-ok
+returns-clause-ok g c =
+    let told = g.F.Files.entries c.args.files.now in
+    let before = g.F.Files.readings c.args.files.now in
+    let mid = g.F.Files.readings c.read_session.new.files in
+    let now = g.F.Files.readings c.recording_text.new.files in
     let plan = plan_view c.in_ok-plan.plan in
     let events = c.args.names.events.now in
-    let on : (a : Answer) → IfTold (g.F.Files.entries c.read_session.new.files) (λ es. RecordingAnswers es events plan a)
-    → IfTold told (λ es. Reads es c.args.names.session.now session_judged (RecordingAnswers es events) a) =
-    λ a h. goes_on told c.args.names.session.now session_judged plan (λ es. RecordingAnswers es events) a c.in_ok-plan.ensures.ok
-    (subst (λ (o : Option (List Entry)). IfTold o (λ es. RecordingAnswers es events plan a)) c.in_ok-plan.ensures.entries h) in
-    record {
-      ok = if_ok_map c.recording_text.result _ _ (λ text h. on (Ok text) h) (c.recording_text.ensures.ok plan c.in_ok-begun.ensures);
-      err = if_err_map c.recording_text.result _ _
-          (λ r h. refuses_map _ _ (g.F.Files.faults c.args.files.now) (g.F.Files.faults c.read_session.new.files) (g.F.Files.faults c.recording_text.new.files) r
-          (λ x. on (Err x)) c.in_ok-plan.ensures.later h)
-          (c.recording_text.ensures.err plan c.in_ok-begun.ensures);
-    }
+    if_ok_map c.recording_text.result _ _
+    (λ text log. file_goes told before mid now c.args.names.session.now session_file ((events, recording_limit) ∷ []) plan (RecordingAnswers events) (Ok text)
+    c.in_ok-plan.ensures.ok
+    (subst (λ (o : Option (List Entry)). Logged o mid now ((events, recording_limit) ∷ []) (λ rs. RecordingAnswers events (by_log rs) plan (Ok text)))
+    c.in_ok-plan.ensures.entries log))
+    (c.recording_text.ensures.ok plan c.in_ok-begun.ensures)
+
+pub returns-clause-err : goal.returns-clause-err
+returns-clause-err g c =
+    let told = g.F.Files.entries c.args.files.now in
+    let before = g.F.Files.readings c.args.files.now in
+    let mid = g.F.Files.readings c.read_session.new.files in
+    let now = g.F.Files.readings c.recording_text.new.files in
+    let fb = g.F.Files.faults c.args.files.now in
+    let fm = g.F.Files.faults c.read_session.new.files in
+    let fn = g.F.Files.faults c.recording_text.new.files in
+    let plan = plan_view c.in_ok-plan.plan in
+    let events = c.args.names.events.now in
+    if_err_map c.recording_text.result _ _
+    (λ r h. then_by told before mid now c.args.names.session.now session_file ((events, recording_limit) ∷ []) plan (RecordingAnswers events) fb fm fn r
+    c.in_ok-plan.ensures.later c.in_ok-plan.ensures.ok
+    (subst (λ (o : Option (List Entry)). RefusesBy (λ x. Logged o mid now ((events, recording_limit) ∷ []) (λ rs. RecordingAnswers events (by_log rs) plan (Err x)))
+    (Logged o mid now ((events, recording_limit) ∷ []) (λ rs. Unit {0})) fm fn r) c.in_ok-plan.ensures.entries h))
+    (c.recording_text.ensures.err plan c.in_ok-begun.ensures)

@@ -1,5 +1,5 @@
 -- The end of a recording and its text.
-use Rattle.std.proofs.Common.{◌∙◌, ap, map, sym, Ok, Err}
+use Rattle.std.proofs.Common.{◌∙◌, ap, map, Ok, Err}
 use Rattle.session_plan.specs.View.{channel_view}
 use Rattle.command_answers.proofs.Begins.{judged, refuses_events}
 use Rattle.command_files.proofs.Answering.{so_map}

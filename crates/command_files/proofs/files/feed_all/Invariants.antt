@@ -1,21 +1,20 @@
-use Rattle.std.proofs.Common.{◌≡◌, ◌+◌, ◌-◌, ◌≤◌, false, List, ℕ, length, vec_len}
-use Rattle.std.specs.Io.KnownBytes.{Consumes}
+use Rattle.std.proofs.Common.{◌≡◌, ◌+◌, ◌-◌, ◌≤◌, false, length, vec_len}
+use Rattle.command_files.specs.Reading.{GivesMore}
 use Rattle.command_files.specs.Recorded.{Feeds}
 use Rattle.command_files.proofs.files.feed_all.Given as goal
 
--- the bytes so far were taken from the front of those left, and the recording took them
+-- so many bytes were given, and the recording took them
 abbrev pub invariant-pieces : goal.invariant-pieces
 invariant-pieces g l =
     record {
-      bytes : List ℕ;
-      size : l.total ≡ length bytes;
+      size : l.total ≡ length (g.S.Source.reading l.source).given;
       within : l.total ≤ l.limit + 1;
       buffer : vec_len l.buffer ≡ 65536;
-      consumed : Consumes (g.S.Source.left l.initial.source) (g.S.Source.left l.source) bytes;
+      gives : GivesMore (g.S.Source.left l.initial.source) (g.S.Source.left l.source) (g.S.Source.reading l.initial.source) (g.S.Source.reading l.source);
       later : g.S.Source.faults l.initial.source ≤ g.S.Source.faults l.source;
       going : (g.S.Source.reading l.source).ended ≡ false;
       loan : g.S.Source.loan l.source ≡ g.S.Source.loan l.initial.source;
-      takes : Feeds l.plan l.initial.recording l.recording bytes;
+      takes : Feeds l.plan l.initial.recording l.recording (g.S.Source.reading l.source).given;
     }
 
 abbrev pub decreases-pieces : goal.decreases-pieces

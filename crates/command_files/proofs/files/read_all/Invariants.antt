@@ -1,14 +1,15 @@
 use Rattle.std.proofs.Common.{◌≡◌, ◌+◌, ◌-◌, ◌≤◌, false, length, vec_len}
-use Rattle.std.specs.Io.KnownBytes.{Consumes}
+use Rattle.command_files.specs.Reading.{GivesMore}
 use Rattle.command_files.proofs.files.read_all.Given as goal
 
--- the bytes so far were taken from the front of those left
+-- the bytes so far are those that were given
 abbrev pub invariant-pieces : goal.invariant-pieces
 invariant-pieces g l =
     record {
+      same : (g.S.Source.reading l.source).given ≡ l.bytes.items;
       within : length l.bytes.items ≤ l.limit + 1;
       buffer : vec_len l.buffer ≡ 65536;
-      consumed : Consumes (g.S.Source.left l.initial.source) (g.S.Source.left l.source) l.bytes.items;
+      gives : GivesMore (g.S.Source.left l.initial.source) (g.S.Source.left l.source) (g.S.Source.reading l.initial.source) (g.S.Source.reading l.source);
       later : g.S.Source.faults l.initial.source ≤ g.S.Source.faults l.source;
       going : (g.S.Source.reading l.source).ended ≡ false;
       loan : g.S.Source.loan l.source ≡ g.S.Source.loan l.initial.source;

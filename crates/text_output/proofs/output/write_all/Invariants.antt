@@ -1,5 +1,5 @@
 use Rattle.std.proofs.Common.{◌-◌, ◌≤◌, length, drop}
-use Rattle.text_output.specs.Passing.{WritesUpTo}
+use Rattle.text_output.specs.Passing.{WritesPiece}
 use Rattle.text_output.proofs.output.write_all.Given as goal
 
 -- the text was written up to what stands behind `at`
@@ -7,7 +7,7 @@ abbrev pub invariant-pieces : goal.invariant-pieces
 invariant-pieces g l =
     record {
       within : l.at ≤ length l.text;
-      written : WritesUpTo (g.O.Sink.writing l.initial.out) (g.O.Sink.writing l.out) l.text (drop l.at l.text);
+      written : WritesPiece (g.O.Sink.writing l.initial.out) (g.O.Sink.writing l.out) l.text (drop l.at l.text);
       later : g.O.Sink.faults l.initial.out ≤ g.O.Sink.faults l.out;
     }
 

@@ -1,0 +1,57 @@
+-- The answer by what was read is that by the files, where these are told.
+use Rattle.std.proofs.Common.{List, Option, None, Some}
+use Rattle.io_trace.specs.Trace.{Reading}
+use Rattle.outside_io.specs.Outside.{Entry}
+use Rattle.command_words.specs.Command.{Command, replay, race, check, verify, work, batch, hover, emit, judge, compare}
+use Rattle.command_files.specs.Devices.{devices_of}
+use Rattle.command_files.specs.Inputs.{events_file, got_file, order_file, session_file, stream_file, want_file}
+use Rattle.command_files.specs.Judged.{Answer, Ends, IfTold, by_log, by_name}
+use Rattle.command_files.specs.Logged.{AllAgree}
+use Rattle.command_files.proofs.Answering.{told_map}
+use Rattle.command_files.proofs.Logs.{reads_told}
+use Rattle.command_answers.specs.Batch.{BatchAnswers}
+use Rattle.command_answers.specs.Checked.{CheckAnswers, OrderAnswers, OrderedBy}
+use Rattle.command_answers.specs.Compare.{GotAnswers, SameAnswers}
+use Rattle.command_answers.specs.Emit.{EmitAnswers}
+use Rattle.command_answers.specs.Hover.{HoverAnswers, MouseAnswers, mouse_alone}
+use Rattle.command_answers.specs.Judge.{JudgeAnswers}
+use Rattle.command_answers.specs.Program.{Answers, AnswersTo}
+use Rattle.command_answers.specs.Race.{RaceAnswers, ThreadsAnswer}
+use Rattle.command_answers.specs.Replay.{RecordingAnswers, RunAnswers}
+use Rattle.command_answers.specs.Verify.{StreamAnswers}
+
+pub command_told : (entries : List Entry) (command : Option Command) (rs : List Reading) (a : Answer) → AllAgree entries rs → AnswersTo (by_log rs) command a
+    → AnswersTo (by_name entries) command a
+command_told entries None rs a agree h = (h.0, tt)
+command_told entries (Some (replay files)) rs a agree h =
+    reads_told entries files.session session_file (RecordingAnswers files.events) rs a agree
+    (λ ys more plan. reads_told entries files.events (events_file (devices_of plan)) (λ rest given. Ends (RunAnswers plan given) rest) ys a more (λ zs all given k. (k.0, tt))) h
+command_told entries (Some (race files)) rs a agree h =
+    reads_told entries files.session session_file (ThreadsAnswer files.events) rs a agree
+    (λ ys more plan. reads_told entries files.events (events_file (devices_of plan)) (λ rest given. Ends (RaceAnswers plan given) rest) ys a more (λ zs all given k. (k.0, tt))) h
+command_told entries (Some (check files order)) rs a agree h =
+    reads_told entries files.session session_file (CheckAnswers files.events order) rs a agree
+    (λ ys more plan. reads_told entries files.events (events_file (devices_of plan)) (OrderedBy order plan) ys a more
+    (λ zs all given. reads_told entries order order_file (λ last lines. Ends (OrderAnswers plan given lines) last) zs a all (λ us rest lines k. (k.0, tt)))) h
+command_told entries (Some (verify stream)) rs a agree h =
+    reads_told entries stream stream_file (λ rest bytes. Ends (StreamAnswers bytes) rest) rs a agree (λ ys more bytes k. (k.0, tt)) h
+command_told entries (Some (work seed packets)) rs a agree h = (h.0, tt)
+command_told entries (Some (batch stream frame)) rs a agree h =
+    reads_told entries stream stream_file (λ rest bytes. Ends (BatchAnswers frame bytes) rest) rs a agree (λ ys more bytes k. (k.0, tt)) h
+command_told entries (Some (hover files mouse)) rs a agree h =
+    reads_told entries files.session session_file (MouseAnswers files.events mouse) rs a agree
+    (λ ys more plan. reads_told entries files.events (events_file (mouse_alone mouse)) (λ rest given. Ends (HoverAnswers plan given) rest) ys a more (λ zs all given k. (k.0, tt))) h
+command_told entries (Some (emit stream channel device)) rs a agree h =
+    reads_told entries stream stream_file (λ rest bytes. Ends (EmitAnswers channel device bytes) rest) rs a agree (λ ys more bytes k. (k.0, tt)) h
+command_told entries (Some (judge stream)) rs a agree h =
+    reads_told entries stream stream_file (λ rest bytes. Ends (JudgeAnswers bytes) rest) rs a agree (λ ys more bytes k. (k.0, tt)) h
+command_told entries (Some (compare want got us pixels)) rs a agree h =
+    reads_told entries want want_file (GotAnswers got us pixels) rs a agree
+    (λ ys more sections. reads_told entries got got_file (λ rest came. Ends (SameAnswers us pixels sections came) rest) ys a more (λ zs all came k. (k.0, tt))) h
+
+-- the answer to a command, where the files are told
+pub answers_told : (told : Option (List Entry)) (before now : List Reading) (command : Command) (a : Answer) → Answers told before now command a
+    → IfTold told (λ entries. AnswersTo (by_name entries) (Some command) a)
+answers_told told before now command a log =
+    told_map told (λ entries. AllAgree entries log.readings) (λ entries. AnswersTo (by_name entries) (Some command) a)
+    (λ entries agree. command_told entries (Some command) log.readings a agree log.holds) log.agree

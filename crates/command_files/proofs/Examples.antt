@@ -1,0 +1,68 @@
+-- Worked examples of the definitions.
+use Rattle.std.proofs.Common.{◌≡◌, ℕ, List, [], ◌∷◌, true, false, Some, Ok, Err, ap, get_or, refl, inl, inr, arith, codes}
+use Rattle.io_trace.specs.Trace.{Reading}
+use Rattle.command_files.specs.Judged.{Answer, Ends, FileKind, IsEnough, Reads, by_log, by_name, judged}
+use Rattle.command_files.specs.Logged.{Agrees, InTurn}
+use Rattle.command_files.specs.Refused.{too_long}
+
+-- files of at most two bytes, which are all accepted
+abbrev short : FileKind (List ℕ)
+short = record { limit = 2; what = codes "short"; rule = λ bytes. Ok bytes }
+
+two_bytes : judged short (7 ∷ 8 ∷ []) ≡ Ok (7 ∷ 8 ∷ [])
+two_bytes = refl
+
+three_bytes : judged short (7 ∷ 8 ∷ 9 ∷ []) ≡ Err (too_long (codes "short"))
+three_bytes = refl
+
+-- a file `a` that was read to its end, and a file `b` that gave a byte more than it may have
+abbrev whole : Reading
+whole = record { name = 97 ∷ []; given = 7 ∷ 8 ∷ []; ended = true }
+
+abbrev cut : Reading
+cut = record { name = 98 ∷ []; given = 7 ∷ 8 ∷ 9 ∷ []; ended = false }
+
+-- one that failed behind its first byte
+abbrev failed : Reading
+failed = record { name = 97 ∷ []; given = 7 ∷ []; ended = false }
+
+whole_is_enough : IsEnough 2 whole
+whole_is_enough = inl (refl, omega arith)
+
+cut_is_enough : IsEnough 2 cut
+cut_is_enough = inr refl
+
+failed_is_not : IsEnough 2 failed → ⊥
+failed_is_not (inl h) = absurd (cc (h.0))
+failed_is_not (inr h) = absurd (omega (arith, h))
+
+-- `a` and then `b`: `b` is too long, and nothing more is read
+abbrev Second : List Reading → Answer → Type 0
+Second readings a = Reads (by_log readings) (97 ∷ []) short (λ rest x. λ y. Reads rest (98 ∷ []) short (λ last z. Ends (λ b. b ≡ Ok z) last) y) a
+
+too_long_second : Second (whole ∷ cut ∷ []) (Err (too_long (codes "short")))
+too_long_second = (refl, (inl (refl, omega arith), (refl, (inr refl, (refl, refl)))))
+
+-- the same by the files
+by_files :
+    Reads (by_name ((97 ∷ [], 7 ∷ 8 ∷ []) ∷ (98 ∷ [], 7 ∷ 8 ∷ 9 ∷ 10 ∷ []) ∷ [])) (97 ∷ []) short
+    (λ rest x. λ y. Reads rest (98 ∷ []) short (λ last z. Ends (λ b. b ≡ Ok z) last) y) (Err (too_long (codes "short")))
+by_files = (refl, tt)
+
+-- nothing is read behind a refusal
+no_more : Reads (by_log (cut ∷ whole ∷ [])) (98 ∷ []) short (λ rest x. Ends (λ b. b ≡ Ok x) rest) (Err (too_long (codes "short"))) → ⊥
+no_more h = absurd (cc (h.1.1.1))
+
+-- in their turn, each once, and those at the end may be missing
+in_turn : InTurn ((97 ∷ [], 2) ∷ (98 ∷ [], 2) ∷ (99 ∷ [], 2) ∷ []) (whole ∷ cut ∷ [])
+in_turn = (refl, (omega arith, (refl, (omega arith, tt))))
+
+twice : InTurn ((97 ∷ [], 2) ∷ (98 ∷ [], 2) ∷ []) (whole ∷ whole ∷ []) → ⊥
+twice h = absurd (let same : 97 ≡ 98 = ap (λ (xs : List ℕ). get_or xs 0 0) h.1.1.0 in omega (arith, same))
+
+-- a reading agrees with its file where it gave the front of that, and of a file that is not there nothing
+front : Agrees (Some (7 ∷ 8 ∷ 9 ∷ 10 ∷ [])) cut
+front = (10 ∷ [], refl, λ e. absurd (cc e))
+
+not_all : Agrees (Some (7 ∷ 8 ∷ 9 ∷ [])) whole → ⊥
+not_all h = absurd (let none : h.0 ≡ [] = h.2 refl in cc (h.1, none))
