@@ -2,6 +2,7 @@ pub mod Answering
 pub mod Begins
 pub mod Bounds
 pub mod EndLines
+pub mod Examples
 pub mod Finishing
 pub mod NextSection
 pub mod Orders

@@ -1,0 +1,30 @@
+-- Worked examples of the definitions.
+use Rattle.std.proofs.Common.{◌≡◌, ℕ, List, [], ◌∷◌, None, Some, Err, true, ap, get_or, refl, inl, arith, codes}
+use Rattle.io_trace.specs.Trace.{Reading}
+use Rattle.command_words.specs.Command.{compare, verify}
+use Rattle.command_files.specs.Judged.{Answer, by_log}
+use Rattle.command_answers.specs.Program.{AnswersTo, files_of, usage}
+use Rattle.command_answers.specs.Verify.{verdict}
+
+-- words of no command come to the usage, and no file is read
+no_command : AnswersTo (by_log []) None (Err usage)
+no_command = (refl, refl)
+
+-- a stream file `a` that was read to its end and has the one byte `x`: the answer is what is said of that byte
+abbrev a_file : Reading
+a_file = record { name = codes "a"; given = codes "x"; ended = true }
+
+one_byte : (a : Answer) → verdict (codes "x") ≡ a → AnswersTo (by_log (a_file ∷ [])) (Some (verify (codes "a"))) a
+one_byte a is = (refl, (inl (refl, omega arith), (is, refl)))
+
+-- a reading more, and it is none
+read_on : (a : Answer) → AnswersTo (by_log (a_file ∷ a_file ∷ [])) (Some (verify (codes "a"))) a → ⊥
+read_on a h = absurd (cc (h.1.1.1))
+
+-- the file under another name
+another_name : (a : Answer) → AnswersTo (by_log (a_file ∷ [])) (Some (verify (codes "b"))) a → ⊥
+another_name a h = absurd (let same : 97 ≡ 98 = ap (λ (xs : List ℕ). get_or xs 0 0) h.0 in omega (arith, same))
+
+-- those that were wanted are read first
+two_files : files_of (compare (codes "want") (codes "got") 0 0) ≡ (codes "want", 67108864) ∷ (codes "got", 67108864) ∷ []
+two_files = refl
