@@ -1,6 +1,5 @@
 -- What is proved of the program's answers. Each law is a clause of a function.
 use Rattle.std.specs.Prelude.{◌≡◌, ℕ, List, reverse, Ok, Err}
-use Rattle.outside_io.specs.Outside.{Entry}
 use Rattle.raw_events.specs.declared.event.RawEvent.{RawEvent}
 use Rattle.dispatch_calls.specs.declared.call.Call.{Call}
 use Rattle.dispatch_history.specs.Effect.{Effect, past_of}
@@ -12,7 +11,7 @@ use Rattle.session_plan.specs.DeviceDisplays.{device_displays}
 use Rattle.session_plan.specs.Plan.{PlanData}
 use Rattle.command_words.specs.Forms.{form_of}
 use Rattle.run_laws.specs.Fitting.{NoneRefused}
-use Rattle.command_files.specs.Judged.{Answer}
+use Rattle.command_files.specs.Judged.{Answer, Origin}
 use Rattle.command_files.specs.Planned.{run_of}
 use Rattle.command_answers.specs.Program.{IsAlone, IsAnswer}
 use Rattle.command_files.specs.Refused.{Refused}
@@ -27,14 +26,14 @@ OrderTakes =
     (plan : PlanData) (past : List RawEvent) (lines : List Line) (calls : List Call)
     → given_calls (run_of plan past) lines ≡ Ok calls → NoneRefused (replay (device_displays plan.devices) (reverse calls))
 
--- The words and the files have at most one answer, unless the words are those of `race`.
+-- The words have at most one answer by one set of files, and by the readings of one call, unless they are those of `race`.
 abbrev pub OneAnswer : Type 0
 OneAnswer =
-    (entries : List Entry) (words : List (List ℕ)) (a b : Answer)
-    → IsAlone (form_of words) → IsAnswer entries words a → IsAnswer entries words b → b ≡ a
+    (from : Origin) (words : List (List ℕ)) (a b : Answer)
+    → IsAlone (form_of words) → IsAnswer from words a → IsAnswer from words b → b ≡ a
 
 -- Where a refusal is an answer it is the only one, also where the words are those of `race`.
 abbrev pub OneRefusal : Type 0
 OneRefusal =
-    (entries : List Entry) (words : List (List ℕ)) (r : Refused) (a : Answer)
-    → IsAnswer entries words (Err r) → IsAnswer entries words a → a ≡ Err r
+    (from : Origin) (words : List (List ℕ)) (r : Refused) (a : Answer)
+    → IsAnswer from words (Err r) → IsAnswer from words a → a ≡ Err r

@@ -7,7 +7,8 @@ pub fn taking()
     ensures order { OrderTakes }
 {}
 
-/// The words and the files have one answer, unless the words are those of `race`; a refusal is the one answer always.
+/// The words and the files, or what was read of these in a call, have one answer, unless the words are those of `race`;
+/// a refusal is the one answer always.
 pub fn answering()
     ensures answer { OneAnswer }
     ensures refusal { OneRefusal }

@@ -1,40 +1,54 @@
 -- The answer to a command is that to its words.
-use Rattle.std.proofs.Common.{◌≡◌, ℕ, List, Option, Some, Result, Ok, Err, IfOk, IfErr, ap, sym, subst, ◌∙◌}
+use Rattle.std.proofs.Common.{◌≡◌, ◌∙◌, ℕ, List, [], Option, None, Some, Result, Ok, Err, IfOk, IfErr, refl, sym, ap, subst, le_refl}
 use Rattle.outside_io.specs.Outside.{Entry}
 use Rattle.command_words.specs.Command.{Command}
 use Rattle.command_words.specs.CommandView.{command_view}
 use Rattle.command_words.specs.declared.command.Command.{Command as Parsed}
 use Rattle.command_words.specs.Forms.{form_of}
 use Rattle.command_files.specs.declared.refusal.Refusal.{Refusal}
-use Rattle.command_files.specs.declared.refusal.Refusal.TheVariants.{Session, Recording, Order, Stream, ReadFailed, NoMemory, TooLong}
-use Rattle.command_files.specs.Judged.{Answer}
-use Rattle.command_files.specs.Refusing.{Refuses}
-use Rattle.command_files.proofs.Answering.{told_map}
-use Rattle.command_answers.specs.Program.{Answers, AnswersTo}
-use Rattle.replay_engine.specs.Outcome.{ComesTo}
-use Rattle.replay_engine.specs.Refusing.{CameTo, RefusesAll}
+use Rattle.command_files.specs.Judged.{Answer, IfTold, by_log, by_name}
+use Rattle.command_files.specs.Logged.{Logged}
+use Rattle.command_files.proofs.Logs.{by_map, log_same}
+use Rattle.command_answers.specs.Program.{Answers, AnswersTo, RefusesCommand, files_of, usage}
+use Rattle.command_answers.proofs.Told.{answers_told}
+use Rattle.replay_engine.specs.Outcome.{Asked, ComesTo, ReadsInTurn, files_in}
+use Rattle.replay_engine.specs.Refusing.{CameTo}
 
 -- the answer to a command is that to words of its form
-pub answers_words : (told : Option (List Entry)) (words : List (List ℕ)) (command : Command) (a : Answer) → form_of words ≡ Some command → Answers told command a → ComesTo told words a
-answers_words told words command a is h =
-    told_map told (λ es. AnswersTo es (Some command) a) (λ es. AnswersTo es (form_of words) a) (λ es x. subst (λ o. AnswersTo es o a) (sym is) x) h
+pub comes_words : (q : Asked) (command : Command) (a : Answer) → form_of q.words ≡ Some command → Answers q.told q.before q.now command a → ComesTo q a
+comes_words q command a is log =
+    let told = answers_told q.told q.before q.now command a log in (
+      subst (λ o. Logged q.told q.before q.now (files_in o) (λ rs. AnswersTo (by_log rs) o a)) (sym is) log,
+      subst (λ o. IfTold q.told (λ es. AnswersTo (by_name es) o a)) (sym is) told,
+    )
 
-pub refuses_words : (told : Option (List Entry)) (words : List (List ℕ)) (command : Command) (before now : ℕ) (r : Refusal) → form_of words ≡ Some command
-    → Refuses (λ x. Answers told command (Err x)) before now r → RefusesAll told words before now r
-refuses_words told words command before now (Session e) is h = answers_words told words command _ is h
-refuses_words told words command before now (Recording e) is h = answers_words told words command _ is h
-refuses_words told words command before now (Order e) is h = answers_words told words command _ is h
-refuses_words told words command before now (Stream e) is h = answers_words told words command _ is h
-refuses_words told words command before now ReadFailed is h = h
-refuses_words told words command before now NoMemory is h = tt
-refuses_words told words command before now (TooLong what) is h = answers_words told words command _ is h
+-- and so are the files that were read
+pub reads_words : (q : Asked) (command : Command) → form_of q.words ≡ Some command → Logged q.told q.before q.now (files_of command) (λ rs. Unit {0})
+    → ReadsInTurn q (λ rs. Unit {0})
+reads_words q command is log = subst (λ o. Logged q.told q.before q.now (files_in o) (λ rs. Unit {0})) (sym is) log
 
 -- what a command came to is what its words came to
-pub came_to : (told : Option (List Entry)) (words : List (List ℕ)) (command : Command) (before now : ℕ) (r : Result (List ℕ) Refusal) → form_of words ≡ Some command
-    → IfOk r (λ text. Answers told command (Ok text)) → IfErr r (Refuses (λ x. Answers told command (Err x)) before now) → CameTo told words before now r
-came_to told words command before now (Ok text) is ok err = answers_words told words command (Ok text) is ok
-came_to told words command before now (Err e) is ok err = refuses_words told words command before now e is err
+pub came_so : (q : Asked) (command : Command) (r : Result (List ℕ) Refusal) → form_of q.words ≡ Some command
+    → IfOk r (λ text. Answers q.told q.before q.now command (Ok text)) → IfErr r (RefusesCommand q.told q.before q.now command q.faults_before q.faults_now)
+    → CameTo q r
+came_so q command (Ok text) is ok err = comes_words q command (Ok text) is ok
+came_so q command (Err e) is ok err =
+    by_map (λ x. Answers q.told q.before q.now command (Err x)) (λ x. ComesTo q (Err x)) (Logged q.told q.before q.now (files_of command) (λ rs. Unit {0}))
+    (ReadsInTurn q (λ rs. Unit {0})) q.faults_before q.faults_before q.faults_now e (le_refl q.faults_before)
+    (λ x. comes_words q command (Err x) is) (reads_words q command is) err
 
 -- the form of words, by the command that was read of them
 pub formed : (words : List (List ℕ)) (x y : Parsed) → Some (command_view x) ≡ form_of words → x ≡ y → form_of words ≡ Some (command_view y)
 formed words x y value is = sym value ∙ ap (λ (z : Parsed). Some (command_view z)) is
+
+usage_told : (told : Option (List Entry)) → IfTold told (λ es. AnswersTo (by_name es) None (Err usage))
+usage_told None = tt
+usage_told (Some es) = (refl, tt)
+
+-- words of no form come to the usage, and no file is read
+pub comes_usage : (q : Asked) → form_of q.words ≡ None → q.now ≡ q.before → ComesTo q (Err usage)
+comes_usage q none same = (
+  subst (λ o. Logged q.told q.before q.now (files_in o) (λ rs. AnswersTo (by_log rs) o (Err usage))) (sym none)
+      (log_same q.told q.before q.now [] (λ rs. AnswersTo (by_log rs) None (Err usage)) same (refl, refl)),
+  subst (λ o. IfTold q.told (λ es. AnswersTo (by_name es) o (Err usage))) (sym none) (usage_told q.told),
+)

@@ -1,3 +1,3 @@
 pub mod Answering
-pub mod Told
-pub mod Took
+pub mod Endings
+pub mod StillDown

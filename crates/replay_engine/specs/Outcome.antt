@@ -1,16 +1,15 @@
 -- What a run comes to: how its status, its text and its line go with what the program answers.
-use Rattle.std.specs.Prelude.{codes, ◌≡◌, ◌≢◌, ℕ, nat_eq, ◌||◌, Bool, List, take, Option, Some, None, Ok, Err, ⊤, IsTrue, ◌⊎◌}
-use Rattle.std.specs.Io.KnownBytes.{Appends, Keeps}
+use Rattle.std.specs.Prelude.{codes, ◌≡◌, ◌≢◌, ℕ, nat_eq, ◌||◌, Bool, List, [], Option, Some, None, Ok, Err, ⊤, IsTrue, ◌⊎◌}
+use Rattle.io_trace.specs.Trace.{Reading, Writing}
 use Rattle.outside_io.specs.Outside.{Entry, Rose}
-use Rattle.command_files.specs.declared.refusal.Refusal.{Refusal}
-use Rattle.command_files.specs.declared.refusal.Subject.{Subject}
-use Rattle.command_files.specs.Judged.{Answer, IfTold}
-use Rattle.command_answers.specs.Program.{IsAnswer, usage}
-use Rattle.command_files.specs.Inputs.{AreAccepted, IsAccepted, IsWant}
-use Rattle.command_files.specs.Refused.{Refused, too_long}
-use Rattle.replay_engine.specs.Telling.{HasCause}
-use Rattle.command_files.specs.RefusalView.{subject_word, status_of, refusal_view}
+use Rattle.text_output.specs.Passing.{StopsWithin, WritesAll, Tells as TellsLine}
 use Rattle.command_words.specs.Command.{Command, replay, race, check, verify, work, batch, hover, emit, judge, compare}
+use Rattle.command_words.specs.Forms.{form_of}
+use Rattle.command_files.specs.Inputs.{AreAccepted, IsAccepted, IsWant}
+use Rattle.command_files.specs.Judged.{Answer, IfTold, by_log, by_name}
+use Rattle.command_files.specs.Logged.{Logged}
+use Rattle.command_files.specs.Refused.{Refused}
+use Rattle.command_answers.specs.Program.{IsAnswer, files_of}
 
 -- The files lend each name that the words give: that of a recording only where the session is accepted, that of an order file only
 -- where both are, and that of the streams that came only where those that were wanted are accepted.
@@ -29,43 +28,45 @@ LendsNames told lends (Some (emit stream channel device)) = IsTrue (lends stream
 LendsNames told lends (Some (judge stream)) = IsTrue (lends stream)
 LendsNames told lends (Some (compare want got us pixels)) = IsTrue (lends want) × (IsWant told want → IsTrue (lends got))
 
--- where the files are told, this is what the program answers
-abbrev pub ComesTo : Option (List Entry) → List (List ℕ) → Answer → Type 0
-ComesTo told words a = IfTold told (λ entries. IsAnswer entries words a)
+-- What the program was asked: its words, the files where they are told, and the log of the readings and the count of faults of the
+-- files, before and now.
+pub record Asked : Type 0 where
+  pub words : List (List ℕ)
+  pub told : Option (List Entry)
+  pub before : List Reading
+  pub now : List Reading
+  pub faults_before : ℕ
+  pub faults_now : ℕ
 
--- a sink whose count did not rise took exactly this line
-abbrev pub Said : ℕ → ℕ → Option (List ℕ) → Option (List ℕ) → List ℕ → Type 0
-Said faults_before faults_now before now line = ¬ (Rose faults_before faults_now) → Appends before now line
+-- what was asked, of these words, over files that tell this and are logged and counted so
+abbrev pub asked : List (List ℕ) → Option (List Entry) → List Reading → List Reading → ℕ → ℕ → Asked
+asked words told before now faults_before faults_now =
+    record { words = words; told = told; before = before; now = now; faults_before = faults_before; faults_now = faults_now }
 
--- a sink took a front part of the text
-abbrev pub AppendsFront : Option (List ℕ) → Option (List ℕ) → List ℕ → Type 0
-AppendsFront before now text = (count : ℕ) × Appends before now (take count text)
+-- the files of the words, if these are of a command
+abbrev pub files_in : Option Command → List (List ℕ × ℕ)
+files_in None = []
+files_in (Some command) = files_of command
 
--- the program answers a text, and the sink took it whole
-abbrev pub WroteAll : Option (List Entry) → List (List ℕ) → Option (List ℕ) → Option (List ℕ) → Type 0
-WroteAll told words before now = (text : List ℕ) × ComesTo told words (Ok text) × Appends before now text
+-- Files of the words were read, in their order, each once and at most one byte past its limit, and no other.
+abbrev pub ReadsInTurn : Asked → (List Reading → Type 0) → Type 0
+ReadsInTurn q Holds = Logged q.told q.before q.now (files_in (form_of q.words)) Holds
 
--- the program answers a text, and the sink took a front part of it
-abbrev pub WroteFront : Option (List Entry) → List (List ℕ) → Option (List ℕ) → Option (List ℕ) → Type 0
-WroteFront told words before now = (text : List ℕ) × ComesTo told words (Ok text) × AppendsFront before now text
+-- This is what the program answers to the words, by what was read of their files; and by the files, where they are told.
+abbrev pub ComesTo : Asked → Answer → Type 0
+ComesTo q a = ReadsInTurn q (λ readings. IsAnswer (by_log readings) q.words a) × IfTold q.told (λ entries. IsAnswer (by_name entries) q.words a)
 
--- the program answers a refusal with this status
-abbrev pub RefusedBy : Option (List Entry) → List (List ℕ) → ℕ → (List ℕ → Type 0) → Type 0
-RefusedBy told words status said = (r : Refused) × (r.status ≡ status) × ComesTo told words (Err r) × said r.line
+-- the program answers a text, and the output took it whole
+abbrev pub WroteAll : Asked → Writing → Writing → Type 0
+WroteAll q before now = (text : List ℕ) × ComesTo q (Ok text) × WritesAll before now text
 
--- a sink whose count did not rise took one of the lines that say what is too long
-abbrev pub SaidTooLong : ℕ → ℕ → Option (List ℕ) → Option (List ℕ) → Type 0
-SaidTooLong faults_before faults_now before now =
-    (what : Subject) × Said faults_before faults_now before now (too_long (subject_word what)).line
+-- the program answers a text, of which the output took a front part, and a write failed
+abbrev pub WroteFront : Asked → Writing → Writing → Type 0
+WroteFront q before now = (text : List ℕ) × ComesTo q (Ok text) × StopsWithin before now text
 
--- a sink whose count did not rise took the line of some refusal with this status, which has a cause
-abbrev pub SaidSome : ℕ → ℕ → ℕ → Option (List ℕ) → Option (List ℕ) → Type 0
-SaidSome status faults_before faults_now before now =
-    (r : Refusal) × HasCause r × (status_of r ≡ status) × Said faults_before faults_now before now (refusal_view r).line
-
--- this status, and its line where the sink had no fault
-abbrev pub TellsSo : ℕ → ℕ → Option (List ℕ) → Option (List ℕ) → Refused → ℕ → Type 0
-TellsSo faults_before faults_now before now r status = (status ≡ r.status) × Said faults_before faults_now before now r.line
+-- the program answers a refusal with this status, of which this is so
+abbrev pub RefusedBy : Asked → ℕ → (List ℕ → Type 0) → Type 0
+RefusedBy q status said = (r : Refused) × (r.status ≡ status) × ComesTo q (Err r) × said r.line
 
 -- a status that there is
 abbrev pub is_status : ℕ → Bool
@@ -76,41 +77,48 @@ abbrev pub HasStatus : Answer → ℕ → Type 0
 HasStatus (Ok text) status = status ≡ 0
 HasStatus (Err r) status = status ≡ r.status
 
--- Where the files are told and nothing failed, the program answers and its status is that of the answer, or memory ran out.
-abbrev pub IsComplete : Option (List Entry) → List (List ℕ) → ℕ → Type 0
-IsComplete None words status = ⊤
-IsComplete (Some entries) words status =
-    ((a : Answer) × IsAnswer entries words a × HasStatus a status) ⊎ (status ≡ 6)
+-- Where neither the files nor the output had a fault, the program answers and its status is that of the answer, or memory ran out.
+abbrev pub Completes : Asked → ℕ → ℕ → ℕ → Type 0
+Completes q out_before out_now status =
+    ¬ (Rose q.faults_before q.faults_now) → ¬ (Rose out_before out_now) → ((a : Answer) × ComesTo q a × HasStatus a status) ⊎ (status ≡ 6)
 
--- Where neither the files nor the output had a fault, a run is complete.
-abbrev pub Completes : Option (List Entry) → List (List ℕ) → ℕ → ℕ → ℕ → ℕ → ℕ → Type 0
-Completes told words files_before files_now out_before out_now status =
-    ¬ (Rose files_before files_now) → ¬ (Rose out_before out_now) → IsComplete told words status
+-- What the output took, by the status: the whole text of the answer on 0, a front part of it on 5; on any other nothing was handed to it.
+pub record Writes (q : Asked) (before now : Writing) (status : ℕ) : Type 0 where
+  pub whole : status ≡ 0 → WroteAll q before now
+  pub front : status ≡ 5 → WroteFront q before now
+  pub nothing : status ≢ 0 → status ≢ 5 → now ≡ before
 
--- What the output took, by the status: the whole text of the answer on 0, a front part of it on 5, and nothing on any other.
-pub record Writes (told : Option (List Entry)) (words : List (List ℕ)) (before now : Option (List ℕ)) (status : ℕ) : Type 0 where
-  pub whole : status ≡ 0 → WroteAll told words before now
-  pub front : status ≡ 5 → WroteFront told words before now
-  pub nothing : status ≢ 0 → status ≢ 5 → Keeps before now
-
--- What the error sink took, by the status. On 1, 2, 3 and 7 that is the line of a refusal with this status, which is the program's
+-- What the error sink was told, by the status. On 1, 2, 3 and 7 that is the line of a refusal with this status, which is the program's
 -- answer; on 4, 5 and 6 that of a fault or of want of memory; on 0 nothing.
-pub record Tells (told : Option (List Entry)) (words : List (List ℕ)) (faults_before faults_now : ℕ) (before now : Option (List ℕ)) (status : ℕ) : Type 0 where
-  pub judged : status ≡ 1 → RefusedBy told words 1 (Said faults_before faults_now before now)
-  pub usage_told : status ≡ 2 → RefusedBy told words 2 (Said faults_before faults_now before now)
-  pub refused : status ≡ 3 → RefusedBy told words 3 (Said faults_before faults_now before now)
-  pub too_much : status ≡ 7 → RefusedBy told words 7 (Said faults_before faults_now before now)
-  -- what is told where the files are not, too
-  pub judged_line : status ≡ 1 → SaidSome 1 faults_before faults_now before now
-  pub usage_line : status ≡ 2 → Said faults_before faults_now before now usage.line
-  pub refused_line : status ≡ 3 → SaidSome 3 faults_before faults_now before now
-  pub too_much_line : status ≡ 7 → SaidTooLong faults_before faults_now before now
-  pub read_line : status ≡ 4 → Said faults_before faults_now before now (codes "read failed\n")
-  pub write_line : status ≡ 5 → Said faults_before faults_now before now (codes "write failed\n")
-  pub memory_line : status ≡ 6 → Said faults_before faults_now before now (codes "no memory\n")
-  pub silent : status ≡ 0 → Keeps before now
+pub record Tells (q : Asked) (faults_before faults_now : ℕ) (before now : Writing) (status : ℕ) : Type 0 where
+  pub judged : status ≡ 1 → RefusedBy q 1 (TellsLine faults_before faults_now before now)
+  pub usage_told : status ≡ 2 → RefusedBy q 2 (TellsLine faults_before faults_now before now)
+  pub refused : status ≡ 3 → RefusedBy q 3 (TellsLine faults_before faults_now before now)
+  pub too_much : status ≡ 7 → RefusedBy q 7 (TellsLine faults_before faults_now before now)
+  pub read_line : status ≡ 4 → TellsLine faults_before faults_now before now (codes "read failed\n")
+  pub write_line : status ≡ 5 → TellsLine faults_before faults_now before now (codes "write failed\n")
+  pub memory_line : status ≡ 6 → TellsLine faults_before faults_now before now (codes "no memory\n")
+  pub silent : status ≡ 0 → now ≡ before
 
--- A read or a write failed, where the status says so.
-pub record FaultsBy (files_before files_now out_before out_now status : ℕ) : Type 0 where
-  pub read : status ≡ 4 → Rose files_before files_now
-  pub write : status ≡ 5 → Rose out_before out_now
+-- the ends of a sink in a call: its count of faults and what was written to it, before and now
+pub record SinkEnds : Type 0 where
+  pub faults_before : ℕ
+  pub faults_now : ℕ
+  pub before : Writing
+  pub now : Writing
+
+-- the ends of a sink with these counts, to which this was written
+abbrev pub sink_ends : ℕ → ℕ → Writing → Writing → SinkEnds
+sink_ends faults_before faults_now before now =
+    record { faults_before = faults_before; faults_now = faults_now; before = before; now = now }
+
+-- How a run ends: with a status that there is, and a text, a line and faults that go with it.
+pub record Ends (q : Asked) (out err : SinkEnds) (status : ℕ) : Type 0 where
+  pub is : IsTrue (is_status status)
+  pub reads : ReadsInTurn q (λ readings. ⊤)
+  pub writes : Writes q out.before out.now status
+  pub tells : Tells q err.faults_before err.faults_now err.before err.now status
+  -- a read or a write failed, where the status says so
+  pub read : status ≡ 4 → Rose q.faults_before q.faults_now
+  pub write : status ≡ 5 → Rose out.faults_before out.faults_now
+  pub complete : Completes q out.faults_before out.faults_now status

@@ -1,9 +1,8 @@
 //! The answer to a command that starts no threads.
-ghost use Rattle.std.specs.Prelude.{◌≡◌, None, Some, Ok, Err, IfOk, IfErr};
+ghost use Rattle.std.specs.Prelude.{◌≡◌, ◌≤◌, None, Some, Ok, IfOk, IfErr};
 ghost use Rattle.command_words.specs.Command.{InRanges};
 ghost use Rattle.command_words.specs.CommandView.{alone_view};
-ghost use Rattle.command_files.specs.Refusing.{Refuses};
-ghost use Rattle.command_answers.specs.Program.{Answers};
+ghost use Rattle.command_answers.specs.Program.{Answers, RefusesCommand};
 ghost use Rattle.replay_engine.specs.Outcome.{LendsNames};
 
 use command_answers::{
@@ -26,9 +25,14 @@ pub fn answer_alone<F: Files>(
     requires lends { LendsNames (F.entries files.old) (F.lends files.old) (Some (alone_view command.now)) }
     requires ranges { InRanges (alone_view command.now) }
     requires free { F.lent files.old ≡ None }
-    ensures ok { IfOk result (λ text. Answers (F.entries files.old) (alone_view command.now) (Ok text)) }
-    ensures err { IfErr result (Refuses (λ r. Answers (F.entries files.old) (alone_view command.now) (Err r))
-        (F.faults files.old) (F.faults files.new)) }
+    ensures ok { IfOk result (λ text. Answers (F.entries files.old) (F.readings files.old) (F.readings files.new)
+        (alone_view command.now) (Ok text)) }
+    ensures err { IfErr result (RefusesCommand (F.entries files.old) (F.readings files.old) (F.readings files.new)
+        (alone_view command.now) (F.faults files.old) (F.faults files.new)) }
+    ensures later { F.faults files.old ≤ F.faults files.new }
+    ensures free { F.lent files.new ≡ None }
+    ensures entries { F.entries files.new ≡ F.entries files.old }
+    ensures names { F.lends files.new ≡ F.lends files.old }
 {
     match command {
         Alone::Replay(recorded) => answer_replay(alloc, files, *recorded),

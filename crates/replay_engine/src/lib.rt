@@ -18,8 +18,8 @@ mod commands;
 mod ending;
 mod statuses;
 mod top;
-mod writing;
+mod whole;
 
 pub use ending::no_memory;
 pub use replay_actors::{Gate, NoGate, RaceEnd, race_text};
-pub use top::{run, run_alone};
+pub use top::{is_alone, run, run_alone};

@@ -1,104 +1,168 @@
-//! The lines that say why a command writes no text.
-ghost use Rattle.std.specs.Prelude.{◌≡◌, ◌++◌, codes, string_bytes, IfOk};
-ghost use Rattle.session_plan.specs.ErrorLine.{error_line};
+//! The lines that say why a command writes no text. None of them asks for memory.
+ghost use Rattle.std.specs.Prelude.{◌≡◌, ◌≤◌, ◌++◌, codes, decimal};
+ghost use Rattle.std.specs.Fmt.{signed_decimal};
+ghost use Rattle.session_plan.specs.ErrorLine.{error_line, refused_line};
+ghost use Rattle.compare_text.specs.Lines.{refusal_line as compare_line};
+ghost use Rattle.text_output.specs.Passing.{Tells};
 ghost use Rattle.command_files.specs.Refused.{recording_line, too_long};
-ghost use Rattle.command_files.specs.RefusalView.{order_line as order_said, stream_line as stream_said, subject_word};
+ghost use Rattle.command_files.specs.RefusalView.{order_line, stream_line, subject_word};
 
+use crate::whole::tell_whole;
 use command_files::{OrderError, StreamError, Subject};
+use compare_text::CompareError;
+use itoa::Buffer;
+use key_layout::LayoutError;
+use outside_io::Sink;
 use raw_events::LineError;
 use session_plan::PlanError;
-use std::alloc::{AllocError, Global};
+use text_output::{tell, tell_named, tell_pair};
 
 /// The line that tells the commands.
 pub const USAGE: &str =
     "usage: inputflinger replay|race|check|verify|work|batch|hover|emit|judge|compare\n";
 
-/// The line for what is longer than its limit.
-pub fn too_long_line(what: Subject) -> &'static str
-    ensures { result.now ≡ (too_long (subject_word what)).line }
+/// Tells a line that ends with a number.
+pub fn tell_number<E: Sink>(err: &mut E, words: &str, number: u64)
+    ensures line { Tells (E.faults err.old) (E.faults err.new) (E.writing err.old) (E.writing err.new)
+        ((words.now ++ decimal number) ++ codes "\n") }
+    ensures later { E.faults err.old ≤ E.faults err.new }
 {
-    match what {
+    let mut digits = Buffer::new();
+    tell_named(err, words, digits.format(number));
+}
+
+/// Tells a line that ends with two numbers.
+fn tell_numbers<E: Sink>(err: &mut E, words: &str, first: u64, second: u64)
+    ensures line { Tells (E.faults err.old) (E.faults err.new) (E.writing err.old) (E.writing err.new)
+        ((words.now ++ (decimal first ++ (codes " " ++ decimal second))) ++ codes "\n") }
+    ensures later { E.faults err.old ≤ E.faults err.new }
+{
+    let mut digits = Buffer::new();
+    let mut others = Buffer::new();
+    tell_pair(err, words, digits.format(first), others.format(second));
+}
+
+/// The number of the line that a layout is refused for.
+fn line_of(error: LayoutError) -> u64
+    ensures { result ≡ refused_line error }
+{
+    match error {
+        LayoutError::BadLine { line } => line,
+        LayoutError::BadName { line } => line,
+        LayoutError::Twice { line, .. } => line,
+        LayoutError::Memory => 0,
+    }
+}
+
+/// Tells the key of a number that is outside its range.
+fn tell_out_of_range<E: Sink>(err: &mut E, key: &str, value: i64)
+    ensures line { Tells (E.faults err.old) (E.faults err.new) (E.writing err.old) (E.writing err.new)
+        ((codes "session: OutOfRange " ++ (key.now ++ (codes " " ++ signed_decimal value))) ++ codes "\n") }
+    ensures later { E.faults err.old ≤ E.faults err.new }
+{
+    let mut digits = Buffer::new();
+    tell_pair(err, "session: OutOfRange ", key, digits.format(value));
+}
+
+/// Tells why a session is refused.
+pub fn tell_session<E: Sink>(err: &mut E, error: &PlanError)
+    ensures line { Tells (E.faults err.old) (E.faults err.new) (E.writing err.old) (E.writing err.new)
+        (error_line error.now ++ codes "\n") }
+    ensures later { E.faults err.old ≤ E.faults err.new }
+{
+    match error {
+        PlanError::NotToml => tell(err, "session: NotToml\n"),
+        PlanError::Missing { key } => tell_named(err, "session: Missing ", key.as_str()),
+        PlanError::Wrong { key } => tell_named(err, "session: Wrong ", key.as_str()),
+        PlanError::UnknownName { key } => tell_named(err, "session: UnknownName ", key.as_str()),
+        PlanError::OutOfRange { key, value } => tell_out_of_range(err, key.as_str(), *value),
+        PlanError::BadLayout { device, error } => {
+            tell_numbers(
+                err,
+                "session: BadLayout ",
+                u64::from(*device),
+                line_of(*error),
+            );
+        }
+        PlanError::Memory => tell(err, "\n"),
+    }
+}
+
+/// Tells why a recording is refused.
+pub fn tell_recording<E: Sink>(err: &mut E, error: &LineError)
+    ensures line { Tells (E.faults err.old) (E.faults err.new) (E.writing err.old) (E.writing err.new)
+        (recording_line error.now ++ codes "\n") }
+    ensures later { E.faults err.old ≤ E.faults err.new }
+{
+    match error {
+        LineError::BadLine { line } => tell_number(err, "recording: BadLine ", *line),
+        LineError::NoMoment { line } => tell_number(err, "recording: NoMoment ", *line),
+        LineError::TooLong { line } => tell_number(err, "recording: TooLong ", *line),
+        LineError::Memory => tell(err, "\n"),
+    }
+}
+
+/// Tells why an order file is refused.
+pub fn tell_order<E: Sink>(err: &mut E, error: OrderError)
+    ensures line { Tells (E.faults err.old) (E.faults err.new) (E.writing err.old) (E.writing err.new)
+        (order_line error ++ codes "\n") }
+    ensures later { E.faults err.old ≤ E.faults err.new }
+{
+    match error {
+        OrderError::BadLine { line } => tell_number(err, "order: BadLine ", line),
+        OrderError::NoStep { line } => tell_number(err, "order: NoStep ", line),
+    }
+}
+
+/// Tells where streams are not the same.
+#[tactic(auto, unfolding(compare_text::specs::Lines::refusal_line))]
+fn tell_same<E: Sink>(err: &mut E, error: CompareError)
+    ensures line { Tells (E.faults err.old) (E.faults err.new) (E.writing err.old) (E.writing err.new)
+        (compare_line error ++ codes "\n") }
+    ensures later { E.faults err.old ≤ E.faults err.new }
+{
+    match error {
+        CompareError::Differs { want, got } => tell_numbers(err, "compare: Differs ", want, got),
+        CompareError::Missing { want } => tell_number(err, "compare: Missing ", want),
+        CompareError::Added { got } => tell_number(err, "compare: Added ", got),
+        CompareError::NoSection { want } => tell_number(err, "compare: NoSection ", want),
+        CompareError::NewSection { got } => tell_number(err, "compare: NewSection ", got),
+        CompareError::Memory => tell(err, "\n"),
+    }
+}
+
+/// Tells why a stream file is refused.
+pub fn tell_stream<E: Sink>(err: &mut E, error: &StreamError)
+    ensures line { Tells (E.faults err.old) (E.faults err.new) (E.writing err.old) (E.writing err.new)
+        (stream_line error.now ++ codes "\n") }
+    ensures later { E.faults err.old ≤ E.faults err.new }
+{
+    match error {
+        StreamError::BadLine { line } => tell_number(err, "stream: BadLine ", *line),
+        StreamError::NotWellFormed { line } => tell_number(err, "stream: NotWellFormed ", *line),
+        StreamError::NoChannel => tell(err, "stream: NoChannel\n"),
+        StreamError::TooLate { line } => tell_number(err, "stream: TooLate ", *line),
+        StreamError::NotAssignable { line } => tell_number(err, "stream: NotAssignable ", *line),
+        StreamError::NotWhole(error) => tell_whole(err, error),
+        StreamError::BadWant { line } => tell_number(err, "want: BadLine ", *line),
+        StreamError::BadGot { line } => tell_number(err, "got: BadLine ", *line),
+        StreamError::NotSame(error) => tell_same(err, *error),
+    }
+}
+
+/// Tells what is longer than its limit.
+pub fn tell_too_long<E: Sink>(err: &mut E, what: Subject)
+    ensures line { Tells (E.faults err.old) (E.faults err.new) (E.writing err.old) (E.writing err.new)
+        (too_long (subject_word what)).line }
+    ensures later { E.faults err.old ≤ E.faults err.new }
+{
+    let line = match what {
         Subject::Session => "too long: session\n",
         Subject::Recording => "too long: recording\n",
         Subject::Order => "too long: order\n",
         Subject::Steps => "too long: steps\n",
         Subject::Stream => "too long: stream\n",
         Subject::Run => "too long: run\n",
-    }
-}
-
-/// A line with its newline.
-fn with_newline(text: String) -> Result<String, AllocError>
-    ensures { IfOk result (λ line. string_bytes line ≡ string_bytes text ++ codes "\n") }
-{
-    let mut line = text;
-    line.push_str("\n")?;
-    Ok(line)
-}
-
-/// The line of a refused recording.
-fn recording_text(alloc: Global, error: &LineError) -> Result<String, AllocError>
-    ensures { IfOk result (λ text. string_bytes text ≡ recording_line error.now) }
-{
-    match error {
-        LineError::BadLine { line } => format!(in alloc; "recording: BadLine {line}"),
-        LineError::NoMoment { line } => format!(in alloc; "recording: NoMoment {line}"),
-        LineError::TooLong { line } => format!(in alloc; "recording: TooLong {line}"),
-        LineError::Memory => Ok(String::new(alloc)),
-    }
-}
-
-/// The line of a refused order file.
-fn order_text(alloc: Global, error: OrderError) -> Result<String, AllocError>
-    ensures { IfOk result (λ text. string_bytes text ≡ order_said error) }
-{
-    match error {
-        OrderError::BadLine { line } => format!(in alloc; "order: BadLine {line}"),
-        OrderError::NoStep { line } => format!(in alloc; "order: NoStep {line}"),
-    }
-}
-
-/// The line of a refused stream file.
-fn stream_text(alloc: Global, error: &StreamError) -> Result<String, AllocError>
-    ensures { IfOk result (λ text. string_bytes text ≡ stream_said error.now) }
-{
-    match error {
-        StreamError::BadLine { line } => format!(in alloc; "stream: BadLine {line}"),
-        StreamError::NotWellFormed { line } => format!(in alloc; "stream: NotWellFormed {line}"),
-        StreamError::NoChannel => String::from_str(alloc, "stream: NoChannel"),
-        StreamError::TooLate { line } => format!(in alloc; "stream: TooLate {line}"),
-        StreamError::NotAssignable { line } => format!(in alloc; "stream: NotAssignable {line}"),
-        StreamError::NotWhole(error) => error.line(alloc),
-        StreamError::BadWant { line } => format!(in alloc; "want: BadLine {line}"),
-        StreamError::BadGot { line } => format!(in alloc; "got: BadLine {line}"),
-        StreamError::NotSame(error) => error.line(alloc),
-    }
-}
-
-/// The line of a refused session.
-pub fn session_line(alloc: Global, error: &PlanError) -> Result<String, AllocError>
-    ensures { IfOk result (λ line. string_bytes line ≡ error_line error.now ++ codes "\n") }
-{
-    with_newline(error.line(alloc)?)
-}
-
-/// The line of a refused recording.
-pub fn recording_line(alloc: Global, error: &LineError) -> Result<String, AllocError>
-    ensures { IfOk result (λ line. string_bytes line ≡ recording_line error.now ++ codes "\n") }
-{
-    with_newline(recording_text(alloc, error)?)
-}
-
-/// The line of a refused order file.
-pub fn order_line(alloc: Global, error: OrderError) -> Result<String, AllocError>
-    ensures { IfOk result (λ line. string_bytes line ≡ order_said error ++ codes "\n") }
-{
-    with_newline(order_text(alloc, error)?)
-}
-
-/// The line of a refused stream file.
-pub fn stream_line(alloc: Global, error: &StreamError) -> Result<String, AllocError>
-    ensures { IfOk result (λ line. string_bytes line ≡ stream_said error.now ++ codes "\n") }
-{
-    with_newline(stream_text(alloc, error)?)
+    };
+    tell(err, line);
 }

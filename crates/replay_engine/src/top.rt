@@ -1,8 +1,8 @@
 //! The top calls.
-ghost use Rattle.std.specs.Prelude.{◌≡◌, ◌↔◌, map, string_bytes, IsTrue, None, Some};
+ghost use Rattle.std.specs.Prelude.{◌≡◌, ◌≤◌, ◌↔◌, true, map, string_bytes, None};
 ghost use Rattle.command_words.specs.Forms.{form_of};
 ghost use Rattle.command_answers.specs.Program.{IsAlone};
-ghost use Rattle.replay_engine.specs.Outcome.{Completes, FaultsBy, LendsNames, Tells, Writes, is_status};
+ghost use Rattle.replay_engine.specs.Outcome.{Ends, LendsNames, asked, sink_ends};
 
 use crate::commands::answer_alone;
 use crate::ending::{end_answered, end_with};
@@ -15,6 +15,13 @@ use std::alloc::Global;
 use std::sync::Wait;
 use std::thread::Threads;
 
+/// Whether the words are not those of `race`, so that [`run_alone`] runs them.
+pub fn is_alone(words: &[String]) -> bool
+    ensures { result ≡ true → IsAlone (form_of (map string_bytes words.now)) }
+{
+    !matches!(command_of(words), Some(Command::Race(_)))
+}
+
 /// Runs a command that starts no threads. What is said of it is what [`run`] says of all commands. It waits for nobody.
 pub fn run_alone<F: Files, O: Sink, E: Sink>(
     alloc: Global,
@@ -26,21 +33,22 @@ pub fn run_alone<F: Files, O: Sink, E: Sink>(
     requires alone { IsAlone (form_of (map string_bytes words.now)) }
     requires lends { LendsNames (F.entries files.old) (F.lends files.old) (form_of (map string_bytes words.now)) }
     requires free { F.lent files.old ≡ None }
-    ensures status { IsTrue (is_status result) }
+    ensures ends { Ends
+        (asked (map string_bytes words.now) (F.entries files.old) (F.readings files.old) (F.readings files.new)
+        (F.faults files.old) (F.faults files.new))
+        (sink_ends (O.faults out.old) (O.faults out.new) (O.writing out.old) (O.writing out.new))
+        (sink_ends (E.faults err.old) (E.faults err.new) (E.writing err.old) (E.writing err.new)) result }
     ensures words { (form_of (map string_bytes words.now) ≡ None) ↔ (result ≡ 2) }
-    ensures writes { Writes (F.entries files.old) (map string_bytes words.now)
-        (Some (O.writing out.old).took) (Some (O.writing out.new).took)
-        result }
-    ensures tells { Tells (F.entries files.old) (map string_bytes words.now) (E.faults err.old) (E.faults err.new)
-        (Some (E.writing err.old).took) (Some (E.writing err.new).took) result }
-    ensures faults { FaultsBy (F.faults files.old) (F.faults files.new) (O.faults out.old) (O.faults out.new) result }
-    ensures complete { Completes (F.entries files.old) (map string_bytes words.now) (F.faults files.old)
-        (F.faults files.new) (O.faults out.old) (O.faults out.new) result }
+    ensures later { F.faults files.old ≤ F.faults files.new }
+    ensures sinks_later { (O.faults out.old ≤ O.faults out.new) × (E.faults err.old ≤ E.faults err.new) }
+    ensures free { F.lent files.new ≡ None }
+    ensures entries { F.entries files.new ≡ F.entries files.old }
+    ensures names { F.lends files.new ≡ F.lends files.old }
 {
     match command_of(words) {
         Some(Command::Alone(command)) => {
             let answer = answer_alone(alloc, files, &command);
-            end_answered(alloc, answer, out, err)
+            end_answered(answer, out, err)
         }
         Some(Command::Race(_)) => end_with(2, USAGE, err),
         None => end_with(2, USAGE, err),
@@ -74,25 +82,26 @@ pub fn run<R: Threads + Wait + Sync, F: Files, O: Sink, E: Sink, G: Gate + Sync>
 ) -> u8
     requires lends { LendsNames (F.entries files.old) (F.lends files.old) (form_of (map string_bytes words.now)) }
     requires free { F.lent files.old ≡ None }
-    ensures status { IsTrue (is_status result) }
+    ensures ends { Ends
+        (asked (map string_bytes words.now) (F.entries files.old) (F.readings files.old) (F.readings files.new)
+        (F.faults files.old) (F.faults files.new))
+        (sink_ends (O.faults out.old) (O.faults out.new) (O.writing out.old) (O.writing out.new))
+        (sink_ends (E.faults err.old) (E.faults err.new) (E.writing err.old) (E.writing err.new)) result }
     ensures words { (form_of (map string_bytes words.now) ≡ None) ↔ (result ≡ 2) }
-    ensures writes { Writes (F.entries files.old) (map string_bytes words.now)
-        (Some (O.writing out.old).took) (Some (O.writing out.new).took)
-        result }
-    ensures tells { Tells (F.entries files.old) (map string_bytes words.now) (E.faults err.old) (E.faults err.new)
-        (Some (E.writing err.old).took) (Some (E.writing err.new).took) result }
-    ensures faults { FaultsBy (F.faults files.old) (F.faults files.new) (O.faults out.old) (O.faults out.new) result }
-    ensures complete { Completes (F.entries files.old) (map string_bytes words.now) (F.faults files.old)
-        (F.faults files.new) (O.faults out.old) (O.faults out.new) result }
+    ensures later { F.faults files.old ≤ F.faults files.new }
+    ensures sinks_later { (O.faults out.old ≤ O.faults out.new) × (E.faults err.old ≤ E.faults err.new) }
+    ensures free { F.lent files.new ≡ None }
+    ensures entries { F.entries files.new ≡ F.entries files.old }
+    ensures names { F.lends files.new ≡ F.lends files.old }
 {
     match command_of(words) {
         Some(Command::Race(names)) => {
             let answer = answer_race(rt, alloc, files, names, gate);
-            end_answered(alloc, answer, out, err)
+            end_answered(answer, out, err)
         }
         Some(Command::Alone(command)) => {
             let answer = answer_alone(alloc, files, &command);
-            end_answered(alloc, answer, out, err)
+            end_answered(answer, out, err)
         }
         None => end_with(2, USAGE, err),
     }

@@ -1,7 +1,6 @@
-ghost use Rattle.std.specs.Prelude.{◌≤◌, map, OnOk, OnErr};
+ghost use Rattle.std.specs.Prelude.{◌≤◌, OnOk, OnErr};
 ghost use Rattle.outside_io.specs.Outside.{Rose};
 ghost use Rattle.text_output.specs.Passing.{StopsWithin, WritesAll};
-ghost use Rattle.text_output.specs.Together.{together};
 
 use outside_io::{Failed, Sink};
 use text_pieces::Pieces;
@@ -32,19 +31,4 @@ pub fn write_text<O: Sink>(out: &mut O, text: &Pieces) -> Result<(), Failed>
         write_all(out, piece)?;
     }
     write_all(out, last)
-}
-
-/// Writes all of these parts.
-pub fn write_parts<O: Sink>(out: &mut O, parts: &[&str]) -> Result<(), Failed>
-    ensures ok { OnOk result (WritesAll (O.writing out.old) (O.writing out.new)
-        (together (map (λ p. p.now) parts.now))) }
-    ensures err { OnErr result (StopsWithin (O.writing out.old) (O.writing out.new)
-        (together (map (λ p. p.now) parts.now))) }
-    ensures cause { OnErr result (Rose (O.faults out.old) (O.faults out.new)) }
-    ensures later { O.faults out.old ≤ O.faults out.new }
-{
-    for part in parts {
-        write_all(out, part.as_bytes())?;
-    }
-    Ok(())
 }

@@ -1,21 +1,57 @@
-ghost use Rattle.std.specs.Prelude.{map};
-ghost use Rattle.text_output.specs.Passing.{Tells};
+ghost use Rattle.std.specs.Prelude.{◌≤◌, ◌++◌, codes, map, OnOk, OnErr};
+ghost use Rattle.outside_io.specs.Outside.{Rose};
+ghost use Rattle.text_output.specs.Passing.{StopsWithin, Tells, WritesAll};
 ghost use Rattle.text_output.specs.Together.{together};
 
-use crate::output::{write_all, write_parts};
-use outside_io::Sink;
+use crate::line::Line;
+use crate::output::write_all;
+use outside_io::{Failed, Sink};
+
+/// Writes the parts of a line.
+fn write_parts<E: Sink>(err: &mut E, parts: &[&str]) -> Result<(), Failed>
+    ensures ok { OnOk result (WritesAll (E.writing err.old) (E.writing err.new)
+        (together (map (λ p. p.now) parts.now))) }
+    ensures err { OnErr result (StopsWithin (E.writing err.old) (E.writing err.new)
+        (together (map (λ p. p.now) parts.now))) }
+    ensures cause { OnErr result (Rose (E.faults err.old) (E.faults err.new)) }
+    ensures later { E.faults err.old ≤ E.faults err.new }
+{
+    let mut line = Line::new();
+    line.add_parts(err, parts)?;
+    line.end(err)
+}
 
 /// Tells a line on a sink; a fault of it changes nothing else.
 pub fn tell<E: Sink>(err: &mut E, line: &str)
-    ensures { Tells (E.faults err.old) (E.faults err.new) (E.writing err.old) (E.writing err.new) line.now }
+    ensures line { Tells (E.faults err.old) (E.faults err.new) (E.writing err.old) (E.writing err.new) line.now }
+    ensures later { E.faults err.old ≤ E.faults err.new }
 {
     let _ = write_all(err, line.as_bytes());
 }
 
 /// Tells a line that stands in parts.
 pub fn tell_parts<E: Sink>(err: &mut E, parts: &[&str])
-    ensures { Tells (E.faults err.old) (E.faults err.new) (E.writing err.old) (E.writing err.new)
+    ensures line { Tells (E.faults err.old) (E.faults err.new) (E.writing err.old) (E.writing err.new)
         (together (map (λ p. p.now) parts.now)) }
+    ensures later { E.faults err.old ≤ E.faults err.new }
 {
     let _ = write_parts(err, parts);
+}
+
+/// Tells a line of words and what they are about.
+pub fn tell_named<E: Sink>(err: &mut E, words: &str, name: &str)
+    ensures line { Tells (E.faults err.old) (E.faults err.new) (E.writing err.old) (E.writing err.new)
+        ((words.now ++ name.now) ++ codes "\n") }
+    ensures later { E.faults err.old ≤ E.faults err.new }
+{
+    tell_parts(err, &[words, name, "\n"]);
+}
+
+/// Tells a line of words and two things that they are about, with a space between these.
+pub fn tell_pair<E: Sink>(err: &mut E, words: &str, first: &str, second: &str)
+    ensures line { Tells (E.faults err.old) (E.faults err.new) (E.writing err.old) (E.writing err.new)
+        ((words.now ++ (first.now ++ (codes " " ++ second.now))) ++ codes "\n") }
+    ensures later { E.faults err.old ≤ E.faults err.new }
+{
+    tell_parts(err, &[words, first, " ", second, "\n"]);
 }

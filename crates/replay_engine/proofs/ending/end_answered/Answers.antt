@@ -1,14 +1,9 @@
--- What was told of a refusal.
-use Rattle.std.proofs.Common.{Some, subst}
+-- It was told why there is no text.
+use Rattle.std.proofs.Common.{refl, subst}
 use Rattle.replay_engine.specs.Refusing.{CameTo}
-use Rattle.replay_engine.proofs.Told.{tells_refusal, writes_nothing}
+use Rattle.replay_engine.proofs.Endings.{ends_refused}
 use Rattle.replay_engine.proofs.ending.end_answered.Goals as goal
 
-pub returns-clause-tells : goal.returns-clause-tells
-returns-clause-tells g c = λ told words before now came.
-    tells_refusal told words before now c.in-Err.refusal _ _ _ _ _ (subst (CameTo told words before now) c.in-Err.is came) c.end_refused.ensures
-
-pub returns-clause-writes : goal.returns-clause-writes
-returns-clause-writes g c = λ told words before now came.
-    writes_nothing told words c.in-Err.refusal _ (g.E.Sink.faults c.args.err.now) (g.E.Sink.faults c.end_refused.new.err)
-    (Some (g.E.Sink.writing c.args.err.now).took) (Some (g.E.Sink.writing c.end_refused.new.err).took) _ c.end_refused.ensures
+pub returns-clause-ends : goal.returns-clause-ends
+returns-clause-ends g c = λ q came.
+    ends_refused q _ _ c.in-Err.refusal _ c.end_refused.ensures.status (subst (CameTo q) c.in-Err.is came) refl c.end_refused.ensures.line

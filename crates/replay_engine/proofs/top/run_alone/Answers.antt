@@ -1,43 +1,29 @@
 -- What a command came to is written or told.
-use Rattle.std.proofs.Common.{map, string_bytes, sym, subst}
+use Rattle.std.proofs.Common.{map, string_bytes, sym, refl, subst}
 use Rattle.command_answers.specs.Program.{IsAlone}
 use Rattle.command_words.specs.CommandView.{alone_view}
-use Rattle.replay_engine.proofs.Answering.{came_to, formed}
-use Rattle.replay_engine.proofs.Told.{complete_usage, tells_usage}
+use Rattle.replay_engine.specs.Outcome.{Asked, SinkEnds, asked, sink_ends}
+use Rattle.replay_engine.proofs.Answering.{came_so, comes_usage, formed}
+use Rattle.replay_engine.proofs.Endings.{ends_usage}
 use Rattle.replay_engine.proofs.top.run_alone.Goals as goal
 
-pub returns-in-Some-Alone-clause-writes : goal.returns-in-Some-Alone-clause-writes
-returns-in-Some-Alone-clause-writes g c = c.end_answered.ensures.writes _ _ _ _
-    (came_to (g.F.Files.entries c.args.files.now) (map string_bytes c.args.words.now) (alone_view c.in-Some-Alone.command) (g.F.Files.faults c.args.files.now) (g.F.Files.faults c.answer_alone-answer.new.files) c.answer_alone-answer.result
+pub returns-in-Some-Alone-clause-ends : goal.returns-in-Some-Alone-clause-ends
+returns-in-Some-Alone-clause-ends g c = c.end_answered.ensures.ends _
+    (came_so _ (alone_view c.in-Some-Alone.command) c.answer_alone-answer.result
     (formed _ _ _ c.in-Some-Alone.ensures.value c.in-Some-Alone.field-0-is) c.answer_alone-answer.ensures.ok c.answer_alone-answer.ensures.err)
 
-pub returns-in-Some-Alone-clause-tells : goal.returns-in-Some-Alone-clause-tells
-returns-in-Some-Alone-clause-tells g c = c.end_answered.ensures.tells _ _ _ _
-    (came_to (g.F.Files.entries c.args.files.now) (map string_bytes c.args.words.now) (alone_view c.in-Some-Alone.command) (g.F.Files.faults c.args.files.now) (g.F.Files.faults c.answer_alone-answer.new.files) c.answer_alone-answer.result
-    (formed _ _ _ c.in-Some-Alone.ensures.value c.in-Some-Alone.field-0-is) c.answer_alone-answer.ensures.ok c.answer_alone-answer.ensures.err)
-
-pub returns-in-Some-Alone-clause-faults : goal.returns-in-Some-Alone-clause-faults
-returns-in-Some-Alone-clause-faults g c = c.end_answered.ensures.faults _ _ _ _
-    (came_to (g.F.Files.entries c.args.files.now) (map string_bytes c.args.words.now) (alone_view c.in-Some-Alone.command) (g.F.Files.faults c.args.files.now) (g.F.Files.faults c.answer_alone-answer.new.files) c.answer_alone-answer.result
-    (formed _ _ _ c.in-Some-Alone.ensures.value c.in-Some-Alone.field-0-is) c.answer_alone-answer.ensures.ok c.answer_alone-answer.ensures.err)
-
-pub returns-in-Some-Alone-clause-complete : goal.returns-in-Some-Alone-clause-complete
-returns-in-Some-Alone-clause-complete g c = λ read written. c.end_answered.ensures.complete _ _ _ _
-    (came_to (g.F.Files.entries c.args.files.now) (map string_bytes c.args.words.now) (alone_view c.in-Some-Alone.command) (g.F.Files.faults c.args.files.now) (g.F.Files.faults c.answer_alone-answer.new.files) c.answer_alone-answer.result
-    (formed _ _ _ c.in-Some-Alone.ensures.value c.in-Some-Alone.field-0-is) c.answer_alone-answer.ensures.ok c.answer_alone-answer.ensures.err)
-    read written
+pub returns-in-Some-Race-clause-ends : goal.returns-in-Some-Race-clause-ends
+returns-in-Some-Race-clause-ends g c = absurd (subst IsAlone (formed _ _ _ c.in-Some-Race.ensures.value c.in-Some-Race.field-0-is) c.requires.alone)
 
 pub returns-in-Some-Race-clause-words : goal.returns-in-Some-Race-clause-words
 returns-in-Some-Race-clause-words g c = absurd (subst IsAlone (formed _ _ _ c.in-Some-Race.ensures.value c.in-Some-Race.field-0-is) c.requires.alone)
 
-pub returns-in-Some-Race-clause-tells : goal.returns-in-Some-Race-clause-tells
-returns-in-Some-Race-clause-tells g c = absurd (subst IsAlone (formed _ _ _ c.in-Some-Race.ensures.value c.in-Some-Race.field-0-is) c.requires.alone)
-
-pub returns-in-Some-Race-clause-complete : goal.returns-in-Some-Race-clause-complete
-returns-in-Some-Race-clause-complete g c = absurd (subst IsAlone (formed _ _ _ c.in-Some-Race.ensures.value c.in-Some-Race.field-0-is) c.requires.alone)
-
-pub returns-in-None-clause-tells : goal.returns-in-None-clause-tells
-returns-in-None-clause-tells g c = tells_usage _ _ _ _ _ _ _ (sym c.in-None.ensures.value) c.end_with-in-None.ensures.status c.end_with-in-None.ensures.line
-
-pub returns-in-None-clause-complete : goal.returns-in-None-clause-complete
-returns-in-None-clause-complete g c = λ read written. complete_usage _ _ _ (sym c.in-None.ensures.value) c.end_with-in-None.ensures.status
+pub returns-in-None-clause-ends : goal.returns-in-None-clause-ends
+returns-in-None-clause-ends g c =
+    let q : Asked =
+    asked (map string_bytes c.args.words.now) (g.F.Files.entries c.args.files.now) (g.F.Files.readings c.args.files.now) (g.F.Files.readings c.args.files.now)
+    (g.F.Files.faults c.args.files.now) (g.F.Files.faults c.args.files.now) in
+    let out : SinkEnds = sink_ends (g.O.Sink.faults c.args.out.now) (g.O.Sink.faults c.args.out.now) (g.O.Sink.writing c.args.out.now) (g.O.Sink.writing c.args.out.now) in
+    let err : SinkEnds =
+    sink_ends (g.E.Sink.faults c.args.err.now) (g.E.Sink.faults c.end_with-in-None.new.err) (g.E.Sink.writing c.args.err.now) (g.E.Sink.writing c.end_with-in-None.new.err) in
+    ends_usage q out err c.end_with-in-None.result c.end_with-in-None.ensures.status (comes_usage q (sym c.in-None.ensures.value) refl) refl c.end_with-in-None.ensures.line

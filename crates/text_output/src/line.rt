@@ -1,0 +1,85 @@
+ghost use Rattle.std.specs.Prelude.{◌≡◌, ◌≤◌, ◌++◌, [], map, OnOk, OnErr};
+ghost use Rattle.outside_io.specs.Outside.{Rose};
+ghost use Rattle.text_output.specs.Passing.{StopsWithin, WritesAll, WritesUpTo};
+ghost use Rattle.text_output.specs.Together.{together};
+
+use crate::output::write_all;
+use arrayvec::ArrayVec;
+use outside_io::{Failed, Sink};
+use std::marker::Model;
+
+/// The end of a line that is written part by part: what was added and not handed to the sink yet. It holds up to 256
+/// bytes, so that a line that is no longer is one write.
+#[derive(Drop)]
+pub struct Line {
+    held: ArrayVec<u8, 256>,
+}
+
+impl Model for Line {
+    ghost use Rattle.std.specs.Prelude.{ℕ, List};
+
+    ghost Value = { List ℕ };
+
+    ghost view = { λ l. l.held.items };
+}
+
+impl Line {
+    /// A line without a byte.
+    pub fn new() -> Line
+        ensures { result ≡ [] }
+    {
+        Line {
+            held: ArrayVec::new(),
+        }
+    }
+
+    /// Adds a part of the line; where it has no room, what is held is written, and then the part.
+    pub fn add<E: Sink>(&mut self, err: &mut E, part: &str) -> Result<(), Failed>
+        ensures ok { OnOk result (WritesUpTo (E.writing err.old) (E.writing err.new) (self.old ++ part.now) self.new) }
+        ensures err { OnErr result (StopsWithin (E.writing err.old) (E.writing err.new) (self.old ++ part.now)) }
+        ensures cause { OnErr result (Rose (E.faults err.old) (E.faults err.new)) }
+        ensures later { E.faults err.old ≤ E.faults err.new }
+    {
+        match self.held.try_extend_from_slice(part.as_bytes()) {
+            Ok(()) => Ok(()),
+            Err(_) => self.write_through(err, part),
+        }
+    }
+
+    /// Writes what is held, and then the part.
+    fn write_through<E: Sink>(&mut self, err: &mut E, part: &str) -> Result<(), Failed>
+        ensures ok { OnOk result (WritesUpTo (E.writing err.old) (E.writing err.new) (self.old ++ part.now) self.new) }
+        ensures err { OnErr result (StopsWithin (E.writing err.old) (E.writing err.new) (self.old ++ part.now)) }
+        ensures cause { OnErr result (Rose (E.faults err.old) (E.faults err.new)) }
+        ensures later { E.faults err.old ≤ E.faults err.new }
+    {
+        write_all(err, self.held.as_slice())?;
+        self.held.clear();
+        write_all(err, part.as_bytes())
+    }
+
+    /// Adds parts of the line.
+    pub fn add_parts<E: Sink>(&mut self, err: &mut E, parts: &[&str]) -> Result<(), Failed>
+        ensures ok { OnOk result (WritesUpTo (E.writing err.old) (E.writing err.new)
+            (self.old ++ together (map (λ p. p.now) parts.now)) self.new) }
+        ensures err { OnErr result (StopsWithin (E.writing err.old) (E.writing err.new)
+            (self.old ++ together (map (λ p. p.now) parts.now))) }
+        ensures cause { OnErr result (Rose (E.faults err.old) (E.faults err.new)) }
+        ensures later { E.faults err.old ≤ E.faults err.new }
+    {
+        for part in parts {
+            self.add(err, part)?;
+        }
+        Ok(())
+    }
+
+    /// Writes what is held.
+    pub fn end<E: Sink>(self, err: &mut E) -> Result<(), Failed>
+        ensures ok { OnOk result (WritesAll (E.writing err.old) (E.writing err.new) self) }
+        ensures err { OnErr result (StopsWithin (E.writing err.old) (E.writing err.new) self) }
+        ensures cause { OnErr result (Rose (E.faults err.old) (E.faults err.new)) }
+        ensures later { E.faults err.old ≤ E.faults err.new }
+    {
+        write_all(err, self.held.as_slice())
+    }
+}
