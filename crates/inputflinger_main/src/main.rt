@@ -32,5 +32,10 @@ fn main(rt: HostRuntime) -> ExitCode {
     };
     let mut files = HostFiles::new(&rt);
     let mut out = HostSink::new(rt.stdout());
-    ExitCode::from(replay_engine::run(&rt, alloc, &words, &mut files, &mut out, &mut err, &NoGate))
+    let status = if replay_engine::is_alone(&words) {
+        replay_engine::run_alone(alloc, &words, &mut files, &mut out, &mut err)
+    } else {
+        replay_engine::run(&rt, alloc, &words, &mut files, &mut out, &mut err, &NoGate)
+    };
+    ExitCode::from(status)
 }
