@@ -9,6 +9,7 @@ use Rattle.dispatch_calls.specs.declared.counts.Counts.{Counts}
 use Rattle.window_snapshot.specs.Mask.{mask_has, mask_with}
 use Rattle.dispatch_tables.specs.Channel.{counts_of}
 use Rattle.dispatch_tables.specs.Masks.{mask_less}
+use Rattle.dispatch_tables.specs.Delivery.{noted_with}
 use Rattle.dispatch_tables.specs.Dues.{namings_in}
 use Rattle.dispatch_channels.specs.Table.{Table, opened, channel_of, input_of}
 use Rattle.dispatch_channels.specs.Heard.{body_from}
@@ -86,7 +87,7 @@ abbrev pub named_in : (mask clock : ℕ) → Table → Table
 named_in mask clock t =
     record t {
       able = mask_less t.able mask;
-      namings = t.namings ++ namings_in clock mask (channel_of t) (opened t);
+      namings = noted_with (namings_in clock mask (channel_of t) (opened t)) t.namings;
     }
 
 -- a channel is removed

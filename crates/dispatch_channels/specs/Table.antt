@@ -3,8 +3,8 @@ use Rattle.std.specs.Prelude.{ℕ, ◌-◌, ◌≤◌, List, [], length, map, sl
 use Rattle.input_channel.specs.State.{ChannelState, opened_with, with_spare}
 use Rattle.cancel_synthesis.specs.Tracked.{Tracked}
 use Rattle.cancel_synthesis.specs.Tracked.{with_spare as tracked_with_spare}
-use Rattle.dispatch_calls.specs.declared.counts.Naming.{Naming}
 use Rattle.window_snapshot.specs.Mask.{mask_has}
+use Rattle.dispatch_tables.specs.Delivery.{Noted}
 use Rattle.dispatch_tables.specs.Dues.{due_in}
 
 -- all channels
@@ -17,8 +17,8 @@ pub record Table : Type 0 where
   pub live : ℕ
   -- the mask of those that are able to take input
   pub able : ℕ
-  -- the namings so far
-  pub namings : List Naming
+  -- what was noted of ticks
+  pub namings : Noted
 
 -- how many channels were opened; they have the numbers from 1 to this
 abbrev pub opened : Table → ℕ

@@ -3,7 +3,8 @@ ghost use Rattle.std.specs.Prelude.{◌≡◌, ℕ, true, [], ◌≤◌, ◌<◌
 ghost use Rattle.input_types.specs.declared.message.Body.TheVariants.{Motion as MotionBody};
 ghost use Rattle.window_snapshot.specs.Mask.{mask_has};
 ghost use Rattle.input_channel.specs.Order.{NoneAfter};
-ghost use Rattle.input_channel.specs.State.{next_of, received_one, received_next, let_go_of, may_finish};
+ghost use Rattle.input_channel.specs.State.{next_of, received_one, received_next, let_go_of, all_let_go, may_finish};
+ghost use Rattle.dispatch_tables.specs.Delivery.{none_noted, noted_gone};
 ghost use Rattle.dispatch_history.specs.Reply.{is_due};
 ghost use Rattle.dispatch_channels.specs.Table.{opened, IsOpened, channel_of, input_of, with_channel, with_room, but_for_room, due_moment};
 ghost use Rattle.dispatch_channels.specs.Changes.{OpensOrNot, Tells, MayPublish, Publishes, finished_in, named_in, removed_in};
@@ -13,12 +14,11 @@ mod asked;
 use crate::due::{clear_all, due_channels, due_in, set_due};
 use crate::heard::{body_from, motion_from};
 use crate::mask::{less, without};
-use crate::noted::note_all;
+use crate::noted::Namings;
 use crate::publishing::{able_after, finish_one, publish_all};
 use crate::tracked::track;
 use anr_tracker::Tracker;
 use cancel_synthesis::InputState;
-use dispatch_calls::Naming;
 use input_channel::{Channel, UnknownSeq};
 use input_types::{Body, Limit, Message, Moment, Motion, Pixel};
 use std::alloc::{AllocError, Global};
@@ -39,7 +39,7 @@ pub struct Channels {
     able: u64,
     /// When those that are able are due to be named.
     tracker: Tracker,
-    namings: Vec<Naming>,
+    namings: Namings,
 }
 
 impl Model for Channels {
@@ -54,7 +54,7 @@ impl Model for Channels {
       inputs = t.inputs.items;
       live = t.live;
       able = t.able;
-      namings = t.namings.items;
+      namings = t.namings;
     } };
 
     ghost invariant = { λ t. IsWhole t.channels.items (length t.inputs.items) t.live t.able t.tracker };
@@ -63,7 +63,7 @@ impl Model for Channels {
 impl Channels {
     /// No channels.
     pub fn new(alloc: Global) -> Channels
-        ensures { result ≡ record { channels = []; inputs = []; live = 0; able = 0; namings = [] } }
+        ensures { result ≡ record { channels = []; inputs = []; live = 0; able = 0; namings = none_noted } }
     {
         Channels {
             channels: Vec::new(alloc),
@@ -71,7 +71,7 @@ impl Channels {
             live: 0,
             able: 0,
             tracker: Tracker::new(),
-            namings: Vec::new(alloc),
+            namings: Namings::new(alloc),
         }
     }
 
@@ -250,8 +250,7 @@ impl Channels {
         ensures ok { OnOk result (self.new ≡ named_in mask clock self.old) }
         ensures err { OnErr result (self.new ≡ self.old) }
     {
-        self.namings.reserve(self.channels.len())?;
-        note_all(&mut self.namings, &self.channels, mask, clock);
+        self.namings.note(&self.channels, mask, clock)?;
         clear_all(&mut self.tracker, mask);
         self.able = less(self.able, mask);
         Ok(())
@@ -273,5 +272,20 @@ impl Channels {
         ensures { self.new ≡ with_channel channel (let_go_of (channel_of self.old channel)) self.old }
     {
         self.channels[channel as usize - 1].let_go();
+    }
+
+    /// Drops all messages of a channel, and gives back their memory. Their numbers stay in use.
+    pub fn let_all_go(&mut self, channel: u32)
+        requires { IsOpened self.old channel }
+        ensures { self.new ≡ with_channel channel (all_let_go (channel_of self.old channel)) self.old }
+    {
+        self.channels[channel as usize - 1].let_all_go();
+    }
+
+    /// Drops the namings so far, and gives back their memory.
+    pub fn let_namings_go(&mut self)
+        ensures { self.new ≡ record self.old { namings = noted_gone self.old.namings } }
+    {
+        self.namings.let_go();
     }
 }

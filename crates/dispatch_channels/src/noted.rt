@@ -1,12 +1,84 @@
 //! What is noted of the channels that are named.
 ghost use Rattle.std.specs.Prelude.{◌≡◌, ◌+◌, ◌≤◌, ◌<◌, ◌++◌, length, vec_len, vec_capacity, option_to_list, if◌then◌else◌};
+ghost use Rattle.std.specs.Prelude.{OnOk, OnErr};
+ghost use Rattle.dispatch_tables.specs.Delivery.{none_noted, noted_with, noted_gone};
 ghost use Rattle.dispatch_tables.specs.Dues.{naming_in, namings_in};
 ghost use Rattle.dispatch_channels.specs.Table.{channel_in};
 
 use dispatch_calls::Naming;
 use input_channel::Channel;
 use input_types::Moment;
+use std::alloc::{AllocError, Global};
+use std::marker::Model;
 use window_snapshot::mask_has;
+
+/// The namings so far, but for the first ones, which were let go.
+#[derive(Drop)]
+pub(crate) struct Namings {
+    list: Vec<Naming>,
+    // How many were let go.
+    gone: u64,
+}
+
+impl Model for Namings {
+    ghost use Rattle.std.specs.Prelude.{◌+◌, ◌^◌, ◌<◌, vec_len};
+    ghost use Rattle.dispatch_tables.specs.Delivery.{Noted};
+
+    ghost Value = { Noted };
+
+    ghost view = { λ n. record { gone = n.gone; left = n.list.items } };
+
+    ghost invariant = { λ n. n.gone + vec_len n.list < 2 ^ 64 };
+}
+
+impl Namings {
+    /// No namings.
+    pub(crate) fn new(alloc: Global) -> Namings
+        ensures { result ≡ none_noted }
+    {
+        Namings {
+            list: Vec::new(alloc),
+            gone: 0,
+        }
+    }
+
+    /// Those that were not let go, the first one first.
+    pub(crate) fn left(&self) -> &[Naming]
+        ensures { result.now ≡ self.now.left }
+    {
+        &self.list
+    }
+
+    /// Notes the channels of a mask that are named at a clock. Without memory nothing changes.
+    pub(crate) fn note(
+        &mut self,
+        channels: &[Channel],
+        mask: u64,
+        clock: Moment,
+    ) -> Result<(), AllocError>
+        requires few { length channels.now ≤ 64 }
+        ensures ok { OnOk result (self.new
+            ≡ noted_with (namings_in clock mask (channel_in channels.now) (length channels.now)) self.old) }
+        ensures err { OnErr result (self.new ≡ self.old) }
+    {
+        // Their count must not end before the room for them does.
+        let noted = self.gone + self.list.len() as u64;
+        if u64::MAX - noted < channels.len() as u64 {
+            return Err(AllocError);
+        }
+        self.list.reserve(channels.len())?;
+        note_all(&mut self.list, channels, mask, clock);
+        Ok(())
+    }
+
+    /// Drops all of them, and gives back their memory.
+    pub(crate) fn let_go(&mut self)
+        ensures { self.new ≡ noted_gone self.old }
+    {
+        self.gone += self.list.len() as u64;
+        self.list = Vec::new(*self.list.allocator());
+    }
+}
 
 /// What is noted of a channel that is named at a clock: its oldest message that is published and not finished.
 fn naming_in(clock: Moment, number: u32, channel: &Channel) -> Option<Naming>
@@ -44,10 +116,11 @@ fn note(namings: &mut Vec<Naming>, naming: Option<Naming>)
 }
 
 /// Notes the channels of a mask.
-pub(crate) fn note_all(namings: &mut Vec<Naming>, channels: &[Channel], mask: u64, clock: Moment)
+fn note_all(namings: &mut Vec<Naming>, channels: &[Channel], mask: u64, clock: Moment)
     requires room { vec_len namings.old + length channels.now ≤ vec_capacity namings.old }
     requires few { length channels.now ≤ 64 }
-    ensures { namings.new.items
+    ensures few { vec_len namings.new ≤ vec_len namings.old + length channels.now }
+    ensures items { namings.new.items
         ≡ namings.old.items ++ namings_in clock mask (channel_in channels.now) (length channels.now) }
 {
     for (place, channel) in channels.iter().enumerate() {

@@ -12,7 +12,7 @@ use Rattle.dispatch_history.specs.Effects.{effects}
 use Rattle.dispatch_history.specs.History.{History, live}
 use Rattle.dispatch_history.specs.Known.{known_state}
 use Rattle.dispatch_history.specs.Legal.{Legal}
-use Rattle.dispatcher.specs.Access.{gone, is_opened}
+use Rattle.dispatcher.specs.Access.{gone, namings_gone, is_opened}
 use Rattle.dispatcher.specs.Dispatching.{Dispatching, StandsFor}
 
 -- the displays of the devices, the entries, the newest first, and for how many more there is room
@@ -69,10 +69,11 @@ AnswersGone h (Pilfer now c device) answer = live h c ≡ false → answer ≡ G
 AnswersGone h (Remove now c) answer = live h c ≡ false → answer ≡ Gone
 AnswersGone h call answer = Unit {0}
 
--- a dispatcher stands for the history of these entries, and no message of it was let go
+-- a dispatcher stands for the history of these entries, and no message of it and no naming was let go
 pub record IsRecorded (entries : List Entry) (d : Dispatching) : Type 0 where
   pub stands : StandsFor (effects d.displays (history_of entries)) d
   pub kept : (c : ℕ) → 1 ≤ c → gone d c ≡ 0
+  pub noted : namings_gone d ≡ 0
 
 -- a list of this length in a block of this capacity has room for so many more, which can be counted
 pub record HasRoom (len capacity spare : ℕ) : Type 0 where

@@ -96,6 +96,7 @@ pub fn tell_all(
     ensures told { (s : Scene) (e : Step) → IsRound s e touches.old round.now → AllHoldPointers s channels.old
         → TellsAll told (told_in round.now s e) origins.now clock channels.old channels.new }
     ensures gone { (c : ℕ) → 1 ≤ c → (channel_of channels.new c).gone ≡ (channel_of channels.old c).gone }
+    ensures namings { channels.new.namings ≡ channels.old.namings }
 {
     let losses = touches.change(&round.mark, place);
     tell_each(

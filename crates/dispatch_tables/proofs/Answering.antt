@@ -5,6 +5,7 @@ use Rattle.std.specs.List.{list_any}
 use Rattle.std.proofs.lemmas.Bool.{cases_Bool, leb-true, le-leb}
 use Rattle.std.proofs.lemmas.Option.{slice_get-map}
 use Rattle.input_types.specs.declared.message.Message.{Message}
+use Rattle.dispatch_calls.specs.declared.reply.Reply.{Reply}
 use Rattle.dispatch_calls.specs.declared.reply.Reply.TheVariants.{Done, Gone, Empty, UnknownSeq}
 use Rattle.dispatch_history.specs.History.{clock, limit_of, live, opened, received, finished}
 use Rattle.dispatch_history.specs.Effect.{Effect, past_of, stream}
@@ -31,16 +32,25 @@ next_when : (b : Bool) (o : Option Message) → cond b (got_reply o) Empty ≡ g
 next_when true o = refl
 next_when false o = refl
 
-pub receive_law : (ds : List ℕ) (es : List Effect) (c gone spare : ℕ) → Lawful ds es → gone ≤ received (past_of es) c
+where_live : (a : Bool) (x y : Reply) → (a ≡ true → x ≡ y) → cond (not a) Gone x ≡ cond (not a) Gone y
+where_live true x y f = f refl
+where_live false x y f = refl
+
+pub receive_law : (ds : List ℕ) (es : List Effect) (c gone spare : ℕ)
+    → (live (past_of es) c ≡ true → gone ≤ received (past_of es) c)
     → receive_reply es c
     ≡ (if not (live (past_of es) c) then Gone else got_reply (next_of (channel_at es c gone spare)))
-receive_law ds es c gone spare l le =
+receive_law ds es c gone spare le =
     let n = received (past_of es) c in
     let b = nat_lt n (published es c) in
-    let rest : gone + (n - gone) ≡ n = omega (arith, le) in
-    ap (cond (not (live (past_of es) c)) Gone)
-    (next_when b (slice_get (reverse (stream es c)) n)
-    ∙ ap (λ o. got_reply (cond b o None)) (sym (slice_get-drop (reverse (stream es c)) gone (n - gone) ∙ ap (slice_get (reverse (stream es c))) rest)))
+    let left = slice_get (drop gone (reverse (stream es c))) (n - gone) in
+    where_live (live (past_of es) c) (cond b (got_reply (slice_get (reverse (stream es c)) n)) Empty)
+    (got_reply (next_of (channel_at es c gone spare)))
+    (λ lives.
+    let rest : gone + (n - gone) ≡ n = omega (arith, le lives) in
+    next_when b (slice_get (reverse (stream es c)) n)
+    ∙ ap (λ o. got_reply (cond b o None)) (sym (slice_get-drop (reverse (stream es c)) gone (n - gone) ∙ ap (slice_get (reverse (stream es c))) rest))
+    ∙ ap (λ t. got_reply (cond (t && b) left None)) (sym (le-leb gone n (le lives))))
 
 -- what is received is published
 within : (a x : Bool) (seq r p : ℕ) → r ≤ p → (a && nat_le seq r && x) ≡ (nat_le seq r && (a && nat_le seq p && x))
@@ -86,7 +96,7 @@ late_law es c gone spare = each (unfinished es c)
     each [] = refl
     each (m ∷ ms) = ap (λ b. nat_le (delivery es c m.seq + limit_of (past_of es) c) (clock (past_of es)) || b) (each ms)
 
-pub counts_law : (ds : List ℕ) (es : List Effect) (c gone spare : ℕ) → Lawful ds es → gone ≤ received (past_of es) c
+pub counts_law : (ds : List ℕ) (es : List Effect) (c gone spare : ℕ) → Lawful ds es → gone ≤ length (stream es c)
     → counts es c
     ≡ (if nat_le 1 c && nat_le c (opened (past_of es)) then Some (counts_of (live (past_of es) c) (channel_at es c gone spare)) else None)
 counts_law ds es c gone spare l le =

@@ -3,7 +3,7 @@ use Rattle.std.proofs.Common.{◌≡◌, ℕ, ◌-◌, ◌≤◌, List, [], ◌�
 use Rattle.std.proofs.lemmas.Bool.{true≢false}
 use Rattle.dispatch_calls.specs.declared.call.Call.{Call}
 use Rattle.dispatch_calls.specs.declared.reply.Reply.{Reply}
-use Rattle.dispatch_history.specs.History.{clock, received}
+use Rattle.dispatch_history.specs.History.{clock}
 use Rattle.dispatch_history.specs.Effect.{Effect, past_of, stream, told_on}
 use Rattle.dispatch_history.specs.Effects.{step, said_at}
 use Rattle.dispatch_history.specs.Known.{IsNumbered}
@@ -48,7 +48,7 @@ sound ds es c l =
     es l
 
 pub channel_step : (ds : List ℕ) (call : Call) (answer : Reply) (es : List Effect) (c gone spare : ℕ)
-    → Lawful ds (step ds call answer es) → gone ≤ received (past_of es) c
+    → Lawful ds (step ds call answer es) → gone ≤ length (stream es c)
     → let told = said_at ds call answer es c in let now = clock (past_of (step ds call answer es)) in channel_at (step ds call answer es) c gone (spare - length told)
     ≡ published_at now (enqueued_all told now (with_part (part_of call answer c) (channel_at es c gone spare)))
 channel_step ds call answer es c gone spare l le =

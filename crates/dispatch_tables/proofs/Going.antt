@@ -1,5 +1,5 @@
 -- What is kept of all channels goes on with any step.
-use Rattle.std.proofs.Common.{◌≡◌, ◌≢◌, ◌⊎◌, ℕ, suc, ◌+◌, ◌≤◌, nat_lt, Bool, true, false, cond, List, ◌++◌, None, refl, sym, ap, ap₂, ◌∙◌, subst, inl, inr, arith}
+use Rattle.std.proofs.Common.{◌≡◌, ◌≢◌, ◌⊎◌, ℕ, suc, ◌+◌, ◌≤◌, nat_lt, Bool, true, false, cond, List, ◌++◌, None, refl, sym, ap, ◌∙◌, subst, inl, inr, arith}
 use Rattle.std.proofs.Math.Path.{fun_ext}
 use Rattle.std.proofs.lemmas.Bool.{cases_cond, cases_eq, eq-eqb, and_parts}
 use Rattle.window_snapshot.specs.Mask.{mask_has, mask_with}
@@ -19,13 +19,14 @@ use Rattle.dispatch_tables.specs.Lawful.{Lawful}
 use Rattle.dispatch_tables.specs.Channel.{Keeps, Opens, Untouched, part_of}
 use Rattle.dispatch_tables.specs.Masks.{able_mask_after}
 use Rattle.dispatch_tables.specs.Dues.{due_moment, due_in, namings_in}
-use Rattle.dispatch_tables.specs.Delivery.{Delivery, DeliveryIs, noted_after}
+use Rattle.dispatch_tables.specs.Delivery.{Delivery, DeliveryIs, NotedIs, noted_after, noted_with}
 use Rattle.dispatch_history.proofs.MotionLaws.{opened_mono}
 use Rattle.dispatch_tables.specs.Laws.{DeliveryStart, DeliveryLaw, DeliveryDue}
 use Rattle.dispatch_tables.proofs.Lawfuls.{lawful_last}
 use Rattle.dispatch_tables.proofs.Unopened.{done_live}
 use Rattle.dispatch_tables.proofs.Ables.{live_number, live_mask_law, able_mask_law}
 use Rattle.dispatch_tables.proofs.Duties.{oldest_due, namings_law, namings_kept_law}
+use Rattle.dispatch_tables.proofs.Noting.{noted_more}
 use Rattle.dispatch_tables.proofs.Keeping.{kept_step, kept_quiet, kept_late, kept_due}
 
 pub delivery_start : DeliveryStart
@@ -35,7 +36,7 @@ delivery_start channel =
       keeps = λ c from to. absurd (omega (arith, from, to));
       live_is = fun_ext mask_has-zero;
       able_is = fun_ext mask_has-zero;
-      noted_is = refl;
+      noted_is = record { few = omega arith; left_is = refl };
     }
 
 next_number : (n k : ℕ) → Opened k ≡ cond (nat_lt n 64) (Opened (n + 1)) Full → k ≡ suc n
@@ -73,12 +74,15 @@ same_late call answer f g mask same = refl
 
 -- what is noted
 notes : (ds : List ℕ) (call : Call) (answer : Reply) (es : List Effect) (k : Delivery) → DeliveryIs es k
-    → noted_after answer (clock (past_of (step ds call answer es))) k ≡ namings (step ds call answer es)
+    → NotedIs (namings (step ds call answer es)) (noted_after answer (clock (past_of (step ds call answer es))) k)
 notes ds call (Named mask) es k h =
     let now = clock (past_of (step ds call (Named mask) es)) in
-    ap₂ (λ xs n. xs ++ namings_in now mask k.channel n) h.noted_is h.count_is
-    ∙ sym (namings_law ds call mask es k.channel (λ c from to. h.keeps c from (subst (λ n. c ≤ n) (sym h.count_is) to)))
-notes ds call answer es k h = h.noted_is ∙ sym (namings_kept_law ds call answer es refl)
+    let same : namings (step ds call (Named mask) es) ≡ namings es ++ namings_in now mask k.channel k.count =
+    namings_law ds call mask es k.channel (λ c from to. h.keeps c from (subst (λ n. c ≤ n) (sym h.count_is) to))
+    ∙ ap (λ n. namings es ++ namings_in now mask k.channel n) (sym h.count_is) in
+    subst (λ xs. NotedIs xs (noted_with (namings_in now mask k.channel k.count) k.noted)) (sym same)
+    (noted_more (namings es) (namings_in now mask k.channel k.count) k.noted h.noted_is)
+notes ds call answer es k h = subst (λ xs. NotedIs xs k.noted) (sym (namings_kept_law ds call answer es refl)) h.noted_is
 
 -- all that goes on
 pub delivery_law : DeliveryLaw
@@ -88,7 +92,7 @@ delivery_law ds call answer es changed k later l h g =
       keeps = keeps;
       live_is = ap mask_has g.live_is ∙ live_mask_law ds call answer es k.live l h.live_is;
       able_is = able_is;
-      noted_is = g.noted_is ∙ notes ds call answer es k h;
+      noted_is = subst (NotedIs (namings (step ds call answer es))) (sym g.noted_is) (notes ds call answer es k h);
     }
   where
     reply_is : answer ≡ reply_to es call

@@ -1,12 +1,13 @@
 -- What is kept of a channel is a channel.
 use Rattle.std.proofs.Common.{◌≡◌, ℕ, ◌+◌, ◌-◌, ◌≤◌, ◌==◌, nat_le, min, max, Bool, true, false, not, ◌&&◌, cond, List, [], ◌∷◌, ◌++◌, length, reverse, take, drop, map, filter, refl, sym, ap, ◌∙◌, subst, arith, length-append, length-drop, append-nil, drop-drop}
+use Rattle.std.proofs.Math.ListN.{drop_of_length-le}
 use Rattle.std.proofs.lemmas.List.{length-reverse}
 use Rattle.std.proofs.lemmas.Bool.{le-leb}
 use Rattle.input_types.specs.declared.message.Body.{Body}
 use Rattle.input_types.specs.declared.message.Message.{Message}
 use Rattle.input_channel.specs.declared.unfinished.Unfinished.{Unfinished}
 use Rattle.input_channel.specs.Order.{delivered, without, NoneAfter}
-use Rattle.input_channel.specs.State.{ChannelState, IsChannel, sent, publishable, published_at, let_go_of, with_spare}
+use Rattle.input_channel.specs.State.{ChannelState, IsChannel, sent, publishable, published_at, let_go_of, all_let_go}
 use Rattle.input_channel.proofs.Delivering.{published_channel, published_is}
 use Rattle.input_channel.proofs.Finishing.{finished_channel}
 use Rattle.dispatch_calls.specs.declared.call.Call.{Call}
@@ -71,12 +72,11 @@ told_after : (now : ℕ) (bs : List Body) (s : ChannelState) → NoneAfter now s
 told_after now bs s h = subst (λ t. NoneAfter now t.unfinished) (sym (enqueued_is now bs s (sent s) refl)) h
 
 -- a channel with other messages and other room
-other_messages : (s : ChannelState) (gone spare : ℕ) (messages : List Message) → IsChannel s → gone ≤ s.received
+other_messages : (s : ChannelState) (gone spare : ℕ) (messages : List Message) → IsChannel s
     → sent s ≤ gone + length messages
     → IsChannel (record s { gone = gone; messages = messages; spare = spare })
-other_messages s gone spare messages h low le =
+other_messages s gone spare messages h le =
     record {
-      gone_received = low;
       received_published = h.received_published;
       published_sent = omega (arith, h.published_sent, le);
       counted = h.counted;
@@ -90,7 +90,6 @@ part_channel : (ds : List ℕ) (es : List Effect) (c : ℕ) (p : Part) → Lawfu
     → IsChannel (channel_at es c 0 0) → IsChannel (with_part p (channel_at es c 0 0))
 part_channel ds es c (Opens limit) l can h =
     record {
-      gone_received = h.gone_received;
       received_published = h.received_published;
       published_sent = h.published_sent;
       counted = h.counted;
@@ -100,7 +99,6 @@ part_channel ds es c (Opens limit) l can h =
     }
 part_channel ds es c Receives l can h =
     record {
-      gone_received = omega (arith, h.gone_received);
       received_published = omega (arith, can);
       published_sent = h.published_sent;
       counted = h.counted;
@@ -129,13 +127,12 @@ published_ok now s h after =
 told_ok : (now : ℕ) (bs : List Body) (s : ChannelState) → IsChannel s → IsChannel (enqueued_all bs now s)
 told_ok now bs s h =
     subst IsChannel (sym (enqueued_is now bs s (sent s) refl))
-    (other_messages s s.gone (s.spare - length bs) (s.messages ++ messages_from now (sent s) bs) h h.gone_received
+    (other_messages s s.gone (s.spare - length bs) (s.messages ++ messages_from now (sent s) bs) h
     (omega (arith, length-append s.messages (messages_from now (sent s) bs))))
 
 channel_start : (c : ℕ) → IsChannel (channel_at [] c 0 0)
 channel_start c =
     record {
-      gone_received = omega arith;
       received_published = omega arith;
       published_sent = omega arith;
       counted = refl;
@@ -160,25 +157,24 @@ whole_channel ds es c l =
     (told_ok now bs s (part_channel ds xs c p last.1 (can_be xs c call answer last.0) h))
     (told_after now bs s (part_after now p (channel_at xs c 0 0) (none_after_clock ds xs c 0 0 now last.1 old)))) in
     let t = channel_at (step ds call answer xs) c 0 (0 - length bs) in
-    other_messages t 0 0 t.messages all (omega arith) (omega arith))
+    other_messages t 0 0 t.messages all (omega arith))
     es l
 
 -- with its first messages let go
 pub channel_law :
     (ds : List ℕ) (es : List Effect) (c gone spare : ℕ)
     → Lawful ds es
-    → gone ≤ received (past_of es) c
+    → gone ≤ length (stream es c)
     → IsChannel (channel_at es c gone spare)
     × (sent (channel_at es c gone spare) ≡ length (stream es c))
     × (publishable (channel_at es c gone spare) ≡ published es c)
 channel_law ds es c gone spare l le =
     let h = whole_channel ds es c l in
     let s = channel_at es c 0 0 in
-    let few : received (past_of es) c ≤ published es c = (sound ds es c l).received_published in
-    let kept : gone ≤ length (reverse (stream es c)) = omega (arith, le, few, length-reverse (stream es c)) in
+    let kept : gone ≤ length (reverse (stream es c)) = omega (arith, le, length-reverse (stream es c)) in
     let all : gone + length (drop gone (reverse (stream es c))) ≡ length (stream es c) =
     omega (arith, kept, length-drop gone (reverse (stream es c)), length-reverse (stream es c)) in (
-      other_messages s gone spare (drop gone (reverse (stream es c))) h le
+      other_messages s gone spare (drop gone (reverse (stream es c))) h
           (omega (arith, all, length-reverse (stream es c))),
       all,
       ap (λ n. min n (length (finished (past_of es) c) + 64)) all,
@@ -188,9 +184,9 @@ pub numbered_law : NumberedLaw
 numbered_law = numbered
 
 pub ready_law : (ds : List ℕ) (call : Call) (answer : Reply) (es : List Effect) (c gone spare : ℕ) (bodies : List Body)
-    → Lawful ds (step ds call answer es) → gone ≤ received (past_of es) c
+    → Lawful ds (step ds call answer es)
     → let now = clock (past_of (step ds call answer es)) in NoneAfter now (enqueued_all bodies now (with_part (part_of call answer c) (channel_at es c gone spare))).unfinished
-ready_law ds call answer es c gone spare bodies l le =
+ready_law ds call answer es c gone spare bodies l =
     let now = clock (past_of (step ds call answer es)) in
     let s = channel_at es c gone spare in
     let old : clock (past_of es) ≤ now = omega arith in
@@ -207,7 +203,7 @@ all_published now s e =
     }
 
 pub quiet_law : (ds : List ℕ) (call : Call) (answer : Reply) (es : List Effect) (c gone spare : ℕ)
-    → Lawful ds (step ds call answer es) → gone ≤ received (past_of es) c → said_at ds call answer es c ≡ []
+    → Lawful ds (step ds call answer es) → gone ≤ length (stream es c) → said_at ds call answer es c ≡ []
     → part_of call answer c ≡ Untouched → channel_at (step ds call answer es) c gone spare ≡ channel_at es c gone spare
 quiet_law ds call answer es c gone spare l le none untouched =
     let now = clock (past_of (step ds call answer es)) in
@@ -218,12 +214,17 @@ quiet_law ds call answer es c gone spare l le none untouched =
     ∙ (λ i. published_at now (enqueued_all (none i) now (with_part (untouched i) s)))
     ∙ all_published now s (channel_law ds es c gone spare (lawful_last ds call answer es l).1 le).2
 
-pub let_go_law : (ds : List ℕ) (es : List Effect) (c gone spare : ℕ) → Lawful ds es → gone ≤ received (past_of es) c
-    → (let_go_of (channel_at es c gone spare) ≡ channel_at es c (received (past_of es) c) spare) × ((n : ℕ) → with_spare n (channel_at es c gone spare) ≡ channel_at es c gone (max n spare))
-let_go_law ds es c gone spare l le =
-    let rest : gone + (received (past_of es) c - gone) ≡ received (past_of es) c = omega (arith, le) in (
-      λ i. record (channel_at es c (received (past_of es) c) spare) {
-        messages = (drop-drop (received (past_of es) c - gone) gone (reverse (stream es c)) ∙ ap (λ n. drop n (reverse (stream es c))) rest) i;
-      },
-      λ n. refl,
-    )
+pub let_go_law : (es : List Effect) (c gone spare : ℕ)
+    → let_go_of (channel_at es c gone spare) ≡ channel_at es c (max gone (received (past_of es) c)) spare
+let_go_law es c gone spare =
+    let rest : gone + (received (past_of es) c - gone) ≡ max gone (received (past_of es) c) = omega arith in
+    λ i. record (channel_at es c (max gone (received (past_of es) c)) spare) {
+      messages = (drop-drop (received (past_of es) c - gone) gone (reverse (stream es c)) ∙ ap (λ n. drop n (reverse (stream es c))) rest) i;
+    }
+
+pub all_gone_law : (ds : List ℕ) (es : List Effect) (c gone spare : ℕ) → Lawful ds es → gone ≤ length (stream es c)
+    → all_let_go (channel_at es c gone spare) ≡ channel_at es c (length (stream es c)) 0
+all_gone_law ds es c gone spare l le =
+    let none : drop (length (stream es c)) (reverse (stream es c)) ≡ [] =
+    drop_of_length-le (reverse (stream es c)) (omega (arith, length-reverse (stream es c))) in
+    λ i. record (channel_at es c gone 0) { gone = (channel_law ds es c gone spare l le).1 i; messages = sym none i }

@@ -12,6 +12,8 @@ pub mod Masking
 pub mod AbleMasks
 pub mod Ables
 pub mod Duties
+pub mod Noting
+pub mod Letting
 pub mod Keeping
 pub mod Examples
 pub mod Silence

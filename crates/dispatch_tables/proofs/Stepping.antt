@@ -152,7 +152,7 @@ stepped_unfinished es later c p told h =
 
 -- the channel after the step
 pub stepped_channel : (es later : List Effect) (c : ℕ) (p : Part) (told : List Body) (gone spare : ℕ)
-    → Stepped es later c p told → gone ≤ received (past_of es) c
+    → Stepped es later c p told → gone ≤ length (stream es c)
     → channel_at later c gone (spare - length told)
     ≡ published_at (clock (past_of later)) (enqueued_all told (clock (past_of later)) (with_part p (channel_at es c gone spare)))
 stepped_channel es later c p told gone spare h le =
@@ -178,7 +178,7 @@ stepped_channel es later c p told gone spare h le =
     more = messages_from (clock (past_of later)) (length (stream es c)) told
 
     kept : gone ≤ length (reverse (stream es c))
-    kept = omega (arith, le, h.sound.received_published, length-reverse (stream es c))
+    kept = omega (arith, le, length-reverse (stream es c))
 
     all : gone + length (drop gone (reverse (stream es c))) ≡ length (stream es c)
     all = omega (arith, kept, length-drop gone (reverse (stream es c)), length-reverse (stream es c))

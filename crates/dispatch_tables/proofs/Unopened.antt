@@ -20,7 +20,7 @@ use Rattle.dispatch_tables.specs.Laws.{NotLiveLaw}
 use Rattle.dispatch_tables.proofs.Lawfuls.{lawful_last, lawful_always}
 use Rattle.dispatch_tables.proofs.Kept.{quiet_law}
 
-got_live : (a b : Bool) (o : Option Message) (m : Message) → Got m ≡ cond (not a) Gone (cond b (got_reply o) Empty)
+pub got_live : (a b : Bool) (o : Option Message) (m : Message) → Got m ≡ cond (not a) Gone (cond b (got_reply o) Empty)
     → a ≡ true
 got_live true b o m e = refl
 got_live false b o m e = absurd (cc e)

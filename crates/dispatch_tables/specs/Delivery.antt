@@ -1,5 +1,5 @@
 -- What is kept of all channels, and what a step makes of it.
-use Rattle.std.specs.Prelude.{◌≡◌, ℕ, ◌≤◌, Bool, true, false, List, [], ◌++◌, Option}
+use Rattle.std.specs.Prelude.{◌≡◌, ℕ, ◌+◌, ◌≤◌, Bool, true, false, List, [], ◌++◌, drop, length, Option}
 use Rattle.input_types.specs.declared.message.Body.{Body}
 use Rattle.window_snapshot.specs.Mask.{mask_has}
 use Rattle.dispatch_calls.specs.declared.call.Call.{Call}
@@ -16,14 +16,36 @@ use Rattle.dispatch_tables.specs.Channel.{Keeps, Untouched, part_of, with_part, 
 use Rattle.dispatch_tables.specs.Masks.{live_mask_after, able_mask_after}
 use Rattle.dispatch_tables.specs.Dues.{due_in, namings_in}
 
--- how many channels were opened, the channels by their numbers, the masks of those that are live and able, and all that
+-- what was noted of ticks: how many namings were let go, the first ones, and the others
+pub record Noted : Type 0 where
+  pub gone : ℕ
+  pub left : List Naming
+
+-- nothing was noted
+abbrev pub none_noted : Noted
+none_noted = record { gone = 0; left = [] }
+
+-- some namings more
+abbrev pub noted_with : List Naming → Noted → Noted
+noted_with more n = record n { left = n.left ++ more }
+
+-- all are let go
+abbrev pub noted_gone : Noted → Noted
+noted_gone n = record { gone = n.gone + length n.left; left = [] }
+
+-- it is what is left of all these namings, once the first ones were let go
+pub record NotedIs (all : List Naming) (n : Noted) : Type 0 where
+  pub few : n.gone ≤ length all
+  pub left_is : n.left ≡ drop n.gone all
+
+-- how many channels were opened, the channels by their numbers, the masks of those that are live and able, and what
 -- was noted of ticks
 pub record Delivery : Type 0 where
   pub count : ℕ
   pub channel : ℕ → ChannelState
   pub live : ℕ
   pub able : ℕ
-  pub noted : List Naming
+  pub noted : Noted
 
 -- when a channel is due to be named by what is kept
 abbrev pub due_kept : Delivery → ℕ → Option ℕ
@@ -35,15 +57,15 @@ pub record DeliveryIs (es : List Effect) (k : Delivery) : Type 0 where
   pub keeps : (c : ℕ) → 1 ≤ c → c ≤ k.count → Keeps es c (k.channel c)
   pub live_is : mask_has k.live ≡ live (past_of es)
   pub able_is : mask_has k.able ≡ able es
-  pub noted_is : k.noted ≡ namings es
+  pub noted_is : NotedIs (namings es) k.noted
 
 -- a channel after a step: its part in it, then what it is told, and all is published
 abbrev pub channel_after : Call → Reply → (told : List Body) → (now channel : ℕ) → ChannelState → ChannelState
 channel_after call answer told now c s = published_at now (enqueued_all told now (with_part (part_of call answer c) s))
 
 -- what is noted after a step
-abbrev pub noted_after : Reply → (now : ℕ) → Delivery → List Naming
-noted_after (Named mask) now k = k.noted ++ namings_in now mask k.channel k.count
+abbrev pub noted_after : Reply → (now : ℕ) → Delivery → Noted
+noted_after (Named mask) now k = noted_with (namings_in now mask k.channel k.count) k.noted
 noted_after answer now k = k.noted
 
 -- What is kept goes one step on, in which channels are told these bodies, at the clock after the step. Some channels

@@ -4,10 +4,11 @@ use Rattle.input_types.specs.declared.message.Body.{Body}
 use Rattle.window_snapshot.specs.Mask.{mask_has}
 use Rattle.anr_tracker.specs.Due.{IsFirst}
 use Rattle.dispatch_calls.specs.declared.call.Call.{Call}
+use Rattle.dispatch_calls.specs.declared.counts.Naming.{Naming}
 use Rattle.dispatch_calls.specs.declared.reply.Reply.{Reply}
 use Rattle.dispatch_calls.specs.declared.reply.Reply.TheVariants.{Done, Gone, Named, UnknownSeq}
 use Rattle.input_channel.specs.Order.{NoneAfter}
-use Rattle.input_channel.specs.State.{ChannelState, IsChannel, sent, published_at, next_of, may_finish, oldest_of, let_go_of, with_spare, opened_with}
+use Rattle.input_channel.specs.State.{ChannelState, IsChannel, sent, published_at, next_of, may_finish, oldest_of, let_go_of, all_let_go, with_spare, opened_with}
 use Rattle.input_channel.specs.State.{has_late as late_at}
 use Rattle.dispatch_history.specs.History.{History, clock, live, opened}
 use Rattle.dispatch_history.specs.Effect.{Effect, past_of, stream}
@@ -19,7 +20,7 @@ use Rattle.dispatch_history.specs.Reply.{reply_to, receive_reply, finish_reply, 
 use Rattle.dispatch_tables.specs.Lawful.{Lawful}
 use Rattle.dispatch_tables.specs.Channel.{Keeps, part_of, Untouched, with_part, enqueued_all, NumberedFrom, counts_of}
 use Rattle.dispatch_tables.specs.Masks.{able_after, live_mask_after, able_mask_after}
-use Rattle.dispatch_tables.specs.Delivery.{Delivery, DeliveryIs, GoesOn, due_kept}
+use Rattle.dispatch_tables.specs.Delivery.{Delivery, DeliveryIs, GoesOn, Noted, NotedIs, none_noted, noted_gone, due_kept}
 use Rattle.dispatch_tables.specs.Silent.{is_silent, is_resting}
 use Rattle.dispatch_tables.specs.Dues.{due_moment, due_in, due_pair, namings_in, is_named}
 
@@ -84,13 +85,16 @@ NotLiveLaw =
     → live (past_of (step displays call answer es)) c ≡ false
     → (said_at displays call answer es c ≡ []) × (part_of call answer c ≡ Untouched)
 
--- A channel is kept all the same once the messages that were received are let go, and where it has more room.
+-- A channel is kept all the same once the messages that were received are let go, where it has more room, and, where it is
+-- not live, once all its messages are let go.
 abbrev pub KeptLess : Type 0
 KeptLess =
     (displays : List ℕ) (es : List Effect) (c : ℕ) (s : ChannelState)
     → Lawful displays es
     → Keeps es c s
-    → Keeps es c (let_go_of s) × ((n : ℕ) → Keeps es c (with_spare n s))
+    → Keeps es c (let_go_of s)
+    × ((n : ℕ) → Keeps es c (with_spare n s))
+    × (live (past_of es) c ≡ false → Keeps es c (all_let_go s))
 
 -- What is kept is a channel, which has as many messages as its stream; all that can be is published, so that it stays
 -- as it is where it is published again; and no message was delivered after the clock.
@@ -244,6 +248,11 @@ NamingsKeptLaw =
     → is_named answer ≡ false
     → namings (step displays call answer es) ≡ namings es
 
+-- What is left of what was noted may be let go.
+abbrev pub NamingsGoLaw : Type 0
+NamingsGoLaw =
+    (all : List Naming) (n : Noted) → NotedIs all n → NotedIs all (noted_gone n) × ((noted_gone n).gone ≡ length all)
+
 -- What these steps tell: nothing.
 abbrev pub SilentCalls : Type 0
 SilentCalls =
@@ -254,7 +263,7 @@ SilentCalls =
 abbrev pub DeliveryStart : Type 0
 DeliveryStart =
     (channel : ℕ → ChannelState)
-    → DeliveryIs [] (record { count = 0; channel = channel; live = 0; able = 0; noted = [] })
+    → DeliveryIs [] (record { count = 0; channel = channel; live = 0; able = 0; noted = none_noted })
 
 -- What is kept of all channels goes on with any step.
 abbrev pub DeliveryLaw : Type 0

@@ -1,5 +1,5 @@
 //! What is proved of what is kept. Each function has the laws as its clauses, and does nothing.
-ghost use Rattle.dispatch_tables.specs.Laws.{LawfulEffects, LawfulStep, LawfulLast, KeptStep, KeptReady, KeptUnopened, KeptQuiet, NotLiveLaw, KeptLess, KeptFacts, NumberedLaw, ReceiveLaw, FinishLaw, OldestLaw, LateLaw, CountsLaw, OpenedFew, AbleLaw, LiveMaskLaw, AbleMaskLaw, DueLaw, QuietDueLaw, NotLiveDueLaw, DuesLaw, FirstDueLaw, NamedLaw, NamingsLaw, NamingsKeptLaw, SilentCalls, DeliveryStart, DeliveryLaw, DeliveryDue, DeliveryRests};
+ghost use Rattle.dispatch_tables.specs.Laws.{LawfulEffects, LawfulStep, LawfulLast, KeptStep, KeptReady, KeptUnopened, KeptQuiet, NotLiveLaw, KeptLess, KeptFacts, NumberedLaw, ReceiveLaw, FinishLaw, OldestLaw, LateLaw, CountsLaw, OpenedFew, AbleLaw, LiveMaskLaw, AbleMaskLaw, DueLaw, QuietDueLaw, NotLiveDueLaw, DuesLaw, FirstDueLaw, NamedLaw, NamingsLaw, NamingsKeptLaw, NamingsGoLaw, SilentCalls, DeliveryStart, DeliveryLaw, DeliveryDue, DeliveryRests};
 
 /// Effects of legal histories: a step that is answered as it is to be keeps them so, and each step was.
 pub fn lawful()
@@ -19,7 +19,7 @@ pub fn channels()
 {}
 
 /// The channels that a step does not concern are kept as they were, and many steps tell nothing. Messages that were
-/// received may be let go.
+/// received may be let go, and all of a channel that is removed.
 pub fn quiet_channels()
     ensures quiet { KeptQuiet }
     ensures not_live { NotLiveLaw }
@@ -58,6 +58,7 @@ pub fn namings()
     ensures named { NamedLaw }
     ensures tick { NamingsLaw }
     ensures others { NamingsKeptLaw }
+    ensures gone { NamingsGoLaw }
 {}
 
 /// What is kept of all channels stands for nothing at first, and after each step for one step more.

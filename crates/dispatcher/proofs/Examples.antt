@@ -17,6 +17,7 @@ use Rattle.dispatcher.specs.Queue.{waiting_after}
 use Rattle.dispatcher.specs.Knows.{Kept}
 use Rattle.dispatcher.specs.Replying.{reply_by}
 use Rattle.dispatcher.specs.Telling.{told_target, repeat_then}
+use Rattle.dispatch_tables.specs.Delivery.{none_noted}
 
 abbrev volume_up : Bool → KeyArgs
 volume_up down = record { device = 1; scan = 115; code = 24; meta = 0; down = down }
@@ -42,7 +43,7 @@ kept count waiting =
       queue = record { clock = 1000000; place = 5; waiting = waiting; down = down };
       shown = record { windows = []; origins = [] };
       touches = replicate 8 no_table;
-      delivery = record { count = count; channel = λ c. opened_with 5000000; live = 1; able = 1; noted = [] };
+      delivery = record { count = count; channel = λ c. opened_with 5000000; live = 1; able = 1; noted = none_noted };
       inputs = told;
       focus = record { requested = Some 1 ∷ None ∷ None ∷ None ∷ []; last = 0; focusable = 1 ∷ 0 ∷ 0 ∷ 0 ∷ [] };
       repeat = sent 0 1000000;

@@ -1,20 +1,28 @@
--- No message is let go.
+-- No message is let go, and no naming.
 use Rattle.std.proofs.Common.{◌≡◌, ◌-◌, ℕ, zero, suc, List, [], ◌∷◌, ◌++◌, get_or, set, Result, Ok, Err, OnOk, OnErr, refl, sym, ap, ◌∙◌}
 use Rattle.input_channel.specs.State.{ChannelState, opened_with, received_one}
 use Rattle.dispatch_calls.specs.declared.call.Call.{Call}
 use Rattle.dispatch_channels.specs.Table.{Table, channel_of, with_channel, but_for_room}
-use Rattle.dispatch_channels.specs.Changes.{Opens, new_channel, finished_at, finished_in}
+use Rattle.dispatch_channels.specs.Changes.{Opens, new_channel, finished_at, finished_in, named_in}
 use Rattle.dispatcher.specs.declared.tables.Tables.{Tables}
 use Rattle.dispatcher.specs.Tables.{LetsNoneGo, GoesOnSomehow, SameAll}
 use Rattle.dispatcher.proofs.Rooms.{channel_bare}
 
--- where there is other room
-pub room_gone : (t u : Table) → but_for_room u ≡ but_for_room t → LetsNoneGo t u
-room_gone t u same c low =
-    ap (λ s. s.gone) (sym (channel_bare u c)) ∙ ap (λ x. (channel_of x c).gone) same ∙ ap (λ s. s.gone) (channel_bare t c)
+-- where nothing changes
+pub none_gone : (t : Table) → LetsNoneGo t t
+none_gone t = record { of_channels = λ c low. refl; of_namings = refl }
 
 pub same_gone : (t u : Table) → u ≡ t → LetsNoneGo t u
-same_gone t u same c low = ap (λ x. (channel_of x c).gone) same
+same_gone t u same = record { of_channels = λ c low. ap (λ x. (channel_of x c).gone) same; of_namings = ap (λ x. x.namings.gone) same }
+
+-- where there is other room
+pub room_gone : (t u : Table) → but_for_room u ≡ but_for_room t → LetsNoneGo t u
+room_gone t u same =
+    record {
+      of_channels = λ c low.
+          ap (λ s. s.gone) (sym (channel_bare u c)) ∙ ap (λ x. (channel_of x c).gone) same ∙ ap (λ s. s.gone) (channel_bare t c);
+      of_namings = ap (λ x. x.namings.gone) same;
+    }
 
 -- where one channel changes, of which none are let go
 set_gone : (ss : List ChannelState) (i j : ℕ) (s d : ChannelState) → s.gone ≡ (get_or ss i d).gone → (get_or (set ss i s) j d).gone ≡ (get_or ss j d).gone
@@ -25,12 +33,20 @@ set_gone (x ∷ xs) (suc i) zero s d h = refl
 set_gone (x ∷ xs) (suc i) (suc j) s d h = set_gone xs i j s d h
 
 pub received_gone : (t u : Table) (k : ℕ) → u ≡ with_channel k (received_one (channel_of t k)) t → LetsNoneGo t u
-received_gone t u k is c low =
-    ap (λ x. (channel_of x c).gone) is ∙ set_gone t.channels (k - 1) (c - 1) (received_one (channel_of t k)) (opened_with 0) refl
+received_gone t u k is =
+    record {
+      of_channels = λ c low.
+          ap (λ x. (channel_of x c).gone) is ∙ set_gone t.channels (k - 1) (c - 1) (received_one (channel_of t k)) (opened_with 0) refl;
+      of_namings = ap (λ x. x.namings.gone) is;
+    }
 
 pub finished_gone : (t u : Table) (k seq clock : ℕ) → u ≡ finished_in k seq clock t → LetsNoneGo t u
-finished_gone t u k seq clock is c low =
-    ap (λ x. (channel_of x c).gone) is ∙ set_gone t.channels (k - 1) (c - 1) (finished_at seq clock (channel_of t k)) (opened_with 0) refl
+finished_gone t u k seq clock is =
+    record {
+      of_channels = λ c low.
+          ap (λ x. (channel_of x c).gone) is ∙ set_gone t.channels (k - 1) (c - 1) (finished_at seq clock (channel_of t k)) (opened_with 0) refl;
+      of_namings = ap (λ x. x.namings.gone) is;
+    }
 
 -- where one is opened
 more_gone : (ss : List ChannelState) (j : ℕ) (s : ChannelState) → s.gone ≡ 0 → (get_or (ss ++ s ∷ []) j (opened_with 0)).gone ≡ (get_or ss j (opened_with 0)).gone
@@ -40,19 +56,33 @@ more_gone (x ∷ xs) zero s h = refl
 more_gone (x ∷ xs) (suc j) s h = more_gone xs j s h
 
 pub opened_gone : (limit number : ℕ) (t u : Table) → Opens limit number t u → LetsNoneGo t u
-opened_gone limit number t u h c low =
-    ap (λ ss. (get_or ss (c - 1) (opened_with 0)).gone) h.channels_are ∙ more_gone t.channels (c - 1) (new_channel limit) refl
+opened_gone limit number t u h =
+    record {
+      of_channels = λ c low.
+          ap (λ ss. (get_or ss (c - 1) (opened_with 0)).gone) h.channels_are ∙ more_gone t.channels (c - 1) (new_channel limit) refl;
+      of_namings = ap (λ n. n.gone) h.namings_are;
+    }
+
+-- where channels are named
+pub named_gone : (mask clock : ℕ) (t u : Table) → LetsNoneGo (named_in mask clock t) u → LetsNoneGo t u
+named_gone mask clock t u h = record { of_channels = h.of_channels; of_namings = h.of_namings }
 
 -- one after the other
 pub both_gone : (t u v : Table) → LetsNoneGo t u → LetsNoneGo u v → LetsNoneGo t v
-both_gone t u v h k c low = k c low ∙ h c low
+both_gone t u v h k =
+    record { of_channels = λ c low. k.of_channels c low ∙ h.of_channels c low; of_namings = k.of_namings ∙ h.of_namings }
 
 -- whatever is answered
 pub answered_gone : {A E : Type 0} (call : Call) (r : Result A E) (old new : Tables)
     → OnOk r (GoesOnSomehow call old new) → OnErr r (SameAll old new)
     → LetsNoneGo (but_for_room old.routing.channels) (but_for_room new.routing.channels)
-answered_gone call (Ok a) old new ok err c low =
-    ap (λ s. s.gone) (channel_bare new.routing.channels c)
-    ∙ ok.1.gone_are c low
-    ∙ sym (ap (λ s. s.gone) (channel_bare old.routing.channels c))
-answered_gone call (Err e) old new ok err c low = ap (λ r. (channel_of r.channels c).gone) err.routing_is
+answered_gone call (Ok a) old new ok err =
+    record {
+      of_channels = λ c low.
+          ap (λ s. s.gone) (channel_bare new.routing.channels c)
+          ∙ ok.1.gone_are.of_channels c low
+          ∙ sym (ap (λ s. s.gone) (channel_bare old.routing.channels c));
+      of_namings = ok.1.gone_are.of_namings;
+    }
+answered_gone call (Err e) old new ok err =
+    record { of_channels = λ c low. ap (λ r. (channel_of r.channels c).gone) err.routing_is; of_namings = ap (λ r. r.channels.namings.gone) err.routing_is }

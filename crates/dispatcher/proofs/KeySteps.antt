@@ -37,7 +37,7 @@ use Rattle.dispatcher.specs.declared.tables.Routing.{Routing}
 use Rattle.dispatcher.specs.Carrying.{TellsRound, CarriesSome, IsOf}
 use Rattle.dispatcher.specs.Keying.{target_number, only_live}
 use Rattle.dispatcher.specs.Tables.{kept, Pumps}
-use Rattle.dispatcher.proofs.Gone.{room_gone, both_gone}
+use Rattle.dispatcher.proofs.Gone.{room_gone, both_gone, none_gone}
 use Rattle.dispatcher.proofs.Going.{Keyed}
 use Rattle.dispatcher.proofs.Calls.{told_same, pumped}
 use Rattle.dispatcher.proofs.RestLaws.{rests_as_is}
@@ -123,7 +123,7 @@ carries_none place clock es queue old stands =
                 record {
                   touches = rests_as_is (marks es) old.touches place stands.knows.touches;
                   channels = tells_none target clock old.touches old.shown.origins old.channels;
-                  gone_are = λ c low. refl;
+                  gone_are = none_gone old.channels;
                   repeat_is = refl;
                   displays_are = refl;
                   shown_is = refl;
@@ -143,7 +143,7 @@ nobody_pump old place clock k keyed =
           (λ w. (other_steps old.displays es (kept queue old) stands).keys now w k first)
           (keyed now);
       displays_are = refl;
-      gone_are = λ c low. refl;
+      gone_are = none_gone old.channels;
     }
 
 -- args that are dispatched to the key target
@@ -184,7 +184,7 @@ idle_pump place clock old due =
       after = λ es now queue later none at clk stands goes.
           rested (Pump now) Idle es queue later old stands goes (idle_reply es now queue clock old false none clk stands due) tt refl;
       displays_are = refl;
-      gone_are = λ c low. refl;
+      gone_are = none_gone old.channels;
     }
 
 -- a repeat is of the key target

@@ -1,51 +1,139 @@
--- Messages that are let go.
-use Rattle.std.proofs.Common.{◌≡◌, ◌≤◌, ◌-◌, ◌==◌, ℕ, false, List, refl, sym, ap, ◌∙◌, arith}
+-- Messages and namings that are let go.
+use Rattle.std.proofs.Common.{◌≡◌, ◌≤◌, ◌-◌, ◌==◌, nat_le, ℕ, max, true, false, List, length, refl, sym, ap, ◌∙◌, arith}
 use Rattle.std.proofs.lemmas.List.{get_or-set_same, get_or-set_other}
-use Rattle.std.proofs.lemmas.Bool.{true≢false, eq-eqb}
-use Rattle.input_channel.specs.State.{opened_with, let_go_of}
+use Rattle.std.proofs.lemmas.Bool.{true≢false, eq-eqb, and_parts, leb-true}
+use Rattle.window_snapshot.specs.Mask.{mask_has}
+use Rattle.input_channel.specs.State.{ChannelState, opened_with, let_go_of, all_let_go}
 use Rattle.dispatch_channels.specs.Table.{Table, opened, channel_of, input_of, with_channel, but_for_room}
-use Rattle.dispatch_history.specs.Effect.{Effect, past_of}
-use Rattle.dispatch_history.specs.History.{received}
-use Rattle.dispatch_tables.specs.Channel.{Keeps}
-use Rattle.dispatcher.proofs.RoomLaws.{let_go_law}
+use Rattle.dispatch_history.specs.Effect.{Effect, past_of, stream}
+use Rattle.dispatch_history.specs.Due.{namings}
+use Rattle.dispatch_history.specs.History.{live, received}
+use Rattle.dispatch_tables.specs.Channel.{MayGo, Keeps}
+use Rattle.dispatch_tables.specs.Delivery.{noted_gone}
+use Rattle.dispatch_tables.proofs.Keeping.{kept_less, kept_facts}
+use Rattle.dispatcher.proofs.RoomLaws.{let_go_law, namings_go_law}
+use Rattle.dispatcher.specs.Access.{is_opened, gone}
+use Rattle.dispatcher.specs.Dispatching.{Dispatching, StandsFor}
 use Rattle.dispatcher.specs.declared.tables.Routing.{Routing}
 use Rattle.dispatcher.specs.declared.tables.Tables.{Tables}
 use Rattle.dispatcher.specs.Tables.{TablesStandFor, kept}
 use Rattle.dispatcher.proofs.Rooms.{channel_bare}
 
--- the tables stand for what they stood for
-pub let_go_stands : (es : List Effect) (old : Tables) (u : Table) (c : ℕ) → TablesStandFor es old → 1 ≤ c → c ≤ opened old.routing.channels
-    → u ≡ with_channel c (let_go_of (channel_of old.routing.channels c)) old.routing.channels
+-- the tables stand for what they stood for, where a channel keeps what it kept but for messages that may be let go
+lets_go : (es : List Effect) (old : Tables) (u : Table) (c : ℕ) (s : ChannelState) → TablesStandFor es old → 1 ≤ c → c ≤ opened old.routing.channels
+    → Keeps es c s → u ≡ with_channel c s old.routing.channels
     → TablesStandFor es (record old { routing = record old.routing { channels = u } })
-let_go_stands es old u c s low high is =
+lets_go es old u c s stands low high keeps is =
     let r = old.routing in
     let new : Routing = record r { channels = u } in
-    (let_go_law r.displays es (kept old.queueing r) (kept old.queueing new) r.channels u c s
+    (let_go_law r.displays es (kept old.queueing r) (kept old.queueing new) r.channels u c s stands
     (record { queue_is = refl; shown_is = refl; touches_are = refl; focus_is = refl; repeat_is = refl })
     refl
     refl
     (ap input_of is)
     low
     high
+    keeps
     is).0
 
--- all that were received are gone
-pub all_gone : (es : List Effect) (old : Tables) (u : Table) (c : ℕ) → TablesStandFor es old → 1 ≤ c → c ≤ opened old.routing.channels
+-- those that were received
+pub let_go_stands : (es : List Effect) (old : Tables) (u : Table) (c : ℕ) → TablesStandFor es old → 1 ≤ c → c ≤ opened old.routing.channels
+    → u ≡ with_channel c (let_go_of (channel_of old.routing.channels c)) old.routing.channels
+    → TablesStandFor es (record old { routing = record old.routing { channels = u } })
+let_go_stands es old u c stands low high is =
+    lets_go es old u c (let_go_of (channel_of old.routing.channels c)) stands low high
+    (kept_less old.routing.displays es c (channel_of old.routing.channels c) stands.lawful (stands.knows.delivery.keeps c low high)).0
+    is
+
+-- all, where the channel is not live
+pub all_go_stands : (es : List Effect) (old : Tables) (u : Table) (c : ℕ) → TablesStandFor es old → 1 ≤ c → c ≤ opened old.routing.channels
+    → mask_has old.routing.channels.live c ≡ false
+    → u ≡ with_channel c (all_let_go (channel_of old.routing.channels c)) old.routing.channels
+    → TablesStandFor es (record old { routing = record old.routing { channels = u } })
+all_go_stands es old u c stands low high dead is =
+    let delivery = stands.knows.delivery in
+    lets_go es old u c (all_let_go (channel_of old.routing.channels c)) stands low high
+    ((kept_less old.routing.displays es c (channel_of old.routing.channels c) stands.lawful (delivery.keeps c low high)).2
+    (sym (ap (λ f. f c) delivery.live_is) ∙ dead))
+    is
+
+-- how many are gone
+gone_there : (t u : Table) (c : ℕ) (s : ChannelState) → u ≡ with_channel c s t → 1 ≤ c → c ≤ opened t
+    → (channel_of (but_for_room u) c).gone ≡ s.gone
+gone_there t u c s is low high =
+    let there : channel_of u c ≡ s =
+    ap (λ x. channel_of x c) is ∙ get_or-set_same t.channels (c - 1) s (opened_with 0) (omega (arith, low, high)) in
+    ap (λ x. x.gone) (channel_bare u c) ∙ ap (λ x. x.gone) there
+
+-- all that were received are, and those that were before
+pub received_gone : (es : List Effect) (old : Tables) (u : Table) (c : ℕ) → TablesStandFor es old → 1 ≤ c → c ≤ opened old.routing.channels
+    → u ≡ with_channel c (let_go_of (channel_of old.routing.channels c)) old.routing.channels
+    → (channel_of (but_for_room u) c).gone ≡ max (channel_of (but_for_room old.routing.channels) c).gone (received (past_of es) c)
+received_gone es old u c stands low high is =
+    let t = old.routing.channels in
+    let keeps : Keeps es c (channel_of t c) = stands.knows.delivery.keeps c low high in
+    gone_there t u c (let_go_of (channel_of t c)) is low high
+    ∙ ap (λ n. max (channel_of t c).gone n) (ap (λ x. x.received) keeps.is)
+    ∙ ap (λ n. max n (received (past_of es) c)) (sym (ap (λ x. x.gone) (channel_bare t c)))
+
+-- of a live channel only those that were received were let go
+pub live_gone : (es : List Effect) (old : Tables) (u : Table) (c : ℕ) → TablesStandFor es old → 1 ≤ c → c ≤ opened old.routing.channels
+    → live (past_of es) c ≡ true
     → u ≡ with_channel c (let_go_of (channel_of old.routing.channels c)) old.routing.channels
     → (channel_of (but_for_room u) c).gone ≡ received (past_of es) c
-all_gone es old u c s low high is =
+live_gone es old u c stands low high lives is =
     let t = old.routing.channels in
-    let there : channel_of u c ≡ let_go_of (channel_of t c) =
-    ap (λ x. channel_of x c) is ∙ get_or-set_same t.channels (c - 1) (let_go_of (channel_of t c)) (opened_with 0) (omega (arith, low, high)) in
-    let keeps : Keeps es c (channel_of t c) = s.knows.delivery.keeps c low high in
-    ap (λ x. x.gone) (channel_bare u c) ∙ ap (λ x. x.gone) there ∙ ap (λ x. x.received) keeps.is
+    let keeps : Keeps es c (channel_of t c) = stands.knows.delivery.keeps c low high in
+    let most : (channel_of t c).gone ≤ received (past_of es) c = keeps.may_go.of_live lives in
+    gone_there t u c (let_go_of (channel_of t c)) is low high
+    ∙ ap (λ n. max (channel_of t c).gone n) (ap (λ x. x.received) keeps.is)
+    ∙ omega (arith, most)
 
--- no others
-pub others_gone : (t u : Table) (c k : ℕ) → u ≡ with_channel c (let_go_of (channel_of t c)) t → 1 ≤ c → 1 ≤ k → (k == c) ≡ false
+-- the whole stream is
+pub stream_gone : (es : List Effect) (old : Tables) (u : Table) (c : ℕ) → TablesStandFor es old → 1 ≤ c → c ≤ opened old.routing.channels
+    → u ≡ with_channel c (all_let_go (channel_of old.routing.channels c)) old.routing.channels
+    → (channel_of (but_for_room u) c).gone ≡ length (stream es c)
+stream_gone es old u c stands low high is =
+    let t = old.routing.channels in
+    gone_there t u c (all_let_go (channel_of t c)) is low high
+    ∙ (kept_facts old.routing.displays es c (channel_of t c) stands.lawful (stands.knows.delivery.keeps c low high)).1
+
+-- of no other channel
+pub others_gone : (t u : Table) (c k : ℕ) (s : ChannelState) → u ≡ with_channel c s t → 1 ≤ c → 1 ≤ k → (k == c) ≡ false
     → (channel_of (but_for_room u) k).gone ≡ (channel_of (but_for_room t) k).gone
-others_gone t u c k is low from other =
+others_gone t u c k s is low from other =
     let apart : (k ≡ c) → ⊥ = λ e. true≢false (sym (eq-eqb k c e) ∙ other) in
     let there : channel_of u k ≡ channel_of t k =
     ap (λ x. channel_of x k) is
-    ∙ get_or-set_other t.channels (c - 1) (k - 1) (let_go_of (channel_of t c)) (opened_with 0) (λ e. apart (omega (arith, e, low, from))) in
+    ∙ get_or-set_other t.channels (c - 1) (k - 1) s (opened_with 0) (λ e. apart (omega (arith, e, low, from))) in
     ap (λ x. x.gone) (channel_bare u k) ∙ ap (λ x. x.gone) there ∙ sym (ap (λ x. x.gone) (channel_bare t k))
+
+-- who is live is one whether it is read of the tables or of the history
+pub not_live : (es : List Effect) (old : Tables) (c : ℕ) → TablesStandFor es old → live (past_of es) c ≡ true
+    → mask_has old.routing.channels.live c ≡ false → ⊥
+not_live es old c stands lives dead = true≢false (sym lives ∙ sym (ap (λ f. f c) stands.knows.delivery.live_is) ∙ dead)
+
+pub is_live : (es : List Effect) (old : Tables) (c : ℕ) → TablesStandFor es old → live (past_of es) c ≡ false
+    → mask_has old.routing.channels.live c ≡ true → ⊥
+is_live es old c stands dead lives = true≢false (sym lives ∙ ap (λ f. f c) stands.knows.delivery.live_is ∙ dead)
+
+-- the namings are let go
+pub namings_go : (es : List Effect) (old : Tables) (u : Table) → TablesStandFor es old
+    → u ≡ record old.routing.channels { namings = noted_gone old.routing.channels.namings }
+    → TablesStandFor es (record old { routing = record old.routing { channels = u } }) × (u.namings.gone ≡ length (namings es))
+namings_go es old u stands is =
+    let r = old.routing in
+    let new : Routing = record r { channels = u } in
+    namings_go_law r.displays es (kept old.queueing r) (kept old.queueing new) r.channels u stands
+    (record { queue_is = refl; shown_is = refl; touches_are = refl; focus_is = refl; repeat_is = refl })
+    refl
+    refl
+    (ap input_of is)
+    is
+
+-- so many messages of a channel may have been let go
+pub most_gone : (es : List Effect) (d : Dispatching) (c : ℕ) → StandsFor es d → is_opened es c ≡ true → MayGo es c (gone d c)
+most_gone es d c stands there =
+    let both = and_parts (nat_le 1 c) _ there in
+    let count = stands.knows.delivery.count_is in
+    (stands.knows.delivery.keeps c (leb-true 1 c both.0) (omega (arith, count, leb-true c _ both.1))).may_go

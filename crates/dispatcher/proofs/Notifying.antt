@@ -14,6 +14,7 @@ use Rattle.dispatcher.specs.declared.tables.Tables.{Tables}
 use Rattle.dispatcher.specs.Queueing.{stepped}
 use Rattle.dispatcher.specs.Tables.{GoesOn}
 use Rattle.dispatcher.proofs.Resting.{rested}
+use Rattle.dispatcher.proofs.Gone.{none_gone}
 
 -- args that are accepted
 pub accepted_on : (old : Tables) (later : Queue) (now : ℕ) (a : Args) (c : Change)
@@ -26,7 +27,7 @@ accepted_on old later now a c plan low high rises goes =
           rested (Notify now a) Taken es old.queueing later old.routing s goes
           (sym (taken_law es old.queueing now a c s.knows.queue low high plan)) rises refl;
       displays_are = refl;
-      gone_are = λ c low. refl;
+      gone_are = none_gone old.routing.channels;
     }
 
 -- args that may not come
@@ -42,5 +43,5 @@ refused_on old later now a e plan low high rises small is =
           (record { clock_is = refl; place_is = refl; waiting_is = refl; down_is = refl }))
           (sym (refused_law es old.queueing now a e s.knows.queue low high small plan)) rises refl;
       displays_are = refl;
-      gone_are = λ c low. refl;
+      gone_are = none_gone old.routing.channels;
     }

@@ -48,7 +48,7 @@ reads_channels ds es k t s e =
       counts_are = λ c. counts_by ds es k t c (nat_le 1 c && nat_le c (opened t)) s is refl;
       messages_are = λ c from to. ap (λ x. x.messages) (is.keeps c from to).is;
       oldest_is = λ c from to. kept_oldest es c (channel_of t c) (is.keeps c from to);
-      namings_are = is.noted_is;
+      namings_are = is.noted_is.left_is;
       dues_are = dues;
       first_is = λ first f. first_due_law ds es first s.lawful (subst (λ due. IsFirst due first) dues f);
     }

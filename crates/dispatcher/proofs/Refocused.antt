@@ -32,7 +32,7 @@ use Rattle.dispatcher.specs.Carrying.{TellsRound, CarriesSome}
 use Rattle.dispatcher.specs.Keying.{target_number, only_live, listening, cancelled_of, if_lost, if_in, lost_keys, named_keys}
 use Rattle.dispatcher.specs.Naming.{Names}
 use Rattle.dispatcher.specs.Tables.{kept, Goes}
-use Rattle.dispatcher.proofs.Gone.{room_gone, both_gone}
+use Rattle.dispatcher.proofs.Gone.{room_gone, both_gone, named_gone}
 use Rattle.dispatcher.proofs.Going.{round_told, Keyed, IsLive, StillGoes, still_round, still_step}
 use Rattle.dispatcher.specs.Needing.{LeavesFocus}
 use Rattle.dispatcher.specs.Showing.{Shows, origins_from}
@@ -165,7 +165,8 @@ names_some mask place clock old new small due n =
           ((other_steps old.displays es (kept queue old) stands).ticks now mask r.watchers))
           (subst (λ m. TellsRound r old.touches old.shown.origins clock (named_in mask m n.mid) new.channels) (sym (goes.clock_is ∙ clk)) n.carries.channels);
       displays_are = n.carries.displays_are;
-      gone_are = both_gone old.channels n.mid new.channels (room_gone old.channels n.mid n.same) n.carries.gone_are;
+      gone_are = both_gone old.channels n.mid new.channels (room_gone old.channels n.mid n.same)
+          (named_gone mask clock n.mid new.channels n.carries.gone_are);
     }
 
 -- the focus is found anew by the masks of the windows

@@ -37,7 +37,7 @@ use Rattle.key_tables.specs.Focused.{FocusIs, MasksAre, is_request}
 use Rattle.key_tables.proofs.Focusing.{focus_shown}
 use Rattle.dispatch_tables.specs.Lawful.{Lawful}
 use Rattle.dispatch_tables.specs.Silent.{is_silent, is_resting}
-use Rattle.dispatch_tables.specs.Delivery.{Delivery, DeliveryIs}
+use Rattle.dispatch_tables.specs.Delivery.{Delivery, DeliveryIs, NotedIs}
 use Rattle.dispatch_tables.specs.Dues.{naming_in}
 use Rattle.dispatch_tables.proofs.Ables.{able_law}
 use Rattle.dispatch_tables.proofs.Duties.{namings_law}
@@ -211,11 +211,12 @@ tick_delivery ds now es d l is =
           ap (λ f. f c) is.able_is
           ∙ sym (able_law ds (Tick now) (Named 0) es c l ∙ ap (λ b. not b && able es c) (mask_has-zero c)));
       noted_is =
-          is.noted_is
-          ∙ sym (append-nil (namings es))
+          let same : namings (step ds (Tick now) (Named 0) es) ≡ namings es =
+          namings_law ds (Tick now) 0 es d.channel (λ c from to. is.keeps c from (subst (λ n. c ≤ n) (sym is.count_is) to))
           ∙ ap (λ xs. namings es ++ xs)
-          (sym (ap (filter_map (λ c. naming_in at c (d.channel c))) (none_in (channels (opened (past_of es))))))
-          ∙ sym (namings_law ds (Tick now) 0 es d.channel (λ c from to. is.keeps c from (subst (λ n. c ≤ n) (sym is.count_is) to)));
+          (ap (filter_map (λ c. naming_in at c (d.channel c))) (none_in (channels (opened (past_of es)))))
+          ∙ append-nil (namings es)
+          in subst (λ xs. NotedIs xs d.noted) (sym same) is.noted_is;
     }
 
 pub tick_idle : TickIdleLaw

@@ -1,9 +1,9 @@
 -- Calls that tell nobody anything.
-use Rattle.std.proofs.Common.{◌≡◌, ◌<◌, ℕ, max, Bool, true, false, not, nat_lt, cond, List, slice_get, ◌-◌, Some, None, refl, sym, ap, ◌∙◌, subst, lit<, if◌then◌else◌}
-use Rattle.std.proofs.lemmas.Bool.{ltb-true}
+use Rattle.std.proofs.Common.{◌≡◌, ◌<◌, ℕ, max, Bool, true, false, not, nat_le, nat_lt, cond, List, slice_get, ◌-◌, Some, None, refl, sym, ap, ◌∙◌, subst, lit<, if◌then◌else◌}
+use Rattle.std.proofs.lemmas.Bool.{and_parts, ltb-true}
 use Rattle.window_snapshot.specs.Mask.{mask_has}
 use Rattle.input_types.specs.declared.message.Message.{Message}
-use Rattle.input_channel.specs.State.{ChannelState, next_of, may_finish, received_one}
+use Rattle.input_channel.specs.State.{ChannelState, has_next, next_of, may_finish, received_one}
 use Rattle.dispatch_calls.specs.declared.call.Call.{Call}
 use Rattle.dispatch_calls.specs.declared.call.Call.TheVariants.{Receive, Finish, Remove, Tick}
 use Rattle.dispatch_calls.specs.declared.reply.Reply.{Reply}
@@ -29,7 +29,7 @@ use Rattle.dispatcher.proofs.Removing.{remove_law}
 use Rattle.dispatcher.specs.declared.tables.Routing.{Routing}
 use Rattle.dispatcher.specs.Carrying.{TakesMark}
 use Rattle.dispatcher.specs.Tables.{kept, Goes}
-use Rattle.dispatcher.proofs.Gone.{received_gone, finished_gone}
+use Rattle.dispatcher.proofs.Gone.{received_gone, finished_gone, none_gone}
 use Rattle.route_split.specs.declared.mark.Mark.TheVariants.{Forget}
 
 -- all but the channels stays, and what their windows were told
@@ -60,7 +60,7 @@ rests_at call answer place clock old rests rises replies =
       after = λ es now queue later at clk stands goes.
           rested (call now) answer es queue later old stands goes (replies es now queue clk stands) (rises now) (rests now);
       displays_are = refl;
-      gone_are = λ k low. refl;
+      gone_are = none_gone old.channels;
     }
 
 -- the owner of a channel that is not live
@@ -109,10 +109,10 @@ receive_one c place clock m old u lives one is =
 
 -- the next message is published and not received
 pub next_published : (s : ChannelState) (m : Message) → next_of s ≡ Some m → s.received < s.published
-next_published s m e = by_test (nat_lt s.received s.published) refl
+next_published s m e = by_test (has_next s) refl
   where
-    by_test : (b : Bool) → nat_lt s.received s.published ≡ b → s.received < s.published
-    by_test true h = ltb-true s.received s.published h
+    by_test : (b : Bool) → has_next s ≡ b → s.received < s.published
+    by_test true h = ltb-true s.received s.published (and_parts (nat_le s.gone s.received) (nat_lt s.received s.published) h).1
     by_test false h =
         let none : None ≡ Some m = sym (ap (λ b. cond b (slice_get s.messages (s.received - s.gone)) None) h) ∙ e in
         absurd (cc none)
@@ -189,7 +189,8 @@ removes c place clock old new lives touches displays shown channels focus repeat
             repeat_is = repeat;
           });
       displays_are = displays;
-      gone_are = λ k low. ap (λ t. (channel_of t k).gone) channels;
+      gone_are =
+          record { of_channels = λ k low. ap (λ t. (channel_of t k).gone) channels; of_namings = ap (λ t. t.namings.gone) channels };
     }
 
 -- a tick that names nobody
@@ -205,5 +206,5 @@ names_none place clock old none =
           (λ c. mask_has-zero c ∙ sym (none c) ∙ ap (λ n. is_due (due_moment old.channels c) n) (sym clk))))
           (record { but = stays_but (Tick now) (Named 0) queue later old old.channels goes refl; delivery_is = refl });
       displays_are = refl;
-      gone_are = λ k low. refl;
+      gone_are = none_gone old.channels;
     }

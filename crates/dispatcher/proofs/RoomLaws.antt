@@ -1,15 +1,16 @@
--- What is kept stands for the same history with other room, and once messages that were received are let go.
-use Rattle.std.proofs.Common.{◌≡◌, ◌≤◌, ◌-◌, ◌==◌, ℕ, Bool, true, false, cond, List, length, drop, reverse, slice_index_or, refl, sym, ap, ◌∙◌, subst}
+-- What is kept stands for the same history with other room, and once messages or namings are let go.
+use Rattle.std.proofs.Common.{◌≡◌, ◌≤◌, ◌-◌, ◌==◌, ℕ, Bool, true, false, cond, List, length, slice_index_or, refl, sym, ap, ◌∙◌, subst}
 use Rattle.std.proofs.lemmas.Bool.{eq-eqb, eqb-true}
 use Rattle.std.proofs.lemmas.List.{length-map}
 use Rattle.window_snapshot.specs.Mask.{mask_has}
-use Rattle.input_channel.specs.State.{ChannelState, let_go_of, opened_with}
+use Rattle.input_channel.specs.State.{ChannelState, opened_with}
 use Rattle.cancel_synthesis.specs.Tracked.{Tracked, pointers_in}
 use Rattle.dispatch_history.specs.History.{live}
-use Rattle.dispatch_history.specs.Effect.{Effect, past_of, stream}
+use Rattle.dispatch_history.specs.Effect.{Effect, past_of}
+use Rattle.dispatch_history.specs.Due.{namings}
 use Rattle.dispatch_tables.specs.Channel.{Keeps}
-use Rattle.dispatch_tables.specs.Delivery.{DeliveryIs}
-use Rattle.dispatch_tables.proofs.Keeping.{kept_less}
+use Rattle.dispatch_tables.specs.Delivery.{DeliveryIs, NotedIs, noted_gone}
+use Rattle.dispatch_tables.proofs.Noting.{namings_go_law as noted_go}
 use Rattle.dispatch_channels.specs.Table.{Table, opened, channel_of, input_of, untold, with_channel, but_for_room}
 use Rattle.key_tables.specs.Held.{KeysAre}
 use Rattle.dispatcher.specs.Queue.{QueueIs}
@@ -18,12 +19,12 @@ use Rattle.dispatcher.specs.Pointing.{TouchesAre}
 use Rattle.dispatcher.specs.Input.{InputIs}
 use Rattle.dispatcher.specs.Knows.{Kept, KeyingIs, KeptStandsFor}
 use Rattle.dispatcher.specs.Staying.{delivery_of}
-use Rattle.dispatcher.specs.ReadLaws.{SameBut, RoomLaw, LetGoLaw}
+use Rattle.dispatcher.specs.ReadLaws.{SameBut, RoomLaw, LetGoLaw, NamingsGoLaw}
 use Rattle.dispatcher.proofs.Slices.{channel_set, set_as_many, index-map}
 
 -- what is kept of a channel does not depend on its room
 pub keeps_room : (es : List Effect) (c n : ℕ) (s : ChannelState) → Keeps es c s → Keeps es c (record s { spare = n })
-keeps_room es c n s k = record { is = ap {A = ChannelState} (λ t. record t { spare = n }) k.is; few = k.few }
+keeps_room es c n s k = record { is = ap {A = ChannelState} (λ t. record t { spare = n }) k.is; may_go = k.may_go }
 
 -- a channel, but for its room
 abbrev pub bare_channel : ChannelState → ChannelState
@@ -61,7 +62,7 @@ delivery_bare es t u e is =
           keeps_bare es c (channel_of t c) (channel_of u c) (same_channel t u c e) (is.keeps c from (subst (λ n. c ≤ n) (same_count t u e) to));
       live_is = ap mask_has (ap (λ x. x.live) e) ∙ is.live_is;
       able_is = ap mask_has (ap (λ x. x.able) e) ∙ is.able_is;
-      noted_is = ap (λ x. x.namings) e ∙ is.noted_is;
+      noted_is = subst (NotedIs (namings es)) (sym (ap (λ x. x.namings) e)) is.noted_is;
     }
 
 input_bare : (ds : List ℕ) (es : List Effect) (w : ℕ) (i j : Tracked) → bare_input j ≡ bare_input i → InputIs ds es w i → InputIs ds es w j
@@ -99,10 +100,8 @@ room_law ds es k later t u s same e f g h room =
     (ap (λ x. bare_input (x w)) h ∙ same_input t u w room ∙ ap (λ x. bare_input (x w)) (sym f)) (s.knows.inputs w y))
 
 pub let_go_law : LetGoLaw
-let_go_law ds es k later t u c s same e g h from to becomes =
+let_go_law ds es k later t u c gone s same e g h from to keeps becomes =
     let is : DeliveryIs es (delivery_of t) = subst (DeliveryIs es) e s.knows.delivery in
-    let gone = let_go_of (channel_of t c) in
-    let keeps : Keeps es c gone = (kept_less ds es c (channel_of t c) s.lawful (is.keeps c from to)).0 in
     let v = with_channel c gone t in
     let set : (b : ℕ) → 1 ≤ b → channel_of v b ≡ cond (b == c) gone (channel_of t b) = λ b low. channel_set t b c gone low from to in
     let own : channel_of v c ≡ gone = set c from ∙ ap (λ b. cond b gone (channel_of t c)) (eq-eqb c c refl) in
@@ -112,13 +111,22 @@ let_go_law ds es k later t u c s same e g h from to becomes =
     record { count_is = set_as_many t c gone ∙ is.count_is; keeps = each; live_is = is.live_is; able_is = is.able_is; noted_is = is.noted_is } in (
       same_knows ds es k later s same (subst (DeliveryIs es) (sym (g ∙ ap delivery_of becomes)) delivery)
           (λ w y. subst (λ f. InputIs ds es w (f w)) (sym h) (s.knows.inputs w y)),
-      ap (λ x. (channel_of x c).messages) becomes
-          ∙ ap (λ x. x.messages) own
-          ∙ ap (λ x. x.messages) keeps.is
-          ∙ ap (λ n. drop n (reverse (stream es c))) (ap (λ x. x.received) (is.keeps c from to).is),
+      ap (λ x. (channel_of x c).messages) becomes ∙ ap (λ x. x.messages) own ∙ ap (λ x. x.messages) keeps.is,
     )
   where
     by_number : (es : List Effect) (t : Table) (c : ℕ) (gone : ChannelState) (b : ℕ) → DeliveryIs es (delivery_of t) → Keeps es c gone → 1 ≤ b → b ≤ opened t
         → (x : Bool) → (b == c) ≡ x → Keeps es b (cond x gone (channel_of t b))
     by_number es t c gone b is keeps low high true q = subst (λ v. Keeps es v gone) (sym (eqb-true b c q)) keeps
     by_number es t c gone b is keeps low high false q = is.keeps b low high
+
+pub namings_go_law : NamingsGoLaw
+namings_go_law ds es k later t u s same e g h becomes =
+    let is : DeliveryIs es (delivery_of t) = subst (DeliveryIs es) e s.knows.delivery in
+    let noted = noted_go (namings es) t.namings is.noted_is in
+    let v : Table = record t { namings = noted_gone t.namings } in
+    let delivery : DeliveryIs es (delivery_of v) =
+    record { count_is = is.count_is; keeps = is.keeps; live_is = is.live_is; able_is = is.able_is; noted_is = noted.0 } in (
+      same_knows ds es k later s same (subst (DeliveryIs es) (sym (g ∙ ap delivery_of becomes)) delivery)
+          (λ w y. subst (λ f. InputIs ds es w (f w)) (sym h) (s.knows.inputs w y)),
+      ap (λ x. x.namings.gone) becomes ∙ noted.1,
+    )

@@ -40,10 +40,10 @@ pub opened_bare : (t : Table) → opened (but_for_room t) ≡ opened t
 opened_bare t = length-map t.channels bare
 
 keeps_raw : (es : List Effect) (c : ℕ) (s : ChannelState) → Keeps es c (bare s) → Keeps es c s
-keeps_raw es c s h = record { is = ap (λ x. let y : ChannelState = record x { spare = s.spare } in y) h.is; few = h.few }
+keeps_raw es c s h = record { is = ap (λ x. let y : ChannelState = record x { spare = s.spare } in y) h.is; may_go = h.may_go }
 
 keeps_bare : (es : List Effect) (c : ℕ) (s : ChannelState) → Keeps es c s → Keeps es c (bare s)
-keeps_bare es c s h = record { is = ap bare h.is; few = h.few }
+keeps_bare es c s h = record { is = ap bare h.is; may_go = h.may_go }
 
 delivery_raw : (es : List Effect) (t : Table) → DeliveryIs es (delivery_of (but_for_room t)) → DeliveryIs es (delivery_of t)
 delivery_raw es t h =

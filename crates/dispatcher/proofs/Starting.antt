@@ -1,10 +1,11 @@
 -- What is kept before the first call stands for no call.
-use Rattle.std.proofs.Common.{[], sym, ap, ◌∙◌, subst, arith}
+use Rattle.std.proofs.Common.{[], refl, sym, ap, ◌∙◌, subst, arith}
 use Rattle.std.proofs.Math.Path.{fun_ext}
 use Rattle.std.proofs.lemmas.Bool.{true≢false}
 use Rattle.window_snapshot.specs.Mask.{mask_has}
 use Rattle.window_snapshot.proofs.Masks.{mask_has-zero}
 use Rattle.route_split.proofs.FollowingLaws.{start_law}
+use Rattle.dispatch_tables.specs.Delivery.{NotedIs}
 use Rattle.dispatch_tables.proofs.Lawfuls.{lawful_effects}
 use Rattle.key_tables.specs.Focused.{FocusIs}
 use Rattle.key_tables.proofs.Focusing.{focus_at_first}
@@ -26,7 +27,7 @@ knows_first ds k f =
                   keeps = λ c from to. absurd (omega (arith, from, to, f.count_is));
                   live_is = ap mask_has f.live_is ∙ fun_ext mask_has-zero;
                   able_is = ap mask_has f.able_is ∙ fun_ext mask_has-zero;
-                  noted_is = f.noted_is;
+                  noted_is = subst (NotedIs []) (sym f.noted_is) (record { few = omega arith; left_is = refl });
                 };
             inputs = λ w lives. absurd (true≢false (sym lives));
             keying = record { focus_is = subst (FocusIs []) (sym f.focus_is) focus_at_first; repeat_is = f.repeat_is };

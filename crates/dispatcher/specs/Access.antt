@@ -26,6 +26,10 @@ is_opened es c = nat_le 1 c && nat_le c (opened (past_of es))
 abbrev pub gone : Dispatching → ℕ → ℕ
 gone d c = (channel_of d.channels c).gone
 
+-- how many of the first namings were let go
+abbrev pub namings_gone : Dispatching → ℕ
+namings_gone d = d.channels.namings.gone
+
 -- the messages of a channel that was opened, but for those that were let go
 abbrev pub messages_of : List Effect → Dispatching → ℕ → Option (List Message)
 messages_of es d c = if is_opened es c then Some (drop (gone d c) (reverse (stream es c))) else None

@@ -1,5 +1,5 @@
 -- What carrying out a step makes of the tables.
-use Rattle.std.specs.Prelude.{◌≡◌, ◌≤◌, ℕ, false, List, [], Option, None}
+use Rattle.std.specs.Prelude.{◌≡◌, ℕ, false, List, [], Option, None}
 use Rattle.std.specs.Option.{option_copied}
 use Rattle.input_types.specs.declared.axis.Pixel.{Pixel}
 use Rattle.input_types.specs.declared.key.KeyMsg.{KeyMsg}
@@ -13,12 +13,13 @@ use Rattle.route_split.specs.declared.mark.Mark.{Mark}
 use Rattle.route_split.specs.Tables.{ChangesAll}
 use Rattle.route_split.specs.Marking.{gives, taking}
 use Rattle.key_tables.specs.Repeats.{repeat_after}
-use Rattle.dispatch_channels.specs.Table.{Table, channel_of, but_for_room}
+use Rattle.dispatch_channels.specs.Table.{Table, but_for_room}
 use Rattle.dispatch_round.specs.declared.round.Round.{Round}
 use Rattle.dispatch_round.specs.Rounds.{IsRound, AllHoldPointers, told_in, may_take}
 use Rattle.dispatch_round.specs.Told.{TellsAll}
 use Rattle.dispatcher.specs.declared.tables.Routing.{Routing}
 use Rattle.dispatcher.specs.Keying.{target_number}
+use Rattle.dispatcher.specs.Tables.{LetsNoneGo}
 
 -- the tables of touches change by a mark, at a place
 abbrev pub TakesMark : Mark → (place : ℕ) → (old new : List Touches) → Type 0
@@ -36,7 +37,7 @@ pub record TellsRound (round : Round) (touches : List Touches) (origins : List P
 pub record CarriesOut (round : Round) (place clock : ℕ) (old new : Routing) : Type 0 where
   pub touches : TakesMark round.mark place old.touches new.touches
   pub channels : TellsRound round old.touches old.shown.origins clock old.channels new.channels
-  pub gone_are : (c : ℕ) → 1 ≤ c → (channel_of new.channels c).gone ≡ (channel_of old.channels c).gone
+  pub gone_are : LetsNoneGo old.channels new.channels
   pub repeat_is : new.repeat ≡ repeat_after clock round.target round.keys.now old.repeat
   pub displays_are : new.displays ≡ old.displays
   pub shown_is : new.shown ≡ old.shown

@@ -2,6 +2,7 @@
 use Rattle.std.specs.Prelude.{◌≡◌, ℕ, [], replicate, None}
 use Rattle.device_down.specs.Down.{DevicesStandFor}
 use Rattle.window_snapshot.specs.Origins.{corner}
+use Rattle.dispatch_tables.specs.Delivery.{none_noted}
 use Rattle.route_split.specs.Tables.{table_of, IsFresh}
 use Rattle.dispatcher.specs.Shown.{origin_at}
 use Rattle.dispatcher.specs.Knows.{Kept}
@@ -19,6 +20,6 @@ pub record IsFirst (k : Kept) : Type 0 where
   pub count_is : k.delivery.count ≡ 0
   pub live_is : k.delivery.live ≡ 0
   pub able_is : k.delivery.able ≡ 0
-  pub noted_is : k.delivery.noted ≡ []
+  pub noted_is : k.delivery.noted ≡ none_noted
   pub focus_is : k.focus ≡ record { requested = replicate 4 None; last = 0; focusable = replicate 4 0 }
   pub repeat_is : k.repeat ≡ None

@@ -1,9 +1,9 @@
 -- What is read of what is kept: it is what the history says.
-use Rattle.std.specs.Prelude.{◌≡◌, ◌≤◌, ℕ, true, List, drop, reverse, option_map, Option}
+use Rattle.std.specs.Prelude.{◌≡◌, ◌≤◌, ℕ, true, List, drop, length, reverse, option_map, Option}
 use Rattle.input_types.specs.Displays.{device_display}
 use Rattle.window_snapshot.specs.Mask.{mask_has}
 use Rattle.anr_tracker.specs.Due.{IsFirst}
-use Rattle.input_channel.specs.State.{let_go_of, oldest_of}
+use Rattle.input_channel.specs.State.{ChannelState, oldest_of}
 use Rattle.key_repeat.specs.Due.{due_of}
 use Rattle.cancel_synthesis.specs.Tracked.{pointers_of}
 use Rattle.routing_rules.specs.Marks.{held, since, pilfering}
@@ -13,12 +13,14 @@ use Rattle.window_snapshot.specs.Named.{is_shown_on}
 use Rattle.touch_state.specs.Touches.{Touches, since as since_in}
 use Rattle.route_split.specs.Tables.{table_of, holds_at, any_at, pilfering_at}
 use Rattle.key_tables.specs.Held.{KeysAre}
-use Rattle.dispatch_history.specs.History.{clock, live, opened as opened_by, received, snapshot}
+use Rattle.dispatch_history.specs.History.{clock, live, opened as opened_by, snapshot}
 use Rattle.dispatch_history.specs.Effect.{Effect, past_of, stream, last}
 use Rattle.dispatch_history.specs.Delivery.{able, delivery, oldest}
 use Rattle.dispatch_history.specs.Due.{counts, first_due, namings}
 use Rattle.dispatch_history.specs.KeyTold.{repeat_due}
 use Rattle.dispatch_history.specs.Step.{marks}
+use Rattle.dispatch_tables.specs.Channel.{Keeps}
+use Rattle.dispatch_tables.specs.Delivery.{noted_gone}
 use Rattle.dispatch_tables.specs.Dues.{due_moment, due_pair}
 use Rattle.dispatch_channels.specs.Table.{Table, opened, channel_of, input_of, with_channel, but_for_room, due_moment as due_in_table}
 use Rattle.dispatch_channels.specs.Changes.{counts_in}
@@ -46,10 +48,10 @@ RoomLaw =
     → but_for_room u ≡ but_for_room t
     → KeptStandsFor displays es later
 
--- So do those of which messages are let go that were received; those that were not are left.
+-- So do those of which messages of a channel are let go that may be, and what is left of it is the rest of its stream.
 abbrev pub LetGoLaw : Type 0
 LetGoLaw =
-    (displays : List ℕ) (es : List Effect) (k later : Kept) (t u : Table) (c : ℕ)
+    (displays : List ℕ) (es : List Effect) (k later : Kept) (t u : Table) (c : ℕ) (s : ChannelState)
     → KeptStandsFor displays es k
     → SameBut k later
     → k.delivery ≡ delivery_of t
@@ -57,9 +59,21 @@ LetGoLaw =
     → later.inputs ≡ k.inputs
     → 1 ≤ c
     → c ≤ opened t
-    → u ≡ with_channel c (let_go_of (channel_of t c)) t
-    → KeptStandsFor displays es later
-    × ((channel_of u c).messages ≡ drop (received (past_of es) c) (reverse (stream es c)))
+    → Keeps es c s
+    → u ≡ with_channel c s t
+    → KeptStandsFor displays es later × ((channel_of u c).messages ≡ drop s.gone (reverse (stream es c)))
+
+-- So do those of which the namings are let go.
+abbrev pub NamingsGoLaw : Type 0
+NamingsGoLaw =
+    (displays : List ℕ) (es : List Effect) (k later : Kept) (t u : Table)
+    → KeptStandsFor displays es k
+    → SameBut k later
+    → k.delivery ≡ delivery_of t
+    → later.delivery ≡ delivery_of u
+    → later.inputs ≡ k.inputs
+    → u ≡ record t { namings = noted_gone t.namings }
+    → KeptStandsFor displays es later × (u.namings.gone ≡ length (namings es))
 
 -- what is read of the channels
 pub record ReadsChannels (es : List Effect) (k : Kept) (t : Table) : Type 0 where
@@ -73,7 +87,7 @@ pub record ReadsChannels (es : List Effect) (k : Kept) (t : Table) : Type 0 wher
   pub oldest_is :
       (c : ℕ) → 1 ≤ c → c ≤ opened t
       → oldest_of (channel_of t c) ≡ option_map (λ m. (m.seq, delivery es c m.seq)) (oldest es c)
-  pub namings_are : t.namings ≡ namings es
+  pub namings_are : t.namings.left ≡ drop t.namings.gone (namings es)
   pub dues_are : due_in_table t ≡ due_moment es
   pub first_is : (first : Option (ℕ × ℕ)) → IsFirst (due_in_table t) first → first_due es ≡ option_map due_pair first
 

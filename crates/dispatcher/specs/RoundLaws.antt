@@ -1,5 +1,5 @@
 -- What is proved of steps that tell windows: what a round tells is what the step tells.
-use Rattle.std.specs.Prelude.{◌≡◌, [], bit_and, false, ◌≤◌, ℕ, Bool, true, ◌&&◌, List, length, map, slice_get, Option, Some, None}
+use Rattle.std.specs.Prelude.{◌≡◌, [], bit_and, false, ◌≤◌, ℕ, Bool, true, ◌&&◌, List, map, slice_get, Option, Some, None}
 use Rattle.std.specs.Option.{option_copied}
 use Rattle.input_types.specs.declared.key.KeyArgs.{KeyArgs}
 use Rattle.input_types.specs.declared.axis.Pixel.{Pixel}
@@ -32,7 +32,7 @@ use Rattle.dispatch_history.specs.PointerOf.{RisesIn}
 use Rattle.dispatch_history.specs.Reply.{reply_to}
 use Rattle.dispatch_history.specs.Step.{scene}
 use Rattle.dispatch_channels.specs.Heard.{body_from}
-use Rattle.dispatch_channels.specs.Table.{Table, channel_of, opened, input_of, but_for_room}
+use Rattle.dispatch_channels.specs.Table.{Table, channel_of, input_of, but_for_room}
 use Rattle.dispatch_channels.specs.Changes.{Opens}
 use Rattle.dispatch_round.specs.declared.round.Round.{Round}
 use Rattle.dispatch_round.specs.Rounds.{IsStepIn, IsRound, AllHoldPointers, told_in}

@@ -1,19 +1,20 @@
 //! The dispatcher.
-ghost use Rattle.std.specs.Prelude.{◌≡◌, ◌≤◌, ◌==◌, ℕ, true, false, [], List, None, is_some, option_map};
+ghost use Rattle.std.specs.Prelude.{◌≡◌, ◌≤◌, ◌==◌, ℕ, true, false, [], List, None, drop, is_some, length, max, option_map};
 ghost use Rattle.std.specs.Prelude.{IfOk, IfSome, OnErr, OnOk, IsOk};
 ghost use Rattle.std.specs.Option.{option_copied};
 ghost use Rattle.dispatch_calls.specs.declared.call.Call.{Call as CallView};
 ghost use Rattle.dispatch_calls.specs.declared.reply.Reply.{Reply as Answer};
 ghost use Rattle.dispatch_history.specs.Due.{counts, first_due, namings};
-ghost use Rattle.dispatch_history.specs.Effect.{Effect, past_of};
+ghost use Rattle.dispatch_history.specs.Effect.{Effect, past_of, stream};
 ghost use Rattle.dispatch_history.specs.Effects.{step};
 ghost use Rattle.dispatch_history.specs.History.{clock, live, opened, received};
 ghost use Rattle.dispatch_history.specs.PointerOf.{RisesIn};
 ghost use Rattle.dispatch_history.specs.Reply.{reply_to};
+ghost use Rattle.dispatch_tables.specs.Channel.{MayGo};
 ghost use Rattle.dispatch_tables.specs.Dues.{due_moment, due_pair};
 ghost use Rattle.dispatcher.specs.ReadLaws.{ReadsTouches};
 ghost use Rattle.window_snapshot.specs.Mask.{is_channel};
-ghost use Rattle.dispatcher.specs.Access.{is_opened, gone, messages_of, got, oldest_delivery};
+ghost use Rattle.dispatcher.specs.Access.{is_opened, gone, namings_gone, messages_of, got, oldest_delivery};
 ghost use Rattle.dispatcher.specs.Access.{is_waiting, next_repeat, HoldsInput};
 ghost use Rattle.dispatcher.specs.Dispatching.{StandsFor};
 ghost use Rattle.dispatcher.specs.Memory.{IsCalm, MayCount};
@@ -59,6 +60,7 @@ impl Dispatcher {
         ensures start { IfOk result (λ d. StandsFor [] d) }
         ensures displays { IfOk result (λ d. d.displays ≡ displays.now) }
         ensures gone { IfOk result (λ d. (c : ℕ) → 1 ≤ c → gone d c ≡ 0) }
+        ensures namings { IfOk result (λ d. namings_gone d ≡ 0) }
     {
         let tables = Tables::new(alloc, displays)?;
         Ok(Dispatcher { tables })
@@ -73,6 +75,7 @@ impl Dispatcher {
             → IfOk result (λ answer. StandsFor (step self.old.displays call.now answer es) self.new) }
         ensures displays { self.new.displays ≡ self.old.displays }
         ensures gone { (c : ℕ) → 1 ≤ c → gone self.new c ≡ gone self.old c }
+        ensures namings { namings_gone self.new ≡ namings_gone self.old }
         ensures err { OnErr result (self.new ≡ self.old) }
         ensures calm { (es : List Effect) → StandsFor es self.old → MayCount es → IsCalm es call.now → IsOk result }
     {
@@ -86,6 +89,7 @@ impl Dispatcher {
             → OnOk result ((answer : Answer) × StandsFor (step self.old.displays call.now answer es) self.new) }
         ensures displays { self.new.displays ≡ self.old.displays }
         ensures gone { (c : ℕ) → 1 ≤ c → gone self.new c ≡ gone self.old c }
+        ensures namings { namings_gone self.new ≡ namings_gone self.old }
         ensures err { OnErr result (self.new ≡ self.old) }
         ensures calm { (es : List Effect) → StandsFor es self.old → MayCount es → IsCalm es call.now → IsOk result }
     {
@@ -98,12 +102,46 @@ impl Dispatcher {
         ensures stays { (es : List Effect) → StandsFor es self.old → StandsFor es self.new }
         ensures displays { self.new.displays ≡ self.old.displays }
         ensures gone { (es : List Effect) → StandsFor es self.old → is_opened es channel ≡ true
-            → gone self.new channel ≡ received (past_of es) channel }
+            → gone self.new channel ≡ max (gone self.old channel) (received (past_of es) channel) }
+        ensures live { (es : List Effect) → StandsFor es self.old → is_opened es channel ≡ true
+            → live (past_of es) channel ≡ true → gone self.new channel ≡ received (past_of es) channel }
         ensures others { (c : ℕ) → 1 ≤ c → (c == channel) ≡ false → gone self.new c ≡ gone self.old c }
+        ensures namings { namings_gone self.new ≡ namings_gone self.old }
     {
         if 0 < channel && channel <= self.tables.routing.channels.opened() {
             self.tables.routing.channels.let_go(channel);
         }
+    }
+
+    /// Drops all messages of a channel that was removed, and gives back their memory: nothing of it is kept any more
+    /// but its counts. Of a live channel nothing is dropped. What its owner did not receive is read by
+    /// [`messages`](Dispatcher::messages) before.
+    pub fn let_all_go(&mut self, channel: u32)
+        ensures stays { (es : List Effect) → StandsFor es self.old → StandsFor es self.new }
+        ensures displays { self.new.displays ≡ self.old.displays }
+        ensures gone { (es : List Effect) → StandsFor es self.old → is_opened es channel ≡ true
+            → live (past_of es) channel ≡ false → gone self.new channel ≡ length (stream es channel) }
+        ensures live { (es : List Effect) → StandsFor es self.old → live (past_of es) channel ≡ true
+            → gone self.new channel ≡ gone self.old channel }
+        ensures others { (c : ℕ) → 1 ≤ c → (c == channel) ≡ false → gone self.new c ≡ gone self.old c }
+        ensures namings { namings_gone self.new ≡ namings_gone self.old }
+    {
+        if mask_has(self.tables.routing.channels.live(), channel) {
+            return;
+        }
+        if 0 < channel && channel <= self.tables.routing.channels.opened() {
+            self.tables.routing.channels.let_all_go(channel);
+        }
+    }
+
+    /// Drops the namings so far, and gives back their memory.
+    pub fn let_namings_go(&mut self)
+        ensures stays { (es : List Effect) → StandsFor es self.old → StandsFor es self.new }
+        ensures displays { self.new.displays ≡ self.old.displays }
+        ensures gone { (es : List Effect) → StandsFor es self.old → namings_gone self.new ≡ length (namings es) }
+        ensures messages { (c : ℕ) → 1 ≤ c → gone self.new c ≡ gone self.old c }
+    {
+        self.tables.routing.channels.let_namings_go();
     }
 
     /// The greatest moment that was handed in.
@@ -129,10 +167,13 @@ impl Dispatcher {
     }
 
     /// The messages of a channel, but for those that were let go; None exactly where none was opened with this
-    /// number.
+    /// number. Of a live channel only messages that were received were let go.
+    #[tactic(auto, using(crate::proofs::LettingGo::most_gone))]
     pub fn messages(&self, channel: u32) -> Option<&[Message]>
-        ensures { (es : List Effect) → StandsFor es self.now
+        ensures value { (es : List Effect) → StandsFor es self.now
             → option_map (λ ms. ms.now) result ≡ messages_of es self.now channel }
+        ensures most { (es : List Effect) → StandsFor es self.now → is_opened es channel ≡ true
+            → MayGo es channel (gone self.now channel) }
     {
         if 0 < channel && channel <= self.tables.routing.channels.opened() {
             Some(self.tables.routing.channels.messages(channel))
@@ -201,9 +242,10 @@ impl Dispatcher {
         }
     }
 
-    /// All namings so far, the first one first.
+    /// The namings so far but for those that were let go, the first one first.
     pub fn namings(&self) -> &[Naming]
-        ensures { (es : List Effect) → StandsFor es self.now → result.now ≡ namings es }
+        ensures { (es : List Effect) → StandsFor es self.now
+            → result.now ≡ drop (namings_gone self.now) (namings es) }
     {
         self.tables.routing.channels.namings()
     }

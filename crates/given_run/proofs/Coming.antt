@@ -78,6 +78,7 @@ has_whole plan cs es s h =
     record {
       stands = h.stands;
       displays_are = h.displays_are;
+      noted = h.noted;
       heard = h.heard;
       as_many = h.as_many;
       next_is = h.next_is;

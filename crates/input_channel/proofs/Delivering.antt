@@ -77,7 +77,6 @@ published_channel s clock count h after is =
     length-append s.unfinished (delivered clock s.published count)
     ∙ ap (λ n. length s.unfinished + n) (length-delivered clock s.published count)
     in record {
-      gone_received = h.gone_received;
       received_published = omega (arith, h.received_published);
       published_sent = omega (arith, is, h.published_sent);
       counted = omega (arith, h.counted, longer);

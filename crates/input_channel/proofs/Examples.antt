@@ -2,7 +2,7 @@
 use Rattle.std.specs.Prelude.{◌≡◌, true, false, [], None, Some, replicate, length}
 use Rattle.std.proofs.Common.{refl}
 use Rattle.input_types.specs.declared.message.Body.TheVariants.{Focus}
-use Rattle.input_channel.specs.State.{ChannelState, opened_with, sent, enqueued, published_at, next_of, received_next, may_finish, finished_with, let_go_of, oldest_of, has_late}
+use Rattle.input_channel.specs.State.{ChannelState, opened_with, sent, enqueued, published_at, next_of, received_next, may_finish, finished_with, let_go_of, all_let_go, oldest_of, has_late}
 
 -- Two messages with the clock at 0 and at 1000000, both received
 abbrev pub told : ChannelState
@@ -61,6 +61,26 @@ nothing_is_kept = refl
 
 pub delivery_is_kept : oldest_of (let_go_of told) ≡ Some (1, 0)
 delivery_is_kept = refl
+
+-- of the second message, which was not received, nothing is kept once all are let go, and it is handed out no more
+abbrev pub untaken : ChannelState
+untaken = enqueued (Focus false) 9 (received_next (published_at 0 (enqueued (Focus true) 0 (opened_with 5000000))))
+
+pub all_gone : (all_let_go untaken).messages ≡ []
+all_gone = refl
+
+pub all_have_numbers : sent (all_let_go untaken) ≡ 2
+all_have_numbers = refl
+
+pub none_is_next : next_of (published_at 9 (all_let_go untaken)) ≡ None
+none_is_next = refl
+
+pub it_was_next : next_of (published_at 9 (let_go_of untaken)) ≡ Some (record { seq = 2; moment = 9; body = Focus false })
+it_was_next = refl
+
+-- what was let go already stays so
+pub gone_stays : (let_go_of (all_let_go untaken)).gone ≡ 2
+gone_stays = refl
 
 -- of 65 messages 64 are published, and the last one once one of them is finished
 abbrev pub many : ChannelState

@@ -119,7 +119,6 @@ in_order-without seq (u ∷ us) h =
 pub finished_channel : (s : ChannelState) (seq : ℕ) (us : List Unfinished) → IsChannel s → us ≡ without seq s.unfinished
     → length us + 1 ≡ length s.unfinished → IsChannel (record s { finished = s.finished + 1; unfinished = us })
 finished_channel s seq us h is shorter = record {
-  gone_received = h.gone_received;
   received_published = h.received_published;
   published_sent = h.published_sent;
   counted = omega (arith, h.counted, shorter);

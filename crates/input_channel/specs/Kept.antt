@@ -26,6 +26,10 @@ kept_with body moment k =
 abbrev pub kept_after : ℕ → KeptState → KeptState
 kept_after count k = record { gone = k.gone + count; messages = drop count k.messages; spare = k.spare }
 
+-- all are let go, and the room for more too
+abbrev pub kept_none : KeptState → KeptState
+kept_none k = record { gone = sent_in k; messages = []; spare = 0 }
+
 -- room for at least so many messages
 abbrev pub kept_with_spare : ℕ → KeptState → KeptState
 kept_with_spare n k = record { gone = k.gone; messages = k.messages; spare = max n k.spare }

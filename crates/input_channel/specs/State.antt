@@ -67,9 +67,13 @@ published_at clock s =
       unfinished = s.unfinished ++ delivered clock s.published (publishable s - s.published);
     }
 
+-- there is a message for the owner: one is published and not received, and was not let go
+abbrev pub has_next : ChannelState → Bool
+has_next s = nat_le s.gone s.received && nat_lt s.received s.published
+
 -- the next message for the owner: the first one that is published and not received
 abbrev pub next_of : ChannelState → Option Message
-next_of s = if nat_lt s.received s.published then slice_get s.messages (s.received - s.gone) else None
+next_of s = if has_next s then slice_get s.messages (s.received - s.gone) else None
 
 -- one message more is received
 abbrev pub received_one : ChannelState → ChannelState
@@ -77,7 +81,7 @@ received_one s = record s { received = s.received + 1 }
 
 -- the next message is received, where there is one
 abbrev pub received_next : ChannelState → ChannelState
-received_next s = if nat_lt s.received s.published then received_one s else s
+received_next s = if has_next s then received_one s else s
 
 -- a message that the owner may finish: it is received and not finished
 abbrev pub may_finish : ℕ → ChannelState → Bool
@@ -89,7 +93,11 @@ finished_with seq s = record s { finished = s.finished + 1; unfinished = without
 
 -- the messages that were received are let go
 abbrev pub let_go_of : ChannelState → ChannelState
-let_go_of s = record s { gone = s.received; messages = drop (s.received - s.gone) s.messages }
+let_go_of s = record s { gone = max s.gone s.received; messages = drop (s.received - s.gone) s.messages }
+
+-- all messages are let go, and the room for more too
+abbrev pub all_let_go : ChannelState → ChannelState
+all_let_go s = record s { gone = sent s; messages = []; spare = 0 }
 
 -- the number and the delivery of the oldest message that is published and not finished
 abbrev pub oldest_of : ChannelState → Option (ℕ × ℕ)
@@ -101,8 +109,7 @@ has_late clock s = list_any (λ u. nat_le (u.delivery + s.limit) clock) s.unfini
 
 -- what holds of each channel
 pub record IsChannel (s : ChannelState) : Type 0 where
-  -- what was let go was received, what was received was published, and what was published was sent
-  pub gone_received : s.gone ≤ s.received
+  -- what was received was published, and what was published was sent
   pub received_published : s.received ≤ s.published
   pub published_sent : s.published ≤ sent s
   -- each published message is finished or not, and at most 64 are not

@@ -4,7 +4,7 @@ ghost use Rattle.std.specs.Option.{option_copied};
 ghost use Rattle.input_channel.specs.Order.{NoneAfter};
 ghost use Rattle.input_channel.specs.State.{IsChannel, opened_with, sent, enqueued, with_spare, published_at};
 ghost use Rattle.input_channel.specs.State.{next_of, received_one, received_next, may_finish, finished_with};
-ghost use Rattle.input_channel.specs.State.{let_go_of, oldest_of, has_late};
+ghost use Rattle.input_channel.specs.State.{let_go_of, all_let_go, oldest_of, has_late};
 
 use crate::kept::Kept;
 use crate::unfinished::{MOST, Unfinished, deliver, place_of};
@@ -142,13 +142,15 @@ impl Channel {
     }
 
     /// The next message for the owner, which stays the next one; None exactly where all published messages are
-    /// received.
+    /// received, and where one that was not received was let go.
     pub fn next(&self) -> Option<&Message>
         ensures value { option_copied result ≡ next_of self.now }
-        ensures none { IsNone result ↔ (self.now.received ≡ self.now.published) }
+        ensures none { self.now.gone ≤ self.now.received
+            → (IsNone result ↔ (self.now.received ≡ self.now.published)) }
+        ensures gone { self.now.received < self.now.gone → IsNone result }
         ensures order { IsChannel self.now }
     {
-        if self.received < self.published {
+        if self.kept.gone() <= self.received && self.received < self.published {
             let place = (self.received - self.kept.gone()) as usize;
             Some(&self.kept.messages()[place])
         } else {
@@ -164,10 +166,12 @@ impl Channel {
         self.received += 1;
     }
 
-    /// Hands the next message to the owner; None exactly where all published messages are received. Takes no memory.
+    /// Hands the next message to the owner; None exactly where all published messages are received, and where one that
+    /// was not received was let go. Takes no memory.
     pub fn receive(&mut self) -> Option<Message>
         ensures value { result ≡ next_of self.old }
-        ensures none { IsNone result ↔ (self.old.received ≡ self.old.published) }
+        ensures none { self.old.gone ≤ self.old.received
+            → (IsNone result ↔ (self.old.received ≡ self.old.published)) }
         ensures state { self.new ≡ received_next self.old }
     {
         let message = *self.next()?;
@@ -218,7 +222,15 @@ impl Channel {
     pub fn let_go(&mut self)
         ensures { self.new ≡ let_go_of self.old }
     {
-        let count = self.received - self.kept.gone();
+        let count = self.received.saturating_sub(self.kept.gone());
         self.kept.let_go(count as usize);
+    }
+
+    /// Drops all messages, those too that were not received, and gives back their memory. Their numbers stay in use,
+    /// and the owner is handed none of them any more.
+    pub fn let_all_go(&mut self)
+        ensures { self.new ≡ all_let_go self.old }
+    {
+        self.kept.let_all_go();
     }
 }

@@ -1,6 +1,6 @@
 //! The messages of a channel that were not let go.
 ghost use Rattle.std.specs.Prelude.{◌≡◌, ◌+◌, ◌≤◌, [], IsOk, IfOk, OnErr, OnOk, drop, length, vec_len, vec_capacity};
-ghost use Rattle.input_channel.specs.Kept.{sent_in, kept_with, kept_after, kept_with_spare};
+ghost use Rattle.input_channel.specs.Kept.{sent_in, kept_with, kept_after, kept_none, kept_with_spare};
 
 use input_types::{Body, Message, Moment};
 use std::alloc::{AllocError, Global};
@@ -106,6 +106,16 @@ impl Kept {
             cut_front(&mut self.list, self.dropped);
             self.dropped = 0;
         }
+    }
+
+    /// Lets all messages go, and gives back the memory of their list.
+    pub(crate) fn let_all_go(&mut self)
+        ensures { self.new ≡ kept_none self.old }
+    {
+        self.gone += (self.list.len() - self.dropped) as u64;
+        self.list = Vec::new(*self.list.allocator());
+        self.dropped = 0;
+        self.spare = 0;
     }
 }
 

@@ -7,14 +7,10 @@ use Rattle.dispatch_history.specs.History.{live, opened, received, finished}
 use Rattle.dispatch_history.specs.Effect.{Effect, past_of, stream}
 use Rattle.dispatch_history.specs.Delivery.{published}
 use Rattle.dispatch_history.specs.Due.{counts}
-use Rattle.dispatch_history.specs.Plan.{Plan}
 use Rattle.dispatch_tables.specs.Lawful.{Lawful}
 use Rattle.dispatch_tables.proofs.Ables.{live_number}
 use Rattle.dispatcher.specs.Access.{is_opened}
-use Rattle.dispatcher.specs.Dispatching.{Dispatching, StandsFor}
-use Rattle.schedule.specs.declared.keeping.Lines.{Lines}
 use Rattle.schedule.specs.Receives.{receives_of}
-use Rattle.schedule.specs.State.{ScheduleState, HasWith}
 
 -- those of a channel that was opened
 abbrev pub count_of : List Effect → ℕ → Counts
@@ -64,15 +60,8 @@ receives_are es c n k e y count =
 pub opened_bounds : (es : List Effect) (c : ℕ) → is_opened es c ≡ true → (1 ≤ c) × (c ≤ opened (past_of es))
 opened_bounds es c e = let p = and_parts (nat_le 1 c) (nat_le c (opened (past_of es))) e in (leb-true 1 c p.0, leb-true c (opened (past_of es)) p.1)
 
--- a run that lets messages go
-pub has_dispatcher : (how : Lines) (plan : Plan) (es : List Effect) (s : ScheduleState) (d : Dispatching) → HasWith how plan es s → StandsFor es d → d.displays ≡ s.dispatcher.displays
-    → HasWith how plan es (record s { dispatcher = d })
-has_dispatcher how plan es s d h stands same =
-    record {
-      stands = stands;
-      displays_are = same ∙ h.displays_are;
-      heard = h.heard;
-      as_many = h.as_many;
-      next_is = h.next_is;
-      calls_are = h.calls_are;
-    }
+-- of a channel that is not live nothing is to be received
+pub counts_dead : (es : List Effect) (c : ℕ) (k : Counts) → k ≡ count_of es c → k.live ≡ false → receives_of es c ≡ []
+counts_dead es c k e n =
+    let dead : live (past_of es) c ≡ false = sym (ap (λ j. j.live) e) ∙ n in
+    ap (λ b. cond b (replicate (published es c - received (past_of es) c) (Receive c)) []) dead

@@ -1,5 +1,5 @@
 -- What each channel's owner received, with one step more.
-use Rattle.std.proofs.Common.{◌≡◌, ℕ, zero, suc, ◌≤◌, List, [], ◌∷◌, ◌++◌, length, reverse, take, Some, sym, ap, ◌∙◌, arith, None, subst, append_assoc, append-nil}
+use Rattle.std.proofs.Common.{◌≡◌, ℕ, zero, suc, ◌≤◌, max, List, [], ◌∷◌, ◌++◌, length, reverse, take, Some, sym, ap, ◌∙◌, arith, None, subst, append_assoc, append-nil}
 use Rattle.std.specs.Prelude.{slice_get}
 use Rattle.std.proofs.lemmas.List.{take-append-le, length-reverse}
 use Rattle.std.proofs.lemmas.Option.{slice_get_within}
@@ -20,7 +20,7 @@ use Rattle.dispatch_tables.proofs.Channels.{sound, stepped}
 use Rattle.dispatch_tables.proofs.Numbering.{messages_from, reverse_told}
 use Rattle.dispatcher.specs.Access.{got}
 use Rattle.schedule.specs.Hearing.{Hears}
-use Rattle.schedule.specs.Lines.{lines_received}
+use Rattle.schedule.specs.Lines.{lines_first, lines_received, lines_had}
 use Rattle.schedule.proofs.Behind.{got_next, others}
 
 pub lines_next : (ms : List Message) (m : Message) → message_lines (ms ++ m ∷ []) ≡ message_lines ms ++ message_line m
@@ -50,14 +50,20 @@ received_sent : (ds : List ℕ) (es : List Effect) (c : ℕ) → Lawful ds es �
 received_sent ds es c l = omega (arith, (sound ds es c l).received_published)
 
 -- the owner of a channel received nothing more
-pub heard_same : (ds : List ℕ) (call : Call) (answer : Reply) (es : List Effect) (c : ℕ) → Lawful ds (step ds call answer es) → (part_of call answer c ≡ Receives → ⊥)
-    → lines_received (step ds call answer es) c ≡ lines_received es c
-heard_same ds call answer es c l never =
+pub heard_same : (ds : List ℕ) (call : Call) (answer : Reply) (es : List Effect) (c gone : ℕ) → Lawful ds (step ds call answer es) → gone ≤ length (stream es c)
+    → (part_of call answer c ≡ Receives → ⊥)
+    → lines_had (step ds call answer es) gone c ≡ lines_had es gone c
+heard_same ds call answer es c gone l few never =
     let k = (lawful_last ds call answer es l).1 in
     let s = stepped ds call answer es c l (sound ds es c k) in
     ap message_lines
-    (ap (λ n. take n (reverse (stream (step ds call answer es) c))) (s.received_is ∙ others (part_of call answer c) (received (past_of es) c) never)
-    ∙ front_stays ds call answer es c (received (past_of es) c) l (received_sent ds es c k))
+    (ap (λ n. take (max gone n) (reverse (stream (step ds call answer es) c))) (s.received_is ∙ others (part_of call answer c) (received (past_of es) c) never)
+    ∙ front_stays ds call answer es c (max gone (received (past_of es) c)) l (omega (arith, few, received_sent ds es c k)))
+
+-- where no more was let go than was received
+pub had_received : (es : List Effect) (c gone : ℕ) → gone ≤ received (past_of es) c → lines_had es gone c ≡ lines_received es c
+had_received es c gone le =
+    let same : max gone (received (past_of es) c) ≡ received (past_of es) c = omega (arith, le) in ap (lines_first es c) same
 
 -- it received one message more
 pub heard_more : (ds : List ℕ) (es : List Effect) (c : ℕ) (m : Message) → Lawful ds (step ds (Receive c) (Got m) es) → part_of (Receive c) (Got m) c ≡ Receives

@@ -6,6 +6,7 @@ pub mod Finishes
 pub mod Opening
 pub mod Rounds
 pub mod Heard
+pub mod Letting
 pub mod Stepping
 pub mod Taking
 pub mod Choosing
@@ -16,5 +17,6 @@ pub mod Running
 pub mod Beginning
 pub mod Written
 pub mod Sections
+pub mod Removing
 pub mod Counting
 pub mod Formed

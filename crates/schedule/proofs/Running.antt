@@ -45,6 +45,7 @@ ready_latest how plan es s t r =
           record {
             stands = r.has.stands;
             displays_are = r.has.displays_are;
+            noted = r.has.noted;
             heard = r.has.heard;
             as_many = r.has.as_many;
             next_is = r.has.next_is;

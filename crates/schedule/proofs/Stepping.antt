@@ -20,10 +20,14 @@ use Rattle.stream_text.specs.Spelling.{message_line}
 use Rattle.schedule.specs.declared.keeping.Lines.{Lines}
 use Rattle.schedule.specs.Hearing.{Hears}
 use Rattle.schedule.specs.Kinds.{is_receiving}
-use Rattle.schedule.specs.Lines.{Heard, lines_at, lines_received}
+use Rattle.dispatch_history.specs.History.{received}
+use Rattle.dispatcher.specs.Access.{gone, namings_gone}
+use Rattle.dispatch_tables.proofs.Letting.{received_grows}
+use Rattle.schedule.specs.Lines.{Heard, lines_at, lines_received, lines_had}
 use Rattle.schedule.specs.State.{ScheduleState, HasWith, counted}
 use Rattle.schedule.proofs.Behind.{is_receive}
-use Rattle.schedule.proofs.Heard.{heard_same, heard_more}
+use Rattle.schedule.proofs.Heard.{heard_same, heard_more, had_received}
+use Rattle.schedule.proofs.Letting.{gone_few, got_few}
 
 -- the effects are lawful for the displays of the plan
 pub lawful_of : (how : Lines) (plan : Plan) (es : List Effect) (s : ScheduleState) → HasWith how plan es s → Lawful plan.displays es
@@ -45,12 +49,16 @@ no_receive call answer c e p =
     let r = is_receive call answer c p in
     true≢false (sym (ap is_receiving r.1) ∙ e)
 
-module _ (how : Lines) (plan : Plan) (es : List Effect) (s t : ScheduleState) (h : HasWith how plan es s) (same : t.dispatcher.displays ≡ s.dispatcher.displays) where
+module _ (how : Lines) (plan : Plan) (es : List Effect) (s t : ScheduleState) (h : HasWith how plan es s) (same : t.dispatcher.displays ≡ s.dispatcher.displays)
+    (kept : (c : ℕ) → 1 ≤ c → gone t.dispatcher c ≡ gone s.dispatcher c) (named : namings_gone t.dispatcher ≡ namings_gone s.dispatcher) where
   heard_all : (call : Call) (answer : Reply) → Lawful plan.displays (step plan.displays call answer es) → is_receiving call ≡ false
-      → t.lines ≡ s.lines → Heard (step plan.displays call answer es) t.lines
+      → t.lines ≡ s.lines → Heard (step plan.displays call answer es) t.dispatcher t.lines
   heard_all call answer l never lines =
-      subst (Heard (step plan.displays call answer es)) (sym lines)
-      (λ c low high. h.heard c low high ∙ sym (heard_same plan.displays call answer es c l (no_receive call answer c never)))
+      subst (Heard (step plan.displays call answer es) t.dispatcher) (sym lines)
+      (λ c low high.
+      h.heard c low high
+      ∙ sym (heard_same plan.displays call answer es c (gone s.dispatcher c) l (gone_few es s.dispatcher c h.stands low) (no_receive call answer c never))
+      ∙ ap (λ n. lines_had (step plan.displays call answer es) n c) (sym (kept c low)))
 
   pub has_step : (call : Call) (answer : Reply) → StandsFor (step s.dispatcher.displays call answer es) t.dispatcher → is_receiving call ≡ false
       → t.lines ≡ s.lines → t.next ≡ is_scripted call + scripted (past_of es) → t.calls ≡ counted (s.calls + 1)
@@ -62,6 +70,7 @@ module _ (how : Lines) (plan : Plan) (es : List Effect) (s t : ScheduleState) (h
       (record {
         stands = there;
         displays_are = same ∙ h.displays_are;
+        noted = named ∙ h.noted;
         heard = heard_all call answer l never lines;
         as_many = ap length lines ∙ h.as_many;
         next_is = next;
@@ -69,25 +78,40 @@ module _ (how : Lines) (plan : Plan) (es : List Effect) (s t : ScheduleState) (h
       })
 
   heard_by : (answer : Reply) (c : ℕ) → Lawful plan.displays (step plan.displays (Receive c) answer es) → Hears answer c s.lines t.lines
-      → (length t.lines ≡ length s.lines) × Heard (step plan.displays (Receive c) answer es) t.lines
+      → (length t.lines ≡ length s.lines) × Heard (step plan.displays (Receive c) answer es) t.dispatcher t.lines
   heard_by (Got m) c l hears = (hears.0, λ d low high. by_channel d low (subst (λ n. d ≤ n) hears.0 high) (cases_eq d c))
     where
-      by_channel : (d : ℕ) → 1 ≤ d → d ≤ length s.lines → (d ≡ c) ⊎ (d ≡ c → ⊥) → lines_at t.lines d ≡ lines_received (step plan.displays (Receive c) (Got m) es) d
+      by_channel : (d : ℕ) → 1 ≤ d → d ≤ length s.lines → (d ≡ c) ⊎ (d ≡ c → ⊥) → lines_at t.lines d ≡ lines_had (step plan.displays (Receive c) (Got m) es) (gone t.dispatcher d) d
       by_channel d low high (inl e) =
           hears.1 d low high
           ∙ ap (λ v. cond v (lines_at s.lines d ++ message_line m) (lines_at s.lines d)) (eq-eqb d c e)
-          ∙ ap (λ ls. ls ++ message_line m) (h.heard d low high)
+          ∙ ap (λ ls. ls ++ message_line m) (h.heard d low high ∙ had_received es d (gone s.dispatcher d) before)
           ∙ subst (λ k. lines_received es k ++ message_line m ≡ lines_received (step plan.displays (Receive c) (Got m) es) k) (sym e)
           (sym (heard_more plan.displays es c m l (rw (eq-eqb c c refl) refl)))
+          ∙ sym (had_received (step plan.displays (Receive c) (Got m) es) d (gone t.dispatcher d) after)
+        where
+          before : gone s.dispatcher d ≤ received (past_of es) d
+          before = got_few es s.dispatcher c d m e h.stands (lawful_last plan.displays (Receive c) (Got m) es l).0
+
+          after : gone t.dispatcher d ≤ received (past_of (step plan.displays (Receive c) (Got m) es)) d
+          after = omega (arith, before, kept d low, received_grows plan.displays (Receive c) (Got m) es d l)
       by_channel d low high (inr ne) =
           hears.1 d low high
           ∙ ap (λ v. cond v (lines_at s.lines d ++ message_line m) (lines_at s.lines d)) (ne_eqb d c ne)
           ∙ h.heard d low high
-          ∙ sym (heard_same plan.displays (Receive c) (Got m) es d l (not_here (ne_eqb d c ne)))
+          ∙ sym (heard_same plan.displays (Receive c) (Got m) es d (gone s.dispatcher d) l (gone_few es s.dispatcher d h.stands low) (not_here (ne_eqb d c ne)))
+          ∙ ap (λ n. lines_had (step plan.displays (Receive c) (Got m) es) n d) (sym (kept d low))
         where
           not_here : (d == c) ≡ false → part_of (Receive c) (Got m) d ≡ Receives → ⊥
           not_here f p = let u : Untouched ≡ Receives = rw f at p in cc
-  heard_by answer c l hears = (ap length hears, subst (Heard (step plan.displays (Receive c) answer es)) (sym hears) (λ d low high. h.heard d low high ∙ sym (heard_same plan.displays (Receive c) answer es d l (λ p. cc))))
+  heard_by answer c l hears = (
+    ap length hears,
+    subst (Heard (step plan.displays (Receive c) answer es) t.dispatcher) (sym hears)
+        (λ d low high.
+        h.heard d low high
+        ∙ sym (heard_same plan.displays (Receive c) answer es d (gone s.dispatcher d) l (gone_few es s.dispatcher d h.stands low) (λ p. cc))
+        ∙ ap (λ n. lines_had (step plan.displays (Receive c) answer es) n d) (sym (kept d low))),
+  )
 
   pub has_received : (answer : Reply) (c : ℕ) → StandsFor (step s.dispatcher.displays (Receive c) answer es) t.dispatcher
       → Hears (reply_to es (Receive c)) c s.lines t.lines → t.next ≡ s.next → t.calls ≡ counted (s.calls + 1)
@@ -101,6 +125,7 @@ module _ (how : Lines) (plan : Plan) (es : List Effect) (s t : ScheduleState) (h
       (record {
         stands = there;
         displays_are = same ∙ h.displays_are;
+        noted = named ∙ h.noted;
         heard = lines.1;
         as_many = lines.0 ∙ h.as_many;
         next_is = next ∙ h.next_is ∙ omega arith;

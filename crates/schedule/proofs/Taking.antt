@@ -63,6 +63,7 @@ has_with how plan es s messages h =
     record {
       stands = h.stands;
       displays_are = h.displays_are;
+      noted = h.noted;
       heard = h.heard;
       as_many = h.as_many;
       next_is = h.next_is;

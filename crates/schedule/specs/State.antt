@@ -5,6 +5,7 @@ use Rattle.dispatch_history.specs.Effect.{Effect, past_of}
 use Rattle.dispatch_history.specs.Delivery.{published, delivery}
 use Rattle.dispatch_history.specs.Plan.{Plan, Cooked}
 use Rattle.dispatch_history.specs.Ordered.{Rounds, Ordered, received_at, scripted, notified}
+use Rattle.dispatcher.specs.Access.{namings_gone}
 use Rattle.dispatcher.specs.Dispatching.{Dispatching, StandsFor}
 use Rattle.schedule.specs.declared.keeping.Lines.{Lines}
 use Rattle.schedule.specs.declared.keeping.Lines.TheVariants.{Kept}
@@ -29,11 +30,13 @@ counted n = min n (2 ^ 64 - 1)
 abbrev pub is_over : ScheduleState → Bool
 is_over s = nat_lt 4000000 s.calls || nat_lt 4000000 s.messages
 
--- it stands for these effects, and of what each channel's owner received it has the lines, or none where messages are only counted
+-- it stands for these effects, no naming was let go, and of what each channel's owner received and of what was let go it has the lines, or none
+-- where messages are only counted
 pub record HasWith (how : Lines) (plan : Plan) (es : List Effect) (s : ScheduleState) : Type 0 where
   pub stands : StandsFor es s.dispatcher
   pub displays_are : s.dispatcher.displays ≡ plan.displays
-  pub heard : Heard es s.lines
+  pub noted : namings_gone s.dispatcher ≡ 0
+  pub heard : Heard es s.dispatcher s.lines
   pub as_many : length s.lines ≡ texts how (length plan.channels)
   pub next_is : s.next ≡ scripted (past_of es)
   pub calls_are : s.calls ≡ counted (length es)

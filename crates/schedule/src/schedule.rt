@@ -1,22 +1,23 @@
 //! The run itself.
-ghost use Rattle.std.specs.Prelude.{◌≡◌, ◌≤◌, ◌<◌, ◌+◌, ◌-◌, ◌^◌, ℕ, true, false, List, [], ◌∷◌, IfOk, OnOk, replicate, length, reverse};
+ghost use Rattle.std.specs.Prelude.{◌≡◌, ◌≤◌, ◌<◌, ◌+◌, ◌-◌, ◌^◌, ℕ, true, false, List, [], ◌∷◌, IfOk, OnOk, drop, replicate, length, reverse};
+ghost use Rattle.stream_text.specs.Spelling.{message_lines};
 ghost use Rattle.dispatch_calls.specs.declared.call.Call.{Call as CallView};
 ghost use Rattle.dispatch_history.specs.Effect.{Effect, past_of, stream};
 ghost use Rattle.dispatch_history.specs.Legal.{answered};
 ghost use Rattle.dispatch_history.specs.Ordered.{extend, is_scripted, scripted, received_all};
 ghost use Rattle.dispatch_history.specs.Plan.{Plan as PlanView};
 ghost use Rattle.dispatch_history.specs.Reply.{reply_to};
-ghost use Rattle.dispatcher.specs.Access.{is_opened};
+ghost use Rattle.dispatcher.specs.Access.{gone, is_opened};
 ghost use Rattle.dispatcher.specs.Dispatching.{StandsFor};
 ghost use Rattle.schedule.specs.declared.keeping.Lines.{Lines};
-ghost use Rattle.schedule.specs.Hearing.{Hears};
+ghost use Rattle.schedule.specs.Hearing.{Hears, WithMore};
 ghost use Rattle.schedule.specs.Kinds.{is_receiving};
 ghost use Rattle.schedule.specs.Receives.{receives_of};
 ghost use Rattle.schedule.specs.Run.{messages_in};
 ghost use Rattle.schedule.specs.More.{ComesTo};
 ghost use Rattle.schedule.specs.State.{HasWith, counted};
 
-use crate::stream::{Stream, hear};
+use crate::stream::{Stream, hear, hear_all};
 use dispatch_calls::Call;
 use dispatcher::Dispatcher;
 use input_types::Moment;
@@ -59,8 +60,27 @@ impl Schedule {
         self.next
     }
 
-    /// One call that is no receive, after which so many steps were made.
+    /// One call that is no receive, after which so many steps were made. Of a channel that it removes nothing is kept
+    /// but lines.
     pub fn step(&mut self, call: &Call, next: usize) -> Result<(), AllocError>
+        ensures after { (how : Lines) (plan : PlanView) (es : List Effect) → HasWith how plan es self.old
+            → is_receiving call.now ≡ false
+            → next ≡ is_scripted call.now + scripted (past_of es)
+            → OnOk result (HasWith how plan (answered plan.displays call.now es) self.new) }
+        ensures calls { OnOk result (self.new.calls ≡ counted (self.old.calls + 1)) }
+        ensures messages { self.new.messages ≡ self.old.messages }
+        ensures more { (es : List Effect) → ComesTo es self.old.dispatcher → ComesTo es self.new.dispatcher }
+        ensures latest { self.new.latest ≡ self.old.latest }
+    {
+        self.apply(call, next)?;
+        match call {
+            Call::Remove { channel, .. } => self.hear_removed(*channel),
+            _ => Ok(()),
+        }
+    }
+
+    /// The call alone.
+    fn apply(&mut self, call: &Call, next: usize) -> Result<(), AllocError>
         ensures after { (how : Lines) (plan : PlanView) (es : List Effect) → HasWith how plan es self.old
             → is_receiving call.now ≡ false
             → next ≡ is_scripted call.now + scripted (past_of es)
@@ -78,6 +98,28 @@ impl Schedule {
             }
             Err(error) => Err(error),
         }
+    }
+
+    /// The lines of what the owner of a removed channel did not receive come behind those of what it did, and the
+    /// channel lets all go. Of a live channel nothing changes.
+    fn hear_removed(&mut self, channel: u32) -> Result<(), AllocError>
+        ensures after { (how : Lines) (plan : PlanView) (es : List Effect) → HasWith how plan es self.old
+            → OnOk result (HasWith how plan es self.new) }
+        ensures calls { self.new.calls ≡ self.old.calls }
+        ensures messages { self.new.messages ≡ self.old.messages }
+        ensures more { (es : List Effect) → ComesTo es self.old.dispatcher → ComesTo es self.new.dispatcher }
+        ensures latest { self.new.latest ≡ self.old.latest }
+    {
+        let Some(counts) = self.dispatcher.counts(channel) else {
+            return Ok(());
+        };
+        if counts.live {
+            return Ok(());
+        }
+        self.dispatcher.let_go(channel);
+        hear_left(&mut self.streams, &self.dispatcher, channel)?;
+        self.dispatcher.let_all_go(channel);
+        Ok(())
     }
 
     /// The owner of a channel takes its next message, where there is one.
@@ -198,6 +240,22 @@ fn hear_next(
 {
     match dispatcher.next(channel) {
         Some(message) => hear(streams, channel, message),
+        None => Ok(()),
+    }
+}
+
+/// Puts the messages of a channel that were not let go to its lines.
+fn hear_left(
+    streams: &mut Vec<Stream>,
+    dispatcher: &Dispatcher,
+    channel: u32,
+) -> Result<(), AllocError>
+    ensures { (es : List Effect) → StandsFor es dispatcher.now → is_opened es channel ≡ true
+        → OnOk result (WithMore (message_lines (drop (gone dispatcher.now channel) (reverse (stream es channel))))
+        channel streams.old.items streams.new.items) }
+{
+    match dispatcher.messages(channel) {
+        Some(messages) => hear_all(streams, channel, messages),
         None => Ok(()),
     }
 }

@@ -1,8 +1,8 @@
-//! What the owner of a channel received.
+//! The lines of what a channel was told.
 ghost use Rattle.std.specs.Prelude.{◌≡◌, [], ◌++◌, ℕ, ◌≤◌, List, OnOk, OnErr, IfOk, vec_len, if◌then◌else◌, ◌==◌};
 ghost use Rattle.dispatch_calls.specs.declared.reply.Reply.TheVariants.{Got};
-ghost use Rattle.stream_text.specs.Spelling.{message_line};
-ghost use Rattle.schedule.specs.Hearing.{Hears};
+ghost use Rattle.stream_text.specs.Spelling.{message_line, message_lines};
+ghost use Rattle.schedule.specs.Hearing.{Hears, WithMore};
 ghost use Rattle.schedule.specs.Lines.{lines_at};
 
 use input_types::Message;
@@ -11,7 +11,8 @@ use std::marker::Model;
 use std::mem;
 use stream_text::LineWriter;
 
-/// The messages that the owner of a channel received. Their lines alone are kept, which are far shorter than they are.
+/// The messages that the owner of a channel received, and those that were left as it was removed. Their lines alone are
+/// kept, which are far shorter than they are.
 #[derive(Drop)]
 pub(crate) struct Stream {
     lines: Vec<u8>,
@@ -52,6 +53,16 @@ impl Stream {
     {
         self.writer.message(message, &mut self.lines)
     }
+
+    /// Some messages more.
+    fn hear_all(&mut self, messages: &[Message]) -> Result<(), AllocError>
+        ensures { OnOk result (self.new ≡ self.old ++ message_lines messages.now) }
+    {
+        for message in messages {
+            self.hear(message)?;
+        }
+        Ok(())
+    }
 }
 
 /// A stream without messages for each of `count` channels.
@@ -77,6 +88,21 @@ pub(crate) fn hear(
     let place = channel as usize;
     if 1 <= place && place <= streams.len() {
         streams[place - 1].hear(message)?;
+    }
+    Ok(())
+}
+
+/// A channel that was removed was told these messages more than its owner received.
+pub(crate) fn hear_all(
+    streams: &mut Vec<Stream>,
+    channel: u32,
+    messages: &[Message],
+) -> Result<(), AllocError>
+    ensures { OnOk result (WithMore (message_lines messages.now) channel streams.old.items streams.new.items) }
+{
+    let place = channel as usize;
+    if 1 <= place && place <= streams.len() {
+        streams[place - 1].hear_all(messages)?;
     }
     Ok(())
 }

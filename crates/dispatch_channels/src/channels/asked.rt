@@ -72,10 +72,10 @@ impl Channels {
         &self.inputs[channel as usize - 1]
     }
 
-    /// The namings so far, the first one first.
+    /// The namings so far but for those that were let go, the first one first.
     pub fn namings(&self) -> &[Naming]
-        ensures { result.now ≡ self.now.namings }
+        ensures { result.now ≡ self.now.namings.left }
     {
-        &self.namings
+        self.namings.left()
     }
 }

@@ -15,4 +15,5 @@ loop-place-preserved c = (
       c.naming_if-naming.ensures
       c.note.ensures.items,
   omega (arith, c.loop-place.invariant.1, c.note.ensures.len, c.note.ensures.capacity, c.loop-place-test.true),
+  omega (arith, c.loop-place.invariant.2, c.note.ensures.len),
 )

@@ -8,3 +8,4 @@ abbrev pub invariant-loop-place : goal.invariant-loop-place
 invariant-loop-place l =
     (l.namings.items ≡ l.initial.namings.items ++ namings_in l.clock l.mask (channel_in l.channels) l.place)
     × (vec_len l.namings + (length l.channels - l.place) ≤ vec_capacity l.namings)
+    × (vec_len l.namings ≤ vec_len l.initial.namings + l.place)

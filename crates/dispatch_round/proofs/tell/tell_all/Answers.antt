@@ -31,3 +31,6 @@ returns-clause-told c s e h holds =
 pub returns-clause-gone : goal.returns-clause-gone
 returns-clause-gone c k low =
     published_gone _ c.args.clock c.tell_each.new.channels c.publish.new.self c.publish.ensures k low ∙ c.tell_each.ensures.gone_is k low
+
+pub returns-clause-namings : goal.returns-clause-namings
+returns-clause-namings c = c.publish.ensures.namings_are ∙ c.tell_each.ensures.namings_are

@@ -1,4 +1,4 @@
-use Rattle.std.proofs.Common.{List, refl, subst}
+use Rattle.std.proofs.Common.{List, refl, ap, subst}
 use Rattle.input_types.specs.declared.axis.Pixel.{Pixel}
 use Rattle.dispatcher.specs.Carrying.{TellsRound}
 use Rattle.dispatcher.proofs.carry.carry_out.Goals as goal
@@ -10,7 +10,7 @@ returns c =
       touches = c.tell_all.ensures.changes;
       channels = subst (λ (os : List Pixel). TellsRound c.args.round.now old.touches os c.args.clock old.channels c.tell_all.new.channels) c.origins.ensures
           (record { changed = c.args.told; tells = c.tell_all.ensures.told });
-      gone_are = c.tell_all.ensures.gone;
+      gone_are = record { of_channels = c.tell_all.ensures.gone; of_namings = ap (λ n. n.gone) c.tell_all.ensures.namings };
       repeat_is = c.remember.ensures;
       displays_are = refl;
       shown_is = refl;

@@ -1,4 +1,4 @@
-use Rattle.std.proofs.Common.{max, refl, ap, ◌∙◌}
+use Rattle.std.proofs.Common.{max, refl}
 use Rattle.dispatch_calls.specs.declared.call.Call.TheVariants.{Receive}
 use Rattle.dispatcher.proofs.Stepped.{as_at, routed_on}
 use Rattle.dispatcher.proofs.unread.pass_next.Goals as goal

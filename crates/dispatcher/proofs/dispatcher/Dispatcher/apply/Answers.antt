@@ -1,5 +1,5 @@
 use Rattle.std.proofs.Common.{sym, ap, ◌∙◌, subst}
-use Rattle.dispatcher.specs.Access.{gone}
+use Rattle.dispatcher.specs.Access.{gone, namings_gone}
 use Rattle.dispatcher.specs.Dispatching.{StandsFor}
 use Rattle.dispatcher.proofs.Gone.{answered_gone}
 use Rattle.dispatcher.proofs.Applying.{raw, somehow, history_after, stands_after}
@@ -27,9 +27,16 @@ returns-clause-calm c =
 pub returns-clause-gone : goal.returns-clause-gone
 returns-clause-gone c =
     λ k low.
-    answered_gone c.args.call.now c.apply.result c.self.inside.tables c.apply.new.tables
+    (answered_gone c.args.call.now c.apply.result c.self.inside.tables c.apply.new.tables
     (somehow c.args.call.now c.apply.result c.self.inside.tables c.apply.new.tables c.apply.ensures.ok)
-    c.apply.ensures.err
+    c.apply.ensures.err).of_channels
     k
     low
     ∙ ap (λ d. gone d k) c.self.view_is
+
+pub returns-clause-namings : goal.returns-clause-namings
+returns-clause-namings c =
+    (answered_gone c.args.call.now c.apply.result c.self.inside.tables c.apply.new.tables
+    (somehow c.args.call.now c.apply.result c.self.inside.tables c.apply.new.tables c.apply.ensures.ok)
+    c.apply.ensures.err).of_namings
+    ∙ ap namings_gone c.self.view_is

@@ -1,5 +1,5 @@
 use Rattle.std.proofs.Common.{sym, ap, ◌∙◌, subst}
-use Rattle.dispatcher.specs.Access.{gone}
+use Rattle.dispatcher.specs.Access.{gone, namings_gone}
 use Rattle.dispatcher.specs.Dispatching.{StandsFor}
 use Rattle.dispatcher.proofs.Gone.{answered_gone}
 use Rattle.dispatcher.proofs.Applying.{raw, history_after, stands_somehow}
@@ -24,5 +24,10 @@ returns-clause-calm c =
 pub returns-clause-gone : goal.returns-clause-gone
 returns-clause-gone c =
     λ k low.
-    answered_gone c.args.call.now c.apply_unread.result c.self.inside.tables c.apply_unread.new.tables c.apply_unread.ensures.ok c.apply_unread.ensures.err k low
+    (answered_gone c.args.call.now c.apply_unread.result c.self.inside.tables c.apply_unread.new.tables c.apply_unread.ensures.ok c.apply_unread.ensures.err).of_channels k low
     ∙ ap (λ d. gone d k) c.self.view_is
+
+pub returns-clause-namings : goal.returns-clause-namings
+returns-clause-namings c =
+    (answered_gone c.args.call.now c.apply_unread.result c.self.inside.tables c.apply_unread.new.tables c.apply_unread.ensures.ok c.apply_unread.ensures.err).of_namings
+    ∙ ap namings_gone c.self.view_is

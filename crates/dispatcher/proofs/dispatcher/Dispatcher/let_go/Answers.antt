@@ -1,8 +1,12 @@
-use Rattle.std.proofs.Common.{sym, ap, ◌∙◌, subst, arith}
-use Rattle.dispatcher.specs.Access.{gone}
+use Rattle.std.proofs.Common.{max, sym, ap, ◌∙◌, subst, arith}
+use Rattle.input_channel.specs.State.{let_go_of}
+use Rattle.dispatch_channels.specs.Table.{channel_of}
+use Rattle.dispatch_history.specs.Effect.{past_of}
+use Rattle.dispatch_history.specs.History.{received}
+use Rattle.dispatcher.specs.Access.{gone, namings_gone}
 use Rattle.dispatcher.specs.Dispatching.{StandsFor}
 use Rattle.dispatcher.proofs.Applying.{raw, bare}
-use Rattle.dispatcher.proofs.LettingGo.{let_go_stands, all_gone, others_gone}
+use Rattle.dispatcher.proofs.LettingGo.{let_go_stands, received_gone, live_gone, others_gone}
 use Rattle.dispatcher.proofs.dispatcher.Dispatcher.let_go.Goals as goal
 
 pub invariant_of-self : goal.invariant_of-self
@@ -28,13 +32,27 @@ returns-then-channel-opened-clause-stays c =
 pub returns-then-channel-opened-clause-gone : goal.returns-then-channel-opened-clause-gone
 returns-then-channel-opened-clause-gone c =
     λ es s _.
-    all_gone es c.self.inside.tables c.let_go.new.self c.args.channel (raw es c.self.inside.tables (subst (StandsFor es) (sym c.self.view_is) s))
+    received_gone es c.self.inside.tables c.let_go.new.self c.args.channel (raw es c.self.inside.tables (subst (StandsFor es) (sym c.self.view_is) s))
     (omega (arith, c.if-channel-gt0.true))
     (omega (arith, c.if-channel-opened.true, c.opened.ensures.value))
+    c.let_go.ensures
+    ∙ ap (λ d. max (gone d c.args.channel) (received (past_of es) c.args.channel)) c.self.view_is
+
+pub returns-then-channel-opened-clause-live : goal.returns-then-channel-opened-clause-live
+returns-then-channel-opened-clause-live c =
+    λ es s _ lives.
+    live_gone es c.self.inside.tables c.let_go.new.self c.args.channel (raw es c.self.inside.tables (subst (StandsFor es) (sym c.self.view_is) s))
+    (omega (arith, c.if-channel-gt0.true))
+    (omega (arith, c.if-channel-opened.true, c.opened.ensures.value))
+    lives
     c.let_go.ensures
 
 pub returns-then-channel-opened-clause-others : goal.returns-then-channel-opened-clause-others
 returns-then-channel-opened-clause-others c =
     λ k from other.
-    others_gone c.self.inside.tables.routing.channels c.let_go.new.self c.args.channel k c.let_go.ensures (omega (arith, c.if-channel-gt0.true)) from other
+    others_gone c.self.inside.tables.routing.channels c.let_go.new.self c.args.channel k
+    (let_go_of (channel_of c.self.inside.tables.routing.channels c.args.channel)) c.let_go.ensures (omega (arith, c.if-channel-gt0.true)) from other
     ∙ ap (λ d. gone d k) c.self.view_is
+
+pub returns-then-channel-opened-clause-namings : goal.returns-then-channel-opened-clause-namings
+returns-then-channel-opened-clause-namings c = ap (λ t. t.namings.gone) c.let_go.ensures ∙ ap namings_gone c.self.view_is

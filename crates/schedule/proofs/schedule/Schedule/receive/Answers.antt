@@ -2,7 +2,7 @@
 use Rattle.std.proofs.Common.{◌≡◌, ◌∙◌, sym, subst}
 use Rattle.dispatch_history.specs.Ordered.{extend}
 use Rattle.schedule.specs.State.{HasWith}
-use Rattle.schedule.proofs.Counting.{count_of, counts_are, counts_none, counts_opened, receives_are}
+use Rattle.schedule.proofs.Counting.{count_of, counts_are, counts_none, counts_opened, counts_dead, receives_are}
 use Rattle.schedule.proofs.Stepping.{lawful_of}
 use Rattle.schedule.proofs.schedule.Schedule.receive.Goals as goal
 
@@ -21,3 +21,13 @@ returns-in_default-clause-after c = λ how plan es h.
     let before = subst (HasWith how plan es) (sym c.self.view_is) h in
     let none = counts_none plan.displays es c.args.channel (lawful_of how plan es c.args.self.now h) (sym (c.counts.ensures es before.stands) ∙ c.in_default.is) in
     subst (λ calls. HasWith how plan (extend plan.displays es calls) c.args.self.now) (sym none) h
+
+pub returns-else-counts-clause-after : goal.returns-else-counts-clause-after
+returns-else-counts-clause-after c = λ how plan es h.
+    let before = subst (HasWith how plan es) (sym c.self.view_is) h in
+    let told = sym (c.counts.ensures es before.stands) ∙ c.in-Some.is in
+    let are : c.in-Some.counts ≡ count_of es c.args.channel =
+    counts_are es c.args.channel c.in-Some.counts (counts_opened es c.args.channel c.in-Some.counts told) told in
+    subst (λ calls. HasWith how plan (extend plan.displays es calls) c.args.self.now)
+    (sym (counts_dead es c.args.channel c.in-Some.counts are c.if-counts.false))
+    h

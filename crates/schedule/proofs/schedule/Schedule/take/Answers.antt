@@ -1,10 +1,11 @@
 -- A round before the args, their own round, or none where the run is over.
-use Rattle.std.proofs.Common.{◌≡◌, ◌∙◌, false, sym, subst}
+use Rattle.std.proofs.Common.{◌≡◌, ◌∙◌, false, sym, ap, subst}
 use Rattle.dispatch_history.specs.Plan.{Cooked}
 use Rattle.schedule.specs.Choosing.{Advances}
 use Rattle.schedule.specs.Planned.{plan_of}
-use Rattle.schedule.specs.State.{ReadyWith, is_over}
-use Rattle.schedule.proofs.Running.{coming_next, coming_done, coming_over}
+use Rattle.schedule.specs.More.{ComesTo}
+use Rattle.schedule.specs.State.{ScheduleState, ReadyWith, RanWith, is_over}
+use Rattle.schedule.proofs.Running.{coming, coming_next, coming_done, coming_over}
 use Rattle.schedule.proofs.Stepping.{on_ok}
 use Rattle.schedule.proofs.schedule.Schedule.take.Goals as goal
 
@@ -17,6 +18,27 @@ returns-then-not-branch-clause-ran c = λ how given r.
     let none = subst (Advances how plan c.args.moment h.es c.rounds.self c.advance.new.self) c.if-not-branch.true (c.in_ok-advance.ensures.after how h.es h.ready) in
     on_ok c.hand_in.result _ _ (c.hand_in.ensures.after how plan h.es (subst (ReadyWith how plan h.es) (sym none.1) h.ready))
     (λ ready. coming_done how plan given a c.rounds.self c.advance.new.self c.hand_in.new.self h over none ready (c.hand_in.ensures.latest ∙ c.advance.ensures.latest))
+
+pub rounds-init : goal.rounds-init
+rounds-init c =
+    record {
+      coming = λ how given r.
+          let plan = plan_of c.args.plan.now in
+          let a : Cooked = record { moment = c.args.moment; args = c.args.args.now } in
+          coming how plan given a _ _ (subst (RanWith how plan given) (sym c.self.view_is) r)
+          (ap
+          (λ n.
+          let s : ScheduleState = record {
+            dispatcher = c.self.inside.dispatcher;
+            lines = c.self.inside.streams.items;
+            next = c.self.inside.next;
+            calls = c.self.inside.calls;
+            messages = c.self.inside.messages;
+            latest = n;
+          } in s)
+          c.later-self-inside.ensures);
+      more = λ es k. subst (λ (s : ScheduleState). ComesTo es s.dispatcher) (sym c.self.view_is) k;
+    }
 
 pub rounds-preserved : goal.rounds-preserved
 rounds-preserved c =

@@ -4,13 +4,14 @@ use Rattle.schedule.specs.State.{HasWith, ScheduleState}
 use Rattle.schedule.proofs.Stepping.{has_step}
 use Rattle.schedule.specs.More.{ComesTo}
 use Rattle.schedule.proofs.More.{one_more}
-use Rattle.schedule.proofs.schedule.Schedule.step.Goals as goal
+use Rattle.schedule.proofs.schedule.Schedule.apply.Goals as goal
 
 pub returns-in-Ok-clause-after : goal.returns-in-Ok-clause-after
 returns-in-Ok-clause-after c = λ how plan es h never next.
     let before = subst (HasWith how plan es) (sym c.self.view_is) h in
     let there = (rw c.in-Ok.is at c.apply_unread.ensures.after) es before.stands in
-    has_step how plan es _ _ before c.apply_unread.ensures.displays c.args.call.now there.0 there.1 never refl next
+    has_step how plan es _ _ before c.apply_unread.ensures.displays c.apply_unread.ensures.gone c.apply_unread.ensures.namings c.args.call.now there.0 there.1 never
+    refl next
     c.saturating_add-self-inside.ensures
 
 pub returns-in-Ok-clause-more : goal.returns-in-Ok-clause-more

@@ -1,0 +1,24 @@
+use Rattle.std.proofs.Common.{sym, ap, ◌∙◌, subst}
+use Rattle.dispatch_channels.specs.Table.{channel_of, but_for_room}
+use Rattle.dispatcher.specs.Access.{gone}
+use Rattle.dispatcher.specs.Dispatching.{StandsFor}
+use Rattle.dispatcher.proofs.Applying.{raw, bare}
+use Rattle.dispatcher.proofs.LettingGo.{namings_go}
+use Rattle.dispatcher.proofs.dispatcher.Dispatcher.let_namings_go.Goals as goal
+
+pub invariant_of-self : goal.invariant_of-self
+invariant_of-self c =
+    let s = c.self.invariant in
+    (s.0, bare s.0 _ (namings_go s.0 c.self.inside.tables c.let_namings_go.new.self (raw s.0 c.self.inside.tables s.1) c.let_namings_go.ensures).0)
+
+pub returns-clause-stays : goal.returns-clause-stays
+returns-clause-stays c =
+    λ es s. bare es _ (namings_go es c.self.inside.tables c.let_namings_go.new.self (raw es c.self.inside.tables (subst (StandsFor es) (sym c.self.view_is) s)) c.let_namings_go.ensures).0
+
+pub returns-clause-gone : goal.returns-clause-gone
+returns-clause-gone c =
+    λ es s. (namings_go es c.self.inside.tables c.let_namings_go.new.self (raw es c.self.inside.tables (subst (StandsFor es) (sym c.self.view_is) s)) c.let_namings_go.ensures).1
+
+pub returns-clause-messages : goal.returns-clause-messages
+returns-clause-messages c =
+    λ k low. ap (λ t. (channel_of (but_for_room t) k).gone) c.let_namings_go.ensures ∙ ap (λ d. gone d k) c.self.view_is
