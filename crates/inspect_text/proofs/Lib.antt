@@ -6,3 +6,4 @@ pub mod Hinted
 pub mod Examples
 pub mod Growing
 pub mod Pointers
+pub mod Touched

@@ -2,7 +2,7 @@
 use Rattle.std.specs.Prelude.{◌≡◌, ℕ, suc, ◌+◌, ◌<◌, List, [], ◌∷◌, length, filter, None}
 use Rattle.raw_events.specs.declared.event.RawEvent.{RawEvent}
 use Rattle.raw_events.specs.Line.{Known}
-use Rattle.device_reader.specs.Cooked.{DevicePlan, Keys, KeysPlan, device_args}
+use Rattle.device_reader.specs.Cooked.{DevicePlan, Keys, KeysPlan, TouchPlan, Touches, device_args}
 use Rattle.device_reader.specs.CookedList.{cooked, of_device}
 use Rattle.recording_counts.specs.Lines.{AreRead, is_blank_line, is_event_line, is_other_line, is_unknown_line}
 use Rattle.inspect_text.specs.Hints.{hint_at}
@@ -28,3 +28,7 @@ ArgsLaw = (plans : List DevicePlan) (events : List RawEvent) → own_args 1 plan
 -- Where no hint stands for a device with keys, some args of it are cooked.
 abbrev pub KeysHintLaw : Type 0
 KeysHintLaw = (plan : KeysPlan) (events : List RawEvent) → hint_at (Keys plan) events ≡ None → 0 < length (device_args (Keys plan) events)
+
+-- Where no hint stands for a touch device, some args of it are cooked.
+abbrev pub TouchHintLaw : Type 0
+TouchHintLaw = (plan : TouchPlan) (events : List RawEvent) → hint_at (Touches plan) events ≡ None → 0 < length (device_args (Touches plan) events)

@@ -1,5 +1,5 @@
 //! What is proved of the numbers of the text. Each function has a law as its clause, and does nothing.
-ghost use Rattle.inspect_text.specs.Laws.{ArgsLaw, KeysHintLaw, LinesLaw};
+ghost use Rattle.inspect_text.specs.Laws.{ArgsLaw, KeysHintLaw, LinesLaw, TouchHintLaw};
 
 /// The lines of a recording are the blank ones, those of another form, those of devices that are not in the session,
 /// and those that give an event.
@@ -15,4 +15,9 @@ pub fn args_add_up()
 /// A device with keys at which nothing is hinted gives some args.
 pub fn keys_are_cooked()
     ensures { KeysHintLaw }
+{}
+
+/// A touch device at which nothing is hinted gives some args.
+pub fn touches_are_cooked()
+    ensures { TouchHintLaw }
 {}
