@@ -10,5 +10,8 @@ fn main() {
     };
     println!("cargo:rustc-link-search=native={}", folder.display());
     println!("cargo:rustc-link-lib=static=inputflinger");
-    println!("cargo:rerun-if-changed={}", folder.join("libinputflinger.a").display());
+    println!(
+        "cargo:rerun-if-changed={}",
+        folder.join("libinputflinger.a").display()
+    );
 }

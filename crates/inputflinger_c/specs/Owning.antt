@@ -14,5 +14,6 @@ abbrev pub judge_owns : Global → Ptr → Option the_row.Denot → Fml
 judge_owns alloc at None = ftrue
 judge_owns alloc at (Some told) = box_owns (ghosts.dealloc_token alloc) the_row at told
 
+-- how a proof tells what a cell owns apart
 abbrev pub told_coded : Coded (Option the_row.Denot)
 told_coded = coded_option the_row.coded

@@ -10,8 +10,8 @@ use gesture_verifier::{Fault, Reason};
 pub struct PlainFault {
     /// How many messages were accepted before. The number stands still at the greatest u64.
     pub place: u64,
-    /// The repeat number that the next down of the key of the message has to have, which may be 2^32; 0 where the key is
-    /// up and where the message is of no key.
+    /// The repeat number that the next down of the key of the message has to have, which may be 2^32; 0 where the key
+    /// is up and where the message is of no key.
     pub next_repeat: u64,
     /// The pointer ids that are down on the device of the motion, as bits; 0 where the message is no motion.
     pub held: u32,

@@ -80,7 +80,8 @@ fn step(verifier: &mut Verifier, message: &Message, fault: &mut PlainFault) -> u
     }
 }
 
-/// Tells which pointers are down on each device, and whether the window has the focus. `FREE` where the handle is free; `state` then stays as it was.
+/// Tells which pointers are down on each device, and whether the window has the focus. `FREE` where the handle is free;
+/// `state` then stays as it was.
 #[unsafe(no_mangle)]
 pub extern "C" fn inputflinger_proved_judge_state(
     alloc: Global,

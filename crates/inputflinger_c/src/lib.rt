@@ -11,10 +11,11 @@
 //! inputflinger_judge_free                                    0, and the handle is free
 //! ```
 //!
-//! Each export takes what C can hand in: numbers, structs of numbers, and a handle, which owns a block of the C library's
-//! allocator or nothing. Its clause says what it answers and what the handle has then, in words of `gesture_verifier`.
-//! Raw pointers are in `parts` and `judge_cell` alone. What C owes is what the types say: a pointer that is not null and
-//! is nobody else's during the call, and a handle that was made by these calls, or whose bytes are 0.
+//! Each export takes what C can hand in: numbers, structs of numbers, and a handle, which owns a block of the C
+//! library's allocator or nothing. Its clause says what it answers and what the handle has then, in words of
+//! `gesture_verifier`. Raw pointers are in `parts` and `judge_cell` alone. What C owes is what the types say: a pointer
+//! that is not null and is nobody else's during the call, and a handle that was made by these calls, or whose bytes are
+//! all 0.
 #![tactic(auto)]
 
 mod fault;

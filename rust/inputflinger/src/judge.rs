@@ -167,7 +167,8 @@ impl Judge {
         }
         let mut fault = sys::Fault::default();
         // SAFETY: all three are of the declared types, and nobody else's during the call.
-        match unsafe { sys::inputflinger_judge_step(&mut self.handle, &message.plain, &mut fault) } {
+        match unsafe { sys::inputflinger_judge_step(&mut self.handle, &message.plain, &mut fault) }
+        {
             sys::OK => Ok(()),
             sys::OUT_OF_RANGE => Err(StepError::OutOfRange),
             sys::BROKEN => Err(StepError::Broken(Fault::of(&fault))),

@@ -66,7 +66,11 @@ pub const BROKEN: i32 = 5;
 
 extern "C" {
     pub fn inputflinger_judge_new(judge: *mut Judge) -> i32;
-    pub fn inputflinger_judge_step(judge: *mut Judge, message: *const Message, fault: *mut Fault) -> i32;
+    pub fn inputflinger_judge_step(
+        judge: *mut Judge,
+        message: *const Message,
+        fault: *mut Fault,
+    ) -> i32;
     pub fn inputflinger_judge_state(judge: *mut Judge, state: *mut State) -> i32;
     pub fn inputflinger_judge_free(judge: *mut Judge) -> i32;
     #[cfg(test)]
