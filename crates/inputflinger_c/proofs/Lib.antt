@@ -1,0 +1,3 @@
+pub mod JudgeBox
+pub mod ReadPointers
+pub mod Devices

@@ -1,0 +1,60 @@
+//! The handle of a judge.
+ghost use Rattle.std.specs.Prelude.{◌≡◌, Option, Some, None, is_some};
+ghost use Rattle.std.specs.Option.{option_map};
+
+use crate::judge_cell::JudgeCell;
+use crate::parts::Parts;
+use gesture_verifier::Verifier;
+use std::alloc::Global;
+use std::mem;
+
+/// `struct inputflinger_judge`: a judge, or nothing while it is free. It is free where all its bytes are 0.
+#[repr(C)]
+#[derive(Drop)]
+pub struct Judge {
+    pub cell: JudgeCell,
+    pub(crate) is_open: bool,
+    pub ghost told: { is_open ≡ is_some cell.told },
+}
+
+impl Judge {
+    /// A free handle.
+    fn free(alloc: Global) -> Judge
+        ensures { result.cell.told ≡ None }
+    {
+        Judge {
+            cell: JudgeCell::empty(alloc),
+            is_open: false,
+        }
+    }
+
+    /// Whether it has a judge.
+    pub(crate) fn is_open(&self) -> bool
+        ensures { result ≡ is_some self.now.cell.told }
+    {
+        self.is_open
+    }
+
+    /// Takes the judge out of its handle, which is free then. None where it was free before.
+    pub(crate) fn take(&mut self, alloc: Global) -> Option<Box<Verifier>>
+        ensures taken { option_map (λ b. b.value) result ≡ self.old.cell.told }
+        ensures free { self.new.cell.told ≡ None }
+    {
+        if !self.is_open {
+            return None;
+        }
+        let Judge { cell, .. } = mem::replace(self, Judge::free(alloc));
+        Some(cell.into_parts().into_box())
+    }
+
+    /// Puts a judge into a handle that is free.
+    pub(crate) fn put(&mut self, judge: Box<Verifier>)
+        requires { self.old.cell.told ≡ None }
+        ensures { self.new.cell.told ≡ Some judge.value }
+    {
+        *self = Judge {
+            cell: JudgeCell::of_parts(Parts::of(judge)),
+            is_open: true,
+        };
+    }
+}

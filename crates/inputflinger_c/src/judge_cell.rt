@@ -1,0 +1,58 @@
+//! Where the judge of a handle lies.
+ghost use Rattle.std.specs.Prelude.{◌≡◌, Option, Some, None, IsSome};
+ghost use Rattle.gesture_verifier.specs.Told.{Told};
+ghost use Rattle.inputflinger_c.specs.Owning.{told_coded, judge_owns};
+
+use crate::parts::Parts;
+use gesture_verifier::Verifier;
+use std::alloc::Global;
+use std::marker::Model;
+use std::ptr;
+
+/// The judge that a handle owns, or nothing.
+#[repr(C)]
+#[derive(Drop)]
+pub struct JudgeCell {
+    at: *mut u8,
+    alloc: Global,
+    pub ghost told: { Option Told } by { told_coded },
+}
+
+impl Model for JudgeCell {
+    ghost also_owns = { λ c. judge_owns c.alloc c.at c.told };
+}
+
+impl JudgeCell {
+    /// A cell without a judge.
+    pub fn empty(alloc: Global) -> JudgeCell
+        ensures { result.told ≡ None }
+    {
+        JudgeCell {
+            at: ptr::null_mut(),
+            alloc,
+        }
+    }
+
+    /// The cell of a judge.
+    pub fn of_parts(parts: Parts<Verifier, Global>) -> JudgeCell
+        ensures { result.told ≡ Some parts.value }
+    {
+        let Parts { at, alloc } = parts;
+        JudgeCell {
+            at: at as *mut u8,
+            alloc,
+        }
+    }
+
+    /// The judge of a cell that has one.
+    pub fn into_parts(self) -> Parts<Verifier, Global>
+        requires { IsSome self.told }
+        ensures { self.told ≡ Some result.value }
+    {
+        let JudgeCell { at, alloc } = self;
+        Parts {
+            at: at as *mut Verifier,
+            alloc,
+        }
+    }
+}

@@ -1,0 +1,30 @@
+//! The service for programs in C, and for those in languages that call C.
+//!
+//! A window that is told a well-formed stream sees whole gestures. A test of a toolkit has the messages that a window
+//! got, one by one, and asks at which one the stream stops to be well-formed:
+//!
+//! ```text
+//! inputflinger_judge_new   of a handle whose bytes are 0     0, and the handle has a judge
+//! inputflinger_judge_step  1 1000 motion 1 DOWN 0:540,1200   0: it may come
+//! inputflinger_judge_step  2 2000 motion 1 DOWN 0:540,1200   5, and the fault says 1, held 0b1, reason 2 (AlreadyDown)
+//! inputflinger_judge_step  2 2000 motion 1 UP 0:540,1200     0: what was refused changed nothing
+//! inputflinger_judge_free                                    0, and the handle is free
+//! ```
+//!
+//! Each export takes what C can hand in: numbers, structs of numbers, and a handle, which owns a block of the C
+//! library's allocator or nothing. Its clause says what it answers and what the handle has then, in words of
+//! `gesture_verifier`. Raw pointers are in `parts` and `judge_cell` alone. What C owes is what the types say: a pointer
+//! that is not null and is nobody else's during the call, and a handle that was made by these calls, or whose bytes are
+//! all 0.
+#![tactic(auto)]
+
+mod fault;
+mod judge;
+mod judge_cell;
+mod judge_exports;
+mod judge_state;
+mod message;
+mod parts;
+mod pointers;
+mod sizes;
+mod status;

@@ -1,0 +1,198 @@
+//! The judge.
+
+use crate::message::Message;
+use crate::sys;
+use std::error::Error;
+use std::fmt;
+use std::ptr;
+
+/// Why a message may not come: the first reason that holds of those of its kind.
+#[derive(Clone, Copy, Debug, PartialEq, Eq)]
+pub enum Reason {
+    /// A motion is canceled that is no `PointerUp`.
+    Flags,
+    /// A `Down` where pointers are down, or a `PointerDown` of a pointer that is down.
+    AlreadyDown,
+    /// A `Down` or an `Outside` that does not list exactly one pointer.
+    OnePointer,
+    /// A motion that goes on or ends where no pointer is down.
+    NothingDown,
+    /// The listed pointers are not those that are down, but for the one that goes down.
+    OtherPointers,
+    /// A `PointerUp` where one pointer is down.
+    LastPointer,
+    /// An `Up` where several pointers are down.
+    MorePointers,
+    /// A repeat of a key that is not down.
+    RepeatOfNothing,
+    /// A key that is down goes down with another repeat number than the next.
+    RepeatOutOfTurn,
+    /// A key goes up that is not down.
+    KeyNotDown,
+    /// A key goes up with a repeat number other than 0.
+    RepeatOnUp,
+    /// A window gets the focus that it has, or loses one that it has not.
+    FocusTwice,
+}
+
+impl Reason {
+    fn of(number: u32) -> Option<Reason> {
+        const REASONS: [Reason; 12] = [
+            Reason::Flags,
+            Reason::AlreadyDown,
+            Reason::OnePointer,
+            Reason::NothingDown,
+            Reason::OtherPointers,
+            Reason::LastPointer,
+            Reason::MorePointers,
+            Reason::RepeatOfNothing,
+            Reason::RepeatOutOfTurn,
+            Reason::KeyNotDown,
+            Reason::RepeatOnUp,
+            Reason::FocusTwice,
+        ];
+        REASONS.get((number as usize).checked_sub(1)?).copied()
+    }
+}
+
+/// A message that might not come, and what the window knew then.
+#[derive(Clone, Copy, Debug, PartialEq, Eq)]
+pub struct Fault {
+    /// How many messages were accepted before.
+    pub place: u64,
+    /// The repeat number that the next down of the key of the message has to have; None where the key is up and where
+    /// the message is of no key.
+    pub next_repeat: Option<u64>,
+    /// The pointer ids that are down on the device of the motion, as bits; 0 where the message is no motion.
+    pub held: u32,
+    /// Whether the window has the focus.
+    pub focus: bool,
+    /// Why. None only where no line of a stream file says the message, as with other flags.
+    pub reason: Option<Reason>,
+}
+
+impl Fault {
+    fn of(fault: &sys::Fault) -> Fault {
+        Fault {
+            place: fault.place,
+            next_repeat: (fault.key_down == 1).then_some(fault.next_repeat),
+            held: fault.held,
+            focus: fault.focus == 1,
+            reason: Reason::of(fault.reason),
+        }
+    }
+}
+
+/// Why a step was not taken. The judge is as it was.
+#[derive(Clone, Copy, Debug, PartialEq, Eq)]
+pub enum StepError {
+    /// A number of the message is out of its range.
+    OutOfRange,
+    /// The stream with this message is not well-formed.
+    Broken(Fault),
+    /// Memory was wanting. Only at a key.
+    NoMemory,
+}
+
+impl fmt::Display for StepError {
+    fn fmt(&self, f: &mut fmt::Formatter<'_>) -> fmt::Result {
+        match self {
+            StepError::OutOfRange => write!(f, "a number of the message is out of its range"),
+            StepError::Broken(fault) => match fault.reason {
+                Some(reason) => write!(f, "message {} may not come: {:?}", fault.place + 1, reason),
+                None => write!(f, "message {} may not come", fault.place + 1),
+            },
+            StepError::NoMemory => NoMemory.fmt(f),
+        }
+    }
+}
+
+impl Error for StepError {}
+
+/// Memory was wanting.
+#[derive(Clone, Copy, Debug, PartialEq, Eq)]
+pub struct NoMemory;
+
+impl fmt::Display for NoMemory {
+    fn fmt(&self, f: &mut fmt::Formatter<'_>) -> fmt::Result {
+        write!(f, "memory was wanting")
+    }
+}
+
+impl Error for NoMemory {}
+
+/// What a window knows from the messages that were accepted.
+#[derive(Clone, Copy, Debug, PartialEq, Eq)]
+pub struct State {
+    /// The pointer ids that are down on each device, as bits; those of device 1 first.
+    pub ids: [u32; 8],
+    /// Whether the window has the focus.
+    pub focus: bool,
+}
+
+/// The judge of the messages that one window is told. It stays on its thread:
+///
+/// ```compile_fail
+/// let judge = inputflinger::Judge::new().unwrap();
+/// std::thread::spawn(move || drop(judge));
+/// ```
+pub struct Judge {
+    handle: sys::Judge,
+}
+
+impl Judge {
+    /// A judge of a stream that has no message yet.
+    pub fn new() -> Result<Judge, NoMemory> {
+        let mut judge = Judge {
+            handle: sys::Judge {
+                at: ptr::null_mut(),
+                is_open: false,
+            },
+        };
+        // SAFETY: the handle is free, and nobody else's.
+        match unsafe { sys::inputflinger_judge_new(&mut judge.handle) } {
+            sys::OK => Ok(judge),
+            _ => Err(NoMemory),
+        }
+    }
+
+    /// Accepts the next message of the stream, or says why it may not come.
+    ///
+    /// # Errors
+    ///
+    /// Each leaves the judge as it was: the next message is judged as if this one had not come.
+    pub fn step(&mut self, message: &Message) -> Result<(), StepError> {
+        if message.is_too_long {
+            return Err(StepError::OutOfRange);
+        }
+        let mut fault = sys::Fault::default();
+        // SAFETY: all three are of the declared types, and nobody else's during the call.
+        match unsafe { sys::inputflinger_judge_step(&mut self.handle, &message.plain, &mut fault) }
+        {
+            sys::OK => Ok(()),
+            sys::OUT_OF_RANGE => Err(StepError::OutOfRange),
+            sys::BROKEN => Err(StepError::Broken(Fault::of(&fault))),
+            sys::NO_MEMORY => Err(StepError::NoMemory),
+            status => unreachable!("a judge is open: status {status}"),
+        }
+    }
+
+    /// Which pointers are down on each device, and whether the window has the focus.
+    pub fn state(&mut self) -> State {
+        let mut state = sys::State::default();
+        // SAFETY: both are of the declared types, and nobody else's during the call.
+        let status = unsafe { sys::inputflinger_judge_state(&mut self.handle, &mut state) };
+        debug_assert_eq!(status, sys::OK);
+        State {
+            ids: state.ids,
+            focus: state.focus == 1,
+        }
+    }
+}
+
+impl Drop for Judge {
+    fn drop(&mut self) {
+        // SAFETY: the handle is nobody else's. A free one is answered by a status.
+        unsafe { sys::inputflinger_judge_free(&mut self.handle) };
+    }
+}

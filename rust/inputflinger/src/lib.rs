@@ -1,0 +1,28 @@
+//! The judge of what one window is told of touches and keys, over `libinputflinger.a`.
+//!
+//! What the archive does is written in Rattle and proved; this crate declares its calls and gives them Rust's types. A
+//! [`Judge`] is shown the messages of one stream, one by one, and says at which one the stream stops to be well-formed:
+//!
+//! ```
+//! use inputflinger::{Action, Judge, Message, Motion, Pointer, Reason, StepError};
+//!
+//! let down = Message::motion(1, Motion::new(1, Action::Down, &[Pointer { id: 0, x: 540, y: 1200 }]));
+//! let mut judge = Judge::new()?;
+//! judge.step(&down)?;
+//! match judge.step(&down) {
+//!     Err(StepError::Broken(fault)) => {
+//!         assert_eq!((fault.place, fault.held, fault.reason), (1, 0b1, Some(Reason::AlreadyDown)));
+//!     }
+//!     other => panic!("{other:?}"),
+//! }
+//! assert_eq!(judge.state().ids[0], 0b1);
+//! # Ok::<(), Box<dyn std::error::Error>>(())
+//! ```
+#![warn(missing_docs)]
+
+mod judge;
+mod message;
+mod sys;
+
+pub use judge::{Fault, Judge, NoMemory, Reason, State, StepError};
+pub use message::{Action, Key, Message, Motion, Pointer, FLAG_CANCELED};

@@ -1,0 +1,16 @@
+// The header from C++.
+#include "inputflinger.h"
+
+int main()
+{
+	inputflinger_judge judge = {};
+	inputflinger_message message = {};
+
+	message.kind = INPUTFLINGER_FOCUS;
+	message.focus = 1;
+	if (inputflinger_judge_new(&judge) != INPUTFLINGER_OK)
+		return 1;
+	if (inputflinger_judge_step(&judge, &message, nullptr) != INPUTFLINGER_OK)
+		return 1;
+	return inputflinger_judge_free(&judge);
+}
