@@ -1,5 +1,5 @@
 //! The cases: of each command a run that comes to a text and one that is refused.
-use crate::failing::{add_case, add_pieces};
+use crate::failing::{add_case, add_pieces, add_twice};
 use crate::runs::{Call, Case, Files};
 use crate::texts::{
     DISPLAY, FINGER, FINGERS, FOURTH, HALVES, MOUSE, MOVES, ONE_HALF, ORDER, REPLACED, SESSION,
@@ -86,6 +86,7 @@ fn add_taps<R: Threads + Wait + Sync>(rt: &R, text: &mut Vec<u8>) -> io::Result<
     add_pieces(rt, text, &tap, 1)?;
     add_pieces(rt, text, &tap, 7)?;
     add_pieces(rt, text, &tap, 65536)?;
+    add_twice(rt, text, &tap)?;
     let cases = [
         told(
             "no last newline",

@@ -1,7 +1,7 @@
 //! Cases, and the calls of a kind that fail in turn.
 ghost use Rattle.std.specs.Prelude.{◌<◌};
 
-use crate::runs::{Call, Case, Fault, Ran, run_case};
+use crate::runs::{Call, Case, Fault, Ran, run_case, run_twice};
 use replay_engine::NoGate;
 use std::alloc::AllocError;
 use std::io;
@@ -161,6 +161,35 @@ pub(crate) fn add_pieces<R: Threads + Wait + Sync>(
         "another answer"
     };
     let line = format!(in alloc; "{} by pieces of {piece}: {same}", case.name)?;
+    add_line(text, line.as_str())?;
+    Ok(())
+}
+
+/// Whether `both` is what `once` is, twice.
+fn is_twice(both: &[u8], once: &[u8]) -> bool {
+    let (first, second) = both.split_at(once.len().min(both.len()));
+    first == once && second == once
+}
+
+/// Adds whether a case comes to the same again where it is run twice over the same files and streams.
+pub(crate) fn add_twice<R: Threads + Wait + Sync>(
+    rt: &R,
+    text: &mut Vec<u8>,
+    case: &Case,
+) -> io::Result<()> {
+    let alloc = *text.allocator();
+    let once = run_case(rt, alloc, case, GIVEN, None, &NoGate)?;
+    let (first, both) = run_twice(rt, alloc, case, GIVEN)?;
+    let same = if first == once.status
+        && both.status == once.status
+        && is_twice(&both.out, &once.out)
+        && is_twice(&both.err, &once.err)
+    {
+        "the same"
+    } else {
+        "another answer"
+    };
+    let line = format!(in alloc; "{} run twice: {same}", case.name)?;
     add_line(text, line.as_str())?;
     Ok(())
 }

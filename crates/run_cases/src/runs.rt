@@ -1,8 +1,8 @@
 //! A run over files and streams in memory.
-ghost use Rattle.std.specs.Prelude.{◌<◌};
+ghost use Rattle.std.specs.Prelude.{◌≡◌, ◌<◌, false, IfOk};
 
 use outside_io::{MemFiles, MemSink, names_differ};
-use replay_engine::Gate;
+use replay_engine::{Gate, NoGate};
 use std::alloc::{AllocError, Global};
 use std::io;
 use std::io::ErrorKind;
@@ -101,6 +101,49 @@ fn listed(alloc: Global, fault: Option<Fault>, call: Call) -> Result<Vec<u64>, A
     Ok(numbers)
 }
 
+/// What a run is given: the files, and the streams for its text and for its lines.
+#[derive(Drop)]
+struct Outside {
+    files: MemFiles,
+    out: MemSink,
+    err: MemSink,
+}
+
+/// The files and the streams of a case, where a read gives at most `piece` bytes.
+fn made_for(alloc: Global, case: &Case, piece: usize, fault: Option<Fault>) -> io::Result<Outside>
+    requires { 0 < piece }
+    ensures { IfOk result (λ o. o.files.lent ≡ false) }
+{
+    let files = files_of(alloc, case.files)?;
+    if !names_differ(&files) {
+        return Err(ErrorKind::InvalidInput.into());
+    }
+    let taken = case.taken();
+    let room = taken.saturating_mul(WRITES);
+    Ok(Outside {
+        files: MemFiles::new(files, piece, listed(alloc, fault, Call::Read)?),
+        out: MemSink::new(
+            zeros(alloc, room)?,
+            taken,
+            listed(alloc, fault, Call::Write)?,
+        ),
+        err: MemSink::new(
+            zeros(alloc, room)?,
+            taken,
+            listed(alloc, fault, Call::Tell)?,
+        ),
+    })
+}
+
+/// What the streams took of a run that ended with this status.
+fn taken_of(alloc: Global, status: u8, outside: &Outside) -> io::Result<Ran> {
+    Ok(Ran {
+        status,
+        out: Vec::from_slice(alloc, outside.out.taken())?,
+        err: Vec::from_slice(alloc, outside.err.taken())?,
+    })
+}
+
 /// Runs the program with a gate, where a read gives at most `piece` bytes.
 pub(crate) fn run_case<R: Threads + Wait + Sync, G: Gate + Sync>(
     rt: &R,
@@ -112,28 +155,27 @@ pub(crate) fn run_case<R: Threads + Wait + Sync, G: Gate + Sync>(
 ) -> io::Result<Ran>
     requires { 0 < piece }
 {
-    let files = files_of(alloc, case.files)?;
-    if !names_differ(&files) {
-        return Err(ErrorKind::InvalidInput.into());
-    }
     let words = words_of(alloc, case.words)?;
-    let taken = case.taken();
-    let room = taken.saturating_mul(WRITES);
-    let mut files = MemFiles::new(files, piece, listed(alloc, fault, Call::Read)?);
-    let mut out = MemSink::new(
-        zeros(alloc, room)?,
-        taken,
-        listed(alloc, fault, Call::Write)?,
-    );
-    let mut err = MemSink::new(
-        zeros(alloc, room)?,
-        taken,
-        listed(alloc, fault, Call::Tell)?,
-    );
-    let status = replay_engine::run(rt, alloc, &words, &mut files, &mut out, &mut err, gate);
-    Ok(Ran {
-        status,
-        out: Vec::from_slice(alloc, out.taken())?,
-        err: Vec::from_slice(alloc, err.taken())?,
-    })
+    let mut outside = made_for(alloc, case, piece, fault)?;
+    let Outside { files, out, err } = &mut outside;
+    let status = replay_engine::run(rt, alloc, &words, files, out, err, gate);
+    taken_of(alloc, status, &outside)
+}
+
+/// Runs the program twice over the same files and streams. The answers are the first status, and what both runs came
+/// to.
+pub(crate) fn run_twice<R: Threads + Wait + Sync>(
+    rt: &R,
+    alloc: Global,
+    case: &Case,
+    piece: usize,
+) -> io::Result<(u8, Ran)>
+    requires { 0 < piece }
+{
+    let words = words_of(alloc, case.words)?;
+    let mut outside = made_for(alloc, case, piece, None)?;
+    let Outside { files, out, err } = &mut outside;
+    let first = replay_engine::run(rt, alloc, &words, files, out, err, &NoGate);
+    let second = replay_engine::run(rt, alloc, &words, files, out, err, &NoGate);
+    Ok((first, taken_of(alloc, second, &outside)?))
 }
