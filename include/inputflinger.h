@@ -51,7 +51,8 @@
  * Statuses
  *
  * Each call answers a status. A call that answers anything but INPUTFLINGER_OK changed nothing: not the handle, and not
- * what pointers lead to, but for a fault, which INPUTFLINGER_BROKEN writes. Want of memory is INPUTFLINGER_NO_MEMORY;
+ * what pointers lead to, but for a fault, which INPUTFLINGER_BROKEN writes, and a count, which INPUTFLINGER_NO_ROOM
+ * writes. Want of memory is INPUTFLINGER_NO_MEMORY;
  * the same call may be made again later.
  */
 #ifndef INPUTFLINGER_H
@@ -79,8 +80,10 @@ enum inputflinger_status {
 	INPUTFLINGER_OUT_OF_RANGE = 4,
 	/* The message may not come where it came. */
 	INPUTFLINGER_BROKEN = 5,
+	/* There is no room for all that is to be told. */
+	INPUTFLINGER_NO_ROOM = 6,
 	/* A pointer is NULL that has to be something. */
-	INPUTFLINGER_NULL = 6
+	INPUTFLINGER_NULL = 7
 };
 
 /* The kinds of messages. */
@@ -201,6 +204,12 @@ struct inputflinger_state {
 	uint8_t focus;
 };
 
+/* A key that is down: its device, 1 to 8, and the kernel's scan code. */
+struct inputflinger_key {
+	uint16_t device;
+	uint16_t scan;
+};
+
 /*
  * The handle of a judge. Its members are the library's own; a program only sets all bytes to 0, once.
  *
@@ -246,13 +255,25 @@ int inputflinger_judge_step(struct inputflinger_judge *judge, const struct input
 
 /*
  * Tells which pointers are down on each device, and whether the window has the focus. At the end of a stream that is
- * whole, nothing is down.
+ * whole, nothing is down; keys are told by the next call.
  *
  *     INPUTFLINGER_OK    state is written
  *     INPUTFLINGER_FREE  the handle is free
  *     INPUTFLINGER_NULL  judge or state is NULL
  */
 int inputflinger_judge_state(struct inputflinger_judge *judge, struct inputflinger_state *state);
+
+/*
+ * Tells the keys that are down, in rising order of their devices and scan codes: as many as count says, in front of the
+ * room that keys has. keys may be NULL where room is 0, to ask for the count alone.
+ *
+ *     INPUTFLINGER_OK         count is written, and so many keys
+ *     INPUTFLINGER_FREE       the handle is free
+ *     INPUTFLINGER_NO_MEMORY  nothing is written
+ *     INPUTFLINGER_NO_ROOM    there are more keys than room: count is written, and no key
+ *     INPUTFLINGER_NULL       judge or count is NULL, or keys is and room is not 0
+ */
+int inputflinger_judge_keys(struct inputflinger_judge *judge, struct inputflinger_key *keys, size_t room, size_t *count);
 
 /*
  * Frees a judge. The handle is free then.

@@ -29,6 +29,15 @@ int inputflinger_judge_state(struct inputflinger_judge *judge, struct inputfling
 	return (int)inputflinger_proved_judge_state(judge, state);
 }
 
+int inputflinger_judge_keys(struct inputflinger_judge *judge, struct inputflinger_key *keys, size_t room, size_t *count)
+{
+	struct inputflinger_key nowhere;
+
+	if (judge == NULL || count == NULL || (keys == NULL && room != 0))
+		return INPUTFLINGER_NULL;
+	return (int)inputflinger_proved_judge_keys(judge, keys != NULL ? keys : &nowhere, room, count);
+}
+
 int inputflinger_judge_free(struct inputflinger_judge *judge)
 {
 	if (judge == NULL)

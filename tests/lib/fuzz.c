@@ -99,6 +99,7 @@ int main(int count, char **words)
 		struct inputflinger_message m = message();
 		struct inputflinger_fault fault = {0};
 		struct inputflinger_state told = {0};
+		struct inputflinger_key keys[5];
 		int status;
 
 		if (what == 0) {
@@ -113,8 +114,14 @@ int main(int count, char **words)
 		} else if (what < 8) {
 			status = inputflinger_judge_state(&judges[i], &told);
 			demand(status == (open[i] ? INPUTFLINGER_OK : INPUTFLINGER_FREE) && told.focus <= 1, "state", call);
+		} else if (what < 10) {
+			size_t room = below(5), number = 77;
+
+			status = inputflinger_judge_keys(&judges[i], keys, room, &number);
+			demand(open[i] ? status == (number <= room ? INPUTFLINGER_OK : INPUTFLINGER_NO_ROOM) && number <= 32
+				       : status == INPUTFLINGER_FREE && number == 77, "keys", call);
 		} else {
-			status = inputflinger_judge_step(&judges[i], &m, what < 10 ? NULL : &fault);
+			status = inputflinger_judge_step(&judges[i], &m, what < 12 ? NULL : &fault);
 			if (!open[i])
 				demand(status == INPUTFLINGER_FREE, "a free handle", call);
 			else if (!is_in_range(&m))
@@ -122,7 +129,7 @@ int main(int count, char **words)
 			else if (status == INPUTFLINGER_OK)
 				accepted[i]++, taken++;
 			else
-				demand(status == INPUTFLINGER_BROKEN && (what < 10 || fault.place == accepted[i]), "broken", call);
+				demand(status == INPUTFLINGER_BROKEN && (what < 12 || fault.place == accepted[i]), "broken", call);
 		}
 	}
 	for (uint32_t i = 0; i < JUDGES; i++)

@@ -116,10 +116,12 @@ static void free_handles(void)
 	struct inputflinger_message message = focus(1);
 	struct inputflinger_fault fault = unwritten();
 	struct inputflinger_state state;
+	size_t keys = 77;
 
 	memset(&state, 0x55, sizeof state);
 	CHECK(inputflinger_judge_step(&judge, &message, &fault) == INPUTFLINGER_FREE && is_unwritten(&fault));
 	CHECK(inputflinger_judge_state(&judge, &state) == INPUTFLINGER_FREE && state.focus == 0x55);
+	CHECK(inputflinger_judge_keys(&judge, NULL, 0, &keys) == INPUTFLINGER_FREE && keys == 77);
 	CHECK(inputflinger_judge_free(&judge) == INPUTFLINGER_FREE);
 	CHECK(inputflinger_judge_new(&judge) == INPUTFLINGER_OK);
 	CHECK(inputflinger_judge_new(&judge) == INPUTFLINGER_TAKEN);
@@ -135,6 +137,7 @@ static void nulls(void)
 	struct inputflinger_message message = focus(1);
 	struct inputflinger_fault fault = unwritten();
 	struct inputflinger_state state;
+	size_t keys = 77;
 
 	CHECK(inputflinger_judge_new(NULL) == INPUTFLINGER_NULL);
 	CHECK(inputflinger_judge_new(&judge) == INPUTFLINGER_OK);
@@ -144,6 +147,10 @@ static void nulls(void)
 	CHECK(inputflinger_judge_step(&judge, &message, NULL) == INPUTFLINGER_BROKEN);
 	CHECK(inputflinger_judge_state(NULL, &state) == INPUTFLINGER_NULL);
 	CHECK(inputflinger_judge_state(&judge, NULL) == INPUTFLINGER_NULL);
+	CHECK(inputflinger_judge_keys(NULL, NULL, 0, &keys) == INPUTFLINGER_NULL);
+	CHECK(inputflinger_judge_keys(&judge, NULL, 1, &keys) == INPUTFLINGER_NULL && keys == 77);
+	CHECK(inputflinger_judge_keys(&judge, NULL, 0, NULL) == INPUTFLINGER_NULL);
+	CHECK(inputflinger_judge_keys(&judge, NULL, 0, &keys) == INPUTFLINGER_OK && keys == 0);
 	CHECK(inputflinger_judge_free(NULL) == INPUTFLINGER_NULL);
 	CHECK(inputflinger_judge_free(&judge) == INPUTFLINGER_OK);
 }
@@ -244,6 +251,8 @@ static void keys_and_focus(void)
 {
 	struct inputflinger_judge judge = {0};
 	struct inputflinger_state state = {0};
+	struct inputflinger_key keys[4] = {{0}};
+	size_t count = 0;
 
 	CHECK(inputflinger_judge_new(&judge) == INPUTFLINGER_OK);
 	CHECK(same(REFUSE(&judge, focus(0)), 0, 0, 0, INPUTFLINGER_REASON_FOCUS_TWICE, 0, 0));
@@ -257,6 +266,11 @@ static void keys_and_focus(void)
 	ACCEPT(&judge, key(1, 115, 1, 1));
 	ACCEPT(&judge, key(1, 65535, 1, 0));
 	ACCEPT(&judge, key(8, 115, 1, 0));
+	CHECK(inputflinger_judge_keys(&judge, NULL, 0, &count) == INPUTFLINGER_NO_ROOM && count == 3);
+	CHECK(inputflinger_judge_keys(&judge, keys, 2, &count) == INPUTFLINGER_NO_ROOM && count == 3 && keys[0].device == 0);
+	CHECK(inputflinger_judge_keys(&judge, keys, 4, &count) == INPUTFLINGER_OK && count == 3);
+	CHECK(keys[0].device == 1 && keys[0].scan == 115 && keys[1].device == 1 && keys[1].scan == 65535);
+	CHECK(keys[2].device == 8 && keys[2].scan == 115 && keys[3].device == 0 && keys[3].scan == 0);
 	CHECK(same(REFUSE(&judge, key(1, 115, 0, 1)), 5, 2, 0, INPUTFLINGER_REASON_REPEAT_ON_UP, 1, 1));
 	ACCEPT(&judge, key(1, 115, 0, 0));
 	CHECK(same(REFUSE(&judge, key(1, 115, 0, 0)), 6, 0, 0, INPUTFLINGER_REASON_KEY_NOT_DOWN, 0, 1));

@@ -40,17 +40,20 @@ AT(inputflinger_fault, key_down, 24);
 AT(inputflinger_fault, focus, 25);
 AT(inputflinger_state, ids, 0);
 AT(inputflinger_state, focus, 32);
+AT(inputflinger_key, device, 0);
+AT(inputflinger_key, scan, 2);
 _Static_assert(sizeof(struct inputflinger_judge) == 16, "a judge");
 _Static_assert(sizeof(struct inputflinger_pointer) == 12, "a pointer");
 _Static_assert(sizeof(struct inputflinger_message) == 240, "a message");
 _Static_assert(sizeof(struct inputflinger_fault) == 32, "a fault");
 _Static_assert(sizeof(struct inputflinger_state) == 36, "a state");
+_Static_assert(sizeof(struct inputflinger_key) == 4, "a key");
 
 int main(void)
 {
-	static const uint64_t sizes[] = {
+	static const size_t sizes[] = {
 		sizeof(struct inputflinger_judge), sizeof(struct inputflinger_pointer), sizeof(struct inputflinger_message),
-		sizeof(struct inputflinger_fault), sizeof(struct inputflinger_state), 0,
+		sizeof(struct inputflinger_fault), sizeof(struct inputflinger_state), sizeof(struct inputflinger_key), 0,
 	};
 
 	for (uint32_t i = 0; i < sizeof sizes / sizeof *sizes; i++) {

@@ -4,3 +4,4 @@ pub mod Plain
 pub mod Faults
 pub mod Judging
 pub mod States
+pub mod Keys

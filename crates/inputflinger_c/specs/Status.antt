@@ -24,3 +24,7 @@ out_of_range = 4
 -- the message may not come where it came
 abbrev pub is_broken : ℕ
 is_broken = 5
+
+-- there is no room for all that is to be told
+abbrev pub no_room : ℕ
+no_room = 6

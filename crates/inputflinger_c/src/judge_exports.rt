@@ -1,13 +1,17 @@
 //! The calls of a judge.
 ghost use Rattle.inputflinger_c.specs.Judging.{Opens, Frees, Steps, StepGoes};
+ghost use Rattle.std.specs.Prelude.{nat_eq};
+ghost use Rattle.inputflinger_c.specs.Keys.{KeysGo, KeysTold};
+ghost use Rattle.inputflinger_c.specs.Status.{no_memory};
 ghost use Rattle.inputflinger_c.specs.Plain.{message_of};
 ghost use Rattle.inputflinger_c.specs.States.{StateGoes};
 
 use crate::fault::{PlainFault, plain_fault};
 use crate::judge::Judge;
+use crate::judge_keys::{PlainKey, write_keys};
 use crate::judge_state::{PlainState, state_of};
 use crate::message::PlainMessage;
-use crate::status::{BROKEN, FREE, MEMORY, OK, RANGE, TAKEN};
+use crate::status::{BROKEN, FREE, MEMORY, OK, RANGE, ROOM, TAKEN};
 use gesture_verifier::{StepError, Verifier};
 use input_types::Message;
 use std::alloc::Global;
@@ -96,4 +100,42 @@ pub extern "C" fn inputflinger_proved_judge_state(
     *state = state_of(&verifier);
     judge.put(verifier);
     OK
+}
+
+/// Tells the keys that are down, in rising order of their devices and scan codes, and how many they are.
+///
+/// `FREE` where the handle is free, and `MEMORY` for want of memory; nothing is written then. `ROOM` where there are
+/// more keys than places: then `count` alone is written.
+#[unsafe(no_mangle)]
+pub extern "C" fn inputflinger_proved_judge_keys(
+    alloc: Global,
+    judge: &mut Judge,
+    places: &mut [PlainKey],
+    count: &mut usize,
+) -> u32
+    ensures { KeysGo judge.old.cell.told result judge.new.cell.told places.old places.new count.old count.new }
+{
+    let Some(verifier) = judge.take(alloc) else {
+        return FREE;
+    };
+    let status = tell_keys(alloc, &verifier, places, count);
+    judge.put(verifier);
+    status
+}
+
+/// Tells the keys that are down in a stream.
+fn tell_keys(alloc: Global, verifier: &Verifier, places: &mut [PlainKey], count: &mut usize) -> u32
+    ensures { KeysTold (nat_eq result no_memory) result verifier.now places.old places.new count.old count.new }
+{
+    match verifier.keys_down(alloc) {
+        Ok(keys) => {
+            *count = keys.len();
+            if places.len() < keys.len() {
+                return ROOM;
+            }
+            write_keys(places, &keys);
+            OK
+        }
+        Err(_) => MEMORY,
+    }
 }

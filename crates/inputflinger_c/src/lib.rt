@@ -22,6 +22,7 @@ mod fault;
 mod judge;
 mod judge_cell;
 mod judge_exports;
+mod judge_keys;
 mod judge_state;
 mod message;
 mod parts;

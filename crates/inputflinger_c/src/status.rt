@@ -17,3 +17,6 @@ pub const RANGE: u32 = 4;
 
 /// The message may not come where it came. The judge is as it was.
 pub const BROKEN: u32 = 5;
+
+/// There is no room for all that is to be told. Nothing is written but how much it is.
+pub const ROOM: u32 = 6;

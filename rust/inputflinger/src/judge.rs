@@ -130,6 +130,15 @@ pub struct State {
     pub focus: bool,
 }
 
+/// A key that is down.
+#[derive(Clone, Copy, Debug, PartialEq, Eq)]
+pub struct HeldKey {
+    /// 1 to 8.
+    pub device: u16,
+    /// The kernel's scan code.
+    pub scan: u16,
+}
+
 /// The judge of the messages that one window is told. It stays on its thread:
 ///
 /// ```compile_fail
@@ -186,6 +195,40 @@ impl Judge {
         State {
             ids: state.ids,
             focus: state.focus == 1,
+        }
+    }
+}
+
+impl Judge {
+    /// The keys that are down, in rising order of their devices and scan codes.
+    ///
+    /// # Errors
+    ///
+    /// Memory was wanting. The judge is as it was.
+    pub fn keys_down(&mut self) -> Result<Vec<HeldKey>, NoMemory> {
+        let mut places = Vec::new();
+        loop {
+            let mut count = 0;
+            // SAFETY: the pointer and the length are those of one vector, and all is nobody else's during the call.
+            let status = unsafe {
+                sys::inputflinger_judge_keys(
+                    &mut self.handle,
+                    places.as_mut_ptr(),
+                    places.len(),
+                    &mut count,
+                )
+            };
+            match status {
+                sys::OK => {
+                    let held = |key: &sys::Key| HeldKey {
+                        device: key.device,
+                        scan: key.scan,
+                    };
+                    return Ok(places.iter().take(count).map(held).collect());
+                }
+                sys::NO_ROOM => places.resize(count, sys::Key::default()),
+                _ => return Err(NoMemory),
+            }
         }
     }
 }

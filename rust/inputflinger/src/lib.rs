@@ -24,5 +24,5 @@ mod judge;
 mod message;
 mod sys;
 
-pub use judge::{Fault, Judge, NoMemory, Reason, State, StepError};
+pub use judge::{Fault, HeldKey, Judge, NoMemory, Reason, State, StepError};
 pub use message::{Action, Key, Message, Motion, Pointer, FLAG_CANCELED};

@@ -59,10 +59,19 @@ pub struct State {
     pub focus: u8,
 }
 
+/// `struct inputflinger_key`
+#[repr(C)]
+#[derive(Clone, Copy, Default)]
+pub struct Key {
+    pub device: u16,
+    pub scan: u16,
+}
+
 pub const OK: i32 = 0;
 pub const NO_MEMORY: i32 = 3;
 pub const OUT_OF_RANGE: i32 = 4;
 pub const BROKEN: i32 = 5;
+pub const NO_ROOM: i32 = 6;
 
 extern "C" {
     pub fn inputflinger_judge_new(judge: *mut Judge) -> i32;
@@ -72,9 +81,15 @@ extern "C" {
         fault: *mut Fault,
     ) -> i32;
     pub fn inputflinger_judge_state(judge: *mut Judge, state: *mut State) -> i32;
+    pub fn inputflinger_judge_keys(
+        judge: *mut Judge,
+        keys: *mut Key,
+        room: usize,
+        count: *mut usize,
+    ) -> i32;
     pub fn inputflinger_judge_free(judge: *mut Judge) -> i32;
     #[cfg(test)]
-    pub fn inputflinger_proved_size(number: u32) -> u64;
+    pub fn inputflinger_proved_size(number: u32) -> usize;
 }
 
 #[cfg(test)]
@@ -90,11 +105,12 @@ mod tests {
             size_of::<Message>(),
             size_of::<Fault>(),
             size_of::<State>(),
+            size_of::<Key>(),
         ];
         for (number, size) in sizes.iter().enumerate() {
             // SAFETY: the call takes a number and answers one.
             let told = unsafe { inputflinger_proved_size(number as u32) };
-            assert_eq!(told, *size as u64, "struct {number}");
+            assert_eq!(told, *size, "struct {number}");
         }
     }
 }

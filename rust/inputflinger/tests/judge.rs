@@ -1,7 +1,7 @@
 //! Each answer of a judge.
 
 use inputflinger::{
-    Action, Judge, Key, Message, Motion, Pointer, Reason, StepError, FLAG_CANCELED,
+    Action, HeldKey, Judge, Key, Message, Motion, Pointer, Reason, StepError, FLAG_CANCELED,
 };
 
 fn pointers(ids: &[u8]) -> Vec<Pointer> {
@@ -84,7 +84,15 @@ fn a_key_that_is_held() -> Result<(), Box<dyn std::error::Error>> {
         other => panic!("{other:?}"),
     }
     judge.step(&key(true, 1))?;
+    assert_eq!(
+        judge.keys_down()?,
+        [HeldKey {
+            device: 1,
+            scan: 115
+        }]
+    );
     judge.step(&key(false, 0))?;
+    assert_eq!(judge.keys_down()?, []);
     Ok(())
 }
 
