@@ -23,13 +23,16 @@
 //! leaves nothing known (`laws`).
 #![tactic(auto)]
 
+mod asking;
 mod client;
 mod clients;
 mod closing;
 mod driving;
+mod giving;
 pub mod laws;
 mod live;
 mod messages;
+mod plugging;
 mod refused;
 mod settling;
 mod showing;
@@ -38,7 +41,7 @@ mod windows;
 pub use client::Client;
 pub use live::Live;
 pub use refused::{
-    ArgsRefused, CloseRefused, FinishRefused, FocusRefused, OpenRefused, PilferRefused,
+    AddRefused, ArgsRefused, CloseRefused, FinishRefused, FocusRefused, OpenRefused, PilferRefused,
     WindowsRefused,
 };
 pub use windows::ClientWindow;
