@@ -1,9 +1,10 @@
-//! The dispatcher as a service that runs for weeks: clients come and go, and nothing keeps a history.
+//! The dispatcher as a service that runs for weeks: clients and devices come and go, and nothing keeps a history.
 //!
 //! A client has a window over the display, and a finger goes down on it. Then the client is closed under the finger,
 //! and another one is opened on its channel:
 //!
 //! ```text
+//! add_touch                                device 1
 //! open                                     channel 1, generation 1
 //! windows [its window]
 //! args Motion(1 Down 0@540,1200)
