@@ -10,3 +10,6 @@ pub mod Untold
 pub mod Union
 pub mod Awaiting
 pub mod First
+pub mod Handing
+pub mod Asked
+pub mod Plugged

@@ -16,3 +16,11 @@ on_ok (Err e) X Y x f = tt
 pub either : {A E : Type 0} (r : Result A E) (X Y Z : Type 0) → OnOk r X → OnErr r Y → (X → Z) → (Y → Z) → Z
 either (Ok a) X Y Z x y f g = f x
 either (Err e) X Y Z x y f g = g y
+
+pub on_err : {A E : Type 0} (r : Result A E) (X Y : Type 0) → OnErr r X → (X → Y) → OnErr r Y
+on_err (Ok a) X Y x f = tt
+on_err (Err e) X Y x f = f x
+
+pub err_always : {A E : Type 0} (r : Result A E) (X : Type 0) → X → OnErr r X
+err_always (Ok a) X x = tt
+err_always (Err e) X x = x

@@ -8,13 +8,10 @@ use Rattle.dispatch_history.specs.Effect.{Effect}
 use Rattle.dispatch_history.specs.Legal.{answered}
 use Rattle.dispatch_history.specs.Reply.{reply_to}
 use Rattle.live_input.specs.declared.client.Seat.{Seat}
-use Rattle.live_input.specs.declared.refused.ArgsRefused.{ArgsRefused}
-use Rattle.live_input.specs.declared.refused.ArgsRefused.TheVariants as args
 use Rattle.live_input.specs.declared.refused.FinishRefused.{FinishRefused}
 use Rattle.live_input.specs.declared.refused.FinishRefused.TheVariants as finish
 use Rattle.live_input.specs.declared.refused.PilferRefused.{PilferRefused}
 use Rattle.live_input.specs.declared.refused.PilferRefused.TheVariants as pilfer
-use Rattle.live_input.specs.Settling.{Reaches, Settles, next_waiting}
 use Rattle.live_input.specs.Standing.{LiveIs}
 use Rattle.live_input.specs.State.{LiveState}
 
@@ -42,8 +39,16 @@ abbrev pub handed : Seat → Option Message → Option Message
 handed s None = None
 handed s (Some m) = Some (for_client s m)
 
--- The clients are the same, and so is the limit.
+-- The clients and the devices are the same, and so are the limit and what is still to be handed in.
 pub record SameClients (old new : LiveState) : Type 0 where
+  pub seats_are : new.seats ≡ old.seats
+  pub opened_is : new.opened ≡ old.opened
+  pub limit_is : new.limit ≡ old.limit
+  pub devices_are : new.devices ≡ old.devices
+  pub pending_is : new.pending ≡ old.pending
+
+-- The clients are the same, and so is the limit.
+pub record SameSeats (old new : LiveState) : Type 0 where
   pub seats_are : new.seats ≡ old.seats
   pub opened_is : new.opened ≡ old.opened
   pub limit_is : new.limit ≡ old.limit
@@ -67,13 +72,3 @@ Pilfers displays es call (Err pilfer.NothingHeld) old new =
     (is_done (reply_to es call) ≡ false) × (is_no_spy (reply_to es call) ≡ false)
     × LiveIs displays (answered displays call es) new
 Pilfers displays es call (Err pilfer.Memory) old new = new ≡ old
-
--- After args came by this call the service stands for the history with it, and then with all pumps by which what waits is dispatched.
-abbrev pub Dispatches : List ℕ → List Effect → (now : ℕ) → Call → Result (Unit {0}) ArgsRefused → (old new : LiveState) → Type 0
-Dispatches displays es now call (Ok done) old new =
-    (is_taken (reply_to es call) ≡ true) × Settles displays (next_waiting now) (answered displays call es) new
-Dispatches displays es now call (Err args.Inconsistent) old new =
-    (is_taken (reply_to es call) ≡ false) × LiveIs displays (answered displays call es) new
-Dispatches displays es now call (Err args.Memory) old new = new ≡ old
-Dispatches displays es now call (Err args.Waits) old new =
-    (is_taken (reply_to es call) ≡ true) × Reaches displays (next_waiting now) (answered displays call es) new

@@ -4,6 +4,9 @@ pub mod Standing
 pub mod Settling
 pub mod Advancing
 pub mod Answers
+pub mod Giving
+pub mod Plugging
+pub mod Asking
 pub mod Closing
 pub mod Showing
 pub mod Opening

@@ -29,6 +29,8 @@ pub record Opens (client : Client) (old new : LiveState) : Type 0 where
       new.seats ≡ with_seat client.channel (record { holder = Some client.generation; before = before }) old.seats
   pub limit_is : new.limit ≡ old.limit
   pub named_is : new.named ≡ old.named
+  pub devices_are : new.devices ≡ old.devices
+  pub pending_is : new.pending ≡ old.pending
 
 -- a channel was opened, or is the first one that was not
 pub record IsNext (c : ℕ) (es : List Effect) : Type 0 where
@@ -53,6 +55,8 @@ pub record Closes (client : Client) (old new : LiveState) : Type 0 where
       ≡ with_seat client.channel (record { holder = None; before = (seat_of old.seats client.channel).before }) old.seats
   pub opened_is : new.opened ≡ old.opened
   pub limit_is : new.limit ≡ old.limit
+  pub devices_are : new.devices ≡ old.devices
+  pub pending_is : new.pending ≡ old.pending
 
 -- A client that is open is closed: its window is hidden, its requests are forgotten, and all that is left for it is received and finished.
 -- Without memory it is still open, and the service stands for some history, with some of these calls.

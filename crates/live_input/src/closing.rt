@@ -76,7 +76,7 @@ impl Live {
     }
 
     /// The channel for which the focus of a display was requested last.
-    fn requested_on(&self, display: DisplayId) -> Option<u32>
+    pub(crate) fn requested_on(&self, display: DisplayId) -> Option<u32>
         ensures { (ds : List ℕ) (es : List Effect) → LiveIs ds es self.now → result ≡ requested (past_of es) display }
     {
         self.requested[usize::from(display.get())]
@@ -120,7 +120,7 @@ fn next_left(dispatcher: &Dispatcher, now: Moment, channel: u32) -> Option<Call>
 }
 
 /// The number of the oldest message of a channel that is published and not finished.
-fn oldest(dispatcher: &Dispatcher, channel: u32) -> Option<u64>
+pub(crate) fn oldest(dispatcher: &Dispatcher, channel: u32) -> Option<u64>
     ensures { (es : List Effect) → StandsFor es dispatcher.now → is_opened es channel ≡ true
         → result ≡ option_map (λ m. m.seq) (oldest es channel) }
 {

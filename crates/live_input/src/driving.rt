@@ -1,62 +1,25 @@
-//! Args, and what is due.
-ghost use Rattle.std.specs.Prelude.{◌≡◌, ℕ, ◌||◌, true, false, List, Option, None, Ok, Err, IfOk, OnOk, OnErr};
-ghost use Rattle.dispatch_calls.specs.declared.call.Call.TheVariants.{Notify, Tick};
+//! Args that wait, and what is due.
+ghost use Rattle.std.specs.Prelude.{◌≡◌, ◌⊎◌, ℕ, ◌||◌, true, List, [], Option, IfOk, OnOk, OnErr};
+ghost use Rattle.dispatch_calls.specs.declared.call.Call.TheVariants.{Tick};
 ghost use Rattle.dispatch_history.specs.Delivery.{is_named_by};
 ghost use Rattle.dispatch_history.specs.Effect.{Effect};
 ghost use Rattle.dispatch_history.specs.Legal.{answered};
 ghost use Rattle.dispatch_history.specs.Reply.{reply_to};
 ghost use Rattle.dispatcher.specs.Access.{next_repeat};
 ghost use Rattle.window_snapshot.specs.Mask.{mask_has};
-ghost use Rattle.live_input.specs.Answers.{SameClients, Dispatches, is_taken};
+ghost use Rattle.live_input.specs.Answers.{SameClients, SameSeats};
+ghost use Rattle.live_input.specs.Giving.{HandedInPart, notified};
 ghost use Rattle.live_input.specs.Settling.{Reaches, Settles, next_waiting, next_due, sooner, timeout};
 ghost use Rattle.live_input.specs.Advancing.{Advances, Advanced};
 ghost use Rattle.live_input.specs.Standing.{LiveIs, is_plain};
 
 use crate::live::Live;
-use crate::refused::ArgsRefused;
 use crate::settling::{next_due, next_waiting, sooner, timeout};
 use dispatch_calls::{Call, Reply};
-use input_types::{Args, Moment};
+use input_types::Moment;
 use std::alloc::AllocError;
 
 impl Live {
-    /// Motions and keys of a device are dispatched to the windows.
-    pub fn args(&mut self, now: Moment, args: Args) -> Result<(), ArgsRefused>
-        ensures after { (ds : List ℕ) (es : List Effect) → LiveIs ds es self.old
-            → Dispatches ds es now (Notify now args) result self.old self.new }
-        ensures clients { SameClients self.old self.new }
-        ensures named { self.new.named ≡ self.old.named }
-    {
-        match self.notify(now, args) {
-            Ok(is_taken) => {
-                if !is_taken {
-                    return Err(ArgsRefused::Inconsistent);
-                }
-                match self.dispatch_waiting(now) {
-                    Ok(()) => Ok(()),
-                    Err(_) => Err(ArgsRefused::Waits),
-                }
-            }
-            Err(_) => Err(ArgsRefused::Memory),
-        }
-    }
-
-    /// Args are put behind those that wait, where they fit those that came before. The answer is whether they do.
-    fn notify(&mut self, now: Moment, args: Args) -> Result<bool, AllocError>
-        ensures after { (ds : List ℕ) (es : List Effect) → LiveIs ds es self.old
-            → OnOk result (LiveIs ds (answered ds (Notify now args) es) self.new) }
-        ensures taken { (ds : List ℕ) (es : List Effect) → LiveIs ds es self.old
-            → IfOk result (λ fits. fits ≡ is_taken (reply_to es (Notify now args))) }
-        ensures clients { SameClients self.old self.new }
-        ensures named { self.new.named ≡ self.old.named }
-        ensures err { OnErr result (self.new ≡ self.old) }
-    {
-        match self.apply(&Call::Notify { now, args }) {
-            Ok(reply) => Ok(is_taken(&reply)),
-            Err(error) => Err(error),
-        }
-    }
-
     /// Args that wait are dispatched, until none wait.
     pub(crate) fn dispatch_waiting(&mut self, now: Moment) -> Result<(), AllocError>
         ensures goes { (ds : List ℕ) (es : List Effect) → LiveIs ds es self.old
@@ -84,9 +47,27 @@ impl Live {
         sooner(timeout(&self.dispatcher), self.dispatcher.repeat_due())
     }
 
-    /// All is done that is due up to now, one after another, each at its moment. The answer is the mask of the channels
-    /// that were named unresponsive, by this call and by those before it that ended for want of memory.
+    /// All is done that is due up to now, one after another, each at its moment, after what devices gave that is still
+    /// to be handed in. The answer is the mask of the channels that were named unresponsive, by this call and by those
+    /// before it that ended for want of memory.
     pub fn advance(&mut self, now: Moment) -> Result<u64, AllocError>
+        ensures ok { (ds : List ℕ) (es : List Effect) → LiveIs ds es self.old
+            → IfOk result (λ mask. Advanced ds now (notified ds now es self.old.pending) mask self.old self.new) }
+        ensures none { OnOk result (self.new.pending ≡ []) }
+        ensures err { (ds : List ℕ) (es : List Effect) → LiveIs ds es self.old
+            → OnErr result (HandedInPart ds now es self.old.pending self.new
+            ⊎ Advances ds now (notified ds now es self.old.pending) self.old self.new) }
+        ensures devices { self.new.devices ≡ self.old.devices }
+        ensures seats { SameSeats self.old self.new }
+    {
+        match self.hand_in(now) {
+            Ok(_) => self.catch_up(now),
+            Err(error) => Err(error),
+        }
+    }
+
+    /// All is done that is due up to now.
+    fn catch_up(&mut self, now: Moment) -> Result<u64, AllocError>
         ensures ok { (ds : List ℕ) (es : List Effect) → LiveIs ds es self.old
             → IfOk result (λ mask. Advanced ds now es mask self.old self.new) }
         ensures err { (ds : List ℕ) (es : List Effect) → LiveIs ds es self.old
@@ -142,11 +123,4 @@ fn named_in(reply: &Reply) -> u64
         Reply::Named(mask) => *mask,
         _ => 0,
     }
-}
-
-/// Whether args were taken.
-fn is_taken(reply: &Reply) -> bool
-    ensures { result ≡ is_taken reply.now }
-{
-    matches!(reply, Reply::Taken)
 }

@@ -1,9 +1,10 @@
-//! The dispatcher as a service that runs for weeks: clients come and go, and nothing keeps a history.
+//! The dispatcher as a service that runs for weeks: clients and devices come and go, and nothing keeps a history.
 //!
 //! A client has a window over the display, and a finger goes down on it. Then the client is closed under the finger,
 //! and another one is opened on its channel:
 //!
 //! ```text
+//! add_touch                                device 1
 //! open                                     channel 1, generation 1
 //! windows [its window]
 //! args Motion(1 Down 0@540,1200)
@@ -23,13 +24,16 @@
 //! leaves nothing known (`laws`).
 #![tactic(auto)]
 
+mod asking;
 mod client;
 mod clients;
 mod closing;
 mod driving;
+mod giving;
 pub mod laws;
 mod live;
 mod messages;
+mod plugging;
 mod refused;
 mod settling;
 mod showing;
@@ -38,7 +42,7 @@ mod windows;
 pub use client::Client;
 pub use live::Live;
 pub use refused::{
-    ArgsRefused, CloseRefused, FinishRefused, FocusRefused, OpenRefused, PilferRefused,
+    AddRefused, ArgsRefused, CloseRefused, FinishRefused, FocusRefused, OpenRefused, PilferRefused,
     WindowsRefused,
 };
 pub use windows::ClientWindow;

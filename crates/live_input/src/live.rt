@@ -9,14 +9,15 @@ ghost use Rattle.live_input.specs.Seats.{vacant};
 ghost use Rattle.live_input.specs.Standing.{LiveIs, is_plain};
 
 use crate::client::Seat;
+use device_table::DeviceTable;
 use dispatch_calls::{Call, Reply};
 use dispatcher::Dispatcher;
-use input_types::{DisplayId, Displays, Limit, Moment};
+use input_types::{Args, DisplayId, Displays, Limit, Moment};
 use std::alloc::{AllocError, Global};
 use std::marker::Model;
 use window_snapshot::Snapshot;
 
-/// A live service: the dispatcher, with clients that come and go.
+/// A live service: the dispatcher, with clients and devices that come and go.
 ///
 /// What it keeps stands for a history of the dispatcher's calls, as the dispatcher does: each call of the service is a
 /// stated list of those, and after it the service stands for the same history with these calls more.
@@ -35,6 +36,9 @@ pub struct Live {
     pub(crate) asked: DisplayId,
     /// The channels that were named unresponsive by an `advance` that ended for want of memory.
     pub(crate) named: u64,
+    pub(crate) devices: DeviceTable,
+    /// What devices gave that is still to be handed in, the oldest first: some only after want of memory.
+    pub(crate) pending: Vec<Args>,
 }
 
 impl Model for Live {
@@ -51,6 +55,8 @@ impl Model for Live {
       requested = l.requested;
       asked = l.asked;
       named = l.named;
+      devices = l.devices;
+      pending = l.pending.items;
     } };
 }
 
@@ -63,6 +69,8 @@ impl Live {
         ensures seats { IfOk result (λ l. l.seats ≡ replicate 64 vacant) }
         ensures opened { IfOk result (λ l. l.opened ≡ 0) }
         ensures named { IfOk result (λ l. l.named ≡ 0) }
+        ensures devices { IfOk result (λ l. l.devices ≡ replicate 8 None) }
+        ensures pending { IfOk result (λ l. l.pending ≡ []) }
     {
         let dispatcher = Dispatcher::new(alloc, displays)?;
         Ok(Live {
@@ -75,6 +83,8 @@ impl Live {
             requested: [None; 4],
             asked: DisplayId::zero(),
             named: 0,
+            devices: DeviceTable::new(),
+            pending: Vec::new(alloc),
         })
     }
 

@@ -64,14 +64,26 @@ pub enum PilferRefused {
     Memory,
 }
 
-/// Why args are not dispatched.
+/// Why a device is not plugged in. Nothing changed.
+#[derive(Clone, Copy, Debug, PartialEq, Eq)]
+pub enum AddRefused {
+    /// All numbers of its display are taken.
+    TooMany,
+    /// A touch device has 1 to 16 slots.
+    BadSlots,
+}
+
+/// Why what a device gives is not dispatched.
 #[derive(Clone, Copy, Debug, PartialEq, Eq)]
 pub enum ArgsRefused {
-    /// They do not fit those of their device that came before. Nothing changed but the clock.
+    /// The device is not plugged in. Nothing changed.
+    NoDevice,
+    /// Some of it does not fit what was handed in of its device before, and was not taken. The rest was dispatched.
+    /// What a device's own events give always fits where no args were handed in for it.
     Inconsistent,
-    /// Want of memory, and the args were not taken. Nothing changed.
+    /// Want of memory, and nothing was taken. Nothing changed.
     Memory,
-    /// Want of memory after the args were taken: they wait, and are dispatched by the next `args` or `advance` that has
-    /// the memory.
+    /// Want of memory after it was taken: it waits, in its order, and is dispatched by the next call that has the
+    /// memory and gives something or advances.
     Waits,
 }

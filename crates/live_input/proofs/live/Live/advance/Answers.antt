@@ -1,30 +1,18 @@
--- What is due is done, one call after another.
-use Rattle.std.proofs.Common.{refl, sym, ap, ◌∙◌, subst}
-use Rattle.dispatch_history.specs.Ordered.{extend}
-use Rattle.live_input.specs.Standing.{LiveIs}
-use Rattle.live_input.specs.State.{LiveState}
-use Rattle.live_input.proofs.Following.{advances_more, advanced, live_noted, plain_due}
+-- What is due is done after what is still to be handed in.
+use Rattle.std.proofs.Common.{inl, inr}
+use Rattle.live_input.proofs.Handing.{advanced_from, advances_from}
+use Rattle.live_input.proofs.Results.{if_ok, on_err}
 use Rattle.live_input.proofs.live.Live.advance.Goals as goal
 
-pub loop-preserved : goal.loop-preserved
-loop-preserved c =
-    record {
-      advances = λ ds es h.
-          let a = c.loop.invariant.advances ds es h in
-          let there = subst (LiveIs ds (extend ds es a.calls)) (sym c.self.view_is) a.is in
-          let next = sym (c.next_due.ensures (extend ds es a.calls) there.stands) ∙ c.in-Some.is in
-          advances_more ds c.args.now es _ _ c.note.new.self c.in-Some.call a next
-          (c.in_ok-note.ensures.after ds (extend ds es a.calls) a.is (plain_due c.args.now (extend ds es a.calls) c.in-Some.call next))
-          (c.in_ok-note.ensures.named ds (extend ds es a.calls) a.is);
-      clients = record { seats_are = c.note.ensures.clients.seats_are ∙ c.loop.invariant.clients.seats_are; opened_is = c.note.ensures.clients.opened_is ∙ c.loop.invariant.clients.opened_is; limit_is = c.note.ensures.clients.limit_is ∙ c.loop.invariant.clients.limit_is };
-    }
+pub returns-in-Ok-clause-ok : goal.returns-in-Ok-clause-ok
+returns-in-Ok-clause-ok c = λ ds es h.
+    if_ok c.catch_up.result _ _ (c.catch_up.ensures.ok ds _ (c.in-Ok.ensures.after ds es h))
+    (λ mask a. advanced_from ds c.args.now _ mask _ _ _ c.hand_in.ensures.named a)
 
-pub returns-in_default-clause-ok : goal.returns-in_default-clause-ok
-returns-in_default-clause-ok c = λ ds es h.
-    let a = c.loop.invariant.advances ds es h in
-    let there = subst (LiveIs ds (extend ds es a.calls)) (sym c.self.view_is) a.is in
-    advanced ds c.args.now es _ _ _ _ a
-    (sym (c.next_due.ensures (extend ds es a.calls) there.stands) ∙ c.in_default.is)
-    (ap (λ (s : LiveState). s.named) c.self.view_is)
-    (live_noted ds (extend ds es a.calls) _ 0 there)
-    refl
+pub returns-in-Ok-clause-err : goal.returns-in-Ok-clause-err
+returns-in-Ok-clause-err c = λ ds es h.
+    on_err c.catch_up.result _ _ (c.catch_up.ensures.err ds _ (c.in-Ok.ensures.after ds es h))
+    (λ a. inr (advances_from ds c.args.now _ _ _ _ c.hand_in.ensures.named a))
+
+pub returns-in-Err-clause-err : goal.returns-in-Err-clause-err
+returns-in-Err-clause-err c = λ ds es h. inl (c.in-Err.ensures.part ds es h)

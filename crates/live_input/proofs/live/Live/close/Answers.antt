@@ -20,6 +20,8 @@ returns-in-Ok-clause-after c = λ ds es h is.
         seats_are = c.vacate.ensures ∙ ap (λ ss. with_seat k (record { holder = None; before = (seat_of ss k).before }) ss) same;
         opened_is = ap (λ (s : LiveState). s.opened) c.self-2.view_is ∙ c.empty.ensures.clients.opened_is;
         limit_is = ap (λ (s : LiveState). s.limit) c.self-2.view_is ∙ c.empty.ensures.clients.limit_is;
+        devices_are = ap (λ (s : LiveState). s.devices) c.self-2.view_is ∙ c.empty.ensures.clients.devices_are;
+        pending_is = ap (λ (s : LiveState). s.pending) c.self-2.view_is ∙ c.empty.ensures.clients.pending_is;
       },
       record {
         reached = reaches_same ds _ _ _ _ settled.reached (seat_goes ds _ _ there k _ held.0 held.1 high c.self-2.inside.opened c.vacate.new.seats c.vacate.ensures);

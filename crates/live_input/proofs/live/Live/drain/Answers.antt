@@ -18,7 +18,7 @@ loop-preserved c =
           let next = sym (c.next_left.ensures (extend ds es r.calls) there.stands opened) ∙ c.in-Some.is in
           reaches_more ds (next_left c.args.now c.args.channel) es _ c.make.new.self c.in-Some.call r next
           (c.in_ok-make.ensures.after ds (extend ds es r.calls) r.is (plain_left c.args.now c.args.channel (extend ds es r.calls) c.in-Some.call next));
-      clients = record { seats_are = c.make.ensures.clients.seats_are ∙ c.loop.invariant.clients.seats_are; opened_is = c.make.ensures.clients.opened_is ∙ c.loop.invariant.clients.opened_is; limit_is = c.make.ensures.clients.limit_is ∙ c.loop.invariant.clients.limit_is };
+      clients = record { seats_are = c.make.ensures.clients.seats_are ∙ c.loop.invariant.clients.seats_are; opened_is = c.make.ensures.clients.opened_is ∙ c.loop.invariant.clients.opened_is; limit_is = c.make.ensures.clients.limit_is ∙ c.loop.invariant.clients.limit_is; devices_are = c.make.ensures.clients.devices_are ∙ c.loop.invariant.clients.devices_are; pending_is = c.make.ensures.clients.pending_is ∙ c.loop.invariant.clients.pending_is };
       named = c.make.ensures.named ∙ c.loop.invariant.named;
     }
 

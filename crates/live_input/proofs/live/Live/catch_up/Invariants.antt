@@ -3,7 +3,7 @@ use Rattle.dispatch_history.specs.Effect.{Effect}
 use Rattle.live_input.specs.Advancing.{Advances}
 use Rattle.live_input.specs.Answers.{SameClients}
 use Rattle.live_input.specs.Standing.{LiveIs}
-use Rattle.live_input.proofs.live.Live.advance.Given as goal
+use Rattle.live_input.proofs.live.Live.catch_up.Given as goal
 
 -- some of what is due was done
 abbrev pub invariant-loop : goal.invariant-loop

@@ -1,0 +1,39 @@
+-- The readers of devices, by place.
+use Rattle.std.proofs.Common.{◌≡◌, ℕ, zero, suc, ◌+◌, ◌-◌, ◌≤◌, ◌<◌, true, false, List, [], ◌∷◌, length, slice_index_or, Option, Some, None, refl, sym, ap, ◌∙◌, subst, inl, inr, arith}
+use Rattle.std.proofs.lemmas.Bool.{cases_lt}
+use Rattle.device_reader.specs.Reading.{Reading}
+use Rattle.device_table.specs.Table.{AreNumbered, IsFirstFree, is_free}
+
+-- what stands at a place of a list is the same, whatever would stand past its end
+default_any : {X : Type 0} (xs : List X) (i : ℕ) (a b : X) → i < length xs → slice_index_or xs i a ≡ slice_index_or xs i b
+default_any [] i a b lt = absurd (omega arith)
+default_any (x ∷ xs) zero a b lt = refl
+default_any (x ∷ xs) (suc i) a b lt = default_any xs i a b (omega arith)
+
+-- the reader at the place of a device is its own
+pub reader_device : (readers : List (Option Reading)) (d i : ℕ) (o : Option Reading) (r : Reading) → AreNumbered readers → i ≡ d - 1 → 1 ≤ d → d ≤ 8
+    → o ≡ slice_index_or readers i o → o ≡ Some r → d ≡ r.device
+reader_device readers d i o r a at low high is there =
+    let eight = a.eight in
+    sym (a.numbers d r low
+    (ap (λ k. slice_index_or readers k None) (sym at) ∙ default_any readers i None o (omega (arith, at, low, high, eight)) ∙ sym is ∙ there))
+
+-- no number up to the next one is free
+pub none_free : (displays : List ℕ) (readers : List (Option Reading)) (y n d : ℕ) → d ≡ n + 1
+    → ((k : ℕ) → 1 ≤ k → k ≤ n → is_free displays readers y k ≡ false) → is_free displays readers y d ≡ false
+    → (k : ℕ) → 1 ≤ k → k ≤ n + 1 → is_free displays readers y k ≡ false
+none_free displays readers y n d at below this k low high =
+    elim (cases_lt n k) [
+      | inl last ↦ subst (λ j. is_free displays readers y j ≡ false) (same d k at last high) this
+      | inr le ↦ below k low le
+    ]
+  where
+    same : (d k : ℕ) → d ≡ n + 1 → n < k → k ≤ n + 1 → d ≡ k
+    same d k at last high = omega (arith, at, last, high)
+
+-- the next one is free, and none below it
+pub is_first : (displays : List ℕ) (readers : List (Option Reading)) (y n d : ℕ) → d ≡ n + 1 → n < 8
+    → ((k : ℕ) → 1 ≤ k → k ≤ n → is_free displays readers y k ≡ false) → is_free displays readers y d ≡ true
+    → IsFirstFree displays readers y (Some d)
+is_first displays readers y n d at few below this =
+    (omega (arith, at), omega (arith, at, few), this, λ k low high. below k low (omega (arith, at, high)))

@@ -1,0 +1,30 @@
+-- What is due is done, one call after another.
+use Rattle.std.proofs.Common.{refl, sym, ap, ◌∙◌, subst}
+use Rattle.dispatch_history.specs.Ordered.{extend}
+use Rattle.live_input.specs.Standing.{LiveIs}
+use Rattle.live_input.specs.State.{LiveState}
+use Rattle.live_input.proofs.Following.{advances_more, advanced, live_noted, plain_due}
+use Rattle.live_input.proofs.live.Live.catch_up.Goals as goal
+
+pub loop-preserved : goal.loop-preserved
+loop-preserved c =
+    record {
+      advances = λ ds es h.
+          let a = c.loop.invariant.advances ds es h in
+          let there = subst (LiveIs ds (extend ds es a.calls)) (sym c.self.view_is) a.is in
+          let next = sym (c.next_due.ensures (extend ds es a.calls) there.stands) ∙ c.in-Some.is in
+          advances_more ds c.args.now es _ _ c.note.new.self c.in-Some.call a next
+          (c.in_ok-note.ensures.after ds (extend ds es a.calls) a.is (plain_due c.args.now (extend ds es a.calls) c.in-Some.call next))
+          (c.in_ok-note.ensures.named ds (extend ds es a.calls) a.is);
+      clients = record { seats_are = c.note.ensures.clients.seats_are ∙ c.loop.invariant.clients.seats_are; opened_is = c.note.ensures.clients.opened_is ∙ c.loop.invariant.clients.opened_is; limit_is = c.note.ensures.clients.limit_is ∙ c.loop.invariant.clients.limit_is; devices_are = c.note.ensures.clients.devices_are ∙ c.loop.invariant.clients.devices_are; pending_is = c.note.ensures.clients.pending_is ∙ c.loop.invariant.clients.pending_is };
+    }
+
+pub returns-in_default-clause-ok : goal.returns-in_default-clause-ok
+returns-in_default-clause-ok c = λ ds es h.
+    let a = c.loop.invariant.advances ds es h in
+    let there = subst (LiveIs ds (extend ds es a.calls)) (sym c.self.view_is) a.is in
+    advanced ds c.args.now es _ _ _ _ a
+    (sym (c.next_due.ensures (extend ds es a.calls) there.stands) ∙ c.in_default.is)
+    (ap (λ (s : LiveState). s.named) c.self.view_is)
+    (live_noted ds (extend ds es a.calls) _ 0 there)
+    refl

@@ -1,0 +1,35 @@
+-- The reader takes the event, and what it gives is delivered.
+use Rattle.std.proofs.Common.{◌∷◌, ◌++◌, is_some, w32, sym, ap, ◌∙◌, subst}
+use Rattle.std.proofs.lemmas.Int.{to_z-of_z}
+use Rattle.raw_events.specs.declared.event.RawEvent.{RawEvent}
+use Rattle.device_reader.specs.Cooked.{args_of}
+use Rattle.device_table.specs.Table.{StandsAt, is_there}
+use Rattle.live_input.specs.Giving.{Gives}
+use Rattle.live_input.specs.Standing.{LiveIs}
+use Rattle.live_input.specs.State.{LiveState}
+use Rattle.live_input.proofs.Handing.{beside_goes, delivers_in, not_there, same_value}
+use Rattle.live_input.proofs.live.Live.event.Goals as goal
+
+pub returns-then-not-is_there-clause-after : goal.returns-then-not-is_there-clause-after
+returns-then-not-is_there-clause-after c = λ ds es plan past h st.
+    absurd
+    (not_there _ (sym (ap is_some st.there))
+    (sym (ap (λ (s : LiveState). is_there s.devices c.args.device) c.self.view_is) ∙ sym c.is_there.ensures ∙ c.if-not-is_there.true))
+
+pub returns-in-Ok-clause-after : goal.returns-in-Ok-clause-after
+returns-in-Ok-clause-after c = λ ds es plan past h st.
+    let e = c.event_of-event.result in
+    let same =
+    c.event_of-event.ensures ∙ same_value c.args.device c.args.now c.args.kind c.args.code _ c.args.value (to_z-of_z w32 c.args.value c.ranges.value) in
+    let of_it = ap (λ (x : RawEvent). x.device) same in
+    let at =
+    subst (λ d. StandsAt plan past d c.self.inside.devices) (sym of_it)
+    (subst (λ (s : LiveState). StandsAt plan past c.args.device s.devices) (sym c.self.view_is) st) in
+    let there = beside_goes ds es _ (subst (LiveIs ds es) (sym c.self.view_is) h) c.take_into.new.self c.take_into.new.args.items in
+    subst (λ x. Gives ds c.args.now es (args_of plan past x) (StandsAt plan (x ∷ past) x.device c.deliver.new.self.devices) c.deliver.result c.args.self.now c.deliver.new.self)
+    same
+    (delivers_in ds c.args.now es (args_of plan past e) c.take_into.new.args.items (StandsAt plan (e ∷ past) e.device c.deliver.new.self.devices)
+    c.deliver.result c.args.self.now c.deliver.new.self
+    (c.in-Ok.ensures.ok plan past at ∙ ap (λ (s : LiveState). s.pending ++ args_of plan past e) c.self.view_is)
+    (subst (StandsAt plan (e ∷ past) e.device) (sym c.deliver.ensures.devices) (c.in-Ok.ensures.after plan past at))
+    (c.deliver.ensures.after ds es there))

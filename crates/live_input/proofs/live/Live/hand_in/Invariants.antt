@@ -1,0 +1,16 @@
+use Rattle.std.proofs.Common.{◌≡◌, ℕ, List}
+use Rattle.dispatch_history.specs.Effect.{Effect}
+use Rattle.live_input.specs.Answers.{SameSeats}
+use Rattle.live_input.specs.Standing.{LiveIs}
+use Rattle.live_input.proofs.Handing.{HandsIn}
+use Rattle.live_input.proofs.live.Live.hand_in.Given as goal
+
+-- some of what was to be handed in is
+abbrev pub invariant-loop : goal.invariant-loop
+invariant-loop l =
+    record {
+      hands : (ds : List ℕ) (es : List Effect) → LiveIs ds es l.initial.self → HandsIn ds l.now es l.initial.self.pending l.self l.fits;
+      devices : l.self.devices ≡ l.initial.self.devices;
+      seats : SameSeats l.initial.self l.self;
+      named : l.self.named ≡ l.initial.self.named;
+    }

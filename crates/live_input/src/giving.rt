@@ -1,0 +1,199 @@
+//! What devices give: events, and args that are ready.
+ghost use Rattle.std.specs.Prelude.{◌≡◌, ◌==◌, ◌&&◌, ◌≤◌, ℕ, true, false, List, [], ◌∷◌, drop, slice_get, Err, IfOk, OnOk, OnErr};
+ghost use Rattle.dispatch_calls.specs.declared.call.Call.TheVariants.{Notify};
+ghost use Rattle.dispatch_history.specs.Effect.{Effect};
+ghost use Rattle.dispatch_history.specs.Legal.{answered};
+ghost use Rattle.dispatch_history.specs.Reply.{reply_to};
+ghost use Rattle.input_types.specs.DeviceRule.{device_of};
+ghost use Rattle.raw_events.specs.declared.event.RawEvent.{RawEvent as Event};
+ghost use Rattle.device_reader.specs.Cooked.{DevicePlan, args_of};
+ghost use Rattle.device_table.specs.Table.{StandsAt, is_there, reader_of};
+ghost use Rattle.live_input.specs.Answers.{SameClients, SameSeats, is_taken};
+ghost use Rattle.live_input.specs.Giving.{Delivers, Gives, HandedInPart, all_taken, notified};
+ghost use Rattle.live_input.specs.Standing.{LiveIs};
+
+use crate::live::Live;
+use crate::refused::ArgsRefused;
+use dispatch_calls::{Call, Reply};
+use input_types::{Args, DeviceId, Moment};
+use raw_events::RawEvent;
+use std::alloc::AllocError;
+
+impl Live {
+    /// An event of a device, as the kernel's `struct input_event` has it: its reader takes it, and what that gives is
+    /// dispatched to the windows.
+    ///
+    /// After a SYN_DROPPED the device begins anew, and all that was down on it is cancelled. What the kernel's state is
+    /// then, as libevdev's sync gives it, is handed in as events too: the slots, with their tracking ids and positions,
+    /// and a SYN_REPORT. So it is for a device that is plugged in while fingers are down.
+    pub fn event(
+        &mut self,
+        now: Moment,
+        device: DeviceId,
+        kind: u16,
+        code: u16,
+        value: i32,
+    ) -> Result<(), ArgsRefused>
+        ensures none { is_there self.old.devices device ≡ false
+            → (result ≡ Err ArgsRefused.NoDevice) × (self.new ≡ self.old) }
+        ensures after { (ds : List ℕ) (es : List Effect) (plan : DevicePlan) (past : List Event) → LiveIs ds es self.old
+            → StandsAt plan past device self.old.devices
+            → Gives ds now es
+            (args_of plan past (record { device = device; moment = now; kind = kind; code = code; value = value }))
+            (StandsAt plan
+            (record { device = device; moment = now; kind = kind; code = code; value = value } ∷ past) device
+            self.new.devices) result self.old self.new }
+        ensures others { (d : ℕ) → 1 ≤ d → (d == device) ≡ false
+            → reader_of self.new.devices d ≡ reader_of self.old.devices d }
+        ensures seats { SameSeats self.old self.new }
+        ensures named { self.new.named ≡ self.old.named }
+    {
+        if !self.devices.is_there(device) {
+            return Err(ArgsRefused::NoDevice);
+        }
+        let event = event_of(now, device, kind, code, value);
+        match self.devices.take_into(event, &mut self.pending) {
+            Ok(()) => self.deliver(now),
+            Err(_) => Err(ArgsRefused::Memory),
+        }
+    }
+
+    /// Motions and keys that are ready, of a device that is plugged in, are dispatched to the windows.
+    pub fn args(&mut self, now: Moment, args: Args) -> Result<(), ArgsRefused>
+        ensures none { is_there self.old.devices (device_of args) ≡ false
+            → (result ≡ Err ArgsRefused.NoDevice) × (self.new ≡ self.old) }
+        ensures after { (ds : List ℕ) (es : List Effect) → LiveIs ds es self.old
+            → is_there self.old.devices (device_of args) ≡ true
+            → Gives ds now es (args ∷ []) (self.new.devices ≡ self.old.devices) result self.old self.new }
+        ensures devices { self.new.devices ≡ self.old.devices }
+        ensures seats { SameSeats self.old self.new }
+        ensures named { self.new.named ≡ self.old.named }
+    {
+        if !self.devices.is_there(device_of(&args)) {
+            return Err(ArgsRefused::NoDevice);
+        }
+        match self.pending.push(args) {
+            Ok(()) => self.deliver(now),
+            Err(_) => Err(ArgsRefused::Memory),
+        }
+    }
+
+    /// All that is still to be handed in is handed in, and dispatched.
+    pub(crate) fn deliver(&mut self, now: Moment) -> Result<(), ArgsRefused>
+        ensures after { (ds : List ℕ) (es : List Effect) → LiveIs ds es self.old
+            → Delivers ds now es self.old.pending result self.new }
+        ensures devices { self.new.devices ≡ self.old.devices }
+        ensures seats { SameSeats self.old self.new }
+        ensures named { self.new.named ≡ self.old.named }
+    {
+        match self.hand_in(now) {
+            Ok(fits) => match self.dispatch_waiting(now) {
+                Ok(()) => {
+                    if fits {
+                        Ok(())
+                    } else {
+                        Err(ArgsRefused::Inconsistent)
+                    }
+                }
+                Err(_) => Err(ArgsRefused::Waits),
+            },
+            Err(_) => Err(ArgsRefused::Waits),
+        }
+    }
+
+    /// What is still to be handed in is handed in, one after another. The answer is whether all of it was taken.
+    pub(crate) fn hand_in(&mut self, now: Moment) -> Result<bool, AllocError>
+        ensures after { (ds : List ℕ) (es : List Effect) → LiveIs ds es self.old
+            → OnOk result (LiveIs ds (notified ds now es self.old.pending) self.new) }
+        ensures fits { (ds : List ℕ) (es : List Effect) → LiveIs ds es self.old
+            → IfOk result (λ fits. fits ≡ all_taken ds now es self.old.pending) }
+        ensures none { OnOk result (self.new.pending ≡ []) }
+        ensures part { (ds : List ℕ) (es : List Effect) → LiveIs ds es self.old
+            → OnErr result (HandedInPart ds now es self.old.pending self.new) }
+        ensures devices { self.new.devices ≡ self.old.devices }
+        ensures seats { SameSeats self.old self.new }
+        ensures named { self.new.named ≡ self.old.named }
+    {
+        let mut fits = true;
+        for _ in 0..u64::MAX {
+            let Some(next) = first_of(&self.pending) else {
+                return Ok(fits);
+            };
+            let is_taken = self.notify(now, next)?;
+            drop_first(&mut self.pending);
+            fits = still_fits(fits, is_taken);
+        }
+        Err(AllocError)
+    }
+
+    /// Args are put behind those that wait, where they fit those that came before. The answer is whether they do.
+    fn notify(&mut self, now: Moment, args: Args) -> Result<bool, AllocError>
+        ensures after { (ds : List ℕ) (es : List Effect) → LiveIs ds es self.old
+            → OnOk result (LiveIs ds (answered ds (Notify now args) es) self.new) }
+        ensures taken { (ds : List ℕ) (es : List Effect) → LiveIs ds es self.old
+            → IfOk result (λ fits. fits ≡ is_taken (reply_to es (Notify now args))) }
+        ensures clients { SameClients self.old self.new }
+        ensures named { self.new.named ≡ self.old.named }
+        ensures err { OnErr result (self.new ≡ self.old) }
+    {
+        match self.apply(&Call::Notify { now, args }) {
+            Ok(reply) => Ok(is_taken(&reply)),
+            Err(error) => Err(error),
+        }
+    }
+}
+
+/// Whether all before fitted, and the next one does.
+fn still_fits(fits: bool, is_taken: bool) -> bool
+    ensures { result ≡ (fits && is_taken) }
+{
+    fits && is_taken
+}
+
+/// The event of a device at a moment.
+fn event_of(now: Moment, device: DeviceId, kind: u16, code: u16, value: i32) -> RawEvent
+    ensures { result ≡ record { device = device; moment = now; kind = kind; code = code; value = value } }
+{
+    RawEvent {
+        device,
+        moment: now,
+        kind,
+        code,
+        value,
+    }
+}
+
+/// The first of some args.
+fn first_of(args: &[Args]) -> Option<Args>
+    ensures { result ≡ slice_get args.now 0 }
+{
+    args.first().copied()
+}
+
+/// Some args without the first.
+#[tactic(auto, using(crate::proofs::Handing::drop_none, crate::proofs::Handing::remove_first))]
+fn drop_first(args: &mut Vec<Args>)
+    ensures { args.new.items ≡ drop 1 args.old.items }
+{
+    if !args.as_slice().is_empty() {
+        args.remove(0);
+    }
+}
+
+/// The device that some args are of.
+fn device_of(args: &Args) -> DeviceId
+    ensures { result ≡ device_of args.now }
+{
+    match args {
+        Args::Motion(motion) => motion.device,
+        Args::Key(key) => key.device,
+        Args::Reset(device) => *device,
+    }
+}
+
+/// Whether args were taken.
+fn is_taken(reply: &Reply) -> bool
+    ensures { result ≡ is_taken reply.now }
+{
+    matches!(reply, Reply::Taken)
+}

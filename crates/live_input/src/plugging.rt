@@ -1,0 +1,94 @@
+//! Devices that come and go.
+ghost use Rattle.std.specs.Prelude.{◌≡◌, ◌≤◌, ◌-◌, ℕ, true, false, List, [], ◌∷◌, None, Err, OnErr, slice_set};
+ghost use Rattle.dispatch_history.specs.Effect.{Effect};
+ghost use Rattle.input_types.specs.declared.message.Args.TheVariants.{Reset};
+ghost use Rattle.device_reader.specs.Cooked.{Touches, Keys};
+ghost use Rattle.device_table.specs.Table.{is_there, reader_of};
+ghost use Rattle.live_input.specs.Answers.{SameSeats};
+ghost use Rattle.live_input.specs.Giving.{Gives};
+ghost use Rattle.live_input.specs.Plugging.{Adds, is_slots};
+ghost use Rattle.live_input.specs.Standing.{LiveIs};
+
+use crate::live::Live;
+use crate::refused::{AddRefused, ArgsRefused};
+use input_types::{Args, DeviceId, DisplayId, Moment};
+use key_layout::Layout;
+use touch_mapper::Cook;
+
+impl Live {
+    /// A touch device of a display is plugged in, with 1 to 16 slots, whose positions become pixels by `cook`. It has
+    /// the least number of its display that is free.
+    ///
+    /// Fingers that are down on it already are handed in as events, as after a SYN_DROPPED.
+    pub fn add_touch(
+        &mut self,
+        display: DisplayId,
+        slots: u8,
+        cook: Cook,
+    ) -> Result<DeviceId, AddRefused>
+        ensures slots { is_slots slots ≡ false → result ≡ Err AddRefused.BadSlots }
+        ensures added { is_slots slots ≡ true
+            → Adds (λ d. Touches (record { device = d; slots = slots; cook = cook })) display result self.old self.new }
+        ensures rest { self.new ≡ record self.old { devices = self.new.devices } }
+        ensures others { (d : ℕ) → 1 ≤ d → is_there self.old.devices d ≡ true
+            → reader_of self.new.devices d ≡ reader_of self.old.devices d }
+        ensures stands { (ds : List ℕ) (es : List Effect) → LiveIs ds es self.old → LiveIs ds es self.new }
+        ensures err { OnErr result (self.new ≡ self.old) }
+    {
+        if !is_slots(slots) {
+            return Err(AddRefused::BadSlots);
+        }
+        let Some(device) = self.devices.first_free(self.dispatcher.displays(), display) else {
+            return Err(AddRefused::TooMany);
+        };
+        self.devices.add_touch(self.alloc, device, slots, cook);
+        Ok(device)
+    }
+
+    /// A device with keys is plugged in, whose layout says which key code each scan code has. It has the least number
+    /// of its display that is free; its keys go where all keys go.
+    pub fn add_keys(&mut self, display: DisplayId, layout: Layout) -> Result<DeviceId, AddRefused>
+        ensures added { Adds (λ d. Keys (record { device = d; layout = layout })) display result self.old self.new }
+        ensures rest { self.new ≡ record self.old { devices = self.new.devices } }
+        ensures others { (d : ℕ) → 1 ≤ d → is_there self.old.devices d ≡ true
+            → reader_of self.new.devices d ≡ reader_of self.old.devices d }
+        ensures stands { (ds : List ℕ) (es : List Effect) → LiveIs ds es self.old → LiveIs ds es self.new }
+        ensures err { OnErr result (self.new ≡ self.old) }
+    {
+        let Some(device) = self.devices.first_free(self.dispatcher.displays(), display) else {
+            return Err(AddRefused::TooMany);
+        };
+        self.devices.add_keys(self.alloc, device, layout);
+        Ok(device)
+    }
+
+    /// A device is unplugged. Its pointers and keys are cancelled as by a reset, and its number is free.
+    pub fn remove_device(&mut self, now: Moment, device: DeviceId) -> Result<(), ArgsRefused>
+        ensures none { is_there self.old.devices device ≡ false
+            → (result ≡ Err ArgsRefused.NoDevice) × (self.new ≡ self.old) }
+        ensures after { (ds : List ℕ) (es : List Effect) → LiveIs ds es self.old
+            → is_there self.old.devices device ≡ true
+            → Gives ds now es (Reset device ∷ []) (self.new.devices ≡ slice_set self.old.devices (device - 1) None)
+            result self.old self.new }
+        ensures seats { SameSeats self.old self.new }
+        ensures named { self.new.named ≡ self.old.named }
+    {
+        if !self.devices.is_there(device) {
+            return Err(ArgsRefused::NoDevice);
+        }
+        match self.pending.push(Args::Reset(device)) {
+            Ok(()) => {
+                self.devices.remove(device);
+                self.deliver(now)
+            }
+            Err(_) => Err(ArgsRefused::Memory),
+        }
+    }
+}
+
+/// Whether a touch device can have so many slots.
+fn is_slots(slots: u8) -> bool
+    ensures { result ≡ is_slots slots }
+{
+    1 <= slots && slots <= 16
+}
