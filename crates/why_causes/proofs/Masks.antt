@@ -1,5 +1,5 @@
 -- Masks of candidates and targets.
-use Rattle.std.proofs.Common.{◌≡◌, ◌<◌, ◌^◌, ℕ, Bool, true, false, not, ◌&&◌, ◌||◌, ◌==◌, List, Option, Some, None, refl, sym, ap, ap₂, ◌∙◌, bit_and, arith}
+use Rattle.std.proofs.Common.{◌≡◌, ℕ, Bool, true, false, not, ◌&&◌, ◌||◌, ◌==◌, List, Option, Some, None, refl, sym, ap, ap₂, ◌∙◌, bit_and, arith}
 use Rattle.std.specs.Int.{bit_not, w64}
 use Rattle.std.specs.List.{list_any}
 use Rattle.input_types.specs.declared.axis.Pixel.{Pixel}
@@ -11,15 +11,13 @@ use Rattle.window_snapshot.proofs.Masks.{mask_has-with, mask_has-zero}
 use Rattle.window_snapshot.proofs.Parts.{mask_has-and}
 use Rattle.routing_rules.specs.Scene.{Scene}
 use Rattle.routing_rules.specs.Choice.{is_candidate, is_candidate_of, takers}
-use Rattle.route_split.specs.Seen.{Sees}
 use Rattle.route_split.specs.Tables.{Stands}
 use Rattle.route_split.proofs.Found.{symmetric}
 use Rattle.route_split.proofs.MaskSets.{mask_has-not}
 use Rattle.touch_state.specs.Touches.{Touches}
 use Rattle.why_text.specs.Down.{down_of, targets}
 use Rattle.why_text.proofs.PartLaws.{given_is}
-use Rattle.why_causes.specs.Causes.{Comes, Has, IsSeen}
-use Rattle.why_causes.specs.declared.sight.Sight.{Sight}
+use Rattle.why_causes.specs.Causes.{Comes}
 use Rattle.why_text.proofs.OutsideLaws.{outside_law}
 use Rattle.routing_rules.specs.Watching.{is_watching}
 

@@ -1,15 +1,14 @@
 -- The words of the causes.
-use Rattle.std.proofs.Common.{◌≡◌, ◌≤◌, ◌<◌, ℕ, zero, suc, ◌&&◌, Bool, true, cond, List, [], ◌∷◌, ◌++◌, filter, Option, refl, sym, ap, ap₂, ◌∙◌, arith}
+use Rattle.std.proofs.Common.{◌≡◌, ◌≤◌, ℕ, zero, suc, ◌&&◌, Bool, true, cond, [], ◌∷◌, ◌++◌, filter, Option, refl, sym, ap, ap₂, ◌∙◌, arith}
 use Rattle.std.specs.Prelude.{codes}
 use Rattle.std.proofs.lemmas.Bool.{lt-ltb, le-leb}
 use Rattle.std.proofs.lemmas.List.Elements.{filter-append}
 use Rattle.window_snapshot.specs.Mask.{is_channel}
 use Rattle.dispatch_history.specs.Effects.{channels}
-use Rattle.input_types.specs.declared.pointer.Pointer.{Pointer}
 use Rattle.routing_rules.specs.declared.choice.Choice.{Choice}
 use Rattle.why_text.specs.Words.{channel_word, channels_that, row_word, set_word, windows_word}
 use Rattle.why_text.specs.Down.{Down}
-use Rattle.why_text.specs.Lines.{choice_words, down_words, pointer_words, sets_words}
+use Rattle.why_text.specs.Lines.{choice_words, pointer_words, sets_words}
 use Rattle.why_writer.specs.declared.downs.Causes.{Causes}
 use Rattle.why_writer.specs.Causes.{down_with}
 use Rattle.why_causes.specs.Causes.{AreCauses}

@@ -1,17 +1,16 @@
 //! What happens to channels: pilfers, timeouts, removals, and requests of the focus.
 ghost use Rattle.std.specs.Prelude.{◌≡◌, ◌++◌, codes, decimal, IfOk};
-ghost use Rattle.dispatch_calls.specs.declared.reply.Reply.{Reply as Answer};
 ghost use Rattle.window_snapshot.specs.Mask.{mask_has};
 ghost use Rattle.why_text.specs.Lines.{pilfer_word, refusal_word, removed_word, request_word, responsive_word, taken_word, timeout_word};
 ghost use Rattle.why_text.specs.Lost.{items_word};
 ghost use Rattle.why_text.specs.Text.{line};
 ghost use Rattle.why_writer.specs.Lost.{ids_in, items_of};
+ghost use Rattle.why_writer.specs.Refusals.{answer_of};
 
 use crate::line::{add_clock, add_device};
 use crate::losing::{Lost, add_lost};
 use crate::sets::{add_channel, add_id_set, add_windows};
 use bits32::Bits32;
-use dispatch_calls::Reply;
 use input_types::{DeviceId, DisplayId, Moment};
 use std::alloc::AllocError;
 use text_lines::{add_labeled, add_word};
@@ -53,31 +52,41 @@ pub fn pilfer(
     add_word(text, "\n")
 }
 
-/// The word of an answer by which a pilfer is refused.
-fn refusal_word(reply: &Reply) -> &'static str
-    ensures { result.now ≡ refusal_word reply.now }
+/// Why a pilfer is refused.
+#[derive(Clone, Copy, Debug, PartialEq, Eq)]
+pub enum PilferRefused {
+    /// The channel is not live.
+    Gone,
+    /// Its window is no spy.
+    NotSpy,
+    /// It holds nothing of the device.
+    NothingHeld,
+}
+
+/// The word of a refusal.
+fn refusal_word(refused: PilferRefused) -> &'static str
+    ensures { result.now ≡ refusal_word (answer_of refused) }
 {
-    match reply {
-        Reply::Gone => "Gone",
-        Reply::NotSpy => "NotSpy",
-        Reply::NothingHeld => "NothingHeld",
-        _ => "",
+    match refused {
+        PilferRefused::Gone => "Gone",
+        PilferRefused::NotSpy => "NotSpy",
+        PilferRefused::NothingHeld => "NothingHeld",
     }
 }
 
-/// Adds the line of a pilfer that is refused by this answer: `Gone`, `NotSpy` or `NothingHeld`.
+/// Adds the line of a pilfer that is refused.
 pub fn pilfer_refused(
     text: &mut Vec<u8>,
     clock: Moment,
     channel: u32,
     device: DeviceId,
-    reply: &Reply,
+    refused: PilferRefused,
 ) -> Result<(), AllocError>
     ensures { IfOk result (λ _. text.new.items
-        ≡ text.old.items ++ line clock (pilfer_word channel device (refusal_word reply.now))) }
+        ≡ text.old.items ++ line clock (pilfer_word channel device (refusal_word (answer_of refused)))) }
 {
     add_pilfer(text, clock, channel, device)?;
-    add_word(text, refusal_word(reply))?;
+    add_word(text, refusal_word(refused))?;
     add_word(text, "\n")
 }
 

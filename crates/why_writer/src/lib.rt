@@ -20,7 +20,9 @@ mod sets;
 mod snapshot;
 
 pub use changes::{focus, target};
-pub use channels::{pilfer, pilfer_refused, removed, removed_gone, request, responsive, timeout};
+pub use channels::{
+    PilferRefused, pilfer, pilfer_refused, removed, removed_gone, request, responsive, timeout,
+};
 pub use downs::{Causes, down};
 pub use keys::{key_down, key_up, repeat};
 pub use losing::{Lost, gone};

@@ -1,7 +1,7 @@
 use Rattle.std.proofs.Common.{◌≡◌, ℕ, true, ◌&&◌, not, sym, ap, ap₂, ◌∙◌}
 use Rattle.window_snapshot.specs.Mask.{is_channel, mask_has}
 use Rattle.window_snapshot.specs.Hits.{is_spy_at, touched}
-use Rattle.routing_rules.specs.Choice.{choice_at, is_candidate}
+use Rattle.routing_rules.specs.Choice.{is_candidate}
 use Rattle.routing_rules.specs.Watching.{is_watching}
 use Rattle.why_text.specs.Down.{down_of, targets}
 use Rattle.why_causes.proofs.Masks.{able_targets, and_turned, same_candidates, watching_rest}
