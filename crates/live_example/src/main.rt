@@ -1,0 +1,141 @@
+//! The main loop of a program that sends its fingers through the live service, as a window manager has it.
+//!
+//! In place of a kernel and of clients there are fixed ones: one panel, whose events are a table, and two clients with
+//! a window each, side by side. The left one is done with each message at once. The right one never is, so it is named
+//! after five seconds, and the finger that it holds is cancelled.
+#![tactic(auto)]
+
+mod events;
+mod start;
+
+ghost use Rattle.std.specs.Prelude.{◌≤◌};
+
+use crate::events::EVENTS;
+use crate::start::Started;
+use input_types::{Message, Moment};
+use live_input::Client;
+use std::alloc::{AllocError, Global};
+use std::io;
+use std::io::Write;
+use stream_text::message_text;
+
+/// A line about a channel.
+fn say(alloc: Global, channel: u32, text: &str, out: &mut Vec<u8>) -> Result<(), AllocError> {
+    out.extend_from_slice(format!(in alloc; "channel {channel}: {text}")?.as_bytes())
+}
+
+/// Whether a mask has a channel.
+fn has(mask: u64, channel: u32) -> bool
+    requires { (1 ≤ channel) × (channel ≤ 64) }
+{
+    mask >> (channel - 1) & 1 == 1
+}
+
+/// A message is sent to the client of a channel. The answer is its number.
+fn tell(
+    alloc: Global,
+    channel: u32,
+    message: &Message,
+    out: &mut Vec<u8>,
+) -> Result<Option<u64>, AllocError> {
+    let seq = message.seq;
+    say(alloc, channel, "", out)?;
+    message_text(message, out)?;
+    Ok(Some(seq))
+}
+
+/// The next message of a client is sent to it. The answer is its number, where there is one.
+fn tell_next(
+    started: &mut Started,
+    client: Client,
+    out: &mut Vec<u8>,
+) -> Result<Option<u64>, AllocError> {
+    match started.live.next(client) {
+        Ok(Some(message)) => tell(started.alloc, client.channel(), &message, out),
+        Ok(None) => Ok(None),
+        Err(error) => Err(error),
+    }
+}
+
+/// A client gets all its messages, and answers that it is done with each, unless it is the one that never is.
+fn send_to(
+    started: &mut Started,
+    now: Moment,
+    client: Client,
+    out: &mut Vec<u8>,
+) -> Result<(), AllocError> {
+    for _ in 0..u64::MAX {
+        let Some(seq) = tell_next(started, client, out)? else {
+            return Ok(());
+        };
+        if client != started.idle && started.live.finish(now, client, seq).is_err() {
+            return Err(AllocError);
+        }
+    }
+    Ok(())
+}
+
+/// The clients that have something new get it.
+fn send(started: &mut Started, now: Moment, out: &mut Vec<u8>) -> Result<(), AllocError> {
+    let waiting = started.live.waiting();
+    for channel in 1..=64u32 {
+        if has(waiting, channel) {
+            if let Some(client) = started.live.client_at(channel) {
+                send_to(started, now, client, out)?;
+            }
+        }
+    }
+    Ok(())
+}
+
+/// The clock is at a moment: what is due is done, and who does not respond is told.
+fn advance(started: &mut Started, now: Moment, out: &mut Vec<u8>) -> Result<(), AllocError> {
+    let late = started.live.advance(now)?;
+    for channel in 1..=64u32 {
+        if has(late, channel) {
+            say(started.alloc, channel, "does not respond\n", out)?;
+        }
+    }
+    send(started, now, out)
+}
+
+/// An event came.
+fn take(
+    started: &mut Started,
+    event: (u64, u16, u16, i32),
+    out: &mut Vec<u8>,
+) -> Result<(), AllocError> {
+    let (at, kind, code, value) = event;
+    let Some(now) = Moment::new(at) else {
+        return Ok(());
+    };
+    // The clock may have passed what was due before the event.
+    advance(started, now, out)?;
+    match started.live.event(now, started.panel, kind, code, value) {
+        Ok(()) => send(started, now, out),
+        Err(_) => Err(AllocError),
+    }
+}
+
+/// All events, and then what is due in the seconds after them.
+fn run(started: &mut Started, out: &mut Vec<u8>) -> Result<(), AllocError> {
+    for event in EVENTS {
+        take(started, *event, out)?;
+    }
+    match started.live.due() {
+        Some(due) => match Moment::new(due) {
+            Some(now) => advance(started, now, out),
+            None => Ok(()),
+        },
+        None => Ok(()),
+    }
+}
+
+fn main(rt: HostRuntime) -> io::Result<()> {
+    let alloc = rt.alloc();
+    let mut out = Vec::new(alloc);
+    if let Some(mut started) = start::start(alloc) {
+        run(&mut started, &mut out)?;
+    }
+    rt.stdout().write_all(&out)
+}

@@ -1,0 +1,74 @@
+//! The service at the start: a panel, and two clients with their windows.
+use input_types::{Axis, DeviceId, DisplayId, Displays, Limit, Moment, Rotation};
+use live_input::{Client, ClientWindow, Live};
+use std::alloc::Global;
+use touch_mapper::Cook;
+use touch_region::{Rect, Region};
+
+/// A service with one panel, and the client that never finishes a message.
+#[derive(Drop)]
+pub(crate) struct Started {
+    pub alloc: Global,
+    pub live: Live,
+    pub panel: DeviceId,
+    pub idle: Client,
+}
+
+/// A window of a client, from a left to a right edge.
+fn window(alloc: Global, client: Client, left: i32, right: i32) -> Option<ClientWindow> {
+    let frame = Rect {
+        left,
+        top: 0,
+        right,
+        bottom: 2400,
+    };
+    let mut rects = Vec::new(alloc);
+    rects.push(frame).ok()?;
+    Some(ClientWindow {
+        client,
+        display: DisplayId::zero(),
+        frame,
+        region: Region::new(rects).ok()?,
+        flags: bitflags::Flags::from_bits_retain(0),
+    })
+}
+
+/// A panel whose positions are the pixels of its display.
+fn plug_in(live: &mut Live) -> Option<DeviceId> {
+    let x = Axis { min: 0, max: 1079 };
+    let y = Axis { min: 0, max: 2399 };
+    let cook = Cook::new(x, y, 1080, 2400, Rotation::R0).ok()?;
+    live.add_touch(DisplayId::zero(), 10, cook).ok()
+}
+
+/// The clients have their windows, side by side.
+fn show(alloc: Global, live: &mut Live, left: Client, right: Client) -> Option<()> {
+    let mut windows = Vec::new(alloc);
+    windows.push(window(alloc, left, 0, 540)?).ok()?;
+    windows.push(window(alloc, right, 540, 1080)?).ok()?;
+    live.windows(Moment::zero(), windows).ok()
+}
+
+/// The panel is plugged in, and two clients are opened and shown. The answer is the panel, and the right client.
+fn set_up(alloc: Global, live: &mut Live) -> Option<(DeviceId, Client)> {
+    let panel = plug_in(live)?;
+    let left = live.open().ok()?;
+    let right = live.open().ok()?;
+    show(alloc, live, left, right)?;
+    Some((panel, right))
+}
+
+/// A service with a panel, and two clients with their windows.
+pub(crate) fn start(alloc: Global) -> Option<Started> {
+    let limit = Limit::new(5_000_000)?;
+    let mut live = Live::new(alloc, limit, &Displays::new()).ok()?;
+    match set_up(alloc, &mut live) {
+        Some((panel, idle)) => Some(Started {
+            alloc,
+            live,
+            panel,
+            idle,
+        }),
+        None => None,
+    }
+}
