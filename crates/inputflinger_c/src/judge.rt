@@ -44,7 +44,7 @@ impl Judge {
             return None;
         }
         let Judge { cell, .. } = mem::replace(self, Judge::free(alloc));
-        Some(cell.into_parts().into_box())
+        Some(cell.into_box())
     }
 
     /// Puts a judge into a handle that is free.

@@ -45,14 +45,11 @@ impl JudgeCell {
     }
 
     /// The judge of a cell that has one.
-    pub fn into_parts(self) -> Parts<Verifier, Global>
+    pub fn into_box(self) -> Box<Verifier>
         requires { IsSome self.told }
         ensures { self.told ≡ Some result.value }
     {
         let JudgeCell { at, alloc } = self;
-        Parts {
-            at: at as *mut Verifier,
-            alloc,
-        }
+        unsafe { Box::from_raw(alloc, at as *mut Verifier) }
     }
 }

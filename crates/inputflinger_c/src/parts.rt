@@ -1,4 +1,4 @@
-//! A box taken apart: where its value lies, and the allocator that frees it.
+//! What is left of a box that is taken apart: where its value lies, and the allocator that frees it.
 ghost use Rattle.std.specs.Prelude.{◌≡◌};
 ghost use Rattle.std.specs.Box.Ownership.{box_owns};
 
@@ -25,13 +25,5 @@ impl<T, A: Allocator> Parts<T, A> {
     {
         let (at, alloc) = Box::into_raw_with_allocator(whole);
         Parts { at, alloc }
-    }
-
-    /// The box that was taken apart.
-    pub fn into_box(self) -> Box<T, A>
-        ensures { result.value ≡ self.value }
-    {
-        let Parts { at, alloc } = self;
-        unsafe { Box::from_raw(alloc, at) }
     }
 }

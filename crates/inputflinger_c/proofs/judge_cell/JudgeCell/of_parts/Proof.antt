@@ -1,64 +1,50 @@
--- `of_parts` moves two fields, and what they own goes with them.
-use mathlib.Core.Path.{refl, sym, subst}
+-- The two fields of the parts become the two of the cell, and what the parts own goes with them.
+use mathlib.Core.Path.{sym, refl}
 use mathlib.Core.List.{List, [], ◌∷◌, ◌++◌}
-use seplogic.Ra.Ura.{Ura}
 use mir.Val.{Val}
-use base.Logic.{SProp, ent, emp, id⊢}
 use base.Fml.{ftrue, fsep}
-use Rattle.std.specs.Prelude.{Some}
-use prog.Memory.{Memory}
-use prog.Routine.{Routine}
-use prog.Wp.{WpFn, Tables}
-use types.Logic.{Logic}
-use contract.Monad.{Fun}
-use contract.Running.{tables, tables_of}
-use sound.WpLaws.{WpFn-mono}
-use types.Kit.{Item, ‵, raw, ◌⊛◌, ◌$◌, ◌∵◌, !, qed, by, move, drop, use1, join, split, fsplit, fjoin, suffices, done}
+use base.Logic.{id⊢}
+use prog.Wp.{WpFn}
+use contract.Running.{tables}
+use types.Kit.{prop, ‵, ◌⊛◌, ◌$◌, ◌∵◌, !, qed, by, move, keep, drop, use1, split, fsplit, fjoin, regoal}
 use types.Part.{whole, sub, agg}
 use types.Run.{stop, fld, no_more, and_then, of_opd, returns, enter}
 use types.ByLocal.{alloc_all, pass_all, free_all, look_at, get, get_in, sets}
 use denote.Exit.{yes}
-use denote.Signature.{type_at}
-use denote.Steps.{nothing}
-use denote.Triple.Spec.{triple_of}
-use denote.Triple.Table.{entered}
-use denote.Triple.Walked.{says, Stays, stay_dropped, walk_of, ends_at, Goes-dropped, walk_Meets}
-use Rattle.std_alloc.proofs.BoxSteps.Form.{D, B, word, box_typed}
-use Rattle.std_alloc.proofs.BoxSteps.Steps.{box_out, box_in}
-use Rattle.inputflinger_c.proofs.JudgeBox.{E, FromParts as From}
-use Rattle.inputflinger_c.specs.contracts.judge_cell.JudgeCell.of_parts as F
-use Rattle.inputflinger_c.specs.contracts.judge_cell.JudgeCell.of_parts.Key.{name as #self}
-use Rattle.inputflinger_c.proofs.judge_cell.JudgeCell.of_parts.Statement as stated
+use denote.Signature.{plain}
+use denote.Triple.Walked.{Stays, stay_dropped, walk_of, Goes-dropped}
+use Rattle.std.specs.Prelude.{Some}
+use Rattle.std.proofs.raw_atomic.Walks.{proved_at, leaves}
+use Rattle.gesture_verifier.specs.contracts.verifier.Verifier as Judge
+use Rattle.inputflinger_c.specs.contracts.judge_cell.JudgeCell as Cell
+use Rattle.inputflinger_c.specs.contracts.parts.Parts as Parts
+use Rattle.inputflinger_c.specs.contracts.judge_cell.JudgeCell.of_parts as f
+use Rattle.inputflinger_c.proofs.JudgeBox.{global}
+use Rattle.inputflinger_c.proofs.Walking.{pair, good_pair, good_address, taken_apart, put_together, answered}
+use Rattle.inputflinger_c.proofs.judge_cell.JudgeCell.of_parts.Statement.{statement}
 use Rattle.inputflinger_c.proofs.judge_cell.JudgeCell.of_parts.Code as code
 
-abbrev stayed : Stays (F.ended).signature.params (F.ended).kept
-stayed = (stay_dropped From yes, tt)
+abbrev gone : Stays f.ended.signature.params f.ended.kept
+gone = (stay_dropped _ yes, tt)
 
-module _ {M : Type 1} {𝓤 : Ura M} (𝓛 : Logic 𝓤) (at_mem : Memory → SProp 𝓤) (run : Routine → Fun 𝓤) (𝓣 : Tables 𝓤 𝓛.H) where
-  open 𝓛 use {H}
-
-  walk : (z : (walk_of 𝓛 F.ended stayed (F.clauses 𝓛 at_mem run)).Ghost)
-      → ent 𝓤 ((walk_of 𝓛 F.ended stayed (F.clauses 𝓛 at_mem run)).pre z) (WpFn 𝓤 H 𝓣.C 𝓣.Λ code.function (z.0.4.0 ++ []) ((walk_of 𝓛 F.ended stayed (F.clauses 𝓛 at_mem run)).post z))
-  walk z =
-      let Post = (walk_of 𝓛 F.ended stayed (F.clauses 𝓛 at_mem run)).post z in
-      let v : D E = record { ptr = z.0.3.0.at; alloc = z.0.3.0.alloc; value = z.0.3.0.value } in
-      let To = type_at (F.signature).result tt in
-      let made : To.Denot = record { at = v.ptr; alloc = v.alloc; told = Some v.value } in
-      qed 𝓛 ((‵ ftrue ⊛ ‵ (fsep ((B E).own_val v z.0.4.0) ftrue)) ∷ raw (emp 𝓤) ∷ []) ∵ split ! $ drop ! $ fsplit ! $
-      box_out E ! v z.0.4.0 (λ b o hv e ws fa. box_in E ! v b o v.value e refl $ use1 𝓛 (‵ (To.own_val made (word E hv b o ∷ []))) (id⊢ 𝓤 _) $ move ! (1 ∷ 2 ∷ []) $ drop ! $ drop ! $
-      let w = word E hv b o in
-      let Γ : List (Item 𝓤) = ‵ (To.own_val made (w ∷ [])) ∷ [] in
-      by ! (subst (λ (us : List Val). ent 𝓤 (types.Kit.⋆ 𝓛 Γ) (WpFn 𝓤 H 𝓣.C 𝓣.Λ code.function (us ++ []) Post)) (sym ws)
-      (qed 𝓛 Γ ∵ enter ! 𝓣.C 𝓣.Λ code.function (w ∷ []) _ $ alloc_all ! (λ ls. pass_all ! refl (box_typed E hv b o fa, tt) $
-      sets ! (of_opd ! (get_in ! (fld ! refl (stop !)) (sub ! 0 refl (whole !)))) refl (tt, tt) $ sets ! (of_opd ! (get_in ! (fld ! refl (stop !)) (sub ! 1 refl (whole !)))) refl fa $ sets ! (of_opd ! (get ! refl)) refl (tt, tt) $
-      sets ! (agg ! (and_then ! (get ! refl) (and_then ! (get ! refl) (no_more !)))) refl (box_typed E hv b o fa) $ returns ! (look_at ! 0 refl) $ free_all ! refl $
-      suffices ! _ (ends_at 𝓛 F.ended stayed (F.clauses 𝓛 at_mem run) z w made (tt, tt) (tt, tt)) $ says ! refl $
-      nothing ! $ nothing ! $ fjoin ! $ join ! $ nothing ! $ join ! $ done !))))
-
-pub of_parts_spec : {M : Type 1} → stated.statement M
-unfolding tables_of
+pub of_parts_spec : {M : Type 1} → statement M
 of_parts_spec 𝓤 𝓛 𝓜 𝓡 wired =
-    let 𝓣 : Tables 𝓤 𝓛.H = tables_of 𝓤 𝓛.H 𝓜 (tables 𝓤 𝓛.H 𝓜 𝓡 𝓡.env) in
-    entered 𝓤 𝓛.H (triple_of 𝓛 F.signature (F.spec 𝓛 𝓜.mem 𝓡.returns)) 𝓣.C 𝓣.Λ #self code.function (code.unfolded 𝓤 𝓛.H 𝓜 𝓡 wired)
-    (walk_Meets 𝓛 F.ended stayed (Goes-dropped 𝓛 0 From yes (λ κs x f. refl), tt) (F.clauses 𝓛 𝓜.mem 𝓡.returns) (WpFn 𝓤 𝓛.H 𝓣.C 𝓣.Λ code.function) (WpFn-mono 𝓤 𝓛.H 𝓛.laws 𝓣 code.function)
-    (walk 𝓛 𝓜.mem 𝓡.returns 𝓣))
+    let c = f.clauses 𝓛 𝓜.mem 𝓡.returns in let Ends = (walk_of 𝓛 f.ended gone c).post in let 𝓣 = tables 𝓤 𝓛.H 𝓜 𝓡 𝓡.env in
+    proved_at 𝓛 f.ended gone c 𝓜 𝓡 (Goes-dropped 𝓛 0 (plain (λ _. Parts.the_row Judge.the_row global.row global.g)) yes (λ κs x w. refl), tt)
+    f.Key.name code.function (code.unfolded 𝓤 𝓛.H 𝓜 𝓡 wired) (λ y are.
+    let parts = y.0.3.0 in let words = y.0.4.0 in
+    let cell : Cell.the_row.Denot = record { at = parts.at; alloc = parts.alloc; told = Some parts.value } in
+    qed 𝓛 ((‵ ftrue ⊛ ‵ (fsep ((Parts.the_row Judge.the_row global.row global.g).own_val parts words) ftrue)) ∷ ‵ ftrue ∷ []) ∵
+    split ! $ drop ! $ fsplit ! $ fsplit ! $
+    taken_apart global ! parts.at parts.alloc words (λ v are_pair fits.
+    -- [the allocator; the judge in its block; nothing; nothing]
+    put_together global ! parts.at parts.alloc v $ fjoin ! $
+    regoal ! (λ (ws : List Val). prop (WpFn 𝓤 𝓛.H 𝓣.C 𝓣.Λ code.function (ws ++ []) (Ends y))) are_pair refl $
+    enter ! _ _ _ _ _ $ alloc_all ! (λ ls. pass_all ! refl (good_pair global parts.at v fits, tt) $
+    sets ! (of_opd ! (get_in ! (fld ! refl (stop !)) (sub ! 0 refl (whole !)))) refl (good_address parts.at) $
+    sets ! (of_opd ! (get_in ! (fld ! refl (stop !)) (sub ! 1 refl (whole !)))) refl fits $
+    sets ! (of_opd ! (get ! refl)) refl (good_address parts.at) $
+    sets ! (agg ! (and_then ! (get ! refl) (and_then ! (get ! refl) (no_more !)))) refl (good_pair global parts.at v fits) $
+    returns ! (look_at ! 0 refl) $ free_all ! refl $
+    use1 𝓛 (‵ (Cell.the_row.own_val cell (pair parts.at v ∷ []))) (id⊢ 𝓤 _) $ keep ! (0 ∷ []) $
+    answered ! refl $ by ! (leaves 𝓛 f.ended gone c y (pair parts.at v) cell (tt, tt) (tt, tt)))))
