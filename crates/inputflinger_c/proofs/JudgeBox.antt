@@ -1,4 +1,4 @@
--- The allocator of a judge's box, and how a judge's cell is entered.
+-- The allocator of a judge's box, and the types at which the box is made again.
 use mathlib.Core.Path.{◌≡◌, refl}
 use mathlib.Core.List.{[], ◌∷◌}
 use mir.Syntax.{impl, tcons, tnil, dnil}
@@ -16,7 +16,13 @@ use Rattle.std_heap.proofs.Global.TheLaws as heap
 
 -- the allocator, whose own drop does nothing
 abbrev pub global : Al
-global = record { row = Heap.the_row; laws = heap.the_row_laws; g = ghosts; d = dict; drops = impl ("inputflinger_c::Destruct++none::drop" ∷ []) (tcons (raw (layout Heap.the_row)) tnil) dnil }
+global = record {
+  row = Heap.the_row;
+  laws = heap.the_row_laws;
+  g = ghosts;
+  d = dict;
+  drops = impl ("inputflinger_c::Destruct++none::drop" ∷ []) (tcons (raw (layout Heap.the_row)) tnil) dnil;
+}
 
 -- the types that a call of `from_raw` is made at: its two arguments are spent
 abbrev pub spent : (R : RattleType) → RattleType

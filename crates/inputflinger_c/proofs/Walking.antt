@@ -1,9 +1,9 @@
--- What the walks share: an address beside an allocator, as the machine keeps a box, its parts and a judge's cell.
+-- What the walks share: an address beside an allocator, as the machine keeps a box, and a judge's cell too.
 use mathlib.Core.Path.{◌≡◌, refl, sym, ap, subst, ◌∙◌}
 use mathlib.Core.List.{List, [], ◌∷◌, ◌++◌}
 use lib.Dec.{T, lit<}
 use seplogic.Ra.Ura.{Ura}
-use mir.Syntax.{Ty, ty_ptr, ty_struct, tcons, tnil}
+use mir.Syntax.{ty_ptr, ty_struct, tcons, tnil}
 use mir.Val.{Val, vstruct, vcons, vnil, of_list, has_ty, WT}
 use base.Logic.{emp}
 use base.Fml.{Fml, ftrue, fsep}
@@ -21,11 +21,11 @@ use denote.Struct.Struct.{Shape, Struct, within}
 use Rattle.core.proofs.alloc.Calls.{Al, α, Fits, handle_tells}
 use Rattle.std_alloc.proofs.ResultValues.{and_tt}
 
--- machine values of a type that is one word
-one_word : (τ : Ty) (vs : List Val) → Typed (τ ∷ []) vs → (v : Val) × ((vs ≡ v ∷ []) × (T (has_ty τ v) × WT v))
-one_word τ [] typed = absurd typed
-one_word τ (v ∷ []) typed = (v, (refl, typed.0))
-one_word τ (v ∷ u ∷ vs) typed = absurd typed.1
+-- the machine keeps an allocator in one value
+in_one : (Z : Al) (vs : List Val) → Typed (α Z ∷ []) vs → (v : Val) × (Fits Z v × (vs ≡ v ∷ []))
+in_one Z (v ∷ []) fits = (v, (fits.0, refl))
+in_one Z (v ∷ more ∷ vs) fits = absurd fits.1
+in_one Z [] fits = absurd fits
 
 -- an address is well typed, null too
 pub good_address : (p : Ptr) → T (has_ty ty_ptr (ptr_val p)) × WT (ptr_val p)
@@ -57,10 +57,11 @@ module _ (Z : Al) where
   good_answer p v u is fits = subst Good (sym (ap only is)) (good_pair p v fits)
 
   -- which machine values the fields have, by what their types say
-  pub as_pair : {M : Type 1} {𝓤 : Ura M} (𝓛 : Logic 𝓤) (p : Ptr) (a : Z.row.Denot) (vs : List Val) → shadow (fields p a vs) → (v : Val) × ((vs ≡ pair p v ∷ []) × Fits Z v)
+  pub as_pair : {M : Type 1} {𝓤 : Ura M} (𝓛 : Logic 𝓤) (p : Ptr) (a : Z.row.Denot) (vs : List Val)
+      → shadow (fields p a vs) → (v : Val) × ((vs ≡ pair p v ∷ []) × Fits Z v)
   as_pair 𝓛 p a vs says =
-      let one = one_word (α Z) says.0.1.0 (((param_laws 0 Z.row Z.laws).lawful 𝓛).typed a says.0.1.0 says.1.1.1.0) in
-      (one.0, (says.1.0 ∙ (λ i. vstruct (of_list (says.1.1.0 i ++ (one.1.0 i ++ []))) ∷ []), one.1.1))
+      let one = in_one Z says.0.1.0 (((param_laws 0 Z.row Z.laws).lawful 𝓛).typed a says.0.1.0 says.1.1.1.0) in
+      (one.0, (says.1.0 ∙ (λ i. vstruct (of_list (says.1.1.0 i ++ (one.1.1 i ++ []))) ∷ []), one.1.0))
 
   module _ {M : Type 1} {𝓤 : Ura M} {𝓛 : Logic 𝓤} {K : Type 0} {Γ : List (Item 𝓤)} {G : Goal 𝓤 𝓛.H} where
     -- the fields are taken out: the address owns nothing, and the allocator stays
