@@ -1,31 +1,35 @@
--- A judge's cell and its parts own what a box of a judge owns.
+-- The allocator of a judge's box, and the types at which the box is made again.
 use mathlib.Core.Path.{◌≡◌, refl}
-use mathlib.Core.List.{[]}
-use mir.Syntax.{impl, tnil, dnil}
-use denote.Signature.{Slot, plain}
+use mathlib.Core.List.{[], ◌∷◌}
+use mir.Syntax.{impl, tcons, tnil, dnil}
+use mir.Raw.{raw}
+use denote.Exit.{no}
+use denote.RattleType.{RattleType}
+use denote.Param.{layout, arg}
+use denote.Param.Laws.{Laws, arg_laws}
 use Rattle.std.specs.Prelude.{Option, Some, None, IsSome}
 use Rattle.std.proofs.lemmas.Bool.{false≢true}
-use Rattle.std_alloc.proofs.BoxSteps.Form.{Bx}
+use Rattle.core.proofs.alloc.Calls.{Al}
 use Rattle.std_heap.specs.contracts.Global as Heap
 use Rattle.std_heap.specs.contracts.GlobalAllocator.TheImpl.{ghosts, dict}
 use Rattle.std_heap.proofs.Global.TheLaws as heap
-use Rattle.gesture_verifier.specs.contracts.verifier.Verifier as Verifier
-use Rattle.gesture_verifier.proofs.verifier.Verifier.TheLaws as verifier
-use Rattle.inputflinger_c.specs.contracts.judge_cell.JudgeCell as Cell
-use Rattle.inputflinger_c.specs.contracts.parts.Parts as Parts
 
--- the box of a judge
-abbrev pub E : Bx
-E = record { row = Verifier.the_row; laws = verifier.the_row_laws; al = record { row = Heap.the_row; laws = heap.the_row_laws; g = ghosts; d = dict; drops = impl [] tnil dnil } }
+-- the allocator, whose own drop does nothing
+abbrev pub global : Al
+global = record {
+  row = Heap.the_row;
+  laws = heap.the_row_laws;
+  g = ghosts;
+  d = dict;
+  drops = impl ("inputflinger_c::Destruct++none::drop" ∷ []) (tcons (raw (layout Heap.the_row)) tnil) dnil;
+}
 
-abbrev pub FromParts : Slot 0
-FromParts = plain (λ _. Parts.the_row Verifier.the_row Heap.the_row ghosts)
+-- the types that a call of `from_raw` is made at: its two arguments are spent
+abbrev pub spent : (R : RattleType) → RattleType
+spent R = arg (raw (layout R)) no R
 
-abbrev pub FromCell : Slot 0
-FromCell = plain (λ _. Cell.the_row)
-
-abbrev pub FromHeap : Slot 0
-FromHeap = plain (λ _. Heap.the_row)
+abbrev pub spent_laws : (R : RattleType) → Laws R → raw (raw (layout R)) ≡ raw (layout R) → Laws (spent R)
+spent_laws R laws is = arg_laws (raw (layout R)) no R laws is
 
 -- what is there is something
 pub some_of : {A : Type 0} (o : Option A) → IsSome o → (x : A) × (o ≡ Some x)

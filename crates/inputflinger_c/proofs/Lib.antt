@@ -1,3 +1,4 @@
+pub mod Walking
 pub mod JudgeBox
 pub mod ReadPointers
 pub mod Devices

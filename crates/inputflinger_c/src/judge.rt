@@ -3,7 +3,7 @@ ghost use Rattle.std.specs.Prelude.{◌≡◌, Option, Some, None, is_some};
 ghost use Rattle.std.specs.Option.{option_map};
 
 use crate::judge_cell::JudgeCell;
-use crate::parts::Parts;
+use crate::unboxed::Unboxed;
 use gesture_verifier::Verifier;
 use std::alloc::Global;
 use std::mem;
@@ -44,7 +44,7 @@ impl Judge {
             return None;
         }
         let Judge { cell, .. } = mem::replace(self, Judge::free(alloc));
-        Some(cell.into_parts().into_box())
+        Some(cell.into_box())
     }
 
     /// Puts a judge into a handle that is free.
@@ -53,7 +53,7 @@ impl Judge {
         ensures { self.new.cell.told ≡ Some judge.value }
     {
         *self = Judge {
-            cell: JudgeCell::of_parts(Parts::of(judge)),
+            cell: JudgeCell::of(Unboxed::from_box(judge)),
             is_open: true,
         };
     }

@@ -3,7 +3,7 @@ ghost use Rattle.std.specs.Prelude.{◌≡◌, Option, Some, None, IsSome};
 ghost use Rattle.gesture_verifier.specs.Told.{Told};
 ghost use Rattle.inputflinger_c.specs.Owning.{told_coded, judge_owns};
 
-use crate::parts::Parts;
+use crate::unboxed::Unboxed;
 use gesture_verifier::Verifier;
 use std::alloc::Global;
 use std::marker::Model;
@@ -34,10 +34,10 @@ impl JudgeCell {
     }
 
     /// The cell of a judge.
-    pub fn of_parts(parts: Parts<Verifier, Global>) -> JudgeCell
-        ensures { result.told ≡ Some parts.value }
+    pub fn of(judge: Unboxed<Verifier, Global>) -> JudgeCell
+        ensures { result.told ≡ Some judge.value }
     {
-        let Parts { at, alloc } = parts;
+        let Unboxed { at, alloc } = judge;
         JudgeCell {
             at: at as *mut u8,
             alloc,
@@ -45,14 +45,11 @@ impl JudgeCell {
     }
 
     /// The judge of a cell that has one.
-    pub fn into_parts(self) -> Parts<Verifier, Global>
+    pub fn into_box(self) -> Box<Verifier>
         requires { IsSome self.told }
         ensures { self.told ≡ Some result.value }
     {
         let JudgeCell { at, alloc } = self;
-        Parts {
-            at: at as *mut Verifier,
-            alloc,
-        }
+        unsafe { Box::from_raw(alloc, at as *mut Verifier) }
     }
 }

@@ -13,9 +13,9 @@
 //!
 //! Each export takes what C can hand in: numbers, structs of numbers, and a handle, which owns a block of the C
 //! library's allocator or nothing. Its clause says what it answers and what the handle has then, in words of
-//! `gesture_verifier`. Raw pointers are in `parts` and `judge_cell` alone. What C owes is what the types say: a pointer
-//! that is not null and is nobody else's during the call, and a handle that was made by these calls, or whose bytes are
-//! all 0.
+//! `gesture_verifier`. Raw pointers are in `unboxed` and `judge_cell` alone. What C owes is what the types say: a
+//! pointer that is not null and is nobody else's during the call, and a handle that was made by these calls, or whose
+//! bytes are all 0.
 #![tactic(auto)]
 
 mod fault;
@@ -25,7 +25,7 @@ mod judge_exports;
 mod judge_keys;
 mod judge_state;
 mod message;
-mod parts;
 mod pointers;
 mod sizes;
 mod status;
+mod unboxed;

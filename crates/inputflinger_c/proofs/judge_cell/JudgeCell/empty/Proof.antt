@@ -1,72 +1,46 @@
--- `empty` puts null beside the allocator, and owns nothing there.
-use mathlib.Core.Path.{refl, sym, subst}
-use lib.Dec.{lit<}
+-- Null stands beside the allocator: such a cell owns nothing.
+use mathlib.Core.Path.{refl}
 use mathlib.Core.List.{List, [], ◌∷◌, ◌++◌}
-use seplogic.Ra.Ura.{Ura}
-use mir.Val.{Val, vnull, vstruct, vcons, vnil, has_ty}
-use base.Logic.{SProp, ent, emp, id⊢}
+use mir.Val.{Val}
 use base.Fml.{ftrue, fsep}
-use Rattle.std.specs.Prelude.{None}
-use Rattle.std.specs.Global.{Global}
-use prog.Memory.{Memory}
-use prog.Routine.{Routine}
-use prog.Wp.{WpFn, Tables}
-use types.Logic.{Logic}
-use contract.Monad.{Fun}
-use contract.Running.{tables, tables_of}
-use sound.WpLaws.{WpFn-mono}
-use types.Kit.{Item, ‵, raw, ◌⊛◌, ◌$◌, ◌∵◌, !, qed, by, move, drop, use1, join, split, fsplit, fjoin, fpack, feq_i, suffices, done}
+use base.Logic.{id⊢}
+use prog.Wp.{WpFn}
+use contract.Running.{tables}
+use types.Kit.{prop, ‵, ◌⊛◌, ◌$◌, ◌∵◌, !, qed, by, keep, drop, use1, split, fsplit, fjoin, regoal}
 use types.Part.{agg}
 use types.Run.{lit, no_more, and_then, returns, enter}
 use types.ByLocal.{alloc_all, pass_all, free_all, look_at, get, sets}
-use denote.RattleType.{Valss}
-use denote.RawPtr.{RawPtr, null_ptr, ptr_val}
-use denote.Struct.Owning.{shape}
-use denote.Struct.Struct.{within}
 use denote.Exit.{yes}
-use denote.Signature.{type_at}
-use denote.Steps.{nothing}
-use denote.Triple.Spec.{triple_of}
-use denote.Triple.Table.{entered}
-use denote.Triple.Walked.{says, Stays, stay_dropped, walk_of, ends_at, Goes-dropped, walk_Meets}
-use Rattle.core.proofs.alloc.Calls.{α, handle_tells}
-use Rattle.std_alloc.proofs.BoxSteps.Form.{P, owning}
-use Rattle.std_alloc.proofs.ResultValues.{and_tt}
-use Rattle.inputflinger_c.proofs.JudgeBox.{E, FromHeap as From}
-use Rattle.inputflinger_c.specs.contracts.judge_cell.JudgeCell.empty as F
-use Rattle.inputflinger_c.specs.contracts.judge_cell.JudgeCell.empty.Key.{name as #self}
-use Rattle.inputflinger_c.proofs.judge_cell.JudgeCell.empty.Statement as stated
+use denote.RawPtr.{null_ptr}
+use denote.Signature.{plain}
+use denote.Triple.Walked.{Stays, stay_dropped, walk_of, Goes-dropped}
+use Rattle.core.proofs.alloc.Calls.{handle_tells}
+use Rattle.std.specs.Prelude.{None}
+use Rattle.std.proofs.raw_atomic.Walks.{proved_at, leaves}
+use Rattle.inputflinger_c.specs.contracts.judge_cell.JudgeCell as Cell
+use Rattle.inputflinger_c.specs.contracts.judge_cell.JudgeCell.empty as f
+use Rattle.inputflinger_c.proofs.JudgeBox.{global}
+use Rattle.inputflinger_c.proofs.Walking.{pair, good_pair, put_together, answered}
+use Rattle.inputflinger_c.proofs.judge_cell.JudgeCell.empty.Statement.{statement}
 use Rattle.inputflinger_c.proofs.judge_cell.JudgeCell.empty.Code as code
 
-abbrev stayed : Stays (F.ended).signature.params (F.ended).kept
-stayed = (stay_dropped From yes, tt)
+abbrev gone : Stays f.ended.signature.params f.ended.kept
+gone = (stay_dropped _ yes, tt)
 
-module _ {M : Type 1} {𝓤 : Ura M} (𝓛 : Logic 𝓤) (at_mem : Memory → SProp 𝓤) (run : Routine → Fun 𝓤) (𝓣 : Tables 𝓤 𝓛.H) where
-  open 𝓛 use {H}
-
-  walk : (z : (walk_of 𝓛 F.ended stayed (F.clauses 𝓛 at_mem run)).Ghost)
-      → ent 𝓤 ((walk_of 𝓛 F.ended stayed (F.clauses 𝓛 at_mem run)).pre z) (WpFn 𝓤 H 𝓣.C 𝓣.Λ code.function (z.0.4.0 ++ []) ((walk_of 𝓛 F.ended stayed (F.clauses 𝓛 at_mem run)).post z))
-  walk z =
-      let Post = (walk_of 𝓛 F.ended stayed (F.clauses 𝓛 at_mem run)).post z in
-      let a : Global = z.0.3.0 in
-      let To = type_at (F.signature).result tt in
-      let made : To.Denot = record { at = null_ptr; alloc = a; told = None } in
-      qed 𝓛 ((‵ ftrue ⊛ ‵ (fsep (E.al.row.own_val a z.0.4.0) ftrue)) ∷ raw (emp 𝓤) ∷ []) ∵ split ! $ drop ! $ fsplit ! $ handle_tells E.al ! a z.0.4.0 (λ hv ws fa.
-      let w : Val = vstruct (vcons vnull (vcons hv vnil)) in
-      nothing ! $ nothing ! $ move ! (2 ∷ 0 ∷ []) $ fjoin ! $ feq_i ! (List Val) (vnull ∷ []) (ptr_val null_ptr ∷ []) refl $ fjoin ! $
-      feq_i ! (List Val) (w ∷ []) (w ∷ []) refl $ fjoin ! $ fpack ! (Valss (RawPtr ∷ P E ∷ [])) (within (shape (owning E)) (null_ptr, (a, tt)) (w ∷ [])) (vnull ∷ [], (hv ∷ [], tt)) $ fjoin ! $
-      use1 𝓛 (‵ (To.own_val made (w ∷ []))) (id⊢ 𝓤 _) $ move ! (1 ∷ 2 ∷ []) $ drop ! $ drop ! $
-      let Γ : List (Item 𝓤) = ‵ (To.own_val made (w ∷ [])) ∷ [] in
-      by ! (subst (λ (us : List Val). ent 𝓤 (types.Kit.⋆ 𝓛 Γ) (WpFn 𝓤 H 𝓣.C 𝓣.Λ code.function (us ++ []) Post)) (sym ws)
-      (qed 𝓛 Γ ∵ enter ! 𝓣.C 𝓣.Λ code.function (hv ∷ []) _ $ alloc_all ! (λ ls. pass_all ! refl (fa, tt) $
-      sets ! (agg ! (and_then ! (lit ! tt) (and_then ! (get ! refl) (no_more !)))) refl (and_tt (has_ty (α E.al) hv) fa.0, (record { fits = lit< tt }, (fa.1, tt))) $ returns ! (look_at ! 0 refl) $ free_all ! refl $
-      suffices ! _ (ends_at 𝓛 F.ended stayed (F.clauses 𝓛 at_mem run) z w made (tt, tt) (tt, tt)) $ says ! refl $
-      nothing ! $ nothing ! $ fjoin ! $ join ! $ nothing ! $ join ! $ done !))))
-
-pub empty_spec : {M : Type 1} → stated.statement M
-unfolding tables_of
+pub empty_spec : {M : Type 1} → statement M
 empty_spec 𝓤 𝓛 𝓜 𝓡 wired =
-    let 𝓣 : Tables 𝓤 𝓛.H = tables_of 𝓤 𝓛.H 𝓜 (tables 𝓤 𝓛.H 𝓜 𝓡 𝓡.env) in
-    entered 𝓤 𝓛.H (triple_of 𝓛 F.signature (F.spec 𝓛 𝓜.mem 𝓡.returns)) 𝓣.C 𝓣.Λ #self code.function (code.unfolded 𝓤 𝓛.H 𝓜 𝓡 wired)
-    (walk_Meets 𝓛 F.ended stayed (Goes-dropped 𝓛 0 From yes (λ κs x f. refl), tt) (F.clauses 𝓛 𝓜.mem 𝓡.returns) (WpFn 𝓤 𝓛.H 𝓣.C 𝓣.Λ code.function) (WpFn-mono 𝓤 𝓛.H 𝓛.laws 𝓣 code.function)
-    (walk 𝓛 𝓜.mem 𝓡.returns 𝓣))
+    let c = f.clauses 𝓛 𝓜.mem 𝓡.returns in let Ends = (walk_of 𝓛 f.ended gone c).post in let 𝓣 = tables 𝓤 𝓛.H 𝓜 𝓡 𝓡.env in
+    proved_at 𝓛 f.ended gone c 𝓜 𝓡 (Goes-dropped 𝓛 0 (plain (λ _. global.row)) yes (λ κs x w. refl), tt)
+    f.Key.name code.function (code.unfolded 𝓤 𝓛.H 𝓜 𝓡 wired) (λ y are.
+    let alloc = y.0.3.0 in
+    let cell : Cell.the_row.Denot = record { at = null_ptr; alloc = alloc; told = None } in
+    qed 𝓛 ((‵ ftrue ⊛ ‵ (fsep (global.row.own_val alloc y.0.4.0) ftrue)) ∷ ‵ ftrue ∷ []) ∵
+    split ! $ drop ! $ fsplit ! $
+    handle_tells global ! alloc y.0.4.0 (λ v is fits.
+    put_together global ! null_ptr alloc v $ fjoin ! $
+    regoal ! (λ (ws : List Val). prop (WpFn 𝓤 𝓛.H 𝓣.C 𝓣.Λ code.function (ws ++ []) (Ends y))) is refl $
+    enter ! _ _ _ _ _ $ alloc_all ! (λ ls. pass_all ! refl (fits, tt) $
+    sets ! (agg ! (and_then ! (lit ! tt) (and_then ! (get ! refl) (no_more !)))) refl (good_pair global null_ptr v fits) $
+    returns ! (look_at ! 0 refl) $ free_all ! refl $
+    use1 𝓛 (‵ (Cell.the_row.own_val cell (pair null_ptr v ∷ []))) (id⊢ 𝓤 _) $ keep ! (0 ∷ []) $
+    answered ! refl $ by ! (leaves 𝓛 f.ended gone c y (pair null_ptr v) cell (tt, tt) (tt, tt)))))
