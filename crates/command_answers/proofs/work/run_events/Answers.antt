@@ -1,9 +1,9 @@
 -- One event more, and all events.
-use Rattle.std.proofs.Common.{◌≡◌, ◌∙◌, List, ◌∷◌, ◌++◌, ap, sym, subst, reverse, arith, []}
+use Rattle.std.proofs.Common.{◌≡◌, ◌∙◌, List, ◌∷◌, ◌++◌, ap, sym, subst, length, reverse, arith, []}
 use Rattle.std.proofs.lemmas.List.{append-nil, append_assoc, reverse-append, reverse-reverse}
 use Rattle.raw_events.specs.declared.event.RawEvent.{RawEvent}
 use Rattle.schedule.specs.declared.keeping.Lines.TheVariants.{Counted}
-use Rattle.schedule.specs.State.{RanWith}
+use Rattle.schedule.specs.State.{RanWith, counted}
 use Rattle.workload_maker.specs.Making.{left_of}
 use Rattle.command_files.specs.Planned.{given, script_of}
 use Rattle.command_answers.proofs.work.run_events.Goals as goal
@@ -32,3 +32,10 @@ returns-clause-ran c = λ p run stand ran.
     let past : h.past ≡ reverse (left_of c.args.events) =
     sym (reverse-reverse h.past) ∙ ap reverse (sym (append-nil (reverse h.past)) ∙ ap (λ (es : List RawEvent). reverse h.past ++ es) (sym c.in-None.ensures.steps.0) ∙ h.all) in
     subst (λ (es : List RawEvent). RanWith Counted (script_of p) (given p es) c.loop-event.schedule) past (h.runs p run stand ran).1
+
+pub returns-clause-count : goal.returns-clause-count
+returns-clause-count c = λ p run stand ran.
+    let h = c.loop-event.invariant in
+    let past : h.past ≡ reverse (left_of c.args.events) =
+    sym (reverse-reverse h.past) ∙ ap reverse (sym (append-nil (reverse h.past)) ∙ ap (λ (es : List RawEvent). reverse h.past ++ es) (sym c.in-None.ensures.steps.0) ∙ h.all) in
+    subst (λ (es : List RawEvent). c.loop-event.count ≡ counted (length (given p es))) past (h.runs p run stand ran).2
