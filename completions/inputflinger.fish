@@ -26,6 +26,9 @@ complete -c inputflinger -n __fish_use_subcommand -a emit -d 'a recording of wha
 complete -c inputflinger -n '__fish_seen_subcommand_from emit' -l stream -r -F
 complete -c inputflinger -n '__fish_seen_subcommand_from emit' -l channel -x
 complete -c inputflinger -n '__fish_seen_subcommand_from emit' -l device -x
+complete -c inputflinger -n __fish_use_subcommand -a inspect -d 'what both files hold'
+complete -c inputflinger -n '__fish_seen_subcommand_from inspect' -l session -r -F
+complete -c inputflinger -n '__fish_seen_subcommand_from inspect' -l events -r -F
 complete -c inputflinger -n __fish_use_subcommand -a judge -d 'channel <id> whole <messages> for each section, where every stream of the file is whole'
 complete -c inputflinger -n '__fish_seen_subcommand_from judge' -l stream -r -F
 complete -c inputflinger -n __fish_use_subcommand -a compare -d 'same <sections> <points>, where a stream file has the points of another one, each at most so many microseconds and pixels away'

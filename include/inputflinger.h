@@ -3,9 +3,11 @@
  *
  * What is here
  *
- * The library tells a compositor or a toolkit whether what a window is told of touches and keys makes sense. What it
- * does is written in Rattle and proved: docs/LIBRARY.md says which of the sentences below stand on a proof, and which
- * on the tests.
+ * A live service sends touches and keys to the windows of a compositor's clients, by the rules of Android's dispatcher:
+ * devices and clients come and go, events are handed in, and each client is given its messages (inputflinger_live_).
+ * A judge tells a toolkit whether what a window is told of touches and keys makes sense (inputflinger_judge_). What
+ * they do is written in Rattle and proved: docs/LIBRARY.md says which of the sentences below stand on a proof, and
+ * which on the tests.
  *
  * A touch's life
  *
@@ -34,6 +36,8 @@
  *
  *     struct inputflinger_judge judge = {0};
  *
+ *     struct inputflinger_live live = {0};
+ *
  * `_new` makes something in a free handle and `_free` frees it, which makes the handle free again. A handle that is not
  * free owns memory of malloc. It may be moved to another place by memcpy, as long as one place alone is used from then
  * on: two copies of one handle are one thing too many, and nothing can tell. A call on a free handle is answered by
@@ -50,10 +54,13 @@
  *
  * Statuses
  *
- * Each call answers a status. A call that answers anything but INPUTFLINGER_OK changed nothing: not the handle, and not
- * what pointers lead to, but for a fault, which INPUTFLINGER_BROKEN writes, and a count, which INPUTFLINGER_NO_ROOM
- * writes. Want of memory is INPUTFLINGER_NO_MEMORY;
- * the same call may be made again later.
+ * Each call answers a status. A call that answers anything but INPUTFLINGER_OK changed nothing, neither the handle nor
+ * what pointers lead to, but where its own text says so. Want of memory is INPUTFLINGER_NO_MEMORY; the same call may be
+ * made again later. A call on a free handle is INPUTFLINGER_FREE, and a pointer that is NULL and has to be something is
+ * INPUTFLINGER_NULL: these two are so of each call, and are not listed below.
+ *
+ * Moments are microseconds of a clock of the caller's own, at most 10^18. Each call that takes the moment now may take
+ * an earlier one than the call before it: the greatest one that was handed in counts.
  */
 #ifndef INPUTFLINGER_H
 #define INPUTFLINGER_H
@@ -83,14 +90,42 @@ enum inputflinger_status {
 	/* There is no room for all that is to be told. */
 	INPUTFLINGER_NO_ROOM = 6,
 	/* A pointer is NULL that has to be something. */
-	INPUTFLINGER_NULL = 7
+	INPUTFLINGER_NULL = 7,
+	/* The client is not open, or not any more. */
+	INPUTFLINGER_NOT_OPEN = 8,
+	/* 64 clients are open. */
+	INPUTFLINGER_FULL = 9,
+	/* There is nothing to tell: no message, no moment, no client. */
+	INPUTFLINGER_NOTHING = 10,
+	/* The client did not get the message, or finished it already. */
+	INPUTFLINGER_UNKNOWN_SEQ = 11,
+	/* The windows that are shown have no spy of the client. */
+	INPUTFLINGER_NOT_SPY = 12,
+	/* The spy holds no pointer of the device. */
+	INPUTFLINGER_NOTHING_HELD = 13,
+	/* The device is not plugged in. */
+	INPUTFLINGER_NO_DEVICE = 14,
+	/* What was handed in does not fit what its device did before, and was not taken. */
+	INPUTFLINGER_INCONSISTENT = 15,
+	/* Want of memory after it was taken: it waits, and is dispatched by a later call. */
+	INPUTFLINGER_WAITS = 16,
+	/* There are more windows than 64, or all device numbers of the display are taken. */
+	INPUTFLINGER_TOO_MANY = 17,
+	/* A client has two windows. */
+	INPUTFLINGER_TWICE = 18,
+	/* A panel has 1 to 16 slots. */
+	INPUTFLINGER_BAD_SLOTS = 19,
+	/* The text is no key layout. */
+	INPUTFLINGER_BAD_LAYOUT = 20
 };
 
 /* The kinds of messages. */
 enum inputflinger_kind {
 	INPUTFLINGER_MOTION = 0,
 	INPUTFLINGER_KEY = 1,
-	INPUTFLINGER_FOCUS = 2
+	INPUTFLINGER_FOCUS = 2,
+	/* For inputflinger_live_args alone: the device lost events, and all that is down on it is cancelled. */
+	INPUTFLINGER_RESET = 3
 };
 
 /* The actions of motions, with the numbers of MotionEvent's getActionMasked. */
@@ -283,6 +318,362 @@ int inputflinger_judge_keys(struct inputflinger_judge *judge, struct inputflinge
  *     INPUTFLINGER_NULL  judge is NULL
  */
 int inputflinger_judge_free(struct inputflinger_judge *judge);
+
+/*
+ * A client of a live service: a channel, 1 to 64, and a generation, which no other client of the service has. Once a
+ * client is closed it is stale for good: no call takes it for the one that has its channel later. One whose channel is 0
+ * is none.
+ */
+struct inputflinger_client {
+	uint64_t generation;
+	uint32_t channel;
+};
+
+/* A rectangle of display pixels: the points with left <= x < right and top <= y < bottom. */
+struct inputflinger_rect {
+	int32_t left;
+	int32_t top;
+	int32_t right;
+	int32_t bottom;
+};
+
+/* What a window asks for, as bits of its flags. Other bits are not looked at. */
+#define INPUTFLINGER_NOT_TOUCHABLE 1u		/* touches go through it to what is behind */
+#define INPUTFLINGER_NOT_FOCUSABLE 2u		/* it never has the focus */
+#define INPUTFLINGER_WATCH_OUTSIDE_TOUCH 4u	/* it is told of a touch that goes to a window behind it, by OUTSIDE */
+#define INPUTFLINGER_SLIPPERY 8u		/* a finger that moves out of it may go on to the window that it comes to */
+#define INPUTFLINGER_SPY 16u			/* it sees the touches of what is behind it, and may pilfer them */
+#define INPUTFLINGER_PREVENT_SPLITTING 32u	/* the fingers of one gesture are not divided between it and others */
+
+/*
+ * A window of a client. A client has one window at most.
+ *
+ *     client     whose it is
+ *     frame      where it is: its left and top edges are the origin of what the client is told, in pixels
+ *     flags      the bits above
+ *     rects      in how many rectangles it can be touched, at most 64; they are handed in beside the windows
+ *     display    0 to 3; all its pixels are those of this display
+ */
+struct inputflinger_window {
+	struct inputflinger_client client;
+	struct inputflinger_rect frame;
+	uint32_t flags;
+	uint32_t rects;
+	uint8_t display;
+};
+
+/* The range of the raw positions of a panel on one axis, both ends included, as EVIOCGABS gives it. */
+struct inputflinger_axis {
+	int32_t min;
+	int32_t max;
+};
+
+/*
+ * How the raw positions of a panel become display pixels: its axes, min <= max; the width and height of its display in
+ * its natural position, each 1 to 16,384 pixels; and how far the display is turned, in quarters, 0 to 3.
+ */
+struct inputflinger_panel {
+	struct inputflinger_axis x;
+	struct inputflinger_axis y;
+	uint16_t width;
+	uint16_t height;
+	uint8_t rotation;
+};
+
+/* The display of each device number, 0 to 3; that of device 1 first. */
+struct inputflinger_displays {
+	uint8_t of_device[INPUTFLINGER_MAX_DEVICES];
+};
+
+/*
+ * The handle of a live service. Its members are the library's own; a program only sets all bytes to 0, once.
+ *
+ * The loop of a compositor. It waits for its devices, for its clients, and for the moment that inputflinger_live_due
+ * tells:
+ *
+ *     an event of a device came            advance to its moment; then event
+ *     a client says that it is done        finish
+ *     the clock reached the moment of due  advance to now: the clients of the mask do not respond
+ *     in the end, each channel of waiting  client_at, and next until it says INPUTFLINGER_NOTHING
+ *
+ * A finger goes down in a client's window, and the client is closed under it:
+ *
+ *     call                                            answer
+ *     inputflinger_live_add_touch(0, 10 slots, ..)    INPUTFLINGER_OK, device 1
+ *     inputflinger_live_open                          INPUTFLINGER_OK, channel 1, generation 1
+ *     inputflinger_live_windows [its window]          INPUTFLINGER_OK
+ *     inputflinger_live_args DOWN 0 at (540,1200)     INPUTFLINGER_OK
+ *     inputflinger_live_next                          INPUTFLINGER_OK: seq 1, DOWN, pointer 0 at (540,1200)
+ *     inputflinger_live_close                         INPUTFLINGER_OK: it does not take the CANCEL any more
+ *     inputflinger_live_open                          INPUTFLINGER_OK, channel 1, generation 2
+ *     inputflinger_live_next, second client           INPUTFLINGER_NOTHING: the finger was never its own
+ *     inputflinger_live_finish 1, first client        INPUTFLINGER_NOT_OPEN
+ */
+struct inputflinger_live {
+	void *at;
+	bool is_open;
+};
+
+/*
+ * Makes a service without clients and devices. A client that leaves a message unfinished for limit_us, 1,000 to
+ * 600,000,000 microseconds, is named unresponsive. displays may be NULL: then each device is on display 0.
+ *
+ *     INPUTFLINGER_OK            the handle has a service
+ *     INPUTFLINGER_TAKEN         the handle is not free
+ *     INPUTFLINGER_OUT_OF_RANGE  limit_us or a display
+ *     INPUTFLINGER_NO_MEMORY     the handle is still free
+ */
+int inputflinger_live_new(struct inputflinger_live *live, uint64_t limit_us, const struct inputflinger_displays *displays);
+
+/* Frees a service with all that it has. The handle is free then. */
+int inputflinger_live_free(struct inputflinger_live *live);
+
+/*
+ * Devices. Each gets the least number of its display that no device has; what it does is handed in by that number.
+ *
+ *     add_touch(display 0, 10 slots, panel)           INPUTFLINGER_OK, device 1
+ *     event 1: EV_ABS ABS_MT_SLOT 0, ABS_MT_TRACKING_ID 45, ABS_MT_POSITION_X 100, ABS_MT_POSITION_Y 200
+ *                                                     INPUTFLINGER_OK each: a packet is not whole yet
+ *     event 1: EV_SYN SYN_REPORT 0                    INPUTFLINGER_OK: the window there has a DOWN
+ *     event 1: EV_SYN SYN_DROPPED 0                   INPUTFLINGER_OK: it has a CANCEL
+ *     event 1: .., EV_SYN SYN_REPORT 0                INPUTFLINGER_OK: what is left of that packet is passed over
+ *     event 1: all slots that have a finger, as the kernel has them now (libevdev_get_slot_value after its sync, which
+ *     itself tells only what changed), and a SYN_REPORT
+ *                                                     INPUTFLINGER_OK: the window has a DOWN of what is still there
+ *     remove_device 1                                 INPUTFLINGER_OK: what is down is cancelled, and 1 is free
+ */
+
+/*
+ * Plugs in a touch panel of a display, 0 to 3, with 1 to 16 slots. device is its number then. Fingers that are on it
+ * already are handed in as events, as after a SYN_DROPPED.
+ *
+ *     INPUTFLINGER_OK            device is written
+ *     INPUTFLINGER_OUT_OF_RANGE  display, or a number of panel
+ *     INPUTFLINGER_BAD_SLOTS     slots is not 1 to 16
+ *     INPUTFLINGER_TOO_MANY      each number of the display has a device
+ */
+int inputflinger_live_add_touch(struct inputflinger_live *live, uint8_t display, uint8_t slots,
+				const struct inputflinger_panel *panel, uint8_t *device);
+
+/*
+ * Unplugs a device, 1 to 8. What is down on it is cancelled, and its number is free. It is delivered as by
+ * inputflinger_live_event, whose INPUTFLINGER_INCONSISTENT, INPUTFLINGER_WAITS and INPUTFLINGER_NO_MEMORY it may answer.
+ *
+ *     INPUTFLINGER_OUT_OF_RANGE  now_us or device
+ *     INPUTFLINGER_NO_DEVICE     the device is not plugged in
+ */
+int inputflinger_live_remove_device(struct inputflinger_live *live, uint64_t now_us, uint8_t device);
+
+/*
+ * Hands in an event of a device, with the type, code and value of the kernel's struct input_event. What it gives is
+ * dispatched at once: a packet of a panel with its SYN_REPORT, a key by itself.
+ *
+ *     INPUTFLINGER_OK            it was taken and dispatched
+ *     INPUTFLINGER_OUT_OF_RANGE  now_us or device
+ *     INPUTFLINGER_NO_DEVICE     the device is not plugged in
+ *     INPUTFLINGER_INCONSISTENT  what it gave does not fit what inputflinger_live_args gave of the device before; that
+ *                                was not taken, and the rest was dispatched
+ *     INPUTFLINGER_NO_MEMORY     it was not taken: nothing changed
+ *     INPUTFLINGER_WAITS         want of memory after it was taken: it is dispatched, in its order, by the next call
+ *                                that has the memory and hands something in or advances
+ */
+int inputflinger_live_event(struct inputflinger_live *live, uint64_t now_us, uint8_t device, uint16_t type,
+			    uint16_t code, int32_t value);
+
+/*
+ * Hands in what a device gives that is ready: a motion or a key as a message says it, in display pixels, or a reset
+ * (INPUTFLINGER_RESET, of which device alone is looked at). seq, moment_us and a key's flags and repeat are not looked
+ * at. The statuses are those of inputflinger_live_event; INPUTFLINGER_OUT_OF_RANGE is also for a number of the message
+ * and for one of the focus, which no device gives.
+ */
+int inputflinger_live_args(struct inputflinger_live *live, uint64_t now_us, const struct inputflinger_message *message);
+
+/*
+ * Clients. Up to 64 are open at a time; how many come and go one after another is not limited.
+ *
+ *     open                                            INPUTFLINGER_OK, channel 1, generation 1
+ *     open                                            INPUTFLINGER_OK, channel 2, generation 2
+ *     close, of the first                             INPUTFLINGER_OK
+ *     close, of the first                             INPUTFLINGER_NOT_OPEN
+ *     open                                            INPUTFLINGER_OK, channel 1, generation 3
+ */
+
+/*
+ * Opens a client on the first channel that nobody has.
+ *
+ *     INPUTFLINGER_OK         client is written
+ *     INPUTFLINGER_FULL       64 clients are open
+ *     INPUTFLINGER_NO_MEMORY  nobody was opened
+ */
+int inputflinger_live_open(struct inputflinger_live *live, struct inputflinger_client *client);
+
+/*
+ * Closes a client. Its window is not shown any more, what it holds is cancelled, its requests of the focus are taken
+ * back, and what it did not take is gone.
+ *
+ *     INPUTFLINGER_OK            the client is stale from now on
+ *     INPUTFLINGER_OUT_OF_RANGE  now_us
+ *     INPUTFLINGER_NOT_OPEN      the client is not open
+ *     INPUTFLINGER_NO_MEMORY     the client is still open, but may have lost its window and its requests of the focus
+ */
+int inputflinger_live_close(struct inputflinger_live *live, uint64_t now_us, const struct inputflinger_client *client);
+
+/* Tells whether a client is open. */
+int inputflinger_live_is_open(struct inputflinger_live *live, const struct inputflinger_client *client, bool *is_open);
+
+/*
+ * Tells the client that is open on a channel.
+ *
+ *     INPUTFLINGER_OK       client is written
+ *     INPUTFLINGER_NOTHING  nobody is open on the channel, or it is none
+ */
+int inputflinger_live_client_at(struct inputflinger_live *live, uint32_t channel, struct inputflinger_client *client);
+
+/*
+ * Windows and the focus.
+ *
+ *     windows [a's window with 1 rectangle, b's with 2], [3 rectangles]
+ *                                                     INPUTFLINGER_OK: a is in front of b
+ *     windows [b's window]                            INPUTFLINGER_OK: a has none now; what it held is cancelled
+ *     windows [b's window, that of a closed client]   INPUTFLINGER_NOT_OPEN, named 1: all is as it was
+ *     focus(0, b)                                     INPUTFLINGER_OK: keys go to b
+ *     focus(0, NULL)                                  INPUTFLINGER_OK: to nobody
+ */
+
+/*
+ * Shows windows, front to back, in place of all windows before. The rectangles of the first window stand first in rects,
+ * then those of the second one, and so on; what is left of them is not looked at. windows may be NULL where windows_len
+ * is 0, rects where rects_len is 0, and named always.
+ *
+ *     INPUTFLINGER_OK            the windows are shown
+ *     INPUTFLINGER_OUT_OF_RANGE  now_us; a display; there are too few rectangles; or those of a window are more than 64, or
+ *                                one of them has its left edge right of its right one, or its top edge below its bottom one
+ *     INPUTFLINGER_NOT_OPEN      the client of the window at the place named, from 0, is not open; it is the first such one
+ *     INPUTFLINGER_TOO_MANY      more than 64 windows
+ *     INPUTFLINGER_TWICE         the client on the channel named has two windows
+ *     INPUTFLINGER_NO_MEMORY     the windows are those that they were
+ */
+int inputflinger_live_windows(struct inputflinger_live *live, uint64_t now_us, const struct inputflinger_window *windows,
+			      size_t windows_len, const struct inputflinger_rect *rects, size_t rects_len, uint64_t *named);
+
+/*
+ * Requests the focus of a display, 0 to 3, for a client, or for none where client is NULL or its channel is 0. Keys go
+ * to the display for which it was requested last.
+ *
+ *     INPUTFLINGER_OK            the focus is requested
+ *     INPUTFLINGER_OUT_OF_RANGE  now_us or display
+ *     INPUTFLINGER_NOT_OPEN      the client is not open
+ *     INPUTFLINGER_NO_MEMORY     the request was not made
+ */
+int inputflinger_live_focus(struct inputflinger_live *live, uint64_t now_us, uint8_t display,
+			    const struct inputflinger_client *client);
+
+/*
+ * Takes the pointers of a device, 1 to 8, that a client whose window is a spy holds from all other windows.
+ *
+ *     INPUTFLINGER_OK            the others are told a CANCEL
+ *     INPUTFLINGER_OUT_OF_RANGE  now_us or device
+ *     INPUTFLINGER_NOT_OPEN      the client is not open
+ *     INPUTFLINGER_NOT_SPY       the windows that are shown have no spy of the client; the clock went on
+ *     INPUTFLINGER_NOTHING_HELD  the spy holds no pointer of the device; the clock went on
+ *     INPUTFLINGER_NO_MEMORY     nothing changed
+ */
+int inputflinger_live_pilfer(struct inputflinger_live *live, uint64_t now_us, const struct inputflinger_client *client,
+			     uint8_t device);
+
+/*
+ * What clients get.
+ *
+ *     waiting                                         INPUTFLINGER_OK, mask 0x1: channel 1 has something
+ *     next                                            INPUTFLINGER_OK: seq 1, DOWN
+ *     next                                            INPUTFLINGER_NOTHING
+ *     finish 1                                        INPUTFLINGER_OK
+ *     finish 1                                        INPUTFLINGER_UNKNOWN_SEQ: it was finished already
+ *     due                                             INPUTFLINGER_NOTHING: nothing is unfinished
+ */
+
+/* Tells the channels that have a message for their client: bit channel - 1 stands for a channel. */
+int inputflinger_live_waiting(struct inputflinger_live *live, uint64_t *mask);
+
+/*
+ * Gives a client its next message, which the service lets go. Its seq counts from 1 for the client; its positions are
+ * pixels from the corner of the client's window.
+ *
+ *     INPUTFLINGER_OK         message is written; the numbers that its kind does not have are 0
+ *     INPUTFLINGER_NOTHING    there is none, or the client is not open
+ *     INPUTFLINGER_NO_MEMORY  only where the calls cannot be counted in 64 bits
+ */
+int inputflinger_live_next(struct inputflinger_live *live, const struct inputflinger_client *client,
+			   struct inputflinger_message *message);
+
+/*
+ * Says that a client is done with the message of this seq, which it got.
+ *
+ *     INPUTFLINGER_OK            it is finished
+ *     INPUTFLINGER_OUT_OF_RANGE  now_us
+ *     INPUTFLINGER_NOT_OPEN      the client is not open
+ *     INPUTFLINGER_UNKNOWN_SEQ   the client did not get it, or finished it already; the clock went on
+ *     INPUTFLINGER_NO_MEMORY     only where the calls cannot be counted in 64 bits
+ */
+int inputflinger_live_finish(struct inputflinger_live *live, uint64_t now_us, const struct inputflinger_client *client,
+			     uint64_t seq);
+
+/*
+ * Time.
+ *
+ *     event 1: a key goes down at 1,000,000           INPUTFLINGER_OK; the client gets it and does not finish it
+ *     due                                             INPUTFLINGER_OK, 1,500,000: the key is repeated
+ *     advance 1,500,000                               INPUTFLINGER_OK, mask 0: the client has the repeat
+ *     advance 6,000,000                               INPUTFLINGER_OK, mask 0x1: with a limit of 5,000,000 it is named, and
+ *                                                     is given no pointer and no key until it finishes what is late
+ */
+
+/*
+ * Tells the first moment at which something is due: a client that leaves a message unfinished for the limit, or the
+ * repeat of a key that is held. It may lie beyond 10^18.
+ *
+ *     INPUTFLINGER_OK       moment_us is written
+ *     INPUTFLINGER_NOTHING  nothing is
+ */
+int inputflinger_live_due(struct inputflinger_live *live, uint64_t *moment_us);
+
+/*
+ * Does all that is due up to now, each at its moment, after what still waits for memory. mask tells the channels that
+ * were named unresponsive, by this call and by those before it that ended for want of memory.
+ *
+ *     INPUTFLINGER_OK            mask is written
+ *     INPUTFLINGER_OUT_OF_RANGE  now_us
+ *     INPUTFLINGER_NO_MEMORY     a part may be done; who was named by it is told by the next call
+ */
+int inputflinger_live_advance(struct inputflinger_live *live, uint64_t now_us, uint64_t *mask);
+
+/* Tells the greatest moment that was handed in. */
+int inputflinger_live_clock(struct inputflinger_live *live, uint64_t *moment_us);
+
+/*
+ * Tells the client that has the focus of a display, 0 to 3.
+ *
+ *     INPUTFLINGER_OK            client is written
+ *     INPUTFLINGER_NOTHING       none has it
+ *     INPUTFLINGER_OUT_OF_RANGE  display
+ */
+int inputflinger_live_focused(struct inputflinger_live *live, uint8_t display, struct inputflinger_client *client);
+
+/* Tells the client that keys go to: INPUTFLINGER_OK, or INPUTFLINGER_NOTHING where there is none. */
+int inputflinger_live_key_target(struct inputflinger_live *live, struct inputflinger_client *client);
+
+/* Tells whether a client is open and responds: it was not named, or none of its messages is late any more. */
+int inputflinger_live_is_responsive(struct inputflinger_live *live, const struct inputflinger_client *client,
+				    bool *is_responsive);
+
+/*
+ * Tells the ids of the pointers of a device, 1 to 8, that a client holds, as bits; 0 where the client is not open.
+ *
+ *     INPUTFLINGER_OK            ids is written
+ *     INPUTFLINGER_OUT_OF_RANGE  device
+ */
+int inputflinger_live_holds(struct inputflinger_live *live, const struct inputflinger_client *client, uint8_t device,
+			    uint32_t *ids);
 
 #ifdef __cplusplus
 }

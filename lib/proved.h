@@ -12,6 +12,45 @@ uint32_t inputflinger_proved_judge_step(struct inputflinger_judge *judge, const 
 uint32_t inputflinger_proved_judge_state(struct inputflinger_judge *judge, struct inputflinger_state *state);
 uint32_t inputflinger_proved_judge_keys(struct inputflinger_judge *judge, struct inputflinger_key *keys, size_t room, size_t *count);
 uint32_t inputflinger_proved_judge_free(struct inputflinger_judge *judge);
+uint32_t inputflinger_proved_live_new(struct inputflinger_live *live, uint64_t limit_us,
+		const struct inputflinger_displays *displays);
+uint32_t inputflinger_proved_live_free(struct inputflinger_live *live);
+uint32_t inputflinger_proved_live_add_touch(struct inputflinger_live *live, uint8_t display, uint8_t slots,
+		const struct inputflinger_panel *panel, uint8_t *device);
+uint32_t inputflinger_proved_live_remove_device(struct inputflinger_live *live, uint64_t now_us, uint8_t device);
+uint32_t inputflinger_proved_live_event(struct inputflinger_live *live, uint64_t now_us, uint8_t device,
+		uint16_t type, uint16_t code, int32_t value);
+uint32_t inputflinger_proved_live_args(struct inputflinger_live *live, uint64_t now_us,
+		const struct inputflinger_message *message);
+uint32_t inputflinger_proved_live_open(struct inputflinger_live *live, struct inputflinger_client *client);
+uint32_t inputflinger_proved_live_close(struct inputflinger_live *live, uint64_t now_us,
+		const struct inputflinger_client *client);
+uint32_t inputflinger_proved_live_is_open(struct inputflinger_live *live, const struct inputflinger_client *client,
+		uint8_t *told);
+uint32_t inputflinger_proved_live_client_at(struct inputflinger_live *live, uint32_t channel,
+		struct inputflinger_client *client);
+uint32_t inputflinger_proved_live_windows(struct inputflinger_live *live, uint64_t now_us,
+		const struct inputflinger_window *windows, size_t windows_len, const struct inputflinger_rect *rects,
+		size_t rects_len, uint64_t *named);
+uint32_t inputflinger_proved_live_focus(struct inputflinger_live *live, uint64_t now_us, uint8_t display,
+		const struct inputflinger_client *client);
+uint32_t inputflinger_proved_live_pilfer(struct inputflinger_live *live, uint64_t now_us,
+		const struct inputflinger_client *client, uint8_t device);
+uint32_t inputflinger_proved_live_waiting(struct inputflinger_live *live, uint64_t *mask);
+uint32_t inputflinger_proved_live_next(struct inputflinger_live *live, const struct inputflinger_client *client,
+		struct inputflinger_message *message);
+uint32_t inputflinger_proved_live_finish(struct inputflinger_live *live, uint64_t now_us,
+		const struct inputflinger_client *client, uint64_t seq);
+uint32_t inputflinger_proved_live_due(struct inputflinger_live *live, uint64_t *moment_us);
+uint32_t inputflinger_proved_live_advance(struct inputflinger_live *live, uint64_t now_us, uint64_t *mask);
+uint32_t inputflinger_proved_live_clock(struct inputflinger_live *live, uint64_t *moment_us);
+uint32_t inputflinger_proved_live_focused(struct inputflinger_live *live, uint8_t display,
+		struct inputflinger_client *client);
+uint32_t inputflinger_proved_live_key_target(struct inputflinger_live *live, struct inputflinger_client *client);
+uint32_t inputflinger_proved_live_is_responsive(struct inputflinger_live *live,
+		const struct inputflinger_client *client, uint8_t *told);
+uint32_t inputflinger_proved_live_holds(struct inputflinger_live *live, const struct inputflinger_client *client,
+		uint8_t device, uint32_t *ids);
 size_t inputflinger_proved_size(uint32_t number);
 
 #endif

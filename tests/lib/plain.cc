@@ -12,5 +12,14 @@ int main()
 		return 1;
 	if (inputflinger_judge_step(&judge, &message, nullptr) != INPUTFLINGER_OK)
 		return 1;
-	return inputflinger_judge_free(&judge);
+	if (inputflinger_judge_free(&judge) != INPUTFLINGER_OK)
+		return 1;
+
+	inputflinger_live live = {};
+	inputflinger_client client = {};
+	if (inputflinger_live_new(&live, 5000000, nullptr) != INPUTFLINGER_OK)
+		return 1;
+	if (inputflinger_live_open(&live, &client) != INPUTFLINGER_OK || client.channel != 1)
+		return 1;
+	return inputflinger_live_free(&live);
 }

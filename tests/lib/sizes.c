@@ -42,18 +42,48 @@ AT(inputflinger_state, ids, 0);
 AT(inputflinger_state, focus, 32);
 AT(inputflinger_key, device, 0);
 AT(inputflinger_key, scan, 2);
+AT(inputflinger_live, at, 0);
+AT(inputflinger_live, is_open, 8);
+AT(inputflinger_client, generation, 0);
+AT(inputflinger_client, channel, 8);
+AT(inputflinger_rect, left, 0);
+AT(inputflinger_rect, top, 4);
+AT(inputflinger_rect, right, 8);
+AT(inputflinger_rect, bottom, 12);
+AT(inputflinger_window, client, 0);
+AT(inputflinger_window, frame, 16);
+AT(inputflinger_window, flags, 32);
+AT(inputflinger_window, rects, 36);
+AT(inputflinger_window, display, 40);
+AT(inputflinger_axis, min, 0);
+AT(inputflinger_axis, max, 4);
+AT(inputflinger_panel, x, 0);
+AT(inputflinger_panel, y, 8);
+AT(inputflinger_panel, width, 16);
+AT(inputflinger_panel, height, 18);
+AT(inputflinger_panel, rotation, 20);
+AT(inputflinger_displays, of_device, 0);
 _Static_assert(sizeof(struct inputflinger_judge) == 16, "a judge");
 _Static_assert(sizeof(struct inputflinger_pointer) == 12, "a pointer");
 _Static_assert(sizeof(struct inputflinger_message) == 240, "a message");
 _Static_assert(sizeof(struct inputflinger_fault) == 32, "a fault");
 _Static_assert(sizeof(struct inputflinger_state) == 36, "a state");
 _Static_assert(sizeof(struct inputflinger_key) == 4, "a key");
+_Static_assert(sizeof(struct inputflinger_live) == 16, "a live service");
+_Static_assert(sizeof(struct inputflinger_client) == 16, "a client");
+_Static_assert(sizeof(struct inputflinger_rect) == 16, "a rectangle");
+_Static_assert(sizeof(struct inputflinger_window) == 48, "a window");
+_Static_assert(sizeof(struct inputflinger_axis) == 8, "an axis");
+_Static_assert(sizeof(struct inputflinger_panel) == 24, "a panel");
+_Static_assert(sizeof(struct inputflinger_displays) == 8, "displays");
 
 int main(void)
 {
 	static const size_t sizes[] = {
 		sizeof(struct inputflinger_judge), sizeof(struct inputflinger_pointer), sizeof(struct inputflinger_message),
-		sizeof(struct inputflinger_fault), sizeof(struct inputflinger_state), sizeof(struct inputflinger_key), 0,
+		sizeof(struct inputflinger_fault), sizeof(struct inputflinger_state), sizeof(struct inputflinger_key), sizeof(struct inputflinger_live),
+		sizeof(struct inputflinger_client), sizeof(struct inputflinger_rect), sizeof(struct inputflinger_window),
+		sizeof(struct inputflinger_axis), sizeof(struct inputflinger_panel), sizeof(struct inputflinger_displays), 0,
 	};
 
 	for (uint32_t i = 0; i < sizeof sizes / sizeof *sizes; i++) {

@@ -1,3 +1,4 @@
+pub mod Alike
 pub mod Taking
 pub mod Runs
 pub mod Once

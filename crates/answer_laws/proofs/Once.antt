@@ -4,7 +4,7 @@ use Rattle.std.specs.Option.{IsSomeAnd}
 use Rattle.outside_io.specs.Outside.{bytes_of}
 use Rattle.raw_events.specs.declared.event.RawEvent.{RawEvent}
 use Rattle.session_plan.specs.Plan.{PlanData}
-use Rattle.command_words.specs.Command.{Command, Recorded, replay, race, check, verify, work, batch, hover, emit, judge, compare}
+use Rattle.command_words.specs.Command.{Command, Recorded, replay, race, check, verify, work, batch, hover, emit, judge, compare, inspect}
 use Rattle.command_words.specs.Forms.{form_of}
 use Rattle.emit_text.proofs.Once.{emitted_once}
 use Rattle.command_answers.specs.Batch.{BatchAnswers}
@@ -16,11 +16,12 @@ use Rattle.command_answers.specs.Hover.{HoverAnswers, mouse_alone}
 use Rattle.command_files.specs.Judged.{After, Answer, Ends, FileKind, Origin, Reads, by_log, by_name, judged}
 use Rattle.command_answers.specs.Program.{AnswersTo, IsAlone}
 use Rattle.command_answers.specs.Hover.{MouseAnswers}
+use Rattle.command_answers.specs.Inspect.{CountsAnswer, InspectAnswers}
 use Rattle.command_answers.specs.Judge.{JudgeAnswers}
 use Rattle.command_answers.specs.Replay.{RecordingAnswers, RunAnswers}
 use Rattle.command_answers.specs.Verify.{StreamAnswers}
 use Rattle.command_answers.specs.Race.{ThreadsAnswer}
-use Rattle.command_files.specs.Inputs.{events_file, got_file, order_file, session_file, stream_file, want_file}
+use Rattle.command_files.specs.Inputs.{events_file, got_file, keyed_file, lined_file, order_file, session_file, stream_file, want_file}
 use Rattle.command_answers.specs.Race.{RaceAnswers, Races}
 use Rattle.command_files.specs.Refused.{Refused}
 use Rattle.answer_laws.specs.Laws.{OneAnswer, OneRefusal}
@@ -83,6 +84,9 @@ command_once Of from (Some (judge stream)) races = last_once Of from stream stre
 command_once Of from (Some (compare want got us pixels)) races =
     reads_once Of from want want_file (GotAnswers got us pixels)
     (λ rest wanted. last_once Of rest got got_file (SameAnswers us pixels wanted) (λ came a b k x y. sym y ∙ x))
+command_once Of from (Some (inspect files)) races =
+    reads_once Of from files.session keyed_file (CountsAnswer files.events)
+    (λ rest session. last_once Of rest files.events (lined_file (devices_of session.0)) (InspectAnswers session) (λ recording a b k x y. sym y ∙ x))
 
 pub one_answer : OneAnswer
 one_answer from words a b alone x y =

@@ -1,5 +1,5 @@
 -- What is proved of the program's answers. Each law is a clause of a function.
-use Rattle.std.specs.Prelude.{◌≡◌, ℕ, List, reverse, Ok, Err}
+use Rattle.std.specs.Prelude.{codes, ◌≡◌, ℕ, List, reverse, Some, Ok, Err, ◌⊎◌}
 use Rattle.raw_events.specs.declared.event.RawEvent.{RawEvent}
 use Rattle.dispatch_calls.specs.declared.call.Call.{Call}
 use Rattle.dispatch_history.specs.Effect.{Effect, past_of}
@@ -9,12 +9,13 @@ use Rattle.dispatch_history.specs.Ordered.{Rounds}
 use Rattle.dispatch_history.specs.Plan.{Line}
 use Rattle.session_plan.specs.DeviceDisplays.{device_displays}
 use Rattle.session_plan.specs.Plan.{PlanData}
+use Rattle.command_words.specs.Command.{Recorded, inspect, replay as replays}
 use Rattle.command_words.specs.Forms.{form_of}
 use Rattle.run_laws.specs.Fitting.{NoneRefused}
 use Rattle.command_files.specs.Judged.{Answer, Origin}
 use Rattle.command_files.specs.Planned.{run_of}
-use Rattle.command_answers.specs.Program.{IsAlone, IsAnswer}
-use Rattle.command_files.specs.Refused.{Refused}
+use Rattle.command_answers.specs.Program.{AnswersTo, IsAlone, IsAnswer}
+use Rattle.command_files.specs.Refused.{Refused, too_long}
 
 -- No args of a session are refused in its ordered run, however far that has come, whatever the events of its recording.
 abbrev pub RunTakes : Type 0
@@ -37,3 +38,14 @@ abbrev pub OneRefusal : Type 0
 OneRefusal =
     (from : Origin) (words : List (List ℕ)) (r : Refused) (a : Answer)
     → IsAnswer from words (Err r) → IsAnswer from words a → a ≡ Err r
+
+-- What `inspect` refuses of two files, `replay` refuses so.
+abbrev pub InspectRefuses : Type 0
+InspectRefuses =
+    (from : Origin) (files : Recorded) (r : Refused) → AnswersTo from (Some (inspect files)) (Err r) → AnswersTo from (Some (replays files)) (Err r)
+
+-- What `replay` refuses of two files, `inspect` refuses so, unless it is that the run is too long.
+abbrev pub ReplayRefuses : Type 0
+ReplayRefuses =
+    (from : Origin) (files : Recorded) (r : Refused)
+    → AnswersTo from (Some (replays files)) (Err r) → AnswersTo from (Some (inspect files)) (Err r) ⊎ (r ≡ too_long (codes "run"))

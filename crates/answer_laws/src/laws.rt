@@ -1,5 +1,5 @@
 //! What is proved of the program's answers. Each function has laws as its clauses, and does nothing.
-ghost use Rattle.answer_laws.specs.Laws.{OneAnswer, OneRefusal, OrderTakes, RunTakes};
+ghost use Rattle.answer_laws.specs.Laws.{InspectRefuses, OneAnswer, OneRefusal, OrderTakes, ReplayRefuses, RunTakes};
 
 /// No args of a session are refused, whatever its recording and whatever the order of its calls.
 pub fn taking()
@@ -12,4 +12,10 @@ pub fn taking()
 pub fn answering()
     ensures answer { OneAnswer }
     ensures refusal { OneRefusal }
+{}
+
+/// `inspect` refuses just what `replay` refuses of the same files, and so, but for a run that is too long.
+pub fn refusing()
+    ensures inspect { InspectRefuses }
+    ensures replay { ReplayRefuses }
 {}

@@ -1,8 +1,10 @@
 -- Worked examples of the definitions.
 use Rattle.std.proofs.Common.{◌≡◌, ℕ, List, [], ◌∷◌, None, Some, Err, true, ap, get_or, refl, inl, arith, codes}
+use Rattle.std.specs.Fmt.{digits}
 use Rattle.io_trace.specs.Trace.{Reading}
 use Rattle.command_words.specs.Command.{compare, verify}
 use Rattle.command_files.specs.Judged.{Answer, by_log}
+use Rattle.command_answers.specs.Inspect.{looked_at}
 use Rattle.command_answers.specs.Program.{AnswersTo, files_of, usage}
 use Rattle.command_answers.specs.Verify.{verdict}
 
@@ -24,6 +26,13 @@ read_on a h = absurd (cc (h.1.1.1))
 -- the file under another name
 another_name : (a : Answer) → AnswersTo (by_log (a_file ∷ [])) (Some (verify (codes "b"))) a → ⊥
 another_name a h = absurd (let same : 97 ≡ 98 = ap (λ (xs : List ℕ). get_or xs 0 0) h.0 in omega (arith, same))
+
+-- of a session with a display alone, whose file has a key that nothing reads, and of a recording without lines
+nothing_recorded :
+    looked_at (record { displays = []; devices = []; channels = []; steps = []; end = 0 }, codes "key display.depth\n") ([], [])
+    ≡ codes "lines 0 blank 0 other 0 unknown 0 events 0\nsteps 0 before 0 within 0 after 0\nkey display.depth\nhint no device\n"
+unfolding digits
+nothing_recorded = refl
 
 -- those that were wanted are read first
 two_files : files_of (compare (codes "want") (codes "got") 0 0) ≡ (codes "want", 67108864) ∷ (codes "got", 67108864) ∷ []

@@ -1,6 +1,7 @@
 pub mod Answering
 pub mod Begins
 pub mod Bounds
+pub mod Counts
 pub mod EndLines
 pub mod Examples
 pub mod Finishing

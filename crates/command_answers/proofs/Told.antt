@@ -2,9 +2,9 @@
 use Rattle.std.proofs.Common.{List, Option, None, Some}
 use Rattle.io_trace.specs.Trace.{Reading}
 use Rattle.outside_io.specs.Outside.{Entry}
-use Rattle.command_words.specs.Command.{Command, replay, race, check, verify, work, batch, hover, emit, judge, compare}
+use Rattle.command_words.specs.Command.{Command, replay, race, check, verify, work, batch, hover, emit, judge, compare, inspect}
 use Rattle.command_files.specs.Devices.{devices_of}
-use Rattle.command_files.specs.Inputs.{events_file, got_file, order_file, session_file, stream_file, want_file}
+use Rattle.command_files.specs.Inputs.{events_file, got_file, keyed_file, lined_file, order_file, session_file, stream_file, want_file}
 use Rattle.command_files.specs.Judged.{Answer, Ends, IfTold, by_log, by_name}
 use Rattle.command_files.specs.Logged.{AllAgree}
 use Rattle.command_files.proofs.Answering.{told_map}
@@ -14,6 +14,7 @@ use Rattle.command_answers.specs.Checked.{CheckAnswers, OrderAnswers, OrderedBy}
 use Rattle.command_answers.specs.Compare.{GotAnswers, SameAnswers}
 use Rattle.command_answers.specs.Emit.{EmitAnswers}
 use Rattle.command_answers.specs.Hover.{HoverAnswers, MouseAnswers, mouse_alone}
+use Rattle.command_answers.specs.Inspect.{CountsAnswer, InspectAnswers}
 use Rattle.command_answers.specs.Judge.{JudgeAnswers}
 use Rattle.command_answers.specs.Program.{Answers, AnswersTo}
 use Rattle.command_answers.specs.Race.{RaceAnswers, ThreadsAnswer}
@@ -48,6 +49,9 @@ command_told entries (Some (judge stream)) rs a agree h =
 command_told entries (Some (compare want got us pixels)) rs a agree h =
     reads_told entries want want_file (GotAnswers got us pixels) rs a agree
     (λ ys more sections. reads_told entries got got_file (λ rest came. Ends (SameAnswers us pixels sections came) rest) ys a more (λ zs all came k. (k.0, tt))) h
+command_told entries (Some (inspect files)) rs a agree h =
+    reads_told entries files.session keyed_file (CountsAnswer files.events) rs a agree
+    (λ ys more session. reads_told entries files.events (lined_file (devices_of session.0)) (λ rest given. Ends (InspectAnswers session given) rest) ys a more (λ zs all given k. (k.0, tt))) h
 
 -- the answer to a command, where the files are told
 pub answers_told : (told : Option (List Entry)) (before now : List Reading) (command : Command) (a : Answer) → Answers told before now command a

@@ -5,6 +5,7 @@ pub mod Compare
 pub mod Emit
 pub mod Given
 pub mod Hover
+pub mod Inspect
 pub mod Judge
 pub mod Judging
 pub mod Plan
@@ -12,6 +13,7 @@ pub mod Program
 pub mod Race
 pub mod RaceEnds
 pub mod Replay
+pub mod Sides
 pub mod Verify
 pub mod Whole
 pub mod Work

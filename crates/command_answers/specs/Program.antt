@@ -2,10 +2,10 @@
 use Rattle.std.specs.Prelude.{codes, ◌≡◌, List, [], ◌∷◌, Option, Some, None, Err, ℕ, ⊤}
 use Rattle.io_trace.specs.Trace.{Reading}
 use Rattle.outside_io.specs.Outside.{Entry}
-use Rattle.command_words.specs.Command.{Command, replay, race, check, verify, work, batch, hover, emit, judge, compare}
+use Rattle.command_words.specs.Command.{Command, replay, race, check, verify, work, batch, hover, emit, judge, compare, inspect}
 use Rattle.command_words.specs.Forms.{form_of}
 use Rattle.command_files.specs.declared.refusal.Refusal.{Refusal}
-use Rattle.command_files.specs.Inputs.{order_limit, recording_limit, session_file, session_limit, stream_file, stream_limit, want_file}
+use Rattle.command_files.specs.Inputs.{keyed_file, order_limit, recording_limit, session_file, session_limit, stream_file, stream_limit, want_file}
 use Rattle.command_files.specs.Judged.{Answer, Ends, Origin, Reads, by_log}
 use Rattle.command_files.specs.Logged.{Logged, RefusesBy}
 use Rattle.command_files.specs.Refused.{Refused, refused}
@@ -14,6 +14,7 @@ use Rattle.command_answers.specs.Checked.{CheckAnswers}
 use Rattle.command_answers.specs.Compare.{GotAnswers}
 use Rattle.command_answers.specs.Emit.{EmitAnswers}
 use Rattle.command_answers.specs.Hover.{MouseAnswers}
+use Rattle.command_answers.specs.Inspect.{CountsAnswer}
 use Rattle.command_answers.specs.Judge.{JudgeAnswers}
 use Rattle.command_answers.specs.Race.{ThreadsAnswer}
 use Rattle.command_answers.specs.Replay.{RecordingAnswers}
@@ -22,7 +23,7 @@ use Rattle.command_answers.specs.Work.{Works}
 
 -- the words are of no command
 abbrev pub usage : Refused
-usage = refused 2 (codes "usage: inputflinger replay|race|check|verify|work|batch|hover|emit|judge|compare")
+usage = refused 2 (codes "usage: inputflinger replay|race|check|verify|work|batch|hover|emit|inspect|judge|compare")
 
 -- a command that starts no threads, or none
 abbrev pub IsAlone : Option Command → Type 0
@@ -43,6 +44,7 @@ AnswersTo from (Some (emit stream channel device)) a =
     Reads from stream stream_file (λ rest bytes. Ends (EmitAnswers channel device bytes) rest) a
 AnswersTo from (Some (judge stream)) a = Reads from stream stream_file (λ rest bytes. Ends (JudgeAnswers bytes) rest) a
 AnswersTo from (Some (compare want got us pixels)) a = Reads from want want_file (GotAnswers got us pixels) a
+AnswersTo from (Some (inspect files)) a = Reads from files.session keyed_file (CountsAnswer files.events) a
 
 -- what the program answers: the text that it writes or why it refuses, from the words and the files
 abbrev pub IsAnswer : Origin → List (List ℕ) → Answer → Type 0
@@ -60,6 +62,7 @@ files_of (hover files mouse) = (files.session, session_limit) ∷ (files.events,
 files_of (emit stream channel device) = (stream, stream_limit) ∷ []
 files_of (judge stream) = (stream, stream_limit) ∷ []
 files_of (compare want got us pixels) = (want, stream_limit) ∷ (got, stream_limit) ∷ []
+files_of (inspect files) = (files.session, session_limit) ∷ (files.events, recording_limit) ∷ []
 
 -- files of a command were read so far as this is its answer by what they gave
 abbrev pub Answers : Option (List Entry) → List Reading → List Reading → Command → Answer → Type 0

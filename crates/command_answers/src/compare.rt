@@ -5,9 +5,11 @@ ghost use Rattle.compare_text.specs.Indexed.{file_sections};
 ghost use Rattle.command_files.specs.Inputs.{IsWant, sections_said, stream_limit};
 ghost use Rattle.command_files.specs.Judged.{by_log};
 ghost use Rattle.command_files.specs.Logged.{Logged, RefusesBy};
-ghost use Rattle.command_files.specs.Refused.{bad_got_line, bad_want_line};
+ghost use Rattle.command_files.specs.Refused.{refused};
+ghost use Rattle.command_files.specs.RefusalView.{stream_line};
 ghost use Rattle.command_files.specs.Refusing.{RefusesSo};
 ghost use Rattle.command_answers.specs.Compare.{GotAnswers, SameAnswers, refusal_of_compare};
+ghost use Rattle.command_answers.specs.Sides.{bad_line_of};
 ghost use Rattle.command_answers.specs.Program.{Answers, RefusesCommand};
 
 use command_files::{Refusal, StreamError, read_stream};
@@ -16,29 +18,33 @@ use outside_io::Files;
 use std::alloc::Global;
 use text_pieces::Pieces;
 
-/// The sections that were wanted.
-fn wanted(alloc: Global, bytes: &[u8]) -> Result<Sections<'_>, Refusal>
-    ensures ok { IfOk result (λ sections. sections_said bad_want_line (file_sections bytes.now) ≡ Ok sections) }
-    ensures err { IfErr result (RefusesSo (λ r. sections_said bad_want_line (file_sections bytes.now) ≡ Err r)) }
+/// The two stream files that are compared.
+#[derive(Clone, Copy)]
+enum Side {
+    Want,
+    Got,
+}
+
+/// Why a stream file is refused one of whose lines is bad or missing.
+fn bad_line(side: Side, line: u64) -> StreamError
+    ensures { refused 1 (stream_line result) ≡ bad_line_of side line }
 {
-    match Sections::read(alloc, bytes) {
-        Ok(sections) => Ok(sections),
-        Err(stream_text::StreamError::BadLine { line }) => {
-            Err(Refusal::Stream(StreamError::BadWant { line }))
-        }
-        Err(stream_text::StreamError::Memory) => Err(Refusal::NoMemory),
+    match side {
+        Side::Want => StreamError::BadWant { line },
+        Side::Got => StreamError::BadGot { line },
     }
 }
 
-/// The sections that came.
-fn came(alloc: Global, bytes: &[u8]) -> Result<Sections<'_>, Refusal>
-    ensures ok { IfOk result (λ sections. sections_said bad_got_line (file_sections bytes.now) ≡ Ok sections) }
-    ensures err { IfErr result (RefusesSo (λ r. sections_said bad_got_line (file_sections bytes.now) ≡ Err r)) }
+/// The sections of a stream file that is compared.
+fn sections_in(alloc: Global, bytes: &[u8], side: Side) -> Result<Sections<'_>, Refusal>
+    ensures ok { IfOk result (λ sections. sections_said (bad_line_of side) (file_sections bytes.now) ≡ Ok sections) }
+    ensures err { IfErr result (RefusesSo
+        (λ r. sections_said (bad_line_of side) (file_sections bytes.now) ≡ Err r)) }
 {
     match Sections::read(alloc, bytes) {
         Ok(sections) => Ok(sections),
         Err(stream_text::StreamError::BadLine { line }) => {
-            Err(Refusal::Stream(StreamError::BadGot { line }))
+            Err(Refusal::Stream(bad_line(side, line)))
         }
         Err(stream_text::StreamError::Memory) => Err(Refusal::NoMemory),
     }
@@ -96,7 +102,7 @@ fn answer_got<F: Files>(
     ensures names { F.lends files.new ≡ F.lends files.old }
 {
     let bytes = read_stream(alloc, files, name)?;
-    let got = came(alloc, &bytes)?;
+    let got = sections_in(alloc, &bytes, Side::Got)?;
     compared(alloc, want, &got, tolerance)
 }
 
@@ -121,6 +127,6 @@ pub fn answer_compare<F: Files>(
     ensures names { F.lends files.new ≡ F.lends files.old }
 {
     let bytes = read_stream(alloc, files, want)?;
-    let sections = wanted(alloc, &bytes)?;
+    let sections = sections_in(alloc, &bytes, Side::Want)?;
     answer_got(alloc, files, &sections, got, tolerance)
 }

@@ -11,8 +11,9 @@
 //! end 1 sent 2 received 2 finished 2
 //! ```
 //!
-//! Given this text, `verify` says `well formed 1 2`, `judge` says `channel 1 whole 2` and `judged 1 2`, and `compare`
-//! of it with itself says `same 1 2`.
+//! `inspect` tells how many lines, events and fingers the recording has. Given this text, `verify` says
+//! `well formed 1 2`, `judge` says `channel 1 whole 2` and `judged 1 2`, and `compare` of it with itself says
+//! `same 1 2`.
 #![tactic(auto)]
 
 mod batch;
@@ -21,6 +22,7 @@ mod compare;
 mod emit;
 mod given;
 mod hover;
+mod inspect;
 mod judge;
 mod plan;
 mod race;
@@ -34,6 +36,7 @@ pub use checked::answer_check;
 pub use compare::answer_compare;
 pub use emit::answer_emit;
 pub use hover::answer_hover;
+pub use inspect::answer_inspect;
 pub use judge::answer_judge;
 pub use race::answer_race;
 pub use replay::answer_replay;

@@ -1,7 +1,7 @@
 -- Worked examples of the definitions.
-use Rattle.std.proofs.Common.{◌≡◌, ℕ, List, [], ◌∷◌, true, false, Some, Ok, Err, ap, get_or, refl, inl, inr, arith, codes}
+use Rattle.std.proofs.Common.{◌≡◌, ℕ, List, [], ◌∷◌, true, false, Some, Ok, Err, ap, get_or, length, refl, inl, inr, arith, codes}
 use Rattle.io_trace.specs.Trace.{Reading}
-use Rattle.command_files.specs.Judged.{Answer, Ends, FileKind, IsEnough, Reads, by_log, by_name, judged}
+use Rattle.command_files.specs.Judged.{Answer, Ends, FileKind, IsEnough, Reads, by_log, by_name, judged, with_more}
 use Rattle.command_files.specs.Logged.{Agrees, InTurn}
 use Rattle.command_files.specs.Refused.{too_long}
 
@@ -14,6 +14,13 @@ two_bytes = refl
 
 three_bytes : judged short (7 ∷ 8 ∷ 9 ∷ []) ≡ Err (too_long (codes "short"))
 three_bytes = refl
+
+-- files of which their length is said besides: what is refused is refused all the same
+two_and_more : judged (with_more short (λ bytes. length bytes)) (7 ∷ 8 ∷ []) ≡ Ok (7 ∷ 8 ∷ [], 2)
+two_and_more = refl
+
+three_and_more : judged (with_more short (λ bytes. length bytes)) (7 ∷ 8 ∷ 9 ∷ []) ≡ Err (too_long (codes "short"))
+three_and_more = refl
 
 -- a file `a` that was read to its end, and a file `b` that gave a byte more than it may have
 abbrev whole : Reading

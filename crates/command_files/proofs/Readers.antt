@@ -1,4 +1,4 @@
--- One device more: its reader stands behind the others.
+-- One device more: its reader and its counts stand behind the others.
 use Rattle.std.specs.Prelude.{◌≡◌, ℕ, zero, suc, ◌+◌, ◌<◌, ◌≤◌, ◌⊎◌, List, ◌∷◌, ◌++◌, map, take, get_or, length, slice_get, Some, refl, []}
 use Rattle.std.proofs.Common.{arith, ap, sym, subst, ◌∙◌, inl, inr, length-take-le}
 use Rattle.std.proofs.lemmas.List.{length-append, length-map, map-append}
@@ -7,6 +7,8 @@ use Rattle.device_reader.specs.All.{AreNumbered}
 use Rattle.device_reader.specs.Cooked.{DevicePlan, DeviceStandsFor}
 use Rattle.device_reader.specs.CookedList.{AllStandFor}
 use Rattle.device_reader.specs.Reading.{Reading}
+use Rattle.event_counts.specs.declared.device.DeviceTally.{DeviceTally}
+use Rattle.event_counts.specs.Devices.{AllCounted, DeviceCounted}
 use Rattle.session_plan.specs.declared.plan.Display.{Display}
 use Rattle.session_plan.specs.declared.plan.DevicePlan.{DevicePlan as Device}
 use Rattle.session_plan.specs.Plan.{DeviceData}
@@ -37,20 +39,39 @@ pushed [] x (suc i) y g = absurd (cc)
 pushed (z ∷ zs) x zero y g = inl g
 pushed (z ∷ zs) x (suc i) y g = pushed_later z zs x i y (pushed zs x i y g)
 
-stand_at : (plans : List DevicePlan) (readers : List Reading) (p q : DevicePlan) (r s : Reading) (i : ℕ) → AllStandFor plans [] readers → DeviceStandsFor p [] r
-    → (slice_get plans i ≡ Some q) ⊎ ((i ≡ length plans) × (p ≡ q)) → (slice_get readers i ≡ Some s) ⊎ ((i ≡ length readers) × (r ≡ s)) → DeviceStandsFor q [] s
-stand_at plans readers p q r s i all new (inl a) (inl b) = all.each i q s a b
-stand_at plans readers p q r s i all new (inl a) (inr b) = absurd (omega (arith, slice_get_within plans i q a, b.0, all.as_many))
-stand_at plans readers p q r s i all new (inr a) (inl b) = absurd (omega (arith, slice_get_within readers i s b, a.0, all.as_many))
-stand_at plans readers p q r s i all new (inr a) (inr b) =
-    subst (λ (x : DevicePlan). DeviceStandsFor x [] s) a.1 (subst (λ (x : Reading). DeviceStandsFor p [] x) b.1 new)
+-- what stands for what at each place
+abbrev pub EachStands : {X Y : Type 0} → (X → Y → Type 0) → List X → List Y → Type 0
+EachStands {X} {Y} Stands xs ys = (i : ℕ) (x : X) (y : Y) → slice_get xs i ≡ Some x → slice_get ys i ≡ Some y → Stands x y
+
+both_at : {X Y : Type 0} (Stands : X → Y → Type 0) (xs : List X) (ys : List Y) (p q : X) (r s : Y) (i : ℕ) → length ys ≡ length xs → EachStands Stands xs ys → Stands p r
+    → (slice_get xs i ≡ Some q) ⊎ ((i ≡ length xs) × (p ≡ q)) → (slice_get ys i ≡ Some s) ⊎ ((i ≡ length ys) × (r ≡ s)) → Stands q s
+both_at Stands xs ys p q r s i same all new (inl a) (inl b) = all i q s a b
+both_at Stands xs ys p q r s i same all new (inl a) (inr b) = absurd (omega (arith, slice_get_within xs i q a, b.0, same))
+both_at Stands xs ys p q r s i same all new (inr a) (inl b) = absurd (omega (arith, slice_get_within ys i s b, a.0, same))
+both_at {X} {Y} Stands xs ys p q r s i same all new (inr a) (inr b) = subst (λ (x : X). Stands x s) a.1 (subst (λ (y : Y). Stands p y) b.1 new)
+
+-- one more on both sides
+pub each_push : {X Y : Type 0} (Stands : X → Y → Type 0) (xs : List X) (ys : List Y) (p : X) (r : Y) → length ys ≡ length xs → EachStands Stands xs ys → Stands p r
+    → EachStands Stands (xs ++ p ∷ []) (ys ++ r ∷ [])
+each_push Stands xs ys p r same all new = λ i q s a b. both_at Stands xs ys p q r s i same all new (pushed xs p i q a) (pushed ys r i s b)
+
+pub as_many_push : {X Y : Type 0} (xs : List X) (ys : List Y) (p : X) (r : Y) → length ys ≡ length xs → length (ys ++ r ∷ []) ≡ length (xs ++ p ∷ [])
+as_many_push xs ys p r same = length-append ys (r ∷ []) ∙ ap (λ n. n + 1) same ∙ sym (length-append xs (p ∷ []))
 
 -- one device more, before the first event
 pub stand_push : (plans : List DevicePlan) (readers : List Reading) (p : DevicePlan) (r : Reading)
     → AllStandFor plans [] readers → DeviceStandsFor p [] r → AllStandFor (plans ++ p ∷ []) [] (readers ++ r ∷ [])
 stand_push plans readers p r all new = record {
-  as_many = length-append readers (r ∷ []) ∙ ap (λ n. n + 1) all.as_many ∙ sym (length-append plans (p ∷ []));
-  each = λ i q s a b. stand_at plans readers p q r s i all new (pushed plans p i q a) (pushed readers r i s b);
+  as_many = as_many_push plans readers p r all.as_many;
+  each = each_push (λ q s. DeviceStandsFor q [] s) plans readers p r all.as_many all.each new;
+}
+
+-- the counts of one device more
+pub count_push : (plans : List DevicePlan) (tallies : List DeviceTally) (p : DevicePlan) (t : DeviceTally)
+    → AllCounted plans [] tallies → DeviceCounted p [] t → AllCounted (plans ++ p ∷ []) [] (tallies ++ t ∷ [])
+count_push plans tallies p t all new = record {
+  as_many = as_many_push plans tallies p t all.as_many;
+  each = each_push (λ q s. DeviceCounted q [] s) plans tallies p t all.as_many all.each new;
 }
 
 numbered_at : (readers : List Reading) (r s : Reading) (i : ℕ) → AreNumbered readers → r.device ≡ length readers + 1

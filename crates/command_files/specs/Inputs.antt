@@ -6,14 +6,15 @@ use Rattle.outside_io.specs.Outside.{Entry}
 use Rattle.raw_events.specs.declared.event.RawEvent.{RawEvent}
 use Rattle.raw_events.specs.declared.event.LineError.{LineError}
 use Rattle.raw_events.specs.Line.{Known}
-use Rattle.raw_events.specs.Recording.{recorded}
+use Rattle.raw_events.specs.Recording.{lines_of, recorded}
 use Rattle.session_plan.specs.Fault.{Fault}
 use Rattle.session_plan.specs.Plan.{PlanData}
 use Rattle.session_plan.specs.Session.{session_of}
 use Rattle.stream_text.specs.declared.order_line.OrderLine.{OrderLine}
 use Rattle.stream_text.specs.OrderText.{order_of}
+use Rattle.unread_keys.specs.Session.{unread_text}
 use Rattle.command_files.specs.Devices.{devices_of}
-use Rattle.command_files.specs.Judged.{FileKind, IsJudged, judged}
+use Rattle.command_files.specs.Judged.{FileKind, IsJudged, judged, with_more}
 use Rattle.command_files.specs.Refused.{Refused, bad_got_line, bad_order_line, bad_want_line, session_refused, recording_refused, too_long}
 
 -- the most bytes of a session, 4 MiB
@@ -53,6 +54,10 @@ session_file = record { limit = session_limit; what = codes "session"; rule = λ
 abbrev pub session_judged : List ℕ → Result PlanData Refused
 session_judged bytes = judged session_file bytes
 
+-- session files, with the lines of their keys that nothing reads
+abbrev pub keyed_file : FileKind (PlanData × List ℕ)
+keyed_file = with_more session_file unread_text
+
 -- the events of all lines, or the refusal of the first refused line
 abbrev pub lines_judged : Result (List RawEvent) LineError → Result (List RawEvent) Refused
 lines_judged (Ok events) = Ok events
@@ -61,6 +66,10 @@ lines_judged (Err error) = Err (recording_refused error)
 -- recordings of these devices: each of their lines is looked at
 abbrev pub events_file : Known → FileKind (List RawEvent)
 events_file devices = record { limit = recording_limit; what = codes "recording"; rule = λ bytes. lines_judged (recorded devices bytes) }
+
+-- recordings of these devices, with their lines
+abbrev pub lined_file : Known → FileKind (List RawEvent × List (List ℕ))
+lined_file devices = with_more (events_file devices) lines_of
 
 -- the events of a recording of these devices, or why it is refused
 abbrev pub events_judged : Known → List ℕ → Result (List RawEvent) Refused

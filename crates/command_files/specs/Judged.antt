@@ -24,6 +24,15 @@ pub record FileKind (A : Type 0) : Type 0 where
 abbrev pub judged : {A : Type 0} → FileKind A → List ℕ → Result A Refused
 judged kind bytes = cond (nat_le (length bytes) kind.limit) (kind.rule bytes) (Err (too_long kind.what))
 
+-- what is judged of a file, and something more that is said of it
+abbrev pub beside : {A B : Type 0} → Result A Refused → B → Result (A × B) Refused
+beside (Ok x) more = Ok (x, more)
+beside (Err r) more = Err r
+
+-- files of a kind of whose bytes something more is said
+abbrev pub with_more : {A B : Type 0} → FileKind A → (List ℕ → B) → FileKind (A × B)
+with_more kind more = record { limit = kind.limit; what = kind.what; rule = λ bytes. beside (kind.rule bytes) (more bytes) }
+
 -- where the bytes of files come from: files under their names, or the readings of a call, one after another
 pub data Origin : Type 0 where
   by_name : List Entry → Origin

@@ -1,4 +1,5 @@
 pub mod Cooked
+pub mod Counting
 pub mod Devices
 pub mod Inputs
 pub mod Judged
@@ -10,3 +11,4 @@ pub mod Recorded
 pub mod RefusalView
 pub mod Refused
 pub mod Refusing
+pub mod Taking

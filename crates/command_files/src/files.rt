@@ -4,13 +4,10 @@ ghost use Rattle.outside_io.specs.Outside.{Rose};
 ghost use Rattle.command_files.specs.Logged.{IsWhole};
 ghost use Rattle.command_files.specs.Reading.{GivesMore, GivesWith};
 ghost use Rattle.command_files.specs.declared.files.ReadError.TheVariants.{Failed as ReadFailed, Memory, TooLong};
-ghost use Rattle.schedule.specs.Planned.{IsRun};
-ghost use Rattle.command_files.specs.Recorded.{Feeds};
 ghost use Rattle.command_files.specs.ReadErrors.{StopsReading, WithFile, read_error_of};
 
-use crate::recording::Recording;
+use crate::taker::Taker;
 use outside_io::{Failed, Files, Source, SourceRefused};
-use schedule::Plan;
 use std::alloc::{AllocError, AllocFailed, Global};
 
 /// The most bytes that one read asks for.
@@ -110,21 +107,21 @@ fn read_all<S: Source>(alloc: Global, source: &mut S, limit: usize) -> Result<Ve
     Err(ReadError::TooLong)
 }
 
-/// Reads a piece into the buffer and hands it to a recording, and answers its length.
-fn feed_piece<S: Source>(
+/// Reads a piece into the buffer and hands it on, and answers its length.
+fn feed_piece<S: Source, T: Taker>(
     source: &mut S,
     buffer: &mut [u8],
-    plan: &Plan,
-    recording: &mut Recording,
+    beside: &T::Beside,
+    taker: &mut T,
 ) -> Result<usize, ReadError>
     requires some { 0 < length buffer.old }
     requires going { (S.reading source.old).ended ≡ false }
-    requires run { IsRun plan.now }
+    requires fits { T.fits beside.now }
     ensures going { IfOk result (λ count. 0 < count → (S.reading source.new).ended ≡ false) }
     ensures ended { IfOk result (λ count. count ≡ 0 → (S.reading source.new).ended ≡ true) }
     ensures fed { IfOk result
         (λ count. GivesWith (S.reading source.old) (S.reading source.new) count
-        (Feeds plan.now recording.old recording.new)) }
+        (T.takes beside.now taker.old taker.new)) }
     ensures bound { IfOk result (λ count. count ≤ length buffer.old) }
     ensures gives { GivesMore (S.left source.old) (S.left source.new) (S.reading source.old) (S.reading source.new) }
     ensures few { length (S.reading source.new).given ≤ length (S.reading source.old).given + length buffer.old }
@@ -134,23 +131,23 @@ fn feed_piece<S: Source>(
     ensures loan { S.loan source.new ≡ S.loan source.old }
 {
     let count = source.read(buffer)?;
-    recording.feed(plan, &buffer[..count])?;
+    taker.take(beside, &buffer[..count])?;
     Ok(count)
 }
 
-/// Hands all bytes that a source has, of which nothing was read, to a recording, at most `limit`.
-fn feed_all<S: Source>(
+/// Hands on all bytes that a source has, of which nothing was read, at most `limit`.
+fn feed_all<S: Source, T: Taker>(
     alloc: Global,
     source: &mut S,
     limit: usize,
-    plan: &Plan,
-    recording: &mut Recording,
+    beside: &T::Beside,
+    taker: &mut T,
 ) -> Result<(), ReadError>
     requires limit { limit < 2 ^ 32 }
     requires going { (S.reading source.old).ended ≡ false }
     requires unread { (S.reading source.old).given ≡ [] }
-    requires run { IsRun plan.now }
-    ensures ok { OnOk result (Feeds plan.now recording.old recording.new (S.reading source.new).given) }
+    requires fits { T.fits beside.now }
+    ensures ok { OnOk result (T.takes beside.now taker.old taker.new (S.reading source.new).given) }
     ensures within { OnOk result (length (S.reading source.new).given ≤ limit) }
     ensures ended { OnOk result ((S.reading source.new).ended ≡ true) }
     ensures too_long { IsErrOf result ReadError.TooLong → length (S.reading source.new).given ≡ limit + 1 }
@@ -164,7 +161,7 @@ fn feed_all<S: Source>(
     let mut total = 0;
     'pieces: while total <= limit {
         let room = PIECE.min(limit + 1 - total);
-        let count = feed_piece(source, &mut buffer[..room], plan, recording)?;
+        let count = feed_piece(source, &mut buffer[..room], beside, taker)?;
         if count == 0 {
             return Ok(());
         }
@@ -173,21 +170,21 @@ fn feed_all<S: Source>(
     Err(ReadError::TooLong)
 }
 
-/// Hands the bytes of a file to a recording, piece by piece, at most `limit`. At most one byte more is read.
-pub fn feed_file<F: Files>(
+/// Hands on the bytes of a file, piece by piece, at most `limit`. At most one byte more is read.
+pub fn feed_file<F: Files, T: Taker>(
     alloc: Global,
     files: &mut F,
     name: &str,
     limit: usize,
-    plan: &Plan,
-    recording: &mut Recording,
+    beside: &T::Beside,
+    taker: &mut T,
 ) -> Result<(), ReadError>
     requires limit { limit < 2 ^ 32 }
     requires lends { IsTrue (F.lends files.old name.now) }
     requires free { F.lent files.old ≡ None }
-    requires run { IsRun plan.now }
+    requires fits { T.fits beside.now }
     ensures ok { OnOk result (WithFile (F.entries files.old) (F.readings files.old) (F.readings files.new)
-        name.now limit (Feeds plan.now recording.old recording.new)) }
+        name.now limit (T.takes beside.now taker.old taker.new)) }
     ensures err { IfErr result (StopsReading (F.entries files.old) (F.readings files.old) (F.readings files.new)
         name.now limit (F.faults files.old) (F.faults files.new)) }
     ensures later { F.faults files.old ≤ F.faults files.new }
@@ -196,7 +193,7 @@ pub fn feed_file<F: Files>(
     ensures names { F.lends files.new ≡ F.lends files.old }
 {
     let mut source = files.source(name)?;
-    let fed = feed_all(alloc, &mut source, limit, plan, recording);
+    let fed = feed_all(alloc, &mut source, limit, beside, taker);
     files.done(source);
     fed
 }

@@ -25,7 +25,7 @@ use std::alloc::Global;
 use stream_text::Order;
 
 /// The most bytes of a session: 4 MiB.
-const SESSION_LIMIT: usize = 4194304;
+pub(crate) const SESSION_LIMIT: usize = 4194304;
 
 /// The most bytes of a recording: 32 MiB.
 pub const RECORDING_LIMIT: usize = 33554432;
@@ -40,7 +40,7 @@ const STREAM_LIMIT: usize = 67108864;
 const STEP_LIMIT: usize = 100000;
 
 /// The plan of a session's bytes.
-fn plan_from(alloc: Global, bytes: &[u8]) -> Result<Plan, Refusal>
+pub(crate) fn plan_from(alloc: Global, bytes: &[u8]) -> Result<Plan, Refusal>
     ensures ok { IfOk result (λ plan. plan_judged (session_of bytes.now) ≡ Ok (plan_view plan)) }
     ensures valid { IfOk result IsPlan }
     ensures err { IfErr result (RefusesSo (λ r. plan_judged (session_of bytes.now) ≡ Err r)) }

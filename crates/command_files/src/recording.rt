@@ -14,6 +14,7 @@ ghost use Rattle.command_files.specs.Planned.{given, script_of};
 ghost use Rattle.command_files.specs.Recorded.{HasRead, HasEnded, RefusesEvents, Feeds, is_memory, refusal_of};
 
 use crate::refusal::Refusal;
+use crate::taker::Taker;
 use device_reader::Readers;
 use input_types::{Args, Moment};
 use raw_events::{LineError, LineReader, RawEvent};
@@ -21,7 +22,8 @@ use schedule::{Plan, Schedule};
 use std::alloc::{AllocError, Global};
 use std::marker::Model;
 
-/// A recording that is being read, and the run of what it gave so far. No list of its events is kept.
+/// A recording that is being read, and the run of what it gave so far. Once a line was refused nothing more is run. No
+/// list of its events is kept.
 #[derive(Drop)]
 pub struct Recording {
     reader: LineReader,
@@ -41,8 +43,8 @@ impl Model for Recording {
     ghost view = { λ r. record { reader = r.reader; readers = r.readers; schedule = r.schedule } };
 }
 
-/// What a refused line does to a run: nothing. Want of memory is told.
-fn passed_over(error: LineError) -> Result<(), AllocError>
+/// What a refused line does to what is run or counted: nothing. Want of memory is told.
+pub(crate) fn passed_over(error: LineError) -> Result<(), AllocError>
     ensures { OnOk result (is_memory error ≡ false) }
 {
     match error {
@@ -156,24 +158,6 @@ impl Recording {
         }
     }
 
-    /// Feeds the next piece. Once a line was refused nothing more is run.
-    pub fn feed(&mut self, plan: &Plan, piece: &[u8]) -> Result<(), AllocError>
-        requires { IsRun plan.now }
-        ensures { OnOk result (Feeds plan.now self.old self.new piece.now) }
-    {
-        self.events.clear();
-        match self.reader.feed(piece, &mut self.events) {
-            Ok(()) => run_events(
-                &self.events,
-                &mut self.args,
-                &mut self.readers,
-                &mut self.schedule,
-                plan,
-            ),
-            Err(error) => passed_over(error),
-        }
-    }
-
     /// Ends the recording and the run, which is answered. A line that is refused is answered now.
     pub fn end(self, plan: &Plan) -> Result<Schedule, Refusal>
         requires { IsRun plan.now }
@@ -198,4 +182,33 @@ impl Recording {
             Err(error) => Err(recording_refusal(error)),
         }
     }
+}
+
+impl Taker for Recording {
+    ghost use Rattle.command_files.specs.Taking.{more_behind, none_behind};
+
+    type Beside = Plan;
+
+    ghost fits = { IsRun };
+
+    ghost takes = { Feeds };
+
+    fn take(&mut self, plan: &Plan, piece: &[u8]) -> Result<(), AllocError> {
+        self.events.clear();
+        match self.reader.feed(piece, &mut self.events) {
+            Ok(()) => run_events(
+                &self.events,
+                &mut self.args,
+                &mut self.readers,
+                &mut self.schedule,
+                plan,
+            ),
+            Err(error) => passed_over(error),
+        }
+    }
+
+    ghost none = { λ _ s p bytes _. none_behind (HasRead p) s bytes };
+
+    ghost more = { λ _ s t u front behind f g p bytes is.
+        more_behind (HasRead p) s t u front behind (λ xs. f p xs is) (λ xs. g p xs is) bytes };
 }

@@ -1,7 +1,7 @@
 -- Words, and the commands that they give.
 use Rattle.std.specs.Prelude.{codes, ◌≡◌, [], ◌∷◌, Some, None, refl}
-use Rattle.command_words.specs.Command.{replay, race, check, verify, work, batch, hover, emit, judge, compare}
-use Rattle.command_words.specs.Forms.{batch_of, check_of, command_with, compare_of, emit_of, form_of, hover_of, judge_of, number_of, race_of, recorded_of, replay_of, value_of, verify_of, work_of}
+use Rattle.command_words.specs.Command.{replay, race, check, verify, work, batch, hover, emit, judge, compare, inspect}
+use Rattle.command_words.specs.Forms.{batch_of, check_of, command_with, compare_of, emit_of, form_of, hover_of, inspect_of, judge_of, number_of, race_of, recorded_of, replay_of, value_of, verify_of, work_of}
 use Rattle.command_words.specs.Value.{number}
 
 pub no_words : form_of [] ≡ None
@@ -119,6 +119,14 @@ pub compares :
     × (form_of (codes "compare" ∷ codes "--want=w" ∷ codes "--got=g" ∷ codes "--us=0" ∷ []) ≡ None)
 unfolding form_of command_with value_of number number_of compare_of
 compares = (refl, refl, refl, refl, refl)
+
+-- the files of a run to be looked at
+pub inspects :
+    (form_of (codes "inspect" ∷ codes "--events" ∷ codes "e" ∷ codes "--session=s" ∷ []) ≡ Some (inspect (record { session = codes "s"; events = codes "e" })))
+    × (form_of (codes "inspect" ∷ codes "--session" ∷ codes "s" ∷ []) ≡ None)
+    × (form_of (codes "inspect" ∷ codes "--session=s" ∷ codes "--events=e" ∷ codes "--order=o" ∷ []) ≡ None)
+unfolding form_of command_with value_of recorded_of inspect_of
+inspects = (refl, refl, refl)
 
 -- words of no command
 pub others :

@@ -2,7 +2,7 @@
 ghost use Rattle.std.specs.Prelude.{◌≡◌, ◌≤◌, ◌<◌, ◌^◌, IfSome, length, map, option_map, string_bytes};
 ghost use Rattle.command_words.specs.Command.{InRanges};
 ghost use Rattle.command_words.specs.CommandView.{command_view, recorded_view};
-ghost use Rattle.command_words.specs.Forms.{batch_of, check_of, command_with, compare_of, emit_of, form_of, hover_of, judge_of, number_of, race_of, recorded_of, replay_of, value_of, verify_of, work_of};
+ghost use Rattle.command_words.specs.Forms.{batch_of, check_of, command_with, compare_of, emit_of, form_of, hover_of, inspect_of, judge_of, number_of, race_of, recorded_of, replay_of, value_of, verify_of, work_of};
 
 use crate::number::number;
 use crate::options::Options;
@@ -72,6 +72,8 @@ pub enum Alone<'a> {
         us: u64,
         pixels: u32,
     },
+    /// Prints what a session and a recording hold.
+    Inspect(Recorded<'a>),
 }
 
 /// The number from `low` to `high` that an option says.
@@ -217,6 +219,16 @@ fn compare_of<'a>(options: &Options<'a>) -> Option<Command<'a>>
     }))
 }
 
+/// `inspect`, with the files of a run.
+#[tactic(auto, unfolding(crate::specs::Forms::inspect_of))]
+fn inspect_of<'a>(options: &Options<'a>) -> Option<Command<'a>>
+    ensures value { option_map command_view result ≡ inspect_of (value_of options.now) }
+    ensures ranges { IfSome result (λ c. InRanges (command_view c)) }
+{
+    let recorded = recorded_of(options)?;
+    Some(Command::Alone(Alone::Inspect(recorded)))
+}
+
 /// The command with a name, where the options are as many as it has and say what they are to.
 #[tactic(auto, unfolding(crate::specs::Forms::command_with))]
 fn command_with<'a>(name: &str, options: &Options<'a>) -> Option<Command<'a>>
@@ -234,6 +246,7 @@ fn command_with<'a>(name: &str, options: &Options<'a>) -> Option<Command<'a>>
         ("emit", 3) => emit_of(options),
         ("judge", 1) => judge_of(options),
         ("compare", 4) => compare_of(options),
+        ("inspect", 2) => inspect_of(options),
         _ => None,
     }
 }

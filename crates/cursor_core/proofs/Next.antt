@@ -1,9 +1,9 @@
 -- A cursor after one more call.
-use Rattle.std.proofs.Common.{◌≡◌, ℕ, ◌-◌, Bool, true, false, not, ◌==◌, ◌&&◌, ◌||◌, cond, List, [], ◌∷◌, ◌++◌, Option, Some, refl, sym, ◌∙◌, ap, ap₂, subst}
-use Rattle.std.specs.Prelude.{ℤ, pos, max, ◌+ℤ◌, option_map}
+use Rattle.std.proofs.Common.{◌≡◌, ℕ, ◌-◌, ◌≤◌, Bool, true, false, not, ◌==◌, ◌&&◌, ◌||◌, cond, List, [], ◌∷◌, ◌++◌, Option, Some, None, refl, sym, ◌∙◌, length, ap, ap₂, subst, arith}
+use Rattle.std.specs.Prelude.{ℤ, pos, max, ◌+ℤ◌, nat_le, nat_lt, option_map}
 use Rattle.std.specs.Int.{int_max, int_min}
 use Rattle.std.specs.Option.{option_to_list}
-use Rattle.std.proofs.Math.Path.{fun_ext}
+use Rattle.std.proofs.lemmas.Bool.{le-leb, lt-ltb}
 use Rattle.input_types.specs.declared.axis.Pixel.{Pixel}
 use Rattle.window_snapshot.specs.declared.window.Window.{Window}
 use Rattle.window_snapshot.specs.Mask.{mask_has}
@@ -13,13 +13,13 @@ use Rattle.cursor_core.specs.declared.message.HoverMsg.{HoverMsg}
 use Rattle.cursor_core.specs.declared.note.Step.{Step}
 use Rattle.cursor_core.specs.Calls.{Screen, clock, corner_of, cursor, cursor_after, has_moved, hovered, hovered_by, is_motion, live, live_after, moment_of, origin, origin_after, windows, windows_after}
 use Rattle.cursor_core.specs.Cursor.{CursorStandsFor, corner_after, corner_in, stepped}
-use Rattle.cursor_core.specs.Kept.{Kept}
+use Rattle.cursor_core.specs.Kept.{Kept, Row, gone_in, row_of}
 use Rattle.cursor_core.specs.Notes.{note_after, note_before, noted}
-use Rattle.cursor_core.specs.Rows.{rows_from, rows_with}
-use Rattle.cursor_core.specs.Told.{change, is_at, message, place, stream, told}
+use Rattle.cursor_core.specs.Rows.{HasRow, row_with, rows_gone, rows_with}
+use Rattle.cursor_core.specs.Told.{change, is_at, message, place, stream, stream_of, told}
 use Rattle.cursor_core.proofs.Hovering.{hovered_corner, hovered_live, hovered_same}
 use Rattle.cursor_core.proofs.Noted.{notes_are}
-use Rattle.cursor_core.proofs.Rows.{told_rows}
+use Rattle.cursor_core.proofs.Rows.{gone_goes, gone_is, gone_of, keeps_more, row_told}
 
 -- what a window is told, by all that it depends on
 abbrev said_by : ℕ → ℕ → Pixel → Pixel → Pixel → Bool → Option ℕ → Option ℕ → Bool → List HoverMsg
@@ -55,6 +55,20 @@ next_noted d call calls s left met a lefts mets w =
     let alive : is_at s.after w ≡ true → mask_has s.live w ≡ true =
     λ e. a.live_is w ∙ hovered_live (has_moved (call ∷ calls)) (windows (call ∷ calls)) (live d.channels (call ∷ calls)) (cursor d (call ∷ calls)) w (ap (λ o. is_at o w) (sym a.after_is) ∙ e) in
     notes_are s left met (origin (call ∷ calls)) w lefts mets alive ∙ step_told d call calls s w a
+
+-- a stream with more messages, where there is one
+more_of : (b : Bool) (s ms : List HoverMsg) → cond b (Some (s ++ ms)) None ≡ option_map (λ x. x ++ ms) (cond b (Some s) None)
+more_of true s ms = refl
+more_of false s ms = refl
+
+-- the row of a channel keeps what a call tells it
+more_kept : (d : Screen) (call : CursorCall) (calls : List CursorCall) (rows : List Row) (f : ℕ → List HoverMsg) (c : ℕ) → f c ≡ told d call calls c
+    → HasRow (stream_of d calls c) (row_of rows c) → HasRow (stream_of d (call ∷ calls) c) (row_of (rows_with f 1 rows) c)
+more_kept d call calls rows f c is h =
+    subst (λ o. HasRow o (row_of (rows_with f 1 rows) c)) (sym (more_of (nat_lt 0 c && nat_le c d.channels) (stream d calls c) (told d call calls c)))
+    (subst (λ r. HasRow (option_map (λ x. x ++ told d call calls c) (stream_of d calls c)) r) (sym (row_told f rows c))
+    (subst (λ ms. HasRow (option_map (λ x. x ++ ms) (stream_of d calls c)) (option_map (row_with (f c)) (row_of rows c))) is
+    (keeps_more (stream_of d calls c) (row_of rows c) (f c) h)))
 
 -- A cursor stands for one more call after a step that does what the call says: `ws` are the windows after it.
 next : (d : Screen) (call : CursorCall) (calls : List CursorCall) (k : Kept) (s : Step) (left met : Pixel) (ws : List Window)
@@ -101,10 +115,8 @@ next d call calls k s left met ws h moment moved from to alive before are after 
       live_is = now_live;
       windows_are = now_are;
       hovered_is = now_over;
-      streams_are =
-          ap (λ rows. rows_with (λ w. noted (note_before s left) (note_after s met) w) 1 rows) h.streams_are
-          ∙ told_rows (stream d calls) (λ w. noted (note_before s left) (note_after s met) w) 1 d.channels
-          ∙ ap (λ (f : ℕ → List HoverMsg). rows_from (λ w. stream d calls w ++ f w) 1 d.channels) (fun_ext (next_noted d call calls s left met agrees left_is met_is));
+      streams_are = λ c. more_kept d call calls k.streams (noted (note_before s left) (note_after s met)) c
+          (next_noted d call calls s left met agrees left_is met_is c) (h.streams_are c);
     }
 
 -- after a motion
@@ -172,3 +184,26 @@ removed d calls k new now channel s left met h moment moved_is from to alive bef
     subst (λ (kept : Kept). CursorStandsFor d (Remove now channel ∷ calls) kept) (sym new_is)
     (next d (Remove now channel) calls k s left met k.windows h moment moved_is from to alive before refl after
     (λ u e. left_is ∙ ap (corner_in k.windows) e) met_is)
+
+-- a cursor whose channel was let go
+pub let_gone : (d : Screen) (calls : List CursorCall) (k : Kept) (channel : ℕ) → CursorStandsFor d calls k
+    → CursorStandsFor d calls (record k { streams = rows_gone channel k.streams })
+let_gone d calls k channel h = record {
+  last_is = h.last_is;
+  at_is = h.at_is;
+  clock_is = h.clock_is;
+  moved_is = h.moved_is;
+  live_is = h.live_is;
+  windows_are = h.windows_are;
+  hovered_is = h.hovered_is;
+  streams_are = λ c. gone_goes channel c (stream_of d calls c) k.streams (h.streams_are c);
+}
+
+-- all that the channel was told is gone
+pub all_gone : (d : Screen) (calls : List CursorCall) (k : Kept) (channel : ℕ) → CursorStandsFor d calls k → 1 ≤ channel → channel ≤ d.channels
+    → gone_in (row_of (rows_gone channel k.streams) channel) ≡ length (stream d calls channel)
+all_gone d calls k channel h low high =
+    let one : nat_lt 0 channel ≡ true = lt-ltb 0 channel (omega (arith, low)) in
+    let known : stream_of d calls channel ≡ Some (stream d calls channel) = rw (one, le-leb channel d.channels high) refl in
+    ap gone_in (gone_of channel k.streams)
+    ∙ gone_is (stream d calls channel) (row_of k.streams channel) (subst (λ o. HasRow o (row_of k.streams channel)) known (h.streams_are channel))

@@ -8,12 +8,12 @@ use Rattle.cursor_core.specs.declared.call.CursorCall.{CursorCall}
 use Rattle.cursor_core.specs.declared.note.Step.{Step}
 use Rattle.cursor_core.specs.Calls.{Screen, clock, corner_of, cursor, has_moved, hovered, live, windows}
 use Rattle.window_snapshot.specs.Origins.{corner, or_origin}
-use Rattle.cursor_core.specs.Kept.{Kept}
+use Rattle.cursor_core.specs.Kept.{Kept, row_of}
 use Rattle.cursor_core.specs.Notes.{note_after, note_before, noted}
-use Rattle.cursor_core.specs.Rows.{rows_from, rows_with}
-use Rattle.cursor_core.specs.Told.{stream}
+use Rattle.cursor_core.specs.Rows.{HasRow, rows_with}
+use Rattle.cursor_core.specs.Told.{stream_of}
 
--- a cursor stands for these calls: it knows what they say, and each channel was told what they tell it
+-- a cursor stands for these calls: it knows what they say, and keeps of each channel what they tell it, but for what was let go
 pub record CursorStandsFor (d : Screen) (calls : List CursorCall) (k : Kept) : Type 0 where
   pub last_is : k.last ≡ record { x = pos (d.width - 1); y = pos (d.height - 1) }
   pub at_is : k.at ≡ cursor d calls
@@ -22,7 +22,7 @@ pub record CursorStandsFor (d : Screen) (calls : List CursorCall) (k : Kept) : T
   pub live_is : (c : ℕ) → mask_has k.live c ≡ live d.channels calls c
   pub windows_are : k.windows ≡ windows calls
   pub hovered_is : k.hovered ≡ hovered d calls
-  pub streams_are : k.streams ≡ rows_from (stream d calls) 1 d.channels
+  pub streams_are : (c : ℕ) → HasRow (stream_of d calls c) (row_of k.streams c)
 
 -- the corner of the hovered window, or that of the display
 abbrev pub corner_in : List Window → Option ℕ → Pixel

@@ -1,11 +1,16 @@
 -- What contracts see of a cursor.
-use Rattle.std.specs.Prelude.{ℕ, zero, suc, Bool, List, Option, None, slice_get}
+use Rattle.std.specs.Prelude.{ℕ, zero, suc, Bool, List, [], Option, None, Some, option_map, slice_get}
 use Rattle.input_types.specs.declared.axis.Pixel.{Pixel}
 use Rattle.window_snapshot.specs.declared.window.Window.{Window}
 use Rattle.cursor_core.specs.declared.message.HoverMsg.{HoverMsg}
 
+-- what is kept of a channel: how many of its first messages were let go, and the messages that are left, the oldest first
+pub record Row : Type 0 where
+  pub gone : ℕ
+  pub left : List HoverMsg
+
 -- the last pixel of the display, the cursor, the clock, whether the mouse has moved, the mask of the live channels, the windows, the
--- hovered one, and what each channel was told
+-- hovered one, and what is kept of each channel
 pub record Kept : Type 0 where
   pub last : Pixel
   pub at : Pixel
@@ -14,9 +19,26 @@ pub record Kept : Type 0 where
   pub live : ℕ
   pub windows : List Window
   pub hovered : Option ℕ
-  pub streams : List (List HoverMsg)
+  pub streams : List Row
+
+-- a channel before its first message
+abbrev pub empty_row : Row
+empty_row = record { gone = 0; left = [] }
 
 -- the row of a channel; channels are numbered from 1
-abbrev pub row_of : List (List HoverMsg) → ℕ → Option (List HoverMsg)
+abbrev pub row_of : List Row → ℕ → Option Row
 row_of rows zero = None
 row_of rows (suc i) = slice_get rows i
+
+-- the messages of a channel that are left
+abbrev pub left_of : List Row → ℕ → Option (List HoverMsg)
+left_of rows c = option_map (λ r. r.left) (row_of rows c)
+
+-- how many messages of a row were let go
+abbrev pub gone_in : Option Row → ℕ
+gone_in None = 0
+gone_in (Some r) = r.gone
+
+-- how many of the first messages of a channel were let go
+abbrev pub gone : Kept → ℕ → ℕ
+gone k c = gone_in (row_of k.streams c)

@@ -1,5 +1,5 @@
 //! The cursor.
-ghost use Rattle.std.specs.Prelude.{◌≡◌, ◌≤◌, ◌^◌, ◌-◌, ◌+ℤ◌, ℕ, not, ◌&&◌, ◌==◌, List, [], ◌∷◌};
+ghost use Rattle.std.specs.Prelude.{◌≡◌, ◌≤◌, ◌^◌, ◌-◌, ◌+ℤ◌, ℕ, false, not, ◌&&◌, ◌==◌, List, [], ◌∷◌, drop, length};
 ghost use Rattle.std.specs.Prelude.{IfOk, OnOk, OnErr, option_map};
 ghost use Rattle.std.specs.Int.{int_max, int_min};
 ghost use Rattle.std.specs.Prelude.{pos};
@@ -8,21 +8,20 @@ ghost use Rattle.window_snapshot.specs.Hits.{touched};
 ghost use Rattle.window_snapshot.specs.Mask.{mask_has};
 ghost use Rattle.cursor_core.specs.declared.call.CursorCall.{CursorCall as Call};
 ghost use Rattle.cursor_core.specs.declared.call.CursorCall.TheVariants.{Moved, Remove, Windows};
-ghost use Rattle.cursor_core.specs.Calls.{Screen, corner_of, cursor, hovered_by};
-ghost use Rattle.cursor_core.specs.Cursor.{CursorStandsFor, corner_after, corner_in, stepped};
-ghost use Rattle.cursor_core.specs.Told.{stream_of, IsInTurns};
+ghost use Rattle.cursor_core.specs.Calls.{Screen, cursor, hovered_by};
+ghost use Rattle.cursor_core.specs.Cursor.{CursorStandsFor, stepped};
+ghost use Rattle.cursor_core.specs.Kept.{gone};
+ghost use Rattle.cursor_core.specs.Told.{stream, stream_of, IsInTurns};
 
 use crate::call::CursorCall;
+use crate::corner::{corner_after, corner_in};
 use crate::message::HoverMsg;
 use crate::note::{Step, note_after, note_before, tell_both};
-use crate::stream::{Stream, row_of, streams};
+use crate::stream::{Stream, left_of, let_go, streams};
 use input_types::{DisplayId, Moment, Pixel};
 use std::alloc::{AllocError, Global};
 use std::marker::Model;
 use window_snapshot::{Snapshot, mask_without};
-
-/// The corner of the display.
-const CORNER: Pixel = Pixel { x: 0, y: 0 };
 
 /// A mouse cursor on display 0, and what the windows there were told of it.
 ///
@@ -64,8 +63,9 @@ impl Cursor {
         requires width { (1 ≤ width) × (width ≤ 16384) }
         requires height { (1 ≤ height) × (height ≤ 16384) }
         requires channels { channels ≤ 64 }
-        ensures { IfOk result
+        ensures start { IfOk result
             (λ c. CursorStandsFor (record { width = width; height = height; channels = channels }) [] c) }
+        ensures gone { IfOk result (λ c. (w : ℕ) → gone c w ≡ 0) }
     {
         let streams = streams(alloc, channels)?;
         let last = pixel(width - 1, height - 1);
@@ -88,6 +88,7 @@ impl Cursor {
             → OnOk result (CursorStandsFor d (call ∷ calls) self.new) }
         ensures turns { (d : Screen) (calls : List Call) → CursorStandsFor d calls self.old
             → OnOk result (IsInTurns d (call ∷ calls)) }
+        ensures gone { (c : ℕ) → gone self.new c ≡ gone self.old c }
         ensures err { OnErr result (self.new ≡ self.old) }
     {
         match call {
@@ -97,12 +98,25 @@ impl Cursor {
         }
     }
 
-    /// All that a channel was told, the oldest first; `None` exactly where it is not one of the first channels.
+    /// All that a channel was told, the oldest first, but for what was let go; `None` exactly where it is not one of
+    /// the first channels.
     pub fn stream(&self, channel: u32) -> Option<&[HoverMsg]>
         ensures { (d : Screen) (calls : List Call) → CursorStandsFor d calls self.now
-            → option_map (λ s. s.now) result ≡ stream_of d calls channel }
+            → option_map (λ s. s.now) result ≡ option_map (drop (gone self.now channel)) (stream_of d calls channel) }
     {
-        row_of(&self.streams, channel)
+        left_of(&self.streams, channel)
+    }
+
+    /// Drops what a channel was told so far. Its room stays for what it is told next. Of a channel that is not one of
+    /// the first it changes nothing.
+    pub fn let_go(&mut self, channel: u32)
+        ensures stays { (d : Screen) (calls : List Call) → CursorStandsFor d calls self.old
+            → CursorStandsFor d calls self.new }
+        ensures gone { (d : Screen) (calls : List Call) → CursorStandsFor d calls self.old
+            → 1 ≤ channel → channel ≤ d.channels → gone self.new channel ≡ length (stream d calls channel) }
+        ensures others { (c : ℕ) → (c == channel) ≡ false → gone self.new c ≡ gone self.old c }
+    {
+        let_go(&mut self.streams, channel);
     }
 
     /// Where the cursor is, in pixels of the display.
@@ -116,6 +130,7 @@ impl Cursor {
     fn move_by(&mut self, now: Moment, dx: i64, dy: i64) -> Result<(), AllocError>
         ensures stands { (d : Screen) (calls : List Call) → CursorStandsFor d calls self.old
             → OnOk result (CursorStandsFor d (Moved now dx dy ∷ calls) self.new) }
+        ensures gone { (c : ℕ) → gone self.new c ≡ gone self.old c }
         ensures err { OnErr result (self.new ≡ self.old) }
     {
         let to = moved_by(&self.last, &self.at, dx, dy);
@@ -137,6 +152,7 @@ impl Cursor {
     fn show(&mut self, now: Moment, snapshot: Snapshot) -> Result<(), AllocError>
         ensures stands { (d : Screen) (calls : List Call) → CursorStandsFor d calls self.old
             → OnOk result (CursorStandsFor d (Windows now snapshot ∷ calls) self.new) }
+        ensures gone { (c : ℕ) → gone self.new c ≡ gone self.old c }
         ensures err { OnErr result (self.new ≡ self.old) }
     {
         let step = Step {
@@ -159,6 +175,7 @@ impl Cursor {
     fn remove(&mut self, now: Moment, channel: u32) -> Result<(), AllocError>
         ensures stands { (d : Screen) (calls : List Call) → CursorStandsFor d calls self.old
             → OnOk result (CursorStandsFor d (Remove now channel ∷ calls) self.new) }
+        ensures gone { (c : ℕ) → gone self.new c ≡ gone self.old c }
         ensures err { OnErr result (self.new ≡ self.old) }
     {
         let live = mask_without(self.live, channel);
@@ -180,6 +197,7 @@ impl Cursor {
     /// hovered before it and after it.
     fn apply_step(&mut self, step: &Step, left: Pixel, met: Pixel) -> Result<(), AllocError>
         ensures ok { OnOk result (self.new ≡ stepped self.old step.now left met) }
+        ensures gone { (c : ℕ) → gone self.new c ≡ gone self.old c }
         ensures err { OnErr result (self.new ≡ self.old) }
     {
         let first = note_before(step, left);
@@ -244,39 +262,6 @@ fn touched_at(windows: &Snapshot, at: Pixel, channels: u64) -> Option<u32>
     ensures { result ≡ touched windows.now (mask_has channels) at.x at.y }
 {
     windows.touched(at.x, at.y, channels)
-}
-
-/// The corner of a channel's window, or that of the display.
-fn corner_of(windows: &Snapshot, channel: u32) -> Pixel
-    ensures { result ≡ corner_of windows.now channel }
-{
-    match windows.origin_of(channel) {
-        Some(origin) => origin,
-        None => CORNER,
-    }
-}
-
-/// The corner of the hovered window.
-fn corner_in(windows: &Snapshot, hovered: Option<u32>) -> Pixel
-    ensures { result ≡ corner_in windows.now hovered }
-{
-    match hovered {
-        Some(channel) => corner_of(windows, channel),
-        None => CORNER,
-    }
-}
-
-/// The corner of the hovered window in the later ones of these windows that name it.
-fn corner_after(later: &Snapshot, earlier: &Snapshot, hovered: Option<u32>) -> Pixel
-    ensures { result ≡ corner_after later.now earlier.now hovered }
-{
-    match hovered {
-        Some(channel) => match later.origin_of(channel) {
-            Some(origin) => origin,
-            None => corner_of(earlier, channel),
-        },
-        None => CORNER,
-    }
 }
 
 /// The mask of the first channels.

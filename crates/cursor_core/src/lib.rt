@@ -16,6 +16,7 @@
 #![tactic(auto)]
 
 mod call;
+mod corner;
 mod cursor;
 mod message;
 mod motion;

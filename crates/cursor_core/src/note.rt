@@ -1,6 +1,6 @@
 //! Whom one call tells something.
 ghost use Rattle.std.specs.Prelude.{◌≡◌, List, OnOk, OnErr};
-ghost use Rattle.cursor_core.specs.declared.message.HoverMsg.{HoverMsg as Hover};
+ghost use Rattle.cursor_core.specs.Kept.{Row};
 ghost use Rattle.cursor_core.specs.Told.{is_at};
 ghost use Rattle.cursor_core.specs.Notes.{note_at, note_before, note_after, noted, note_list, place_of};
 ghost use Rattle.cursor_core.specs.Rows.{rows_with};
@@ -124,7 +124,7 @@ fn tell(streams: &mut [Stream], note: &Option<Note>) -> Result<(), AllocError>
 
 /// Takes back what a note has told.
 fn untell(streams: &mut [Stream], note: &Option<Note>)
-    ensures { (rows : List (List Hover)) → streams.old ≡ rows_with (note_list note.now) 1 rows
+    ensures { (rows : List Row) → streams.old ≡ rows_with (note_list note.now) 1 rows
         → streams.new ≡ rows }
 {
     let Some(note) = note else {

@@ -4,9 +4,9 @@ ghost use Rattle.raw_events.specs.declared.event.RawEvent.{RawEvent as Event};
 ghost use Rattle.device_reader.specs.Cooked.{TouchPlan, TouchStandsFor, touch_args};
 
 use input_types::{Args, DeviceId};
-use pointer_ids::Ids;
+use pointer_ids::{Assigned, Ids};
 use raw_events::RawEvent;
-use slot_accumulator::{Slots, is_report};
+use slot_accumulator::{Contacts, Slots, is_report};
 use std::alloc::AllocError;
 use touch_mapper::{Cook, Gestures};
 
@@ -48,7 +48,10 @@ impl Touch {
         // With room for all that a packet makes nothing fails after the slots changed.
         args.reserve(Gestures::MOST)?;
         self.slots.take(event);
-        let pointers = self.ids.assign(&self.slots.contacts());
+        let mut contacts = Contacts::empty();
+        self.slots.contacts_into(&mut contacts);
+        let mut pointers = Assigned::empty();
+        self.ids.assign_into(&contacts, &mut pointers);
         self.gestures.next_into(args, &pointers)
     }
 

@@ -18,7 +18,8 @@ pub(crate) fn body_from(origin: Pixel, body: &Body) -> Body
     }
 }
 
-/// A motion whose places are counted from an origin.
+/// A motion whose places are counted from an origin. It is inlined, so that its list is not copied on the way out.
+#[inline(always)]
 pub(crate) fn motion_from(origin: Pixel, motion: &Motion) -> Motion
     ensures { result ≡ motion_from origin motion.now }
 {
@@ -32,6 +33,7 @@ pub(crate) fn motion_from(origin: Pixel, motion: &Motion) -> Motion
 }
 
 /// Pointers whose places are counted from an origin.
+#[inline(always)]
 fn pointers_from(origin: Pixel, pointers: &Pointers) -> Pointers
     ensures { result ≡ map (λ p. record { id = p.id; at = place_from origin p.at }) pointers.now }
 {

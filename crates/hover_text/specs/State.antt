@@ -1,7 +1,11 @@
 -- A run as contracts see it.
-use Rattle.std.specs.Prelude.{ℕ}
+use Rattle.std.specs.Prelude.{◌≡◌, ℕ}
 use Rattle.cursor_core.specs.declared.motion.MotionReader.{MotionReader}
-use Rattle.cursor_core.specs.Kept.{Kept}
+use Rattle.cursor_core.specs.Kept.{Kept, gone}
+
+-- no message of any channel was let go
+abbrev pub IsWhole : Kept → Type 0
+IsWhole k = (c : ℕ) → gone k c ≡ 0
 
 -- the cursor, the reader of the mouse, and how many steps were made
 pub record HoverState : Type 0 where

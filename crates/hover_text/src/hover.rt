@@ -5,6 +5,7 @@ ghost use Rattle.session_plan.specs.Valid.{IsPlan};
 ghost use Rattle.session_plan.specs.View.{plan_view};
 ghost use Rattle.hover_text.specs.Running.{RunStandsFor, Stopped};
 ghost use Rattle.hover_text.specs.Screen.{screen_of};
+ghost use Rattle.hover_text.specs.State.{IsWhole};
 ghost use Rattle.hover_text.specs.Text.{hovered_text};
 ghost use Rattle.cursor_core.specs.Cursor.{CursorStandsFor};
 
@@ -29,17 +30,20 @@ pub struct Hover {
 }
 
 impl Model for Hover {
-    ghost use Rattle.hover_text.specs.State.{HoverState};
+    ghost use Rattle.hover_text.specs.State.{HoverState, IsWhole};
 
     ghost Value = { HoverState };
 
     ghost view = { λ h. record { cursor = h.cursor; reader = h.reader; next = h.next } };
+
+    ghost invariant = { λ h. IsWhole h.cursor };
 }
 
 /// A cursor in the middle of display 0, with the channels of the session.
 fn first_cursor(alloc: Global, plan: &Plan) -> Result<Cursor, AllocError>
     requires { IsPlan plan.now }
-    ensures { IfOk result (CursorStandsFor (screen_of (plan_view plan.now)) []) }
+    ensures start { IfOk result (CursorStandsFor (screen_of (plan_view plan.now)) []) }
+    ensures whole { IfOk result IsWhole }
 {
     let display = &plan.displays[0];
     Cursor::new(

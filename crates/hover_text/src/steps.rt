@@ -4,6 +4,7 @@ ghost use Rattle.std.specs.List.Sorted.{IsNonDecreasingBy};
 ghost use Rattle.cursor_core.specs.declared.call.CursorCall.{CursorCall as Call};
 ghost use Rattle.cursor_core.specs.Calls.{Screen, moment_of};
 ghost use Rattle.cursor_core.specs.Cursor.{CursorStandsFor};
+ghost use Rattle.cursor_core.specs.Kept.{gone};
 ghost use Rattle.hover_text.specs.Running.{HasMade, due_of};
 ghost use Rattle.hover_text.specs.Schedule.{act_calls, placed};
 
@@ -17,6 +18,7 @@ use std::alloc::AllocError;
 fn act_on(cursor: &mut Cursor, now: Moment, act: &Act) -> Result<(), AllocError>
     ensures ok { (d : Screen) (calls : List Call) → CursorStandsFor d calls cursor.old
         → OnOk result (CursorStandsFor d (act_calls now act.now ++ calls) cursor.new) }
+    ensures gone { (c : ℕ) → gone cursor.new c ≡ gone cursor.old c }
     ensures err { OnErr result (cursor.new ≡ cursor.old) }
 {
     match act {

@@ -6,6 +6,7 @@ ghost use Rattle.cursor_core.specs.Cursor.{CursorStandsFor};
 ghost use Rattle.cursor_core.specs.Told.{stream};
 ghost use Rattle.session_plan.specs.View.{channel_view};
 ghost use Rattle.hover_text.specs.Lines.{action_word, end_line, message_line, message_lines, place_text, section_text};
+ghost use Rattle.hover_text.specs.State.{IsWhole};
 ghost use Rattle.hover_text.specs.Text.{sections_from};
 
 use cursor_core::{Cursor, HoverAction, HoverMsg};
@@ -85,6 +86,7 @@ fn add_section(
 
 /// What a channel of the session was told.
 fn told(cursor: &Cursor, channel: u32) -> &[HoverMsg]
+    requires { IsWhole cursor.now }
     ensures { (d : Screen) (calls : List Call) → CursorStandsFor d calls cursor.now → 1 ≤ channel → channel ≤ d.channels
         → result.now ≡ stream d calls channel }
 {
@@ -100,7 +102,8 @@ pub(crate) fn add_sections(
     channels: &[ChannelPlan],
     cursor: &Cursor,
 ) -> Result<(), AllocError>
-    requires { length channels.now ≤ 64 }
+    requires few { length channels.now ≤ 64 }
+    requires whole { IsWhole cursor.now }
     ensures { (d : Screen) (calls : List Call) → CursorStandsFor d calls cursor.now → d.channels ≡ length channels.now
         → IfOk result
         (λ _. text.new.items ≡ text.old.items ++ sections_from 1 (map channel_view channels.now) (stream d calls)) }

@@ -1,5 +1,4 @@
 pub mod Walking
 pub mod JudgeBox
-pub mod ReadPointers
 pub mod Devices
-pub mod WriteKeys
+pub mod Looking

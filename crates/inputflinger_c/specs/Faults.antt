@@ -1,9 +1,10 @@
 -- A fault as C gets it, and what a step of a judge comes to.
-use Rattle.std.specs.Prelude.{ℕ, Bool, Option, Some, None, is_some, if◌then◌else◌}
+use Rattle.std.specs.Prelude.{ℕ, Option, Some, None, is_some}
 use Rattle.std.specs.Option.{unwrap_or}
 use Rattle.gesture_verifier.specs.declared.fault.Fault.{Fault}
 use Rattle.gesture_verifier.specs.declared.reason.Reason.{Reason}
 use Rattle.gesture_verifier.specs.declared.reason.Reason.TheVariants.{Flags, AlreadyDown, OnePointer, NothingDown, OtherPointers, LastPointer, MorePointers, RepeatOfNothing, RepeatOutOfTurn, KeyNotDown, RepeatOnUp, FocusTwice}
+use Rattle.plain_calls.specs.Numbers.{flag}
 use Rattle.inputflinger_c.specs.declared.fault.PlainFault.{PlainFault}
 
 -- the number of a reason; 0 for none
@@ -21,10 +22,6 @@ reason_number (Some RepeatOutOfTurn) = 9
 reason_number (Some KeyNotDown) = 10
 reason_number (Some RepeatOnUp) = 11
 reason_number (Some FocusTwice) = 12
-
--- 1 for what is so, and 0 for what is not
-abbrev pub flag : Bool → ℕ
-flag b = if b then 1 else 0
 
 -- a fault by its numbers: the next repeat is 0 where there is none
 abbrev pub plain_fault : Fault → PlainFault

@@ -9,8 +9,9 @@ use Rattle.gesture_verifier.specs.Faults.{due_of_body, ids_of_body, is_key}
 use Rattle.gesture_verifier.specs.Reasons.{reason_of}
 use Rattle.gesture_verifier.specs.Told.{Told, VerifierStandsFor, one_more, state_of}
 use Rattle.inputflinger_c.specs.declared.fault.PlainFault.{PlainFault}
-use Rattle.inputflinger_c.specs.Faults.{flag, reason_number}
-use Rattle.inputflinger_c.specs.Status.{is_ok, is_free, is_taken, no_memory, out_of_range, is_broken}
+use Rattle.plain_calls.specs.Numbers.{flag}
+use Rattle.inputflinger_c.specs.Faults.{reason_number}
+use Rattle.plain_calls.specs.Status.{is_ok, is_free, is_taken, no_memory, out_of_range, is_broken}
 
 -- what a handle has after `new`: a handle that is not free keeps its judge; else it has one that was told nothing, or memory was wanting
 abbrev pub Opens : Option Told → ℕ → Option Told → Type 0

@@ -5,7 +5,7 @@ use Rattle.gesture_verifier.specs.Held.{are_rising, is_held}
 use Rattle.gesture_verifier.specs.Told.{Told, state_of}
 use Rattle.gesture_verifier.specs.declared.held.HeldKey.{HeldKey}
 use Rattle.inputflinger_c.specs.declared.judge_keys.PlainKey.{PlainKey}
-use Rattle.inputflinger_c.specs.Status.{is_ok, is_free, no_memory, no_room}
+use Rattle.plain_calls.specs.Status.{is_ok, is_free, no_memory, no_room}
 
 -- a key as C gets it
 abbrev pub plain_key : HeldKey → PlainKey

@@ -1,7 +1,7 @@
 pub mod Owning
-pub mod Status
-pub mod Plain
+pub mod LiveOwning
 pub mod Faults
 pub mod Judging
 pub mod States
 pub mod Keys
+pub mod Serving

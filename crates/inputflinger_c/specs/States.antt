@@ -3,8 +3,8 @@ use Rattle.std.specs.Prelude.{◌≡◌, ℕ, ◌-◌, true, Option, Some, None,
 use Rattle.bits32.specs.Set.{members}
 use Rattle.gesture_verifier.specs.Told.{Told, is_device, state_of}
 use Rattle.inputflinger_c.specs.declared.judge_state.PlainState.{PlainState}
-use Rattle.inputflinger_c.specs.Faults.{flag}
-use Rattle.inputflinger_c.specs.Status.{is_ok, is_free}
+use Rattle.plain_calls.specs.Numbers.{flag}
+use Rattle.plain_calls.specs.Status.{is_ok, is_free}
 
 -- a state tells the ids that are down on each device, and the focus
 pub record Tells (told : Told) (s : PlainState) : Type 0 where

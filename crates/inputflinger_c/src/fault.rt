@@ -1,8 +1,9 @@
 //! Faults as C gets them.
-ghost use Rattle.std.specs.Prelude.{◌≡◌, if◌then◌else◌};
-ghost use Rattle.inputflinger_c.specs.Faults.{plain_fault, reason_number, flag};
+ghost use Rattle.std.specs.Prelude.{◌≡◌};
+ghost use Rattle.inputflinger_c.specs.Faults.{plain_fault, reason_number};
 
 use gesture_verifier::{Fault, Reason};
+use plain_calls::flag;
 
 /// Why a message may not come, and what the window knew: `struct inputflinger_fault`.
 #[repr(C)]
@@ -35,13 +36,6 @@ pub(crate) fn plain_fault(fault: &Fault) -> PlainFault
         key_down: flag(fault.next_repeat.is_some()),
         focus: flag(fault.focus),
     }
-}
-
-/// 1 for what is so, and 0 for what is not.
-pub(crate) fn flag(is_so: bool) -> u8
-    ensures { result ≡ flag is_so }
-{
-    if is_so { 1 } else { 0 }
 }
 
 /// The number of a reason; 0 for none.

@@ -2,18 +2,18 @@
 ghost use Rattle.inputflinger_c.specs.Judging.{Opens, Frees, Steps, StepGoes};
 ghost use Rattle.std.specs.Prelude.{nat_eq};
 ghost use Rattle.inputflinger_c.specs.Keys.{KeysGo, KeysTold};
-ghost use Rattle.inputflinger_c.specs.Status.{no_memory};
-ghost use Rattle.inputflinger_c.specs.Plain.{message_of};
+ghost use Rattle.plain_calls.specs.Status.{no_memory};
+ghost use Rattle.plain_calls.specs.Plain.{message_of};
 ghost use Rattle.inputflinger_c.specs.States.{StateGoes};
 
 use crate::fault::{PlainFault, plain_fault};
 use crate::judge::Judge;
 use crate::judge_keys::{PlainKey, write_keys};
 use crate::judge_state::{PlainState, state_of};
-use crate::message::PlainMessage;
-use crate::status::{BROKEN, FREE, MEMORY, OK, RANGE, ROOM, TAKEN};
 use gesture_verifier::{StepError, Verifier};
 use input_types::Message;
+use plain_calls::PlainMessage;
+use plain_calls::status::{BROKEN, FREE, MEMORY, OK, RANGE, ROOM, TAKEN};
 use std::alloc::Global;
 
 /// Puts a judge of a stream that has no message yet into a free handle. `TAKEN` where the handle is not free, and

@@ -4,9 +4,9 @@ ghost use Rattle.bits32.specs.Set.{members};
 ghost use Rattle.gesture_verifier.specs.Told.{is_device, state_of as known};
 ghost use Rattle.inputflinger_c.specs.States.{Tells};
 
-use crate::fault::flag;
 use gesture_verifier::Verifier;
 use input_types::{Body, DeviceId};
+use plain_calls::flag;
 
 /// What the window knows from the messages that were accepted: `struct inputflinger_state`.
 #[repr(C)]

@@ -1,5 +1,14 @@
 //! The service for programs in C, and for those in languages that call C.
 //!
+//! A compositor keeps a live service in a handle (`service`), whose calls are those of `plain_calls`:
+//!
+//! ```text
+//! inputflinger_live_new    of a handle whose bytes are 0     0, and the handle has a service
+//! inputflinger_live_open                                     0, and the client is generation 1, channel 1
+//! inputflinger_live_free                                     0, and the handle is free
+//! inputflinger_live_open                                     1: the handle is free
+//! ```
+//!
 //! A window that is told a well-formed stream sees whole gestures. A test of a toolkit has the messages that a window
 //! got, one by one, and asks at which one the stream stops to be well-formed:
 //!
@@ -13,9 +22,9 @@
 //!
 //! Each export takes what C can hand in: numbers, structs of numbers, and a handle, which owns a block of the C
 //! library's allocator or nothing. Its clause says what it answers and what the handle has then, in words of
-//! `gesture_verifier`. Raw pointers are in `unboxed` and `judge_cell` alone. What C owes is what the types say: a
-//! pointer that is not null and is nobody else's during the call, and a handle that was made by these calls, or whose
-//! bytes are all 0.
+//! `plain_calls`, `live_input` and `gesture_verifier`. Raw pointers are in `unboxed`, `live_cell` and `judge_cell`
+//! alone. What C owes is what the types say: a pointer that is not null and is nobody else's during the call, and a
+//! handle that was made by these calls, or whose bytes are all 0.
 #![tactic(auto)]
 
 mod fault;
@@ -24,8 +33,11 @@ mod judge_cell;
 mod judge_exports;
 mod judge_keys;
 mod judge_state;
-mod message;
-mod pointers;
+mod live_cell;
+mod live_driving;
+mod live_exports;
+mod live_getting;
+mod live_showing;
+mod service;
 mod sizes;
-mod status;
 mod unboxed;

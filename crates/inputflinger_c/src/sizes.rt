@@ -5,14 +5,17 @@ use crate::fault::PlainFault;
 use crate::judge::Judge;
 use crate::judge_keys::PlainKey;
 use crate::judge_state::PlainState;
-use crate::message::{PlainMessage, PlainPointer};
+use crate::service::Service;
+use plain_calls::plugging::{PlainAxis, PlainCook};
+use plain_calls::{PlainClient, PlainDisplays, PlainMessage, PlainPointer, PlainRect, PlainWindow};
 use std::mem::size_of;
 
 /// How many bytes a struct has, by its number: 0 for a judge, 1 for a pointer, 2 for a message, 3 for a fault, 4 for a
-/// state, 5 for a key. 0 for another number.
+/// state, 5 for a key, 6 for a live service, 7 for a client, 8 for a rectangle, 9 for a window, 10 for an axis, 11 for
+/// a panel, 12 for displays. 0 for another number.
 #[unsafe(no_mangle)]
 pub extern "C" fn inputflinger_proved_size(number: u32) -> usize
-    ensures { 6 ≤ number → result ≡ 0 }
+    ensures { 13 ≤ number → result ≡ 0 }
 {
     match number {
         0 => size_of::<Judge>(),
@@ -21,6 +24,13 @@ pub extern "C" fn inputflinger_proved_size(number: u32) -> usize
         3 => size_of::<PlainFault>(),
         4 => size_of::<PlainState>(),
         5 => size_of::<PlainKey>(),
+        6 => size_of::<Service>(),
+        7 => size_of::<PlainClient>(),
+        8 => size_of::<PlainRect>(),
+        9 => size_of::<PlainWindow>(),
+        10 => size_of::<PlainAxis>(),
+        11 => size_of::<PlainCook>(),
+        12 => size_of::<PlainDisplays>(),
         _ => 0,
     }
 }

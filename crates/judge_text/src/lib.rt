@@ -26,10 +26,11 @@ mod down;
 mod error;
 mod judge;
 mod laws;
-mod line;
+mod reason;
 mod text;
 
 pub use down::{HeldIds, StillDown};
 pub use error::JudgeError;
 pub use laws::{keys, reasons, same_break};
+pub use reason::word;
 pub use text::judge_text;

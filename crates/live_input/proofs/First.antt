@@ -1,6 +1,7 @@
 -- A service before its first call.
-use Rattle.std.proofs.Common.{◌≡◌, ℕ, zero, suc, ◌-◌, List, [], length, replicate, slice_index_or, None, refl, sym, ap, ◌∙◌, arith}
+use Rattle.std.proofs.Common.{◌≡◌, ℕ, zero, suc, ◌-◌, ◌≤◌, true, List, [], length, replicate, slice_index_or, None, refl, sym, ap, ◌∙◌, arith}
 use Rattle.std.proofs.lemmas.Bool.{true≢false}
+use Rattle.dispatcher.specs.Access.{gone, namings_gone}
 use Rattle.dispatcher.specs.Dispatching.{StandsFor}
 use Rattle.live_input.specs.Seats.{is_held, seat_of, vacant}
 use Rattle.live_input.specs.Standing.{LiveIs}
@@ -12,8 +13,9 @@ same_at x (suc n) zero = refl
 same_at x (suc n) (suc i) = same_at x n i
 
 pub live_first : (ds : List ℕ) (s : LiveState) → StandsFor [] s.dispatcher → s.dispatcher.displays ≡ ds → s.windows ≡ []
-    → s.requested ≡ replicate 4 None → s.asked ≡ 0 → s.seats ≡ replicate 64 vacant → LiveIs ds [] s
-live_first ds s stands displays windows requested asked seats =
+    → s.requested ≡ replicate 4 None → s.asked ≡ 0 → s.seats ≡ replicate 64 vacant
+    → ((c : ℕ) → 1 ≤ c → gone s.dispatcher c ≡ 0) → namings_gone s.dispatcher ≡ 0 → LiveIs ds [] s
+live_first ds s stands displays windows requested asked seats gone namings =
     record {
       stands = stands;
       displays_are = displays;
@@ -29,6 +31,17 @@ live_first ds s stands displays windows requested asked seats =
           record {
             all = ap length seats;
             lives = λ c low high. absurd (omega (arith, low, high));
-            held = λ c low high is. absurd (true≢false (sym is ∙ ap (λ ss. is_held (seat_of ss c)) seats ∙ ap is_held (same_at vacant 64 (c - 1))));
+            held = λ c low high is. absurd (none c is);
           };
+      tenants_are =
+          record {
+            shown = λ c named. absurd (true≢false (sym named));
+            asked = λ y low. tt;
+            left = λ c low high is. absurd (omega (arith, low, high));
+            begun = λ c held. absurd (none c held.2);
+          };
+      let_go = record { messages_are = gone; namings_are = namings };
     }
+  where
+    none : (c : ℕ) → is_held (seat_of s.seats c) ≡ true → ⊥
+    none c is = true≢false (sym is ∙ ap (λ ss. is_held (seat_of ss c)) seats ∙ ap is_held (same_at vacant 64 (c - 1)))

@@ -14,7 +14,9 @@ use Rattle.dispatcher.specs.Access.{is_waiting}
 use Rattle.window_snapshot.specs.Mask.{mask_has}
 use Rattle.live_input.specs.Advancing.{Advances, Advanced}
 use Rattle.live_input.specs.Settling.{Follows, Reaches, is_named_in, next_waiting, next_left, next_due, left_call, tick_by, repeat_by, sooner_call, timeout}
-use Rattle.live_input.specs.Standing.{LiveIs, is_plain}
+use Rattle.live_input.specs.declared.client.Seat.{Seat}
+use Rattle.live_input.specs.Seats.{IsHeld}
+use Rattle.live_input.specs.Standing.{IsOfHeld, LiveIs, is_plain}
 use Rattle.live_input.specs.State.{LiveState}
 
 -- one call behind others
@@ -60,58 +62,60 @@ reaches_more ds next es s t call r e h =
       is = subst (λ fs. LiveIs ds fs t) (sym (extend_last ds es r.calls call)) h;
     }
 
--- what is next is a plain call
-plain_of : (o : Option Call) → Type 0
-plain_of None = Unit {0}
-plain_of (Some call) = is_plain call ≡ true
+-- what is next is a plain call, and of no channel on which nobody is open
+plain_of : List Seat → Option Call → Type 0
+plain_of seats None = Unit {0}
+plain_of seats (Some call) = (is_plain call ≡ true) × IsOfHeld seats call
 
-plain_some : (o : Option Call) (call : Call) → plain_of o → o ≡ Some call → is_plain call ≡ true
-unfolding plain_of
-plain_some o call p e = let P : Option Call → Type 0 = plain_of in subst P e p
+module _ (seats : List Seat) where
+  plain_some : (o : Option Call) (call : Call) → plain_of seats o → o ≡ Some call → (is_plain call ≡ true) × IsOfHeld seats call
+  unfolding plain_of
+  plain_some o call p e = let P : Option Call → Type 0 = plain_of seats in subst P e p
 
-plain_cond : (b : Bool) (x y : Option Call) → plain_of x → plain_of y → plain_of (cond b x y)
-plain_cond true x y p q = p
-plain_cond false x y p q = q
+  plain_cond : (b : Bool) (x y : Option Call) → plain_of seats x → plain_of seats y → plain_of seats (cond b x y)
+  plain_cond true x y p q = p
+  plain_cond false x y p q = q
 
-pub plain_waiting : (now : ℕ) (es : List Effect) (call : Call) → next_waiting now es ≡ Some call → is_plain call ≡ true
-unfolding plain_of
-plain_waiting now es call e = plain_some (next_waiting now es) call (plain_cond (is_waiting es) (Some (Pump now)) None refl tt) e
+  pub plain_waiting : (now : ℕ) (es : List Effect) (call : Call) → next_waiting now es ≡ Some call → (is_plain call ≡ true) × IsOfHeld seats call
+  unfolding plain_of
+  plain_waiting now es call e = plain_some (next_waiting now es) call (plain_cond (is_waiting es) (Some (Pump now)) None (refl, tt) tt) e
 
-left_plain : (now c received sent : ℕ) (o : Option ℕ) → plain_of (left_call now c received sent o)
-unfolding plain_of
-left_plain now c received sent None = plain_cond (nat_lt received sent) (Some (Receive c)) None refl tt
-left_plain now c received sent (Some seq) =
-    plain_cond (nat_le seq received) (Some (Finish now c seq)) (cond (nat_lt received sent) (Some (Receive c)) None) refl
-    (plain_cond (nat_lt received sent) (Some (Receive c)) None refl tt)
+  left_plain : (now c received sent : ℕ) (o : Option ℕ) → IsHeld c seats → plain_of seats (left_call now c received sent o)
+  unfolding plain_of
+  left_plain now c received sent None held = plain_cond (nat_lt received sent) (Some (Receive c)) None (refl, held) tt
+  left_plain now c received sent (Some seq) held =
+      plain_cond (nat_le seq received) (Some (Finish now c seq)) (cond (nat_lt received sent) (Some (Receive c)) None) (refl, held)
+      (plain_cond (nat_lt received sent) (Some (Receive c)) None (refl, held) tt)
 
-pub plain_left : (now c : ℕ) (es : List Effect) (call : Call) → next_left now c es ≡ Some call → is_plain call ≡ true
-plain_left now c es call e =
-    plain_some (next_left now c es) call
-    (left_plain now c (received (past_of es) c) (length (stream es c)) (option_map (λ m. m.seq) (oldest es c)))
-    e
+  pub plain_left : (now c : ℕ) (es : List Effect) (call : Call) → IsHeld c seats → next_left now c es ≡ Some call
+      → (is_plain call ≡ true) × IsOfHeld seats call
+  plain_left now c es call held e =
+      plain_some (next_left now c es) call
+      (left_plain now c (received (past_of es) c) (length (stream es c)) (option_map (λ m. m.seq) (oldest es c)) held)
+      e
 
-tick_plain : (now : ℕ) (o : Option ℕ) → plain_of (tick_by now o)
-unfolding plain_of
-tick_plain now None = tt
-tick_plain now (Some t) = plain_cond (nat_le t now) (Some (Tick t)) None refl tt
+  tick_plain : (now : ℕ) (o : Option ℕ) → plain_of seats (tick_by now o)
+  unfolding plain_of
+  tick_plain now None = tt
+  tick_plain now (Some t) = plain_cond (nat_le t now) (Some (Tick t)) None (refl, tt) tt
 
-repeat_plain : (now : ℕ) (o : Option ℕ) → plain_of (repeat_by now o)
-unfolding plain_of
-repeat_plain now None = tt
-repeat_plain now (Some t) = plain_cond (nat_le t now) (Some (Pump t)) None refl tt
+  repeat_plain : (now : ℕ) (o : Option ℕ) → plain_of seats (repeat_by now o)
+  unfolding plain_of
+  repeat_plain now None = tt
+  repeat_plain now (Some t) = plain_cond (nat_le t now) (Some (Pump t)) None (refl, tt) tt
 
-sooner_plain : (now : ℕ) (a b : Option ℕ) → plain_of (sooner_call now a b)
-sooner_plain now None b = repeat_plain now b
-sooner_plain now (Some t) None = tick_plain now (Some t)
-sooner_plain now (Some t) (Some r) =
-    plain_cond (nat_lt r t) (repeat_by now (Some r)) (tick_by now (Some t)) (repeat_plain now (Some r)) (tick_plain now (Some t))
+  sooner_plain : (now : ℕ) (a b : Option ℕ) → plain_of seats (sooner_call now a b)
+  sooner_plain now None b = repeat_plain now b
+  sooner_plain now (Some t) None = tick_plain now (Some t)
+  sooner_plain now (Some t) (Some r) =
+      plain_cond (nat_lt r t) (repeat_by now (Some r)) (tick_by now (Some t)) (repeat_plain now (Some r)) (tick_plain now (Some t))
 
-pub plain_due : (now : ℕ) (es : List Effect) (call : Call) → next_due now es ≡ Some call → is_plain call ≡ true
-unfolding plain_of
-plain_due now es call e =
-    plain_some (next_due now es) call
-    (plain_cond (is_waiting es) (Some (Pump now)) (sooner_call now (timeout es) (repeat_due es)) refl (sooner_plain now (timeout es) (repeat_due es)))
-    e
+  pub plain_due : (now : ℕ) (es : List Effect) (call : Call) → next_due now es ≡ Some call → (is_plain call ≡ true) × IsOfHeld seats call
+  unfolding plain_of
+  plain_due now es call e =
+      plain_some (next_due now es) call
+      (plain_cond (is_waiting es) (Some (Pump now)) (sooner_call now (timeout es) (repeat_due es)) (refl, tt) (sooner_plain now (timeout es) (repeat_due es)))
+      e
 
 -- a service that stands for the same reaches the same
 abbrev pub reaches_same : (ds : List ℕ) (next : List Effect → Option Call) (es : List Effect) (s t : LiveState) → (r : Reaches ds next es s)
@@ -129,7 +133,7 @@ or_more false b c = refl
 -- what is noted of names does not matter
 pub live_noted : (ds : List ℕ) (es : List Effect) (s : LiveState) (n : ℕ) → LiveIs ds es s → LiveIs ds es (record s { named = n })
 live_noted ds es s n h =
-    record { stands = h.stands; displays_are = h.displays_are; windows_are = h.windows_are; requests_are = h.requests_are; seats_are = h.seats_are }
+    record { stands = h.stands; displays_are = h.displays_are; windows_are = h.windows_are; requests_are = h.requests_are; seats_are = h.seats_are; tenants_are = h.tenants_are; let_go = h.let_go }
 
 -- nothing that is due was done yet
 pub advances_first : (ds : List ℕ) (now : ℕ) (es : List Effect) (s : LiveState) → LiveIs ds es s → Advances ds now es s s

@@ -53,6 +53,8 @@ beside_goes ds es s h devices pending =
       windows_are = h.windows_are;
       requests_are = h.requests_are;
       seats_are = h.seats_are;
+      tenants_are = h.tenants_are;
+      let_go = h.let_go;
     }
 
 -- some of what was to be handed in is, all of which was taken or not; what is left comes to the same as all

@@ -14,8 +14,8 @@ use Rattle.window_snapshot.specs.Mask.{is_channel}
 use Rattle.live_input.specs.declared.client.Client.{Client}
 use Rattle.live_input.specs.declared.client.Seat.{Seat}
 use Rattle.live_input.specs.Closing.{is_requested, forgotten_on, forgotten_each, forgotten, asked_again}
-use Rattle.live_input.specs.Opening.{opening, IsHeld}
-use Rattle.live_input.specs.Seats.{is_full, first_vacant, is_held, is_of, is_open, seat_of}
+use Rattle.live_input.specs.Opening.{opening}
+use Rattle.live_input.specs.Seats.{IsHeld, is_full, first_vacant, is_held, is_of, is_open, seat_of}
 use Rattle.live_input.specs.Standing.{AreRequested, AreSeated, LiveIs}
 use Rattle.live_input.specs.State.{LiveState}
 use Rattle.live_input.proofs.Vacant.{none_vacant, is_vacant}

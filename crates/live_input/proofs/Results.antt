@@ -24,3 +24,7 @@ on_err (Err e) X Y x f = f x
 pub err_always : {A E : Type 0} (r : Result A E) (X : Type 0) → X → OnErr r X
 err_always (Ok a) X x = tt
 err_always (Err e) X x = x
+
+pub always : {A E : Type 0} (r : Result A E) {X : Type 0} → X → OnOk r X
+always (Ok a) x = x
+always (Err e) x = tt

@@ -1,5 +1,5 @@
 -- The service with one call more.
-use Rattle.std.proofs.Common.{◌≡◌, ℕ, suc, ◌+◌, ◌==◌, ◌≤◌, ◌<◌, Bool, true, cond, List, ◌∷◌, slice_index_or, slice_set, Option, None, refl, sym, ap, ◌∙◌, subst, inl, inr, arith}
+use Rattle.std.proofs.Common.{◌≡◌, ℕ, suc, ◌+◌, ◌==◌, ◌≤◌, ◌<◌, Bool, true, false, cond, List, ◌∷◌, slice_index_or, slice_set, Option, None, refl, sym, ap, ◌∙◌, subst, inl, inr, arith}
 use Rattle.std.proofs.lemmas.Bool.{true≢false, cases_eq, cases_lt, eq-eqb, ne_eqb, or_right, or_left, lt-ltb}
 use Rattle.std.proofs.lemmas.List.{get_or-set_same, get_or-set_other, length-set}
 use Rattle.window_snapshot.specs.declared.window.Window.{Window}
@@ -13,13 +13,16 @@ use Rattle.dispatch_history.specs.Focus.{requested, requested_after, asked, aske
 use Rattle.dispatch_history.specs.History.{History, live, live_after, opened, opened_after, snapshot, windows_after}
 use Rattle.dispatch_history.specs.Legal.{answered}
 use Rattle.dispatch_history.specs.Reply.{reply_to, open_reply}
+use Rattle.window_snapshot.specs.Named.{is_named}
+use Rattle.dispatch_tables.specs.Channel.{Opens, Untouched}
 use Rattle.dispatch_tables.specs.Lawful.{Lawful}
 use Rattle.dispatch_tables.proofs.Lawfuls.{lawful_last}
 use Rattle.dispatcher.specs.Dispatching.{Dispatching, StandsFor}
 use Rattle.live_input.specs.declared.client.Seat.{Seat}
-use Rattle.live_input.specs.Seats.{with_seat}
-use Rattle.live_input.specs.Standing.{LiveIs, AreRequested, AreSeated, is_plain}
+use Rattle.live_input.specs.Seats.{IsHeld, with_seat}
+use Rattle.live_input.specs.Standing.{AreLetGo, AreRequested, AreSeated, AreTenants, IsOfHeld, IsOfSome, LiveIs, is_plain}
 use Rattle.live_input.specs.State.{LiveState}
+use Rattle.live_input.proofs.Tenants.{done_new, part_none, tenants_more}
 use Rattle.live_input.proofs.Vacant.{seated}
 
 -- a plain call leaves the windows, the requests, and who is live
@@ -43,6 +46,11 @@ plain_live : (call : Call) (answer : Reply) (c : ℕ) (before : Bool) → is_pla
 plain_live (Open limit) answer c before e = absurd (true≢false (sym e))
 plain_live (Remove now k) answer c before e = absurd (true≢false (sym e))
 plain_live call answer c before e = refl
+
+-- a request of either kind
+of_some : (seats : List Seat) (b : Bool) (x y : Option ℕ) → IsOfSome x seats → IsOfSome y seats → IsOfSome (cond b x y) seats
+of_some seats true x y p q = p
+of_some seats false x y p q = q
 
 -- the requests after a step that leaves them
 same_requests : (h k : History) (channels : List (Option ℕ)) (display : ℕ)
@@ -71,14 +79,18 @@ module _ (ds : List ℕ) (es : List Effect) (s : LiveState) (h : LiveIs ds es s)
       let told : answer ≡ reply_to es call = (lawful_last ds call answer es l).0 in
       (told, subst (λ a. StandsFor (step ds call a es) d) told there)
 
+  lawful_of : {fs : List Effect} → StandsFor fs d → Lawful ds fs
+  lawful_of {fs} stands = subst (λ ys. Lawful ys fs) (same ∙ h.displays_are) stands.lawful
+
   -- a plain call leaves all that is kept beside the dispatcher
-  pub plain_goes : (call : Call) (answer : Reply) → is_plain call ≡ true → StandsFor (step s.dispatcher.displays call answer es) d
+  pub plain_goes : (call : Call) → is_plain call ≡ true → IsOfHeld s.seats call
+      → StandsFor (answered ds call es) d → AreLetGo (answered ds call es) d
       → LiveIs ds (answered ds call es) (record s { dispatcher = d })
-  plain_goes call answer plain stands =
+  plain_goes call plain own stands let_go =
       let h0 = past_of es in
       let r = reply_to es call in
       record {
-        stands = (stands_more call answer stands).1;
+        stands = stands;
         displays_are = same ∙ h.displays_are;
         windows_are = h.windows_are ∙ sym (plain_windows call (snapshot h0) plain);
         requests_are =
@@ -89,32 +101,46 @@ module _ (ds : List ℕ) (es : List Effect) (s : LiveState) (h : LiveIs ds es s)
             same_seats h0 ((call, r) ∷ h0) s.seats (plain_opened call r (opened h0) plain)
             (λ c. plain_live call r c (live h0 c) plain)
             h.seats_are;
+        tenants_are =
+            tenants_more ds call r es s.seats (lawful_of stands) h.tenants_are
+            (λ c named. h.tenants_are.shown c (ap (λ ws. is_named ws c) (sym (plain_windows call (snapshot h0) plain)) ∙ named))
+            (λ y low. subst (λ o. IsOfSome o s.seats) (sym (plain_requested call y (requested h0 y) plain)) (h.tenants_are.asked y low))
+            (λ c low high none. part_none s.seats call r c own none (λ limit k e f. absurd (true≢false (sym plain ∙ ap is_plain e))))
+            (λ c lt le silent. let same_count = plain_opened call r (opened h0) plain in absurd (omega (arith, lt, le, same_count)));
+        let_go = let_go;
       }
 
   -- windows are shown
-  pub windows_go : (now : ℕ) (ws : List Window) (answer : Reply) → StandsFor (step s.dispatcher.displays (Windows now ws) answer es) d
-      → LiveIs ds (answered ds (Windows now ws) es) (record s { dispatcher = d; windows = ws })
-  windows_go now ws answer stands =
+  pub windows_go : (now : ℕ) (ws : List Window) (answer : Reply) → ((c : ℕ) → is_named ws c ≡ true → IsHeld c s.seats)
+      → StandsFor (step s.dispatcher.displays (Windows now ws) answer es) d → AreLetGo (answered ds (Windows now ws) es) d
+      → (kept : List Window) → kept ≡ ws → LiveIs ds (answered ds (Windows now ws) es) (record s { dispatcher = d; windows = kept })
+  windows_go now ws answer own stands let_go kept is =
       let h0 = past_of es in
       let r = reply_to es (Windows now ws) in
+      let there = (stands_more (Windows now ws) answer stands).1 in
       record {
-        stands = (stands_more (Windows now ws) answer stands).1;
+        stands = there;
         displays_are = same ∙ h.displays_are;
-        windows_are = refl;
+        windows_are = is;
         requests_are = same_requests h0 ((Windows now ws, r) ∷ h0) s.requested s.asked (λ y. refl) refl h.requests_are;
         seats_are = same_seats h0 ((Windows now ws, r) ∷ h0) s.seats refl (λ c. refl) h.seats_are;
+        tenants_are =
+            tenants_more ds (Windows now ws) r es s.seats (lawful_of there) h.tenants_are own h.tenants_are.asked (λ c low high none. refl)
+            (λ c lt le silent. absurd (omega (arith, lt, le)));
+        let_go = let_go;
       }
 
   -- the focus is requested
-  pub request_goes : (now y : ℕ) (channel : Option ℕ) (answer : Reply) → y < 4
-      → StandsFor (step s.dispatcher.displays (FocusOn now y channel) answer es) d
+  request_goes : (now y : ℕ) (channel : Option ℕ) (answer : Reply) → y < 4 → IsOfSome channel s.seats
+      → StandsFor (step s.dispatcher.displays (FocusOn now y channel) answer es) d → AreLetGo (answered ds (FocusOn now y channel) es) d
       → LiveIs ds (answered ds (FocusOn now y channel) es)
       (record s { dispatcher = d; requested = slice_set s.requested y channel; asked = y })
-  request_goes now y channel answer low stands =
+  request_goes now y channel answer low own stands let_go =
       let h0 = past_of es in
       let r = reply_to es (FocusOn now y channel) in
+      let there = (stands_more (FocusOn now y channel) answer stands).1 in
       record {
-        stands = (stands_more (FocusOn now y channel) answer stands).1;
+        stands = there;
         displays_are = same ∙ h.displays_are;
         windows_are = h.windows_are;
         requests_are =
@@ -125,6 +151,12 @@ module _ (ds : List ℕ) (es : List Effect) (s : LiveState) (h : LiveIs ds es s)
               within = low;
             };
         seats_are = same_seats h0 ((FocusOn now y channel, r) ∷ h0) s.seats refl (λ c. refl) h.seats_are;
+        tenants_are =
+            tenants_more ds (FocusOn now y channel) r es s.seats (lawful_of there) h.tenants_are h.tenants_are.shown
+            (λ z zt. of_some s.seats (z == y) channel (requested h0 z) own (h.tenants_are.asked z zt))
+            (λ c from high none. refl)
+            (λ c lt le silent. absurd (omega (arith, lt, le)));
+        let_go = let_go;
       }
     where
       by_display : (z : ℕ) → z < 4 → slice_index_or (slice_set s.requested y channel) z None ≡ cond (z == y) channel (requested (past_of es) z)
@@ -140,18 +172,27 @@ module _ (ds : List ℕ) (es : List Effect) (s : LiveState) (h : LiveIs ds es s)
                 ∙ sym (ap (λ b. cond b channel (requested (past_of es) z)) (ne_eqb z y ne))
           ]
 
+  -- by the place of the display among those that are kept
+  pub request_goes_at : (now y : ℕ) (channel : Option ℕ) (answer : Reply) (place : ℕ) → place ≡ y → y < 4 → IsOfSome channel s.seats
+      → StandsFor (step s.dispatcher.displays (FocusOn now y channel) answer es) d → AreLetGo (answered ds (FocusOn now y channel) es) d
+      → LiveIs ds (answered ds (FocusOn now y channel) es)
+      (record s { dispatcher = d; requested = slice_set s.requested place channel; asked = y })
+  request_goes_at now y channel answer place at low own stands let_go =
+      subst (λ n. LiveIs ds (answered ds (FocusOn now y channel) es) (record s { dispatcher = d; requested = slice_set s.requested n channel; asked = y }))
+      (sym at) (request_goes now y channel answer low own stands let_go)
+
   -- the first channel that was not opened yet is opened
   pub open_goes : (limit : ℕ) (answer : Reply) → opened (past_of es) < 64
-      → StandsFor (step s.dispatcher.displays (Open limit) answer es) d
+      → StandsFor (step s.dispatcher.displays (Open limit) answer es) d → AreLetGo (answered ds (Open limit) es) d
       → (opened (past_of (answered ds (Open limit) es)) ≡ suc (opened (past_of es)))
       × LiveIs ds (answered ds (Open limit) es) (record s { dispatcher = d })
-  open_goes limit answer few stands =
+  open_goes limit answer few stands let_go =
       let h0 = past_of es in
       let n = opened h0 in
       let there = stands_more (Open limit) answer stands in
       let fits : open_reply n ≡ Opened (n + 1) = ap (λ b. cond b (Opened (n + 1)) Full) (lt-ltb n 64 few) in
-      let P : Reply → Type 0 = λ r. StandsFor (step ds (Open limit) r es) d → (opened ((Open limit, r) ∷ h0) ≡ suc n) × LiveIs ds (step ds (Open limit) r es) (record s { dispatcher = d }) in
-      subst P (sym fits) by_opened there.1
+      let P : Reply → Type 0 = λ r. StandsFor (step ds (Open limit) r es) d → AreLetGo (step ds (Open limit) r es) d → (opened ((Open limit, r) ∷ h0) ≡ suc n) × LiveIs ds (step ds (Open limit) r es) (record s { dispatcher = d }) in
+      subst P (sym fits) by_opened there.1 let_go
     where
       opens : (c : ℕ) → 1 ≤ c → c ≤ suc (opened (past_of es)) → live ((Open limit, Opened (opened (past_of es) + 1)) ∷ past_of es) c ≡ true
       opens c low high =
@@ -165,8 +206,9 @@ module _ (ds : List ℕ) (es : List Effect) (s : LiveState) (h : LiveIs ds es s)
               elim (cases_lt n c) [ inl gt ↦ absurd (ne (omega (arith, high, gt))) | inr le ↦ le ]
 
       by_opened : StandsFor (step ds (Open limit) (Opened (opened (past_of es) + 1)) es) d
+          → AreLetGo (step ds (Open limit) (Opened (opened (past_of es) + 1)) es) d
           → (suc (opened (past_of es)) ≡ suc (opened (past_of es))) × LiveIs ds (step ds (Open limit) (Opened (opened (past_of es) + 1)) es) (record s { dispatcher = d })
-      by_opened stands = (
+      by_opened stands let_go = (
         refl,
         record {
           stands = stands;
@@ -181,29 +223,26 @@ module _ (ds : List ℕ) (es : List Effect) (s : LiveState) (h : LiveIs ds es s)
                 lives = opens;
                 held = λ c low high is. let x = h.seats_are.held c low high is in omega (arith, x);
               };
+          tenants_are =
+              tenants_more ds (Open limit) (Opened (opened (past_of es) + 1)) es s.seats (lawful_of stands) h.tenants_are h.tenants_are.shown
+              h.tenants_are.asked
+              (λ c low high none. ap (λ b. cond b (Opens limit) Untouched) (ne_eqb c (opened (past_of es) + 1) (λ e. absurd (omega (arith, high, e)))))
+              (λ c lt le silent. done_new ds limit (opened (past_of es) + 1) es c (lawful_of stands) silent lt);
+          let_go = let_go;
         },
       )
 
-  -- messages are let go
-  pub let_go_goes : ((fs : List Effect) → StandsFor fs s.dispatcher → StandsFor fs d) → LiveIs ds es (record s { dispatcher = d })
-  let_go_goes keeps =
-      record {
-        stands = keeps es h.stands;
-        displays_are = same ∙ h.displays_are;
-        windows_are = h.windows_are;
-        requests_are = h.requests_are;
-        seats_are = h.seats_are;
-      }
-
 -- the seat of a channel that was opened is changed
 pub seat_goes : (ds : List ℕ) (es : List Effect) (s : LiveState) → LiveIs ds es s → (c : ℕ) (seat : Seat) → 1 ≤ c → c ≤ 64
-    → c ≤ opened (past_of es) → (n : ℕ) (seats : List Seat) → seats ≡ with_seat c seat s.seats
+    → c ≤ opened (past_of es) → AreTenants es (with_seat c seat s.seats) → (n : ℕ) (seats : List Seat) → seats ≡ with_seat c seat s.seats
     → LiveIs ds es (record s { seats = seats; opened = n })
-seat_goes ds es s h c seat from to high n seats same =
+seat_goes ds es s h c seat from to high tenants n seats same =
     record {
       stands = h.stands;
       displays_are = h.displays_are;
       windows_are = h.windows_are;
       requests_are = h.requests_are;
       seats_are = subst (AreSeated (past_of es)) (sym same) (seated (past_of es) s.seats c seat h.seats_are from to high);
+      tenants_are = subst (AreTenants es) (sym same) tenants;
+      let_go = h.let_go;
     }

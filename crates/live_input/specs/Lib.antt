@@ -1,9 +1,11 @@
 pub mod Seats
 pub mod State
+pub mod Letting
 pub mod Standing
 pub mod Settling
 pub mod Advancing
 pub mod Answers
+pub mod Told
 pub mod Giving
 pub mod Plugging
 pub mod Asking

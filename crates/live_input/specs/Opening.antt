@@ -1,12 +1,11 @@
 -- Clients that come and go.
-use Rattle.std.specs.Prelude.{ℕ, ◌≡◌, ◌+◌, ◌≤◌, true, nat_le, List, length, Some, None, Result, Ok, Err, if◌then◌else◌}
+use Rattle.std.specs.Prelude.{ℕ, ◌≡◌, ◌+◌, ◌≤◌, nat_le, List, length, Some, None, Result, Ok, Err, if◌then◌else◌}
 use Rattle.dispatch_calls.specs.declared.call.Call.TheVariants.{Open}
 use Rattle.dispatch_history.specs.Effect.{Effect, past_of, stream}
 use Rattle.dispatch_history.specs.History.{opened}
 use Rattle.dispatch_history.specs.Legal.{answered}
 use Rattle.live_input.specs.declared.client.Client.{Client}
-use Rattle.live_input.specs.declared.client.Seat.{Seat}
-use Rattle.live_input.specs.Seats.{with_seat, seat_of, is_held, first_vacant}
+use Rattle.live_input.specs.Seats.{with_seat, seat_of, first_vacant}
 use Rattle.live_input.specs.declared.refused.CloseRefused.{CloseRefused}
 use Rattle.live_input.specs.declared.refused.CloseRefused.TheVariants.{NotOpen, Memory}
 use Rattle.live_input.specs.Answers.{SameClients}
@@ -43,10 +42,6 @@ pub record IsNext (c : ℕ) (es : List Effect) : Type 0 where
 pub record OpensOn (displays : List ℕ) (es : List Effect) (client : Client) (old new : LiveState) : Type 0 where
   pub is : LiveIs displays (opening displays old.limit client.channel es) new
   pub before_is : (seat_of new.seats client.channel).before ≡ length (stream (opening displays old.limit client.channel es) client.channel)
-
--- somebody is open on a channel
-abbrev pub IsHeld : ℕ → List Seat → Type 0
-IsHeld c seats = (1 ≤ c) × (c ≤ 64) × (is_held (seat_of seats c) ≡ true)
 
 -- The seat of the client is vacant, and all others stay as they are.
 pub record Closes (client : Client) (old new : LiveState) : Type 0 where

@@ -1,5 +1,5 @@
 -- Who is open on which channel.
-use Rattle.std.specs.Prelude.{ℕ, ◌-◌, ◌+◌, min, ◌^◌, Bool, false, ◌==◌, ◌&&◌, not, is_some, List, slice_index_or, slice_set, Option, Some, None, option_map}
+use Rattle.std.specs.Prelude.{ℕ, ◌≡◌, ◌≤◌, ◌-◌, ◌+◌, min, ◌^◌, Bool, true, false, ◌==◌, ◌&&◌, not, is_some, List, slice_index_or, slice_set, Option, Some, None, option_map}
 use Rattle.std.specs.List.{list_all, position}
 use Rattle.window_snapshot.specs.Mask.{is_channel}
 use Rattle.live_input.specs.declared.client.Client.{Client}
@@ -16,6 +16,10 @@ seat_of seats c = slice_index_or seats (c - 1) vacant
 -- somebody is open on it
 abbrev pub is_held : Seat → Bool
 is_held s = is_some s.holder
+
+-- somebody is open on a channel
+abbrev pub IsHeld : ℕ → List Seat → Type 0
+IsHeld c seats = (1 ≤ c) × (c ≤ 64) × (is_held (seat_of seats c) ≡ true)
 
 -- it is of this generation
 abbrev pub is_of : ℕ → Option ℕ → Bool

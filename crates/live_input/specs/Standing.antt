@@ -1,13 +1,20 @@
 -- Which histories a live service stands for.
-use Rattle.std.specs.Prelude.{ℕ, ◌≡◌, ◌≤◌, ◌<◌, Bool, true, false, List, length, slice_index_or, Option, None}
+use Rattle.std.specs.Prelude.{ℕ, ◌≡◌, ◌≤◌, ◌<◌, Bool, true, false, List, [], ◌++◌, length, slice_index_or, Option, Some, None}
+use Rattle.input_types.specs.declared.message.Message.{Message}
+use Rattle.input_types.specs.StreamRule.{stream_state, untold}
+use Rattle.window_snapshot.specs.declared.window.Window.{Window}
+use Rattle.window_snapshot.specs.Named.{is_named}
 use Rattle.dispatch_calls.specs.declared.call.Call.{Call}
-use Rattle.dispatch_calls.specs.declared.call.Call.TheVariants.{Open, Windows, FocusOn, Remove}
-use Rattle.dispatch_history.specs.Effect.{Effect, past_of}
+use Rattle.dispatch_calls.specs.declared.call.Call.TheVariants.{Open, Windows, FocusOn, Receive, Finish, Remove}
+use Rattle.dispatch_history.specs.Delivery.{unfinished}
+use Rattle.dispatch_history.specs.Due.{namings}
+use Rattle.dispatch_history.specs.Effect.{Effect, past_of, stream}
 use Rattle.dispatch_history.specs.Focus.{requested, asked}
-use Rattle.dispatch_history.specs.History.{History, live, opened, snapshot}
-use Rattle.dispatcher.specs.Dispatching.{StandsFor}
+use Rattle.dispatch_history.specs.History.{History, live, opened, received, snapshot}
+use Rattle.dispatcher.specs.Access.{gone, namings_gone}
+use Rattle.dispatcher.specs.Dispatching.{Dispatching, StandsFor}
 use Rattle.live_input.specs.declared.client.Seat.{Seat}
-use Rattle.live_input.specs.Seats.{is_held, seat_of}
+use Rattle.live_input.specs.Seats.{IsHeld, is_held, seat_of}
 use Rattle.live_input.specs.State.{LiveState}
 
 -- the focus was requested last for these channels, display by display, and last of all for this display
@@ -23,6 +30,42 @@ pub record AreSeated (h : History) (seats : List Seat) : Type 0 where
   pub lives : (c : ℕ) → 1 ≤ c → c ≤ opened h → live h c ≡ true
   pub held : (c : ℕ) → 1 ≤ c → c ≤ 64 → is_held (seat_of seats c) ≡ true → c ≤ opened h
 
+-- all messages of a channel are received and finished
+pub record IsDone (es : List Effect) (c : ℕ) : Type 0 where
+  pub received_all : received (past_of es) c ≡ length (stream es c)
+  pub finished_all : unfinished es c ≡ []
+
+-- A channel is a client's since it had this many messages: after those nothing is known, and they were received.
+pub record Begins (es : List Effect) (c before : ℕ) : Type 0 where
+  pub newer : List Message
+  pub older : List Message
+  pub stream_is : stream es c ≡ newer ++ older
+  pub before_is : length older ≡ before
+  pub ended : stream_state older ≡ Some untold
+  pub taken : before ≤ received (past_of es) c
+
+-- these are windows of clients that are open
+abbrev pub AreOfHeld : List Window → List Seat → Type 0
+AreOfHeld ws seats = (c : ℕ) → is_named ws c ≡ true → IsHeld c seats
+
+-- no channel, or one on which a client is open
+abbrev pub IsOfSome : Option ℕ → List Seat → Type 0
+IsOfSome None seats = Unit {0}
+IsOfSome (Some c) seats = IsHeld c seats
+
+-- Only clients that are open have windows, and the focus was requested last only for such. Of a channel that nobody is open on all is received and finished; a client begins with nothing
+-- of those before it.
+pub record AreTenants (es : List Effect) (seats : List Seat) : Type 0 where
+  pub shown : AreOfHeld (snapshot (past_of es)) seats
+  pub asked : (y : ℕ) → y < 4 → IsOfSome (requested (past_of es) y) seats
+  pub left : (c : ℕ) → 1 ≤ c → c ≤ opened (past_of es) → is_held (seat_of seats c) ≡ false → IsDone es c
+  pub begun : (c : ℕ) → IsHeld c seats → Begins es c (seat_of seats c).before
+
+-- of each channel just the messages that were received are let go, and all namings are
+pub record AreLetGo (es : List Effect) (d : Dispatching) : Type 0 where
+  pub messages_are : (c : ℕ) → 1 ≤ c → gone d c ≡ received (past_of es) c
+  pub namings_are : namings_gone d ≡ length (namings es)
+
 -- The service, whose devices are on these displays, stands for a history with these effects: its dispatcher does, and what is kept beside
 -- that is what the history says.
 pub record LiveIs (displays : List ℕ) (es : List Effect) (s : LiveState) : Type 0 where
@@ -31,6 +74,8 @@ pub record LiveIs (displays : List ℕ) (es : List Effect) (s : LiveState) : Typ
   pub windows_are : s.windows ≡ snapshot (past_of es)
   pub requests_are : AreRequested (past_of es) s.requested s.asked
   pub seats_are : AreSeated (past_of es) s.seats
+  pub tenants_are : AreTenants es s.seats
+  pub let_go : AreLetGo es s.dispatcher
 
 -- it stands for some history
 abbrev pub IsLive : List ℕ → LiveState → Type 0
@@ -43,3 +88,9 @@ is_plain (Windows now snapshot) = false
 is_plain (FocusOn now display channel) = false
 is_plain (Remove now channel) = false
 is_plain call = true
+
+-- a message is received or finished only by a client that is open
+abbrev pub IsOfHeld : List Seat → Call → Type 0
+IsOfHeld seats (Receive c) = IsHeld c seats
+IsOfHeld seats (Finish now c seq) = IsHeld c seats
+IsOfHeld seats call = Unit {0}

@@ -19,11 +19,29 @@ pub struct Client {
 }
 
 impl Client {
-    /// The number of its channel, as masks have it.
+    /// The client of a channel and a generation, as [`channel`](Client::channel) and [`generation`](Client::generation)
+    /// gave them. Any numbers may be given: each call asks whether the client is open.
+    pub fn of(channel: u32, generation: u64) -> Client
+        ensures { result ≡ record { channel = channel; generation = generation } }
+    {
+        Client {
+            channel,
+            generation,
+        }
+    }
+
+    /// The number of its channel, from 1 to 64, as masks have it.
     pub fn channel(&self) -> u32
         ensures { result ≡ self.now.channel }
     {
         self.channel
+    }
+
+    /// How many clients were opened up to this one, on any channel: no two clients of a service have the same.
+    pub fn generation(&self) -> u64
+        ensures { result ≡ self.now.generation }
+    {
+        self.generation
     }
 }
 

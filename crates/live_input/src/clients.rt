@@ -1,13 +1,15 @@
 //! Clients that come and go.
-ghost use Rattle.std.specs.Prelude.{◌≡◌, ℕ, ◌+◌, ◌≤◌, ◌↔◌, true, false, not, List, length, Option, None, Some, Ok, Err, IfOk, OnOk, OnErr, option_map, if◌then◌else◌};
+ghost use Rattle.std.specs.Prelude.{◌≡◌, ℕ, ◌+◌, ◌≤◌, ◌<◌, slice_index_or, ◌↔◌, true, false, not, List, length, Option, None, Some, Ok, Err, IfOk, OnOk, OnErr, option_map, if◌then◌else◌};
 ghost use Rattle.std.specs.List.{position};
 ghost use Rattle.dispatch_history.specs.Effect.{Effect, past_of, stream};
 ghost use Rattle.dispatch_history.specs.History.{opened};
 ghost use Rattle.dispatcher.specs.Access.{is_opened};
+ghost use Rattle.focus_resolver.specs.Resolver.{is_at};
 ghost use Rattle.dispatcher.specs.Dispatching.{StandsFor};
 ghost use Rattle.window_snapshot.specs.Mask.{is_channel};
-ghost use Rattle.live_input.specs.Seats.{is_open, is_held, is_full, client_at, first_vacant};
-ghost use Rattle.live_input.specs.Opening.{Opens, OpensOn, CloseGoes, IsNext, IsHeld, opening};
+ghost use Rattle.window_snapshot.specs.Named.{is_named};
+ghost use Rattle.live_input.specs.Seats.{IsHeld, is_open, is_held, is_full, client_at, first_vacant};
+ghost use Rattle.live_input.specs.Opening.{Opens, OpensOn, CloseGoes, IsNext, opening};
 ghost use Rattle.live_input.specs.Answers.{SameClients};
 ghost use Rattle.live_input.specs.Closing.{hidden, forgotten};
 ghost use Rattle.live_input.specs.Settling.{Settles, next_left};
@@ -122,6 +124,9 @@ impl Live {
         ensures done { (ds : List ℕ) (es : List Effect) → LiveIs ds es self.old → IsHeld channel self.old.seats
             → OnOk result (Settles ds (next_left now channel)
             (forgotten ds now channel (hidden ds now channel es)) self.new) }
+        ensures hidden { OnOk result (is_named self.new.windows channel ≡ false) }
+        ensures unasked { (ds : List ℕ) (es : List Effect) → LiveIs ds es self.old
+            → OnOk result ((y : ℕ) → y < 4 → is_at (slice_index_or self.new.requested y None) channel ≡ false) }
         ensures stands { (ds : List ℕ) (es : List Effect) → LiveIs ds es self.old → IsHeld channel self.old.seats
             → IsLive ds self.new }
         ensures clients { SameClients self.old self.new }

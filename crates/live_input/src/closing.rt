@@ -3,6 +3,7 @@ ghost use Rattle.std.specs.Prelude.{◌≡◌, ◌==◌, ℕ, ◌≤◌, true, f
 ghost use Rattle.std.specs.List.{list_any};
 ghost use Rattle.focus_resolver.specs.Resolver.{is_at};
 ghost use Rattle.window_snapshot.specs.Mask.{is_channel};
+ghost use Rattle.window_snapshot.specs.Named.{is_named};
 ghost use Rattle.dispatch_history.specs.Effect.{Effect, past_of};
 ghost use Rattle.dispatch_history.specs.Focus.{requested};
 ghost use Rattle.dispatch_history.specs.Delivery.{oldest};
@@ -10,7 +11,7 @@ ghost use Rattle.dispatcher.specs.Access.{is_opened};
 ghost use Rattle.dispatcher.specs.Dispatching.{StandsFor};
 ghost use Rattle.live_input.specs.Answers.{SameClients};
 ghost use Rattle.live_input.specs.Closing.{without, hidden, forgotten_on, forgotten};
-ghost use Rattle.live_input.specs.Opening.{IsHeld};
+ghost use Rattle.live_input.specs.Seats.{IsHeld};
 ghost use Rattle.live_input.specs.Settling.{Reaches, Settles, next_left};
 ghost use Rattle.live_input.specs.Standing.{LiveIs, IsLive};
 
@@ -27,6 +28,7 @@ impl Live {
     pub(crate) fn hide(&mut self, now: Moment, channel: u32) -> Result<(), AllocError>
         ensures after { (ds : List ℕ) (es : List Effect) → LiveIs ds es self.old
             → OnOk result (LiveIs ds (hidden ds now channel es) self.new) }
+        ensures hidden { OnOk result (is_named self.new.windows channel ≡ false) }
         ensures clients { SameClients self.old self.new }
         ensures named { self.new.named ≡ self.old.named }
         ensures err { OnErr result (self.new ≡ self.old) }
@@ -44,6 +46,7 @@ impl Live {
         ensures after { (ds : List ℕ) (es : List Effect) → LiveIs ds es self.old
             → OnOk result (LiveIs ds (forgotten_on ds now channel display es) self.new) }
         ensures clients { SameClients self.old self.new }
+        ensures windows { self.new.windows ≡ self.old.windows }
         ensures named { self.new.named ≡ self.old.named }
         ensures err { OnErr result (self.new ≡ self.old) }
     {
@@ -61,6 +64,7 @@ impl Live {
             → OnOk result (LiveIs ds (forgotten ds now channel es) self.new) }
         ensures stands { (ds : List ℕ) (es : List Effect) → LiveIs ds es self.old → IsLive ds self.new }
         ensures clients { SameClients self.old self.new }
+        ensures windows { self.new.windows ≡ self.old.windows }
         ensures named { self.new.named ≡ self.old.named }
     {
         if !is_requested(&self.requested, channel) {
@@ -89,11 +93,12 @@ impl Live {
         ensures goes { (ds : List ℕ) (es : List Effect) → LiveIs ds es self.old → IsHeld channel self.old.seats
             → Reaches ds (next_left now channel) es self.new }
         ensures clients { SameClients self.old self.new }
+        ensures windows { self.new.windows ≡ self.old.windows }
+        ensures requests { self.new.requested ≡ self.old.requested }
         ensures named { self.new.named ≡ self.old.named }
     {
         for _ in 0..u64::MAX {
             let Some(call) = next_left(&self.dispatcher, now, channel) else {
-                self.dispatcher.let_go(channel);
                 return Ok(());
             };
             self.make(&call)?;

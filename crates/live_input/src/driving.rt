@@ -11,7 +11,7 @@ ghost use Rattle.live_input.specs.Answers.{SameClients, SameSeats};
 ghost use Rattle.live_input.specs.Giving.{HandedInPart, notified};
 ghost use Rattle.live_input.specs.Settling.{Reaches, Settles, next_waiting, next_due, sooner, timeout};
 ghost use Rattle.live_input.specs.Advancing.{Advances, Advanced};
-ghost use Rattle.live_input.specs.Standing.{LiveIs, is_plain};
+ghost use Rattle.live_input.specs.Standing.{IsOfHeld, LiveIs, is_plain};
 
 use crate::live::Live;
 use crate::settling::{next_due, next_waiting, sooner, timeout};
@@ -88,7 +88,7 @@ impl Live {
     /// One call. The channels that it names unresponsive are noted.
     fn note(&mut self, call: &Call) -> Result<(), AllocError>
         ensures after { (ds : List ℕ) (es : List Effect) → LiveIs ds es self.old → is_plain call.now ≡ true
-            → OnOk result (LiveIs ds (answered ds call.now es) self.new) }
+            → IsOfHeld self.old.seats call.now → OnOk result (LiveIs ds (answered ds call.now es) self.new) }
         ensures named { (ds : List ℕ) (es : List Effect) → LiveIs ds es self.old
             → OnOk result ((c : ℕ) → mask_has self.new.named c
             ≡ (mask_has self.old.named c || is_named_by call.now (reply_to es call.now) c)) }

@@ -1,5 +1,5 @@
-//! What is proved of channels whose windows are not shown. Each function has the laws as its clauses, and does nothing.
-ghost use Rattle.live_input.specs.Laws.{SilenceLaw, UntoldLaw, AloneLaw};
+//! What is proved of channels and of their clients. Each function has the laws as its clauses, and does nothing.
+ghost use Rattle.live_input.specs.Laws.{SilenceLaw, UntoldLaw, AloneLaw, OwnLaw, OwnNumbersLaw, NextLaw, VacantLaw, ClosedLaw, KeptLaw, NamingsLaw};
 
 /// A channel whose window is not shown is told nothing more.
 pub fn silence()
@@ -11,4 +11,21 @@ pub fn silence()
 pub fn endings()
     ensures untold { UntoldLaw }
     ensures alone { AloneLaw }
+{}
+
+/// What each client is told: from its opening on a stream by itself, numbered from 1, from which it knows what its
+/// window holds, and which it takes in its order. After it is closed nothing comes.
+pub fn clients()
+    ensures own { OwnLaw }
+    ensures numbers { OwnNumbersLaw }
+    ensures next { NextLaw }
+    ensures closed { ClosedLaw }
+{}
+
+/// What is kept: of a channel the messages that were not received yet, and of one on which nobody is open nothing; and
+/// no naming.
+pub fn memory()
+    ensures messages { KeptLaw }
+    ensures namings { NamingsLaw }
+    ensures vacant { VacantLaw }
 {}

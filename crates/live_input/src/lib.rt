@@ -31,6 +31,7 @@ mod closing;
 mod driving;
 mod giving;
 pub mod laws;
+mod letting;
 mod live;
 mod messages;
 mod plugging;

@@ -6,9 +6,10 @@ ghost use Rattle.dispatch_history.specs.Legal.{answered};
 ghost use Rattle.dispatch_history.specs.Reply.{reply_to};
 ghost use Rattle.live_input.specs.Answers.{SameClients};
 ghost use Rattle.live_input.specs.Seats.{vacant};
-ghost use Rattle.live_input.specs.Standing.{LiveIs, is_plain};
+ghost use Rattle.live_input.specs.Standing.{IsOfHeld, LiveIs, is_plain};
 
 use crate::client::Seat;
+use crate::letting::let_go_after;
 use device_table::DeviceTable;
 use dispatch_calls::{Call, Reply};
 use dispatcher::Dispatcher;
@@ -95,23 +96,32 @@ impl Live {
         self.dispatcher.clock()
     }
 
-    /// One call of the dispatcher. Without memory nothing changes.
+    /// One call of the dispatcher; what it received is let go, and what was noted of a tick. Without memory nothing
+    /// changes.
     pub(crate) fn apply(&mut self, call: &Call) -> Result<Reply, AllocError>
         ensures after { (ds : List ℕ) (es : List Effect) → LiveIs ds es self.old → is_plain call.now ≡ true
-            → OnOk result (LiveIs ds (answered ds call.now es) self.new) }
+            → IsOfHeld self.old.seats call.now → OnOk result (LiveIs ds (answered ds call.now es) self.new) }
         ensures reply { (ds : List ℕ) (es : List Effect) → LiveIs ds es self.old
             → IfOk result (λ answer. answer ≡ reply_to es call.now) }
         ensures rest { self.new ≡ record self.old { dispatcher = self.new.dispatcher } }
         ensures err { OnErr result (self.new ≡ self.old) }
     {
-        self.dispatcher.apply(call)
+        match self.dispatcher.apply(call) {
+            Ok(reply) => {
+                let_go_after(&mut self.dispatcher, call);
+                Ok(reply)
+            }
+            Err(error) => Err(error),
+        }
     }
 
     /// One call of the dispatcher whose answer is not read. Without memory nothing changes.
     pub(crate) fn make(&mut self, call: &Call) -> Result<(), AllocError>
         ensures after { (ds : List ℕ) (es : List Effect) → LiveIs ds es self.old → is_plain call.now ≡ true
-            → OnOk result (LiveIs ds (answered ds call.now es) self.new) }
+            → IsOfHeld self.old.seats call.now → OnOk result (LiveIs ds (answered ds call.now es) self.new) }
         ensures clients { SameClients self.old self.new }
+        ensures windows { self.new.windows ≡ self.old.windows }
+        ensures requests { self.new.requested ≡ self.old.requested }
         ensures named { self.new.named ≡ self.old.named }
         ensures err { OnErr result (self.new ≡ self.old) }
     {

@@ -1,15 +1,17 @@
 //! What clients get, and what they are done with.
-ghost use Rattle.std.specs.Prelude.{◌≡◌, ◌&&◌, ℕ, true, false, List, Option, None, Ok, Err, IfOk, OnOk, OnErr, is_some, if◌then◌else◌};
+ghost use Rattle.std.specs.Prelude.{◌≡◌, ◌+◌, ◌&&◌, ℕ, true, false, List, Option, None, Ok, Err, IfOk, IfSome, OnOk, OnErr, is_some, if◌then◌else◌};
 ghost use Rattle.dispatch_calls.specs.declared.call.Call.TheVariants.{Receive, Finish, Pilfer};
-ghost use Rattle.dispatch_history.specs.Effect.{Effect};
+ghost use Rattle.dispatch_history.specs.Effect.{Effect, past_of};
+ghost use Rattle.dispatch_history.specs.History.{received};
 ghost use Rattle.dispatch_history.specs.Legal.{answered};
 ghost use Rattle.dispatch_history.specs.Reply.{reply_to};
-ghost use Rattle.dispatcher.specs.Access.{got};
+ghost use Rattle.dispatcher.specs.Access.{gone, got};
 ghost use Rattle.dispatcher.specs.Dispatching.{StandsFor};
 ghost use Rattle.window_snapshot.specs.Mask.{mask_has, mask_with, is_channel};
 ghost use Rattle.live_input.specs.Answers.{SameClients, Finishes, Pilfers, handed, is_done, is_no_spy};
 ghost use Rattle.live_input.specs.Seats.{is_open, seat_of, number_of};
 ghost use Rattle.live_input.specs.Standing.{LiveIs};
+ghost use Rattle.live_input.specs.Told.{taken};
 
 use crate::client::{Client, is_open, seat_of};
 use crate::live::Live;
@@ -32,6 +34,12 @@ impl Live {
         ensures after { (ds : List ℕ) (es : List Effect) → LiveIs ds es self.old
             → is_open self.old.seats client ≡ true → OnOk result
             (LiveIs ds (answered ds (Receive client.channel) es) self.new) }
+        ensures numbers { (ds : List ℕ) (es : List Effect) → LiveIs ds es self.old
+            → is_open self.old.seats client ≡ true → IfOk result (λ message. IfSome message
+            (λ m. m.seq ≡ taken (seat_of self.old.seats client.channel) es client.channel + 1)) }
+        ensures kept { (ds : List ℕ) (es : List Effect) → LiveIs ds es self.old
+            → is_open self.old.seats client ≡ true → OnOk result (gone self.new.dispatcher client.channel
+            ≡ received (past_of (answered ds (Receive client.channel) es)) client.channel) }
         ensures clients { SameClients self.old self.new }
         ensures named { self.new.named ≡ self.old.named }
         ensures err { OnErr result (self.new ≡ self.old) }
@@ -42,10 +50,7 @@ impl Live {
         let channel = client.channel;
         let seat = seat_of(&self.seats, channel);
         match self.apply(&Call::Receive { channel }) {
-            Ok(reply) => {
-                self.dispatcher.let_go(channel);
-                Ok(seat.handed(&reply))
-            }
+            Ok(reply) => Ok(seat.handed(&reply)),
             Err(error) => Err(error),
         }
     }

@@ -5,7 +5,7 @@ ghost use Rattle.dispatch_history.specs.Effect.{Effect};
 ghost use Rattle.dispatch_history.specs.Legal.{answered};
 ghost use Rattle.live_input.specs.Answers.{SameClients};
 ghost use Rattle.live_input.specs.Showing.{FocusGoes, may_ask, channel_of};
-ghost use Rattle.live_input.specs.Standing.{LiveIs};
+ghost use Rattle.live_input.specs.Standing.{AreOfHeld, IsOfSome, LiveIs};
 
 use crate::client::{Client, Seat, is_open};
 use crate::live::Live;
@@ -16,9 +16,10 @@ use std::alloc::AllocError;
 use window_snapshot::Snapshot;
 
 impl Live {
-    /// The windows are these from now on. Without memory nothing changes.
+    /// The windows are these from now on, all of clients that are open. Without memory nothing changes.
     pub(crate) fn show(&mut self, now: Moment, snapshot: Snapshot) -> Result<(), AllocError>
         ensures after { (ds : List ℕ) (es : List Effect) → LiveIs ds es self.old
+            → AreOfHeld snapshot self.old.seats
             → OnOk result (LiveIs ds (answered ds (Windows now snapshot) es) self.new) }
         ensures windows { OnOk result (self.new.windows ≡ snapshot) }
         ensures clients { SameClients self.old self.new }
@@ -45,7 +46,7 @@ impl Live {
         display: DisplayId,
         channel: Option<u32>,
     ) -> Result<(), AllocError>
-        ensures after { (ds : List ℕ) (es : List Effect) → LiveIs ds es self.old
+        ensures after { (ds : List ℕ) (es : List Effect) → LiveIs ds es self.old → IsOfSome channel self.old.seats
             → OnOk result (LiveIs ds (answered ds (FocusOn now display channel) es) self.new) }
         ensures requests { OnOk result
             ((self.new.requested ≡ slice_set self.old.requested display channel) × (self.new.asked ≡ display)) }

@@ -4,6 +4,7 @@ use Rattle.slot_accumulator.specs.declared.contacts.Contact.{Contact}
 use Rattle.pointer_ids.specs.declared.named.Named.{Named}
 use Rattle.pointer_ids.specs.declared.assigned.Held.{Held}
 use Rattle.pointer_ids.specs.PointerIds.{named_after, is_cancelled, assigned, least_free}
+use Rattle.pointer_ids.specs.Following.{are_same, moved}
 
 -- a contact of this slot and tracking id, at (slot, 0)
 abbrev touch : ℕ → ℕ → Contact
@@ -98,3 +99,24 @@ pub one_lifts : (ids ((palm 1 46 ∷ []) ∷ (touch 0 45 ∷ touch 1 46 ∷ []) 
     × (cancelled ((palm 1 46 ∷ []) ∷ (touch 0 45 ∷ touch 1 46 ∷ []) ∷ []) ≡ false ∷ true ∷ false ∷ false ∷ [])
 unfolding least_free
 one_lifts = (refl, refl)
+
+-- ---- fingers that only moved
+
+abbrev two : List Named
+two = record { tracking = pos 45; id = 1; x = pos 0; y = pos 0 } ∷ record { tracking = pos 46; id = 0; x = pos 1; y = pos 0 } ∷ []
+
+abbrev at : ℕ → ℕ → ℕ → Contact
+at slot tracking x = record { slot = slot; tracking = pos tracking; x = pos x; y = pos 7; palm = false }
+
+pub only_moved : are_same two (at 0 45 5 ∷ at 1 46 6 ∷ []) ≡ true
+only_moved = refl
+
+pub keep_their_ids : moved two (at 0 45 5 ∷ at 1 46 6 ∷ [])
+    ≡ record { tracking = pos 45; id = 1; x = pos 5; y = pos 7 } ∷ record { tracking = pos 46; id = 0; x = pos 6; y = pos 7 } ∷ []
+keep_their_ids = refl
+
+pub other_finger : are_same two (at 0 45 5 ∷ at 1 47 6 ∷ []) ≡ false
+other_finger = refl
+
+pub fewer_fingers : are_same two (at 0 45 5 ∷ []) ≡ false
+fewer_fingers = refl

@@ -4,3 +4,4 @@ pub mod RisingId
 pub mod Examples
 pub mod Palms
 pub mod Places
+pub mod Following

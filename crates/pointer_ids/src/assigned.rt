@@ -55,16 +55,9 @@ impl Assigned {
     pub fn empty() -> Assigned
         ensures { result ≡ record { pointers = []; cancelled = 0 } }
     {
-        Assigned::cancelling(Bits32::empty())
-    }
-
-    /// No pointer, where these ids are cancelled.
-    pub(crate) fn cancelling(ids: Bits32) -> Assigned
-        ensures { result ≡ record { pointers = []; cancelled = ids } }
-    {
         Assigned {
             list: ShortList::empty(),
-            cancelled: ids,
+            cancelled: Bits32::empty(),
         }
     }
 
@@ -98,6 +91,13 @@ impl Assigned {
         ensures { result ≡ self.now.cancelled }
     {
         self.cancelled
+    }
+
+    /// These ids are cancelled, and no others.
+    pub(crate) fn cancel(&mut self, ids: Bits32)
+        ensures { self.new ≡ record { pointers = self.old.pointers; cancelled = ids } }
+    {
+        self.cancelled = ids;
     }
 
     /// Puts a pointer behind the others.

@@ -7,6 +7,7 @@ ghost use Rattle.pointer_ids.specs.PointerIds.{named_from, named as named_in, na
 ghost use Rattle.pointer_ids.specs.PointerIds.{some_palm, held, by_id, assigned, finger_at, ArePlaces};
 
 use crate::assigned::{Assigned, Held};
+use crate::moved::{are_same, put_moved};
 use crate::named::{Named, NamedList};
 use bits32::Bits32;
 use input_types::PointerId;
@@ -56,9 +57,23 @@ impl Ids {
         ensures packets { (past : List (List Touch)) → self.old ≡ named_after past → self.new
             ≡ named_after (now.now ∷ past) }
     {
-        let cancelled = cancelled(self.last.as_slice(), now.as_slice());
-        self.last = named(self.last.as_slice(), now.as_slice());
-        in_rising_id(self.last.as_slice(), cancelled)
+        let mut pointers = Assigned::empty();
+        self.assign_into(now, &mut pointers);
+        pointers
+    }
+
+    /// Puts what `assign` answers into `pointers`, which has to be as `Assigned::empty` gives it. Nothing is copied
+    /// where it is at hand.
+    pub fn assign_into(&mut self, now: &Contacts, pointers: &mut Assigned)
+        requires { pointers.old ≡ record { pointers = []; cancelled = 0 } }
+        ensures pointers { pointers.new.pointers ≡ assigned (named_in self.old now.now) }
+        ensures cancelled { (i : ℕ) → is_in i pointers.new.cancelled ≡ is_cancelled self.old now.now i }
+        ensures last { self.new ≡ named_in self.old now.now }
+        ensures packets { (past : List (List Touch)) → self.old ≡ named_after past → self.new
+            ≡ named_after (now.now ∷ past) }
+    {
+        pointers.cancel(name_next(&mut self.last, now));
+        put_by_id(self.last.as_slice(), pointers);
     }
 
     /// Begins anew, as `new` does.
@@ -67,6 +82,22 @@ impl Ids {
     {
         self.last = NamedList::empty();
     }
+}
+
+/// Names the fingers of the next packet, and answers the ids that are cancelled in it.
+fn name_next(last: &mut NamedList, now: &Contacts) -> Bits32
+    ensures last { last.new ≡ named_in last.old now.now }
+    ensures cancelled { (k : ℕ) → is_in k result ≡ is_cancelled last.old now.now k }
+{
+    if are_same(last.as_slice(), now.as_slice()) {
+        let mut moved = NamedList::empty();
+        put_moved(last.as_slice(), now, &mut moved);
+        *last = moved;
+        return Bits32::empty();
+    }
+    let ids = cancelled(last.as_slice(), now.as_slice());
+    *last = named(last.as_slice(), now.as_slice());
+    ids
 }
 
 /// The fingers of a packet with their ids, given those of the packet before.
@@ -173,7 +204,7 @@ fn free_id(taken: Bits32) -> PointerId
 }
 
 /// A finger with its id.
-fn name(contact: &Contact, id: PointerId) -> Named
+pub(crate) fn name(contact: &Contact, id: PointerId) -> Named
     ensures { result ≡ named_contact contact.now id }
 {
     Named {
@@ -184,23 +215,22 @@ fn name(contact: &Contact, id: PointerId) -> Named
     }
 }
 
-/// The fingers as pointers in rising id, beside the ids that are cancelled.
-fn in_rising_id(named: &[Named], cancelled: Bits32) -> Assigned
-    requires { length named.now ≤ 16 }
-    ensures pointers { result.pointers ≡ assigned named.now }
-    ensures cancelled { result.cancelled ≡ cancelled }
+/// Puts the fingers into a list without pointers, in rising id.
+fn put_by_id(named: &[Named], pointers: &mut Assigned)
+    requires few { length named.now ≤ 16 }
+    requires empty { pointers.old.pointers ≡ [] }
+    ensures pointers { pointers.new.pointers ≡ assigned named.now }
+    ensures cancelled { pointers.new.cancelled ≡ pointers.old.cancelled }
 {
     let places = places_of(named);
-    let mut pointers = Assigned::cancelling(cancelled);
     for id in 0..32 {
         if pointers.len() == named.len() {
-            return pointers;
+            return;
         }
         if let Some(finger) = with_id(named, &places, id) {
             pointers.push(pointer(&finger));
         }
     }
-    pointers
 }
 
 /// The place of the first finger with each id, counted from 1, and 0 where no finger has the id.

@@ -11,6 +11,7 @@
 
 mod assigned;
 mod ids;
+mod moved;
 mod named;
 
 pub use assigned::{Assigned, Held};

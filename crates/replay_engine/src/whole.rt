@@ -2,36 +2,16 @@
 ghost use Rattle.std.specs.Prelude.{◌≡◌, ◌≤◌, ◌++◌, codes, decimal, map, OnOk, OnErr};
 ghost use Rattle.bits32.specs.Set.{members};
 ghost use Rattle.outside_io.specs.Outside.{Rose};
-ghost use Rattle.judge_text.specs.Lines.{ids_text, key_text, keys_text, mark_at, pointers_text, refusal_line, word};
+ghost use Rattle.judge_text.specs.Lines.{ids_text, key_text, keys_text, mark_at, pointers_text, refusal_line};
 ghost use Rattle.text_output.specs.Passing.{StopsWithin, Tells, WritesAll, WritesUpTo};
 
 use crate::statuses::tell_number;
 use bits32::Bits32;
-use gesture_verifier::{HeldKey, Reason};
+use gesture_verifier::HeldKey;
 use itoa::Buffer;
-use judge_text::{HeldIds, JudgeError, StillDown};
+use judge_text::{HeldIds, JudgeError, StillDown, word};
 use outside_io::{Failed, Sink};
 use text_output::{Line, tell, tell_pair};
-
-/// The word of a reason.
-fn word(reason: Reason) -> &'static str
-    ensures { result.now ≡ word reason }
-{
-    match reason {
-        Reason::Flags => "Flags",
-        Reason::AlreadyDown => "AlreadyDown",
-        Reason::OnePointer => "OnePointer",
-        Reason::NothingDown => "NothingDown",
-        Reason::OtherPointers => "OtherPointers",
-        Reason::LastPointer => "LastPointer",
-        Reason::MorePointers => "MorePointers",
-        Reason::RepeatOfNothing => "RepeatOfNothing",
-        Reason::RepeatOutOfTurn => "RepeatOutOfTurn",
-        Reason::KeyNotDown => "KeyNotDown",
-        Reason::RepeatOnUp => "RepeatOnUp",
-        Reason::FocusTwice => "FocusTwice",
-    }
-}
 
 /// The mark before the id at a place of its list.
 fn mark(place: u32) -> &'static str

@@ -134,7 +134,9 @@ fn is_up(action: MotionAction) -> bool
     }
 }
 
-/// The list of one pointer.
+/// The list of one pointer. It is not inlined: a constant place in a list has the compiler copy the lists of all other
+/// branches pointer by pointer.
+#[inline(never)]
 fn single(pointer: Pointer) -> Pointers
     ensures { result ≡ pointer ∷ [] }
 {

@@ -28,6 +28,8 @@ const EMIT: &str = "emit --stream stream --channel 1 --device 1";
 
 const JUDGE: &str = "judge --stream stream";
 
+const INSPECT: &str = "inspect --session session --events events";
+
 const COMPARE: &str = "compare --want stream --got other --us 0 --pixels 0";
 
 /// A run that comes to a text: each read and each write fails in turn.
@@ -168,6 +170,31 @@ fn add_judged<R: Threads + Wait + Sync>(rt: &R, text: &mut Vec<u8>) -> io::Resul
     add_each(rt, text, &cases)
 }
 
+/// Adds what a session and a recording hold, by reads of any length.
+fn add_inspected<R: Threads + Wait + Sync>(rt: &R, text: &mut Vec<u8>) -> io::Result<()> {
+    let tap = told(
+        "a tap inspected",
+        INSPECT,
+        &[("session", &[SESSION, STEP]), ("events", &[TAP, "\r\n"])],
+    );
+    add_case(rt, text, &tap)?;
+    add_pieces(rt, text, &tap, 1)?;
+    add_pieces(rt, text, &tap, 7)?;
+    let cases = [
+        refused(
+            "no moment inspected",
+            INSPECT,
+            &[("session", &[SESSION]), ("events", &[TIMELESS, TAP])],
+        ),
+        stopped(
+            "no recording inspected",
+            INSPECT,
+            &[("session", &[SESSION])],
+        ),
+    ];
+    add_each(rt, text, &cases)
+}
+
 /// Adds runs of an order, of a number, and of a mouse.
 fn add_runs<R: Threads + Wait + Sync>(rt: &R, text: &mut Vec<u8>) -> io::Result<()> {
     let cases = [
@@ -221,6 +248,7 @@ pub(crate) fn add_all<R: Threads + Wait + Sync>(rt: &R, text: &mut Vec<u8>) -> i
     add_nothing(rt, text)?;
     add_streams(rt, text)?;
     add_judged(rt, text)?;
+    add_inspected(rt, text)?;
     add_runs(rt, text)?;
     add_race(rt, text)
 }

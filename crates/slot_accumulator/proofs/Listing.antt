@@ -121,11 +121,11 @@ holds_test rows palms s =
     and_same (int_le (pos 0) (rows s).tracking) (not (has_tracking (rows s).tracking (contacts_of rows palms s))) (not (lower_has rows s (rows s).tracking))
     (λ z. ap not (tracked_below rows palms s (rows s).tracking z))
 
-and_first : (a b : Bool) → (a && b) ≡ true → a ≡ true
+pub and_first : (a b : Bool) → (a && b) ≡ true → a ≡ true
 and_first true b h = refl
 and_first false b h = absurd (cc)
 
-and_second : (a b : Bool) → (a && not b) ≡ true → b ≡ false
+pub and_second : (a b : Bool) → (a && not b) ≡ true → b ≡ false
 and_second true true h = absurd (cc)
 and_second true false h = refl
 and_second false b h = absurd (cc)
@@ -232,6 +232,25 @@ palms_next rows k s kept b t lt is before =
     (is ∙ ap (λ x. (tool || k (row_in rows s).tracking) && (int_le (pos 0) (row_in rows s).tracking && not x)) (sym (lower_any rows s (row_in rows s).tracking (omega (arith, lt)))))
     (λ e. ap (λ u. tool || k u) ((Decides-int_eq (row_in rows s).tracking t).0 e))
     ∙ ap (λ x. x || holds_palm (row_in rows) k s t) before
+
+pub none_kept : (palms : List ℤ) (t : ℤ) → length palms ≡ 0 → is_kept palms t ≡ false
+none_kept [] t h = refl
+none_kept (x ∷ xs) t h = absurd (omega (arith, h))
+
+no_tool : (rows : List Row) (s : ℕ) → s < length rows → list_any (λ (r : Row). has_palm_tool r) rows ≡ false → has_palm_tool (row_in rows s) ≡ false
+no_tool [] s lt none = absurd (omega (arith, lt))
+no_tool (r ∷ rs) zero lt none = or_left (has_palm_tool r) (list_any (λ (q : Row). has_palm_tool q) rs) none
+no_tool (r ∷ rs) (suc s) lt none =
+    no_tool rs s (omega (arith, lt)) (or_right (has_palm_tool r) (list_any (λ (q : Row). has_palm_tool q) rs) none)
+
+-- where no tool type is that of a palm and the contact was none before, it is none
+pub none_palm : (rows : List Row) (k : ℤ → Bool) (n : ℕ) (t : ℤ) → n ≤ length rows → list_any (λ (r : Row). has_palm_tool r) rows ≡ false
+    → k t ≡ false → palm_below (row_in rows) k n t ≡ false
+none_palm rows k zero t le none before = refl
+none_palm rows k (suc s) t le none before =
+    ap (λ b. b || holds_palm (row_in rows) k s t) (none_palm rows k s t (omega (arith, le)) none before)
+    ∙ and_last (holds (row_in rows) s && int_eq (row_in rows s).tracking t) (has_palm_tool (row_in rows s) || k t)
+    (ap (λ b. b || k t) (no_tool rows s (omega (arith, le)) none) ∙ before)
 
 -- an event that ends no packet makes no palm
 pub palms_stay : (slots : ℕ) (past : List RawEvent) (e : RawEvent) (t : ℤ) → is_report e ≡ false → is_palm slots (e ∷ past) t ≡ is_palm slots past t

@@ -1,6 +1,6 @@
 //! The slots of a device.
 ghost use Rattle.std.specs.Prelude.{◌≡◌, ℕ, ◌+◌, ◌<◌, ◌≤◌, List, [], ◌∷◌, ◌++◌, MatchOption, ℤ, Bool, pos, false, not, ◌&&◌};
-ghost use Rattle.std.specs.Prelude.{◌||◌, int_le, length};
+ghost use Rattle.std.specs.Prelude.{◌||◌, int_le, length, nat_eq};
 ghost use Rattle.std.specs.List.{list_any};
 ghost use Rattle.std.specs.Ordering.{int_eq};
 ghost use Rattle.raw_events.specs.declared.event.RawEvent.{RawEvent as Event};
@@ -84,6 +84,7 @@ impl Slots {
     /// written to it. Those written while the current slot is none of the device's are never seen. A SYN_REPORT notes
     /// which contacts are palms: those whose tool type is MT_TOOL_PALM, and those that were palms at the end of the
     /// packet before.
+    #[inline(always)]
     pub fn take(&mut self, event: RawEvent)
         ensures state { (past : List Event) → SlotsStandFor past self.old → SlotsStandFor (event ∷ past) self.new }
         ensures slots { self.new.slots ≡ self.old.slots }
@@ -112,13 +113,24 @@ impl Slots {
         ensures events { (past : List Event) → SlotsStandFor past self.now → result ≡ contacts_at self.now.slots past }
     {
         let mut contacts = Contacts::empty();
+        self.contacts_into(&mut contacts);
+        contacts
+    }
+
+    /// Puts the contacts of `contacts` into a list that has none. Nothing is copied where the list is at hand.
+    pub fn contacts_into(&self, contacts: &mut Contacts)
+        requires { contacts.old ≡ [] }
+        ensures now { contacts.new ≡ contacts_of (row_in self.now.rows) (λ t. is_kept self.now.palms t)
+            self.now.slots }
+        ensures events { (past : List Event) → SlotsStandFor past self.now → contacts.new
+            ≡ contacts_at self.now.slots past }
+    {
         for slot in 0..self.slots {
             let row = &self.rows[usize::from(slot)];
             if is_contact(row, contacts.as_slice()) {
                 contacts.push(contact(slot, row, &self.palms));
             }
         }
-        contacts
     }
 
     /// Begins anew, as after `new` with the same number of slots.
@@ -163,6 +175,9 @@ fn palms(rows: &[Row], before: &Palms) -> Palms
     ensures { (tracking : ℤ) → is_kept result tracking ≡ palm_below (row_in rows.now)
         (λ t. is_kept before.now t) (length rows.now) tracking }
 {
+    if no_palm(rows, before) {
+        return Palms::empty();
+    }
     let mut palms = Palms::empty();
     for (slot, row) in rows.iter().enumerate() {
         if is_palm(row, rows.split_at(slot).0, before) {
@@ -170,6 +185,20 @@ fn palms(rows: &[Row], before: &Palms) -> Palms
         }
     }
     palms
+}
+
+/// Whether no slot can hold a palm: there was none before, and no tool type is that of one.
+fn no_palm(rows: &[Row], before: &Palms) -> bool
+    ensures { result ≡ (nat_eq (length before.now) 0 && not (list_any (λ r. has_palm_tool r) rows.now)) }
+{
+    before.len() == 0 && !any_tool(rows)
+}
+
+/// Whether the tool type of a slot is that of a palm.
+fn any_tool(rows: &[Row]) -> bool
+    ensures { result ≡ list_any (λ r. has_palm_tool r) rows.now }
+{
+    rows.iter().any(|r| r.tool == MT_TOOL_PALM)
 }
 
 /// Notes the tracking id of a slot.

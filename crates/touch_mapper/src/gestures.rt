@@ -4,7 +4,7 @@ ghost use Rattle.touch_mapper.specs.Gesture.{after_packet, packet_motions};
 
 use crate::cook::Cook;
 use crate::gesture::gesture;
-use crate::lists::at_pixels;
+use crate::lists::put_at_pixels;
 use crate::motions::FromMotion;
 use input_types::{DeviceId, Motion, Pointers};
 use pointer_ids::Assigned;
@@ -79,7 +79,8 @@ impl Gestures {
         ensures given { OnErr result (given.new.items ≡ given.old.items) }
         ensures room { vec_len given.old + 33 ≤ vec_capacity given.old → IsOk result }
     {
-        let now_at = at_pixels(&self.cook, now);
+        let mut now_at = Pointers::empty();
+        put_at_pixels(&self.cook, now, &mut now_at);
         given.reserve(self.last.len() + now_at.len() + 1)?;
         gesture(given, self.device, now.cancelled(), &self.last, &now_at);
         self.last = now_at;

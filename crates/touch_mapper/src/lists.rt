@@ -56,15 +56,14 @@ pub fn in_use(pointers: &Pointers) -> &[Pointer]
     pointers.as_slice()
 }
 
-/// The pointers of a packet at their pixels.
-pub fn at_pixels(cook: &Cook, held: &Assigned) -> Pointers
-    ensures { result ≡ placed_all cook.now held.now.pointers }
+/// Puts the pointers of a packet at their pixels into a list that has none.
+pub fn put_at_pixels(cook: &Cook, held: &Assigned, pointers: &mut Pointers)
+    requires { pointers.old ≡ [] }
+    ensures { pointers.new ≡ placed_all cook.now held.now.pointers }
 {
-    let mut pointers = Pointers::empty();
     for h in held.as_slice() {
-        append(&mut pointers, &at_pixel(cook, h));
+        append(pointers, &at_pixel(cook, h));
     }
-    pointers
 }
 
 /// A pointer at its pixel.

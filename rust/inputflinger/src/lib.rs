@@ -1,4 +1,5 @@
-//! The judge of what one window is told of touches and keys, over `libinputflinger.a`.
+//! Android's input service for programs in Rust, over `libinputflinger.a`: a [`Live`] sends touches and keys to the windows
+//! of clients, and a [`Judge`] tells whether what one window is told makes sense.
 //!
 //! What the archive does is written in Rattle and proved; this crate declares its calls and gives them Rust's types. A
 //! [`Judge`] is shown the messages of one stream, one by one, and says at which one the stream stops to be well-formed:
@@ -21,8 +22,10 @@
 #![warn(missing_docs)]
 
 mod judge;
+mod live;
 mod message;
 mod sys;
 
 pub use judge::{Fault, HeldKey, Judge, NoMemory, Reason, State, StepError};
+pub use live::{window_flags, Body, Client, Live, LiveError, Panel, Received, Rect, Window};
 pub use message::{Action, Key, Message, Motion, Pointer, FLAG_CANCELED};

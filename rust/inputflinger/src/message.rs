@@ -24,6 +24,21 @@ pub enum Action {
     PointerUp = 6,
 }
 
+impl Action {
+    /// The action of a number of a message that the archive gave.
+    pub(crate) fn of(number: u8) -> Action {
+        match number {
+            0 => Action::Down,
+            1 => Action::Up,
+            2 => Action::Move,
+            3 => Action::Cancel,
+            4 => Action::Outside,
+            5 => Action::PointerDown,
+            _ => Action::PointerUp,
+        }
+    }
+}
+
 /// A pointer of a motion: its id, 0 to 31, and where it is, in pixels from the window's own corner.
 #[derive(Clone, Copy, Debug, PartialEq, Eq)]
 pub struct Pointer {

@@ -67,11 +67,85 @@ pub struct Key {
     pub scan: u16,
 }
 
+/// `struct inputflinger_live`
+#[repr(C)]
+pub struct Live {
+    pub at: *mut c_void,
+    pub is_open: bool,
+}
+
+/// `struct inputflinger_client`
+#[repr(C)]
+#[derive(Clone, Copy, Debug, Default, PartialEq, Eq, Hash)]
+pub struct Client {
+    pub generation: u64,
+    pub channel: u32,
+}
+
+/// `struct inputflinger_rect`
+#[repr(C)]
+#[derive(Clone, Copy, Default)]
+pub struct Rect {
+    pub left: i32,
+    pub top: i32,
+    pub right: i32,
+    pub bottom: i32,
+}
+
+/// `struct inputflinger_window`
+#[repr(C)]
+#[derive(Clone, Copy, Default)]
+pub struct Window {
+    pub client: Client,
+    pub frame: Rect,
+    pub flags: u32,
+    pub rects: u32,
+    pub display: u8,
+}
+
+/// `struct inputflinger_axis`
+#[repr(C)]
+#[derive(Clone, Copy, Default)]
+pub struct Axis {
+    pub min: i32,
+    pub max: i32,
+}
+
+/// `struct inputflinger_panel`
+#[repr(C)]
+#[derive(Clone, Copy, Default)]
+pub struct Panel {
+    pub x: Axis,
+    pub y: Axis,
+    pub width: u16,
+    pub height: u16,
+    pub rotation: u8,
+}
+
+/// `struct inputflinger_displays`
+#[repr(C)]
+#[derive(Clone, Copy, Default)]
+pub struct Displays {
+    pub of_device: [u8; 8],
+}
+
 pub const OK: i32 = 0;
 pub const NO_MEMORY: i32 = 3;
 pub const OUT_OF_RANGE: i32 = 4;
 pub const BROKEN: i32 = 5;
 pub const NO_ROOM: i32 = 6;
+pub const NOT_OPEN: i32 = 8;
+pub const FULL: i32 = 9;
+pub const NOTHING: i32 = 10;
+pub const UNKNOWN_SEQ: i32 = 11;
+pub const NOT_SPY: i32 = 12;
+pub const NOTHING_HELD: i32 = 13;
+pub const NO_DEVICE: i32 = 14;
+pub const INCONSISTENT: i32 = 15;
+pub const WAITS: i32 = 16;
+pub const TOO_MANY: i32 = 17;
+pub const TWICE: i32 = 18;
+pub const BAD_SLOTS: i32 = 19;
 
 extern "C" {
     pub fn inputflinger_judge_new(judge: *mut Judge) -> i32;
@@ -88,6 +162,82 @@ extern "C" {
         count: *mut usize,
     ) -> i32;
     pub fn inputflinger_judge_free(judge: *mut Judge) -> i32;
+    pub fn inputflinger_live_new(live: *mut Live, limit_us: u64, displays: *const Displays) -> i32;
+    pub fn inputflinger_live_free(live: *mut Live) -> i32;
+    pub fn inputflinger_live_add_touch(
+        live: *mut Live,
+        display: u8,
+        slots: u8,
+        panel: *const Panel,
+        device: *mut u8,
+    ) -> i32;
+    pub fn inputflinger_live_remove_device(live: *mut Live, now_us: u64, device: u8) -> i32;
+    pub fn inputflinger_live_event(
+        live: *mut Live,
+        now_us: u64,
+        device: u8,
+        kind: u16,
+        code: u16,
+        value: i32,
+    ) -> i32;
+    pub fn inputflinger_live_args(live: *mut Live, now_us: u64, message: *const Message) -> i32;
+    pub fn inputflinger_live_open(live: *mut Live, client: *mut Client) -> i32;
+    pub fn inputflinger_live_close(live: *mut Live, now_us: u64, client: *const Client) -> i32;
+    pub fn inputflinger_live_is_open(
+        live: *mut Live,
+        client: *const Client,
+        is_open: *mut bool,
+    ) -> i32;
+    pub fn inputflinger_live_client_at(live: *mut Live, channel: u32, client: *mut Client) -> i32;
+    pub fn inputflinger_live_windows(
+        live: *mut Live,
+        now_us: u64,
+        windows: *const Window,
+        windows_len: usize,
+        rects: *const Rect,
+        rects_len: usize,
+        named: *mut u64,
+    ) -> i32;
+    pub fn inputflinger_live_focus(
+        live: *mut Live,
+        now_us: u64,
+        display: u8,
+        client: *const Client,
+    ) -> i32;
+    pub fn inputflinger_live_pilfer(
+        live: *mut Live,
+        now_us: u64,
+        client: *const Client,
+        device: u8,
+    ) -> i32;
+    pub fn inputflinger_live_waiting(live: *mut Live, mask: *mut u64) -> i32;
+    pub fn inputflinger_live_next(
+        live: *mut Live,
+        client: *const Client,
+        message: *mut Message,
+    ) -> i32;
+    pub fn inputflinger_live_finish(
+        live: *mut Live,
+        now_us: u64,
+        client: *const Client,
+        seq: u64,
+    ) -> i32;
+    pub fn inputflinger_live_due(live: *mut Live, moment_us: *mut u64) -> i32;
+    pub fn inputflinger_live_advance(live: *mut Live, now_us: u64, mask: *mut u64) -> i32;
+    pub fn inputflinger_live_clock(live: *mut Live, moment_us: *mut u64) -> i32;
+    pub fn inputflinger_live_focused(live: *mut Live, display: u8, client: *mut Client) -> i32;
+    pub fn inputflinger_live_key_target(live: *mut Live, client: *mut Client) -> i32;
+    pub fn inputflinger_live_is_responsive(
+        live: *mut Live,
+        client: *const Client,
+        is_responsive: *mut bool,
+    ) -> i32;
+    pub fn inputflinger_live_holds(
+        live: *mut Live,
+        client: *const Client,
+        device: u8,
+        ids: *mut u32,
+    ) -> i32;
     #[cfg(test)]
     pub fn inputflinger_proved_size(number: u32) -> usize;
 }
@@ -106,6 +256,13 @@ mod tests {
             size_of::<Fault>(),
             size_of::<State>(),
             size_of::<Key>(),
+            size_of::<Live>(),
+            size_of::<Client>(),
+            size_of::<Rect>(),
+            size_of::<Window>(),
+            size_of::<Axis>(),
+            size_of::<Panel>(),
+            size_of::<Displays>(),
         ];
         for (number, size) in sizes.iter().enumerate() {
             // SAFETY: the call takes a number and answers one.

@@ -1,17 +1,29 @@
 -- One piece more, and the end.
-use Rattle.std.proofs.Common.{◌≡◌, ◌∙◌, ◌+◌, ◌++◌, ℕ, List, length, ap, sym, subst, arith, rules}
-use Rattle.std.proofs.lemmas.List.{append_assoc, length-append}
-use Rattle.command_files.specs.Recorded.{HasRead}
-use Rattle.command_files.proofs.Readings.{gives_on}
+use Rattle.std.proofs.Common.{◌≡◌, ◌∙◌, ◌+◌, ◌++◌, ℕ, List, length, ap, refl, sym, subst, arith, rules}
+use Rattle.std.proofs.lemmas.List.{length-append}
+use Rattle.command_files.proofs.Readings.{gives_on, none_gives}
 use Rattle.command_files.proofs.files.feed_all.Goals as goal
 
 pub returns-then-count-eq0-clause-ok : goal.returns-then-count-eq0-clause-ok
-returns-then-count-eq0-clause-ok g c = λ p bytes run taken.
+returns-then-count-eq0-clause-ok g c =
     let one = c.in_ok-count.ensures.fed in
     let given : List ℕ = (g.S.Source.reading c.pieces.source).given in
-    subst (λ (xs : List ℕ). HasRead p (bytes ++ xs) c.feed_piece.new.recording) (sym one.given)
-    (subst (λ (xs : List ℕ). HasRead p xs c.feed_piece.new.recording) (append_assoc bytes given one.piece)
-    (one.done p (bytes ++ given) run (c.pieces.invariant.takes p bytes run taken)))
+    subst (λ (xs : List ℕ). g.T.Taker.takes c.args.beside.now c.args.taker.now c.feed_piece.new.taker xs) (sym one.given)
+    (g.met.T.Taker.more c.args.beside.now c.args.taker.now c.pieces.taker c.feed_piece.new.taker given one.piece c.pieces.invariant.takes one.done)
+
+pub pieces-init : goal.pieces-init
+pieces-init g c =
+    record {
+      size = sym (ap length c.requires.unread);
+      within = omega arith;
+      buffer = c.in_ok-buffer.ensures;
+      gives = none_gives (g.S.Source.left c.args.source.now) (g.S.Source.reading c.args.source.now) c.requires.going;
+      later = omega arith;
+      going = c.requires.going;
+      loan = refl;
+      takes = subst (λ (xs : List ℕ). g.T.Taker.takes c.args.beside.now c.args.taker.now c.args.taker.now xs) (sym c.requires.unread)
+          (g.met.T.Taker.none c.args.beside.now c.args.taker.now);
+    }
 
 pub pieces-preserved : goal.pieces-preserved
 pieces-preserved g c =
@@ -27,8 +39,6 @@ pieces-preserved g c =
       later = omega (arith, before.later, c.in_ok-count.ensures.later);
       going = c.in_ok-count.ensures.going (omega (arith, c.if-count-eq0.false));
       loan = c.in_ok-count.ensures.loan ∙ before.loan;
-      takes = λ p bytes run taken.
-          subst (λ (xs : List ℕ). HasRead p (bytes ++ xs) c.feed_piece.new.recording) (sym one.given)
-          (subst (λ (xs : List ℕ). HasRead p xs c.feed_piece.new.recording) (append_assoc bytes given one.piece)
-          (one.done p (bytes ++ given) run (before.takes p bytes run taken)));
+      takes = subst (λ (xs : List ℕ). g.T.Taker.takes c.args.beside.now c.args.taker.now c.feed_piece.new.taker xs) (sym one.given)
+          (g.met.T.Taker.more c.args.beside.now c.args.taker.now c.pieces.taker c.feed_piece.new.taker given one.piece before.takes one.done);
     }

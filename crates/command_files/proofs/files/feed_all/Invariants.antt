@@ -1,9 +1,8 @@
 use Rattle.std.proofs.Common.{◌≡◌, ◌+◌, ◌-◌, ◌≤◌, false, length, vec_len}
 use Rattle.command_files.specs.Reading.{GivesMore}
-use Rattle.command_files.specs.Recorded.{Feeds}
 use Rattle.command_files.proofs.files.feed_all.Given as goal
 
--- so many bytes were given, and the recording took them
+-- so many bytes were given, and they were taken
 abbrev pub invariant-pieces : goal.invariant-pieces
 invariant-pieces g l =
     record {
@@ -14,7 +13,7 @@ invariant-pieces g l =
       later : g.S.Source.faults l.initial.source ≤ g.S.Source.faults l.source;
       going : (g.S.Source.reading l.source).ended ≡ false;
       loan : g.S.Source.loan l.source ≡ g.S.Source.loan l.initial.source;
-      takes : Feeds l.plan l.initial.recording l.recording (g.S.Source.reading l.source).given;
+      takes : g.T.Taker.takes l.beside l.initial.taker l.taker (g.S.Source.reading l.source).given;
     }
 
 abbrev pub decreases-pieces : goal.decreases-pieces

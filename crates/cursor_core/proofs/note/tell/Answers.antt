@@ -1,8 +1,8 @@
 -- What a note says is told.
-use Rattle.std.proofs.Common.{◌≡◌, ◌⊎◌, ◌+◌, ◌-◌, ◌≤◌, ◌<◌, List, length, get_or, slice_set, Option, sym, ◌∙◌, ap, arith, inl, inr}
+use Rattle.std.proofs.Common.{◌≡◌, ◌⊎◌, ◌+◌, ◌-◌, ◌≤◌, ◌<◌, length, get_or, slice_set, Option, sym, ◌∙◌, ap, arith, inl, inr}
 use Rattle.std.proofs.lemmas.Result.{on_ok_weaker}
-use Rattle.cursor_core.specs.declared.message.HoverMsg.{HoverMsg}
 use Rattle.cursor_core.specs.declared.note.Note.{Note}
+use Rattle.cursor_core.specs.Kept.{Row}
 use Rattle.cursor_core.specs.Notes.{note_list}
 use Rattle.cursor_core.specs.Rows.{rows_with}
 use Rattle.cursor_core.proofs.Rows.{pushed, quiet, unknown}
@@ -24,9 +24,9 @@ returns-clause-ok c =
     let at : c.in-Some.note.channel ≡ 1 + (c.in-Some.note.channel - 1) = omega (arith, c.if-place-eq0.false) in
     let within : c.in-Some.note.channel - 1 < length c.args.streams.now = omega (arith, c.if-place-eq0.false, c.if-streams-place.false) in
     on_ok_weaker c.push.result
-    (λ kept. ap (λ (y : List HoverMsg). slice_set c.args.streams.now (c.in-Some.note.channel - 1) y) kept
+    (λ kept. ap (λ (y : Row). slice_set c.args.streams.now (c.in-Some.note.channel - 1) y) kept
     ∙ pushed c.args.streams.now c.in-Some.note.channel (c.in-Some.note.channel - 1)
     (get_or c.args.streams.now (c.in-Some.note.channel - 1) c.index-streams-place.result) c.in-Some.note.message at within
-    (ap (λ (y : List HoverMsg). get_or c.args.streams.now (c.in-Some.note.channel - 1) y) c.index-streams-place.is)
+    (ap (λ (y : Row). get_or c.args.streams.now (c.in-Some.note.channel - 1) y) c.index-streams-place.is)
     ∙ ap (λ (n : Option Note). rows_with (note_list n) 1 c.args.streams.now) (sym c.in-Some.is))
     c.push.ensures.ok

@@ -1,7 +1,8 @@
 use Rattle.std.proofs.Common.{Err, refl, ap, arith}
 use Rattle.std.specs.Prelude.{is_some}
 use Rattle.std.specs.Option.{unwrap_or}
-use Rattle.inputflinger_c.specs.Faults.{flag, reason_number}
+use Rattle.plain_calls.specs.Numbers.{flag}
+use Rattle.inputflinger_c.specs.Faults.{reason_number}
 use Rattle.inputflinger_c.proofs.judge_exports.step.Goals as goal
 
 pub returns-in-Err-Fault : goal.returns-in-Err-Fault

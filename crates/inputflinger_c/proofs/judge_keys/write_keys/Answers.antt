@@ -1,6 +1,6 @@
 use Rattle.std.proofs.Common.{◌∙◌, ◌++◌, ◌<◌, map, take, drop, set, length, ap, arith}
 use Rattle.inputflinger_c.specs.Keys.{plain_key}
-use Rattle.inputflinger_c.proofs.WriteKeys.{written_more}
+use Rattle.plain_calls.proofs.Written.{written_more}
 use Rattle.inputflinger_c.proofs.judge_keys.write_keys.Goals as goal
 
 pub loop-i-preserved : goal.loop-i-preserved

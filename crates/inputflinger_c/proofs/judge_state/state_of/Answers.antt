@@ -2,7 +2,7 @@ use Rattle.std.proofs.Common.{◌≡◌, ◌-◌, [], ◌∷◌, ap, ◌∙◌}
 use Rattle.std.specs.Prelude.{slice_index}
 use Rattle.bits32.specs.Set.{members}
 use Rattle.gesture_verifier.specs.Told.{state_of}
-use Rattle.inputflinger_c.specs.Faults.{flag}
+use Rattle.plain_calls.specs.Numbers.{flag}
 use Rattle.inputflinger_c.proofs.Devices.{of_devices}
 use Rattle.inputflinger_c.proofs.judge_state.state_of.Goals as goal
 

@@ -1,13 +1,12 @@
--- The row of a channel is its stream.
+-- The row of a channel keeps its stream.
 use Rattle.std.proofs.Common.{List, ◌∙◌, ap}
-use Rattle.cursor_core.specs.declared.message.HoverMsg.{HoverMsg}
-use Rattle.cursor_core.specs.Kept.{Kept, row_of}
-use Rattle.cursor_core.specs.Told.{stream}
-use Rattle.cursor_core.proofs.Rows.{row_is}
+use Rattle.cursor_core.specs.Kept.{Kept, Row, left_of, row_of}
+use Rattle.cursor_core.specs.Told.{stream_of}
+use Rattle.cursor_core.proofs.Rows.{left_is}
 use Rattle.cursor_core.proofs.cursor.Cursor.stream.Goals as goal
 
 pub returns : goal.returns
 returns c = λ d calls h.
-    c.row_of.ensures
-    ∙ ap (λ (rows : List (List HoverMsg)). row_of rows c.args.channel) (c.deref.ensures.value ∙ ap (λ (k : Kept). k.streams) c.self.view_is ∙ h.streams_are)
-    ∙ row_is (stream d calls) d.channels c.args.channel
+    c.left_of.ensures
+    ∙ ap (λ (rows : List Row). left_of rows c.args.channel) (c.deref.ensures.value ∙ ap (λ (k : Kept). k.streams) c.self.view_is)
+    ∙ left_is (stream_of d calls c.args.channel) (row_of c.args.self.now.streams c.args.channel) (h.streams_are c.args.channel)

@@ -17,13 +17,13 @@ returns-clause-ok c = λ plan past h.
     let before : GestureState = c.args.self.now.gestures in
     let motions : List Args =
     map (λ (m : Motion). MotionArgs m)
-    (gesture before.device (λ i. is_in i c.assign-pointers.result.cancelled) before.last (placed_all before.cook c.assign-pointers.result.pointers)) in
+    (gesture before.device (λ i. is_in i c.assign_into.new.pointers.cancelled) before.last (placed_all before.cook c.assign_into.new.pointers.pointers)) in
     on_ok c.next_into.result
-    (λ q. touch_step plan past c.args.event c.args.args.now.items c.next_into.new.given.items c.args.self.now.ids c.contacts.result c.assign-pointers.result before
+    (λ q. touch_step plan past c.args.event c.args.args.now.items c.next_into.new.given.items c.args.self.now.ids c.contacts_into.new.contacts c.assign_into.new.pointers before
     (sym c.is_report.ensures ∙ c.if-not-is_report.false)
     h.ids_are
-    (c.contacts.ensures.events (c.args.event ∷ past) (c.take-2.ensures.state past h.slots_stand)
+    (c.contacts_into.ensures.events (c.args.event ∷ past) (c.take-2.ensures.state past h.slots_stand)
     ∙ ap (λ n. contacts_at n (c.args.event ∷ past)) (c.take-2.ensures.slots ∙ h.slots_are))
-    c.assign-pointers.ensures.pointers c.assign-pointers.ensures.cancelled h.gestures_are
+    c.assign_into.ensures.pointers c.assign_into.ensures.cancelled h.gestures_are
     (q ∙ ap (λ xs. xs ++ motions) c.reserve.ensures.items))
     c.next_into.ensures.ok

@@ -1,18 +1,25 @@
 -- A call that is made leaves what is kept beside the dispatcher.
-use Rattle.std.proofs.Common.{sym, subst}
-use Rattle.live_input.specs.Standing.{LiveIs}
-use Rattle.live_input.proofs.Results.{if_ok, if_ok_on}
+use Rattle.std.proofs.Common.{sym, ap, ◌∙◌, subst}
+use Rattle.dispatch_history.specs.Legal.{answered}
+use Rattle.live_input.specs.Standing.{IsOfHeld, LiveIs}
+use Rattle.live_input.specs.State.{LiveState}
+use Rattle.live_input.proofs.LettingGo.{from_live, let_go_but}
 use Rattle.live_input.proofs.Stepping.{plain_goes, stands_more}
 use Rattle.live_input.proofs.live.Live.apply.Goals as goal
 
-pub returns-clause-after : goal.returns-clause-after
-returns-clause-after c = λ ds es h plain.
+pub returns-in-Ok-clause-after : goal.returns-in-Ok-clause-after
+returns-in-Ok-clause-after c = λ ds es h plain own.
     let before = subst (LiveIs ds es) (sym c.self.view_is) h in
-    if_ok_on c.apply.result _ _ (c.apply.ensures.after es before.stands)
-    (λ answer stands. plain_goes ds es _ before _ c.apply.ensures.displays c.args.call.now answer plain stands)
+    let call = c.args.call.now in
+    let fs = answered ds call es in
+    let there = (stands_more ds es _ before c.apply.new.self c.apply.ensures.displays call c.in-Ok.reply (c.in-Ok.ensures.after es before.stands)).1 in
+    let held = subst (λ ss. IsOfHeld ss call) (sym (ap (λ (s : LiveState). s.seats) c.self.view_is)) own in
+    let but = let_go_but ds es call c.self.inside.dispatcher c.apply.new.self before.let_go c.apply.ensures.gone c.apply.ensures.namings in
+    plain_goes ds es _ before c.let_go_after.new.dispatcher (c.let_go_after.ensures.displays ∙ c.apply.ensures.displays) call plain held
+    (c.let_go_after.ensures.stays fs there)
+    (c.let_go_after.ensures.all fs there (from_live ds es _ call before.seats_are held) but)
 
-pub returns-clause-reply : goal.returns-clause-reply
-returns-clause-reply c = λ ds es h.
+pub returns-in-Ok-clause-reply : goal.returns-in-Ok-clause-reply
+returns-in-Ok-clause-reply c = λ ds es h.
     let before = subst (LiveIs ds es) (sym c.self.view_is) h in
-    if_ok c.apply.result _ _ (c.apply.ensures.after es before.stands)
-    (λ answer stands. (stands_more ds es _ before _ c.apply.ensures.displays c.args.call.now answer stands).0)
+    (stands_more ds es _ before c.apply.new.self c.apply.ensures.displays c.args.call.now c.in-Ok.reply (c.in-Ok.ensures.after es before.stands)).0

@@ -13,8 +13,9 @@ loop-preserved c =
           let a = c.loop.invariant.advances ds es h in
           let there = subst (LiveIs ds (extend ds es a.calls)) (sym c.self.view_is) a.is in
           let next = sym (c.next_due.ensures (extend ds es a.calls) there.stands) ∙ c.in-Some.is in
+          let plain = plain_due c.loop.self.seats c.args.now (extend ds es a.calls) c.in-Some.call next in
           advances_more ds c.args.now es _ _ c.note.new.self c.in-Some.call a next
-          (c.in_ok-note.ensures.after ds (extend ds es a.calls) a.is (plain_due c.args.now (extend ds es a.calls) c.in-Some.call next))
+          (c.in_ok-note.ensures.after ds (extend ds es a.calls) a.is plain.0 plain.1)
           (c.in_ok-note.ensures.named ds (extend ds es a.calls) a.is);
       clients = record { seats_are = c.note.ensures.clients.seats_are ∙ c.loop.invariant.clients.seats_are; opened_is = c.note.ensures.clients.opened_is ∙ c.loop.invariant.clients.opened_is; limit_is = c.note.ensures.clients.limit_is ∙ c.loop.invariant.clients.limit_is; devices_are = c.note.ensures.clients.devices_are ∙ c.loop.invariant.clients.devices_are; pending_is = c.note.ensures.clients.pending_is ∙ c.loop.invariant.clients.pending_is };
     }

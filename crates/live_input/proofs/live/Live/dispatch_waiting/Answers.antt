@@ -13,8 +13,9 @@ loop-preserved c =
           let r = c.loop.invariant.reaches ds es h in
           let there = subst (LiveIs ds (extend ds es r.calls)) (sym c.self.view_is) r.is in
           let next = sym (c.next_waiting.ensures (extend ds es r.calls) there.stands) ∙ c.in-Some.is in
+          let plain = plain_waiting c.loop.self.seats c.args.now (extend ds es r.calls) c.in-Some.call next in
           reaches_more ds (next_waiting c.args.now) es _ c.make.new.self c.in-Some.call r next
-          (c.in_ok-make.ensures.after ds (extend ds es r.calls) r.is (plain_waiting c.args.now (extend ds es r.calls) c.in-Some.call next));
+          (c.in_ok-make.ensures.after ds (extend ds es r.calls) r.is plain.0 plain.1);
       clients = record { seats_are = c.make.ensures.clients.seats_are ∙ c.loop.invariant.clients.seats_are; opened_is = c.make.ensures.clients.opened_is ∙ c.loop.invariant.clients.opened_is; limit_is = c.make.ensures.clients.limit_is ∙ c.loop.invariant.clients.limit_is; devices_are = c.make.ensures.clients.devices_are ∙ c.loop.invariant.clients.devices_are; pending_is = c.make.ensures.clients.pending_is ∙ c.loop.invariant.clients.pending_is };
       named = c.make.ensures.named ∙ c.loop.invariant.named;
     }

@@ -1,11 +1,11 @@
 -- What is left is done, one call after another.
-use Rattle.std.proofs.Common.{sym, ◌∙◌, subst}
+use Rattle.std.proofs.Common.{sym, ap, ◌∙◌, subst}
 use Rattle.dispatch_history.specs.Ordered.{extend}
+use Rattle.live_input.specs.Seats.{IsHeld, is_held, seat_of}
 use Rattle.live_input.specs.Settling.{next_left}
 use Rattle.live_input.specs.Standing.{LiveIs}
-use Rattle.live_input.proofs.Following.{reaches_more, reaches_same, plain_left}
+use Rattle.live_input.proofs.Following.{reaches_more, plain_left}
 use Rattle.live_input.proofs.Opened.{held_opened}
-use Rattle.live_input.proofs.Stepping.{let_go_goes}
 use Rattle.live_input.proofs.live.Live.drain.Goals as goal
 
 pub loop-preserved : goal.loop-preserved
@@ -16,27 +16,22 @@ loop-preserved c =
           let there = subst (LiveIs ds (extend ds es r.calls)) (sym c.self.view_is) r.is in
           let opened = held_opened (extend ds es r.calls) _ _ c.args.channel r.is.seats_are c.loop.invariant.clients.seats_are held.0 held.1 held.2 in
           let next = sym (c.next_left.ensures (extend ds es r.calls) there.stands opened) ∙ c.in-Some.is in
+          let still : IsHeld c.args.channel c.loop.self.seats = (held.0, held.1, ap (λ ss. is_held (seat_of ss c.args.channel)) c.loop.invariant.clients.seats_are ∙ held.2) in
+          let plain = plain_left c.loop.self.seats c.args.now c.args.channel (extend ds es r.calls) c.in-Some.call still next in
           reaches_more ds (next_left c.args.now c.args.channel) es _ c.make.new.self c.in-Some.call r next
-          (c.in_ok-make.ensures.after ds (extend ds es r.calls) r.is (plain_left c.args.now c.args.channel (extend ds es r.calls) c.in-Some.call next));
+          (c.in_ok-make.ensures.after ds (extend ds es r.calls) r.is plain.0 plain.1);
       clients = record { seats_are = c.make.ensures.clients.seats_are ∙ c.loop.invariant.clients.seats_are; opened_is = c.make.ensures.clients.opened_is ∙ c.loop.invariant.clients.opened_is; limit_is = c.make.ensures.clients.limit_is ∙ c.loop.invariant.clients.limit_is; devices_are = c.make.ensures.clients.devices_are ∙ c.loop.invariant.clients.devices_are; pending_is = c.make.ensures.clients.pending_is ∙ c.loop.invariant.clients.pending_is };
+      windows = c.make.ensures.windows ∙ c.loop.invariant.windows;
+      requests = c.make.ensures.requests ∙ c.loop.invariant.requests;
       named = c.make.ensures.named ∙ c.loop.invariant.named;
     }
 
 pub returns-in_default-clause-goes : goal.returns-in_default-clause-goes
-returns-in_default-clause-goes c = λ ds es h held.
-    let r = c.loop.invariant.reaches ds es h held in
-    let there = subst (LiveIs ds (extend ds es r.calls)) (sym c.self.view_is) r.is in
-    reaches_same ds (next_left c.args.now c.args.channel) es _ _ r
-    (let_go_goes ds (extend ds es r.calls) _ there c.let_go.new.self c.let_go.ensures.displays c.let_go.ensures.stays)
+returns-in_default-clause-goes c = c.loop.invariant.reaches
 
 pub returns-in_default-clause-done : goal.returns-in_default-clause-done
 returns-in_default-clause-done c = λ ds es h held.
     let r = c.loop.invariant.reaches ds es h held in
     let there = subst (LiveIs ds (extend ds es r.calls)) (sym c.self.view_is) r.is in
     let opened = held_opened (extend ds es r.calls) _ _ c.args.channel r.is.seats_are c.loop.invariant.clients.seats_are held.0 held.1 held.2 in
-    record {
-      reached =
-          reaches_same ds (next_left c.args.now c.args.channel) es _ _ r
-          (let_go_goes ds (extend ds es r.calls) _ there c.let_go.new.self c.let_go.ensures.displays c.let_go.ensures.stays);
-      done = sym (c.next_left.ensures (extend ds es r.calls) there.stands opened) ∙ c.in_default.is;
-    }
+    record { reached = r; done = sym (c.next_left.ensures (extend ds es r.calls) there.stands opened) ∙ c.in_default.is }

@@ -1,7 +1,7 @@
 use Rattle.std.proofs.Common.{◌≡◌, ℕ, List}
 use Rattle.dispatch_history.specs.Effect.{Effect}
 use Rattle.live_input.specs.Answers.{SameClients}
-use Rattle.live_input.specs.Opening.{IsHeld}
+use Rattle.live_input.specs.Seats.{IsHeld}
 use Rattle.live_input.specs.Settling.{Reaches, next_left}
 use Rattle.live_input.specs.Standing.{LiveIs}
 use Rattle.live_input.proofs.live.Live.drain.Given as goal
@@ -12,5 +12,7 @@ invariant-loop l =
     record {
       reaches : (ds : List ℕ) (es : List Effect) → LiveIs ds es l.initial.self → IsHeld l.channel l.initial.self.seats → Reaches ds (next_left l.now l.channel) es l.self;
       clients : SameClients l.initial.self l.self;
+      windows : l.self.windows ≡ l.initial.self.windows;
+      requests : l.self.requested ≡ l.initial.self.requested;
       named : l.self.named ≡ l.initial.self.named;
     }

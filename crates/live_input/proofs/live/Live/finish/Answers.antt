@@ -7,6 +7,7 @@ use Rattle.live_input.specs.Answers.{is_done}
 use Rattle.live_input.specs.Seats.{seat_of, number_of}
 use Rattle.live_input.specs.Standing.{LiveIs}
 use Rattle.live_input.specs.State.{LiveState}
+use Rattle.live_input.proofs.Opened.{open_held}
 use Rattle.live_input.proofs.live.Live.finish.Goals as goal
 
 pub returns-then-is_done-clause-after : goal.returns-then-is_done-clause-after
@@ -15,7 +16,7 @@ returns-then-is_done-clause-after c = λ ds es h is.
     c.number_of-seq.ensures ∙ ap (λ s. number_of s c.args.seq) (c.seat_of.ensures ∙ ap (λ (s : LiveState). seat_of s.seats c.args.client.channel) c.self.view_is) in
     subst (λ n. (is_done (reply_to es (Finish c.args.now c.args.client.channel n)) ≡ true) × LiveIs ds (answered ds (Finish c.args.now c.args.client.channel n) es) c.apply.new.self)
     number
-    (ap is_done (sym (c.in-Ok.ensures.reply ds es h)) ∙ sym c.is_done.ensures ∙ c.if-is_done.true, c.in-Ok.ensures.after ds es h refl)
+    (ap is_done (sym (c.in-Ok.ensures.reply ds es h)) ∙ sym c.is_done.ensures ∙ c.if-is_done.true, c.in-Ok.ensures.after ds es h refl (open_held c.args.self.now.seats c.args.client is))
 
 pub returns-in-Ok-clause-after : goal.returns-in-Ok-clause-after
 returns-in-Ok-clause-after c = λ ds es h is.
@@ -23,4 +24,4 @@ returns-in-Ok-clause-after c = λ ds es h is.
     c.number_of-seq.ensures ∙ ap (λ s. number_of s c.args.seq) (c.seat_of.ensures ∙ ap (λ (s : LiveState). seat_of s.seats c.args.client.channel) c.self.view_is) in
     subst (λ n. (is_done (reply_to es (Finish c.args.now c.args.client.channel n)) ≡ false) × LiveIs ds (answered ds (Finish c.args.now c.args.client.channel n) es) c.apply.new.self)
     number
-    (ap is_done (sym (c.in-Ok.ensures.reply ds es h)) ∙ sym c.is_done.ensures ∙ c.if-is_done.false, c.in-Ok.ensures.after ds es h refl)
+    (ap is_done (sym (c.in-Ok.ensures.reply ds es h)) ∙ sym c.is_done.ensures ∙ c.if-is_done.false, c.in-Ok.ensures.after ds es h refl (open_held c.args.self.now.seats c.args.client is))

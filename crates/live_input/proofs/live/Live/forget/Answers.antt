@@ -1,11 +1,11 @@
 -- What was requested for the channel is requested for none, display by display, and keys go where they went.
-use Rattle.std.proofs.Common.{◌≡◌, cond, sym, ap, ◌∙◌, subst}
+use Rattle.std.proofs.Common.{◌≡◌, ◌<◌, cond, sym, ap, ◌∙◌, subst, arith}
 use Rattle.std.specs.List.{list_any}
 use Rattle.dispatch_history.specs.Effect.{past_of}
 use Rattle.dispatch_history.specs.Focus.{asked}
 use Rattle.focus_resolver.specs.Resolver.{is_at}
 use Rattle.live_input.specs.Closing.{is_requested, asked_again, forgotten_each, forgotten_on}
-use Rattle.live_input.specs.Standing.{LiveIs}
+use Rattle.live_input.specs.Standing.{IsOfSome, LiveIs}
 use Rattle.live_input.specs.State.{LiveState}
 use Rattle.live_input.proofs.Opened.{requests_name, forgotten_is}
 use Rattle.live_input.proofs.Results.{on_ok, either}
@@ -31,7 +31,12 @@ returns-clause-after c = λ ds es h.
     let e3 = c.in_ok-forget_on-3.ensures.after ds _ e2 in
     let e4 = c.in_ok-forget_on-4.ensures.after ds _ e3 in
     let last : c.self.inside.asked ≡ asked (past_of es) = ap (λ (s : LiveState). s.asked) c.self.view_is ∙ h.requests_are.display_is in
-    on_ok c.request.result _ _ (c.request.ensures.after ds _ e4)
+    let kept : c.self.inside.asked ≡ c.args.self.now.asked = ap (λ (s : LiveState). s.asked) c.self.view_is in
+    let within = h.requests_are.within in
+    let low : c.self.inside.asked < 4 = omega (arith, kept, within) in
+    let asks : IsOfSome c.requested_on-requested.result c.forget_on-4.new.self.seats =
+    subst (λ o. IsOfSome o c.forget_on-4.new.self.seats) (sym (c.requested_on-requested.ensures ds _ e4)) (e4.tenants_are.asked c.self.inside.asked low) in
+    on_ok c.request.result _ _ (c.request.ensures.after ds _ e4 asks)
     (λ x.
     subst (λ fs. LiveIs ds fs c.request.new.self)
     (forgotten_is ds c.args.now c.args.channel es c.display.result c.display-2.result c.display-3.result c.display-4.result c.self.inside.asked
@@ -46,7 +51,12 @@ returns-clause-stands c = λ ds es h.
     let e2 = c.in_ok-forget_on-2.ensures.after ds _ e1 in
     let e3 = c.in_ok-forget_on-3.ensures.after ds _ e2 in
     let e4 = c.in_ok-forget_on-4.ensures.after ds _ e3 in
-    either c.request.result _ _ _ (c.request.ensures.after ds _ e4) c.request.ensures.err (λ x. (_, x)) (λ e. (_, subst (LiveIs ds _) (sym e) e4))
+    let kept : c.self.inside.asked ≡ c.args.self.now.asked = ap (λ (s : LiveState). s.asked) c.self.view_is in
+    let within = h.requests_are.within in
+    let low : c.self.inside.asked < 4 = omega (arith, kept, within) in
+    let asks : IsOfSome c.requested_on-requested.result c.forget_on-4.new.self.seats =
+    subst (λ o. IsOfSome o c.forget_on-4.new.self.seats) (sym (c.requested_on-requested.ensures ds _ e4)) (e4.tenants_are.asked c.self.inside.asked low) in
+    either c.request.result _ _ _ (c.request.ensures.after ds _ e4 asks) c.request.ensures.err (λ x. (_, x)) (λ e. (_, subst (LiveIs ds _) (sym e) e4))
 
 pub returns-in_err-forget_on-2-clause-stands : goal.returns-in_err-forget_on-2-clause-stands
 returns-in_err-forget_on-2-clause-stands c = λ ds es h. (

@@ -11,7 +11,7 @@ pub returns-then-is_at-clause-after : goal.returns-then-is_at-clause-after
 returns-then-is_at-clause-after c = λ ds es h.
     subst (λ b. OnOk c.request.result (LiveIs ds (cond b (answered ds (FocusOn c.args.now c.args.display None) es) es) c.request.new.self))
     (sym (sym (ap (λ r. is_at r c.args.channel) (c.requested_on.ensures ds es h)) ∙ sym c.is_at.ensures ∙ c.if-is_at.true))
-    (c.request.ensures.after ds es h)
+    (c.request.ensures.after ds es h tt)
 
 pub returns-else-is_at-clause-after : goal.returns-else-is_at-clause-after
 returns-else-is_at-clause-after c = λ ds es h.

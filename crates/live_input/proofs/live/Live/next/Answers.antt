@@ -1,10 +1,12 @@
 -- A message is handed out, and let go.
-use Rattle.std.proofs.Common.{refl, sym, ap, ap₂, ◌∙◌, subst}
+use Rattle.std.proofs.Common.{◌≡◌, ◌+◌, refl, sym, ap, ap₂, ◌∙◌, subst}
+use Rattle.std.specs.Prelude.{IfSome}
 use Rattle.dispatcher.specs.Access.{got}
 use Rattle.live_input.specs.Answers.{handed}
 use Rattle.live_input.specs.Seats.{seat_of}
-use Rattle.live_input.specs.Standing.{LiveIs}
-use Rattle.live_input.proofs.Stepping.{let_go_goes}
+use Rattle.live_input.specs.Told.{taken}
+use Rattle.live_input.proofs.Opened.{open_held}
+use Rattle.live_input.proofs.Told.{handed_number, live_lawful}
 use Rattle.live_input.proofs.live.Live.next.Goals as goal
 
 pub returns-in-Ok-clause-message : goal.returns-in-Ok-clause-message
@@ -14,6 +16,19 @@ returns-in-Ok-clause-message c = λ ds es h is.
     (ap got (c.in-Ok.ensures.reply ds es h))
 
 pub returns-in-Ok-clause-after : goal.returns-in-Ok-clause-after
-returns-in-Ok-clause-after c = λ ds es h is.
-    let there = subst (LiveIs ds _) (sym c.self-2.view_is) (c.in-Ok.ensures.after ds es h refl) in
-    let_go_goes ds _ _ there c.let_go.new.self c.let_go.ensures.displays c.let_go.ensures.stays
+returns-in-Ok-clause-after c = λ ds es h is. c.in-Ok.ensures.after ds es h refl (open_held c.args.self.now.seats c.args.client is)
+
+pub returns-in-Ok-clause-numbers : goal.returns-in-Ok-clause-numbers
+returns-in-Ok-clause-numbers c = λ ds es h is.
+    let k = c.args.client.channel in
+    let seat = seat_of c.args.self.now.seats k in
+    let begun = h.tenants_are.begun k (open_held c.args.self.now.seats c.args.client is) in
+    let same =
+    c.handed.ensures
+    ∙ ap₂ (λ s m. handed s m) (c.seat_of-seat.ensures ∙ ap (λ s. seat_of s.seats k) c.self.view_is) (ap got (c.in-Ok.ensures.reply ds es h)) in
+    subst (λ o. IfSome o (λ m. m.seq ≡ taken seat es k + 1)) (sym same) (handed_number ds es seat k (live_lawful ds es _ h) begun.taken)
+
+pub returns-in-Ok-clause-kept : goal.returns-in-Ok-clause-kept
+returns-in-Ok-clause-kept c = λ ds es h is.
+    let held = open_held c.args.self.now.seats c.args.client is in
+    (c.in-Ok.ensures.after ds es h refl held).let_go.messages_are c.args.client.channel held.0

@@ -10,8 +10,8 @@ use Rattle.live_input.proofs.Union.{mask_union}
 use Rattle.live_input.proofs.live.Live.note.Goals as goal
 
 pub returns-in-Ok-clause-after : goal.returns-in-Ok-clause-after
-returns-in-Ok-clause-after c = λ ds es h plain.
-    live_noted ds (answered ds c.args.call.now es) _ _ (subst (LiveIs ds (answered ds c.args.call.now es)) (sym c.self.view_is) (c.in-Ok.ensures.after ds es h plain))
+returns-in-Ok-clause-after c = λ ds es h plain own.
+    live_noted ds (answered ds c.args.call.now es) _ _ (subst (LiveIs ds (answered ds c.args.call.now es)) (sym c.self.view_is) (c.in-Ok.ensures.after ds es h plain own))
 
 pub returns-in-Ok-clause-named : goal.returns-in-Ok-clause-named
 returns-in-Ok-clause-named c = λ ds es h k.

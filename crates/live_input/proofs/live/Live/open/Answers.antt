@@ -1,12 +1,14 @@
 -- The first vacant channel gets a client.
 use Rattle.std.proofs.Common.{◌≡◌, ◌+◌, Some, refl, sym, ap, ◌∙◌, subst}
 use Rattle.live_input.specs.Opening.{opening}
-use Rattle.live_input.specs.Seats.{first_vacant, seat_of}
-use Rattle.live_input.specs.Standing.{LiveIs}
+use Rattle.live_input.specs.Seats.{first_vacant, is_held, seat_of, with_seat}
+use Rattle.live_input.specs.Standing.{AreTenants, LiveIs}
 use Rattle.live_input.specs.State.{LiveState}
 use Rattle.live_input.proofs.Opened.{full_by_none, not_full}
 use Rattle.live_input.proofs.Stepping.{seat_goes}
-use Rattle.live_input.proofs.Vacant.{seat_set, vacant_next}
+use Rattle.live_input.proofs.Tenants.{tenants_new}
+use Rattle.live_input.proofs.Told.{live_lawful}
+use Rattle.live_input.proofs.Vacant.{seat_set, vacant_known, vacant_next}
 use Rattle.live_input.proofs.live.Live.open.Goals as goal
 
 pub returns-in_default-clause-full : goal.returns-in_default-clause-full
@@ -37,9 +39,17 @@ returns-in-Ok-clause-after c = λ ds es h.
     let next = vacant_next es c.args.self.now.seats k h.seats_are at in
     let fs = opening ds c.args.self.now.limit k es in
     let there = subst (LiveIs ds fs) (sym c.self-2.view_is) (c.in-Ok.ensures.after ds es h next) in
+    let all = there.seats_are.all in
+    let none = ap (λ ss. is_held (seat_of ss k)) (ap (λ (s : LiveState). s.seats) c.self-2.view_is ∙ ap (λ (s : LiveState). s.seats) c.open_channel.ensures.rest)
+    ∙ (vacant_known c.args.self.now.seats k h.seats_are.all at).2 in
+    let tenants =
+    subst (λ n. AreTenants fs (with_seat k (record { holder = Some (c.self-2.inside.opened + 1); before = n }) c.self-2.inside.seats))
+    (sym (c.in-Ok.ensures.sent ds es h next))
+    (tenants_new ds fs c.self-2.inside.seats k (c.self-2.inside.opened + 1) (live_lawful ds fs _ there) there.stands.rise there.seats_are there.tenants_are
+    next.from next.to (c.in-Ok.ensures.opened ds es h next) none) in
     record {
       is =
-          seat_goes ds fs _ there k _ next.from next.to (c.in-Ok.ensures.opened ds es h next) (c.self-2.inside.opened + 1) c.occupy.new.seats
+          seat_goes ds fs _ there k _ next.from next.to (c.in-Ok.ensures.opened ds es h next) tenants (c.self-2.inside.opened + 1) c.occupy.new.seats
           c.occupy.ensures;
       before_is =
           ap (λ s. s.before)

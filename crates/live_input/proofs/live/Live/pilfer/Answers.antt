@@ -7,5 +7,5 @@ pub returns-in-Ok-clause-after : goal.returns-in-Ok-clause-after
 returns-in-Ok-clause-after c = λ ds es h is. (
   ap is_done (sym (c.in-Ok.ensures.reply ds es h)) ∙ sym c.is_done.ensures ∙ c.if-is_done.false,
   ap is_no_spy (sym (c.in-Ok.ensures.reply ds es h)) ∙ sym c.is_no_spy.ensures ∙ c.if-is_no_spy.false,
-  c.in-Ok.ensures.after ds es h refl,
+  c.in-Ok.ensures.after ds es h refl tt,
 )

@@ -1,0 +1,5 @@
+use Rattle.answer_laws.proofs.Alike.{inspect_refuses, replay_refuses}
+use Rattle.answer_laws.proofs.laws.refusing.Goals as goal
+
+pub returns : goal.returns
+returns c = record { inspect = inspect_refuses; replay = replay_refuses }

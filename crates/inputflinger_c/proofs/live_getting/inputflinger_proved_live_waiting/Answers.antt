@@ -1,0 +1,9 @@
+use Rattle.std.proofs.Common.{refl, subst}
+use Rattle.plain_calls.specs.Getting.{AreWaiting}
+use Rattle.inputflinger_c.proofs.Looking.{looked_at}
+use Rattle.inputflinger_c.proofs.live_getting.inputflinger_proved_live_waiting.Goals as goal
+
+pub returns : goal.returns
+returns c =
+    looked_at _ _ _ _ c.in-Some.service.value _ c.in-Some.ensures.taken c.put.ensures
+    (refl, (refl, subst (λ s. AreWaiting s c.waiting.result) c.deref.ensures c.waiting.ensures))

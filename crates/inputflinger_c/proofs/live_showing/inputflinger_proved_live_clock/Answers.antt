@@ -1,0 +1,9 @@
+use Rattle.std.proofs.Common.{refl, subst}
+use Rattle.plain_calls.specs.Asking.{IsClock}
+use Rattle.inputflinger_c.proofs.Looking.{looked_at}
+use Rattle.inputflinger_c.proofs.live_showing.inputflinger_proved_live_clock.Goals as goal
+
+pub returns : goal.returns
+returns c =
+    looked_at _ _ _ _ c.in-Some.service.value _ c.in-Some.ensures.taken c.put.ensures
+    (refl, (refl, subst (λ s. IsClock s c.clock.result) c.deref.ensures c.clock.ensures))

@@ -1,0 +1,198 @@
+//! The windows of a live service, the focus, and what can be asked of its clients.
+ghost use Rattle.std.specs.Prelude.{◌≡◌, ⊤, nat_eq};
+ghost use Rattle.live_input.specs.Seats.{is_open};
+ghost use Rattle.plain_calls.specs.Asking.{client_on, TellsClient, HasFocus, GetsKeys, Responds, Holds, IsClock};
+ghost use Rattle.plain_calls.specs.Calling.{Reads, Replies, told_status, written};
+ghost use Rattle.plain_calls.specs.Clients.{client_of, maybe_client, plain_client};
+ghost use Rattle.plain_calls.specs.Numbers.{device_of, display_of, flag, moment_of};
+ghost use Rattle.plain_calls.specs.Replies.{focus_status};
+ghost use Rattle.plain_calls.specs.Showing.{Asked, NothingShown, ShowsRead};
+ghost use Rattle.plain_calls.specs.Status.{is_ok, no_memory};
+ghost use Rattle.plain_calls.specs.Windows.{windows_from};
+ghost use Rattle.inputflinger_c.specs.Serving.{OnService};
+
+use crate::service::Service;
+use plain_calls::status::{FREE, OK};
+use plain_calls::{PlainClient, PlainRect, PlainWindow, asking, showing};
+use std::alloc::Global;
+
+/// The windows are these from now on; see `showing::windows`. `FREE` where the handle is free.
+#[unsafe(no_mangle)]
+pub extern "C" fn inputflinger_proved_live_windows(
+    alloc: Global,
+    live: &mut Service,
+    now_us: u64,
+    windows: &[PlainWindow],
+    rects: &[PlainRect],
+    named: &mut u64,
+) -> u32
+    ensures { OnService live.old.cell.state result live.new.cell.state (named.new ≡ named.old)
+        (λ old new. Reads (moment_of now_us) result (NothingShown old new named.old named.new)
+        (λ now. ShowsRead (nat_eq result no_memory) (windows_from windows.now rects.now) result now old new
+        named.old named.new)) }
+{
+    let Some(mut service) = live.take(alloc) else {
+        return FREE;
+    };
+    let status = showing::windows(alloc, &mut service, now_us, windows, rects, named);
+    live.put(service);
+    status
+}
+
+/// The focus of a display is requested; see `showing::focus`. `FREE` where the handle is free.
+#[unsafe(no_mangle)]
+pub extern "C" fn inputflinger_proved_live_focus(
+    alloc: Global,
+    live: &mut Service,
+    now_us: u64,
+    display: u8,
+    client: &PlainClient,
+) -> u32
+    ensures { OnService live.old.cell.state result live.new.cell.state ⊤
+        (λ old new. Reads (moment_of now_us) result (new ≡ old)
+        (λ now. Reads (display_of display) result (new ≡ old)
+        (λ y. Replies focus_status result (Asked now y (maybe_client client.now) old new)))) }
+{
+    let Some(mut service) = live.take(alloc) else {
+        return FREE;
+    };
+    let status = showing::focus(&mut service, now_us, display, client);
+    live.put(service);
+    status
+}
+
+/// Whether a client is open, as 1 or 0. `FREE` where the handle is free.
+#[unsafe(no_mangle)]
+pub extern "C" fn inputflinger_proved_live_is_open(
+    alloc: Global,
+    live: &mut Service,
+    client: &PlainClient,
+    told: &mut u8,
+) -> u32
+    ensures { OnService live.old.cell.state result live.new.cell.state (told.new ≡ told.old)
+        (λ old new. (result ≡ is_ok) × ((new ≡ old) × (told.new ≡ flag (is_open old.seats (client_of client.now))))) }
+{
+    let Some(mut service) = live.take(alloc) else {
+        return FREE;
+    };
+    *told = asking::is_open(&service, client);
+    live.put(service);
+    OK
+}
+
+/// The client that is open on a channel; see `asking::client_at`. `FREE` where the handle is free.
+#[unsafe(no_mangle)]
+pub extern "C" fn inputflinger_proved_live_client_at(
+    alloc: Global,
+    live: &mut Service,
+    channel: u32,
+    client: &mut PlainClient,
+) -> u32
+    ensures { OnService live.old.cell.state result live.new.cell.state (client.new ≡ client.old)
+        (λ old new. (new ≡ old) × TellsClient result (client_on old channel) client.old client.new) }
+{
+    let Some(mut service) = live.take(alloc) else {
+        return FREE;
+    };
+    let status = asking::client_at(&service, channel, client);
+    live.put(service);
+    status
+}
+
+/// The client that has the focus of a display; see `asking::focused`. `FREE` where the handle is free.
+#[unsafe(no_mangle)]
+pub extern "C" fn inputflinger_proved_live_focused(
+    alloc: Global,
+    live: &mut Service,
+    display: u8,
+    client: &mut PlainClient,
+) -> u32
+    ensures { OnService live.old.cell.state result live.new.cell.state (client.new ≡ client.old)
+        (λ old new. (new ≡ old) × Reads (display_of display) result (client.new ≡ client.old)
+        (λ y. Replies told_status result
+        (λ r. HasFocus old y r × (client.new ≡ written plain_client r client.old)))) }
+{
+    let Some(mut service) = live.take(alloc) else {
+        return FREE;
+    };
+    let status = asking::focused(&service, display, client);
+    live.put(service);
+    status
+}
+
+/// The client that keys go to; see `asking::key_target`. `FREE` where the handle is free.
+#[unsafe(no_mangle)]
+pub extern "C" fn inputflinger_proved_live_key_target(
+    alloc: Global,
+    live: &mut Service,
+    client: &mut PlainClient,
+) -> u32
+    ensures { OnService live.old.cell.state result live.new.cell.state (client.new ≡ client.old)
+        (λ old new. (new ≡ old) × Replies told_status result
+        (λ r. GetsKeys old r × (client.new ≡ written plain_client r client.old))) }
+{
+    let Some(mut service) = live.take(alloc) else {
+        return FREE;
+    };
+    let status = asking::key_target(&service, client);
+    live.put(service);
+    status
+}
+
+/// Whether a client is open and responds, as 1 or 0. `FREE` where the handle is free.
+#[unsafe(no_mangle)]
+pub extern "C" fn inputflinger_proved_live_is_responsive(
+    alloc: Global,
+    live: &mut Service,
+    client: &PlainClient,
+    told: &mut u8,
+) -> u32
+    ensures { OnService live.old.cell.state result live.new.cell.state (told.new ≡ told.old)
+        (λ old new. (result ≡ is_ok) × ((new ≡ old) × Responds old (client_of client.now) told.new)) }
+{
+    let Some(mut service) = live.take(alloc) else {
+        return FREE;
+    };
+    *told = asking::is_responsive(&service, client);
+    live.put(service);
+    OK
+}
+
+/// The ids of the pointers of a device that a client holds; see `asking::holds`. `FREE` where the handle is free.
+#[unsafe(no_mangle)]
+pub extern "C" fn inputflinger_proved_live_holds(
+    alloc: Global,
+    live: &mut Service,
+    client: &PlainClient,
+    device: u8,
+    ids: &mut u32,
+) -> u32
+    ensures { OnService live.old.cell.state result live.new.cell.state (ids.new ≡ ids.old)
+        (λ old new. (new ≡ old) × Reads (device_of device) result (ids.new ≡ ids.old)
+        (λ d. (result ≡ is_ok) × Holds old (client_of client.now) d ids.new)) }
+{
+    let Some(mut service) = live.take(alloc) else {
+        return FREE;
+    };
+    let status = asking::holds(&service, client, device, ids);
+    live.put(service);
+    status
+}
+
+/// The greatest moment that was handed in, in microseconds. `FREE` where the handle is free.
+#[unsafe(no_mangle)]
+pub extern "C" fn inputflinger_proved_live_clock(
+    alloc: Global,
+    live: &mut Service,
+    moment_us: &mut u64,
+) -> u32
+    ensures { OnService live.old.cell.state result live.new.cell.state (moment_us.new ≡ moment_us.old)
+        (λ old new. (result ≡ is_ok) × ((new ≡ old) × IsClock old moment_us.new)) }
+{
+    let Some(mut service) = live.take(alloc) else {
+        return FREE;
+    };
+    *moment_us = asking::clock(&service);
+    live.put(service);
+    OK
+}

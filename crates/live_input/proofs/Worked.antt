@@ -1,0 +1,26 @@
+-- Two clients of one channel, one after the other: what the second one is told, by hand.
+use Rattle.std.proofs.Common.{◌≡◌, List, [], ◌∷◌, ◌++◌, reverse, Some, refl}
+use Rattle.input_types.specs.declared.motion.MotionAction.TheVariants.{Down, Up}
+use Rattle.window_snapshot.specs.declared.window.Window.{Window}
+use Rattle.dispatch_calls.specs.declared.call.Call.{Call}
+use Rattle.dispatch_calls.specs.declared.call.Call.TheVariants.{Open, Windows, Receive, Finish}
+use Rattle.dispatch_history.specs.Effect.{stream}
+use Rattle.dispatch_history.specs.Legal.{run}
+use Rattle.dispatch_history.proofs.Worked.{at, motion, moved, one_display, says, window}
+use Rattle.live_input.specs.Told.{told_since}
+
+abbrev shown : Window
+shown = window 1 0 0 0 1080 2400
+
+-- The first client is closed while a finger is down in its window. The second one is opened on the channel, the finger is lifted, and another
+-- one goes down.
+abbrev closed_under_a_finger : List Call
+closed_under_a_finger =
+    Open 5000000 ∷ Windows 0 (shown ∷ []) ∷ [] ++ moved 1000 Down 0 (at 0 540 1200 ∷ [])
+    ++ Windows 2000 [] ∷ Receive 1 ∷ Finish 2000 1 1 ∷ Receive 1 ∷ Finish 2000 1 2 ∷ Windows 3000 (shown ∷ []) ∷ []
+    ++ moved 4000 Up 0 (at 0 540 1200 ∷ []) ++ moved 5000 Down 0 (at 0 100 200 ∷ [])
+
+the_second_client_gets_its_own_finger_alone :
+    told_since (record { holder = Some 2; before = 2 }) (stream (run one_display (reverse closed_under_a_finger)) 1)
+    ≡ says 1 5000 (motion Down 0 (at 0 100 200 ∷ [])) ∷ []
+the_second_client_gets_its_own_finger_alone = refl

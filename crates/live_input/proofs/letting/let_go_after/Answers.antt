@@ -1,0 +1,21 @@
+-- What is let go is that of the call.
+use Rattle.std.proofs.Common.{◌≡◌, Some, sym, ◌∙◌, subst}
+use Rattle.live_input.specs.Letting.{IsLiveChannel, receives_from}
+use Rattle.live_input.proofs.LettingGo.{let_go_all, namings_go, no_tick, received_go}
+use Rattle.live_input.proofs.letting.let_go_after.Goals as goal
+
+pub returns-in-Some-clause-all : goal.returns-in-Some-clause-all
+returns-in-Some-clause-all c = λ es stands from but.
+    let is_from : receives_from c.args.call.now ≡ Some c.in-Some.channel = sym c.receives_from.ensures ∙ c.in-Some.is in
+    let lives = subst (λ o. IsLiveChannel o es) is_from from in
+    received_go _ _ c.in-Some.channel es c.args.dispatcher.now c.let_go.new.self is_from (no_tick c.args.call.now c.in-Some.channel is_from)
+    (c.let_go.ensures.live es stands lives.1 lives.2) c.let_go.ensures.others c.let_go.ensures.namings but
+
+pub returns-then-is_tick-clause-all : goal.returns-then-is_tick-clause-all
+returns-then-is_tick-clause-all c = λ es stands from but.
+    namings_go _ _ es c.args.dispatcher.now c.let_namings_go.new.self (sym c.receives_from.ensures ∙ c.in_default.is) c.let_namings_go.ensures.messages
+    (c.let_namings_go.ensures.gone es stands) but
+
+pub returns-else-is_tick-clause-all : goal.returns-else-is_tick-clause-all
+returns-else-is_tick-clause-all c = λ es stands from but.
+    let_go_all _ _ es c.args.dispatcher.now (sym c.receives_from.ensures ∙ c.in_default.is) (sym c.is_tick.ensures ∙ c.if-is_tick.false) but

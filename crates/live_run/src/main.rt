@@ -1,0 +1,91 @@
+//! A live service for as long as its input says.
+//!
+//! Each line of standard input is a run, and is answered by a line when it is done:
+//!
+//! ```text
+//! visits 2        two clients come and go, one after another, with 10,000 events each
+//! one 1000        1,000 rounds of one finger over one window
+//! ten 1000        1,000 rounds of ten fingers over five windows, two on each
+//! ```
+//!
+//! All visits are to one service, on which one client stays and never finishes a message. The rounds are to services of
+//! their own. A round is a packet of the panel, the message that it is for each window, and the finish of that.
+//!
+//! A line is read when the one before it is answered, so a script that waits for an answer finds the program as the run
+//! left it: it may read how much memory it has, and how much time it used.
+#![tactic(auto)]
+
+mod guests;
+mod rounds;
+mod service;
+
+use crate::guests::Guests;
+use std::alloc::{AllocError, Global};
+use std::io;
+
+/// The number of a line, behind its word.
+fn number(text: &str) -> u64 {
+    text.parse().unwrap_or(0)
+}
+
+/// How many messages some rounds gave, if no call was refused.
+fn taken(alloc: Global, word: &str, count: u64) -> Option<u64> {
+    match word {
+        "one" => rounds::one(alloc, count),
+        "ten" => rounds::ten(alloc, count),
+        _ => None,
+    }
+}
+
+/// Some rounds, and what they gave.
+fn rounded(alloc: Global, word: &str, count: u64) -> Result<String, AllocError> {
+    match taken(alloc, word, count) {
+        Some(taken) => format!(in alloc; "{word} {count}: {taken} messages"),
+        None => format!(in alloc; "{word} {count}: refused"),
+    }
+}
+
+/// What all visits up to now gave.
+fn told(alloc: Global, guests: &Guests) -> Result<String, AllocError> {
+    let events = guests.events();
+    format!(in alloc;
+        "{} in all, {events} events, {} messages finished, {} never, {} named",
+        guests.came, guests.finished, guests.kept, guests.named
+    )
+}
+
+/// Some visits, and what all up to now gave.
+fn visited(alloc: Global, guests: &mut Guests, count: u64) -> Result<String, AllocError> {
+    match guests.visits(count) {
+        Some(()) => {
+            let told = told(alloc, guests)?;
+            format!(in alloc; "visits {count}: {}", told.as_str())
+        }
+        None => format!(in alloc; "visits {count}: refused"),
+    }
+}
+
+/// A run, and its answer.
+fn answer(alloc: Global, guests: &mut Guests, line: &str) -> Result<String, AllocError> {
+    match line.split_once(' ') {
+        Some(("visits", count)) => visited(alloc, guests, number(count)),
+        Some((word, count)) => rounded(alloc, word, number(count)),
+        None => String::from_str(alloc, "not read"),
+    }
+}
+
+/// All runs, and their answers.
+fn run(rt: &HostRuntime, guests: &mut Guests) -> io::Result<()> {
+    for line in rt.lines(rt.alloc()) {
+        let answer = answer(rt.alloc(), guests, line?.as_str())?;
+        println!(rt; "{answer}")?;
+    }
+    Ok(())
+}
+
+fn main(rt: HostRuntime) -> io::Result<()> {
+    match Guests::new(rt.alloc()) {
+        Some(mut guests) => run(&rt, &mut guests),
+        None => println!(rt; "refused"),
+    }
+}

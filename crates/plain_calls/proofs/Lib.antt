@@ -1,0 +1,4 @@
+pub mod ReadPointers
+pub mod Written
+pub mod Reading
+pub mod ReadWindows

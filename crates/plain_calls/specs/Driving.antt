@@ -1,0 +1,98 @@
+-- What is due, and what devices give, as the service says it.
+use Rattle.std.specs.Prelude.{◌≡◌, ◌⊎◌, ◌==◌, ◌≤◌, ◌-◌, ℕ, ℤ, true, false, List, [], ◌∷◌, slice_set, Option, None, Result, Err, IfOk, OnOk, OnErr}
+use Rattle.std.specs.declared.alloc.AllocError.{AllocError}
+use Rattle.input_types.specs.declared.message.Args.{Args}
+use Rattle.input_types.specs.declared.message.Args.TheVariants.{Reset}
+use Rattle.input_types.specs.DeviceRule.{device_of}
+use Rattle.raw_events.specs.declared.event.RawEvent.{RawEvent}
+use Rattle.touch_mapper.specs.Cooking.{Cooking}
+use Rattle.key_layout.specs.Layout.{Codes}
+use Rattle.device_reader.specs.Cooked.{DevicePlan, Touches, Keys, args_of}
+use Rattle.device_table.specs.Table.{StandsAt, is_there, reader_of}
+use Rattle.dispatch_history.specs.Effect.{Effect}
+use Rattle.dispatcher.specs.Access.{next_repeat}
+use Rattle.live_input.specs.declared.refused.AddRefused.{AddRefused}
+use Rattle.live_input.specs.declared.refused.AddRefused.TheVariants.{BadSlots}
+use Rattle.live_input.specs.declared.refused.ArgsRefused.{ArgsRefused}
+use Rattle.live_input.specs.declared.refused.ArgsRefused.TheVariants.{NoDevice}
+use Rattle.live_input.specs.Advancing.{Advances, Advanced}
+use Rattle.live_input.specs.Answers.{SameSeats}
+use Rattle.live_input.specs.Giving.{Gives, HandedInPart, notified}
+use Rattle.live_input.specs.Plugging.{Adds, is_slots}
+use Rattle.live_input.specs.Settling.{sooner, timeout}
+use Rattle.live_input.specs.Standing.{LiveIs}
+use Rattle.live_input.specs.State.{LiveState}
+
+-- the first moment at which something is due
+abbrev pub IsDue : LiveState → Option ℕ → Type 0
+IsDue s r = (ds : List ℕ) (es : List Effect) → LiveIs ds es s → r ≡ sooner (timeout es) (next_repeat es)
+
+-- what is due up to a moment
+pub record CaughtUp (now : ℕ) (old new : LiveState) (r : Result ℕ AllocError) : Type 0 where
+  pub ok :
+      (ds : List ℕ) (es : List Effect) → LiveIs ds es old
+      → IfOk r (λ mask. Advanced ds now (notified ds now es old.pending) mask old new)
+  pub none : OnOk r (new.pending ≡ [])
+  pub err :
+      (ds : List ℕ) (es : List Effect) → LiveIs ds es old
+      → OnErr r (HandedInPart ds now es old.pending new ⊎ Advances ds now (notified ds now es old.pending) old new)
+  pub devices : new.devices ≡ old.devices
+  pub seats : SameSeats old new
+
+-- the other devices are as they were
+abbrev pub OthersStay : (device : ℕ) → (old new : LiveState) → Type 0
+OthersStay device old new = (d : ℕ) → 1 ≤ d → (d == device) ≡ false → reader_of new.devices d ≡ reader_of old.devices d
+
+-- an event of a device
+abbrev pub event : (now device kind code : ℕ) → ℤ → RawEvent
+event now device kind code value = record { device = device; moment = now; kind = kind; code = code; value = value }
+
+-- what an event of a device comes to
+pub record Happened (now device : ℕ) (e : RawEvent) (old new : LiveState) (r : Result (Unit {0}) ArgsRefused) : Type 0 where
+  pub none : is_there old.devices device ≡ false → (r ≡ Err NoDevice) × (new ≡ old)
+  pub after :
+      (ds : List ℕ) (es : List Effect) (plan : DevicePlan) (past : List RawEvent) → LiveIs ds es old
+      → StandsAt plan past device old.devices
+      → Gives ds now es (args_of plan past e) (StandsAt plan (e ∷ past) device new.devices) r old new
+  pub others : OthersStay device old new
+  pub seats : SameSeats old new
+  pub named : new.named ≡ old.named
+
+-- what args that are ready come to
+pub record HandedIn (now : ℕ) (args : Args) (old new : LiveState) (r : Result (Unit {0}) ArgsRefused) : Type 0 where
+  pub none : is_there old.devices (device_of args) ≡ false → (r ≡ Err NoDevice) × (new ≡ old)
+  pub after :
+      (ds : List ℕ) (es : List Effect) → LiveIs ds es old → is_there old.devices (device_of args) ≡ true
+      → Gives ds now es (args ∷ []) (new.devices ≡ old.devices) r old new
+  pub devices : new.devices ≡ old.devices
+  pub seats : SameSeats old new
+  pub named : new.named ≡ old.named
+
+-- what the removal of a device comes to
+pub record Removed (now device : ℕ) (old new : LiveState) (r : Result (Unit {0}) ArgsRefused) : Type 0 where
+  pub none : is_there old.devices device ≡ false → (r ≡ Err NoDevice) × (new ≡ old)
+  pub after :
+      (ds : List ℕ) (es : List Effect) → LiveIs ds es old → is_there old.devices device ≡ true
+      → Gives ds now es (Reset device ∷ []) (new.devices ≡ slice_set old.devices (device - 1) None) r old new
+  pub seats : SameSeats old new
+  pub named : new.named ≡ old.named
+
+-- devices that are there stay as they are, and nothing else changes
+pub record Beside (old new : LiveState) : Type 0 where
+  pub rest : new ≡ record old { devices = new.devices }
+  pub others : (d : ℕ) → 1 ≤ d → is_there old.devices d ≡ true → reader_of new.devices d ≡ reader_of old.devices d
+  pub stands : (ds : List ℕ) (es : List Effect) → LiveIs ds es old → LiveIs ds es new
+
+-- what a touch device that is plugged in comes to
+pub record TouchAdded (display slots : ℕ) (cook : Cooking) (old new : LiveState) (r : Result ℕ AddRefused) : Type 0 where
+  pub bad : is_slots slots ≡ false → r ≡ Err BadSlots
+  pub added :
+      is_slots slots ≡ true → Adds (λ d. Touches (record { device = d; slots = slots; cook = cook })) display r old new
+  pub beside : Beside old new
+  pub err : OnErr r (new ≡ old)
+
+-- what a device with keys that is plugged in comes to
+pub record KeysAdded (display : ℕ) (layout : Codes) (old new : LiveState) (r : Result ℕ AddRefused) : Type 0 where
+  pub added : Adds (λ d. Keys (record { device = d; layout = layout })) display r old new
+  pub beside : Beside old new
+  pub err : OnErr r (new ≡ old)

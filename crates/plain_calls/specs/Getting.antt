@@ -1,0 +1,56 @@
+-- What clients get, and what they are done with, as the service says it.
+use Rattle.std.specs.Prelude.{◌≡◌, ◌&&◌, ℕ, true, false, List, Option, None, Result, Ok, Err, IfOk, OnOk, OnErr, is_some}
+use Rattle.std.specs.declared.alloc.AllocError.{AllocError}
+use Rattle.input_types.specs.declared.message.Message.{Message}
+use Rattle.window_snapshot.specs.Mask.{mask_has, is_channel}
+use Rattle.dispatch_calls.specs.declared.call.Call.TheVariants.{Receive, Finish, Pilfer}
+use Rattle.dispatch_history.specs.Effect.{Effect}
+use Rattle.dispatch_history.specs.Legal.{answered}
+use Rattle.dispatch_history.specs.Reply.{reply_to}
+use Rattle.dispatcher.specs.Access.{got}
+use Rattle.live_input.specs.declared.client.Client.{Client}
+use Rattle.live_input.specs.declared.refused.FinishRefused.{FinishRefused}
+use Rattle.live_input.specs.declared.refused.FinishRefused.TheVariants as finish
+use Rattle.live_input.specs.declared.refused.PilferRefused.{PilferRefused}
+use Rattle.live_input.specs.declared.refused.PilferRefused.TheVariants as pilfer
+use Rattle.live_input.specs.Answers.{SameClients, Finishes, Pilfers, handed}
+use Rattle.live_input.specs.Seats.{is_open, seat_of, number_of}
+use Rattle.live_input.specs.Standing.{LiveIs}
+use Rattle.live_input.specs.State.{LiveState}
+
+-- what the next message of a client comes to
+pub record Received (client : Client) (old new : LiveState) (r : Result (Option Message) AllocError) : Type 0 where
+  pub stale : is_open old.seats client ≡ false → (r ≡ Ok None) × (new ≡ old)
+  pub message :
+      (ds : List ℕ) (es : List Effect) → LiveIs ds es old → is_open old.seats client ≡ true
+      → IfOk r (λ m. m ≡ handed (seat_of old.seats client.channel) (got (reply_to es (Receive client.channel))))
+  pub after :
+      (ds : List ℕ) (es : List Effect) → LiveIs ds es old → is_open old.seats client ≡ true
+      → OnOk r (LiveIs ds (answered ds (Receive client.channel) es) new)
+  pub clients : SameClients old new
+  pub named : new.named ≡ old.named
+  pub err : OnErr r (new ≡ old)
+
+-- what it comes to that a client is done with a message
+pub record Finished (now : ℕ) (client : Client) (seq : ℕ) (old new : LiveState) (r : Result (Unit {0}) FinishRefused) : Type 0 where
+  pub stale : is_open old.seats client ≡ false → (r ≡ Err finish.NotOpen) × (new ≡ old)
+  pub after :
+      (ds : List ℕ) (es : List Effect) → LiveIs ds es old → is_open old.seats client ≡ true
+      → Finishes ds es (Finish now client.channel (number_of (seat_of old.seats client.channel) seq)) r old new
+  pub clients : SameClients old new
+  pub named : new.named ≡ old.named
+
+-- what a pilfer comes to
+pub record Pilfered (now : ℕ) (client : Client) (device : ℕ) (old new : LiveState) (r : Result (Unit {0}) PilferRefused) : Type 0 where
+  pub stale : is_open old.seats client ≡ false → (r ≡ Err pilfer.NotOpen) × (new ≡ old)
+  pub after :
+      (ds : List ℕ) (es : List Effect) → LiveIs ds es old → is_open old.seats client ≡ true
+      → Pilfers ds es (Pilfer now client.channel device) r old new
+  pub clients : SameClients old new
+  pub named : new.named ≡ old.named
+
+-- a mask of the channels that have a message for their client
+abbrev pub AreWaiting : LiveState → ℕ → Type 0
+AreWaiting s mask =
+    (ds : List ℕ) (es : List Effect) → LiveIs ds es s → (c : ℕ)
+    → mask_has mask c ≡ (is_channel c && is_some (got (reply_to es (Receive c))))

@@ -1,0 +1,15 @@
+pub mod Status
+pub mod Numbers
+pub mod Plain
+pub mod Told
+pub mod Calling
+pub mod Clients
+pub mod Replies
+pub mod Coming
+pub mod Getting
+pub mod Driving
+pub mod Plugging
+pub mod Screens
+pub mod Windows
+pub mod Showing
+pub mod Asking

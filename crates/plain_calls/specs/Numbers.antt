@@ -1,0 +1,23 @@
+-- Numbers as C hands them in and gets them.
+use Rattle.std.specs.Prelude.{ℕ, ◌^◌, ◌&&◌, nat_le, Bool, Option, Some, None, if◌then◌else◌}
+use Rattle.gesture_verifier.specs.Told.{is_device}
+
+-- a moment in microseconds: at most 10^18
+abbrev pub moment_of : ℕ → Option ℕ
+moment_of us = if nat_le us (10 ^ 18) then Some us else None
+
+-- the number of a device: 1 to 8
+abbrev pub device_of : ℕ → Option ℕ
+device_of n = if is_device n then Some n else None
+
+-- the number of a display: 0 to 3
+abbrev pub display_of : ℕ → Option ℕ
+display_of n = if nat_le n 3 then Some n else None
+
+-- how long a client may leave a message unfinished, in microseconds: a millisecond to ten minutes
+abbrev pub limit_of : ℕ → Option ℕ
+limit_of us = if nat_le 1000 us && nat_le us 600000000 then Some us else None
+
+-- 1 for what is so, and 0 for what is not
+abbrev pub flag : Bool → ℕ
+flag b = if b then 1 else 0

@@ -1,0 +1,79 @@
+-- Messages as C gets them.
+use Rattle.std.specs.Prelude.{ℕ, pos, List, ◌++◌, map, drop, length, replicate}
+use Rattle.input_types.specs.Action.{action_number}
+use Rattle.input_types.specs.declared.key.KeyMsg.{KeyMsg}
+use Rattle.input_types.specs.declared.message.Body.{Body}
+use Rattle.input_types.specs.declared.message.Body.TheVariants.{Motion as MotionBody, Key, Focus}
+use Rattle.input_types.specs.declared.message.Message.{Message}
+use Rattle.input_types.specs.declared.motion.Motion.{Motion}
+use Rattle.input_types.specs.declared.pointer.Pointer.{Pointer}
+use Rattle.plain_calls.specs.Numbers.{flag}
+use Rattle.plain_calls.specs.declared.message.PlainMessage.{PlainMessage}
+use Rattle.plain_calls.specs.declared.message.PlainPointer.{PlainPointer}
+
+-- a pointer by its numbers
+abbrev pub plain_pointer : Pointer → PlainPointer
+plain_pointer p = record { x = p.at.x; y = p.at.y; id = p.id }
+
+-- a place that no pointer has
+abbrev pub no_pointer : PlainPointer
+no_pointer = record { x = pos 0; y = pos 0; id = 0 }
+
+-- sixteen places with the pointers in front
+abbrev pub places_of : List Pointer → List PlainPointer
+places_of ps = map plain_pointer ps ++ drop (length ps) (replicate 16 no_pointer)
+
+-- a message of which only its number and its moment are told so far
+abbrev pub numbered : (seq moment : ℕ) → PlainMessage
+numbered seq moment = record {
+  seq = seq;
+  moment_us = moment;
+  kind = 0;
+  flags = 0;
+  meta = 0;
+  repeat = 0;
+  scan = 0;
+  code = 0;
+  device = 0;
+  action = 0;
+  index = 0;
+  count = 0;
+  down = 0;
+  focus = 0;
+  pointers = replicate 16 no_pointer;
+}
+
+-- a message with this motion
+abbrev pub with_motion : Motion → PlainMessage → PlainMessage
+with_motion m p = record p {
+  kind = 0;
+  flags = m.flags;
+  device = m.device;
+  action = action_number m.action;
+  index = m.index;
+  count = length m.pointers;
+  pointers = places_of m.pointers;
+}
+
+-- a message with this key
+abbrev pub with_key : KeyMsg → PlainMessage → PlainMessage
+with_key k p = record p {
+  kind = 1;
+  flags = k.flags;
+  meta = k.key.meta;
+  repeat = k.repeat;
+  scan = k.key.scan;
+  code = k.key.code;
+  device = k.key.device;
+  down = flag k.key.down;
+}
+
+-- a message that says this; the numbers that its kind does not have are 0
+abbrev pub with_body : Body → PlainMessage → PlainMessage
+with_body (MotionBody m) p = with_motion m p
+with_body (Key k) p = with_key k p
+with_body (Focus has) p = record p { kind = 2; focus = flag has }
+
+-- a message by its numbers
+abbrev pub plain_message : Message → PlainMessage
+plain_message m = with_body m.body (numbered m.seq m.moment)

@@ -1,0 +1,53 @@
+-- Windows as C hands them in.
+use Rattle.std.specs.Prelude.{◌≡◌, ℕ, nat_le, List, [], ◌∷◌, map, take, drop, length, Option, Some, None, Result, Ok, Err, if◌then◌else◌}
+use Rattle.std.specs.declared.alloc.Global.{Global}
+use Rattle.std.specs.declared.vec.Vec.{Vec}
+use Rattle.std.specs.Option.{option_map, option_and_then}
+use Rattle.touch_region.specs.declared.rectangle.Rect.{Rect}
+use Rattle.touch_region.specs.Region.{region_of}
+use Rattle.live_input.specs.declared.windows.ClientWindow.{ClientWindow}
+use Rattle.plain_calls.specs.Calling.{ok_of}
+use Rattle.plain_calls.specs.Clients.{client_of}
+use Rattle.plain_calls.specs.Numbers.{display_of}
+use Rattle.plain_calls.specs.declared.windows.PlainRect.{PlainRect}
+use Rattle.plain_calls.specs.declared.windows.PlainWindow.{PlainWindow}
+use Rattle.plain_calls.specs.declared.windows.Unread.{Unread}
+use Rattle.plain_calls.specs.declared.windows.Unread.TheVariants.{Range, Memory}
+
+-- a rectangle by its edges
+abbrev pub rect_of : PlainRect → Rect
+rect_of r = record { left = r.left; top = r.top; right = r.right; bottom = r.bottom }
+
+-- the region of rectangles, where they make one: at most 64, each with its edges in order
+abbrev pub region_from : List PlainRect → Option (List Rect)
+region_from rects = ok_of (region_of (map rect_of rects))
+
+-- a window with this region
+abbrev pub window_with : PlainWindow → (display : ℕ) → (region : List Rect) → ClientWindow
+window_with w y region =
+    record { client = client_of w.client; display = y; frame = rect_of w.frame; region = region; flags = record { bits = w.flags } }
+
+-- a window whose display is one, and whose rectangles make a region
+abbrev pub window_from : PlainWindow → List PlainRect → Option ClientWindow
+window_from w rects = option_and_then (λ y. option_map (window_with w y) (region_from rects)) (display_of w.display)
+
+-- The windows, front to back. Each has as many rectangles as it says, which stand behind those of the windows before it; what is left of them is
+-- not looked at.
+abbrev pub windows_from : List PlainWindow → List PlainRect → Option (List ClientWindow)
+windows_from [] rects = Some []
+windows_from (w ∷ ws) rects =
+    if nat_le w.rects (length rects)
+    then option_and_then (λ v. option_map (λ vs. v ∷ vs) (windows_from ws (drop w.rects rects))) (window_from w (take w.rects rects))
+    else None
+
+-- What was read is what the numbers say, or nothing where one is out of its range. Want of memory is free.
+abbrev pub IsRead : {A : Type 0} → Result A Unread → Option A → Type 0
+IsRead (Ok a) due = due ≡ Some a
+IsRead (Err Range) due = due ≡ None
+IsRead (Err Memory) due = Unit {0}
+
+-- the same of a list that was read into memory
+abbrev pub AreRead : {A : Type 0} → Result (Vec A Global) Unread → Option (List A) → Type 0
+AreRead (Ok read) due = due ≡ Some read.items
+AreRead (Err Range) due = due ≡ None
+AreRead (Err Memory) due = Unit {0}

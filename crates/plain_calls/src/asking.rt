@@ -1,0 +1,86 @@
+//! What can be asked of clients.
+ghost use Rattle.std.specs.Prelude.{◌≡◌};
+ghost use Rattle.live_input.specs.Seats.{is_open};
+ghost use Rattle.plain_calls.specs.Asking.{client_on, TellsClient, HasFocus, GetsKeys, Responds, Holds, IsClock};
+ghost use Rattle.plain_calls.specs.Calling.{Reads, Replies, told_status, written};
+ghost use Rattle.plain_calls.specs.Clients.{client_of, plain_client};
+ghost use Rattle.plain_calls.specs.Numbers.{device_of, display_of, flag};
+ghost use Rattle.plain_calls.specs.Status.{is_ok};
+
+use crate::client::{PlainClient, plain_client};
+use crate::numbers::{device_of, display_of, flag};
+use crate::status::{NOTHING, OK, RANGE};
+use live_input::{Client, Live};
+
+/// A client is told where there is one. `NOTHING` where there is none; `client` then stays as it was.
+fn tell(found: Option<Client>, client: &mut PlainClient) -> u32
+    ensures { TellsClient result found client.old client.new }
+{
+    match found {
+        Some(found) => {
+            *client = plain_client(found);
+            OK
+        }
+        None => NOTHING,
+    }
+}
+
+/// Whether a client is open: 1 or 0.
+pub fn is_open(live: &Live, client: &PlainClient) -> u8
+    ensures { result ≡ flag (is_open live.now.seats (client_of client.now)) }
+{
+    flag(live.is_open(client.read()))
+}
+
+/// The client that is open on a channel. `NOTHING` where none is.
+pub fn client_at(live: &Live, channel: u32, client: &mut PlainClient) -> u32
+    ensures { TellsClient result (client_on live.now channel) client.old client.new }
+{
+    tell(live.client_at(channel), client)
+}
+
+/// The client that has the focus of a display. `NOTHING` where none has.
+pub fn focused(live: &Live, display: u8, client: &mut PlainClient) -> u32
+    ensures { Reads (display_of display) result (client.new ≡ client.old)
+        (λ y. Replies told_status result
+        (λ r. HasFocus live.now y r × (client.new ≡ written plain_client r client.old))) }
+{
+    let Some(display) = display_of(display) else {
+        return RANGE;
+    };
+    tell(live.focused(display), client)
+}
+
+/// The client that keys go to. `NOTHING` where there is none.
+pub fn key_target(live: &Live, client: &mut PlainClient) -> u32
+    ensures { Replies told_status result
+        (λ r. GetsKeys live.now r × (client.new ≡ written plain_client r client.old)) }
+{
+    tell(live.key_target(), client)
+}
+
+/// Whether a client is open and responds: 1 or 0.
+pub fn is_responsive(live: &Live, client: &PlainClient) -> u8
+    ensures { Responds live.now (client_of client.now) result }
+{
+    flag(live.is_responsive(client.read()))
+}
+
+/// The ids of the pointers of a device that a client holds, as bits.
+pub fn holds(live: &Live, client: &PlainClient, device: u8, ids: &mut u32) -> u32
+    ensures { Reads (device_of device) result (ids.new ≡ ids.old)
+        (λ d. (result ≡ is_ok) × Holds live.now (client_of client.now) d ids.new) }
+{
+    let Some(device) = device_of(device) else {
+        return RANGE;
+    };
+    *ids = live.holds(client.read(), device).bits();
+    OK
+}
+
+/// The greatest moment that was handed in, in microseconds.
+pub fn clock(live: &Live) -> u64
+    ensures { IsClock live.now result }
+{
+    live.clock().get()
+}

@@ -1,0 +1,38 @@
+//! The live service in plain numbers, as programs in C call it.
+//!
+//! A program in C hands in numbers and structs of numbers, and gets a status and such structs. Each call here reads the
+//! numbers, makes one call of `live_input`, and answers the status of its reply, one for each refusal:
+//!
+//! ```text
+//! coming::open                                              0, and the client is generation 1, channel 1
+//! showing::windows  one of generation 1, channel 1          0
+//! driving::args     motion 1 DOWN 0:540,1200                14, NO_DEVICE: no device 1 is plugged in
+//! plugging::add_touch  display 4                            4, RANGE: displays are 0 to 3
+//! getting::finish   1, of generation 7, channel 1           8, NOT_OPEN
+//! ```
+//!
+//! A number that is out of its range is told before anything changes (`Reads` of specs/Calling). A clause says what the
+//! reply behind the status is, and that all holds of it that `live_input` says of its call (`Replies`).
+#![tactic(auto)]
+
+pub mod asking;
+mod client;
+pub mod coming;
+pub mod driving;
+pub mod getting;
+mod message;
+mod numbers;
+pub mod plugging;
+mod pointers;
+mod replies;
+mod screens;
+pub mod showing;
+pub mod status;
+mod told;
+mod windows;
+
+pub use client::PlainClient;
+pub use message::{PlainMessage, PlainPointer};
+pub use numbers::{flag, limit_of};
+pub use screens::PlainDisplays;
+pub use windows::{PlainRect, PlainWindow};

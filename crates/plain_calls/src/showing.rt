@@ -1,0 +1,79 @@
+//! Windows, and the focus.
+ghost use Rattle.std.specs.Prelude.{◌≡◌, nat_eq, Some};
+ghost use Rattle.plain_calls.specs.Calling.{Reads, Replies};
+ghost use Rattle.plain_calls.specs.Clients.{maybe_client};
+ghost use Rattle.plain_calls.specs.Numbers.{display_of, moment_of};
+ghost use Rattle.plain_calls.specs.Replies.{focus_status};
+ghost use Rattle.plain_calls.specs.Showing.{Asked, NothingShown, ShowsRead};
+ghost use Rattle.plain_calls.specs.Status.{no_memory};
+ghost use Rattle.plain_calls.specs.Windows.{windows_from};
+
+use crate::client::PlainClient;
+use crate::numbers::{display_of, moment_of};
+use crate::replies::focus_status;
+use crate::status::{MEMORY, NOT_OPEN, OK, RANGE, TOO_MANY, TWICE};
+use crate::windows::{PlainRect, PlainWindow, Unread, read_windows};
+use input_types::Moment;
+use live_input::{ClientWindow, Live, WindowsRefused};
+use std::alloc::Global;
+
+/// The windows are these from now on, front to back. `NOT_OPEN` where the client of one is not open, `named` is its
+/// place then; `TOO_MANY` for more than 64; `TWICE` where a client has two, `named` is its channel then; `MEMORY` for
+/// want of memory. Nothing changes then.
+pub fn windows(
+    alloc: Global,
+    live: &mut Live,
+    now_us: u64,
+    rows: &[PlainWindow],
+    rects: &[PlainRect],
+    named: &mut u64,
+) -> u32
+    ensures { Reads (moment_of now_us) result (NothingShown live.old live.new named.old named.new)
+        (λ now. ShowsRead (nat_eq result no_memory) (windows_from rows.now rects.now) result now live.old live.new
+        named.old named.new) }
+{
+    let Some(now) = moment_of(now_us) else {
+        return RANGE;
+    };
+    match read_windows(alloc, rows, rects) {
+        Ok(windows) => show(live, now, windows, named),
+        Err(Unread::Range) => RANGE,
+        Err(Unread::Memory) => MEMORY,
+    }
+}
+
+/// The windows are shown.
+fn show(live: &mut Live, now: Moment, windows: Vec<ClientWindow>, named: &mut u64) -> u32
+    ensures { ShowsRead (nat_eq result no_memory) (Some windows.items) result now live.old live.new
+        named.old named.new }
+{
+    match live.windows(now, windows) {
+        Ok(()) => OK,
+        Err(WindowsRefused::NotOpen { place }) => {
+            *named = place as u64;
+            NOT_OPEN
+        }
+        Err(WindowsRefused::TooMany) => TOO_MANY,
+        Err(WindowsRefused::Twice { channel }) => {
+            *named = u64::from(channel);
+            TWICE
+        }
+        Err(WindowsRefused::Memory) => MEMORY,
+    }
+}
+
+/// The focus of a display is requested for a client, or for none where the channel is 0. `NOT_OPEN` where the client is
+/// not open, and `MEMORY` for want of memory. Nothing changes then.
+pub fn focus(live: &mut Live, now_us: u64, display: u8, client: &PlainClient) -> u32
+    ensures { Reads (moment_of now_us) result (live.new ≡ live.old)
+        (λ now. Reads (display_of display) result (live.new ≡ live.old)
+        (λ y. Replies focus_status result (Asked now y (maybe_client client.now) live.old live.new))) }
+{
+    let Some(now) = moment_of(now_us) else {
+        return RANGE;
+    };
+    let Some(display) = display_of(display) else {
+        return RANGE;
+    };
+    focus_status(live.focus(now, display, client.read_if_any()))
+}

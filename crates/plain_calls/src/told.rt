@@ -1,0 +1,104 @@
+//! Messages as C gets them.
+ghost use Rattle.std.specs.Prelude.{◌≡◌, ◌≤◌, ◌++◌, map, drop, length};
+ghost use Rattle.plain_calls.specs.Told.{plain_pointer, numbered, with_motion, with_key, with_body, plain_message};
+
+use crate::message::{PlainMessage, PlainPointer};
+use crate::numbers::flag;
+use input_types::{Body, KeyMsg, Message, Moment, Motion, Pointer};
+
+const NO_POINTER: PlainPointer = PlainPointer { x: 0, y: 0, id: 0 };
+
+impl PlainMessage {
+    /// A message by its numbers; those that its kind does not have are 0.
+    pub(crate) fn of(message: &Message) -> PlainMessage
+        ensures { result ≡ plain_message message.now }
+    {
+        let mut plain = PlainMessage::numbered(message.seq, message.moment);
+        plain.tell(&message.body);
+        plain
+    }
+
+    /// A message of which only its number and its moment are told so far.
+    fn numbered(seq: u64, moment: Moment) -> PlainMessage
+        ensures { result ≡ numbered seq moment }
+    {
+        PlainMessage {
+            seq,
+            moment_us: moment.get(),
+            kind: 0,
+            flags: 0,
+            meta: 0,
+            repeat: 0,
+            scan: 0,
+            code: 0,
+            device: 0,
+            action: 0,
+            index: 0,
+            count: 0,
+            down: 0,
+            focus: 0,
+            pointers: [NO_POINTER; 16],
+        }
+    }
+
+    /// What the message says is told too.
+    fn tell(&mut self, body: &Body)
+        ensures { self.new ≡ with_body body.now self.old }
+    {
+        match body {
+            Body::Motion(motion) => self.tell_motion(motion),
+            Body::Key(key) => self.tell_key(key),
+            Body::Focus(has) => {
+                self.kind = 2;
+                self.focus = flag(*has);
+            }
+        }
+    }
+
+    fn tell_motion(&mut self, motion: &Motion)
+        ensures { self.new ≡ with_motion motion.now self.old }
+    {
+        self.kind = 0;
+        self.flags = motion.flags;
+        self.device = motion.device.get();
+        self.action = motion.action.number();
+        self.index = motion.index;
+        self.count = motion.pointers.len() as u8;
+        self.pointers = [NO_POINTER; 16];
+        write_pointers(&mut self.pointers, motion.pointers.as_slice());
+    }
+
+    fn tell_key(&mut self, told: &KeyMsg)
+        ensures { self.new ≡ with_key told.now self.old }
+    {
+        self.kind = 1;
+        self.flags = told.flags;
+        self.meta = told.key.meta;
+        self.repeat = told.repeat;
+        self.scan = told.key.scan;
+        self.code = told.key.code;
+        self.device = told.key.device.get();
+        self.down = flag(told.key.down);
+    }
+}
+
+/// A pointer by its numbers.
+fn plain_pointer(pointer: &Pointer) -> PlainPointer
+    ensures { result ≡ plain_pointer pointer.now }
+{
+    PlainPointer {
+        x: pointer.at.x,
+        y: pointer.at.y,
+        id: u32::from(pointer.id.get()),
+    }
+}
+
+/// Writes pointers to the places at the front.
+fn write_pointers(places: &mut [PlainPointer; 16], pointers: &[Pointer])
+    requires { length pointers.now ≤ 16 }
+    ensures { places.new ≡ map plain_pointer pointers.now ++ drop (length pointers.now) places.old }
+{
+    for i in 0..pointers.len() {
+        places[i] = plain_pointer(&pointers[i]);
+    }
+}

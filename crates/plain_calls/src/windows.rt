@@ -1,0 +1,141 @@
+//! Windows as C hands them in.
+ghost use Rattle.std.specs.Prelude.{◌≡◌, map, IfOk};
+ghost use Rattle.plain_calls.specs.Windows.{rect_of, region_from, window_with, window_from, windows_from, AreRead, IsRead};
+ghost use Rattle.plain_calls.specs.declared.windows.Unread.TheVariants.{Memory};
+
+use crate::client::PlainClient;
+use crate::numbers::display_of;
+use input_types::DisplayId;
+use live_input::ClientWindow;
+use std::alloc::{AllocError, AllocFailed, Global};
+use touch_region::{Rect, Region, RegionError};
+
+/// A rectangle of display pixels: `struct inputflinger_rect`. It has the points with `left <= x < right` and
+/// `top <= y < bottom`.
+#[repr(C)]
+#[derive(Clone, Copy, Debug)]
+pub struct PlainRect {
+    pub left: i32,
+    pub top: i32,
+    pub right: i32,
+    pub bottom: i32,
+}
+
+/// A window of a client: `struct inputflinger_window`.
+#[repr(C)]
+#[derive(Clone, Copy, Debug)]
+pub struct PlainWindow {
+    pub client: PlainClient,
+    /// Its left and top edges are the origin of what the client is told.
+    pub frame: PlainRect,
+    /// As `WindowFlags` has them.
+    pub flags: u32,
+    /// How many of the rectangles that are handed in beside the windows are those in which it can be touched.
+    pub rects: u32,
+    /// 0 to 3.
+    pub display: u8,
+}
+
+/// Why windows were not read.
+#[derive(Clone, Copy, Debug, PartialEq, Eq)]
+pub(crate) enum Unread {
+    /// A number is out of its range.
+    Range,
+    /// Want of memory.
+    Memory,
+}
+
+impl From<AllocError> for Unread {
+    ghost from_gives = { λ _ e. e ≡ Memory };
+
+    fn from(_error: AllocError) -> Unread {
+        Unread::Memory
+    }
+}
+
+impl<T: Drop> From<AllocFailed<T>> for Unread {
+    ghost from_gives = { λ _ e. e ≡ Memory };
+
+    fn from(_error: AllocFailed<T>) -> Unread {
+        Unread::Memory
+    }
+}
+
+/// A rectangle by its edges.
+fn rect_of(rect: &PlainRect) -> Rect
+    ensures { result ≡ rect_of rect.now }
+{
+    Rect {
+        left: rect.left,
+        top: rect.top,
+        right: rect.right,
+        bottom: rect.bottom,
+    }
+}
+
+/// The rectangles by their edges.
+fn rects_of(alloc: Global, rects: &[PlainRect]) -> Result<Vec<Rect>, AllocError>
+    ensures { IfOk result (λ read. read.items ≡ map rect_of rects.now) }
+{
+    rects.iter().map(rect_of).collect(alloc)
+}
+
+/// The region of rectangles: at most 64, each with its edges in order.
+fn region_from(alloc: Global, rects: &[PlainRect]) -> Result<Region, Unread>
+    ensures { IsRead result (region_from rects.now) }
+{
+    match Region::new(rects_of(alloc, rects)?) {
+        Ok(region) => Ok(region),
+        Err(RegionError::Memory) => Err(Unread::Memory),
+        Err(_) => Err(Unread::Range),
+    }
+}
+
+impl PlainWindow {
+    /// The window on a display, with this region.
+    fn with(&self, display: DisplayId, region: Region) -> ClientWindow
+        ensures { result ≡ window_with self.now display region }
+    {
+        ClientWindow {
+            client: self.client.read(),
+            display,
+            frame: rect_of(&self.frame),
+            region,
+            flags: bitflags::Flags::from_bits_retain(self.flags),
+        }
+    }
+
+    /// The window, whose rectangles are these.
+    fn read(&self, alloc: Global, rects: &[PlainRect]) -> Result<ClientWindow, Unread>
+        ensures { IsRead result (window_from self.now rects.now) }
+    {
+        let Some(display) = display_of(self.display) else {
+            return Err(Unread::Range);
+        };
+        match region_from(alloc, rects) {
+            Ok(region) => Ok(self.with(display, region)),
+            Err(error) => Err(error),
+        }
+    }
+}
+
+/// The windows, front to back. Each has as many of the rectangles as it says, behind those of the windows before it.
+pub(crate) fn read_windows(
+    alloc: Global,
+    rows: &[PlainWindow],
+    rects: &[PlainRect],
+) -> Result<Vec<ClientWindow>, Unread>
+    ensures { AreRead result (windows_from rows.now rects.now) }
+{
+    let mut windows = Vec::new(alloc);
+    let mut rest = rects;
+    for row in rows {
+        let count = row.rects as usize;
+        if rest.len() < count {
+            return Err(Unread::Range);
+        }
+        windows.push(row.read(alloc, rest.split_at(count).0)?)?;
+        rest = rest.split_at(count).1;
+    }
+    Ok(windows)
+}

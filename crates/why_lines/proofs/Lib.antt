@@ -1,0 +1,15 @@
+pub mod AllLost
+pub mod Changing
+pub mod Coming
+pub mod Finishing
+pub mod Growing
+pub mod KeyHolders
+pub mod Keyed
+pub mod Motioned
+pub mod OneChannel
+pub mod Pilfering
+pub mod Pumping
+pub mod Still
+pub mod Targets
+pub mod Told
+pub mod Worked

@@ -1,0 +1,27 @@
+use Rattle.std.proofs.Common.{◌≡◌, max, [], refl, ap, ap₂, ◌∙◌}
+use Rattle.dispatch_calls.specs.declared.call.Call.TheVariants.{Open}
+use Rattle.dispatch_history.specs.Effect.{past_of}
+use Rattle.dispatch_history.specs.Effects.{step}
+use Rattle.dispatch_history.specs.History.{clock}
+use Rattle.why_text.specs.Text.{focus_words}
+use Rattle.why_lines.specs.Growing.{with_lines}
+use Rattle.why_lines.proofs.Growing.{no_line}
+use Rattle.why_lines.proofs.Told.{from_if, tells_moved}
+use Rattle.why_lines.proofs.steps.open.Goals as goal
+
+pub returns : goal.returns
+returns c es st =
+    let ds = c.args.dispatcher.now.displays in
+    let call = Open c.args.limit in
+    let text = c.args.text.now.items in
+    let t = c.later-clock.result in
+    let later = c.apply_unread.new.self in
+    let at : t ≡ max 0 (clock (past_of es)) = c.later-clock.ensures ∙ ap₂ max c.zero.ensures (c.clock.ensures es st) in
+    let p = c.in_ok-apply_unread.ensures.after es st in
+    let fs = step ds call p.0 es in
+    from_if c.add_changes.result _ _
+    (c.add_changes.ensures (past_of es) (past_of fs) (c.all_focused-before.ensures es st) (c.all_focused-after.ensures fs p.1))
+    (λ grown.
+    tells_moved ds call es p.0 later t [] text c.add_changes.new.text.items p.1 c.in_ok-apply_unread.ensures.displays at
+    (grown ∙ ap (with_lines t (focus_words (past_of es) (past_of fs))) (no_line t text))
+    (λ a. refl))

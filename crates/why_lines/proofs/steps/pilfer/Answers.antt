@@ -1,0 +1,27 @@
+use Rattle.std.proofs.Common.{◌≡◌, max, [], ◌∷◌, refl, sym, ap, ◌∙◌}
+use Rattle.dispatch_calls.specs.declared.call.Call.TheVariants.{Pilfer}
+use Rattle.dispatch_history.specs.Effect.{past_of}
+use Rattle.dispatch_history.specs.History.{clock}
+use Rattle.dispatch_history.specs.Reply.{pilfer_reply}
+use Rattle.dispatch_history.specs.Step.{scene}
+use Rattle.why_text.specs.Lines.{pilfer_words}
+use Rattle.why_lines.proofs.Growing.{one_line}
+use Rattle.why_lines.proofs.Told.{on_ok, tells}
+use Rattle.why_lines.proofs.steps.pilfer.Goals as goal
+
+pub returns : goal.returns
+returns c es st =
+    let ds = c.args.dispatcher.now.displays in
+    let now = c.args.now in
+    let w = c.args.channel in
+    let d = c.args.device in
+    let words = pilfer_words (pilfer_reply es w d) (scene ds es) w d in
+    let at : c.later-clock.result ≡ max now (clock (past_of es)) = c.later-clock.ensures ∙ ap (max now) (c.clock.ensures es st) in
+    on_ok c.apply_unread.result _ _ (c.apply_unread.ensures.after es st)
+    (λ p.
+    tells ds (Pilfer now w d) es p.0 c.apply_unread.new.self c.later-clock.result (words ∷ []) c.args.text.now.items c.add_pilfer.new.text.items p.1
+    c.apply_unread.ensures.displays
+    at
+    refl
+    (c.in_ok-add_pilfer.ensures es st ∙ one_line c.later-clock.result words c.args.text.now.items)
+    (λ a. ap (λ r. pilfer_words r (scene ds es) w d ∷ []) (sym a)))

@@ -1,0 +1,21 @@
+use Rattle.std.proofs.Common.{◌≡◌, max, refl, sym, ap, ◌∙◌}
+use Rattle.dispatch_calls.specs.declared.call.Call.TheVariants.{Pump}
+use Rattle.dispatch_history.specs.Effect.{past_of}
+use Rattle.dispatch_history.specs.History.{clock}
+use Rattle.why_lines.specs.Pumping.{pump_words}
+use Rattle.why_lines.proofs.Told.{answered_words, on_ok, tells}
+use Rattle.why_lines.proofs.steps.pump.Goals as goal
+
+pub returns : goal.returns
+returns c es st =
+    let ds = c.args.dispatcher.now.displays in
+    let now = c.args.now in
+    let at : c.later-clock.result ≡ max now (clock (past_of es)) = c.later-clock.ensures ∙ ap (max now) (c.clock.ensures es st) in
+    on_ok c.apply_unread.result _ _ (c.apply_unread.ensures.after es st)
+    (λ p.
+    tells ds (Pump now) es p.0 c.apply_unread.new.self c.later-clock.result (pump_words ds now es) c.args.text.now.items c.add_pump.new.text.items p.1
+    c.apply_unread.ensures.displays
+    at
+    refl
+    (c.in_ok-add_pump.ensures es now st at)
+    (λ a. ap (answered_words ds (Pump now) es) (sym a)))

@@ -1,0 +1,38 @@
+use Rattle.std.proofs.Common.{◌≡◌, max, [], ◌∷◌, sym, ap, ◌∙◌}
+use Rattle.dispatch_calls.specs.declared.call.Call.TheVariants.{Remove}
+use Rattle.dispatch_history.specs.Effect.{past_of}
+use Rattle.dispatch_history.specs.Effects.{effect_of, step}
+use Rattle.dispatch_history.specs.History.{clock}
+use Rattle.dispatch_history.specs.Queue.{args_of, inbound}
+use Rattle.dispatch_history.specs.Reply.{reply_to}
+use Rattle.why_text.specs.Lines.{removed_words}
+use Rattle.why_text.specs.Text.{focus_words}
+use Rattle.why_lines.specs.Growing.{with_lines}
+use Rattle.why_lines.proofs.AllLost.{remove_loses}
+use Rattle.why_lines.proofs.Growing.{one_line}
+use Rattle.why_lines.proofs.Told.{from_if, stands_lawful, tells_moved}
+use Rattle.why_lines.proofs.steps.remove.Goals as goal
+
+pub returns : goal.returns
+returns c es st =
+    let ds = c.args.dispatcher.now.displays in
+    let now = c.args.now in
+    let w = c.args.channel in
+    let call = Remove now w in
+    let text = c.args.text.now.items in
+    let t = c.later-clock.result in
+    let later = c.apply_unread.new.self in
+    let at : t ≡ max now (clock (past_of es)) = c.later-clock.ensures ∙ ap (max now) (c.clock.ensures es st) in
+    let p = c.in_ok-apply_unread.ensures.after es st in
+    let fs = step ds call p.0 es in
+    let x = effect_of ds call p.0 (args_of call p.0 (inbound (past_of es))) es in
+    let lawful = stands_lawful ds fs later p.1 c.in_ok-apply_unread.ensures.displays in
+    let words = removed_words (reply_to es call) x es w in
+    from_if c.add_changes.result _ _
+    (c.add_changes.ensures (past_of es) (past_of fs) (c.all_focused-before.ensures es st) (c.all_focused-after.ensures fs p.1))
+    (λ grown.
+    tells_moved ds call es p.0 later t (words ∷ []) text c.add_changes.new.text.items p.1 c.in_ok-apply_unread.ensures.displays at
+    (grown
+    ∙ ap (with_lines t (focus_words (past_of es) (past_of fs)))
+    (c.in_ok-add_removal.ensures es x st (remove_loses ds es now w p.0 lawful) ∙ one_line t words text))
+    (λ a. ap (λ r. removed_words r x es w ∷ []) (sym a)))

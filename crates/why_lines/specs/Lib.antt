@@ -1,0 +1,9 @@
+pub mod Coming
+pub mod Focusing
+pub mod Growing
+pub mod Holding
+pub mod Losing
+pub mod Owners
+pub mod Pumping
+pub mod Telling
+pub mod Laws

@@ -1,0 +1,15 @@
+-- A step that is made and told.
+use Rattle.std.specs.Prelude.{◌≡◌, ℕ, List, ◌++◌}
+use Rattle.dispatch_calls.specs.declared.call.Call.{Call}
+use Rattle.dispatch_calls.specs.declared.reply.Reply.{Reply}
+use Rattle.dispatch_history.specs.Effect.{Effect, past_of}
+use Rattle.dispatch_history.specs.Effects.{effect_of, step}
+use Rattle.dispatch_history.specs.Queue.{args_of, inbound}
+use Rattle.dispatcher.specs.Dispatching.{Dispatching, StandsFor}
+use Rattle.why_text.specs.Text.{step_text}
+
+-- The call is answered, the dispatcher stands for the history with this step more, and just the text of the step is put behind a text.
+pub record Tells (call : Call) (es : List Effect) (displays old new : List ℕ) (d : Dispatching) : Type 0 where
+  pub answer : Reply
+  pub stands : StandsFor (step displays call answer es) d
+  pub text_is : new ≡ old ++ step_text displays (effect_of displays call answer (args_of call answer (inbound (past_of es))) es) es

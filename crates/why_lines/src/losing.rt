@@ -1,0 +1,145 @@
+//! What a window loses that is not able to take input any more: all that it holds.
+ghost use Rattle.std.specs.Prelude.{◌≡◌, ◌≤◌, ◌++◌, ◌==◌, ℕ, List, [], true, map, flat_map, if◌then◌else◌, IfOk};
+ghost use Rattle.bits32.specs.Set.{is_in};
+ghost use Rattle.window_snapshot.specs.Mask.{is_channel};
+ghost use Rattle.routing_rules.specs.Told.{devices};
+ghost use Rattle.route_split.specs.Tables.{holds_at};
+ghost use Rattle.dispatch_calls.specs.declared.reply.Reply.TheVariants.{Done, Gone};
+ghost use Rattle.dispatch_history.specs.Effect.{Effect, past_of};
+ghost use Rattle.dispatch_history.specs.History.{live};
+ghost use Rattle.dispatch_history.specs.Keys.{keys};
+ghost use Rattle.dispatcher.specs.Dispatching.{StandsFor};
+ghost use Rattle.why_text.specs.Lines.{removed_word, removed_words};
+ghost use Rattle.why_text.specs.Lost.{holds, ids_item, lost_word};
+ghost use Rattle.why_text.specs.Text.{line};
+ghost use Rattle.why_text.specs.Words.{ids_that};
+ghost use Rattle.why_writer.specs.Lost.{ids_from};
+ghost use Rattle.why_lines.specs.Losing.{LosesAll};
+
+use crate::holders::{KeyHolder, key_holder};
+use crate::owners::is_live;
+use bits32::Bits32;
+use dispatcher::Dispatcher;
+use input_types::{DeviceId, KeyArgs, KeyMsg, Moment};
+use route_split::Touches;
+use std::alloc::{AllocError, Global};
+use why_writer::{Lost, removed, removed_gone};
+use window_snapshot::is_channel;
+
+/// The ids of the pointers of a device that a window holds.
+fn held_by(touches: &Touches, window: u32, device: u8) -> Bits32
+    requires number { is_channel window ≡ true }
+    requires low { 1 ≤ device }
+    requires high { device ≤ 8 }
+    ensures { (i : ℕ) → is_in i result ≡ holds_at touches.now window device i }
+{
+    match DeviceId::new(device) {
+        Some(device) => touches.held(window, device),
+        None => Bits32::empty(),
+    }
+}
+
+/// The ids of the pointers that a window holds, of each device.
+fn ids_of(dispatcher: &Dispatcher, window: u32) -> [Bits32; 8]
+    requires { is_channel window ≡ true }
+    ensures { (es : List Effect) → StandsFor es dispatcher.now
+        → ids_from 1 result ≡ flat_map (λ d. ids_item d (ids_that (holds es window d))) devices }
+{
+    let touches = dispatcher.touches();
+    let first = held_by(touches, window, 1);
+    let second = held_by(touches, window, 2);
+    let third = held_by(touches, window, 3);
+    let fourth = held_by(touches, window, 4);
+    let fifth = held_by(touches, window, 5);
+    let sixth = held_by(touches, window, 6);
+    let seventh = held_by(touches, window, 7);
+    let eighth = held_by(touches, window, 8);
+    [first, second, third, fourth, fifth, sixth, seventh, eighth]
+}
+
+/// The keys of messages.
+fn keys_of(alloc: Global, messages: &[KeyMsg]) -> Result<Vec<KeyArgs>, AllocError>
+    ensures { IfOk result (λ v. v.items ≡ map (λ m. m.key) messages.now) }
+{
+    messages.iter().map(|message| message.key).collect(alloc)
+}
+
+/// The keys of the window that holds some, where that is this one.
+fn keys_at(alloc: Global, holder: &KeyHolder, window: u32) -> Result<Vec<KeyArgs>, AllocError>
+    ensures { IfOk result (λ v. v.items
+        ≡ (if window == holder.now.window then map (λ m. m.key) holder.now.keys.now else [])) }
+{
+    if window == holder.window {
+        keys_of(alloc, holder.keys)
+    } else {
+        Ok(Vec::new(alloc))
+    }
+}
+
+/// The keys that a window holds.
+fn keys_held(
+    alloc: Global,
+    dispatcher: &Dispatcher,
+    window: u32,
+) -> Result<Vec<KeyArgs>, AllocError>
+    ensures { (es : List Effect) → StandsFor es dispatcher.now
+        → IfOk result (λ v. v.items ≡ keys es window) }
+{
+    match key_holder(dispatcher) {
+        Some(holder) => keys_at(alloc, &holder, window),
+        None => Ok(Vec::new(alloc)),
+    }
+}
+
+/// Adds the line of a channel that is removed, whose window loses all that it holds.
+fn add_removed(
+    text: &mut Vec<u8>,
+    clock: Moment,
+    dispatcher: &Dispatcher,
+    channel: u32,
+) -> Result<(), AllocError>
+    requires { is_channel channel ≡ true }
+    ensures { (es : List Effect) (x : Effect) → StandsFor es dispatcher.now → LosesAll x es channel
+        → IfOk result (λ _. text.new.items
+        ≡ text.old.items ++ line clock (removed_word channel (lost_word x es channel))) }
+{
+    let ids = ids_of(dispatcher, channel);
+    let keys = keys_held(*text.allocator(), dispatcher, channel)?;
+    let lost = Lost {
+        ids: &ids,
+        keys: &keys,
+    };
+    removed(text, clock, channel, &lost)
+}
+
+/// Whether a channel is live.
+fn is_there(dispatcher: &Dispatcher, channel: u32) -> bool
+    ensures value { (es : List Effect) → StandsFor es dispatcher.now → result ≡ live (past_of es) channel }
+    ensures number { result ≡ true → is_channel channel ≡ true }
+{
+    if is_channel(channel) {
+        is_live(dispatcher, channel)
+    } else {
+        false
+    }
+}
+
+/// Adds the line of a removal of a channel, which is known before it is made.
+pub(crate) fn add_removal(
+    text: &mut Vec<u8>,
+    clock: Moment,
+    dispatcher: &Dispatcher,
+    channel: u32,
+) -> Result<(), AllocError>
+    ensures { (es : List Effect) (x : Effect) → StandsFor es dispatcher.now
+        → (live (past_of es) channel ≡ true → LosesAll x es channel)
+        → IfOk result (λ _. text.new.items
+        ≡ text.old.items
+        ++ line clock (removed_words (if live (past_of es) channel then Done else Gone) x es channel)) }
+{
+    if is_there(dispatcher, channel) {
+        add_removed(text, clock, dispatcher, channel)
+    } else {
+        removed_gone(text, clock, channel)
+    }
+}

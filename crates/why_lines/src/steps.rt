@@ -1,0 +1,99 @@
+//! Steps that are made and told. After want of memory the step may have been made or not, and a part of the lines may
+//! have been added.
+ghost use Rattle.std.specs.Prelude.{List, OnOk};
+ghost use Rattle.dispatch_calls.specs.declared.call.Call.TheVariants.{Finish, Open, Pilfer, Pump, Remove};
+ghost use Rattle.dispatch_history.specs.Effect.{Effect};
+ghost use Rattle.dispatcher.specs.Dispatching.{StandsFor};
+ghost use Rattle.why_lines.specs.Telling.{Tells};
+
+use crate::focuses::{add_changes, all_focused};
+use crate::losing::add_removal;
+use crate::owners::{add_finish, add_pilfer};
+use crate::pumps::add_pump;
+use dispatch_calls::Call;
+use dispatcher::Dispatcher;
+use input_types::{DeviceId, Limit, Moment};
+use std::alloc::AllocError;
+
+/// Makes a pump, and adds what it tells.
+pub fn pump(text: &mut Vec<u8>, dispatcher: &mut Dispatcher, now: Moment) -> Result<(), AllocError>
+    ensures { (es : List Effect) → StandsFor es dispatcher.old
+        → OnOk result
+        (Tells (Pump now) es dispatcher.old.displays text.old.items text.new.items dispatcher.new) }
+{
+    let clock = now.later(dispatcher.clock());
+    add_pump(text, clock, dispatcher)?;
+    dispatcher.apply_unread(&Call::Pump { now })
+}
+
+/// Makes a pilfer by a channel of a device, and adds what it tells.
+pub fn pilfer(
+    text: &mut Vec<u8>,
+    dispatcher: &mut Dispatcher,
+    now: Moment,
+    channel: u32,
+    device: DeviceId,
+) -> Result<(), AllocError>
+    ensures { (es : List Effect) → StandsFor es dispatcher.old
+        → OnOk result
+        (Tells (Pilfer now channel device) es dispatcher.old.displays text.old.items text.new.items dispatcher.new) }
+{
+    let clock = now.later(dispatcher.clock());
+    add_pilfer(text, clock, dispatcher, channel, device)?;
+    dispatcher.apply_unread(&Call::Pilfer {
+        now,
+        channel,
+        device,
+    })
+}
+
+/// Makes a finish of a message of a channel, and adds what it tells.
+pub fn finish(
+    text: &mut Vec<u8>,
+    dispatcher: &mut Dispatcher,
+    now: Moment,
+    channel: u32,
+    seq: u64,
+) -> Result<(), AllocError>
+    ensures { (es : List Effect) → StandsFor es dispatcher.old
+        → OnOk result
+        (Tells (Finish now channel seq) es dispatcher.old.displays text.old.items text.new.items dispatcher.new) }
+{
+    let clock = now.later(dispatcher.clock());
+    let before = dispatcher.able();
+    dispatcher.apply_unread(&Call::Finish { now, channel, seq })?;
+    let after = dispatcher.able();
+    add_finish(text, clock, channel, before, after)
+}
+
+/// Makes a removal of a channel, and adds what it tells: what its window loses, and the changes of the focus.
+pub fn remove(
+    text: &mut Vec<u8>,
+    dispatcher: &mut Dispatcher,
+    now: Moment,
+    channel: u32,
+) -> Result<(), AllocError>
+    ensures { (es : List Effect) → StandsFor es dispatcher.old
+        → OnOk result
+        (Tells (Remove now channel) es dispatcher.old.displays text.old.items text.new.items dispatcher.new) }
+{
+    let clock = now.later(dispatcher.clock());
+    let before = all_focused(dispatcher);
+    add_removal(text, clock, dispatcher, channel)?;
+    dispatcher.apply_unread(&Call::Remove { now, channel })?;
+    let after = all_focused(dispatcher);
+    add_changes(text, clock, &before, &after)
+}
+
+/// Opens a channel with a limit, and adds what that tells: the changes of the focus.
+pub fn open(text: &mut Vec<u8>, dispatcher: &mut Dispatcher, limit: Limit) -> Result<(), AllocError>
+    ensures { (es : List Effect) → StandsFor es dispatcher.old
+        → OnOk result
+        (Tells (Open limit) es dispatcher.old.displays text.old.items text.new.items dispatcher.new) }
+{
+    let clock = Moment::zero().later(dispatcher.clock());
+    let before = all_focused(dispatcher);
+    dispatcher.apply_unread(&Call::Open { limit })?;
+    let after = all_focused(dispatcher);
+    add_changes(text, clock, &before, &after)
+}

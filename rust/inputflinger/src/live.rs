@@ -1,0 +1,621 @@
+//! The live service.
+
+use crate::judge::NoMemory;
+use crate::message::{Action, Key, Message, Pointer};
+use crate::sys;
+use std::error::Error;
+use std::fmt;
+use std::ptr;
+
+/// A client of a [`Live`]: a channel, 1 to 64, and which of the clients that were opened one after another. Once it is
+/// closed it is stale for good.
+#[derive(Clone, Copy, Debug, PartialEq, Eq, Hash)]
+pub struct Client {
+    plain: sys::Client,
+}
+
+impl Client {
+    /// The number of its channel: bit `channel - 1` of a mask stands for it.
+    pub fn channel(&self) -> u32 {
+        self.plain.channel
+    }
+
+    /// How many clients were opened up to this one, on any channel.
+    pub fn generation(&self) -> u64 {
+        self.plain.generation
+    }
+}
+
+/// A rectangle of display pixels: the points with `left <= x < right` and `top <= y < bottom`.
+#[derive(Clone, Copy, Debug, Default, PartialEq, Eq)]
+pub struct Rect {
+    /// The least x.
+    pub left: i32,
+    /// The least y.
+    pub top: i32,
+    /// The x behind the last one.
+    pub right: i32,
+    /// The y behind the last one.
+    pub bottom: i32,
+}
+
+impl Rect {
+    fn plain(&self) -> sys::Rect {
+        sys::Rect {
+            left: self.left,
+            top: self.top,
+            right: self.right,
+            bottom: self.bottom,
+        }
+    }
+}
+
+/// What windows ask for, as bits of [`Window::flags`].
+pub mod window_flags {
+    /// Touches go through it to what is behind.
+    pub const NOT_TOUCHABLE: u32 = 1;
+    /// It never has the focus.
+    pub const NOT_FOCUSABLE: u32 = 2;
+    /// It is told of a touch that goes to a window behind it.
+    pub const WATCH_OUTSIDE_TOUCH: u32 = 4;
+    /// A finger that moves out of it may go on to the window that it comes to.
+    pub const SLIPPERY: u32 = 8;
+    /// It sees the touches of what is behind it, and may pilfer them.
+    pub const SPY: u32 = 16;
+    /// The fingers of one gesture are not divided between it and others.
+    pub const PREVENT_SPLITTING: u32 = 32;
+}
+
+/// A window of a client, which has one at most.
+#[derive(Clone, Copy, Debug)]
+pub struct Window<'a> {
+    /// Whose it is.
+    pub client: Client,
+    /// 0 to 3. All pixels are those of this display.
+    pub display: u8,
+    /// Where it is: its left and top edges are the origin of what the client is told.
+    pub frame: Rect,
+    /// Where it can be touched: at most 64 rectangles.
+    pub region: &'a [Rect],
+    /// Of [`window_flags`].
+    pub flags: u32,
+}
+
+/// How the raw positions of a touch panel become display pixels.
+#[derive(Clone, Copy, Debug, PartialEq, Eq)]
+pub struct Panel {
+    /// The least and the greatest raw x.
+    pub x: (i32, i32),
+    /// The least and the greatest raw y.
+    pub y: (i32, i32),
+    /// The width of the display in its natural position, 1 to 16,384 pixels.
+    pub width: u16,
+    /// Its height.
+    pub height: u16,
+    /// How far it is turned, in quarters: 0 to 3.
+    pub rotation: u8,
+}
+
+/// What a client is told.
+#[derive(Clone, Debug, PartialEq, Eq)]
+pub struct Received {
+    /// It counts from 1 for the client.
+    pub seq: u64,
+    /// When it was sent, in microseconds.
+    pub moment_us: u64,
+    /// What it says.
+    pub body: Body,
+}
+
+/// What a message says.
+#[derive(Clone, Debug, PartialEq, Eq)]
+pub enum Body {
+    /// A motion of the pointers of one device.
+    Motion {
+        /// 1 to 8.
+        device: u8,
+        /// What it says.
+        action: Action,
+        /// For `PointerDown` and `PointerUp` the place in `pointers` of the one that goes down or up, else 0.
+        index: u8,
+        /// 0, or [`FLAG_CANCELED`](crate::FLAG_CANCELED).
+        flags: u32,
+        /// All that are down, the one that goes down or up included.
+        pointers: Vec<Pointer>,
+    },
+    /// A key that goes down or up.
+    Key(Key),
+    /// Whether the window has the focus now.
+    Focus(bool),
+}
+
+impl Received {
+    fn of(m: &sys::Message) -> Received {
+        let body = match m.kind {
+            0 => Body::Motion {
+                device: m.device,
+                action: Action::of(m.action),
+                index: m.index,
+                flags: m.flags,
+                pointers: m.pointers[..usize::from(m.count)]
+                    .iter()
+                    .map(|p| Pointer {
+                        id: p.id as u8,
+                        x: p.x,
+                        y: p.y,
+                    })
+                    .collect(),
+            },
+            1 => Body::Key(Key {
+                device: m.device,
+                scan: m.scan,
+                code: m.code,
+                meta: m.meta,
+                down: m.down == 1,
+                flags: m.flags,
+                repeat: m.repeat,
+            }),
+            _ => Body::Focus(m.focus == 1),
+        };
+        Received {
+            seq: m.seq,
+            moment_us: m.moment_us,
+            body,
+        }
+    }
+}
+
+/// Why a call was refused.
+#[derive(Clone, Copy, Debug, PartialEq, Eq)]
+pub enum LiveError {
+    /// Memory was wanting. Nothing changed, but where the call says so.
+    NoMemory,
+    /// A number is out of its range. Nothing changed.
+    OutOfRange,
+    /// The client is not open, or not any more. Nothing changed.
+    NotOpen,
+    /// 64 clients are open. Nothing changed.
+    Full,
+    /// The client did not get the message, or finished it already. The clock went on.
+    UnknownSeq,
+    /// The windows that are shown have no spy of the client. The clock went on.
+    NotSpy,
+    /// The spy holds no pointer of the device. The clock went on.
+    NothingHeld,
+    /// The device is not plugged in. Nothing changed.
+    NoDevice,
+    /// What was handed in does not fit what its device did before, and was not taken; the rest was dispatched.
+    Inconsistent,
+    /// Memory was wanting after it was taken: it is dispatched by a later call.
+    Waits,
+    /// More windows than 64, or all device numbers of the display are taken. Nothing changed.
+    TooMany,
+    /// A panel has 1 to 16 slots. Nothing changed.
+    BadSlots,
+    /// The client of the window at this place, from 0, is not open. Nothing changed.
+    WindowNotOpen {
+        /// The first such place.
+        place: usize,
+    },
+    /// The client on this channel has two windows. Nothing changed.
+    Twice {
+        /// Its channel.
+        channel: u32,
+    },
+}
+
+impl fmt::Display for LiveError {
+    fn fmt(&self, f: &mut fmt::Formatter<'_>) -> fmt::Result {
+        match self {
+            LiveError::NoMemory => NoMemory.fmt(f),
+            LiveError::OutOfRange => write!(f, "a number is out of its range"),
+            LiveError::NotOpen => write!(f, "the client is not open"),
+            LiveError::Full => write!(f, "64 clients are open"),
+            LiveError::UnknownSeq => write!(f, "the client has no such message to finish"),
+            LiveError::NotSpy => write!(f, "the client has no spy among the windows"),
+            LiveError::NothingHeld => write!(f, "the spy holds no pointer of the device"),
+            LiveError::NoDevice => write!(f, "the device is not plugged in"),
+            LiveError::Inconsistent => write!(f, "what the device gave does not fit"),
+            LiveError::Waits => write!(f, "memory was wanting: what the device gave waits"),
+            LiveError::TooMany => write!(f, "too many windows, or no device number is free"),
+            LiveError::BadSlots => write!(f, "a panel has 1 to 16 slots"),
+            LiveError::WindowNotOpen { place } => {
+                write!(f, "the client of window {place} is not open")
+            }
+            LiveError::Twice { channel } => write!(f, "channel {channel} has two windows"),
+        }
+    }
+}
+
+impl Error for LiveError {}
+
+/// What a status says that is no answer of a call that looks for something.
+fn done(status: i32) -> Result<(), LiveError> {
+    Err(match status {
+        sys::OK => return Ok(()),
+        sys::NO_MEMORY => LiveError::NoMemory,
+        sys::OUT_OF_RANGE => LiveError::OutOfRange,
+        sys::NOT_OPEN => LiveError::NotOpen,
+        sys::FULL => LiveError::Full,
+        sys::UNKNOWN_SEQ => LiveError::UnknownSeq,
+        sys::NOT_SPY => LiveError::NotSpy,
+        sys::NOTHING_HELD => LiveError::NothingHeld,
+        sys::NO_DEVICE => LiveError::NoDevice,
+        sys::INCONSISTENT => LiveError::Inconsistent,
+        sys::WAITS => LiveError::Waits,
+        sys::TOO_MANY => LiveError::TooMany,
+        sys::BAD_SLOTS => LiveError::BadSlots,
+        status => unreachable!("the service is open: status {status}"),
+    })
+}
+
+/// The same where nothing may be found.
+fn found<T>(status: i32, told: T) -> Result<Option<T>, LiveError> {
+    if status == sys::NOTHING {
+        return Ok(None);
+    }
+    done(status).map(|()| Some(told))
+}
+
+/// The dispatcher for a program that runs as long as its screen: clients and devices come and go, events are handed in,
+/// and each client is given its messages. It stays on its thread. Moments are microseconds, at most 10^18.
+///
+/// ```
+/// use inputflinger::{Action, Body, Live, Message, Motion, Panel, Pointer, Rect, Window};
+///
+/// let mut live = Live::new(5_000_000, [0; 8])?;
+/// let panel = Panel { x: (0, 1079), y: (0, 2399), width: 1080, height: 2400, rotation: 0 };
+/// let device = live.add_touch(0, 10, &panel)?;
+/// let client = live.open()?;
+/// let frame = Rect { left: 0, top: 100, right: 1080, bottom: 2400 };
+/// live.windows(0, &[Window { client, display: 0, frame, region: &[frame], flags: 0 }])?;
+/// let down = Motion::new(device, Action::Down, &[Pointer { id: 0, x: 540, y: 1200 }]);
+/// live.args(1000, &Message::motion(0, down))?;
+/// let told = live.next(client)?.unwrap();
+/// match told.body {
+///     Body::Motion { action, pointers, .. } => {
+///         assert_eq!((action, pointers[0].y), (Action::Down, 1100));
+///     }
+///     other => panic!("{other:?}"),
+/// }
+/// live.finish(1000, client, told.seq)?;
+/// assert_eq!(live.due(), None);
+/// # Ok::<(), Box<dyn std::error::Error>>(())
+/// ```
+///
+/// ```compile_fail
+/// let live = inputflinger::Live::new(5_000_000, [0; 8]).unwrap();
+/// std::thread::spawn(move || drop(live));
+/// ```
+pub struct Live {
+    handle: sys::Live,
+}
+
+impl Live {
+    /// A service without clients and devices. A client that leaves a message unfinished for `limit_us`, 1,000 to
+    /// 600,000,000, is named unresponsive. `displays` has the display of each device number, 0 to 3, that of device 1
+    /// first.
+    ///
+    /// # Errors
+    ///
+    /// `OutOfRange` and `NoMemory`.
+    pub fn new(limit_us: u64, displays: [u8; 8]) -> Result<Live, LiveError> {
+        let mut live = Live {
+            handle: sys::Live {
+                at: ptr::null_mut(),
+                is_open: false,
+            },
+        };
+        let displays = sys::Displays {
+            of_device: displays,
+        };
+        // SAFETY: the handle is free, and both are nobody else's.
+        done(unsafe { sys::inputflinger_live_new(&mut live.handle, limit_us, &displays) })?;
+        Ok(live)
+    }
+
+    /// Plugs in a touch panel of a display, with 1 to 16 slots. The answer is its number.
+    ///
+    /// # Errors
+    ///
+    /// `OutOfRange`, `BadSlots`, and `TooMany` where all numbers of the display are taken.
+    pub fn add_touch(&mut self, display: u8, slots: u8, panel: &Panel) -> Result<u8, LiveError> {
+        let panel = sys::Panel {
+            x: sys::Axis {
+                min: panel.x.0,
+                max: panel.x.1,
+            },
+            y: sys::Axis {
+                min: panel.y.0,
+                max: panel.y.1,
+            },
+            width: panel.width,
+            height: panel.height,
+            rotation: panel.rotation,
+        };
+        let mut device = 0;
+        // SAFETY: all are of the declared types, and nobody else's during the call. So it is below.
+        done(unsafe {
+            sys::inputflinger_live_add_touch(&mut self.handle, display, slots, &panel, &mut device)
+        })?;
+        Ok(device)
+    }
+
+    /// Unplugs a device. What is down on it is cancelled, and its number is free.
+    ///
+    /// # Errors
+    ///
+    /// `NoDevice`, `OutOfRange`, and those of [`event`](Live::event).
+    pub fn remove_device(&mut self, now_us: u64, device: u8) -> Result<(), LiveError> {
+        // SAFETY: as above.
+        done(unsafe { sys::inputflinger_live_remove_device(&mut self.handle, now_us, device) })
+    }
+
+    /// Hands in an event of a device, with the type, code and value of the kernel's `struct input_event`.
+    ///
+    /// # Errors
+    ///
+    /// `NoDevice` and `OutOfRange`; `Inconsistent` where what it gave does not fit what [`args`](Live::args) gave
+    /// before; `NoMemory` where it was not taken, and `Waits` where it was.
+    pub fn event(
+        &mut self,
+        now_us: u64,
+        device: u8,
+        kind: u16,
+        code: u16,
+        value: i32,
+    ) -> Result<(), LiveError> {
+        // SAFETY: as above.
+        done(unsafe {
+            sys::inputflinger_live_event(&mut self.handle, now_us, device, kind, code, value)
+        })
+    }
+
+    /// Hands in a motion or a key of a device that is ready, in display pixels.
+    ///
+    /// # Errors
+    ///
+    /// Those of [`event`](Live::event); `OutOfRange` also for a message of the focus.
+    pub fn args(&mut self, now_us: u64, message: &Message) -> Result<(), LiveError> {
+        if message.is_too_long {
+            return Err(LiveError::OutOfRange);
+        }
+        // SAFETY: as above.
+        done(unsafe { sys::inputflinger_live_args(&mut self.handle, now_us, &message.plain) })
+    }
+
+    /// Hands in that a device lost events: all that is down on it is cancelled.
+    ///
+    /// # Errors
+    ///
+    /// Those of [`event`](Live::event).
+    pub fn reset(&mut self, now_us: u64, device: u8) -> Result<(), LiveError> {
+        let message = sys::Message {
+            kind: 3,
+            device,
+            ..sys::Message::default()
+        };
+        // SAFETY: as above.
+        done(unsafe { sys::inputflinger_live_args(&mut self.handle, now_us, &message) })
+    }
+
+    /// Opens a client on the first channel that nobody has.
+    ///
+    /// # Errors
+    ///
+    /// `Full` and `NoMemory`.
+    pub fn open(&mut self) -> Result<Client, LiveError> {
+        let mut plain = sys::Client::default();
+        // SAFETY: as above.
+        done(unsafe { sys::inputflinger_live_open(&mut self.handle, &mut plain) })?;
+        Ok(Client { plain })
+    }
+
+    /// Closes a client: its window goes, what it holds is cancelled, and what it did not take is gone.
+    ///
+    /// # Errors
+    ///
+    /// `NotOpen` and `OutOfRange`; `NoMemory`: it is still open then, but may have lost its window and its requests.
+    pub fn close(&mut self, now_us: u64, client: Client) -> Result<(), LiveError> {
+        // SAFETY: as above.
+        done(unsafe { sys::inputflinger_live_close(&mut self.handle, now_us, &client.plain) })
+    }
+
+    /// Whether a client is open.
+    pub fn is_open(&mut self, client: Client) -> bool {
+        let mut is_open = false;
+        // SAFETY: as above.
+        unsafe { sys::inputflinger_live_is_open(&mut self.handle, &client.plain, &mut is_open) };
+        is_open
+    }
+
+    /// The client that is open on a channel.
+    pub fn client_at(&mut self, channel: u32) -> Option<Client> {
+        let mut plain = sys::Client::default();
+        // SAFETY: as above.
+        let status =
+            unsafe { sys::inputflinger_live_client_at(&mut self.handle, channel, &mut plain) };
+        (status == sys::OK).then_some(Client { plain })
+    }
+
+    /// Shows windows, front to back, in place of all windows before.
+    ///
+    /// # Errors
+    ///
+    /// `WindowNotOpen`, `TooMany`, `Twice`, `OutOfRange` and `NoMemory`.
+    pub fn windows(&mut self, now_us: u64, windows: &[Window<'_>]) -> Result<(), LiveError> {
+        let rects: Vec<sys::Rect> = windows
+            .iter()
+            .flat_map(|window| window.region.iter().map(Rect::plain))
+            .collect();
+        let mut rows = Vec::with_capacity(windows.len());
+        for window in windows {
+            rows.push(sys::Window {
+                client: window.client.plain,
+                frame: window.frame.plain(),
+                flags: window.flags,
+                rects: u32::try_from(window.region.len()).map_err(|_| LiveError::OutOfRange)?,
+                display: window.display,
+            });
+        }
+        let mut named = 0;
+        // SAFETY: each pointer and length are those of one vector; as above.
+        let status = unsafe {
+            sys::inputflinger_live_windows(
+                &mut self.handle,
+                now_us,
+                rows.as_ptr(),
+                rows.len(),
+                rects.as_ptr(),
+                rects.len(),
+                &mut named,
+            )
+        };
+        match status {
+            sys::NOT_OPEN => Err(LiveError::WindowNotOpen {
+                place: named as usize,
+            }),
+            sys::TWICE => Err(LiveError::Twice {
+                channel: named as u32,
+            }),
+            status => done(status),
+        }
+    }
+
+    /// Requests the focus of a display for a client, or for none.
+    ///
+    /// # Errors
+    ///
+    /// `NotOpen`, `OutOfRange` and `NoMemory`.
+    pub fn focus(
+        &mut self,
+        now_us: u64,
+        display: u8,
+        client: Option<Client>,
+    ) -> Result<(), LiveError> {
+        let plain = client.map_or_else(sys::Client::default, |client| client.plain);
+        // SAFETY: as above.
+        done(unsafe { sys::inputflinger_live_focus(&mut self.handle, now_us, display, &plain) })
+    }
+
+    /// Takes the pointers of a device that a client whose window is a spy holds from all other windows.
+    ///
+    /// # Errors
+    ///
+    /// `NotOpen`, `NotSpy`, `NothingHeld`, `OutOfRange` and `NoMemory`.
+    pub fn pilfer(&mut self, now_us: u64, client: Client, device: u8) -> Result<(), LiveError> {
+        // SAFETY: as above.
+        done(unsafe {
+            sys::inputflinger_live_pilfer(&mut self.handle, now_us, &client.plain, device)
+        })
+    }
+
+    /// The channels that have a message for their client: bit `channel - 1` stands for a channel.
+    pub fn waiting(&mut self) -> u64 {
+        let mut mask = 0;
+        // SAFETY: as above.
+        unsafe { sys::inputflinger_live_waiting(&mut self.handle, &mut mask) };
+        mask
+    }
+
+    /// Gives a client its next message; None where there is none, and for one that is not open.
+    ///
+    /// # Errors
+    ///
+    /// `NoMemory`, only where the calls cannot be counted in 64 bits.
+    pub fn next(&mut self, client: Client) -> Result<Option<Received>, LiveError> {
+        let mut message = sys::Message::default();
+        // SAFETY: as above.
+        let status =
+            unsafe { sys::inputflinger_live_next(&mut self.handle, &client.plain, &mut message) };
+        Ok(found(status, message)?.map(|message| Received::of(&message)))
+    }
+
+    /// Says that a client is done with the message of this number, which it got.
+    ///
+    /// # Errors
+    ///
+    /// `NotOpen`, `UnknownSeq` and `OutOfRange`; `NoMemory` only where the calls cannot be counted in 64 bits.
+    pub fn finish(&mut self, now_us: u64, client: Client, seq: u64) -> Result<(), LiveError> {
+        // SAFETY: as above.
+        done(unsafe { sys::inputflinger_live_finish(&mut self.handle, now_us, &client.plain, seq) })
+    }
+
+    /// The first moment at which something is due: a client that is late, or the repeat of a key that is held.
+    pub fn due(&mut self) -> Option<u64> {
+        let mut moment_us = 0;
+        // SAFETY: as above.
+        let status = unsafe { sys::inputflinger_live_due(&mut self.handle, &mut moment_us) };
+        (status == sys::OK).then_some(moment_us)
+    }
+
+    /// Does all that is due up to now. The answer is the mask of the channels that were named unresponsive.
+    ///
+    /// # Errors
+    ///
+    /// `OutOfRange`; `NoMemory`: a part may be done, and who was named by it is told by the next call.
+    pub fn advance(&mut self, now_us: u64) -> Result<u64, LiveError> {
+        let mut mask = 0;
+        // SAFETY: as above.
+        done(unsafe { sys::inputflinger_live_advance(&mut self.handle, now_us, &mut mask) })?;
+        Ok(mask)
+    }
+
+    /// The greatest moment that was handed in.
+    pub fn clock(&mut self) -> u64 {
+        let mut moment_us = 0;
+        // SAFETY: as above.
+        unsafe { sys::inputflinger_live_clock(&mut self.handle, &mut moment_us) };
+        moment_us
+    }
+
+    /// The client that has the focus of a display.
+    ///
+    /// # Errors
+    ///
+    /// `OutOfRange` where there is no such display.
+    pub fn focused(&mut self, display: u8) -> Result<Option<Client>, LiveError> {
+        let mut plain = sys::Client::default();
+        // SAFETY: as above.
+        let status =
+            unsafe { sys::inputflinger_live_focused(&mut self.handle, display, &mut plain) };
+        found(status, ()).map(|told| told.map(|()| Client { plain }))
+    }
+
+    /// The client that keys go to.
+    pub fn key_target(&mut self) -> Option<Client> {
+        let mut plain = sys::Client::default();
+        // SAFETY: as above.
+        let status = unsafe { sys::inputflinger_live_key_target(&mut self.handle, &mut plain) };
+        (status == sys::OK).then_some(Client { plain })
+    }
+
+    /// Whether a client is open and responds.
+    pub fn is_responsive(&mut self, client: Client) -> bool {
+        let mut told = false;
+        // SAFETY: as above.
+        unsafe { sys::inputflinger_live_is_responsive(&mut self.handle, &client.plain, &mut told) };
+        told
+    }
+
+    /// The ids of the pointers of a device that a client holds, as bits; 0 for one that is not open.
+    ///
+    /// # Errors
+    ///
+    /// `OutOfRange` where there is no such device number.
+    pub fn holds(&mut self, client: Client, device: u8) -> Result<u32, LiveError> {
+        let mut ids = 0;
+        // SAFETY: as above.
+        done(unsafe {
+            sys::inputflinger_live_holds(&mut self.handle, &client.plain, device, &mut ids)
+        })?;
+        Ok(ids)
+    }
+}
+
+impl Drop for Live {
+    fn drop(&mut self) {
+        // SAFETY: the handle is nobody else's. A free one is answered by a status.
+        unsafe { sys::inputflinger_live_free(&mut self.handle) };
+    }
+}

@@ -1,0 +1,129 @@
+//! The answers of a live service.
+
+use inputflinger::{
+    window_flags, Action, Body, Key, Live, LiveError, Message, Motion, Panel, Pointer, Rect, Window,
+};
+
+const PANEL: Panel = Panel {
+    x: (0, 1079),
+    y: (0, 2399),
+    width: 1080,
+    height: 2400,
+    rotation: 0,
+};
+
+const SCREEN: Rect = Rect {
+    left: 0,
+    top: 0,
+    right: 1080,
+    bottom: 2400,
+};
+
+fn window(client: inputflinger::Client, flags: u32) -> Window<'static> {
+    Window {
+        client,
+        display: 0,
+        frame: SCREEN,
+        region: &[SCREEN],
+        flags,
+    }
+}
+
+#[test]
+fn clients_come_and_go() -> Result<(), LiveError> {
+    let mut live = Live::new(5_000_000, [0; 8])?;
+    let first = live.open()?;
+    assert_eq!((first.channel(), first.generation()), (1, 1));
+    live.close(0, first)?;
+    assert_eq!(live.close(0, first), Err(LiveError::NotOpen));
+    let second = live.open()?;
+    assert_eq!((second.channel(), second.generation()), (1, 2));
+    assert!(live.is_open(second) && !live.is_open(first));
+    assert_eq!(live.client_at(1), Some(second));
+    assert_eq!(live.client_at(2), None);
+    assert_eq!(
+        live.windows(0, &[window(second, 0), window(first, 0)]),
+        Err(LiveError::WindowNotOpen { place: 1 })
+    );
+    assert_eq!(
+        live.windows(0, &[window(second, 0), window(second, 0)]),
+        Err(LiveError::Twice { channel: 1 })
+    );
+    assert_eq!(live.next(first), Ok(None));
+    assert_eq!(live.finish(0, first, 1), Err(LiveError::NotOpen));
+    Ok(())
+}
+
+#[test]
+fn a_finger_that_a_spy_pilfers() -> Result<(), LiveError> {
+    let mut live = Live::new(5_000_000, [0; 8])?;
+    let device = live.add_touch(0, 10, &PANEL)?;
+    let (spy, behind) = (live.open()?, live.open()?);
+    live.windows(0, &[window(spy, window_flags::SPY), window(behind, 0)])?;
+    assert_eq!(live.pilfer(0, behind, device), Err(LiveError::NotSpy));
+    assert_eq!(live.pilfer(0, spy, device), Err(LiveError::NothingHeld));
+    for (code, value) in [(57, 45), (53, 100), (54, 200)] {
+        live.event(1000, device, 3, code, value)?;
+    }
+    live.event(1000, device, 0, 0, 0)?;
+    assert_eq!(live.waiting(), 0b11);
+    assert_eq!(live.holds(behind, device)?, 0b1);
+    live.pilfer(2000, spy, device)?;
+    assert_eq!(live.holds(behind, device)?, 0);
+    let told: Vec<_> = std::iter::from_fn(|| live.next(behind).unwrap()).collect();
+    assert_eq!(told.len(), 2);
+    match &told[1].body {
+        Body::Motion {
+            action, pointers, ..
+        } => {
+            let finger = Pointer {
+                id: 0,
+                x: 100,
+                y: 200,
+            };
+            assert_eq!((*action, &pointers[..]), (Action::Cancel, &[finger][..]));
+        }
+        other => panic!("{other:?}"),
+    }
+    let up = Message::motion(
+        0,
+        Motion::new(device, Action::Up, &[Pointer { id: 5, x: 0, y: 0 }]),
+    );
+    assert_eq!(live.args(3000, &up), Err(LiveError::Inconsistent));
+    live.reset(3000, device)?;
+    assert_eq!(live.clock(), 3000);
+    Ok(())
+}
+
+#[test]
+fn a_key_that_is_late() -> Result<(), LiveError> {
+    let mut live = Live::new(1_000_000, [0; 8])?;
+    let device = live.add_touch(0, 10, &PANEL)?;
+    let client = live.open()?;
+    live.windows(0, &[window(client, 0)])?;
+    live.focus(0, 0, Some(client))?;
+    assert_eq!(live.focused(0)?, Some(client));
+    assert_eq!(live.key_target(), Some(client));
+    assert_eq!(live.focused(4), Err(LiveError::OutOfRange));
+    let key = Key {
+        device,
+        scan: 30,
+        code: 29,
+        down: true,
+        ..Key::default()
+    };
+    live.args(0, &Message::key(0, key))?;
+    let focus = live.next(client)?.unwrap();
+    assert_eq!(focus.body, Body::Focus(true));
+    live.finish(0, client, focus.seq)?;
+    assert_eq!(
+        live.finish(0, client, focus.seq),
+        Err(LiveError::UnknownSeq)
+    );
+    assert_eq!(live.next(client)?.unwrap().body, Body::Key(key));
+    assert_eq!(live.due(), Some(500_000));
+    assert_eq!(live.advance(1_000_000)?, 0b1);
+    assert!(!live.is_responsive(client));
+    assert_eq!(live.advance(u64::MAX), Err(LiveError::OutOfRange));
+    Ok(())
+}

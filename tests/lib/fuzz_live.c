@@ -1,0 +1,311 @@
+/*
+ * A fuzz of the calls of live services: in random order, of handles that are free and such that are not, with clients
+ * that are open, stale or made up, and numbers in their ranges and out of them. Beside the services it keeps which
+ * clients are open, and each message that a client gets goes through a judge: what a client is told is well-formed.
+ *
+ *     fuzz_live CALLS NUMBER    so many calls, beginning at a number
+ */
+#include <stdio.h>
+#include <stdlib.h>
+#include <string.h>
+
+#include "inputflinger.h"
+
+#define LIVES 4
+#define CLIENTS 6
+
+struct seat {
+	struct inputflinger_client client;
+	struct inputflinger_judge judge;
+	uint64_t got, taken;
+	bool is_open;
+};
+
+struct side {
+	struct inputflinger_live live;
+	struct seat seats[CLIENTS];
+	uint64_t now;
+	bool is_open;
+};
+
+static uint64_t state;
+
+/* The next number, below a bound. */
+static uint32_t below(uint32_t bound)
+{
+	state = state * UINT64_C(6364136223846793005) + UINT64_C(1442695040888963407);
+	return (uint32_t)((state >> 33) % bound);
+}
+
+static bool rarely(void)
+{
+	return below(64) == 0;
+}
+
+static void demand(bool holds, const char *text, uint64_t call)
+{
+	if (!holds) {
+		fprintf(stderr, "fuzz_live.c: call %llu: %s\n", (unsigned long long)call, text);
+		exit(1);
+	}
+}
+
+/* The moment now, which goes on slowly, and at times is out of range. */
+static uint64_t moment(struct side *side)
+{
+	side->now += below(8) == 0 ? below(2000000) : below(2000);
+	return rarely() ? UINT64_C(1000000000000000001) + below(9) : side->now;
+}
+
+static bool is_moment(uint64_t us)
+{
+	return us <= UINT64_C(1000000000000000000);
+}
+
+/* A client that was opened some time, or, rarely, any numbers. */
+static struct inputflinger_client client(const struct side *side, uint32_t i)
+{
+	struct inputflinger_client k = side->seats[i].client;
+
+	if (rarely())
+		k.channel = below(70);
+	if (rarely())
+		k.generation = below(70);
+	return k;
+}
+
+static struct seat *seat_of(struct side *side, const struct inputflinger_client *k)
+{
+	for (uint32_t i = 0; i < CLIENTS; i++) {
+		struct seat *s = &side->seats[i];
+
+		if (s->is_open && s->client.channel == k->channel && s->client.generation == k->generation)
+			return s;
+	}
+	return NULL;
+}
+
+static void close_seat(struct seat *s)
+{
+	inputflinger_judge_free(&s->judge);
+	s->is_open = false;
+}
+
+static void begin(struct side *side, uint64_t call)
+{
+	int status = inputflinger_live_new(&side->live, rarely() ? below(1000) : 1000000, NULL);
+	uint8_t device;
+
+	if (side->is_open) {
+		demand(status == INPUTFLINGER_TAKEN || status == INPUTFLINGER_OUT_OF_RANGE, "new of a handle that is not free", call);
+		return;
+	}
+	if (status != INPUTFLINGER_OK)
+		return;
+	side->is_open = true;
+	side->now = 0;
+	demand(inputflinger_live_add_touch(&side->live, 0, 10, &(struct inputflinger_panel){{0, 999}, {0, 999}, 1000, 1000, 0}, &device)
+		       == INPUTFLINGER_OK && device == 1, "add_touch", call);
+}
+
+static void end(struct side *side, uint64_t call)
+{
+	demand(inputflinger_live_free(&side->live) == (side->is_open ? INPUTFLINGER_OK : INPUTFLINGER_FREE), "free", call);
+	for (uint32_t i = 0; i < CLIENTS; i++) {
+		if (side->seats[i].is_open)
+			close_seat(&side->seats[i]);
+		/* A client is of one service: in another one its numbers may be those of a client that is open. */
+		memset(&side->seats[i].client, 0, sizeof side->seats[i].client);
+	}
+	side->is_open = false;
+}
+
+static void come(struct side *side, uint32_t i, uint64_t call)
+{
+	struct seat *s = &side->seats[i];
+	uint64_t now = moment(side);
+	int status;
+
+	if (s->is_open) {
+		status = inputflinger_live_close(&side->live, now, &s->client);
+		demand(status == (is_moment(now) ? INPUTFLINGER_OK : INPUTFLINGER_OUT_OF_RANGE), "close", call);
+		if (status == INPUTFLINGER_OK)
+			close_seat(s);
+		return;
+	}
+	status = inputflinger_live_close(&side->live, 0, &s->client);
+	demand(status == (side->is_open ? INPUTFLINGER_NOT_OPEN : INPUTFLINGER_FREE), "close of a stale client", call);
+	status = inputflinger_live_open(&side->live, &s->client);
+	demand(status == (side->is_open ? INPUTFLINGER_OK : INPUTFLINGER_FREE), "open", call);
+	if (status == INPUTFLINGER_OK) {
+		s->is_open = inputflinger_judge_new(&s->judge) == INPUTFLINGER_OK;
+		s->got = s->taken = 0;
+	}
+}
+
+static void show(struct side *side)
+{
+	struct inputflinger_window windows[CLIENTS];
+	struct inputflinger_rect rects[2 * CLIENTS];
+	size_t count = below(CLIENTS + 1), place = 0;
+	uint64_t named;
+
+	for (size_t i = 0; i < count; i++) {
+		int32_t left = (int32_t)below(900), top = (int32_t)below(900);
+
+		memset(&windows[i], 0, sizeof windows[i]);
+		windows[i].client = client(side, rarely() ? below(CLIENTS) : (uint32_t)i);
+		windows[i].frame = (struct inputflinger_rect){left, top, left + 400, top + 400};
+		windows[i].flags = below(4) == 0 ? below(64) : 0;
+		windows[i].display = rarely() ? (uint8_t)below(6) : 0;
+		windows[i].rects = below(3);
+		for (uint32_t r = 0; r < windows[i].rects; r++, place++) {
+			rects[place] = windows[i].frame;
+			rects[place].right -= (int32_t)(r * 100);
+			if (rarely())
+				rects[place].right = -1;
+		}
+	}
+	inputflinger_live_windows(&side->live, moment(side), windows, count, rects, rarely() ? place / 2 : place, &named);
+}
+
+static void finger(struct side *side)
+{
+	static const uint16_t codes[] = {47, 57, 53, 54};
+	uint64_t now = moment(side);
+	uint8_t device = (uint8_t)(rarely() ? below(12) : 1);
+
+	if (rarely()) {
+		inputflinger_live_event(&side->live, now, device, (uint16_t)below(65536), (uint16_t)below(65536), (int32_t)below(1u << 31));
+		return;
+	}
+	inputflinger_live_event(&side->live, now, device, 3, 47, (int32_t)below(11));
+	inputflinger_live_event(&side->live, now, device, 3, codes[1], below(2) ? -1 : (int32_t)below(1000));
+	inputflinger_live_event(&side->live, now, device, 3, codes[2], (int32_t)below(1000));
+	inputflinger_live_event(&side->live, now, device, 3, codes[3], (int32_t)below(1000));
+	inputflinger_live_event(&side->live, now, device, 0, rarely() ? 3 : 0, 0);
+}
+
+static void ready(struct side *side)
+{
+	struct inputflinger_message m;
+	uint8_t *bytes = (uint8_t *)&m;
+
+	for (size_t i = 0; i < sizeof m; i++)
+		bytes[i] = (uint8_t)below(256);
+	m.kind = below(4);
+	m.device = (uint8_t)below(3);
+	m.action = (uint8_t)below(8);
+	m.count = (uint8_t)below(4);
+	m.down = (uint8_t)below(2);
+	m.scan = (uint16_t)below(4);
+	m.flags = 0;
+	for (uint32_t i = 0; i < 4; i++)
+		m.pointers[i] = (struct inputflinger_pointer){(int32_t)below(1000), (int32_t)below(1000), i + below(2)};
+	inputflinger_live_args(&side->live, moment(side), &m);
+}
+
+/* What a client gets is numbered from 1 on, and well-formed. */
+static void get(struct side *side, uint32_t i, uint64_t call)
+{
+	struct inputflinger_client k = client(side, i);
+	struct seat *s = seat_of(side, &k);
+	struct inputflinger_message m;
+	struct inputflinger_fault fault;
+	int status = inputflinger_live_next(&side->live, &k, &m);
+
+	if (!side->is_open) {
+		demand(status == INPUTFLINGER_FREE, "next of a free handle", call);
+	} else if (s == NULL) {
+		demand(status == INPUTFLINGER_NOTHING, "a client that is not open gets nothing", call);
+	} else if (status == INPUTFLINGER_OK) {
+		demand(m.seq == ++s->got, "the messages of a client are numbered from 1 on", call);
+		demand(inputflinger_judge_step(&s->judge, &m, &fault) == INPUTFLINGER_OK, "what a client is told is well-formed", call);
+	} else {
+		demand(status == INPUTFLINGER_NOTHING, "next", call);
+	}
+}
+
+static void finish(struct side *side, uint32_t i, uint64_t call)
+{
+	struct inputflinger_client k = client(side, i);
+	struct seat *s = seat_of(side, &k);
+	uint64_t now = moment(side), seq = s == NULL ? below(100) : !rarely() ? s->taken + 1 : below(2) == 0 ? 0 : s->got + 1 + below(5);
+	int status = inputflinger_live_finish(&side->live, now, &k, seq);
+
+	if (!side->is_open)
+		demand(status == INPUTFLINGER_FREE, "finish of a free handle", call);
+	else if (!is_moment(now))
+		demand(status == INPUTFLINGER_OUT_OF_RANGE, "finish out of range", call);
+	else if (s == NULL)
+		demand(status == INPUTFLINGER_NOT_OPEN, "finish of a client that is not open", call);
+	else
+		demand(status == (seq != 0 && seq <= s->got ? INPUTFLINGER_OK : INPUTFLINGER_UNKNOWN_SEQ), "finish", call);
+	if (s != NULL && status == INPUTFLINGER_OK)
+		s->taken++;
+}
+
+/* Whatever can be asked, and the calls that are made rarely. */
+static void ask(struct side *side, uint32_t i)
+{
+	struct inputflinger_client k = client(side, i), told;
+	uint64_t number;
+	uint32_t ids;
+	uint8_t device;
+	bool is;
+
+	inputflinger_live_waiting(&side->live, &number);
+	inputflinger_live_due(&side->live, &number);
+	inputflinger_live_clock(&side->live, &number);
+	inputflinger_live_is_open(&side->live, &k, &is);
+	inputflinger_live_is_responsive(&side->live, &k, &is);
+	inputflinger_live_client_at(&side->live, below(70), &told);
+	inputflinger_live_focused(&side->live, (uint8_t)below(6), &told);
+	inputflinger_live_key_target(&side->live, &told);
+	inputflinger_live_holds(&side->live, &k, (uint8_t)below(10), &ids);
+	inputflinger_live_focus(&side->live, moment(side), (uint8_t)below(5), below(4) == 0 ? NULL : &k);
+	inputflinger_live_pilfer(&side->live, moment(side), &k, (uint8_t)below(10));
+	if (rarely())
+		inputflinger_live_remove_device(&side->live, moment(side), (uint8_t)below(10));
+	if (rarely())
+		inputflinger_live_add_touch(&side->live, (uint8_t)below(5), (uint8_t)below(18),
+					    &(struct inputflinger_panel){{0, 999}, {(int32_t)below(2000), 999}, 1000, 1000, (uint8_t)below(5)}, &device);
+}
+
+int main(int count, char **words)
+{
+	static struct side sides[LIVES];
+	uint64_t calls = count > 1 ? strtoull(words[1], NULL, 10) : 1000000, mask, got = 0;
+
+	state = count > 2 ? strtoull(words[2], NULL, 10) : 1;
+	for (uint64_t call = 0; call < calls; call++) {
+		struct side *side = &sides[below(LIVES)];
+		uint32_t what = below(64), i = below(CLIENTS);
+
+		if (what == 0 && rarely())
+			end(side, call);
+		else if (what < 2)
+			begin(side, call);
+		else if (what < 4)
+			come(side, i, call);
+		else if (what < 6)
+			show(side);
+		else if (what < 20)
+			finger(side);
+		else if (what < 24)
+			ready(side);
+		else if (what < 44)
+			get(side, i, call), got += side->seats[i].got > 0;
+		else if (what < 58)
+			finish(side, i, call);
+		else if (what < 60)
+			inputflinger_live_advance(&side->live, moment(side), &mask);
+		else
+			ask(side, i);
+	}
+	for (uint32_t i = 0; i < LIVES; i++)
+		end(&sides[i], calls);
+	demand(got > calls / 100, "few messages were got", calls);
+	printf("%llu calls\n", (unsigned long long)calls);
+	return 0;
+}

@@ -1,0 +1,539 @@
+/*
+ * Each call of a live service with each of its statuses but for want of memory, and the example of crates/live_example,
+ * whose text is printed with the word `example`.
+ */
+#include <stdlib.h>
+#include <string.h>
+
+#include "../../lib/examples/say.h"
+
+#define CHECK(holds)                                                             \
+	do {                                                                     \
+		if (!(holds)) {                                                  \
+			fprintf(stderr, "live.c:%d: %s\n", __LINE__, #holds);    \
+			exit(1);                                                 \
+		}                                                                \
+	} while (0)
+#define OK(call) CHECK((call) == INPUTFLINGER_OK)
+
+#define LIMIT 5000000
+#define LATEST UINT64_C(1000000000000000000)
+
+typedef struct inputflinger_live live_t;
+typedef struct inputflinger_client client_t;
+typedef struct inputflinger_message message_t;
+
+static const struct inputflinger_panel panel = {{0, 1079}, {0, 2399}, 1080, 2400, 0};
+
+static message_t motion(uint8_t device, uint8_t action, uint8_t index, uint32_t ids, int32_t x, int32_t y)
+{
+	message_t m = {0};
+
+	m.kind = INPUTFLINGER_MOTION;
+	m.device = device;
+	m.action = action;
+	m.index = index;
+	for (uint32_t id = 0; id < 32; id++)
+		if (ids >> id & 1)
+			m.pointers[m.count++] = (struct inputflinger_pointer){x + 100 * (int32_t)id, y, id};
+	return m;
+}
+
+static message_t key(uint8_t device, uint16_t scan, uint16_t code, uint8_t down)
+{
+	message_t m = {0};
+
+	m.kind = INPUTFLINGER_KEY;
+	m.device = device;
+	m.scan = scan;
+	m.code = code;
+	m.down = down;
+	return m;
+}
+
+static struct inputflinger_window window(client_t client, uint32_t flags)
+{
+	struct inputflinger_window w = {client, {0, 0, 1080, 2400}, flags, 1, 0};
+
+	return w;
+}
+
+static int show(live_t *live, const struct inputflinger_window *windows, size_t count, uint64_t *named)
+{
+	struct inputflinger_rect all[65];
+
+	for (size_t i = 0; i < 65; i++)
+		all[i] = (struct inputflinger_rect){0, 0, 1080, 2400};
+
+	return inputflinger_live_windows(live, 0, windows, count, all, count <= 65 ? count : 65, named);
+}
+
+static message_t next(live_t *live, client_t client)
+{
+	message_t m;
+
+	memset(&m, 0x55, sizeof m);
+	OK(inputflinger_live_next(live, &client, &m));
+	return m;
+}
+
+static void same_client(client_t a, uint32_t channel, uint64_t generation)
+{
+	CHECK(a.channel == channel && a.generation == generation);
+}
+
+static void free_handles(void)
+{
+	live_t live = {0};
+	client_t client = {1, 1};
+	message_t m = {0};
+	uint64_t number = 7;
+	uint32_t ids = 7;
+	uint8_t device = 7;
+	bool told = true;
+
+	CHECK(inputflinger_live_free(&live) == INPUTFLINGER_FREE);
+	CHECK(inputflinger_live_add_touch(&live, 0, 1, &panel, &device) == INPUTFLINGER_FREE && device == 7);
+	CHECK(inputflinger_live_remove_device(&live, 0, 1) == INPUTFLINGER_FREE);
+	CHECK(inputflinger_live_event(&live, 0, 1, 0, 0, 0) == INPUTFLINGER_FREE);
+	CHECK(inputflinger_live_args(&live, 0, &m) == INPUTFLINGER_FREE);
+	CHECK(inputflinger_live_open(&live, &client) == INPUTFLINGER_FREE);
+	CHECK(inputflinger_live_close(&live, 0, &client) == INPUTFLINGER_FREE);
+	CHECK(inputflinger_live_is_open(&live, &client, &told) == INPUTFLINGER_FREE && told);
+	CHECK(inputflinger_live_client_at(&live, 1, &client) == INPUTFLINGER_FREE);
+	CHECK(inputflinger_live_windows(&live, 0, NULL, 0, NULL, 0, &number) == INPUTFLINGER_FREE && number == 7);
+	CHECK(inputflinger_live_focus(&live, 0, 0, NULL) == INPUTFLINGER_FREE);
+	CHECK(inputflinger_live_pilfer(&live, 0, &client, 1) == INPUTFLINGER_FREE);
+	CHECK(inputflinger_live_waiting(&live, &number) == INPUTFLINGER_FREE && number == 7);
+	CHECK(inputflinger_live_next(&live, &client, &m) == INPUTFLINGER_FREE);
+	CHECK(inputflinger_live_finish(&live, 0, &client, 1) == INPUTFLINGER_FREE);
+	CHECK(inputflinger_live_due(&live, &number) == INPUTFLINGER_FREE && number == 7);
+	CHECK(inputflinger_live_advance(&live, 0, &number) == INPUTFLINGER_FREE && number == 7);
+	CHECK(inputflinger_live_clock(&live, &number) == INPUTFLINGER_FREE && number == 7);
+	CHECK(inputflinger_live_focused(&live, 0, &client) == INPUTFLINGER_FREE);
+	CHECK(inputflinger_live_key_target(&live, &client) == INPUTFLINGER_FREE);
+	CHECK(inputflinger_live_is_responsive(&live, &client, &told) == INPUTFLINGER_FREE && told);
+	CHECK(inputflinger_live_holds(&live, &client, 1, &ids) == INPUTFLINGER_FREE && ids == 7);
+	same_client(client, 1, 1);
+}
+
+static void nulls(void)
+{
+	live_t live = {0};
+	client_t client = {1, 1};
+	message_t m = {0};
+	uint64_t number;
+	uint32_t ids;
+	uint8_t device;
+	bool told;
+
+	CHECK(inputflinger_live_new(NULL, LIMIT, NULL) == INPUTFLINGER_NULL);
+	CHECK(inputflinger_live_free(NULL) == INPUTFLINGER_NULL);
+	CHECK(inputflinger_live_add_touch(NULL, 0, 1, &panel, &device) == INPUTFLINGER_NULL);
+	CHECK(inputflinger_live_add_touch(&live, 0, 1, NULL, &device) == INPUTFLINGER_NULL);
+	CHECK(inputflinger_live_add_touch(&live, 0, 1, &panel, NULL) == INPUTFLINGER_NULL);
+	CHECK(inputflinger_live_remove_device(NULL, 0, 1) == INPUTFLINGER_NULL);
+	CHECK(inputflinger_live_event(NULL, 0, 1, 0, 0, 0) == INPUTFLINGER_NULL);
+	CHECK(inputflinger_live_args(NULL, 0, &m) == INPUTFLINGER_NULL);
+	CHECK(inputflinger_live_args(&live, 0, NULL) == INPUTFLINGER_NULL);
+	CHECK(inputflinger_live_open(NULL, &client) == INPUTFLINGER_NULL);
+	CHECK(inputflinger_live_open(&live, NULL) == INPUTFLINGER_NULL);
+	CHECK(inputflinger_live_close(NULL, 0, &client) == INPUTFLINGER_NULL);
+	CHECK(inputflinger_live_close(&live, 0, NULL) == INPUTFLINGER_NULL);
+	CHECK(inputflinger_live_is_open(NULL, &client, &told) == INPUTFLINGER_NULL);
+	CHECK(inputflinger_live_is_open(&live, NULL, &told) == INPUTFLINGER_NULL);
+	CHECK(inputflinger_live_is_open(&live, &client, NULL) == INPUTFLINGER_NULL);
+	CHECK(inputflinger_live_client_at(NULL, 1, &client) == INPUTFLINGER_NULL);
+	CHECK(inputflinger_live_client_at(&live, 1, NULL) == INPUTFLINGER_NULL);
+	CHECK(inputflinger_live_windows(NULL, 0, NULL, 0, NULL, 0, NULL) == INPUTFLINGER_NULL);
+	CHECK(inputflinger_live_windows(&live, 0, NULL, 1, NULL, 0, NULL) == INPUTFLINGER_NULL);
+	CHECK(inputflinger_live_windows(&live, 0, NULL, 0, NULL, 1, NULL) == INPUTFLINGER_NULL);
+	CHECK(inputflinger_live_focus(NULL, 0, 0, &client) == INPUTFLINGER_NULL);
+	CHECK(inputflinger_live_pilfer(NULL, 0, &client, 1) == INPUTFLINGER_NULL);
+	CHECK(inputflinger_live_pilfer(&live, 0, NULL, 1) == INPUTFLINGER_NULL);
+	CHECK(inputflinger_live_waiting(NULL, &number) == INPUTFLINGER_NULL);
+	CHECK(inputflinger_live_waiting(&live, NULL) == INPUTFLINGER_NULL);
+	CHECK(inputflinger_live_next(NULL, &client, &m) == INPUTFLINGER_NULL);
+	CHECK(inputflinger_live_next(&live, NULL, &m) == INPUTFLINGER_NULL);
+	CHECK(inputflinger_live_next(&live, &client, NULL) == INPUTFLINGER_NULL);
+	CHECK(inputflinger_live_finish(NULL, 0, &client, 1) == INPUTFLINGER_NULL);
+	CHECK(inputflinger_live_finish(&live, 0, NULL, 1) == INPUTFLINGER_NULL);
+	CHECK(inputflinger_live_due(NULL, &number) == INPUTFLINGER_NULL);
+	CHECK(inputflinger_live_due(&live, NULL) == INPUTFLINGER_NULL);
+	CHECK(inputflinger_live_advance(NULL, 0, &number) == INPUTFLINGER_NULL);
+	CHECK(inputflinger_live_advance(&live, 0, NULL) == INPUTFLINGER_NULL);
+	CHECK(inputflinger_live_clock(NULL, &number) == INPUTFLINGER_NULL);
+	CHECK(inputflinger_live_clock(&live, NULL) == INPUTFLINGER_NULL);
+	CHECK(inputflinger_live_focused(NULL, 0, &client) == INPUTFLINGER_NULL);
+	CHECK(inputflinger_live_focused(&live, 0, NULL) == INPUTFLINGER_NULL);
+	CHECK(inputflinger_live_key_target(NULL, &client) == INPUTFLINGER_NULL);
+	CHECK(inputflinger_live_key_target(&live, NULL) == INPUTFLINGER_NULL);
+	CHECK(inputflinger_live_is_responsive(NULL, &client, &told) == INPUTFLINGER_NULL);
+	CHECK(inputflinger_live_is_responsive(&live, NULL, &told) == INPUTFLINGER_NULL);
+	CHECK(inputflinger_live_is_responsive(&live, &client, NULL) == INPUTFLINGER_NULL);
+	CHECK(inputflinger_live_holds(NULL, &client, 1, &ids) == INPUTFLINGER_NULL);
+	CHECK(inputflinger_live_holds(&live, NULL, 1, &ids) == INPUTFLINGER_NULL);
+	CHECK(inputflinger_live_holds(&live, &client, 1, NULL) == INPUTFLINGER_NULL);
+}
+
+static void beginnings(void)
+{
+	live_t live = {0};
+	struct inputflinger_displays displays = {{0, 1, 2, 3, 3, 3, 3, 3}}, bad = {{0, 0, 0, 0, 0, 0, 0, 4}};
+	struct inputflinger_panel other = panel;
+	uint8_t device = 77;
+
+	CHECK(inputflinger_live_new(&live, 999, NULL) == INPUTFLINGER_OUT_OF_RANGE);
+	CHECK(inputflinger_live_new(&live, 600000001, NULL) == INPUTFLINGER_OUT_OF_RANGE);
+	CHECK(inputflinger_live_new(&live, LIMIT, &bad) == INPUTFLINGER_OUT_OF_RANGE);
+	CHECK(!live.is_open);
+	OK(inputflinger_live_new(&live, LIMIT, &displays));
+	CHECK(inputflinger_live_new(&live, LIMIT, &displays) == INPUTFLINGER_TAKEN);
+	CHECK(inputflinger_live_add_touch(&live, 4, 10, &panel, &device) == INPUTFLINGER_OUT_OF_RANGE);
+	CHECK(inputflinger_live_add_touch(&live, 0, 0, &panel, &device) == INPUTFLINGER_BAD_SLOTS);
+	CHECK(inputflinger_live_add_touch(&live, 0, 17, &panel, &device) == INPUTFLINGER_BAD_SLOTS);
+	other.x.max = -1;
+	CHECK(inputflinger_live_add_touch(&live, 0, 10, &other, &device) == INPUTFLINGER_OUT_OF_RANGE);
+	other = panel;
+	other.y.min = 2400;
+	CHECK(inputflinger_live_add_touch(&live, 0, 10, &other, &device) == INPUTFLINGER_OUT_OF_RANGE);
+	other = panel;
+	other.width = 0;
+	CHECK(inputflinger_live_add_touch(&live, 0, 10, &other, &device) == INPUTFLINGER_OUT_OF_RANGE);
+	other = panel;
+	other.height = 16385;
+	CHECK(inputflinger_live_add_touch(&live, 0, 10, &other, &device) == INPUTFLINGER_OUT_OF_RANGE);
+	other = panel;
+	other.rotation = 4;
+	CHECK(inputflinger_live_add_touch(&live, 0, 10, &other, &device) == INPUTFLINGER_OUT_OF_RANGE && device == 77);
+	OK(inputflinger_live_add_touch(&live, 0, 10, &panel, &device));
+	CHECK(device == 1);
+	CHECK(inputflinger_live_add_touch(&live, 0, 10, &panel, &device) == INPUTFLINGER_TOO_MANY);
+	other.rotation = 3;
+	OK(inputflinger_live_add_touch(&live, 3, 16, &other, &device));
+	CHECK(device == 4);
+	OK(inputflinger_live_remove_device(&live, 0, 4));
+	CHECK(inputflinger_live_remove_device(&live, 0, 4) == INPUTFLINGER_NO_DEVICE);
+	CHECK(inputflinger_live_remove_device(&live, 0, 9) == INPUTFLINGER_OUT_OF_RANGE);
+	CHECK(inputflinger_live_remove_device(&live, LATEST + 1, 1) == INPUTFLINGER_OUT_OF_RANGE);
+	CHECK(inputflinger_live_event(&live, 0, 4, 0, 0, 0) == INPUTFLINGER_NO_DEVICE);
+	CHECK(inputflinger_live_event(&live, 0, 0, 0, 0, 0) == INPUTFLINGER_OUT_OF_RANGE);
+	CHECK(inputflinger_live_event(&live, LATEST + 1, 1, 0, 0, 0) == INPUTFLINGER_OUT_OF_RANGE);
+	OK(inputflinger_live_event(&live, LATEST, 1, 0xffff, 0xffff, INT32_MIN));
+	OK(inputflinger_live_free(&live));
+	CHECK(!live.is_open && live.at == NULL);
+}
+
+static void clients(void)
+{
+	live_t live = {0};
+	client_t first = {0}, other = {0}, told = {77, 77};
+	bool is = false;
+
+	OK(inputflinger_live_new(&live, LIMIT, NULL));
+	OK(inputflinger_live_open(&live, &first));
+	same_client(first, 1, 1);
+	for (uint32_t i = 2; i <= 64; i++) {
+		OK(inputflinger_live_open(&live, &other));
+		same_client(other, i, i);
+	}
+	CHECK(inputflinger_live_open(&live, &told) == INPUTFLINGER_FULL);
+	same_client(told, 77, 77);
+	OK(inputflinger_live_is_open(&live, &first, &is));
+	CHECK(is);
+	CHECK(inputflinger_live_close(&live, LATEST + 1, &first) == INPUTFLINGER_OUT_OF_RANGE);
+	OK(inputflinger_live_close(&live, 5, &first));
+	OK(inputflinger_live_is_open(&live, &first, &is));
+	CHECK(!is);
+	CHECK(inputflinger_live_close(&live, 5, &first) == INPUTFLINGER_NOT_OPEN);
+	CHECK(inputflinger_live_close(&live, 5, &told) == INPUTFLINGER_NOT_OPEN);
+	CHECK(inputflinger_live_client_at(&live, 1, &told) == INPUTFLINGER_NOTHING);
+	CHECK(inputflinger_live_client_at(&live, 0, &told) == INPUTFLINGER_NOTHING);
+	CHECK(inputflinger_live_client_at(&live, UINT32_MAX, &told) == INPUTFLINGER_NOTHING);
+	same_client(told, 77, 77);
+	OK(inputflinger_live_open(&live, &other));
+	same_client(other, 1, 65);
+	OK(inputflinger_live_client_at(&live, 1, &told));
+	same_client(told, 1, 65);
+	OK(inputflinger_live_is_responsive(&live, &other, &is));
+	CHECK(is);
+	OK(inputflinger_live_is_responsive(&live, &first, &is));
+	CHECK(!is);
+	OK(inputflinger_live_free(&live));
+}
+
+static void windows(void)
+{
+	live_t live = {0};
+	client_t a = {0}, b = {0}, gone = {9, 3};
+	struct inputflinger_window shown[65], two[2];
+	struct inputflinger_rect rects[66] = {{0, 0, 10, 10}, {5, 0, 4, 10}};
+	uint64_t named = 77;
+	uint32_t ids = 77;
+
+	OK(inputflinger_live_new(&live, LIMIT, NULL));
+	OK(inputflinger_live_open(&live, &a));
+	OK(inputflinger_live_open(&live, &b));
+	two[0] = window(a, 0);
+	two[1] = window(gone, 0);
+	CHECK(show(&live, two, 2, &named) == INPUTFLINGER_NOT_OPEN && named == 1);
+	two[1] = window(a, 0);
+	CHECK(show(&live, two, 2, &named) == INPUTFLINGER_TWICE && named == 1);
+	CHECK(show(&live, two, 2, NULL) == INPUTFLINGER_TWICE);
+	two[1] = window(b, 0);
+	two[1].display = 4;
+	CHECK(show(&live, two, 2, &named) == INPUTFLINGER_OUT_OF_RANGE);
+	two[1].display = 3;
+	CHECK(inputflinger_live_windows(&live, 0, two, 2, rects, 1, &named) == INPUTFLINGER_OUT_OF_RANGE);
+	CHECK(inputflinger_live_windows(&live, 0, two, 2, rects, 2, &named) == INPUTFLINGER_OUT_OF_RANGE);
+	rects[1] = rects[0];
+	two[0].rects = 65;
+	CHECK(inputflinger_live_windows(&live, 0, two, 2, rects, 66, &named) == INPUTFLINGER_OUT_OF_RANGE);
+	two[0].rects = 64;
+	OK(inputflinger_live_windows(&live, 0, two, 2, rects, 66, &named));
+	CHECK(inputflinger_live_windows(&live, LATEST + 1, two, 2, rects, 66, &named) == INPUTFLINGER_OUT_OF_RANGE);
+	for (size_t i = 0; i < 65; i++)
+		shown[i] = window(a, 0);
+	CHECK(show(&live, shown, 65, &named) == INPUTFLINGER_TOO_MANY && named == 1);
+	OK(show(&live, NULL, 0, NULL));
+	CHECK(inputflinger_live_pilfer(&live, 0, &a, 1) == INPUTFLINGER_NOT_SPY);
+	two[0] = window(a, INPUTFLINGER_SPY);
+	two[1] = window(b, 0);
+	OK(show(&live, two, 2, NULL));
+	CHECK(inputflinger_live_pilfer(&live, 0, &a, 1) == INPUTFLINGER_NOTHING_HELD);
+	CHECK(inputflinger_live_pilfer(&live, 0, &gone, 1) == INPUTFLINGER_NOT_OPEN);
+	CHECK(inputflinger_live_pilfer(&live, 0, &a, 0) == INPUTFLINGER_OUT_OF_RANGE);
+	CHECK(inputflinger_live_pilfer(&live, LATEST + 1, &a, 1) == INPUTFLINGER_OUT_OF_RANGE);
+	CHECK(inputflinger_live_holds(&live, &a, 9, &ids) == INPUTFLINGER_OUT_OF_RANGE && ids == 77);
+	OK(inputflinger_live_holds(&live, &gone, 1, &ids));
+	CHECK(ids == 0);
+	OK(inputflinger_live_free(&live));
+}
+
+/* Two fingers, seen by a spy and by the window behind it, and pilfered. */
+static void fingers(void)
+{
+	live_t live = {0};
+	client_t spy = {0}, behind = {0};
+	struct inputflinger_window two[2];
+	message_t m, down = motion(1, INPUTFLINGER_DOWN, 0, 0x1, 10, 20), more = motion(1, INPUTFLINGER_POINTER_DOWN, 1, 0x3, 10, 20);
+	uint64_t mask = 0;
+	uint32_t ids = 0;
+	uint8_t device = 0;
+
+	OK(inputflinger_live_new(&live, LIMIT, NULL));
+	OK(inputflinger_live_add_touch(&live, 0, 10, &panel, &device));
+	OK(inputflinger_live_open(&live, &spy));
+	OK(inputflinger_live_open(&live, &behind));
+	two[0] = window(spy, INPUTFLINGER_SPY);
+	two[1] = window(behind, 0);
+	two[1].frame.left = -5;
+	OK(show(&live, two, 2, NULL));
+	CHECK(inputflinger_live_args(&live, 0, &more) == INPUTFLINGER_INCONSISTENT);
+	OK(inputflinger_live_args(&live, 1000, &down));
+	OK(inputflinger_live_args(&live, 2000, &more));
+	OK(inputflinger_live_waiting(&live, &mask));
+	CHECK(mask == 0x3);
+	m = next(&live, spy);
+	CHECK(m.seq == 1 && m.moment_us == 1000 && m.kind == INPUTFLINGER_MOTION && m.device == 1 && m.action == INPUTFLINGER_DOWN);
+	CHECK(m.index == 0 && m.flags == 0 && m.count == 1 && m.pointers[0].id == 0 && m.pointers[0].x == 10 && m.pointers[0].y == 20);
+	CHECK(m.meta == 0 && m.repeat == 0 && m.scan == 0 && m.code == 0 && m.down == 0 && m.focus == 0 && m.pointers[15].x == 0);
+	m = next(&live, behind);
+	CHECK(m.seq == 1 && m.pointers[0].x == 15);
+	m = next(&live, behind);
+	CHECK(m.seq == 2 && m.action == INPUTFLINGER_POINTER_DOWN && m.index == 1 && m.count == 2 && m.pointers[1].x == 115 && m.pointers[1].id == 1);
+	OK(inputflinger_live_holds(&live, &behind, 1, &ids));
+	CHECK(ids == 0x3);
+	OK(inputflinger_live_pilfer(&live, 3000, &spy, 1));
+	m = next(&live, behind);
+	CHECK(m.seq == 3 && m.action == INPUTFLINGER_CANCEL && m.count == 2);
+	OK(inputflinger_live_holds(&live, &behind, 1, &ids));
+	CHECK(ids == 0);
+	m = (message_t){0};
+	m.kind = INPUTFLINGER_RESET;
+	m.device = 1;
+	OK(inputflinger_live_args(&live, 4000, &m));
+	m = next(&live, spy);
+	m = next(&live, spy);
+	CHECK(m.seq == 3 && m.moment_us == 4000 && m.action == INPUTFLINGER_CANCEL);
+	m.kind = INPUTFLINGER_FOCUS;
+	CHECK(inputflinger_live_args(&live, 4000, &m) == INPUTFLINGER_OUT_OF_RANGE);
+	m.kind = INPUTFLINGER_RESET;
+	m.device = 9;
+	CHECK(inputflinger_live_args(&live, 4000, &m) == INPUTFLINGER_OUT_OF_RANGE);
+	m.device = 2;
+	CHECK(inputflinger_live_args(&live, 4000, &m) == INPUTFLINGER_NO_DEVICE);
+	CHECK(inputflinger_live_args(&live, LATEST + 1, &down) == INPUTFLINGER_OUT_OF_RANGE);
+	OK(inputflinger_live_free(&live));
+}
+
+static void keys_and_time(void)
+{
+	live_t live = {0};
+	client_t client = {0}, told = {77, 77}, gone = {9, 3};
+	struct inputflinger_window one;
+	message_t m = key(1, 30, 29, 1);
+	uint64_t number = 77;
+	uint8_t device = 0;
+	bool is = true;
+
+	OK(inputflinger_live_new(&live, LIMIT, NULL));
+	OK(inputflinger_live_add_touch(&live, 0, 10, &panel, &device));
+	OK(inputflinger_live_open(&live, &client));
+	one = window(client, 0);
+	OK(show(&live, &one, 1, NULL));
+	CHECK(inputflinger_live_focused(&live, 0, &told) == INPUTFLINGER_NOTHING);
+	CHECK(inputflinger_live_key_target(&live, &told) == INPUTFLINGER_NOTHING);
+	CHECK(inputflinger_live_focused(&live, 4, &told) == INPUTFLINGER_OUT_OF_RANGE);
+	same_client(told, 77, 77);
+	CHECK(inputflinger_live_focus(&live, 0, 0, &gone) == INPUTFLINGER_NOT_OPEN);
+	CHECK(inputflinger_live_focus(&live, 0, 4, &client) == INPUTFLINGER_OUT_OF_RANGE);
+	CHECK(inputflinger_live_focus(&live, LATEST + 1, 0, &client) == INPUTFLINGER_OUT_OF_RANGE);
+	OK(inputflinger_live_focus(&live, 0, 0, &client));
+	OK(inputflinger_live_focused(&live, 0, &told));
+	same_client(told, client.channel, client.generation);
+	told = (client_t){77, 77};
+	OK(inputflinger_live_key_target(&live, &told));
+	same_client(told, client.channel, client.generation);
+	m.flags = 7;
+	m.repeat = 7;
+	OK(inputflinger_live_args(&live, 1000000, &m));
+	m = next(&live, client);
+	CHECK(m.seq == 1 && m.kind == INPUTFLINGER_FOCUS && m.focus == 1 && m.count == 0);
+	OK(inputflinger_live_finish(&live, 1000000, &client, 1));
+	CHECK(inputflinger_live_finish(&live, 1000000, &client, 1) == INPUTFLINGER_UNKNOWN_SEQ);
+	CHECK(inputflinger_live_finish(&live, 1000000, &client, 2) == INPUTFLINGER_UNKNOWN_SEQ);
+	CHECK(inputflinger_live_finish(&live, 1000000, &gone, 1) == INPUTFLINGER_NOT_OPEN);
+	CHECK(inputflinger_live_finish(&live, LATEST + 1, &client, 1) == INPUTFLINGER_OUT_OF_RANGE);
+	m = next(&live, client);
+	CHECK(m.seq == 2 && m.kind == INPUTFLINGER_KEY && m.scan == 30 && m.code == 29 && m.down == 1 && m.flags == 0 && m.repeat == 0);
+	CHECK(inputflinger_live_next(&live, &client, &m) == INPUTFLINGER_NOTHING);
+	CHECK(inputflinger_live_next(&live, &gone, &m) == INPUTFLINGER_NOTHING && m.seq == 2);
+	OK(inputflinger_live_due(&live, &number));
+	CHECK(number == 1500000);
+	CHECK(inputflinger_live_advance(&live, LATEST + 1, &number) == INPUTFLINGER_OUT_OF_RANGE && number == 1500000);
+	OK(inputflinger_live_advance(&live, 1500000, &number));
+	CHECK(number == 0);
+	m = next(&live, client);
+	CHECK(m.seq == 3 && m.down == 1 && m.repeat == 1);
+	OK(inputflinger_live_advance(&live, 6000000, &number));
+	CHECK(number == 1);
+	OK(inputflinger_live_is_responsive(&live, &client, &is));
+	CHECK(!is);
+	OK(inputflinger_live_clock(&live, &number));
+	CHECK(number == 6000000);
+	OK(inputflinger_live_focus(&live, 6000000, 0, NULL));
+	CHECK(inputflinger_live_focused(&live, 0, &told) == INPUTFLINGER_NOTHING);
+	OK(inputflinger_live_close(&live, 6000000, &client));
+	CHECK(inputflinger_live_due(&live, &number) == INPUTFLINGER_NOTHING && number == 6000000);
+	OK(inputflinger_live_free(&live));
+}
+
+/* The finger of the header's page, and a handle that is moved under it. */
+static void closed_under_a_finger(void)
+{
+	live_t live = {0}, other;
+	client_t first = {0}, second = {0};
+	struct inputflinger_window one;
+	message_t m = motion(1, INPUTFLINGER_DOWN, 0, 0x1, 540, 1200);
+	uint8_t device = 0;
+
+	OK(inputflinger_live_new(&live, LIMIT, NULL));
+	OK(inputflinger_live_add_touch(&live, 0, 10, &panel, &device));
+	OK(inputflinger_live_open(&live, &first));
+	one = window(first, 0);
+	OK(show(&live, &one, 1, NULL));
+	OK(inputflinger_live_args(&live, 1000, &m));
+	memcpy(&other, &live, sizeof other);
+	memset(&live, 0, sizeof live);
+	CHECK(next(&other, first).seq == 1);
+	OK(inputflinger_live_close(&other, 2000, &first));
+	OK(inputflinger_live_open(&other, &second));
+	same_client(second, 1, 2);
+	CHECK(inputflinger_live_next(&other, &second, &m) == INPUTFLINGER_NOTHING);
+	CHECK(inputflinger_live_finish(&other, 2000, &first, 1) == INPUTFLINGER_NOT_OPEN);
+	CHECK(inputflinger_live_free(&live) == INPUTFLINGER_FREE);
+	OK(inputflinger_live_free(&other));
+}
+
+/* The clients that have something new get it; the right one is never done with a message. */
+static void deliver(live_t *live, uint64_t now, client_t idle)
+{
+	uint64_t mask;
+	client_t client;
+	message_t m;
+
+	OK(inputflinger_live_waiting(live, &mask));
+	for (uint32_t channel = 1; channel <= 64; channel++) {
+		if (!(mask >> (channel - 1) & 1))
+			continue;
+		OK(inputflinger_live_client_at(live, channel, &client));
+		while (inputflinger_live_next(live, &client, &m) == INPUTFLINGER_OK) {
+			printf("channel %u: ", channel);
+			say(stdout, &m);
+			if (channel != idle.channel)
+				OK(inputflinger_live_finish(live, now, &client, m.seq));
+		}
+	}
+}
+
+static void advance(live_t *live, uint64_t now, client_t idle)
+{
+	uint64_t late;
+
+	OK(inputflinger_live_advance(live, now, &late));
+	for (uint32_t channel = 1; channel <= 64; channel++)
+		if (late >> (channel - 1) & 1)
+			printf("channel %u: does not respond\n", channel);
+	deliver(live, now, idle);
+}
+
+static void example(void)
+{
+	static const struct { uint64_t now; uint16_t type, code; int32_t value; } events[] = {
+		{1000, 3, 47, 0}, {1000, 3, 57, 45}, {1000, 3, 53, 100}, {1000, 3, 54, 200}, {1000, 0, 0, 0},
+		{2000, 3, 47, 1}, {2000, 3, 57, 46}, {2000, 3, 53, 700}, {2000, 3, 54, 400}, {2000, 0, 0, 0},
+		{3000, 3, 47, 0}, {3000, 3, 57, -1}, {3000, 0, 0, 0},
+	};
+	static const struct inputflinger_rect halves[] = {{0, 0, 540, 2400}, {540, 0, 1080, 2400}};
+	live_t live = {0};
+	struct inputflinger_window two[2];
+	client_t left, right;
+	uint64_t due;
+	uint8_t device;
+
+	OK(inputflinger_live_new(&live, LIMIT, NULL));
+	OK(inputflinger_live_add_touch(&live, 0, 10, &panel, &device));
+	OK(inputflinger_live_open(&live, &left));
+	OK(inputflinger_live_open(&live, &right));
+	two[0] = window(left, 0);
+	two[1] = window(right, 0);
+	two[0].frame = halves[0];
+	two[1].frame = halves[1];
+	OK(inputflinger_live_windows(&live, 0, two, 2, halves, 2, NULL));
+	for (size_t i = 0; i < sizeof events / sizeof *events; i++) {
+		advance(&live, events[i].now, right);
+		OK(inputflinger_live_event(&live, events[i].now, device, events[i].type, events[i].code, events[i].value));
+		deliver(&live, events[i].now, right);
+	}
+	if (inputflinger_live_due(&live, &due) == INPUTFLINGER_OK)
+		advance(&live, due, right);
+	OK(inputflinger_live_free(&live));
+}
+
+int main(int count, char **words)
+{
+	if (count > 1 && strcmp(words[1], "example") == 0) {
+		example();
+		return 0;
+	}
+	free_handles();
+	nulls();
+	beginnings();
+	clients();
+	windows();
+	fingers();
+	keys_and_time();
+	closed_under_a_finger();
+	return 0;
+}
