@@ -28,9 +28,9 @@ message down flags repeat = record { key = volume_up down; flags = flags; repeat
 abbrev sent : ℕ → ℕ → Option Sent
 sent repeat clock = Some (record { channel = 1; key = message true 0 repeat; clock = clock })
 
--- volume up is down on device 1, and nothing on the others
+-- volume up is down on device 1, and nothing on the others: of scan code 115 it is bit 19 of the fourth set
 abbrev down : List Down
-down = record { ids = 0; keys = 115 ∷ [] } ∷ replicate 7 (record { ids = 0; keys = [] })
+down = record { ids = 0; keys = 0 ∷ 0 ∷ 0 ∷ 524288 ∷ [] } ∷ replicate 7 (record { ids = 0; keys = [] })
 
 -- window 1 was told the key
 abbrev told : ℕ → Tracked

@@ -1,7 +1,7 @@
 //! The clock, how many steps there were, the args that wait, and what is down on each device.
 ghost use Rattle.std.specs.Prelude.{◌≡◌, ◌<◌, ◌≤◌, ◌^◌, [], slice_get, Ok, Err, IfOk, OnErr, OnOk, option_copied};
 ghost use Rattle.input_types.specs.DeviceRule.{device_of};
-ghost use Rattle.device_down.specs.Down.{PlansAt, needs_memory};
+ghost use Rattle.device_down.specs.Down.{PlansAt};
 ghost use Rattle.dispatch_calls.specs.declared.call.Call.{Call};
 ghost use Rattle.dispatch_calls.specs.declared.reply.Reply.{Reply};
 ghost use Rattle.dispatcher.specs.Queue.{QueueIs, QueueGoes};
@@ -96,7 +96,7 @@ impl Queueing {
         ensures err { OnErr result (self.new ≡ self.old) }
     {
         self.waiting.reserve(1)?;
-        self.down.apply(change)?;
+        self.down.apply(change);
         self.waiting.put(copy_of(args));
         self.clock = now.later(self.clock);
         self.place += 1;
