@@ -23,12 +23,11 @@ all : (c : goal.After-self-1) → IsRecorded (reverse c.note.new.entries.items) 
 all c = recorded_behind (entry c) c.self.inside.entries.items c.note.new.entries.items c.apply.new.self (c.note.ensures.items ∙ ap (λ (xs : List Entry). xs ++ entry c ∷ []) c.in_ok-make_sure.ensures.items) (newest c)
 
 pub invariant_of-self-in-Ok : goal.invariant_of-self-in-Ok
-invariant_of-self-in-Ok c =
-    (
-      all c,
-      room_after _ _ c.self.inside.spare _ _ _ c.in_ok-make_sure.ensures.ok c.note.ensures.len c.note.ensures.capacity c.saturating_sub-self-inside.ensures,
-      omega (arith, c.saturating_sub-self-inside.ensures, c.self.invariant.2, c.in-Ok.ensures.room, one_in c.args.call),
-    )
+invariant_of-self-in-Ok c = (
+  all c,
+  room_after _ _ c.self.inside.spare _ _ _ c.in_ok-make_sure.ensures.ok c.note.ensures.len c.note.ensures.capacity c.saturating_sub-self-inside.ensures,
+  omega (arith, c.saturating_sub-self-inside.ensures, c.self.invariant.2, c.in-Ok.ensures.room, one_in c.args.call),
+)
 
 pub returns-in-Ok-clause-sound : goal.returns-in-Ok-clause-sound
 returns-in-Ok-clause-sound c = sound_of _ c.apply.new.self _ (all c)
