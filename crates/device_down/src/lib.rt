@@ -12,8 +12,8 @@
 //! ```
 //!
 //! [`DevicesDown::plan`] answers what args change, or what is down where they may not come by the rule of devices, and
-//! changes nothing. [`DevicesDown::apply`] makes the change. Neither takes memory: of each device a bit is kept for each
-//! scan code, from the start.
+//! changes nothing. [`DevicesDown::apply`] makes the change. Neither takes memory: of each device a bit is kept for
+//! each scan code, from the start.
 #![tactic(auto)]
 
 mod change;

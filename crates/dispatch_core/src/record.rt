@@ -64,8 +64,8 @@ impl Core {
     /// Answers a call as the history says, and puts it with its reply behind the entries. Want of memory changes
     /// nothing, makes no entry and drops the call.
     ///
-    /// Where room was reserved, some calls cannot answer want of memory: args that are handed in, owners that receive or
-    /// finish, a removal, a request that changes no focus, a tick that names nobody and a pump that is idle.
+    /// Where room was reserved, some calls cannot answer want of memory: args that are handed in, owners that receive
+    /// or finish, a removal, a request that changes no focus, a tick that names nobody and a pump that is idle.
     pub fn apply(&mut self, seat: u64, call: Call) -> Result<Reply, AllocError>
         ensures reply { IfOk result (λ answer. answer ≡ reply self.old.displays (history_of self.old.entries) call) }
         ensures entry { IfOk result (λ answer.

@@ -16,11 +16,12 @@ ghost use Rattle.dispatcher.specs.ReadLaws.{ReadsTouches};
 ghost use Rattle.window_snapshot.specs.Mask.{is_channel};
 ghost use Rattle.dispatcher.specs.Access.{is_opened, gone, namings_gone, messages_of, got, oldest_delivery};
 ghost use Rattle.dispatcher.specs.Access.{is_waiting, next_repeat, HoldsInput};
-ghost use Rattle.dispatcher.specs.Dispatching.{StandsFor, with_room};
+ghost use Rattle.dispatcher.specs.Dispatching.{StandsFor};
 ghost use Rattle.dispatcher.specs.Memory.{IsCalm, MayCount};
 ghost use Rattle.dispatcher.specs.Queueing.{args_in};
 
 mod asked;
+mod room;
 
 use crate::apply::apply;
 use crate::tables::Tables;
@@ -101,17 +102,6 @@ impl Dispatcher {
         ensures room { self.old.queue.spare ≤ self.new.queue.spare + args_in call.now }
     {
         apply_unread(&mut self.tables, call)
-    }
-
-    /// Makes room for the next `n` args, so that so many calls of `Notify` cannot answer want of memory. Each of them
-    /// takes of this room at most for one, and no other call takes of it. Without memory nothing changes.
-    pub fn reserve(&mut self, n: u32) -> Result<(), AllocError>
-        ensures ok { OnOk result (self.new ≡ with_room n self.old) }
-        ensures err { OnErr result (self.new ≡ self.old) }
-        ensures stays { (es : List Effect) → StandsFor es self.old → StandsFor es self.new }
-        ensures reserved { n ≤ self.old.queue.spare → IsOk result }
-    {
-        self.tables.queueing.reserve(n)
     }
 
     /// Drops the messages of a channel that its owner received. They are not needed any more. Their numbers stay in
