@@ -1,5 +1,5 @@
 //! How each call is answered.
-ghost use Rattle.std.specs.Prelude.{◌≡◌, ◌<◌, ◌^◌, true, false, List, None, Some, slice_get, if◌then◌else◌};
+ghost use Rattle.std.specs.Prelude.{◌≡◌, ◌<◌, ◌≤◌, ◌^◌, true, false, List, None, Some, slice_get, if◌then◌else◌};
 ghost use Rattle.std.specs.Prelude.{IfOk, OnOk, OnErr, IsOk, IfSome};
 ghost use Rattle.dispatch_calls.specs.declared.call.Call.TheVariants.{Notify, Pump};
 ghost use Rattle.dispatch_history.specs.Effect.{Effect};
@@ -8,6 +8,7 @@ ghost use Rattle.dispatch_round.specs.Rounds.{IsTimely};
 ghost use Rattle.dispatch_calls.specs.declared.reply.Reply.TheVariants.{Inconsistent, Dispatched, Repeated, Idle};
 ghost use Rattle.dispatcher.specs.Memory.{IsCalm, MayCount};
 ghost use Rattle.dispatcher.specs.Needing.{NeedsNone};
+ghost use Rattle.dispatcher.specs.Queueing.{args_in};
 ghost use Rattle.dispatcher.specs.Tables.{TablesStandFor, MayStep, GoesAs, Pumps, GoesOn, is_routed, is_owned};
 ghost use Rattle.dispatcher.specs.Tables.{SameButRoom, SameAll};
 
@@ -22,11 +23,17 @@ use input_types::{Args, Moment};
 use std::alloc::AllocError;
 
 /// Answers a call. Without memory nothing changes but the room that channels have.
+///
+/// It is not inlined: a reply has the size of a message, and where branches that make one meet inside of another
+/// function it is copied once more for each.
+#[inline(never)]
 pub(crate) fn apply(tables: &mut Tables, call: &Call) -> Result<Reply, AllocError>
     requires { (es : List Effect) × TablesStandFor es tables.old }
     ensures ok { IfOk result (λ answer. GoesOn call.now answer tables.old tables.new) }
     ensures err { OnErr result (SameAll tables.old tables.new) }
     ensures calm { (es : List Effect) → TablesStandFor es tables.old → MayCount es → IsCalm es call.now → IsOk result }
+    ensures reserved { (es : List Effect) → TablesStandFor es tables.old → MayCount es
+        → args_in call.now ≡ 1 → 1 ≤ tables.old.queueing.spare → IsOk result }
 {
     if tables.queueing.place() == u64::MAX {
         return Err(AllocError);
@@ -44,6 +51,7 @@ fn notify(tables: &mut Tables, now: Moment, args: &Args) -> Result<Reply, AllocE
     requires { MayStep tables.old }
     ensures ok { IfOk result (λ answer. GoesOn (Notify now args.now) answer tables.old tables.new) }
     ensures err { OnErr result (SameAll tables.old tables.new) }
+    ensures reserved { 1 ≤ tables.old.queueing.spare → IsOk result }
 {
     rises(now, args);
     match tables.queueing.plan(args) {

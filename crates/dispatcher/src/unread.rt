@@ -1,8 +1,9 @@
 //! Calls whose answers are not read, as those of a run: no message is copied, and no answer handed on.
-ghost use Rattle.std.specs.Prelude.{◌≡◌, List, OnOk, OnErr, IsOk};
+ghost use Rattle.std.specs.Prelude.{◌≡◌, ◌≤◌, List, OnOk, OnErr, IsOk};
 ghost use Rattle.dispatch_calls.specs.declared.call.Call.TheVariants.{Receive, Finish};
 ghost use Rattle.dispatch_history.specs.Effect.{Effect};
 ghost use Rattle.dispatcher.specs.Memory.{IsCalm, MayCount};
+ghost use Rattle.dispatcher.specs.Queueing.{args_in};
 ghost use Rattle.dispatcher.specs.Tables.{TablesStandFor, MayStep, GoesOnSomehow, SameAll};
 
 use crate::apply::apply;
@@ -19,6 +20,8 @@ pub(crate) fn apply_unread(tables: &mut Tables, call: &Call) -> Result<(), Alloc
     ensures ok { OnOk result (GoesOnSomehow call.now tables.old tables.new) }
     ensures err { OnErr result (SameAll tables.old tables.new) }
     ensures calm { (es : List Effect) → TablesStandFor es tables.old → MayCount es → IsCalm es call.now → IsOk result }
+    ensures reserved { (es : List Effect) → TablesStandFor es tables.old → MayCount es
+        → args_in call.now ≡ 1 → 1 ≤ tables.old.queueing.spare → IsOk result }
 {
     if tables.queueing.place() == u64::MAX {
         return Err(AllocError);
@@ -42,6 +45,8 @@ fn apply_dropping(tables: &mut Tables, call: &Call) -> Result<(), AllocError>
     ensures ok { OnOk result (GoesOnSomehow call.now tables.old tables.new) }
     ensures err { OnErr result (SameAll tables.old tables.new) }
     ensures calm { (es : List Effect) → TablesStandFor es tables.old → MayCount es → IsCalm es call.now → IsOk result }
+    ensures reserved { (es : List Effect) → TablesStandFor es tables.old → MayCount es
+        → args_in call.now ≡ 1 → 1 ≤ tables.old.queueing.spare → IsOk result }
 {
     match apply(tables, call) {
         Ok(_) => Ok(()),
