@@ -181,7 +181,8 @@ fn answer_owner(routing: &mut Routing, call: &Call, place: u64, clock: Moment) -
     }
 }
 
-/// Any other call.
+/// Any other call. These are seldom made, so it is not inlined either.
+#[inline(never)]
 fn route(tables: &mut Tables, call: &Call) -> Result<Reply, AllocError>
     requires step { MayStep tables.old }
     requires routed { is_routed call.now ≡ true }
