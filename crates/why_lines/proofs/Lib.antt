@@ -5,6 +5,7 @@ pub mod Finishing
 pub mod Growing
 pub mod KeyHolders
 pub mod Keyed
+pub mod Making
 pub mod Motioned
 pub mod OneChannel
 pub mod Pilfering

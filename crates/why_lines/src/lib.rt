@@ -20,6 +20,7 @@
 //! What windows lose to a new snapshot, to a new focus or to a timeout is not told by this crate yet.
 #![tactic(auto)]
 
+mod apply;
 mod focuses;
 mod holders;
 mod keys;
@@ -31,6 +32,7 @@ mod pumps;
 mod seen;
 mod steps;
 
+pub use apply::apply;
 pub use focuses::{Focuses, add_changes, all_focused};
 pub use owners::{add_finish, add_pilfer};
 pub use pumps::add_pump;
