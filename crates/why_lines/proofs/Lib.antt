@@ -12,5 +12,6 @@ pub mod Pilfering
 pub mod Pumping
 pub mod Still
 pub mod Targets
+pub mod Ticking
 pub mod Told
 pub mod Worked

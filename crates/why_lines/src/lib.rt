@@ -20,7 +20,7 @@
 //! What windows lose to a new snapshot, to a new focus or to a timeout is not told by this crate yet.
 #![tactic(auto)]
 
-mod apply;
+mod calls;
 mod focuses;
 mod holders;
 mod keys;
@@ -31,9 +31,10 @@ mod owners;
 mod pumps;
 mod seen;
 mod steps;
+mod ticks;
 
-pub use apply::apply;
+pub use calls::apply;
 pub use focuses::{Focuses, add_changes, all_focused};
 pub use owners::{add_finish, add_pilfer};
 pub use pumps::add_pump;
-pub use steps::{finish, open, pilfer, pump, remove};
+pub use steps::{finish, open, pilfer, pump, remove, tick};

@@ -40,7 +40,7 @@ fn held_by(touches: &Touches, window: u32, device: u8) -> Bits32
 }
 
 /// The ids of the pointers that a window holds, of each device.
-fn ids_of(dispatcher: &Dispatcher, window: u32) -> [Bits32; 8]
+pub(crate) fn ids_of(dispatcher: &Dispatcher, window: u32) -> [Bits32; 8]
     requires { is_channel window ≡ true }
     ensures { (es : List Effect) → StandsFor es dispatcher.now
         → ids_from 1 result ≡ flat_map (λ d. ids_item d (ids_that (holds es window d))) devices }
@@ -77,7 +77,7 @@ fn keys_at(alloc: Global, holder: &KeyHolder, window: u32) -> Result<Vec<KeyArgs
 }
 
 /// The keys that a window holds.
-fn keys_held(
+pub(crate) fn keys_held(
     alloc: Global,
     dispatcher: &Dispatcher,
     window: u32,
