@@ -1,4 +1,4 @@
-use Rattle.std.proofs.Common.{◌≡◌, ℕ, sym, add-one, arith}
+use Rattle.std.proofs.Common.{◌≡◌, add-one, arith}
 use Rattle.dispatch_history.specs.Reply.{is_due}
 use Rattle.dispatch_tables.specs.Dues.{due_moment}
 use Rattle.why_text.specs.Lines.{timeout_words}
