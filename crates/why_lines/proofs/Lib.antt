@@ -11,6 +11,7 @@ pub mod OneChannel
 pub mod Pilfering
 pub mod Pumping
 pub mod Still
+pub mod Streaming
 pub mod Targets
 pub mod Ticking
 pub mod Told
