@@ -11,8 +11,8 @@ pub fn telling()
     ensures { StillLaw }
 {}
 
-/// The stream of a window gets a Down or a PointerDown exactly where the text gives it a pointer that goes down, or tells
-/// that one slips to it. So the text and the streams never disagree.
+/// The stream of a window gets a Down or a PointerDown exactly where the text gives it a pointer that goes down, or
+/// tells that one slips to it. So the text and the streams never disagree.
 pub fn streaming()
     ensures motions { DownLaw }
     ensures others { NoDownLaw }
