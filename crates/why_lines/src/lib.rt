@@ -20,8 +20,9 @@
 //! What windows lose to a new snapshot, to a new focus or to a timeout is not told by this crate yet.
 #![tactic(auto)]
 
-mod apply;
+mod calls;
 mod focuses;
+mod gone;
 mod holders;
 mod keys;
 pub mod laws;
@@ -29,11 +30,16 @@ mod losing;
 mod motions;
 mod owners;
 mod pumps;
+mod requests;
+mod rows;
 mod seen;
+mod snapshots;
 mod steps;
 
-pub use apply::apply;
+pub use calls::apply;
 pub use focuses::{Focuses, add_changes, all_focused};
 pub use owners::{add_finish, add_pilfer};
 pub use pumps::add_pump;
+pub use requests::focus_on;
+pub use snapshots::windows;
 pub use steps::{finish, open, pilfer, pump, remove};
