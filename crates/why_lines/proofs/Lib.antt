@@ -3,13 +3,17 @@ pub mod Changing
 pub mod Coming
 pub mod Finishing
 pub mod Growing
+pub mod Held
 pub mod KeyHolders
 pub mod Keyed
+pub mod Losers
 pub mod Making
 pub mod Motioned
 pub mod OneChannel
 pub mod Pilfering
 pub mod Pumping
+pub mod Refocused
+pub mod RowSets
 pub mod Still
 pub mod Streaming
 pub mod Targets

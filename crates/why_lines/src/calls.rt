@@ -6,6 +6,8 @@ ghost use Rattle.dispatcher.specs.Dispatching.{StandsFor};
 ghost use Rattle.why_text.specs.Laws.{is_silent};
 ghost use Rattle.why_lines.specs.Telling.{MayMake, Tells};
 
+use crate::requests::focus_on;
+use crate::snapshots::windows;
 use crate::steps::{finish, open, pilfer, pump, remove, tick};
 use dispatch_calls::Call;
 use dispatcher::Dispatcher;
@@ -41,7 +43,12 @@ pub fn apply(text: &mut Vec<u8>, dispatcher: &mut Dispatcher, call: &Call) -> Re
             device,
         } => pilfer(text, dispatcher, *now, *channel, *device),
         Call::Remove { now, channel } => remove(text, dispatcher, *now, *channel),
-        Call::Windows { .. } | Call::FocusOn { .. } => Err(AllocError),
+        Call::Windows { now, snapshot } => windows(text, dispatcher, call, *now, snapshot),
+        Call::FocusOn {
+            now,
+            display,
+            channel,
+        } => focus_on(text, dispatcher, *now, *display, *channel),
         Call::Notify { .. } | Call::Receive { .. } => make(dispatcher, call),
     }
 }
