@@ -1,10 +1,9 @@
 use Rattle.std.proofs.Common.{◌≡◌, max, [], ◌∷◌, sym, ap, ap₂, ◌∙◌}
 use Rattle.dispatch_calls.specs.declared.call.Call.TheVariants.{FocusOn}
 use Rattle.dispatch_history.specs.Effect.{past_of}
-use Rattle.dispatch_history.specs.Effects.{effect_of, step}
+use Rattle.dispatch_history.specs.Effects.{step}
 use Rattle.dispatch_history.specs.Focus.{key_target}
 use Rattle.dispatch_history.specs.History.{clock}
-use Rattle.dispatch_history.specs.Queue.{args_of, inbound}
 use Rattle.why_text.specs.Lines.{request_word}
 use Rattle.why_text.specs.Text.{focus_words}
 use Rattle.why_lines.specs.Gone.{target_keys, target_line}

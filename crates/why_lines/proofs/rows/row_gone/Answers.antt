@@ -1,4 +1,4 @@
-use Rattle.std.proofs.Common.{◌≡◌, ◌<◌, ◌-◌, ◌+◌, ◌&&◌, not, ℕ, refl, ap, ◌∙◌, arith, slice_index_or}
+use Rattle.std.proofs.Common.{◌≡◌, ◌<◌, ◌+◌, ◌&&◌, not, ℕ, refl, ap, ◌∙◌, arith, slice_index_or}
 use Rattle.bits32.specs.Set.{is_in}
 use Rattle.route_split.specs.Tables.{holds_at}
 use Rattle.why_text.specs.Words.{ids_that}

@@ -1,4 +1,4 @@
-use Rattle.std.proofs.Common.{ℕ, ◌≡◌, length}
+use Rattle.std.proofs.Common.{◌≡◌, length}
 use Rattle.route_split.specs.Tables.{holds_at}
 use Rattle.why_lines.proofs.RowSets.{RowsAre}
 use Rattle.why_lines.proofs.rows.rows_of.Given as goal

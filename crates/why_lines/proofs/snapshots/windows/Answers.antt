@@ -14,7 +14,7 @@ use Rattle.why_lines.specs.Telling.{MayMake}
 use Rattle.why_lines.proofs.Growing.{more_lines, one_line}
 use Rattle.why_lines.proofs.Held.{keys_there}
 use Rattle.why_lines.proofs.Making.{made_now}
-use Rattle.why_lines.proofs.Told.{from_if, stands_lawful, tells_moved}
+use Rattle.why_lines.proofs.Told.{from_if, tells_moved}
 use Rattle.why_lines.proofs.snapshots.windows.Goals as goal
 
 pub returns-clause-told : goal.returns-clause-told
