@@ -13,7 +13,8 @@
 //!
 //! - [`apply`]: any call of a dispatcher is made and told at once. What is put behind the text is `step_text` of the
 //!   step.
-//! - [`pump`], [`tick`], [`finish`], [`pilfer`], [`windows`], [`focus_on`], [`open`], [`remove`]: the same, call by call.
+//! - [`pump`], [`tick`], [`finish`], [`pilfer`], [`windows`], [`focus_on`], [`open`], [`remove`]: the same, each of
+//!   one call.
 //! - [`add_pump`]: a pointer that goes down, slips or goes up, a palm, a key, a repeat, or a device that begins anew.
 //! - [`add_pilfer`], [`add_finish`]: what owners of channels do ([`laws`]).
 //! - [`all_focused`], [`add_changes`]: the changes of the focus, and of the window that keys go to.

@@ -21,7 +21,8 @@ use std::alloc::AllocError;
 use why_writer::Lost;
 use window_snapshot::Snapshot;
 
-/// What windows hold before a step: the ids of the pointers of each, as a row, and the keys of the one which keys go to.
+/// What windows hold before a step: the ids of the pointers of each, as a row, and the keys of the one which keys go
+/// to.
 #[derive(Clone, Copy)]
 struct Held<'a> {
     rows: &'a [[Bits32; 8]; 64],
