@@ -12,7 +12,7 @@ use Rattle.dispatch_history.specs.History.{History}
 use Rattle.dispatch_core.specs.Machine.{called, steps}
 use Rattle.dispatch_core.specs.Recorded.{IsSound, history_of}
 use Rattle.dispatch_history.specs.Given.{opens}
-use Rattle.dispatch_history.specs.Plan.{ChannelOf, Cooked as PlanArgs, Plan, ScriptStep}
+use Rattle.dispatch_history.specs.Plan.{Cooked as PlanArgs, Plan, ScriptStep}
 use Rattle.input_service.specs.Services.{IsOf}
 use Rattle.dispatch_history.specs.Settled.{Settled}
 use Rattle.given_run.specs.declared.cooked.Cooked.{Cooked as GivenArgs}
