@@ -100,10 +100,52 @@ static void refused(void)
 	CHECK(has(r.out, "", 0) && has(r.err, "", 0) && r.ran.status == 0x55555555);
 }
 
+static uint32_t below(uint32_t bound)
+{
+	static uint64_t state = 1;
+
+	state = state * UINT64_C(6364136223846793005) + UINT64_C(1442695040888963407);
+	return (uint32_t)(state >> 33) % bound;
+}
+
+/* Words and files that are put together at random: the status tells whether there was room, and the rest of a buffer stays. */
+static void any(void)
+{
+	static const char *const parts[] = {"verify", "judge", "batch", "emit", "replay", "work", "race", "\n", "\n", "\n", "--stream", "--session",
+		"--events", "--frame", "--channel", "--device", "--seed", "--packets", "=", "1", "2", "3", "4", "\xff", " "};
+
+	for (int i = 0; i < 20000; i++) {
+		char words[256] = "", bytes[sizeof STREAM];
+		struct inputflinger_file some[3] = {{bytes, below(sizeof bytes)}, files[0], {bytes, below(4)}};
+		size_t out_room = below(ROOM + 1), err_room = below(ROOM + 1);
+		struct run r;
+		int status;
+
+		for (uint32_t k = below(10); k > 0; k--)
+			strcat(words, parts[below(sizeof parts / sizeof *parts)]);
+		if (below(2) == 0)
+			strcpy(words, below(2) == 0 ? "verify\n--stream\n1" : "emit\n--stream\n1\n--channel\n1\n--device\n1");
+		memcpy(bytes, STREAM, sizeof bytes);
+		for (uint32_t k = below(3); k > 0; k--)
+			bytes[below(sizeof bytes)] = (char)below(256);
+		memset(&r, 0x55, sizeof r);
+		status = inputflinger_run(words, strlen(words), some, below(4), r.out, out_room, r.err, err_room, &r.ran);
+		if (status == INPUTFLINGER_NO_THREADS) {
+			CHECK(has(r.out, "", 0) && has(r.err, "", 0) && r.ran.status == 0x55555555);
+			continue;
+		}
+		CHECK(r.ran.status <= 7 && (r.ran.status == 0) == (r.ran.err_len == 0) && (r.ran.status == 0 || r.ran.out_len == 0));
+		CHECK(status == (r.ran.out_len <= out_room && r.ran.err_len <= err_room ? INPUTFLINGER_OK : INPUTFLINGER_NO_ROOM));
+		CHECK(has(r.out, r.out, r.ran.out_len < out_room ? r.ran.out_len : out_room));
+		CHECK(has(r.err, r.err, r.ran.err_len < err_room ? r.ran.err_len : err_room));
+	}
+}
+
 int main(void)
 {
 	ends();
 	no_room();
 	refused();
+	any();
 	return 0;
 }
