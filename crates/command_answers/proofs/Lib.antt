@@ -9,6 +9,7 @@ pub mod NextSection
 pub mod Orders
 pub mod Overruns
 pub mod RaceTexts
+pub mod Streams
 pub mod Ties
 pub mod Told
 pub mod WholeRun
