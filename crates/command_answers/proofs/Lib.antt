@@ -1,6 +1,7 @@
 pub mod Answering
 pub mod Begins
 pub mod Bounds
+pub mod Coming
 pub mod Counts
 pub mod EndLines
 pub mod Examples

@@ -5,7 +5,7 @@ use Rattle.command_words.specs.Command.{Command}
 use Rattle.command_words.specs.CommandView.{alone_view, command_view}
 use Rattle.command_words.specs.declared.command.Command.{Command as Parsed}
 use Rattle.command_words.specs.declared.command.Alone.{Alone as ParsedAlone}
-use Rattle.command_words.specs.declared.command.Alone.TheVariants.{Replay, Check, Verify, Work, Batch, Hover, Emit, Judge, Compare, Inspect}
+use Rattle.command_words.specs.declared.command.Alone.TheVariants.{Replay, Check, Verify, Work, Batch, Hover, Emit, Judge, Compare, Inspect, Why}
 use Rattle.command_words.specs.Forms.{form_of}
 use Rattle.command_files.specs.declared.refusal.Refusal.{Refusal}
 use Rattle.command_files.specs.Judged.{Answer, IfTold, by_log, by_name}
@@ -67,3 +67,4 @@ alone_is (Emit stream channel device) = tt
 alone_is (Judge stream) = tt
 alone_is (Compare want got us pixels) = tt
 alone_is (Inspect recorded) = tt
+alone_is (Why recorded) = tt

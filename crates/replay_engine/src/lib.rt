@@ -1,7 +1,7 @@
 //! The top call of the program: `replay`, from the bytes of a session and of a recording to the bytes of the streams
 //! text; `race`, the same on threads, with the order that they took before it; `check`, the same in an order that a
-//! file gives; `inspect`, what a session and a recording hold; `work`, a session made from a number; `verify` and
-//! `judge`, judges of such texts; `batch`, `hover`, `emit` and `compare`.
+//! file gives; `inspect`, what a session and a recording hold; `why`, what each call came to; `work`, a session made
+//! from a number; `verify` and `judge`, judges of such texts; `batch`, `hover`, `emit` and `compare`.
 //!
 //! [`run`] reads the words, has the command answered, and writes the text, or tells with a status and a line why there
 //! is none. Its contract says for each status when it comes and what was written; `specs/Program.antt` of
