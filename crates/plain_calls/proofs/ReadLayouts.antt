@@ -2,7 +2,8 @@
 use Rattle.std.specs.Prelude.{cond, IsUtf8}
 use Rattle.std.proofs.Common.{◌≡◌, ◌∙◌, ℕ, List, Result, Err, true, false, refl, sym, ap}
 use Rattle.std.specs.Str.{is_utf8}
-use Rattle.std.proofs.lemmas.Str.{IsUtf8-from_is_utf8, is_utf8-from_IsUtf8}
+use Rattle.std.proofs.lemmas.Str.{IsUtf8-from_is_utf8}
+use Rattle.std.proofs.lemmas.Str.{is_utf8-from_IsUtf8}
 use Rattle.key_layout.specs.declared.error.LayoutError.{LayoutError}
 use Rattle.key_layout.specs.Layout.{Codes, layout_of}
 use Rattle.plain_calls.specs.Layouts.{by_line, layout_from}
