@@ -1,5 +1,5 @@
 -- Lists of contacts, slot by slot.
-use Rattle.std.specs.Prelude.{◌≡◌, ◌≢◌, ℕ, zero, suc, ◌<◌, ◌≤◌, Bool, true, false, not, ◌||◌, ◌&&◌, ℤ, pos, negsuc, nat_eq, ◌≤ℤ◌, List, [], ◌∷◌, ◌++◌, length, take, set, if◌then◌else◌, int_le}
+use Rattle.std.specs.Prelude.{◌≡◌, ◌≢◌, ℕ, zero, suc, ◌<◌, ◌≤◌, Bool, true, false, not, ◌||◌, ◌&&◌, ℤ, pos, negsuc, nat_eq, ◌≤ℤ◌, List, [], ◌∷◌, ◌++◌, length, take, if◌then◌else◌, int_le}
 use Rattle.std.specs.List.{list_any}
 use Rattle.std.specs.Ordering.{int_eq}
 use Rattle.std.proofs.Common.{sym, ◌∙◌, ap, refl, arith, length-append, take-suc, get_or-take, length-take-le}
@@ -11,7 +11,7 @@ use Rattle.slot_accumulator.specs.declared.contacts.Contact.{Contact}
 use Rattle.slot_accumulator.specs.declared.slots.Row.{Row}
 use Rattle.slot_accumulator.specs.Contacts.{IsBefore, IsBeforeAll, AreContacts, Joins, has_tracking}
 use Rattle.slot_accumulator.specs.SlotContacts.{lower_has, holds, has_palm_tool, holds_palm, palm_below, contact, contacts_of, is_palm, no_row, row_in}
-use Rattle.slot_accumulator.specs.SlotValues.{current, is_abs, is_slot, row, row_after, value}
+use Rattle.slot_accumulator.specs.SlotValues.{current, is_abs, is_slot, row, value}
 use Rattle.raw_events.specs.Packets.{is_report}
 use Rattle.slot_accumulator.specs.Table.{is_kept}
 use Rattle.raw_events.specs.declared.event.RawEvent.{RawEvent}
@@ -287,39 +287,3 @@ palms_noted rows k n past e t h le are kept =
     ∙ palms_same (row_in (take n rows)) (λ s. row s past) k (λ i. is_palm n past i) n t
     (λ s lt. get_or-take n rows s no_row lt ∙ are s lt) kept
     ∙ sym (rw h refl)
-
--- ---- the tool types of all slots
-
--- where no tool type is that of a palm, none of the first slots' is
-pub none_in_front : (n : ℕ) (rows : List Row) → list_any (λ (r : Row). has_palm_tool r) rows ≡ false
-    → list_any (λ (r : Row). has_palm_tool r) (take n rows) ≡ false
-none_in_front zero rows none = refl
-none_in_front (suc n) [] none = refl
-none_in_front (suc n) (r ∷ rs) none =
-    rw (
-      or_left (has_palm_tool r) (list_any (λ (q : Row). has_palm_tool q) rs) none,
-      none_in_front n rs (or_right (has_palm_tool r) (list_any (λ (q : Row). has_palm_tool q) rs) none),
-    ) refl
-
-any_same : (rows : List Row) (at : ℕ) (r : Row) → at < length rows → has_palm_tool r ≡ has_palm_tool (row_in rows at)
-    → list_any (λ (q : Row). has_palm_tool q) (set rows at r) ≡ list_any (λ (q : Row). has_palm_tool q) rows
-any_same [] at r lt same = absurd (omega (arith, lt))
-any_same (x ∷ xs) zero r lt same = ap (λ b. b || list_any (λ (q : Row). has_palm_tool q) xs) same
-any_same (x ∷ xs) (suc n) r lt same = ap (λ b. has_palm_tool x || b) (any_same xs n r (omega (arith, lt)) same)
-
-tool_kept : (code : ℕ) (v : ℤ) (r : Row) → nat_eq code 55 ≡ false → has_palm_tool (row_after code v r) ≡ has_palm_tool r
-tool_kept code v r h = rw h refl
-
-by_code : (tool whole before after : Bool) → (tool ≡ false → whole ≡ before) → after ≡ (if tool then whole else before) → whole ≡ after
-by_code true whole before after h is = sym is
-by_code false whole before after h is = h refl ∙ sym is
-
--- an event is written to a slot: only a tool type changes whether one is that of a palm
-pub tool_written : (rows : List Row) (at : ℕ) (r : Row) (code : ℕ) (v : ℤ) (before after : Bool) → at < length rows
-    → r ≡ row_after code v (row_in rows at) → list_any (λ (q : Row). has_palm_tool q) rows ≡ before
-    → after ≡ (if nat_eq code 55 then list_any (λ (q : Row). has_palm_tool q) (set rows at r) else before)
-    → list_any (λ (q : Row). has_palm_tool q) (set rows at r) ≡ after
-tool_written rows at r code v before after lt is had said =
-    by_code (nat_eq code 55) (list_any (λ (q : Row). has_palm_tool q) (set rows at r)) before after
-    (λ other. any_same rows at r lt (ap (λ (q : Row). has_palm_tool q) is ∙ tool_kept code v (row_in rows at) other) ∙ had)
-    said

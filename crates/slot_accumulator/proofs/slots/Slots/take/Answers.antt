@@ -7,7 +7,8 @@ use Rattle.raw_events.specs.Packets.{is_report}
 use Rattle.slot_accumulator.specs.Table.{Table, is_kept}
 use Rattle.slot_accumulator.specs.SlotContacts.{SlotsStandFor, is_palm, palm_below, row_in}
 use Rattle.slot_accumulator.proofs.Rows.{written_there}
-use Rattle.slot_accumulator.proofs.Listing.{palms_noted, palms_stay, report_current, report_rows, tool_written}
+use Rattle.slot_accumulator.proofs.Listing.{palms_noted, palms_stay, report_current, report_rows}
+use Rattle.slot_accumulator.proofs.ToolTypes.{tool_written}
 use Rattle.slot_accumulator.proofs.slots.Slots.take.Goals as goal
 
 pub invariant_of-self-in-Some : goal.invariant_of-self-in-Some
