@@ -727,6 +727,9 @@ struct inputflinger_ran {
  *     --events 3, of two files              INPUTFLINGER_OK           4: "read failed\n"
  *     a text longer than out                INPUTFLINGER_NO_ROOM      0: out_len is how much room it needs
  *
+ * Words that are no UTF-8 are those of no command, as an empty text is: ran.status is 2. The thread should have 64 KiB of
+ * stack left for a run, more than any was seen to take: see docs/LIBRARY.md.
+ *
  * The text goes to out, and the line to err, each as far as there is room, without a NUL behind it; what is behind it
  * stays. out may be NULL where out_room is 0, so may err: a run with no room tells how much is needed. While it runs the
  * program has memory of its own, for what it reads and for all that it prints; where that is wanting ran.status is 6, or

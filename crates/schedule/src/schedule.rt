@@ -68,7 +68,7 @@ impl Schedule {
         self.next
     }
 
-    /// Takes out the text of the causes of the calls so far.
+    /// Takes out the text of the causes of the calls so far, of a run that tells them. Those of later calls are lost.
     pub fn take_causes(&mut self, alloc: Global) -> Vec<u8>
         ensures { (plan : PlanView) (es : List Effect) → HasWith Causes plan es self.old
             → result.items ≡ why_text plan.displays es }

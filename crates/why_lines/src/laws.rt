@@ -12,7 +12,7 @@ pub fn telling()
 {}
 
 /// The stream of a window gets a Down or a PointerDown exactly where the text gives it a pointer that goes down, or
-/// tells that one slips to it. So the text and the streams never disagree.
+/// tells that one slips to it. So of pointers that go down the text and the streams never disagree.
 pub fn streaming()
     ensures motions { DownLaw }
     ensures others { NoDownLaw }

@@ -37,7 +37,8 @@ fn add_args(
     }
 }
 
-/// Adds what the next pump tells, which is known before it is made, with the clock after it.
+/// Adds what the next pump tells, which is known before it is made. The clock is the one after it: the later one of the
+/// pump's moment and the dispatcher's clock.
 pub fn add_pump(
     text: &mut Vec<u8>,
     clock: Moment,
