@@ -63,7 +63,14 @@ pub(crate) fn tell_line(
 {
     match line {
         Line::PassedOver => {}
-        Line::Event(event) => events.push(*event)?,
+        // Field by field, so that what lies between the fields is not carried along.
+        Line::Event(event) => events.push(RawEvent {
+            device: event.device,
+            moment: event.moment,
+            kind: event.kind,
+            code: event.code,
+            value: event.value,
+        })?,
         Line::Refused(cause) => return Err(refused(*cause, number)),
     }
     Ok(number.saturating_add(1))
