@@ -35,12 +35,9 @@ fn next_finish(dispatcher: &Dispatcher, number: u32, channel: &Channel) -> Optio
     ensures { (es : List Effect) → StandsFor es dispatcher.now → is_opened es number ≡ true
         → option_map candidate_of result ≡ next_finish es number (channel_of channel.now) }
 {
-    if !channel.finishes {
-        return None;
-    }
     let (seq, delivery) = dispatcher.oldest(number)?;
     let counts = dispatcher.counts(number)?;
-    if !counts.live {
+    if !channel.finishes || !counts.live {
         return None;
     }
     Some(Due {
