@@ -186,25 +186,9 @@ impl Schedule {
         Ok(())
     }
 
-    /// The owner of a channel takes so many messages, and the channel lets go of them. Of none nothing is done.
-    fn receive_left(&mut self, channel: u32, count: u64) -> Result<(), AllocError>
-        ensures after { (how : Lines) (plan : PlanView) (es : List Effect) → HasWith how plan es self.old
-            → OnOk result
-            (HasWith how plan (extend plan.displays es (replicate count (CallView.Receive channel))) self.new) }
-        ensures messages { self.new.messages ≡ self.old.messages }
-        ensures calls { OnOk result (self.old.calls ≤ self.new.calls) }
-        ensures more { (es : List Effect) → ComesTo es self.old.dispatcher → ComesTo es self.new.dispatcher }
-        ensures latest { self.new.latest ≡ self.old.latest }
-    {
-        if count == 0 {
-            return Ok(());
-        }
-        self.take_out(channel, count)
-    }
-
     /// The owner of a channel takes so many messages, and the channel lets go of them.
     #[inline(never)]
-    fn take_out(&mut self, channel: u32, count: u64) -> Result<(), AllocError>
+    fn receive_left(&mut self, channel: u32, count: u64) -> Result<(), AllocError>
         ensures after { (how : Lines) (plan : PlanView) (es : List Effect) → HasWith how plan es self.old
             → OnOk result
             (HasWith how plan (extend plan.displays es (replicate count (CallView.Receive channel))) self.new) }
@@ -235,8 +219,9 @@ impl Schedule {
         let Some(counts) = self.dispatcher.counts(channel) else {
             return Ok(0);
         };
-        if counts.live {
-            self.receive_left(channel, counts.published.saturating_sub(counts.received))?;
+        let left = counts.published.saturating_sub(counts.received);
+        if 0 < left && counts.live {
+            self.receive_left(channel, left)?;
         }
         Ok(counts.sent)
     }

@@ -2,7 +2,7 @@
 use Rattle.std.proofs.Common.{sym, subst}
 use Rattle.schedule.specs.State.{HasWith}
 use Rattle.schedule.proofs.Removing.{lets_go}
-use Rattle.schedule.proofs.schedule.Schedule.take_out.Goals as goal
+use Rattle.schedule.proofs.schedule.Schedule.receive_left.Goals as goal
 
 pub returns-clause-after : goal.returns-clause-after
 returns-clause-after c = λ how plan es h.
