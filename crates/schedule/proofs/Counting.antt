@@ -65,3 +65,13 @@ pub counts_dead : (es : List Effect) (c : ℕ) (k : Counts) → k ≡ count_of e
 counts_dead es c k e n =
     let dead : live (past_of es) c ≡ false = sym (ap (λ j. j.live) e) ∙ n in
     ap (λ b. cond b (replicate (published es c - received (past_of es) c) (Receive c)) []) dead
+
+-- nor is it where the owner has all that is published
+pub counts_had : (es : List Effect) (c n : ℕ) (k : Counts) → k ≡ count_of es c → n ≡ k.published - k.received → n ≡ 0 → receives_of es c ≡ []
+counts_had es c n k e count none =
+    let many : published es c - received (past_of es) c ≡ 0 = sym (count ∙ ap (λ j. j.published - j.received) e) ∙ none in
+    ap (λ m. cond (live (past_of es) c) (replicate m (Receive c)) []) many ∙ same (live (past_of es) c)
+  where
+    same : (b : Bool) → cond b (replicate 0 (Receive c)) [] ≡ []
+    same true = refl
+    same false = refl

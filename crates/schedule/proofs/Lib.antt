@@ -11,6 +11,7 @@ pub mod Caused
 pub mod Stepping
 pub mod Taking
 pub mod Choosing
+pub mod Idle
 pub mod Going
 pub mod OneFinish
 pub mod Advancing

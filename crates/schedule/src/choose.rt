@@ -2,6 +2,7 @@
 ghost use Rattle.std.specs.Prelude.{IsSome, ◌≡◌, ◌≤◌, ◌<◌, ◌+◌, ◌-◌, ◌^◌, ℕ, true, false, List, [], ◌∷◌, IfOk, OnOk, None, option_map, length, map};
 ghost use Rattle.std.specs.List.{All};
 ghost use Rattle.dispatch_history.specs.Effect.{Effect, past_of};
+ghost use Rattle.dispatch_history.specs.Delivery.{oldest};
 ghost use Rattle.dispatch_history.specs.Due.{first_due};
 ghost use Rattle.dispatch_history.specs.History.{opened};
 ghost use Rattle.dispatch_history.specs.Ordered.{soonest};
@@ -35,12 +36,9 @@ fn next_finish(dispatcher: &Dispatcher, number: u32, channel: &Channel) -> Optio
     ensures { (es : List Effect) → StandsFor es dispatcher.now → is_opened es number ≡ true
         → option_map candidate_of result ≡ next_finish es number (channel_of channel.now) }
 {
-    if !channel.finishes {
-        return None;
-    }
     let (seq, delivery) = dispatcher.oldest(number)?;
     let counts = dispatcher.counts(number)?;
-    if !counts.live {
+    if !channel.finishes || !counts.live {
         return None;
     }
     Some(Due {
@@ -52,6 +50,23 @@ fn next_finish(dispatcher: &Dispatcher, number: u32, channel: &Channel) -> Optio
     })
 }
 
+/// Whether each of so many channels is able to take input and none is due to be named. Then no message is left that is
+/// published and not finished. Where all 64 are able this is not told.
+fn is_idle(dispatcher: &Dispatcher, count: usize) -> bool
+    requires few { count ≤ 64 }
+    ensures { (es : List Effect) → StandsFor es dispatcher.now → opened (past_of es) ≡ count → result ≡ true
+        → (c : ℕ) → 1 ≤ c → c ≤ count → oldest es c ≡ None }
+{
+    if dispatcher.first_due().is_some() {
+        return false;
+    }
+    let able = dispatcher.able();
+    if able == u64::MAX {
+        return false;
+    }
+    count <= able.trailing_ones() as usize
+}
+
 /// The next finish of all channels.
 fn next_finish_of_all(dispatcher: &Dispatcher, channels: &[Channel]) -> Option<Due>
     requires channels { All IsChannel channels.now }
@@ -59,6 +74,9 @@ fn next_finish_of_all(dispatcher: &Dispatcher, channels: &[Channel]) -> Option<D
     ensures { (es : List Effect) → StandsFor es dispatcher.now → opened (past_of es) ≡ length channels.now
         → option_map candidate_of result ≡ next_finishes es 1 (map channel_of channels.now) None }
 {
+    if is_idle(dispatcher, channels.len()) {
+        return None;
+    }
     let mut best = None;
     for (place, channel) in channels.iter().enumerate() {
         best = sooner(best, next_finish(dispatcher, place as u32 + 1, channel));

@@ -28,6 +28,8 @@ pub(crate) fn sooner(best: Option<Due>, due: Option<Due>) -> Option<Due>
     ensures { result ≡ sooner_due best due }
 {
     match (best, due) {
+        (best, None) => best,
+        (None, due) => due,
         (Some(first), Some(second)) => {
             if second.moment < first.moment {
                 Some(second)
@@ -35,8 +37,6 @@ pub(crate) fn sooner(best: Option<Due>, due: Option<Due>) -> Option<Due>
                 Some(first)
             }
         }
-        (None, due) => due,
-        (best, None) => best,
     }
 }
 

@@ -1,26 +1,23 @@
 //! The run itself.
-ghost use Rattle.std.specs.Prelude.{◌≡◌, ◌≤◌, ◌<◌, ◌+◌, ◌-◌, ◌^◌, ℕ, true, false, List, [], ◌∷◌, IfOk, OnOk, drop, replicate, length, option_map, reverse};
-ghost use Rattle.stream_text.specs.Spelling.{message_lines};
+ghost use Rattle.std.specs.Prelude.{◌≡◌, ◌≤◌, ◌<◌, ◌+◌, ◌-◌, ◌^◌, ℕ, true, false, List, [], ◌∷◌, IfOk, OnOk, replicate, length, option_map};
 ghost use Rattle.dispatch_calls.specs.declared.call.Call.{Call as CallView};
 ghost use Rattle.dispatch_history.specs.Effect.{Effect, past_of, stream};
 ghost use Rattle.dispatch_history.specs.Legal.{answered};
 ghost use Rattle.dispatch_history.specs.Ordered.{extend, is_scripted, scripted, received_all};
 ghost use Rattle.dispatch_history.specs.Plan.{Plan as PlanView};
-ghost use Rattle.dispatch_history.specs.Reply.{reply_to};
 ghost use Rattle.dispatcher.specs.Access.{gone, is_opened, namings_gone};
 ghost use Rattle.dispatcher.specs.Dispatching.{StandsFor};
 ghost use Rattle.schedule.specs.declared.keeping.Lines.{Lines};
 ghost use Rattle.schedule.specs.declared.keeping.Lines.TheVariants.{Causes};
 ghost use Rattle.why_text.specs.Text.{why_text};
 ghost use Rattle.schedule.specs.Causes.{Applies};
-ghost use Rattle.schedule.specs.Hearing.{Hears, WithMore};
 ghost use Rattle.schedule.specs.Kinds.{is_receiving};
 ghost use Rattle.schedule.specs.Receives.{receives_of};
 ghost use Rattle.schedule.specs.Run.{messages_in};
 ghost use Rattle.schedule.specs.More.{ComesTo};
 ghost use Rattle.schedule.specs.State.{HasWith, counted};
 
-use crate::stream::{Stream, hear, hear_all};
+use crate::stream::{Stream, hear_left, hear_next};
 use dispatch_calls::Call;
 use dispatcher::Dispatcher;
 use input_types::Moment;
@@ -189,7 +186,8 @@ impl Schedule {
         Ok(())
     }
 
-    /// The owner of a channel takes so many messages, and the channel lets go of them. Of none nothing is done.
+    /// The owner of a channel takes so many messages, and the channel lets go of them.
+    #[inline(never)]
     fn receive_left(&mut self, channel: u32, count: u64) -> Result<(), AllocError>
         ensures after { (how : Lines) (plan : PlanView) (es : List Effect) → HasWith how plan es self.old
             → OnOk result
@@ -199,16 +197,14 @@ impl Schedule {
         ensures more { (es : List Effect) → ComesTo es self.old.dispatcher → ComesTo es self.new.dispatcher }
         ensures latest { self.new.latest ≡ self.old.latest }
     {
-        if count == 0 {
-            return Ok(());
-        }
         self.receive_many(channel, count)?;
         self.dispatcher.let_go(channel);
         Ok(())
     }
 
     /// The owner of a channel takes all that is published, and the channel lets it go. The answer is how many messages
-    /// the channel has.
+    /// the channel has. Mostly there is nothing to take, so it is a part of the loop that calls it.
+    #[inline(always)]
     pub(crate) fn receive(&mut self, channel: u32) -> Result<u64, AllocError>
         ensures after { (how : Lines) (plan : PlanView) (es : List Effect) → HasWith how plan es self.old
             → OnOk result (HasWith how plan (extend plan.displays es (receives_of es channel)) self.new) }
@@ -223,8 +219,9 @@ impl Schedule {
         let Some(counts) = self.dispatcher.counts(channel) else {
             return Ok(0);
         };
-        if counts.live {
-            self.receive_left(channel, counts.published.saturating_sub(counts.received))?;
+        let left = counts.published.saturating_sub(counts.received);
+        if 0 < left && counts.live {
+            self.receive_left(channel, left)?;
         }
         Ok(counts.sent)
     }
@@ -265,36 +262,5 @@ fn apply_call(
     match causes {
         Some(text) => why_lines::apply(text, dispatcher, call),
         None => dispatcher.apply_unread(call),
-    }
-}
-
-/// Puts the message that the owner of a channel is handed next to its lines, where there is one.
-fn hear_next(
-    streams: &mut Vec<Stream>,
-    dispatcher: &Dispatcher,
-    channel: u32,
-) -> Result<(), AllocError>
-    ensures { (es : List Effect) → StandsFor es dispatcher.now
-        → OnOk result (Hears (reply_to es (CallView.Receive channel)) channel streams.old.items streams.new.items) }
-{
-    match dispatcher.next(channel) {
-        Some(message) => hear(streams, channel, message),
-        None => Ok(()),
-    }
-}
-
-/// Puts the messages of a channel that were not let go to its lines.
-fn hear_left(
-    streams: &mut Vec<Stream>,
-    dispatcher: &Dispatcher,
-    channel: u32,
-) -> Result<(), AllocError>
-    ensures { (es : List Effect) → StandsFor es dispatcher.now → is_opened es channel ≡ true
-        → OnOk result (WithMore (message_lines (drop (gone dispatcher.now channel) (reverse (stream es channel))))
-        channel streams.old.items streams.new.items) }
-{
-    match dispatcher.messages(channel) {
-        Some(messages) => hear_all(streams, channel, messages),
-        None => Ok(()),
     }
 }

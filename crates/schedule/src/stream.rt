@@ -1,10 +1,16 @@
 //! The lines of what a channel was told.
-ghost use Rattle.std.specs.Prelude.{◌≡◌, [], ◌++◌, ℕ, ◌≤◌, List, OnOk, OnErr, IfOk, vec_len, if◌then◌else◌, ◌==◌};
+ghost use Rattle.std.specs.Prelude.{◌≡◌, [], ◌++◌, ℕ, ◌≤◌, true, List, OnOk, OnErr, IfOk, vec_len, drop, reverse, if◌then◌else◌, ◌==◌};
+ghost use Rattle.dispatch_calls.specs.declared.call.Call.{Call as CallView};
 ghost use Rattle.dispatch_calls.specs.declared.reply.Reply.TheVariants.{Got};
+ghost use Rattle.dispatch_history.specs.Effect.{Effect, stream};
+ghost use Rattle.dispatch_history.specs.Reply.{reply_to};
+ghost use Rattle.dispatcher.specs.Access.{gone, is_opened};
+ghost use Rattle.dispatcher.specs.Dispatching.{StandsFor};
 ghost use Rattle.stream_text.specs.Spelling.{message_line, message_lines};
 ghost use Rattle.schedule.specs.Hearing.{Hears, WithMore};
 ghost use Rattle.schedule.specs.Lines.{lines_at};
 
+use dispatcher::Dispatcher;
 use input_types::Message;
 use std::alloc::{AllocError, Global};
 use std::marker::Model;
@@ -78,11 +84,7 @@ pub(crate) fn empty_streams(alloc: Global, count: usize) -> Result<Vec<Stream>, 
 }
 
 /// The owner of a channel received one message more.
-pub(crate) fn hear(
-    streams: &mut Vec<Stream>,
-    channel: u32,
-    message: &Message,
-) -> Result<(), AllocError>
+fn hear(streams: &mut Vec<Stream>, channel: u32, message: &Message) -> Result<(), AllocError>
     ensures { OnOk result (Hears (Got message.now) channel streams.old.items streams.new.items) }
 {
     let place = channel as usize;
@@ -93,11 +95,7 @@ pub(crate) fn hear(
 }
 
 /// A channel that was removed was told these messages more than its owner received.
-pub(crate) fn hear_all(
-    streams: &mut Vec<Stream>,
-    channel: u32,
-    messages: &[Message],
-) -> Result<(), AllocError>
+fn hear_all(streams: &mut Vec<Stream>, channel: u32, messages: &[Message]) -> Result<(), AllocError>
     ensures { OnOk result (WithMore (message_lines messages.now) channel streams.old.items streams.new.items) }
 {
     let place = channel as usize;
@@ -105,4 +103,35 @@ pub(crate) fn hear_all(
         streams[place - 1].hear_all(messages)?;
     }
     Ok(())
+}
+
+/// Puts the message that the owner of a channel is handed next to its lines, where there is one.
+pub(crate) fn hear_next(
+    streams: &mut Vec<Stream>,
+    dispatcher: &Dispatcher,
+    channel: u32,
+) -> Result<(), AllocError>
+    ensures { (es : List Effect) → StandsFor es dispatcher.now
+        → OnOk result (Hears (reply_to es (CallView.Receive channel)) channel streams.old.items streams.new.items) }
+{
+    match dispatcher.next(channel) {
+        Some(message) => hear(streams, channel, message),
+        None => Ok(()),
+    }
+}
+
+/// Puts the messages of a channel that were not let go to its lines.
+pub(crate) fn hear_left(
+    streams: &mut Vec<Stream>,
+    dispatcher: &Dispatcher,
+    channel: u32,
+) -> Result<(), AllocError>
+    ensures { (es : List Effect) → StandsFor es dispatcher.now → is_opened es channel ≡ true
+        → OnOk result (WithMore (message_lines (drop (gone dispatcher.now channel) (reverse (stream es channel))))
+        channel streams.old.items streams.new.items) }
+{
+    match dispatcher.messages(channel) {
+        Some(messages) => hear_all(streams, channel, messages),
+        None => Ok(()),
+    }
 }

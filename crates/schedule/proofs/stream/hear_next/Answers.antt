@@ -4,7 +4,7 @@ use Rattle.dispatch_calls.specs.declared.call.Call.TheVariants.{Receive}
 use Rattle.dispatch_history.specs.Reply.{reply_to}
 use Rattle.schedule.proofs.Heard.{hears_some, hears_none}
 use Rattle.schedule.proofs.Stepping.{on_ok}
-use Rattle.schedule.proofs.schedule.hear_next.Goals as goal
+use Rattle.schedule.proofs.stream.hear_next.Goals as goal
 
 pub returns-in-Some : goal.returns-in-Some
 returns-in-Some c = λ es stands.

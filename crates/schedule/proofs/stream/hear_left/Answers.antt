@@ -5,7 +5,7 @@ use Rattle.dispatch_history.specs.Effect.{stream}
 use Rattle.dispatcher.specs.Access.{gone, is_opened}
 use Rattle.stream_text.specs.Spelling.{message_lines}
 use Rattle.schedule.specs.Hearing.{WithMore}
-use Rattle.schedule.proofs.schedule.hear_left.Goals as goal
+use Rattle.schedule.proofs.stream.hear_left.Goals as goal
 
 same_some : (ms ns : List Message) (b : Bool) → Some ms ≡ cond b (Some ns) None → b ≡ true → ms ≡ ns
 same_some ms ns b e there = let both : Some ms ≡ Some ns = e ∙ ap (λ x. cond x (Some ns) None) there in cc
