@@ -1,28 +1,13 @@
 -- What a write into what is kept does to what is down.
-use Rattle.std.proofs.Common.{◌≡◌, ◌≢◌, ◌≤◌, ◌-◌, ◌++◌, ℕ, zero, suc, Bool, List, [], ◌∷◌, length, get_or, set, cond, Some, refl, sym, ap, ◌∙◌, eq-eqb, ⊎_elim, arith}
-use Rattle.std.specs.Ordering.{nat_cmp, is_eq}
-use Rattle.std.specs.Cmp.{unsigned_tied}
+use Rattle.std.proofs.Common.{◌≡◌, ◌≢◌, ◌≤◌, ◌-◌, ◌++◌, ℕ, zero, suc, List, [], ◌∷◌, length, get_or, set, Some, refl, sym, ap, eq-eqb, ⊎_elim, arith}
 use Rattle.std.proofs.lemmas.Bool.{cases_eq, ne_eqb}
 use Rattle.std.proofs.lemmas.List.{get_or-set_same, get_or-set_other}
-use Rattle.input_types.specs.DeviceRule.{with_key}
-use Rattle.bits32.specs.Set.{members}
+use Rattle.input_types.specs.DeviceRule.{nothing_down}
 use Rattle.pointers_down.proofs.Sets.{none_listed}
+use Rattle.device_down.proofs.KeySets.{none_down}
 use Rattle.device_down.specs.declared.change.Change.{Change}
 use Rattle.device_down.specs.Kept.{Kept}
-use Rattle.device_down.specs.Down.{has_key, state_of, state_at, untouched, changed, Changes, DevicesStandFor}
-
-key_at : (new old : List ℕ) (scan : ℕ) (down : Bool) → ((q : ℕ) → has_key new q ≡ cond (is_eq (nat_cmp scan q)) down (has_key old q)) → (q : ℕ)
-    → has_key new q ≡ with_key (has_key old) scan down q
-key_at new old scan down h q =
-    ⊎_elim
-    (λ (e : q ≡ scan). h q ∙ rw (unsigned_tied scan q, eq-eqb scan q (sym e), eq-eqb q scan e) refl)
-    (λ (d : q ≢ scan). h q ∙ rw (unsigned_tied scan q, ne_eqb scan q (λ s. d (sym s)), ne_eqb q scan d) refl)
-    (cases_eq q scan)
-
--- a key more, or less
-pub key_set : (ids : ℕ) (new old : List ℕ) (scan : ℕ) (down : Bool) → ((q : ℕ) → has_key new q ≡ cond (is_eq (nat_cmp scan q)) down (has_key old q))
-    → state_of (record { ids = ids; keys = new }) ≡ record { ids = members ids; keys = with_key (has_key old) scan down }
-key_set ids new old scan down h i = record { ids = members ids; keys = λ q. key_at new old scan down h q i }
+use Rattle.device_down.specs.Down.{state_of, state_at, untouched, changed, Changes, DevicesStandFor}
 
 -- one device anew
 pub changes_set : (ks : List Kept) (c : Change) (new : Kept) → length ks ≡ 8 → 1 ≤ c.device → c.device ≤ 8
@@ -37,13 +22,20 @@ changes_set ks c new eight low high e d from =
 
 -- nothing is down on any of these devices
 abbrev pub Blank : List Kept → Type 0
-Blank ks = (i : ℕ) → get_or ks i untouched ≡ untouched
+Blank ks = (i : ℕ) → state_of (get_or ks i untouched) ≡ nothing_down
 
-pub blank_more : (ks : List Kept) → Blank ks → Blank (ks ++ untouched ∷ [])
-blank_more [] h zero = refl
-blank_more [] h (suc i) = refl
-blank_more (k ∷ ks) h zero = h zero
-blank_more (k ∷ ks) h (suc i) = blank_more ks (λ j. h (suc j)) i
+-- a device of which nothing came
+nothing_on : state_of untouched ≡ nothing_down
+nothing_on i = record { ids = none_listed i; keys = λ scan. none_down 0 scan i }
+
+pub blank_none : Blank []
+blank_none i = nothing_on
+
+pub blank_more : (ks : List Kept) (k : Kept) → state_of k ≡ nothing_down → Blank ks → Blank (ks ++ k ∷ [])
+blank_more [] k e h zero = e
+blank_more [] k e h (suc i) = nothing_on
+blank_more (x ∷ ks) k e h zero = h zero
+blank_more (x ∷ ks) k e h (suc i) = blank_more ks k e (λ j. h (suc j)) i
 
 pub nothing_yet : (ks : List Kept) → Blank ks → DevicesStandFor [] ks
-nothing_yet ks h d low high = ap Some (sym (ap state_of (h (d - 1)) ∙ rw none_listed refl))
+nothing_yet ks h d low high = ap Some (sym (h (d - 1)))

@@ -1,7 +1,5 @@
 -- What is down on each device, and what args make of it.
 use Rattle.std.specs.Prelude.{◌≡◌, ◌≤◌, ◌-◌, nat_eq, ℕ, Bool, false, List, [], length, slice_index_or, Option, Some, None, Result, Ok, Err, if◌then◌else◌}
-use Rattle.std.specs.List.{list_any}
-use Rattle.std.specs.Ordering.{nat_cmp, is_eq}
 use Rattle.bits32.specs.Set.{members}
 use Rattle.input_types.specs.declared.message.Args.{Args}
 use Rattle.input_types.specs.declared.message.Args.TheVariants.{Key as KeyArgs}
@@ -13,10 +11,7 @@ use Rattle.device_down.specs.declared.change.Becomes.{Becomes}
 use Rattle.device_down.specs.declared.change.Becomes.TheVariants.{Pointers, Key, Nothing}
 use Rattle.device_down.specs.declared.change.Inconsistent.{Inconsistent}
 use Rattle.device_down.specs.Kept.{Kept}
-
--- the keys that are down, of a list of scan codes
-abbrev pub has_key : List ℕ → ℕ → Bool
-has_key keys s = list_any (λ k. is_eq (nat_cmp s k)) keys
+use Rattle.device_down.specs.Keys.{has_key}
 
 -- what is down on a device, from what is kept of it
 abbrev pub state_of : Kept → DeviceState
@@ -62,11 +57,6 @@ PlansAt ks args (Err e) = Plans (state_at ks (device_of args)) args (Err e)
 -- one device changes, and what is down on the others stays
 abbrev pub Changes : Change → List Kept → List Kept → Type 0
 Changes c old new = (d : ℕ) → 1 ≤ d → state_at new d ≡ (if nat_eq d c.device then changed c.becomes (state_at old d) else state_at old d)
-
--- a change needs memory where a key goes down
-abbrev pub needs_memory : Becomes → Bool
-needs_memory (Key scan down) = down
-needs_memory becomes = false
 
 -- what is kept says what is down on each device after a list of args, the newest first, each of which might come when it came
 abbrev pub DevicesStandFor : List Args → List Kept → Type 0

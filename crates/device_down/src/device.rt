@@ -1,24 +1,24 @@
 //! What is down on one device.
-ghost use Rattle.std.specs.Prelude.{◌≡◌, true, length, OnErr, OnOk};
+ghost use Rattle.std.specs.Prelude.{◌≡◌, length, IfOk};
 ghost use Rattle.std.specs.Option.{option_map};
 ghost use Rattle.bits32.specs.Set.{members};
 ghost use Rattle.input_types.specs.Gestures.{after_motion};
-ghost use Rattle.input_types.specs.DeviceRule.{is_of_device};
-ghost use Rattle.device_down.specs.Down.{state_of, untouched, changed, Plans, needs_memory, own_after};
+ghost use Rattle.input_types.specs.DeviceRule.{is_of_device, nothing_down};
+ghost use Rattle.device_down.specs.Down.{state_of, changed, Plans, own_after};
 
 use crate::change::{Becomes, Inconsistent};
+use crate::keys::KeysDown;
 use bits32::Bits32;
 use input_types::{Args, KeyArgs, Motion, MotionAction};
 use pointers_down::{next_held, nothing};
 use std::alloc::{AllocError, Global};
-use std::collections::BTreeSet;
 use std::marker::Model;
 
 /// The pointers and the keys that are down.
 #[derive(Drop)]
 pub(crate) struct DeviceDown {
     pointers: Bits32,
-    keys: BTreeSet<u16>,
+    keys: KeysDown,
 }
 
 impl Model for DeviceDown {
@@ -26,18 +26,19 @@ impl Model for DeviceDown {
 
     ghost Value = { Kept };
 
-    ghost view = { λ d. record { ids = d.pointers; keys = d.keys.keys } };
+    ghost view = { λ d. record { ids = d.pointers; keys = d.keys } };
 }
 
 impl DeviceDown {
     /// Nothing is down.
-    pub(crate) fn new(alloc: Global) -> DeviceDown
-        ensures { result ≡ untouched }
+    pub(crate) fn new(alloc: Global) -> Result<DeviceDown, AllocError>
+        ensures { IfOk result (λ d. state_of d ≡ nothing_down) }
     {
-        DeviceDown {
+        let keys = KeysDown::new(alloc)?;
+        Ok(DeviceDown {
             pointers: Bits32::empty(),
-            keys: BTreeSet::new(alloc),
-        }
+            keys,
+        })
     }
 
     /// What args of the device change, or what is down where they may not come.
@@ -63,7 +64,7 @@ impl DeviceDown {
     fn plan_key(&self, key: &KeyArgs) -> Result<Becomes, Inconsistent>
         ensures { Plans (state_of self.now) (Args.Key key.now) result }
     {
-        let is_down = self.keys.contains(&key.scan);
+        let is_down = self.keys.has(key.scan);
         if key.down == is_down {
             return Err(self.refused(is_down));
         }
@@ -84,35 +85,18 @@ impl DeviceDown {
         }
     }
 
-    /// Changes what is down. Without memory nothing changes.
-    pub(crate) fn apply(&mut self, becomes: &Becomes) -> Result<(), AllocError>
-        ensures ok { OnOk result (state_of self.new ≡ changed becomes.now (state_of self.old)) }
-        ensures err { OnErr result (self.new ≡ self.old) }
-        ensures memory { OnErr result (needs_memory becomes.now ≡ true) }
+    /// Changes what is down. Takes no memory.
+    pub(crate) fn apply(&mut self, becomes: &Becomes)
+        ensures { state_of self.new ≡ changed becomes.now (state_of self.old) }
     {
         match *becomes {
             Becomes::Pointers(ids) => self.pointers = ids,
-            Becomes::Key { scan, down } => return self.apply_key(scan, down),
+            Becomes::Key { scan, down } => self.keys.set(scan, down),
             Becomes::Nothing => {
                 self.pointers = nothing();
                 self.keys.clear();
             }
         }
-        Ok(())
-    }
-
-    /// A key goes down or up.
-    fn apply_key(&mut self, scan: u16, down: bool) -> Result<(), AllocError>
-        ensures ok { OnOk result (state_of self.new ≡ changed (Becomes.Key scan down) (state_of self.old)) }
-        ensures err { OnErr result (self.new ≡ self.old) }
-        ensures memory { OnErr result (down ≡ true) }
-    {
-        if down {
-            self.keys.insert(scan)?;
-        } else {
-            self.keys.remove(&scan);
-        }
-        Ok(())
     }
 }
 

@@ -1,7 +1,7 @@
 //! What is down on each device.
-ghost use Rattle.std.specs.Prelude.{◌≡◌, ◌-◌, ◌<◌, ◌≤◌, true, [], length, OnErr, OnOk, IfOk};
+ghost use Rattle.std.specs.Prelude.{◌≡◌, ◌-◌, ◌<◌, ◌≤◌, [], length, IfOk};
 ghost use Rattle.input_types.specs.DeviceRule.{device_of};
-ghost use Rattle.device_down.specs.Down.{PlansAt, Changes, DevicesStandFor, needs_memory};
+ghost use Rattle.device_down.specs.Down.{PlansAt, Changes, DevicesStandFor};
 
 use crate::change::{Change, Inconsistent};
 use crate::device::DeviceDown;
@@ -28,7 +28,7 @@ impl Model for DevicesDown {
 }
 
 impl DevicesDown {
-    /// Nothing is down.
+    /// Nothing is down. A device has a bit for each scan code, so all of them take 64 KiB.
     pub fn new(alloc: Global) -> Result<DevicesDown, AllocError>
         ensures { IfOk result (λ d. DevicesStandFor [] d) }
     {
@@ -48,13 +48,11 @@ impl DevicesDown {
         }
     }
 
-    /// Changes what is down. Memory is needed only where a key goes down, and without it nothing changes.
-    pub fn apply(&mut self, change: &Change) -> Result<(), AllocError>
-        ensures ok { OnOk result (Changes change.now self.old self.new) }
-        ensures err { OnErr result (self.new ≡ self.old) }
-        ensures memory { OnErr result (needs_memory change.now.becomes ≡ true) }
+    /// Changes what is down. Takes no memory.
+    pub fn apply(&mut self, change: &Change)
+        ensures { Changes change.now self.old self.new }
     {
-        self.devices[row(change.device)].apply(&change.becomes)
+        self.devices[row(change.device)].apply(&change.becomes);
     }
 }
 
@@ -65,7 +63,8 @@ fn untouched(alloc: Global) -> Result<Vec<DeviceDown>, AllocError>
 {
     let mut devices = Vec::with_capacity(alloc, 8)?;
     'devices: for _ in 0..8u32 {
-        devices.push(DeviceDown::new(alloc))?;
+        let device = DeviceDown::new(alloc)?;
+        devices.push(device)?;
     }
     Ok(devices)
 }

@@ -12,12 +12,14 @@
 //! ```
 //!
 //! [`DevicesDown::plan`] answers what args change, or what is down where they may not come by the rule of devices, and
-//! changes nothing. [`DevicesDown::apply`] makes the change; it needs memory only where a key goes down.
+//! changes nothing. [`DevicesDown::apply`] makes the change. Neither takes memory: of each device a bit is kept for
+//! each scan code, from the start.
 #![tactic(auto)]
 
 mod change;
 mod device;
 mod devices;
+mod keys;
 pub mod laws;
 
 pub use change::{Becomes, Change, Inconsistent};

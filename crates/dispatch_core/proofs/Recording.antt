@@ -13,8 +13,10 @@ use Rattle.dispatch_history.specs.PointerOf.{AllRise}
 use Rattle.dispatch_history.proofs.LegalLaws.{effects_law}
 use Rattle.dispatch_history.proofs.WholeLaws.{whole_law, well_formed_law, removed_law, removed_state_law, gone_law}
 use Rattle.dispatcher.specs.Access.{gone, namings_gone}
-use Rattle.dispatcher.specs.Dispatching.{Dispatching, StandsFor}
+use Rattle.dispatcher.specs.Dispatching.{Dispatching, StandsFor, with_room}
 use Rattle.dispatcher.specs.Memory.{MayCount}
+use Rattle.dispatcher.specs.Queueing.{args_in}
+use Rattle.dispatcher.proofs.Applying.{roomier}
 use Rattle.dispatch_core.specs.Recorded.{history_of, IsRecorded, IsSound, AnswersGone, HasRoom}
 
 -- the history is legal
@@ -104,3 +106,22 @@ may_count ds items len capacity spare is r some =
     let count : length (effects ds (history_of (reverse items))) ≡ len = effects_length ds (reverse items) ∙ length-reverse items ∙ is in
     let few : len + spare < 2 ^ 64 = r.few in
     omega arith
+
+-- a call hands in one args at most
+pub one_in : (call : Call) → args_in call ≤ 1
+one_in (Open limit) = omega arith
+one_in (Windows now snapshot) = omega arith
+one_in (FocusOn now display channel) = omega arith
+one_in (Notify now args) = omega arith
+one_in (Pump now) = omega arith
+one_in (Tick now) = omega arith
+one_in (Receive c) = omega arith
+one_in (Finish now c seq) = omega arith
+one_in (Pilfer now c device) = omega arith
+one_in (Remove now c) = omega arith
+
+-- a dispatcher with more room for args stands for the same entries
+pub recorded_roomier : (entries : List Entry) (old new : Dispatching) (n : ℕ) → new ≡ with_room n old → IsRecorded entries old → IsRecorded entries new
+recorded_roomier entries old new n is r =
+    subst (IsRecorded entries) (sym is)
+    (record { stands = roomier (effects old.displays (history_of entries)) old n r.stands; kept = r.kept; noted = r.noted })

@@ -10,6 +10,7 @@ ghost use Rattle.dispatcher.specs.Access.{is_opened, next_repeat, HoldsInput};
 ghost use Rattle.dispatcher.specs.ReadLaws.{ReadsTouches};
 ghost use Rattle.window_snapshot.specs.Mask.{is_channel};
 ghost use Rattle.dispatcher.specs.Memory.{IsCalm};
+ghost use Rattle.dispatcher.specs.Queueing.{args_in};
 ghost use Rattle.dispatch_core.specs.Recorded.{history_of, effects_of, stream_of, with_entry, with_spare};
 ghost use Rattle.dispatch_core.specs.Recorded.{AnswersGone, IsSound, HasRoom};
 
@@ -29,12 +30,12 @@ use std::marker::Model;
 pub struct Core {
     dispatcher: Dispatcher,
     entries: Vec<Entry>,
-    // For how many entries more the list has room.
+    // For how many entries more the list has room, and the dispatcher for their args.
     spare: u32,
 }
 
 impl Model for Core {
-    ghost use Rattle.std.specs.Prelude.{reverse, vec_len, vec_capacity};
+    ghost use Rattle.std.specs.Prelude.{◌≤◌, reverse, vec_len, vec_capacity};
     ghost use Rattle.dispatch_core.specs.Recorded.{Recorded, IsRecorded, HasRoom};
 
     ghost Value = { Recorded };
@@ -43,7 +44,8 @@ impl Model for Core {
         record { displays = c.dispatcher.displays; entries = reverse c.entries.items; spare = c.spare } };
 
     ghost invariant = { λ c. IsRecorded (reverse c.entries.items) c.dispatcher
-        × HasRoom (vec_len c.entries) (vec_capacity c.entries) c.spare };
+        × HasRoom (vec_len c.entries) (vec_capacity c.entries) c.spare
+        × c.spare ≤ c.dispatcher.queue.spare };
 }
 
 impl Core {
@@ -62,14 +64,15 @@ impl Core {
     /// Answers a call as the history says, and puts it with its reply behind the entries. Want of memory changes
     /// nothing, makes no entry and drops the call.
     ///
-    /// Where room was reserved, some calls cannot answer want of memory: owners that receive or finish, a removal, a
-    /// request that changes no focus, a tick that names nobody and a pump that is idle.
+    /// Where room was reserved, some calls cannot answer want of memory: args that are handed in, owners that receive
+    /// or finish, a removal, a request that changes no focus, a tick that names nobody and a pump that is idle.
     pub fn apply(&mut self, seat: u64, call: Call) -> Result<Reply, AllocError>
         ensures reply { IfOk result (λ answer. answer ≡ reply self.old.displays (history_of self.old.entries) call) }
         ensures entry { IfOk result (λ answer.
             self.new ≡ with_entry (record { seat = seat; call = call; reply = answer }) self.old) }
         ensures err { OnErr result (self.new ≡ self.old) }
         ensures calm { 1 ≤ self.old.spare → IsCalm (effects_of self.old) call → IsOk result }
+        ensures reserved { 1 ≤ self.old.spare → args_in call ≡ 1 → IsOk result }
 
         // The history is legal, so every stream is well-formed, and says what the window of a live channel holds.
         // Nothing follows a removal.
@@ -87,13 +90,15 @@ impl Core {
         }
     }
 
-    /// Makes room for the next `n` entries. Without memory nothing changes.
+    /// Makes room for the next `n` entries, and for the args that these calls may hand in. Without memory nothing
+    /// changes.
     pub fn reserve(&mut self, n: u32) -> Result<(), AllocError>
         ensures ok { OnOk result (self.new ≡ with_spare n self.old) }
         ensures err { OnErr result (self.new ≡ self.old) }
         ensures reserved { n ≤ self.old.spare → IsOk result }
     {
         if self.spare < n {
+            self.dispatcher.reserve(n)?;
             make_room(&mut self.entries, n as usize)?;
             self.spare = n;
         }

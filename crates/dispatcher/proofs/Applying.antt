@@ -1,5 +1,5 @@
 -- A dispatcher after a call.
-use Rattle.std.proofs.Common.{◌≡◌, List, Result, Ok, Err, IfOk, OnOk, OnErr, sym, subst}
+use Rattle.std.proofs.Common.{◌≡◌, ◌+◌, ◌≤◌, ℕ, List, Result, Ok, Err, IfOk, OnOk, OnErr, sym, ap, subst, arith}
 use Rattle.dispatch_calls.specs.declared.call.Call.{Call}
 use Rattle.dispatch_calls.specs.declared.reply.Reply.{Reply}
 use Rattle.dispatch_channels.specs.Table.{but_for_room}
@@ -7,7 +7,8 @@ use Rattle.dispatch_history.specs.Effect.{Effect}
 use Rattle.dispatch_history.specs.Effects.{step}
 use Rattle.dispatcher.specs.declared.tables.Tables.{Tables}
 use Rattle.dispatcher.specs.Dispatching.{Dispatching, IsOfHistory}
-use Rattle.dispatcher.specs.Dispatching.{StandsFor}
+use Rattle.dispatcher.specs.Dispatching.{StandsFor, with_room}
+use Rattle.dispatcher.specs.Queueing.{args_in}
 use Rattle.dispatcher.specs.Tables.{TablesStandFor, GoesOn, GoesOnSomehow, SameAll}
 use Rattle.dispatcher.proofs.Rooms.{stands_raw, stands_bare}
 
@@ -78,3 +79,34 @@ pub stands_somehow : {A E : Type 0} (call : Call) (r : Result A E) (old new : Ta
     → OnOk r ((answer : Reply) × StandsFor (step now.displays call answer es) (seen new))
 stands_somehow call (Err e) old new now is ok es s = tt
 stands_somehow call (Ok a) old new now is ok es s = (ok.0, stands_then call ok.0 old new now is ok.1 es s)
+
+-- only args that are handed in take of the room for args
+pub room_left : {A E : Type 0} (call : Call) (r : Result A E) (old new : Tables) (now : Dispatching) → seen old ≡ now
+    → OnOk r (GoesOnSomehow call old new) → OnErr r (SameAll old new) → now.queue.spare ≤ (seen new).queue.spare + args_in call
+room_left call (Ok a) old new now is ok err = subst (λ d. d.queue.spare ≤ new.queueing.spare + args_in call) is ok.1.room_is
+room_left call (Err e) old new now is ok err =
+    omega (arith, ap (λ q. q.spare) err.queueing_is, ap (λ d. d.queue.spare) is)
+
+-- what stands for a history stands for it with more room for args
+pub roomier : (es : List Effect) (d : Dispatching) (n : ℕ) → StandsFor es d → StandsFor es (with_room n d)
+roomier es d n s =
+    let q = s.knows.queue in
+    record {
+      lawful = s.lawful;
+      rise = s.rise;
+      knows =
+          record {
+            queue = record { clock_is = q.clock_is; place_is = q.place_is; waiting_is = q.waiting_is; down_is = q.down_is };
+            shown = s.knows.shown;
+            touches = s.knows.touches;
+            delivery = s.knows.delivery;
+            inputs = s.knows.inputs;
+            keying = s.knows.keying;
+          };
+    }
+
+-- whether there was memory for it or not
+pub roomier_or_not : {A E : Type 0} (r : Result A E) (old new : Dispatching) (n : ℕ) → OnOk r (new ≡ with_room n old) → OnErr r (new ≡ old)
+    → (es : List Effect) → StandsFor es old → StandsFor es new
+roomier_or_not (Ok a) old new n ok err es s = subst (StandsFor es) (sym ok) (roomier es old n s)
+roomier_or_not (Err e) old new n ok err es s = subst (StandsFor es) (sym err) s

@@ -28,9 +28,9 @@ message down flags repeat = record { key = volume_up down; flags = flags; repeat
 abbrev sent : ℕ → ℕ → Option Sent
 sent repeat clock = Some (record { channel = 1; key = message true 0 repeat; clock = clock })
 
--- volume up is down on device 1, and nothing on the others
+-- volume up is down on device 1, and nothing on the others: of scan code 115 it is bit 19 of the fourth set
 abbrev down : List Down
-down = record { ids = 0; keys = 115 ∷ [] } ∷ replicate 7 (record { ids = 0; keys = [] })
+down = record { ids = 0; keys = 0 ∷ 0 ∷ 0 ∷ 524288 ∷ [] } ∷ replicate 7 (record { ids = 0; keys = [] })
 
 -- window 1 was told the key
 abbrev told : ℕ → Tracked
@@ -40,7 +40,7 @@ told w = if w == 1 then record { pointers = []; keys = message true 0 0 ∷ []; 
 abbrev kept : ℕ → List Args → Kept
 kept count waiting =
     record {
-      queue = record { clock = 1000000; place = 5; waiting = waiting; down = down };
+      queue = record { clock = 1000000; place = 5; waiting = waiting; spare = 0; down = down };
       shown = record { windows = []; origins = [] };
       touches = replicate 8 no_table;
       delivery = record { count = count; channel = λ c. opened_with 5000000; live = 1; able = 1; noted = none_noted };

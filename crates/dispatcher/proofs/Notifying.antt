@@ -1,5 +1,5 @@
 -- Args that are handed in.
-use Rattle.std.proofs.Common.{◌≡◌, ◌≤◌, ◌<◌, ◌^◌, ℕ, Ok, Err, refl, sym, subst}
+use Rattle.std.proofs.Common.{◌≡◌, ◌≤◌, ◌<◌, ◌^◌, ℕ, ◌+◌, Ok, Err, refl, sym, ap, subst, arith}
 use Rattle.input_types.specs.declared.message.Args.{Args}
 use Rattle.input_types.specs.DeviceRule.{device_of}
 use Rattle.device_down.specs.declared.change.Change.{Change}
@@ -19,15 +19,16 @@ use Rattle.dispatcher.proofs.Gone.{none_gone}
 -- args that are accepted
 pub accepted_on : (old : Tables) (later : Queue) (now : ℕ) (a : Args) (c : Change)
     → PlansAt old.queueing.down a (Ok c) → 1 ≤ device_of a → device_of a ≤ 8 → RisesIn (Notify now a)
-    → QueueGoes (Notify now a) Taken old.queueing later
+    → QueueGoes (Notify now a) Taken old.queueing later → old.queueing.spare ≤ later.spare + 1
     → GoesOn (Notify now a) Taken old (record old { queueing = later })
-accepted_on old later now a c plan low high rises goes =
+accepted_on old later now a c plan low high rises goes room =
     record {
       after = λ es s.
           rested (Notify now a) Taken es old.queueing later old.routing s goes
           (sym (taken_law es old.queueing now a c s.knows.queue low high plan)) rises refl;
       displays_are = refl;
       gone_are = none_gone old.routing.channels;
+      room_is = room;
     }
 
 -- args that may not come
@@ -44,4 +45,5 @@ refused_on old later now a e plan low high rises small is =
           (sym (refused_law es old.queueing now a e s.knows.queue low high small plan)) rises refl;
       displays_are = refl;
       gone_are = none_gone old.routing.channels;
+      room_is = omega (arith, ap (λ q. q.spare) is);
     }

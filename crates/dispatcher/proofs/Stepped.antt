@@ -1,5 +1,5 @@
 -- All tables go one step on.
-use Rattle.std.proofs.Common.{◌≡◌, ℕ, max, Bool, true, false, cond, List, slice_get, slice_set, Option, Some, None, refl, sym, ap, ◌∙◌, subst}
+use Rattle.std.proofs.Common.{◌≡◌, ℕ, max, Bool, true, false, cond, List, slice_get, slice_set, Option, Some, None, refl, sym, ap, ◌∙◌, subst, arith}
 use Rattle.std.proofs.lemmas.Bool.{true≢false}
 use Rattle.window_snapshot.specs.Mask.{mask_has}
 use Rattle.window_snapshot.proofs.Masks.{mask_has-zero}
@@ -26,7 +26,7 @@ use Rattle.dispatcher.specs.declared.tables.Tables.{Tables}
 use Rattle.dispatcher.specs.Memory.{IsCalm}
 use Rattle.dispatcher.specs.Needing.{NeedsNone}
 use Rattle.dispatcher.specs.Queueing.{stepped, dispatched}
-use Rattle.dispatcher.specs.Tables.{kept, Goes, GoesAs, Pumps, GoesOn, is_routed}
+use Rattle.dispatcher.specs.Tables.{kept, Goes, GoesAs, Pumps, GoesOn, is_routed, is_owned}
 use Rattle.dispatcher.proofs.KeySteps.{idle_reply}
 
 -- a call with its moment
@@ -49,6 +49,19 @@ stepped_goes (Finish now c seq) answer q r = record { clock_is = refl; place_is 
 stepped_goes (Pilfer now c d) answer q r = record { clock_is = refl; place_is = refl; waiting_is = refl; down_is = refl }
 stepped_goes (Remove now c) answer q r = record { clock_is = refl; place_is = refl; waiting_is = refl; down_is = refl }
 
+-- a call of an owner hands in no args and dispatches none
+pub owned_routed : (call : Call) → is_owned call ≡ true → is_routed call ≡ true
+owned_routed (Open limit) o = absurd (true≢false (sym o))
+owned_routed (Windows now shown) o = absurd (true≢false (sym o))
+owned_routed (FocusOn now display channel) o = absurd (true≢false (sym o))
+owned_routed (Notify now args) o = absurd (true≢false (sym o))
+owned_routed (Pump now) o = absurd (true≢false (sym o))
+owned_routed (Tick now) o = absurd (true≢false (sym o))
+owned_routed (Receive c) o = refl
+owned_routed (Finish now c seq) o = refl
+owned_routed (Pilfer now c d) o = absurd (true≢false (sym o))
+owned_routed (Remove now c) o = refl
+
 -- a call that hands in no args and dispatches none
 pub routed_on : (old : Tables) (later : Queue) (new : Routing) (call : Call) (answer : Reply) (now place clk : ℕ)
     → is_routed call ≡ true → now ≡ moment_of call → clk ≡ max now old.queueing.clock → place ≡ old.queueing.place
@@ -62,20 +75,22 @@ routed_on old later new call answer now place clk routed moment time at is g =
           (subst (λ q. QueueGoes call answer old.queueing q) (sym (is ∙ ap (λ n. stepped n old.queueing) moment)) (stepped_goes call answer old.queueing routed)));
       displays_are = g.displays_are;
       gone_are = g.gone_are;
+      room_is = omega (arith, ap (λ q. q.spare) is);
     }
 
 -- a pump
 pumped_on : (old : Tables) (later : Queue) (new : Routing) (answer : Reply) (first : Option Args) (now place clk : ℕ)
     → slice_get old.queueing.waiting 0 ≡ first → clk ≡ max now old.queueing.clock → place ≡ old.queueing.place
-    → QueueGoes (Pump now) answer old.queueing later → Pumps first answer place clk old.routing new
+    → QueueGoes (Pump now) answer old.queueing later → later.spare ≡ old.queueing.spare → Pumps first answer place clk old.routing new
     → GoesOn (Pump now) answer old (record { queueing = later; routing = new })
-pumped_on old later new answer first now place clk waits time at goes g =
+pumped_on old later new answer first now place clk waits time at goes same g =
     record {
       after = λ es s.
           subst (λ d. KeptStandsFor d (step old.routing.displays (Pump now) answer es) (kept later new)) (sym g.displays_are)
           (g.after es now old.queueing later waits (sym at) (sym time) s goes);
       displays_are = g.displays_are;
       gone_are = g.gone_are;
+      room_is = omega (arith, same);
     }
 
 -- one that dispatches
@@ -86,6 +101,7 @@ pub dispatched_on : (old : Tables) (later : Queue) (new : Routing) (a : Args) (n
 dispatched_on old later new a now place clk waits time at is g =
     pumped_on old later new Dispatched (Some a) now place clk waits time at
     (subst (λ q. QueueGoes (Pump now) Dispatched old.queueing q) (sym is) (record { clock_is = refl; place_is = refl; waiting_is = refl; down_is = refl }))
+    (ap (λ q. q.spare) is)
     g
 
 idle_goes : (b : Bool) (now : ℕ) (q : Queue) → QueueGoes (Pump now) (cond b Repeated Idle) q (stepped now q)
@@ -101,6 +117,7 @@ idle_on old later new b answer now place clk waits time at is reply g =
     subst (λ a. GoesOn (Pump now) a old (record { queueing = later; routing = new })) (sym reply)
     (pumped_on old later new (cond b Repeated Idle) None now place clk waits time at
     (subst (λ q. QueueGoes (Pump now) (cond b Repeated Idle) old.queueing q) (sym is) (idle_goes b now old.queueing))
+    (ap (λ q. q.spare) is)
     g)
 
 -- a pump that is idle is due nothing

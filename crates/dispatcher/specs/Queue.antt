@@ -12,11 +12,13 @@ use Rattle.dispatch_history.specs.History.{clock, moment_of}
 use Rattle.dispatch_history.specs.Queue.{accepted, inbound}
 use Rattle.dispatch_history.specs.Effect.{Effect, past_of}
 
--- the clock, how many steps there were, the args that wait, and what is down on each device by those that were accepted
+-- the clock, how many steps there were, the args that wait, for how many more there is room, and what is down on each device by
+-- those that were accepted
 pub record Queue : Type 0 where
   pub clock : ℕ
   pub place : ℕ
   pub waiting : List Args
+  pub spare : ℕ
   pub down : List Kept
 
 -- it stands for the effects of a history

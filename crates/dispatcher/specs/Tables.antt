@@ -1,5 +1,5 @@
 -- The tables, and the histories that they stand for.
-use Rattle.std.specs.Prelude.{◌≡◌, ◌≤◌, ◌<◌, ◌-◌, ◌^◌, ℕ, max, Bool, true, false, List, slice_get, Option}
+use Rattle.std.specs.Prelude.{◌≡◌, ◌≤◌, ◌<◌, ◌+◌, ◌-◌, ◌^◌, ℕ, max, Bool, true, false, List, slice_get, Option}
 use Rattle.dispatch_calls.specs.declared.call.Call.{Call}
 use Rattle.dispatch_calls.specs.declared.call.Call.TheVariants.{Notify, Pump, Receive, Finish, Remove}
 use Rattle.dispatch_calls.specs.declared.reply.Reply.{Reply}
@@ -11,6 +11,7 @@ use Rattle.dispatch_history.specs.History.{moment_of}
 use Rattle.dispatcher.specs.Knows.{Kept}
 use Rattle.dispatcher.specs.Knows.{KeptStandsFor}
 use Rattle.dispatcher.specs.Queue.{Queue, QueueGoes}
+use Rattle.dispatcher.specs.Queueing.{args_in}
 use Rattle.dispatcher.specs.declared.tables.Routing.{Routing}
 use Rattle.dispatcher.specs.declared.tables.Tables.{Tables}
 use Rattle.dispatcher.specs.Seen.{kept_of}
@@ -84,11 +85,13 @@ is_owned (Finish now channel seq) = true
 is_owned (Remove now channel) = true
 is_owned call = false
 
--- all tables went one step on: whatever they stood for, they stand for it with this step more
+-- All tables went one step on: whatever they stood for, they stand for it with this step more. Only args that are handed in take of the
+-- room for args.
 pub record GoesOn (call : Call) (answer : Reply) (old new : Tables) : Type 0 where
   pub after : (es : List Effect) → TablesStandFor es old → TablesStandFor (step old.routing.displays call answer es) new
   pub displays_are : new.routing.displays ≡ old.routing.displays
   pub gone_are : LetsNoneGo old.routing.channels new.routing.channels
+  pub room_is : old.queueing.spare ≤ new.queueing.spare + args_in call
 
 -- all tables went one step on with this call, whatever its answer is
 abbrev pub GoesOnSomehow : Call → (old new : Tables) → Type 0

@@ -1,13 +1,14 @@
 //! How each call is answered.
-ghost use Rattle.std.specs.Prelude.{◌≡◌, ◌<◌, ◌^◌, true, false, List, None, Some, slice_get, if◌then◌else◌};
+ghost use Rattle.std.specs.Prelude.{◌≡◌, ◌<◌, ◌≤◌, ◌^◌, true, false, List, None, Some, slice_get, if◌then◌else◌};
 ghost use Rattle.std.specs.Prelude.{IfOk, OnOk, OnErr, IsOk, IfSome};
-ghost use Rattle.dispatch_calls.specs.declared.call.Call.TheVariants.{Notify, Pump, Receive, Finish, Remove};
+ghost use Rattle.dispatch_calls.specs.declared.call.Call.TheVariants.{Notify, Pump};
 ghost use Rattle.dispatch_history.specs.Effect.{Effect};
 ghost use Rattle.dispatch_history.specs.PointerOf.{RisesIn};
 ghost use Rattle.dispatch_round.specs.Rounds.{IsTimely};
 ghost use Rattle.dispatch_calls.specs.declared.reply.Reply.TheVariants.{Inconsistent, Dispatched, Repeated, Idle};
 ghost use Rattle.dispatcher.specs.Memory.{IsCalm, MayCount};
 ghost use Rattle.dispatcher.specs.Needing.{NeedsNone};
+ghost use Rattle.dispatcher.specs.Queueing.{args_in};
 ghost use Rattle.dispatcher.specs.Tables.{TablesStandFor, MayStep, GoesAs, Pumps, GoesOn, is_routed, is_owned};
 ghost use Rattle.dispatcher.specs.Tables.{SameButRoom, SameAll};
 
@@ -23,25 +24,24 @@ use std::alloc::AllocError;
 
 /// Answers a call. Without memory nothing changes but the room that channels have.
 ///
-/// A reply has the size of a message, and is copied whole where branches meet that make one. So those of the calls that
-/// come with each motion return by themselves.
+/// It is not inlined: a reply has the size of a message, and where branches that make one meet inside of another
+/// function it is copied once more for each.
+#[inline(never)]
 pub(crate) fn apply(tables: &mut Tables, call: &Call) -> Result<Reply, AllocError>
     requires { (es : List Effect) × TablesStandFor es tables.old }
     ensures ok { IfOk result (λ answer. GoesOn call.now answer tables.old tables.new) }
     ensures err { OnErr result (SameAll tables.old tables.new) }
     ensures calm { (es : List Effect) → TablesStandFor es tables.old → MayCount es → IsCalm es call.now → IsOk result }
+    ensures reserved { (es : List Effect) → TablesStandFor es tables.old → MayCount es
+        → args_in call.now ≡ 1 → 1 ≤ tables.old.queueing.spare → IsOk result }
 {
     if tables.queueing.place() == u64::MAX {
         return Err(AllocError);
     }
     match call {
-        Call::Notify { now, args } => return notify(tables, *now, args),
-        Call::Pump { now } => return pump(tables, *now),
-        Call::Receive { channel } => return Ok(receive_next(tables, *channel)),
-        Call::Finish { now, channel, seq } => {
-            return Ok(finish_one(tables, *now, *channel, *seq));
-        }
-        Call::Remove { now, channel } => return Ok(remove_one(tables, *now, *channel)),
+        Call::Notify { now, args } => notify(tables, *now, args),
+        Call::Pump { now } => pump(tables, *now),
+        Call::Receive { .. } | Call::Finish { .. } | Call::Remove { .. } => Ok(own(tables, call)),
         _ => route(tables, call),
     }
 }
@@ -51,6 +51,7 @@ fn notify(tables: &mut Tables, now: Moment, args: &Args) -> Result<Reply, AllocE
     requires { MayStep tables.old }
     ensures ok { IfOk result (λ answer. GoesOn (Notify now args.now) answer tables.old tables.new) }
     ensures err { OnErr result (SameAll tables.old tables.new) }
+    ensures reserved { 1 ≤ tables.old.queueing.spare → IsOk result }
 {
     rises(now, args);
     match tables.queueing.plan(args) {
@@ -153,36 +154,35 @@ fn idle_reply(is_due: bool) -> Reply
     if is_due { Reply::Repeated } else { Reply::Idle }
 }
 
-/// The owner of a channel is handed its next message, where there is one. Takes no memory.
-fn receive_next(tables: &mut Tables, channel: u32) -> Reply
-    requires { MayStep tables.old }
-    ensures { GoesOn (Receive channel) result tables.old tables.new }
+/// The owner of a channel asks something, or a channel is removed. Takes no memory.
+fn own(tables: &mut Tables, call: &Call) -> Reply
+    requires step { MayStep tables.old }
+    requires owned { is_owned call.now ≡ true }
+    ensures { GoesOn call.now result tables.old tables.new }
 {
-    tables.queueing.step(Moment::zero());
-    receive(&mut tables.routing, channel)
-}
-
-/// The owner of a channel is done with a message. Takes no memory.
-pub(crate) fn finish_one(tables: &mut Tables, now: Moment, channel: u32, seq: u64) -> Reply
-    requires { MayStep tables.old }
-    ensures { GoesOn (Finish now channel seq) result tables.old tables.new }
-{
+    let now = call.moment();
     let clock = now.later(tables.queueing.clock());
-    tables.queueing.step(now);
-    finish(&mut tables.routing, channel, seq, clock)
-}
-
-/// A channel is removed. Takes no memory.
-fn remove_one(tables: &mut Tables, now: Moment, channel: u32) -> Reply
-    requires { MayStep tables.old }
-    ensures { GoesOn (Remove now channel) result tables.old tables.new }
-{
     let place = tables.queueing.place();
     tables.queueing.step(now);
-    remove(&mut tables.routing, channel, place)
+    answer_owner(&mut tables.routing, call, place, clock)
 }
 
-/// Any other call.
+/// How a call of an owner is answered, and a removal.
+fn answer_owner(routing: &mut Routing, call: &Call, place: u64, clock: Moment) -> Reply
+    requires timely { IsTimely clock routing.old.channels }
+    requires owned { is_owned call.now ≡ true }
+    ensures { GoesAs call.now result place clock routing.old routing.new }
+{
+    match call {
+        Call::Receive { channel } => receive(routing, *channel),
+        Call::Finish { channel, seq, .. } => finish(routing, *channel, *seq, clock),
+        Call::Remove { channel, .. } => remove(routing, *channel, place),
+        _ => unreachable!(),
+    }
+}
+
+/// Any other call. These are seldom made, so it is not inlined either.
+#[inline(never)]
 fn route(tables: &mut Tables, call: &Call) -> Result<Reply, AllocError>
     requires step { MayStep tables.old }
     requires routed { is_routed call.now ≡ true }

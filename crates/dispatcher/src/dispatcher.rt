@@ -1,5 +1,5 @@
 //! The dispatcher.
-ghost use Rattle.std.specs.Prelude.{◌≡◌, ◌≤◌, ◌==◌, ℕ, true, false, [], List, None, drop, is_some, length, max, option_map};
+ghost use Rattle.std.specs.Prelude.{◌≡◌, ◌≤◌, ◌+◌, ◌==◌, ℕ, true, false, [], List, None, drop, is_some, length, max, option_map};
 ghost use Rattle.std.specs.Prelude.{IfOk, IfSome, OnErr, OnOk, IsOk};
 ghost use Rattle.std.specs.Option.{option_copied};
 ghost use Rattle.dispatch_calls.specs.declared.call.Call.{Call as CallView};
@@ -18,8 +18,10 @@ ghost use Rattle.dispatcher.specs.Access.{is_opened, gone, namings_gone, message
 ghost use Rattle.dispatcher.specs.Access.{is_waiting, next_repeat, HoldsInput};
 ghost use Rattle.dispatcher.specs.Dispatching.{StandsFor};
 ghost use Rattle.dispatcher.specs.Memory.{IsCalm, MayCount};
+ghost use Rattle.dispatcher.specs.Queueing.{args_in};
 
 mod asked;
+mod room;
 
 use crate::apply::apply;
 use crate::tables::Tables;
@@ -78,6 +80,9 @@ impl Dispatcher {
         ensures namings { namings_gone self.new ≡ namings_gone self.old }
         ensures err { OnErr result (self.new ≡ self.old) }
         ensures calm { (es : List Effect) → StandsFor es self.old → MayCount es → IsCalm es call.now → IsOk result }
+        ensures reserved { (es : List Effect) → StandsFor es self.old → MayCount es
+            → args_in call.now ≡ 1 → 1 ≤ self.old.queue.spare → IsOk result }
+        ensures room { self.old.queue.spare ≤ self.new.queue.spare + args_in call.now }
     {
         apply(&mut self.tables, call)
     }
@@ -92,6 +97,9 @@ impl Dispatcher {
         ensures namings { namings_gone self.new ≡ namings_gone self.old }
         ensures err { OnErr result (self.new ≡ self.old) }
         ensures calm { (es : List Effect) → StandsFor es self.old → MayCount es → IsCalm es call.now → IsOk result }
+        ensures reserved { (es : List Effect) → StandsFor es self.old → MayCount es
+            → args_in call.now ≡ 1 → 1 ≤ self.old.queue.spare → IsOk result }
+        ensures room { self.old.queue.spare ≤ self.new.queue.spare + args_in call.now }
     {
         apply_unread(&mut self.tables, call)
     }

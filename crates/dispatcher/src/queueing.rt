@@ -1,11 +1,11 @@
 //! The clock, how many steps there were, the args that wait, and what is down on each device.
-ghost use Rattle.std.specs.Prelude.{◌≡◌, ◌<◌, ◌≤◌, ◌^◌, [], slice_get, Ok, Err, IfOk, OnErr, OnOk, option_copied};
+ghost use Rattle.std.specs.Prelude.{◌≡◌, ◌<◌, ◌≤◌, ◌^◌, [], slice_get, Ok, Err, IfOk, OnErr, OnOk, IsOk, option_copied};
 ghost use Rattle.input_types.specs.DeviceRule.{device_of};
-ghost use Rattle.device_down.specs.Down.{PlansAt, needs_memory};
+ghost use Rattle.device_down.specs.Down.{PlansAt};
 ghost use Rattle.dispatch_calls.specs.declared.call.Call.{Call};
 ghost use Rattle.dispatch_calls.specs.declared.reply.Reply.{Reply};
 ghost use Rattle.dispatcher.specs.Queue.{QueueIs, QueueGoes};
-ghost use Rattle.dispatcher.specs.Queueing.{stepped, dispatched};
+ghost use Rattle.dispatcher.specs.Queueing.{stepped, dispatched, with_room};
 
 use device_down::{Change, DevicesDown, Inconsistent};
 use input_types::{Args, Moment};
@@ -13,7 +13,7 @@ use reader_queue::Inbound;
 use std::alloc::{AllocError, Global};
 use std::marker::Model;
 
-/// The clock is the greatest moment that was handed in. Contracts do not see for how many args there is room.
+/// The clock is the greatest moment that was handed in.
 #[derive(Drop)]
 pub(crate) struct Queueing {
     clock: Moment,
@@ -28,7 +28,13 @@ impl Model for Queueing {
 
     ghost Value = { Queue };
 
-    ghost view = { λ q. record { clock = q.clock; place = q.place; waiting = q.waiting.args; down = q.down } };
+    ghost view = { λ q. record {
+      clock = q.clock;
+      place = q.place;
+      waiting = q.waiting.args;
+      spare = q.waiting.spare;
+      down = q.down;
+    } };
 }
 
 impl Queueing {
@@ -73,6 +79,15 @@ impl Queueing {
         self.down.plan(args)
     }
 
+    /// Makes room for the next `n` args. Without memory nothing changes.
+    pub(crate) fn reserve(&mut self, n: u32) -> Result<(), AllocError>
+        ensures ok { OnOk result (self.new ≡ with_room n self.old) }
+        ensures err { OnErr result (self.new ≡ self.old) }
+        ensures reserved { n ≤ self.old.spare → IsOk result }
+    {
+        self.waiting.reserve(n as usize)
+    }
+
     /// One step more, which hands in a moment.
     pub(crate) fn step(&mut self, now: Moment)
         requires { self.old.place < 2 ^ 64 - 1 }
@@ -93,10 +108,12 @@ impl Queueing {
         requires place { self.old.place < 2 ^ 64 - 1 }
         requires planned { PlansAt self.old.down args.now (Ok change.now) }
         ensures ok { OnOk result (QueueGoes (Call.Notify now args.now) Reply.Taken self.old self.new) }
+        ensures spare { OnOk result (self.old.spare ≤ self.new.spare + 1) }
         ensures err { OnErr result (self.new ≡ self.old) }
+        ensures reserved { 1 ≤ self.old.spare → IsOk result }
     {
         self.waiting.reserve(1)?;
-        self.down.apply(change)?;
+        self.down.apply(change);
         self.waiting.put(copy_of(args));
         self.clock = now.later(self.clock);
         self.place += 1;
@@ -114,7 +131,7 @@ impl Queueing {
     }
 }
 
-ghost use Rattle.std.specs.Prelude.{◌-◌};
+ghost use Rattle.std.specs.Prelude.{◌-◌, ◌+◌};
 
 fn copy_of(args: &Args) -> Args
     ensures { result ≡ args.now }

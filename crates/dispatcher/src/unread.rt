@@ -1,12 +1,13 @@
 //! Calls whose answers are not read, as those of a run: no message is copied, and no answer handed on.
-ghost use Rattle.std.specs.Prelude.{◌≡◌, List, OnOk, OnErr, IsOk};
-ghost use Rattle.dispatch_calls.specs.declared.call.Call.TheVariants.{Receive};
+ghost use Rattle.std.specs.Prelude.{◌≡◌, ◌≤◌, List, OnOk, OnErr, IsOk};
+ghost use Rattle.dispatch_calls.specs.declared.call.Call.TheVariants.{Receive, Finish};
 ghost use Rattle.dispatch_history.specs.Effect.{Effect};
 ghost use Rattle.dispatcher.specs.Memory.{IsCalm, MayCount};
+ghost use Rattle.dispatcher.specs.Queueing.{args_in};
 ghost use Rattle.dispatcher.specs.Tables.{TablesStandFor, MayStep, GoesOnSomehow, SameAll};
 
-use crate::apply::{apply, finish_one};
-use crate::owners::pass;
+use crate::apply::apply;
+use crate::owners::{finish, pass};
 use crate::tables::Tables;
 use dispatch_calls::Call;
 use input_types::Moment;
@@ -19,6 +20,8 @@ pub(crate) fn apply_unread(tables: &mut Tables, call: &Call) -> Result<(), Alloc
     ensures ok { OnOk result (GoesOnSomehow call.now tables.old tables.new) }
     ensures err { OnErr result (SameAll tables.old tables.new) }
     ensures calm { (es : List Effect) → TablesStandFor es tables.old → MayCount es → IsCalm es call.now → IsOk result }
+    ensures reserved { (es : List Effect) → TablesStandFor es tables.old → MayCount es
+        → args_in call.now ≡ 1 → 1 ≤ tables.old.queueing.spare → IsOk result }
 {
     if tables.queueing.place() == u64::MAX {
         return Err(AllocError);
@@ -29,7 +32,7 @@ pub(crate) fn apply_unread(tables: &mut Tables, call: &Call) -> Result<(), Alloc
             Ok(())
         }
         Call::Finish { now, channel, seq } => {
-            let _reply = finish_one(tables, *now, *channel, *seq);
+            finish_unread(tables, *now, *channel, *seq);
             Ok(())
         }
         _ => apply_dropping(tables, call),
@@ -42,6 +45,8 @@ fn apply_dropping(tables: &mut Tables, call: &Call) -> Result<(), AllocError>
     ensures ok { OnOk result (GoesOnSomehow call.now tables.old tables.new) }
     ensures err { OnErr result (SameAll tables.old tables.new) }
     ensures calm { (es : List Effect) → TablesStandFor es tables.old → MayCount es → IsCalm es call.now → IsOk result }
+    ensures reserved { (es : List Effect) → TablesStandFor es tables.old → MayCount es
+        → args_in call.now ≡ 1 → 1 ≤ tables.old.queueing.spare → IsOk result }
 {
     match apply(tables, call) {
         Ok(_) => Ok(()),
@@ -56,4 +61,14 @@ fn pass_next(tables: &mut Tables, channel: u32)
 {
     tables.queueing.step(Moment::zero());
     pass(&mut tables.routing, channel);
+}
+
+/// The owner of a channel is done with a message, and its answer is not read. Takes no memory.
+fn finish_unread(tables: &mut Tables, now: Moment, channel: u32, seq: u64)
+    requires { MayStep tables.old }
+    ensures { GoesOnSomehow (Finish now channel seq) tables.old tables.new }
+{
+    let clock = now.later(tables.queueing.clock());
+    tables.queueing.step(now);
+    let _reply = finish(&mut tables.routing, channel, seq, clock);
 }

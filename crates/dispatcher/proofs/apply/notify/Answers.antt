@@ -11,6 +11,7 @@ returns-in_ok-accept-in-Ok-clause-ok c =
     c.in-Ok.ensures.device.1
     c.rises.ensures
     c.in_ok-accept-in-Ok.ensures.ok
+    c.in_ok-accept-in-Ok.ensures.spare
 
 pub returns-in-Err-clause-ok : goal.returns-in-Err-clause-ok
 returns-in-Err-clause-ok c =

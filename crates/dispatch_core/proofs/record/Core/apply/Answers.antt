@@ -1,9 +1,9 @@
-use Rattle.std.proofs.Common.{List, ◌≤◌, ◌++◌, ◌∷◌, [], ap, ◌∙◌, sym, subst, reverse, ◌≡◌}
+use Rattle.std.proofs.Common.{List, ◌≤◌, ◌++◌, ◌∷◌, [], ap, ◌∙◌, sym, subst, reverse, ◌≡◌, arith}
 use Rattle.dispatch_calls.specs.declared.call.Entry.{Entry}
 use Rattle.dispatch_history.specs.Legal.{reply}
 use Rattle.dispatcher.specs.Memory.{IsCalm}
 use Rattle.dispatch_core.specs.Recorded.{effects_of, history_of, IsRecorded, IsSound, AnswersGone}
-use Rattle.dispatch_core.proofs.Recording.{recorded_more, recorded_behind, replied, sound_of, gone_of, room_after, may_count}
+use Rattle.dispatch_core.proofs.Recording.{recorded_more, recorded_behind, replied, sound_of, gone_of, room_after, may_count, one_in}
 use Rattle.dispatch_core.proofs.record.Core.apply.Goals.{in-Windows-2, in-Open-2}
 use Rattle.dispatch_core.proofs.record.Core.apply.Goals as goal
 
@@ -23,8 +23,11 @@ all : (c : goal.After-self-1) → IsRecorded (reverse c.note.new.entries.items) 
 all c = recorded_behind (entry c) c.self.inside.entries.items c.note.new.entries.items c.apply.new.self (c.note.ensures.items ∙ ap (λ (xs : List Entry). xs ++ entry c ∷ []) c.in_ok-make_sure.ensures.items) (newest c)
 
 pub invariant_of-self-in-Ok : goal.invariant_of-self-in-Ok
-invariant_of-self-in-Ok c =
-    (all c, room_after _ _ c.self.inside.spare _ _ _ c.in_ok-make_sure.ensures.ok c.note.ensures.len c.note.ensures.capacity c.saturating_sub-self-inside.ensures)
+invariant_of-self-in-Ok c = (
+  all c,
+  room_after _ _ c.self.inside.spare _ _ _ c.in_ok-make_sure.ensures.ok c.note.ensures.len c.note.ensures.capacity c.saturating_sub-self-inside.ensures,
+  omega (arith, c.saturating_sub-self-inside.ensures, c.self.invariant.2, c.in-Ok.ensures.room, one_in c.args.call),
+)
 
 pub returns-in-Ok-clause-sound : goal.returns-in-Ok-clause-sound
 returns-in-Ok-clause-sound c = sound_of _ c.apply.new.self _ (all c)
@@ -55,3 +58,12 @@ unchanged c is =
 
 pub returns-in-Err-clause-sound : goal.returns-in-Err-clause-sound
 returns-in-Err-clause-sound c = elim c.match-call-2.branch [ in-Windows-2 w ↦ unchanged c w.self-is | in-Open-2 w ↦ unchanged c w.self-is ]
+
+pub returns-in-Err-clause-reserved : goal.returns-in-Err-clause-reserved
+returns-in-Err-clause-reserved c =
+    λ some one.
+    let held : 1 ≤ c.self.inside.spare = subst (λ r. 1 ≤ r.spare) (sym c.self.view_is) some in
+    c.in-Err.ensures.reserved _ c.self.invariant.0.stands
+    (may_count c.self.inside.dispatcher.displays c.self.inside.entries.items _ _ c.self.inside.spare (sym c.self.inside.entries.ok.0) c.self.invariant.1 held)
+    one
+    (omega (arith, held, c.self.invariant.2))

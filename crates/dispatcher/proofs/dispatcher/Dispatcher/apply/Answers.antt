@@ -1,8 +1,8 @@
-use Rattle.std.proofs.Common.{sym, ap, ◌∙◌, subst}
+use Rattle.std.proofs.Common.{◌≤◌, sym, ap, ◌∙◌, subst}
 use Rattle.dispatcher.specs.Access.{gone, namings_gone}
 use Rattle.dispatcher.specs.Dispatching.{StandsFor}
 use Rattle.dispatcher.proofs.Gone.{answered_gone}
-use Rattle.dispatcher.proofs.Applying.{raw, somehow, history_after, stands_after}
+use Rattle.dispatcher.proofs.Applying.{raw, somehow, history_after, stands_after, room_left}
 use Rattle.dispatcher.proofs.dispatcher.Dispatcher.apply.Goals as goal
 
 pub apply-requires : goal.apply-requires
@@ -40,3 +40,15 @@ returns-clause-namings c =
     (somehow c.args.call.now c.apply.result c.self.inside.tables c.apply.new.tables c.apply.ensures.ok)
     c.apply.ensures.err).of_namings
     ∙ ap namings_gone c.self.view_is
+
+pub returns-clause-reserved : goal.returns-clause-reserved
+returns-clause-reserved c =
+    λ es s few one room.
+    c.apply.ensures.reserved es (raw es c.self.inside.tables (subst (StandsFor es) (sym c.self.view_is) s)) few one
+    (subst (λ d. 1 ≤ d.queue.spare) (sym c.self.view_is) room)
+
+pub returns-clause-room : goal.returns-clause-room
+returns-clause-room c =
+    room_left c.args.call.now c.apply.result c.self.inside.tables c.apply.new.tables c.args.self.now c.self.view_is
+    (somehow c.args.call.now c.apply.result c.self.inside.tables c.apply.new.tables c.apply.ensures.ok)
+    c.apply.ensures.err

@@ -1,8 +1,8 @@
-use Rattle.std.proofs.Common.{sym, ap, ◌∙◌, subst}
+use Rattle.std.proofs.Common.{◌≤◌, sym, ap, ◌∙◌, subst}
 use Rattle.dispatcher.specs.Access.{gone, namings_gone}
 use Rattle.dispatcher.specs.Dispatching.{StandsFor}
 use Rattle.dispatcher.proofs.Gone.{answered_gone}
-use Rattle.dispatcher.proofs.Applying.{raw, history_after, stands_somehow}
+use Rattle.dispatcher.proofs.Applying.{raw, history_after, stands_somehow, room_left}
 use Rattle.dispatcher.proofs.dispatcher.Dispatcher.apply_unread.Goals as goal
 
 pub apply_unread-requires : goal.apply_unread-requires
@@ -31,3 +31,15 @@ pub returns-clause-namings : goal.returns-clause-namings
 returns-clause-namings c =
     (answered_gone c.args.call.now c.apply_unread.result c.self.inside.tables c.apply_unread.new.tables c.apply_unread.ensures.ok c.apply_unread.ensures.err).of_namings
     ∙ ap namings_gone c.self.view_is
+
+pub returns-clause-reserved : goal.returns-clause-reserved
+returns-clause-reserved c =
+    λ es s few one room.
+    c.apply_unread.ensures.reserved es (raw es c.self.inside.tables (subst (StandsFor es) (sym c.self.view_is) s)) few one
+    (subst (λ d. 1 ≤ d.queue.spare) (sym c.self.view_is) room)
+
+pub returns-clause-room : goal.returns-clause-room
+returns-clause-room c =
+    room_left c.args.call.now c.apply_unread.result c.self.inside.tables c.apply_unread.new.tables c.args.self.now c.self.view_is
+    c.apply_unread.ensures.ok
+    c.apply_unread.ensures.err
