@@ -6,8 +6,8 @@
 //! [`run`] reads the words, has the command answered, and writes the text, or tells with a status and a line why there
 //! is none. Its contract says for each status when it comes and what was written; `specs/Program.antt` of
 //! `command_answers` says which text that is for the words and the files. [`run_alone`] does all of it but `race`, and
-//! starts no thread. [`run_by`] does all of it, and has its caller run the lanes of `race`: the order that it writes is
-//! one that the lanes took.
+//! starts no thread. [`run_by`] does all of it, and has a function of its caller's run the lanes of `race`: the order
+//! that it writes is that of an end which the function answered.
 //!
 //! ```text
 //! verify --stream a.txt               status 0, and the output took `well formed 1 2`
