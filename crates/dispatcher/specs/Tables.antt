@@ -60,10 +60,10 @@ pub record Pumps (first : Option Args) (answer : Reply) (place clock : ℕ) (old
   pub displays_are : new.displays ≡ old.displays
   pub gone_are : LetsNoneGo old.channels new.channels
 
--- they are the same, but for the room that the channels have
+-- they are the same, but for the room that the channels have, and that for keys that are cancelled
 abbrev pub SameButRoom : (old new : Routing) → Type 0
 SameButRoom old new =
-    let bare : Routing → Routing = λ r. record r { channels = but_for_room r.channels } in
+    let bare : Routing → Routing = λ r. record r { channels = but_for_room r.channels; cancelled = 0 } in
     bare new ≡ bare old
 
 -- the tables may go one step on: they stand for some history, and the number of its steps is not the greatest

@@ -41,10 +41,29 @@ fn name_some(routing: &mut Routing, mask: u64, place: u64, clock: Moment) -> Res
         (Names mask (named_keys routing.old.focus mask routing.old.channels) place clock routing.old routing.new) }
     ensures err { OnErr result (SameButRoom routing.old routing.new) }
 {
+    let mut keys = routing.cancelled.take();
+    let named = tell_names(routing, &mut keys, mask, place, clock);
+    routing.cancelled.keep(keys);
+    named
+}
+
+/// The same with a list for the keys that are cancelled.
+fn tell_names(
+    routing: &mut Routing,
+    keys: &mut Vec<KeyMsg>,
+    mask: u64,
+    place: u64,
+    clock: Moment,
+) -> Result<(), AllocError>
+    requires { IsTimely clock routing.old.channels }
+    ensures ok { OnOk result
+        (Names mask (named_keys routing.old.focus mask routing.old.channels) place clock routing.old routing.new) }
+    ensures err { OnErr result (SameButRoom routing.old routing.new) }
+{
     match listening(routing) {
         Some(target) if mask_has(mask, target) => {
-            let keys = routing.channels.input(target).cancel_keys()?;
-            name(routing, mask, &keys, place, clock)
+            routing.channels.input(target).cancel_keys_into(keys)?;
+            name(routing, mask, keys.as_slice(), place, clock)
         }
         _ => name(routing, mask, &[], place, clock),
     }

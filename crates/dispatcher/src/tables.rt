@@ -2,6 +2,7 @@
 ghost use Rattle.std.specs.Prelude.{◌≡◌, [], IfOk};
 ghost use Rattle.dispatcher.specs.Tables.{TablesStandFor};
 
+use crate::cancelled::Cancelled;
 use crate::queueing::Queueing;
 use crate::shown::Shown;
 use dispatch_channels::Channels;
@@ -20,6 +21,7 @@ pub(crate) struct Routing {
     pub(crate) channels: Channels,
     pub(crate) focus: Focus,
     pub(crate) repeat: Repeat,
+    pub(crate) cancelled: Cancelled,
 }
 
 /// What the next answers need, table by table.
@@ -44,6 +46,7 @@ impl Tables {
             channels: Channels::new(alloc),
             focus: Focus::new(),
             repeat: Repeat::new(),
+            cancelled: Cancelled::new(alloc),
         };
         Ok(Tables { queueing, routing })
     }
