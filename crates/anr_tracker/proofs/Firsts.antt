@@ -1,14 +1,18 @@
 -- What comes first after a change of the map.
-use Rattle.std.specs.Prelude.{◌≡◌, ◌≢◌, ◌⊎◌, ℕ, zero, suc, ◌-◌, ◌<◌, ◌≤◌, max, Bool, true, false, List, length, get_or, replicate, Option, Some, None, nat_le, if◌then◌else◌, if◌then◌else◌}
-use Rattle.std.proofs.Common.{refl, sym, ◌∙◌, ap, arith, inl, inr, set, get_or-set_same, get_or-set_other}
+use Rattle.std.specs.Prelude.{◌≡◌, ◌≢◌, ◌⊎◌, ℕ, zero, suc, ◌-◌, ◌<◌, ◌≤◌, Bool, true, false, not, ◌&&◌, ◌||◌, ◌==◌, List, length, get_or, replicate, Option, Some, None, if◌then◌else◌}
+use Rattle.std.specs.Int.{bit_not, w64}
+use Rattle.std.proofs.Common.{refl, sym, subst, ◌∙◌, ap, arith, inl, inr, set, get_or-set_same, get_or-set_other}
+use Rattle.std.proofs.lemmas.Nat.{and_le_l}
 use Rattle.std.proofs.lemmas.List.{get_or-replicate, get_or_past, length-set, length-replicate}
-use Rattle.std.proofs.lemmas.Bool.{cases_eq, eqb-false}
+use Rattle.std.proofs.lemmas.Bool.{cases_eq, eqb-false, ne_eqb, eq-eqb, and_left, and_from, or_right, both_ways, lt-ltb, le-leb}
 use Rattle.std.proofs.lemmas.Bool.Decides.{nat_tests}
-use Rattle.anr_tracker.specs.Due.{due_of, IsFirst, IsTable, is_before, is_of, is_put_off, sooner_of}
+use Rattle.window_snapshot.specs.Mask.{is_channel, mask_has, mask_less, mask_with}
+use Rattle.window_snapshot.proofs.Masks.{mask_has-with, mask_has-zero}
+use Rattle.anr_tracker.specs.Due.{due_of, IsFirst, IsTable, is_before, is_of, is_put_off, sooner_of, further}
 
--- the map with the channels up to a number
-abbrev pub due_up_to : ℕ → (ℕ → Option ℕ) → ℕ → Option ℕ
-due_up_to n due c = if nat_le c n then due c else None
+-- the map without the channels of a mask
+abbrev pub due_but : (rest : ℕ) → (ℕ → Option ℕ) → ℕ → Option ℕ
+due_but rest due c = if mask_has rest c then None else due c
 
 before_itself : (m c : ℕ) → is_before (m, c) (m, c) ≡ false
 before_itself m c = grind (arith, nat_tests)
@@ -96,6 +100,70 @@ first_without f g c (Some p) gone others away first =
     still q at (inl same) = let there : g q.1 ≡ g c = ap g same in cc
     still q at (inr other) = first.1 q (sym (others q.1 other) ∙ at)
 
+-- a channel that is not due is not the one that came first
+not_first : (f : ℕ → Option ℕ) (c : ℕ) (first : Option (ℕ × ℕ)) → f c ≡ None → IsFirst f first → is_of first c ≡ false
+not_first f c None gone h = refl
+not_first f c (Some p) gone h = ne_eqb p.1 c (λ same. let there : f p.1 ≡ f c = ap f same in let due : f p.1 ≡ Some p.0 = h.0 in cc)
+
+-- so it puts nothing off
+nothing_off : (m c : ℕ) (first : Option (ℕ × ℕ)) → is_of first c ≡ false → is_put_off first (m, c) ≡ false
+nothing_off m c None away = refl
+nothing_off m c (Some p) away = and_left _ _ away
+
+-- what comes first with a further channel, which may be due
+further_first : (f g : ℕ → Option ℕ) (c : ℕ) (first : Option (ℕ × ℕ)) (due : Option ℕ) → g c ≡ due
+    → ((i : ℕ) → i ≢ c → g i ≡ f i) → f c ≡ None → IsFirst f first → IsFirst g (further first due c)
+further_first f g c first None here others gone h = first_without f g c first here others (not_first f c first gone h) h
+further_first f g c first (Some m) here others gone h =
+    first_with f g m c first here others h (nothing_off m c first (not_first f c first gone h))
+
+-- a mask without a channel has the others
+kept : (c mask later : ℕ) → ((k : ℕ) → mask_has later k ≡ (not (k == c) && mask_has mask k)) → (k : ℕ) → k ≢ c
+    → mask_has later k ≡ mask_has mask k
+kept c mask later without k other = without k ∙ ap (λ b. not b && mask_has mask k) (ne_eqb k c other)
+
+-- and not itself
+gone_itself : (c mask later : ℕ) → ((k : ℕ) → mask_has later k ≡ (not (k == c) && mask_has mask k)) → mask_has later c ≡ false
+gone_itself c mask later without = without c ∙ ap (λ b. not b && mask_has mask c) (eq-eqb c c refl)
+
+-- and is a lesser number
+pub fewer : (c mask other later : ℕ) → mask_has mask c ≡ true → later ≡ mask_less mask other
+    → ((k : ℕ) → mask_has later k ≡ (not (k == c) && mask_has mask k)) → later < mask
+fewer c mask other later has is without =
+    let le : mask_less mask other ≤ mask = and_le_l mask (bit_not w64 other) in
+    elim (cases_eq later mask) [
+      | inl same ↦ absurd (both_ways _ (sym (ap (λ m. mask_has m c) same) ∙ gone_itself c mask later without) has)
+      | inr ne ↦ omega (arith, le, is, ne)
+    ]
+
+-- no channel is looked at
+pub none_yet : (due : ℕ → Option ℕ) (pending : ℕ) → ((c : ℕ) → mask_has pending c ≡ false → due c ≡ None)
+    → IsFirst (due_but pending due) None
+none_yet due pending none c = at (mask_has pending c) refl
+  where
+    at : (b : Bool) → mask_has pending c ≡ b → (if b then None else due c) ≡ None
+    at true e = refl
+    at false e = none c e
+
+-- one more is looked at
+pub one_more : (due : ℕ → Option ℕ) (rest later c : ℕ) (first : Option (ℕ × ℕ)) → mask_has rest c ≡ true
+    → ((k : ℕ) → mask_has later k ≡ (not (k == c) && mask_has rest k)) → IsFirst (due_but rest due) first
+    → IsFirst (due_but later due) (further first (due c) c)
+one_more due rest later c first has without h =
+    further_first (due_but rest due) (due_but later due) c first (due c)
+    (ap (λ b. if b then None else due c) (gone_itself c rest later without))
+    (λ i other. ap (λ b. if b then None else due i) (kept c rest later without i other))
+    (ap (λ b. if b then None else due c) has)
+    h
+
+-- all are looked at
+pub all_seen : (due : ℕ → Option ℕ) (rest : ℕ) (first : Option (ℕ × ℕ)) → rest ≡ 0 → IsFirst (due_but rest due) first
+    → IsFirst due first
+all_seen due rest first over h = subst (λ f. IsFirst f first) (λ i c. seen c i) h
+  where
+    seen : (c : ℕ) → due_but rest due c ≡ due c
+    seen c = ap (λ r. due_but r due c) over ∙ ap (λ b. if b then None else due c) (mask_has-zero c)
+
 -- at most one pair comes first
 pub one_first : (due : ℕ → Option ℕ) (a b : Option (ℕ × ℕ)) → IsFirst due a → IsFirst due b → a ≡ b
 one_first due None None a b = refl
@@ -140,32 +208,42 @@ due-set_other dues c x low (suc k) other =
     get_or-set_other dues (c - 1) k x None (λ same. other (omega arith))
 
 pub none-table : IsTable (replicate 64 None) None 0
-none-table = record { whole = refl; first_is = due-none 64; top_in = omega arith; none_above = λ c above. due-none 64 c }
+none-table = record { whole = refl; first_is = due-none 64; none_out = λ c out. due-none 64 c }
 
--- a number that is not below another one is not that one
-not_low : (a b : ℕ) → a < b → b ≢ a
-not_low a b lt same = absurd (omega (arith, lt, same))
+-- the mask with a channel has it
+with_itself : (pending c : ℕ) → 1 ≤ c → c ≤ 64 → mask_has (mask_with pending c) c ≡ true
+with_itself pending c low high =
+    let of_one : is_channel c ≡ true = and_from _ _ (lt-ltb 0 c (omega (arith, low))) (le-leb c 64 high) in
+    mask_has-with pending c c ∙ or_right (mask_has pending c) _ (and_from _ _ of_one (eq-eqb c c refl))
 
--- above a channel that is due none is due that was not due before
-pub none_over : (dues : List (Option ℕ)) (x : Option ℕ) (c top : ℕ) → 1 ≤ c → c ≤ max top c
-    → ((k : ℕ) → top < k → due_of dues k ≡ None)
-    → (k : ℕ) → max top c < k → due_of (set dues (c - 1) x) k ≡ None
-none_over dues x c top low up none k above =
-    due-set_other dues c x low k (not_low c k (omega (arith, up, above))) ∙ none k (omega (arith, above))
+-- outside of a mask with a channel nothing is due that was not due outside of the mask
+pub none_over : (dues : List (Option ℕ)) (x : Option ℕ) (c pending : ℕ) → 1 ≤ c → c ≤ 64
+    → ((k : ℕ) → mask_has pending k ≡ false → due_of dues k ≡ None)
+    → (k : ℕ) → mask_has (mask_with pending c) k ≡ false → due_of (set dues (c - 1) x) k ≡ None
+none_over dues x c pending low high none k out = elim (cases_eq k c) [
+  | inl same ↦ absurd (both_ways _ (ap (λ n. mask_has (mask_with pending c) n) (sym same) ∙ out) (with_itself pending c low high))
+  | inr other ↦ due-set_other dues c x low k other ∙ none k (neither (mask_has pending k) _ (sym (mask_has-with pending c k) ∙ out))
+]
+  where
+    neither : (a b : Bool) → (a || b) ≡ false → a ≡ false
+    neither true b e = e
+    neither false b e = refl
 
--- nor is one due above, once a channel is not
-pub none_left : (dues : List (Option ℕ)) (c top : ℕ) → 1 ≤ c → c ≤ length dues → ((k : ℕ) → top < k → due_of dues k ≡ None)
-    → (k : ℕ) → top < k → due_of (set dues (c - 1) None) k ≡ None
-none_left dues c top low high none k above = elim (cases_eq k c) [
+-- nor outside of a mask without it, once it is not due
+pub none_left : (dues : List (Option ℕ)) (c pending later : ℕ) → 1 ≤ c → c ≤ length dues
+    → ((k : ℕ) → mask_has pending k ≡ false → due_of dues k ≡ None)
+    → ((k : ℕ) → mask_has later k ≡ (not (k == c) && mask_has pending k))
+    → (k : ℕ) → mask_has later k ≡ false → due_of (set dues (c - 1) None) k ≡ None
+none_left dues c pending later low high none without k out = elim (cases_eq k c) [
   | inl same ↦ rw same (due-set_same dues c None low high)
-  | inr other ↦ due-set_other dues c None low k other ∙ none k above
+  | inr other ↦ due-set_other dues c None low k other ∙ none k (sym (kept c pending later without k other) ∙ out)
 ]
 
 -- the table once a channel is due, where that does not put off what came first
-pub table_with : (dues : List (Option ℕ)) (first : Option (ℕ × ℕ)) (top m c : ℕ) → IsTable dues first top → 1 ≤ c
+pub table_with : (dues : List (Option ℕ)) (first : Option (ℕ × ℕ)) (pending m c : ℕ) → IsTable dues first pending → 1 ≤ c
     → c ≤ 64 → is_put_off first (m, c) ≡ false
-    → IsTable (set dues (c - 1) (Some m)) (Some (sooner_of first (m, c))) (max top c)
-table_with dues first top m c h low high stays = record {
+    → IsTable (set dues (c - 1) (Some m)) (Some (sooner_of first (m, c))) (mask_with pending c)
+table_with dues first pending m c h low high stays = record {
   whole = length-set dues (c - 1) (Some m) ∙ h.whole;
   first_is =
       first_with (due_of dues) (due_of (set dues (c - 1) (Some m))) m c first
@@ -173,25 +251,25 @@ table_with dues first top m c h low high stays = record {
       (due-set_other dues c (Some m) low)
       h.first_is
       stays;
-  top_in = omega (arith, h.top_in, high);
-  none_above = none_over dues (Some m) c top low (omega arith) h.none_above;
+  none_out = none_over dues (Some m) c pending low high h.none_out;
 }
 
 -- the table once a channel is not due, with what comes first in it
-pub table_left : (dues : List (Option ℕ)) (first later : Option (ℕ × ℕ)) (top c : ℕ) → IsTable dues first top → 1 ≤ c
-    → c ≤ 64 → IsFirst (due_of (set dues (c - 1) None)) later → IsTable (set dues (c - 1) None) later top
-table_left dues first later top c h low high is = record {
+pub table_left : (dues : List (Option ℕ)) (first later : Option (ℕ × ℕ)) (pending rest c : ℕ) → IsTable dues first pending
+    → 1 ≤ c → c ≤ 64 → ((k : ℕ) → mask_has rest k ≡ (not (k == c) && mask_has pending k))
+    → IsFirst (due_of (set dues (c - 1) None)) later → IsTable (set dues (c - 1) None) later rest
+table_left dues first later pending rest c h low high without is = record {
   whole = length-set dues (c - 1) None ∙ h.whole;
   first_is = is;
-  top_in = h.top_in;
-  none_above = none_left dues c top low (omega (arith, high, h.whole)) h.none_above;
+  none_out = none_left dues c pending rest low (omega (arith, high, h.whole)) h.none_out without;
 }
 
 -- where it is not that what came first is of this channel
-pub table_without : (dues : List (Option ℕ)) (first : Option (ℕ × ℕ)) (top c : ℕ) → IsTable dues first top → 1 ≤ c
-    → c ≤ 64 → is_of first c ≡ false → IsTable (set dues (c - 1) None) first top
-table_without dues first top c h low high away =
-    table_left dues first first top c h low high
+pub table_without : (dues : List (Option ℕ)) (first : Option (ℕ × ℕ)) (pending rest c : ℕ) → IsTable dues first pending
+    → 1 ≤ c → c ≤ 64 → ((k : ℕ) → mask_has rest k ≡ (not (k == c) && mask_has pending k)) → is_of first c ≡ false
+    → IsTable (set dues (c - 1) None) first rest
+table_without dues first pending rest c h low high without away =
+    table_left dues first first pending rest c h low high without
     (first_without (due_of dues) (due_of (set dues (c - 1) None)) c first
     (due-set_same dues c None low (omega (arith, high, h.whole)))
     (due-set_other dues c None low)

@@ -1,5 +1,6 @@
 -- Which channel is due first.
-use Rattle.std.specs.Prelude.{◌≡◌, ◌<◌, ◌≤◌, ℕ, zero, suc, Bool, false, ◌&&◌, ◌||◌, nat_eq, nat_lt, List, length, slice_index_or, Option, Some, None, if◌then◌else◌}
+use Rattle.std.specs.Prelude.{◌≡◌, ℕ, zero, suc, Bool, false, ◌&&◌, ◌||◌, nat_eq, nat_lt, List, length, slice_index_or, Option, Some, None, if◌then◌else◌}
+use Rattle.window_snapshot.specs.Mask.{mask_has}
 
 -- when a channel is due, by a table that begins with channel 1
 abbrev pub due_of : List (Option ℕ) → ℕ → Option ℕ
@@ -31,9 +32,13 @@ abbrev pub sooner_of : Option (ℕ × ℕ) → ℕ × ℕ → ℕ × ℕ
 sooner_of None q = q
 sooner_of (Some p) q = if is_before q p then q else p
 
--- a table of 64 channels, what comes first in it, and a channel above which none is due
-pub record IsTable (dues : List (Option ℕ)) (first : Option (ℕ × ℕ)) (top : ℕ) : Type 0 where
+-- what comes first, where a further channel is due or is not
+abbrev pub further : Option (ℕ × ℕ) → (due : Option ℕ) → ℕ → Option (ℕ × ℕ)
+further first None c = first
+further first (Some m) c = Some (sooner_of first (m, c))
+
+-- a table of 64 channels, what comes first in it, and a mask outside of which no channel is due
+pub record IsTable (dues : List (Option ℕ)) (first : Option (ℕ × ℕ)) (pending : ℕ) : Type 0 where
   pub whole : length dues ≡ 64
   pub first_is : IsFirst (due_of dues) first
-  pub top_in : top ≤ 64
-  pub none_above : (c : ℕ) → top < c → due_of dues c ≡ None
+  pub none_out : (c : ℕ) → mask_has pending c ≡ false → due_of dues c ≡ None

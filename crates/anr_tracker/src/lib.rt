@@ -12,7 +12,8 @@
 //! ```
 //!
 //! Of one moment the least channel comes first. The map is a fixed table; the first pair stands beside it, and is
-//! looked for again only where it was that of the channel that changes.
+//! looked for again only where it was that of the channel that changes, and only among the channels that are due, of
+//! which a mask is kept.
 #![tactic(auto)]
 
 mod tracker;

@@ -1,8 +1,10 @@
 //! The map from channels to due moments.
-ghost use Rattle.std.specs.Prelude.{◌≡◌, ℕ, ◌-◌, ◌<◌, ◌≤◌, None, Some, replicate, slice_set};
-ghost use Rattle.anr_tracker.specs.Due.{due_of, IsFirst, is_before, is_of, is_put_off, sooner_of};
+ghost use Rattle.std.specs.Prelude.{◌≡◌, ℕ, ◌-◌, ◌≤◌, false, None, Some, replicate, slice_set};
+ghost use Rattle.window_snapshot.specs.Mask.{mask_has};
+ghost use Rattle.anr_tracker.specs.Due.{due_of, IsFirst, is_before, is_of, is_put_off, sooner_of, further};
 
 use std::marker::Model;
+use window_snapshot::{mask_first, mask_with, mask_without};
 
 /// A map from channels, which have the numbers 1 to 64, to the moments at which they are due. It takes no memory.
 ///
@@ -11,8 +13,8 @@ use std::marker::Model;
 pub struct Tracker {
     dues: [Option<u64>; 64],
     first: Option<(u64, u32)>,
-    /// Above this channel none was ever due, so the first pair is looked for up to it.
-    top: u32,
+    /// The mask of the channels that are due, in which the first pair is looked for.
+    pending: u64,
 }
 
 impl Model for Tracker {
@@ -23,7 +25,7 @@ impl Model for Tracker {
 
     ghost view = { λ t. t.dues };
 
-    ghost invariant = { λ t. IsTable t.dues t.first t.top };
+    ghost invariant = { λ t. IsTable t.dues t.first t.pending };
 }
 
 impl Tracker {
@@ -34,7 +36,7 @@ impl Tracker {
         Tracker {
             dues: none_due(),
             first: None,
-            top: 0,
+            pending: 0,
         }
     }
 
@@ -44,9 +46,9 @@ impl Tracker {
         ensures { self.new ≡ slice_set self.old (channel - 1) (Some due) }
     {
         self.dues[channel as usize - 1] = Some(due);
-        self.top = self.top.max(channel);
+        self.pending = mask_with(self.pending, channel);
         if is_put_off(self.first, (due, channel)) {
-            self.first = first_of(&self.dues, self.top);
+            self.first = first_of(&self.dues, self.pending);
         } else {
             self.first = Some(sooner(self.first, (due, channel)));
         }
@@ -58,8 +60,9 @@ impl Tracker {
         ensures { self.new ≡ slice_set self.old (channel - 1) None }
     {
         self.dues[channel as usize - 1] = None;
+        self.pending = mask_without(self.pending, channel);
         if is_of(self.first, channel) {
-            self.first = first_of(&self.dues, self.top);
+            self.first = first_of(&self.dues, self.pending);
         }
     }
 
@@ -68,7 +71,7 @@ impl Tracker {
         requires { (1 ≤ channel) × (channel ≤ 64) }
         ensures { result ≡ due_of self.now channel }
     {
-        self.dues[channel as usize - 1]
+        due_at(&self.dues, channel)
     }
 
     /// The least due moment, and its channel, the least one where several are due at it; None exactly where no channel
@@ -124,17 +127,35 @@ fn precedes(pair: (u64, u32), other: (u64, u32)) -> bool
     pair.0 < other.0 || (pair.0 == other.0 && pair.1 < other.1)
 }
 
-/// The pair that comes first, looked for up to a channel above which none is due.
-fn first_of(dues: &[Option<u64>; 64], top: u32) -> Option<(u64, u32)>
-    requires top { top ≤ 64 }
-    requires none_above { (c : ℕ) → top < c → due_of dues.now c ≡ None }
+/// When a channel of a table is due.
+fn due_at(dues: &[Option<u64>; 64], channel: u32) -> Option<u64>
+    requires { (1 ≤ channel) × (channel ≤ 64) }
+    ensures { result ≡ due_of dues.now channel }
+{
+    dues[channel as usize - 1]
+}
+
+/// The pair that comes first, of one that came first so far and a further channel, where that is due.
+fn further(first: Option<(u64, u32)>, due: Option<u64>, channel: u32) -> Option<(u64, u32)>
+    ensures { result ≡ further first due channel }
+{
+    match due {
+        Some(due) => Some(sooner(first, (due, channel))),
+        None => first,
+    }
+}
+
+/// The pair that comes first, looked for in a mask outside of which no channel is due.
+fn first_of(dues: &[Option<u64>; 64], pending: u64) -> Option<(u64, u32)>
+    requires { (c : ℕ) → mask_has pending c ≡ false → due_of dues.now c ≡ None }
     ensures { IsFirst (due_of dues.now) result }
 {
     let mut first = None;
-    for i in 0..top {
-        if let Some(due) = dues[i as usize] {
-            first = Some(sooner(first, (due, i + 1)));
-        }
+    let mut rest = pending;
+    while rest != 0 {
+        let channel = mask_first(rest);
+        first = further(first, due_at(dues, channel), channel);
+        rest = mask_without(rest, channel);
     }
     first
 }

@@ -1,13 +1,16 @@
 //! One window is told motions of a device, keys, or a change of its focus. None of this takes memory.
 ghost use Rattle.std.specs.Prelude.{◌≡◌, max, [], ◌∷◌, map, length};
-ghost use Rattle.input_types.specs.declared.message.Body.TheVariants.{Motion as MotionBody, Key as KeyBody};
+ghost use Rattle.input_types.specs.declared.message.Body.TheVariants.{Motion as MotionBody, Key as KeyBody, Focus as FocusBody};
+ghost use Rattle.bits32.specs.Set.{is_in};
 ghost use Rattle.cancel_synthesis.specs.Cancelling.{still_told};
+ghost use Rattle.cancel_synthesis.specs.Ends.{pointers_cancelled};
 ghost use Rattle.cancel_synthesis.specs.Tracked.{pointers_of};
 ghost use Rattle.key_tables.specs.Focused.{change_told};
 ghost use Rattle.dispatch_channels.specs.Table.{input_of};
 ghost use Rattle.dispatch_round.specs.Saying.{CanHear, TellsOne, motions_by};
 
 use crate::listener::Listener;
+use bits32::Bits32;
 use cancel_synthesis::Cancels;
 use dispatch_channels::Channels;
 use input_types::{Body, DeviceId, KeyMsg, Motion};
@@ -50,11 +53,20 @@ pub(crate) fn say_found(to: &Listener, device: DeviceId, tells: &Tells, channels
     match tells {
         Tells::Nothing => {}
         Tells::One(motion) => say_motion(to, motion, channels),
-        Tells::Cancels { lost } => {
-            let cancels = channels.input(to.window).cancels(device, *lost);
-            say_cancels(to, cancels, channels);
-        }
+        Tells::Cancels { lost } => say_lost(to, device, *lost, channels),
     }
+}
+
+/// Tells the cancels of pointers of a device that the window lost. It is not inlined: cancels are large, and seldom.
+#[inline(never)]
+fn say_lost(to: &Listener, device: DeviceId, lost: Bits32, channels: &mut Channels)
+    requires { let had = pointers_of (input_of channels.old to.now.window) device in
+        CanHear to.now.window (max 1 (length had)) channels.old }
+    ensures { let had = pointers_of (input_of channels.old to.now.window) device in
+        TellsOne to.now (map MotionBody (pointers_cancelled device (λ i. is_in i lost) had)) channels.old channels.new }
+{
+    let cancels = channels.input(to.window).cancels(device, lost);
+    say_cancels(to, cancels, channels);
 }
 
 /// Tells key messages, in order.
@@ -63,8 +75,17 @@ pub(crate) fn say_keys(to: &Listener, keys: &[KeyMsg], channels: &mut Channels)
     ensures { TellsOne to.now (map KeyBody keys.now) channels.old channels.new }
 {
     for message in keys {
-        say(to, &Body::Key(*message), channels);
+        say_key(to, message, channels);
     }
+}
+
+/// Tells one key message. It is not inlined, so that a round without keys makes no room for its body.
+#[inline(never)]
+fn say_key(to: &Listener, message: &KeyMsg, channels: &mut Channels)
+    requires { CanHear to.now.window 1 channels.old }
+    ensures { TellsOne to.now (KeyBody message.now ∷ []) channels.old channels.new }
+{
+    say(to, &Body::Key(*message), channels);
 }
 
 /// Tells whether the window has the focus now, where that changed.
@@ -73,7 +94,16 @@ pub(crate) fn say_change(to: &Listener, change: Option<bool>, channels: &mut Cha
     ensures { TellsOne to.now (change_told change) channels.old channels.new }
 {
     match change {
-        Some(has_focus) => say(to, &Body::Focus(has_focus), channels),
+        Some(has_focus) => say_focus(to, has_focus, channels),
         None => {}
     }
+}
+
+/// Tells that the window has the focus now, or lost it. It is not inlined, as a key is not.
+#[inline(never)]
+fn say_focus(to: &Listener, has_focus: bool, channels: &mut Channels)
+    requires { CanHear to.now.window 1 channels.old }
+    ensures { TellsOne to.now (FocusBody has_focus ∷ []) channels.old channels.new }
+{
+    say(to, &Body::Focus(has_focus), channels);
 }

@@ -9,7 +9,7 @@ use Rattle.std.proofs.lemmas.Bool.{cases_Bool, cases_eq, leb-true, le-leb}
 use Rattle.std.proofs.lemmas.Bool.Decides.{nat_tests}
 use Rattle.input_types.specs.declared.message.Message.{Message}
 use Rattle.anr_tracker.specs.Due.{IsFirst, is_before, sooner_of, is_put_off}
-use Rattle.anr_tracker.proofs.Firsts.{due_up_to, first_with, one_first}
+use Rattle.anr_tracker.proofs.Firsts.{first_with, one_first}
 use Rattle.input_channel.specs.State.{ChannelState, oldest_of}
 use Rattle.dispatch_calls.specs.declared.counts.Naming.{Naming}
 use Rattle.dispatch_calls.specs.declared.reply.Reply.{Reply}
@@ -97,6 +97,10 @@ sooner_is m n (Some d) low = by_moment (nat_lt m d.moment) (only (low d refl))
         ≡ option_map pair_of (Some (cond b (record { moment = m; channel = suc n }) d))
     by_moment true e = rw e refl
     by_moment false e = rw e refl
+
+-- the map with the channels up to a number
+abbrev due_up_to : ℕ → (ℕ → Option ℕ) → ℕ → Option ℕ
+due_up_to n due c = cond (nat_le c n) (due c) None
 
 within_up : (due : ℕ → Option ℕ) (n c m : ℕ) → due_up_to n due c ≡ Some m → c ≤ n
 within_up due n c m e = by_test (nat_le c n) refl e

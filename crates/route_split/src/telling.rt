@@ -5,8 +5,11 @@ ghost use Rattle.input_types.specs.declared.pointer.Pointer.{Pointer as Listed};
 ghost use Rattle.routing_rules.specs.Scene.{Scene};
 ghost use Rattle.routing_rules.specs.Given.{changed};
 ghost use Rattle.routing_rules.specs.Told.{is_up, told_motion};
-ghost use Rattle.split_motion.specs.Split.{as_down};
+ghost use Rattle.split_motion.specs.Split.{as_down, split_of};
 ghost use Rattle.split_motion.specs.Laws.{if_some};
+ghost use Rattle.input_types.specs.declared.motion.MotionAction.TheVariants.{Outside};
+ghost use Rattle.routing_rules.specs.Told.{plain};
+ghost use Rattle.route_split.specs.declared.tells.Tells.TheVariants.{One};
 ghost use Rattle.route_split.specs.Telling.{IsTold, told_rest, AreListed, OnlyNew};
 ghost use Rattle.routing_rules.specs.Watching.{is_watching};
 
@@ -14,7 +17,7 @@ use crate::motion::changed;
 use crate::sets::{has_id, lost_of};
 use crate::tells::Tells;
 use bits32::Bits32;
-use input_types::{Motion, MotionAction, Pointer, PointerId, Pointers, PushRefused};
+use input_types::{DeviceId, Motion, MotionAction, Pointer, PointerId, Pointers, PushRefused};
 use split_motion::{part, plain, split};
 
 /// What a window is told of a motion with which it goes from holding one set to holding the other.
@@ -49,12 +52,41 @@ fn tells_changed(
         (s.last motion.now.device) (λ i. is_in i before) }
 {
     if is_given(pointer.id, before, later) {
-        return one_of(split(&as_down(motion), later));
+        return tells_down(motion, later);
     }
     if goes_up(motion.action, pointer.id, before) {
-        return one_of(split(motion, before));
+        return tells_up(motion, before);
     }
     tells_rest(motion, before, later, watched_of(pointer, watches))
+}
+
+/// A window that holds these ids is told a down of the changed pointer.
+///
+/// Like the other functions of what is seldom told it is not inlined: each list of pointers costs where it may be made,
+/// and most motions only move.
+#[inline(never)]
+fn tells_down(motion: &Motion, later: Bits32) -> Tells
+    ensures { (d : ℕ) (last : List Listed) (before : ℕ → Bool) →
+        IsTold result (if_some (split_of (as_down motion.now) (λ i. is_in i later))) d last before }
+{
+    one_of(split(&as_down(motion), later))
+}
+
+/// A window that holds these ids is told that the changed pointer goes up.
+#[inline(never)]
+fn tells_up(motion: &Motion, held: Bits32) -> Tells
+    ensures { (d : ℕ) (last : List Listed) (before : ℕ → Bool) →
+        IsTold result (if_some (split_of motion.now (λ i. is_in i held))) d last before }
+{
+    one_of(split(motion, held))
+}
+
+/// A window is told that a pointer is outside of it.
+#[inline(never)]
+fn tells_outside(device: DeviceId, pointer: Pointer) -> Tells
+    ensures { result ≡ One (plain device Outside (pointer ∷ [])) }
+{
+    Tells::One(plain(device, MotionAction::Outside, single(pointer)))
 }
 
 /// Whether the pointer with this id is given.
@@ -96,7 +128,7 @@ fn tells_rest(motion: &Motion, before: Bits32, later: Bits32, watched: Option<Po
         return Tells::One(plain(motion.device, MotionAction::Move, moving));
     }
     match watched {
-        Some(pointer) => Tells::One(plain(motion.device, MotionAction::Outside, single(pointer))),
+        Some(pointer) => tells_outside(motion.device, pointer),
         None => Tells::Nothing,
     }
 }
@@ -134,9 +166,7 @@ fn is_up(action: MotionAction) -> bool
     }
 }
 
-/// The list of one pointer. It is not inlined: a constant place in a list has the compiler copy the lists of all other
-/// branches pointer by pointer.
-#[inline(never)]
+/// The list of one pointer.
 fn single(pointer: Pointer) -> Pointers
     ensures { result ≡ pointer ∷ [] }
 {

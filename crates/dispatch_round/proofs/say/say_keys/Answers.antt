@@ -5,11 +5,11 @@ use Rattle.dispatch_round.proofs.say.say_keys.Goals as goal
 
 pub loop-message-preserved : goal.loop-message-preserved
 loop-message-preserved c = (
-  one_less c.args.to.now (Key c.message-item.result) (length c.args.keys.now) c.loop-message.message-index _ _ c.say.ensures c.loop-message.invariant.0 c.loop-message-test.true,
+  one_less c.args.to.now (Key c.message-item.result) (length c.args.keys.now) c.loop-message.message-index _ _ c.say_key.ensures c.loop-message.invariant.0 c.loop-message-test.true,
   λ u rest. c.loop-message.invariant.1 u
-      (say_next c.args.to.now (Key c.message-item.result) _ _ _ c.say.new.channels u
+      (say_next c.args.to.now (Key c.message-item.result) _ _ _ c.say_key.new.channels u
       (each_next_of Key c.args.keys.now c.loop-message.message-index c.message-item.result c.loop-message-test.true c.message-item.is)
-      c.say.ensures
+      c.say_key.ensures
       rest),
 )
 

@@ -1,24 +1,20 @@
 use Rattle.std.proofs.Common.{sym, ap, ◌∙◌, subst}
 use Rattle.bits32.specs.Set.{is_in}
-use Rattle.split_motion.specs.Laws.{if_some}
-use Rattle.split_motion.specs.Split.{split_of}
 use Rattle.route_split.specs.Telling.{IsTold, told_rest}
 use Rattle.route_split.proofs.TellingLaws.{given_told, up_told, rest_told, within_before}
 use Rattle.route_split.proofs.telling.tells_changed.Goals as goal
 
 pub returns-then-is_given : goal.returns-then-is_given
 returns-then-is_given c s w e listed new =
-    subst (λ ms. IsTold c.one_of.result ms c.args.motion.now.device (s.last c.args.motion.now.device) (λ i. is_in i c.args.before))
-    (ap if_some c.split.ensures ∙ ap (λ n. if_some (split_of n (λ i. is_in i c.args.later))) c.as_down.ensures
-    ∙ sym (given_told s c.args.motion.now c.args.pointer w (λ i. is_in i c.args.before) (λ i. is_in i c.args.later) c.requires (sym c.is_given.ensures ∙ c.if-is_given.true)))
-    (c.one_of.ensures c.args.motion.now.device (s.last c.args.motion.now.device) (λ i. is_in i c.args.before))
+    subst (λ ms. IsTold c.tells_down.result ms c.args.motion.now.device (s.last c.args.motion.now.device) (λ i. is_in i c.args.before))
+    (sym (given_told s c.args.motion.now c.args.pointer w (λ i. is_in i c.args.before) (λ i. is_in i c.args.later) c.requires (sym c.is_given.ensures ∙ c.if-is_given.true)))
+    (c.tells_down.ensures c.args.motion.now.device (s.last c.args.motion.now.device) (λ i. is_in i c.args.before))
 
 pub returns-then-goes_up : goal.returns-then-goes_up
 returns-then-goes_up c s w e listed new =
-    subst (λ ms. IsTold c.one_of-then-goes_up.result ms c.args.motion.now.device (s.last c.args.motion.now.device) (λ i. is_in i c.args.before))
-    (ap if_some c.split-then-goes_up.ensures
-    ∙ sym (up_told s c.args.motion.now c.args.pointer w (λ i. is_in i c.args.before) (λ i. is_in i c.args.later) c.requires (sym c.is_given.ensures ∙ c.if-is_given.false) (sym c.goes_up.ensures ∙ c.if-goes_up.true)))
-    (c.one_of-then-goes_up.ensures c.args.motion.now.device (s.last c.args.motion.now.device) (λ i. is_in i c.args.before))
+    subst (λ ms. IsTold c.tells_up.result ms c.args.motion.now.device (s.last c.args.motion.now.device) (λ i. is_in i c.args.before))
+    (sym (up_told s c.args.motion.now c.args.pointer w (λ i. is_in i c.args.before) (λ i. is_in i c.args.later) c.requires (sym c.is_given.ensures ∙ c.if-is_given.false) (sym c.goes_up.ensures ∙ c.if-goes_up.true)))
+    (c.tells_up.ensures c.args.motion.now.device (s.last c.args.motion.now.device) (λ i. is_in i c.args.before))
 
 pub returns : goal.returns
 returns c s w e listed new =

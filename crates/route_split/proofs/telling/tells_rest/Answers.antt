@@ -1,8 +1,9 @@
-use Rattle.std.proofs.Common.{◌∷◌, [], length, ◌==◌, sym, ap, ◌∙◌}
+use Rattle.std.proofs.Common.{◌∷◌, [], length, ◌==◌, sym, ap, ◌∙◌, subst}
 use Rattle.bits32.specs.Set.{is_in}
-use Rattle.input_types.specs.declared.motion.MotionAction.TheVariants.{Move, Outside}
+use Rattle.input_types.specs.declared.motion.MotionAction.TheVariants.{Move}
 use Rattle.routing_rules.specs.Told.{listing, plain}
 use Rattle.routing_rules.specs.Watching.{outside_of}
+use Rattle.route_split.specs.Telling.{IsTold, told_rest}
 use Rattle.route_split.proofs.TellingLaws.{lost_told, kept_told, some_move, none_move}
 use Rattle.route_split.proofs.telling.tells_rest.Goals as goal
 
@@ -20,11 +21,13 @@ returns-then-not-is_empty c last listed within =
 
 pub returns-in-Some : goal.returns-in-Some
 returns-in-Some c last listed within =
-    kept_told c.args.motion.now c.args.watched last (λ i. is_in i c.args.before) (λ i. is_in i c.args.later) c.lost_of-lost.result (sym c.bits.ensures ∙ c.if-bits-ne0.false) c.lost_of-lost.ensures
+    subst
+    (λ r. IsTold r (told_rest c.args.motion.now c.args.watched last (λ i. is_in i c.args.before) (λ i. is_in i c.args.later)) c.args.motion.now.device last (λ i. is_in i c.args.before))
+    (sym c.tells_outside.ensures)
+    (kept_told c.args.motion.now c.args.watched last (λ i. is_in i c.args.before) (λ i. is_in i c.args.later) c.lost_of-lost.result (sym c.bits.ensures ∙ c.if-bits-ne0.false) c.lost_of-lost.ensures
     ∙ none_move c.args.motion.now.device (listing (λ i. is_in i c.args.later) c.args.motion.now.pointers) _
     (ap (λ ps. length ps == 0) (sym c.part-moving.ensures) ∙ sym c.is_empty.ensures ∙ c.if-not-is_empty.false)
-    ∙ ap (outside_of c.args.motion.now.device) c.in-Some.is ∙ ap (λ ps. plain c.args.motion.now.device Outside ps ∷ []) (sym c.single.ensures)
-    ∙ ap (λ m. m ∷ []) (sym c.plain-in-Some.ensures)
+    ∙ ap (outside_of c.args.motion.now.device) c.in-Some.is)
 
 pub returns-in-None : goal.returns-in-None
 returns-in-None c last listed within =
