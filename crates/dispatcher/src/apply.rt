@@ -1,5 +1,5 @@
 //! How each call is answered.
-ghost use Rattle.std.specs.Prelude.{◌≡◌, ◌<◌, ◌≤◌, ◌^◌, true, false, List, None, Some, slice_get, if◌then◌else◌};
+ghost use Rattle.std.specs.Prelude.{◌≡◌, ◌<◌, ◌≤◌, ◌^◌, ℕ, suc, true, false, List, None, Some, slice_get, if◌then◌else◌};
 ghost use Rattle.std.specs.Prelude.{IfOk, OnOk, OnErr, IsOk, IfSome};
 ghost use Rattle.dispatch_calls.specs.declared.call.Call.TheVariants.{Notify, Pump, Receive, Finish, Remove};
 ghost use Rattle.dispatch_history.specs.Effect.{Effect};
@@ -9,6 +9,7 @@ ghost use Rattle.dispatch_calls.specs.declared.reply.Reply.TheVariants.{Inconsis
 ghost use Rattle.dispatcher.specs.Memory.{IsCalm, MayCount};
 ghost use Rattle.dispatcher.specs.Needing.{NeedsNone};
 ghost use Rattle.dispatcher.specs.Queueing.{args_in};
+ghost use Rattle.dispatcher.specs.Roomy.{HasPumpRoom};
 ghost use Rattle.dispatcher.specs.Tables.{TablesStandFor, MayStep, GoesAs, Pumps, GoesOn, is_routed, is_owned};
 ghost use Rattle.dispatcher.specs.Tables.{SameButRoom, SameAll};
 
@@ -123,6 +124,7 @@ fn dispatch(routing: &mut Routing, args: &Args, place: u64, clock: Moment) -> Re
     requires { IsTimely clock routing.old.channels }
     ensures ok { OnOk result (Pumps (Some args.now) Dispatched place clock routing.old routing.new) }
     ensures err { OnErr result (SameButRoom routing.old routing.new) }
+    ensures roomy { (n : ℕ) → HasPumpRoom (suc n) routing.old → IsOk result × HasPumpRoom n routing.new }
 {
     match args {
         Args::Motion(motion) => route_motion(routing, motion, place, clock),
