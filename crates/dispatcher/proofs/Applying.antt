@@ -9,7 +9,8 @@ use Rattle.dispatcher.specs.declared.tables.Tables.{Tables}
 use Rattle.dispatcher.specs.Dispatching.{Dispatching, IsOfHistory}
 use Rattle.dispatcher.specs.Dispatching.{StandsFor, with_room}
 use Rattle.dispatcher.specs.Queueing.{args_in}
-use Rattle.dispatcher.specs.Tables.{TablesStandFor, GoesOn, GoesOnSomehow, SameAll}
+use Rattle.dispatcher.specs.Queueing.{with_room as queue_with_room}
+use Rattle.dispatcher.specs.Tables.{TablesStandFor, GoesOn, GoesOnSomehow, SameAll, SameButRoom}
 use Rattle.dispatcher.proofs.Rooms.{stands_raw, stands_bare}
 
 -- what contracts see of the tables
@@ -37,13 +38,13 @@ seen_same : (old new : Tables) → SameAll old new → seen new ≡ seen old
 seen_same old new h =
     λ i.
     record {
-      displays = (h.routing_is i).displays;
+      displays = (h.routing_is.0 i).displays;
       queue = h.queueing_is i;
-      shown = (h.routing_is i).shown;
-      touches = (h.routing_is i).touches;
-      channels = (h.routing_is i).channels;
-      focus = (h.routing_is i).focus;
-      repeat = (h.routing_is i).repeat;
+      shown = (h.routing_is.0 i).shown;
+      touches = (h.routing_is.0 i).touches;
+      channels = (h.routing_is.0 i).channels;
+      focus = (h.routing_is.0 i).focus;
+      repeat = (h.routing_is.0 i).repeat;
     }
 
 -- with some answer, where there is one
@@ -110,3 +111,21 @@ pub roomier_or_not : {A E : Type 0} (r : Result A E) (old new : Dispatching) (n 
     → (es : List Effect) → StandsFor es old → StandsFor es new
 roomier_or_not (Ok a) old new n ok err es s = subst (StandsFor es) (sym ok) (roomier es old n s)
 roomier_or_not (Err e) old new n ok err es s = subst (StandsFor es) (sym err) s
+
+-- where room was reserved, or was not to be had
+pub reserved_stands : {A E : Type 0} (r : Result A E) (old new : Tables) (n : ℕ) → OnOk r (new.queueing ≡ queue_with_room n old.queueing)
+    → OnErr r (new.queueing ≡ old.queueing) → SameButRoom old.routing new.routing → (es : List Effect) → StandsFor es (seen old) → StandsFor es (seen new)
+reserved_stands (Ok a) old new n ok err same es s =
+    let is : seen new ≡ with_room n (seen old) =
+    λ i.
+    record {
+      displays = (same.0 i).displays;
+      queue = ok i;
+      shown = (same.0 i).shown;
+      touches = (same.0 i).touches;
+      channels = (same.0 i).channels;
+      focus = (same.0 i).focus;
+      repeat = (same.0 i).repeat;
+    } in
+    subst (StandsFor es) (sym is) (roomier es (seen old) n s)
+reserved_stands (Err e) old new n ok err same es s = subst (StandsFor es) (sym (seen_same old new (record { queueing_is = err; routing_is = same }))) s

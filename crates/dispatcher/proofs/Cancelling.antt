@@ -1,5 +1,5 @@
 -- The list of keys that are cancelled says nothing of a history.
-use Rattle.std.proofs.Common.{ℕ, List, Option}
+use Rattle.std.proofs.Common.{◌≤◌, ℕ, List, Option, Result, Ok, Err, OnErr}
 use Rattle.input_types.specs.declared.key.KeyMsg.{KeyMsg}
 use Rattle.input_types.specs.declared.message.Args.{Args}
 use Rattle.dispatch_calls.specs.declared.reply.Reply.{Reply}
@@ -10,7 +10,7 @@ use Rattle.dispatch_channels.specs.Changes.{named_in}
 use Rattle.dispatcher.specs.declared.tables.Routing.{Routing}
 use Rattle.dispatcher.specs.Carrying.{CarriesOut, CarriesSome}
 use Rattle.dispatcher.specs.Naming.{Names}
-use Rattle.dispatcher.specs.Tables.{Pumps}
+use Rattle.dispatcher.specs.Tables.{Pumps, SameButRoom}
 
 -- the same tables with another list
 abbrev pub with_list : ℕ → Routing → Routing
@@ -60,3 +60,9 @@ names_with mask keys place clock a b old new h =
       same = h.same;
       carries = carried_with h.round place clock a b old new (named_in mask clock h.mid) h.carries;
     }
+
+-- without memory the list has no less room
+pub same_with : {A E : Type 0} (r : Result A E) (a b : ℕ) (old new : Routing) → OnErr r (SameButRoom (with_list a old) new) → old.cancelled ≤ b
+    → OnErr r (SameButRoom old (with_list b new))
+same_with (Ok x) a b old new h le = tt
+same_with (Err e) a b old new h le = (h.0, h.1, le)

@@ -35,7 +35,7 @@ seen_of displays queue shown touches channels focus repeat =
       repeat = repeat;
     }
 
--- room for at least so many args more
+-- room for at least so many args more, and for at least so many pumps
 abbrev pub with_room : ℕ → Dispatching → Dispatching
 with_room n d = record d { queue = queue_with_room n d.queue }
 

@@ -12,6 +12,7 @@ use Rattle.dispatch_round.specs.Bodies.{keys_to}
 use Rattle.dispatch_round.specs.Rounds.{IsLeft}
 use Rattle.dispatch_round.specs.Saying.{Spends}
 use Rattle.dispatcher.specs.declared.tables.Routing.{Routing}
+use Rattle.dispatcher.specs.declared.tables.Tables.{Tables}
 
 -- A channel has room for what n pumps tell it: for 131 messages each, of which 128 may be cancels of pointers, and for one for each key that
 -- is down in its window. So has what is kept of the window; and a list has room for those keys when they are cancelled.
@@ -44,3 +45,7 @@ pub record TakesRoom (told : ℕ) (r : Round) (old new : Table) : Type 0 where
 -- there is room for what n pumps tell, and in the list for the keys that they cancel
 abbrev pub HasPumpRoom : (n : ℕ) → Routing → Type 0
 HasPumpRoom n r = IsRoomy n r.cancelled r.channels
+
+-- where room for pumps is promised, there is room
+abbrev pub KeepsPromise : Tables → Type 0
+KeepsPromise t = 1 ≤ t.queueing.pumps → HasPumpRoom t.queueing.pumps t.routing

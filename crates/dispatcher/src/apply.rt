@@ -1,5 +1,5 @@
 //! How each call is answered.
-ghost use Rattle.std.specs.Prelude.{◌≡◌, ◌<◌, ◌≤◌, ◌^◌, ℕ, suc, true, false, List, None, Some, slice_get, if◌then◌else◌};
+ghost use Rattle.std.specs.Prelude.{◌≡◌, ◌<◌, ◌≤◌, ◌+◌, ◌^◌, ℕ, suc, true, false, List, None, Some, slice_get, if◌then◌else◌};
 ghost use Rattle.std.specs.Prelude.{IfOk, OnOk, OnErr, IsOk, IfSome};
 ghost use Rattle.dispatch_calls.specs.declared.call.Call.TheVariants.{Notify, Pump, Receive, Finish, Remove};
 ghost use Rattle.dispatch_history.specs.Effect.{Effect};
@@ -8,8 +8,8 @@ ghost use Rattle.dispatch_round.specs.Rounds.{IsTimely};
 ghost use Rattle.dispatch_calls.specs.declared.reply.Reply.TheVariants.{Inconsistent, Dispatched, Repeated, Idle};
 ghost use Rattle.dispatcher.specs.Memory.{IsCalm, MayCount};
 ghost use Rattle.dispatcher.specs.Needing.{NeedsNone};
-ghost use Rattle.dispatcher.specs.Queueing.{args_in};
-ghost use Rattle.dispatcher.specs.Roomy.{HasPumpRoom};
+ghost use Rattle.dispatcher.specs.Queueing.{args_in, is_input, is_pump};
+ghost use Rattle.dispatcher.specs.Roomy.{HasPumpRoom, KeepsPromise};
 ghost use Rattle.dispatcher.specs.Tables.{TablesStandFor, MayStep, GoesAs, Pumps, GoesOn, is_routed, is_owned};
 ghost use Rattle.dispatcher.specs.Tables.{SameButRoom, SameAll};
 
@@ -34,6 +34,10 @@ pub(crate) fn apply(tables: &mut Tables, call: &Call) -> Result<Reply, AllocErro
     ensures calm { (es : List Effect) → TablesStandFor es tables.old → MayCount es → IsCalm es call.now → IsOk result }
     ensures reserved { (es : List Effect) → TablesStandFor es tables.old → MayCount es
         → args_in call.now ≡ 1 → 1 ≤ tables.old.queueing.spare → IsOk result }
+    ensures promise { KeepsPromise tables.old → KeepsPromise tables.new }
+    ensures pumped { (es : List Effect) → TablesStandFor es tables.old → MayCount es
+        → is_pump call.now ≡ true → 1 ≤ tables.old.queueing.pumps → KeepsPromise tables.old → IsOk result }
+    ensures pumps { is_input call.now ≡ true → tables.old.queueing.pumps ≤ tables.new.queueing.pumps + 1 }
 {
     if tables.queueing.place() == u64::MAX {
         return Err(AllocError);
@@ -56,6 +60,8 @@ fn notify(tables: &mut Tables, now: Moment, args: &Args) -> Result<Reply, AllocE
     ensures ok { IfOk result (λ answer. GoesOn (Notify now args.now) answer tables.old tables.new) }
     ensures err { OnErr result (SameAll tables.old tables.new) }
     ensures reserved { 1 ≤ tables.old.queueing.spare → IsOk result }
+    ensures promise { KeepsPromise tables.old → KeepsPromise tables.new }
+    ensures pumps { tables.new.queueing.pumps ≡ tables.old.queueing.pumps }
 {
     rises(now, args);
     match tables.queueing.plan(args) {
@@ -95,6 +101,9 @@ fn pump(tables: &mut Tables, now: Moment) -> Result<Reply, AllocError>
     ensures ok { IfOk result (λ answer. GoesOn (Pump now) answer tables.old tables.new) }
     ensures err { OnErr result (SameAll tables.old tables.new) }
     ensures calm { (es : List Effect) → TablesStandFor es tables.old → IsCalm es (Pump now) → IsOk result }
+    ensures promise { KeepsPromise tables.old → KeepsPromise tables.new }
+    ensures pumped { 1 ≤ tables.old.queueing.pumps → KeepsPromise tables.old → IsOk result }
+    ensures pumps { tables.old.queueing.pumps ≤ tables.new.queueing.pumps + 1 }
 {
     if tables.queueing.first().is_none() {
         return idle(tables, now);
@@ -109,12 +118,16 @@ fn dispatch_first(tables: &mut Tables, now: Moment) -> Result<(), AllocError>
     ensures ok { OnOk result (IfSome (slice_get tables.old.queueing.waiting 0)
         (λ args. GoesOn (Pump now) Dispatched tables.old tables.new)) }
     ensures err { OnErr result (SameAll tables.old tables.new) }
+    ensures promise { KeepsPromise tables.old → KeepsPromise tables.new }
+    ensures pumped { 1 ≤ tables.old.queueing.pumps → KeepsPromise tables.old → IsOk result }
+    ensures pumps { tables.old.queueing.pumps ≤ tables.new.queueing.pumps + 1 }
 {
     let clock = now.later(tables.queueing.clock());
     let place = tables.queueing.place();
     if let Some(args) = tables.queueing.first() {
         dispatch(&mut tables.routing, args, place, clock)?;
         tables.queueing.dispatch(now);
+        tables.queueing.spend_pump();
     }
     Ok(())
 }
@@ -140,12 +153,16 @@ fn idle(tables: &mut Tables, now: Moment) -> Result<Reply, AllocError>
     ensures ok { IfOk result (λ answer. GoesOn (Pump now) answer tables.old tables.new) }
     ensures err { OnErr result (SameAll tables.old tables.new) }
     ensures calm { (es : List Effect) → TablesStandFor es tables.old → IsCalm es (Pump now) → IsOk result }
+    ensures promise { KeepsPromise tables.old → KeepsPromise tables.new }
+    ensures pumped { 1 ≤ tables.old.queueing.pumps → KeepsPromise tables.old → IsOk result }
+    ensures pumps { tables.old.queueing.pumps ≤ tables.new.queueing.pumps + 1 }
 {
     let clock = now.later(tables.queueing.clock());
     let place = tables.queueing.place();
     match repeat(&mut tables.routing, place, clock) {
         Ok(is_due) => {
             tables.queueing.step(now);
+            tables.queueing.spend_pump();
             Ok(idle_reply(is_due))
         }
         Err(error) => Err(error),
@@ -162,29 +179,35 @@ fn idle_reply(is_due: bool) -> Reply
 /// The owner of a channel is handed its next message, where there is one. Takes no memory.
 fn receive_next(tables: &mut Tables, channel: u32) -> Reply
     requires { MayStep tables.old }
-    ensures { GoesOn (Receive channel) result tables.old tables.new }
+    ensures goes { GoesOn (Receive channel) result tables.old tables.new }
+    ensures promise { KeepsPromise tables.old → KeepsPromise tables.new }
 {
     tables.queueing.step(Moment::zero());
+    tables.queueing.set_pumps(0);
     receive(&mut tables.routing, channel)
 }
 
 /// The owner of a channel is done with a message. Takes no memory.
 pub(crate) fn finish_one(tables: &mut Tables, now: Moment, channel: u32, seq: u64) -> Reply
     requires { MayStep tables.old }
-    ensures { GoesOn (Finish now channel seq) result tables.old tables.new }
+    ensures goes { GoesOn (Finish now channel seq) result tables.old tables.new }
+    ensures promise { KeepsPromise tables.old → KeepsPromise tables.new }
 {
     let clock = now.later(tables.queueing.clock());
     tables.queueing.step(now);
+    tables.queueing.set_pumps(0);
     finish(&mut tables.routing, channel, seq, clock)
 }
 
 /// A channel is removed. Takes no memory.
 fn remove_one(tables: &mut Tables, now: Moment, channel: u32) -> Reply
     requires { MayStep tables.old }
-    ensures { GoesOn (Remove now channel) result tables.old tables.new }
+    ensures goes { GoesOn (Remove now channel) result tables.old tables.new }
+    ensures promise { KeepsPromise tables.old → KeepsPromise tables.new }
 {
     let place = tables.queueing.place();
     tables.queueing.step(now);
+    tables.queueing.set_pumps(0);
     remove(&mut tables.routing, channel, place)
 }
 
@@ -196,6 +219,7 @@ fn route(tables: &mut Tables, call: &Call) -> Result<Reply, AllocError>
     ensures ok { IfOk result (λ answer. GoesOn call.now answer tables.old tables.new) }
     ensures err { OnErr result (SameAll tables.old tables.new) }
     ensures calm { (es : List Effect) → TablesStandFor es tables.old → IsCalm es call.now → IsOk result }
+    ensures promise { KeepsPromise tables.old → KeepsPromise tables.new }
 {
     let now = call.moment();
     let clock = now.later(tables.queueing.clock());
@@ -203,6 +227,7 @@ fn route(tables: &mut Tables, call: &Call) -> Result<Reply, AllocError>
     match answer(&mut tables.routing, call, place, clock) {
         Ok(reply) => {
             tables.queueing.step(now);
+            tables.queueing.set_pumps(0);
             Ok(reply)
         }
         Err(error) => Err(error),

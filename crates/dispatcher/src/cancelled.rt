@@ -1,8 +1,8 @@
 //! The list into which keys are put that are cancelled.
-ghost use Rattle.std.specs.Prelude.{◌≡◌, vec_capacity};
+ghost use Rattle.std.specs.Prelude.{◌≡◌, ◌≤◌, OnOk, vec_capacity};
 
 use input_types::KeyMsg;
-use std::alloc::Global;
+use std::alloc::{AllocError, Global};
 use std::marker::Model;
 use std::mem::replace;
 
@@ -34,6 +34,15 @@ impl Cancelled {
     {
         let alloc = *self.keys.allocator();
         replace(&mut self.keys, Vec::new(alloc))
+    }
+
+    /// Makes room for so many keys. Without memory nothing changes.
+    pub(crate) fn reserve(&mut self, keys: usize) -> Result<(), AllocError>
+        ensures ok { OnOk result (keys ≤ self.new) }
+        ensures more { self.old ≤ self.new }
+    {
+        self.keys.clear();
+        self.keys.reserve(keys)
     }
 
     /// Takes it back.

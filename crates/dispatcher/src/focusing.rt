@@ -1,5 +1,5 @@
 //! What changes who has the focus: a channel that is opened, other windows, and requests.
-ghost use Rattle.std.specs.Prelude.{◌≡◌, ◌<◌, [], IfOk, OnOk, OnErr, IsOk};
+ghost use Rattle.std.specs.Prelude.{◌≡◌, ◌<◌, ◌≤◌, [], IfOk, OnOk, OnErr, IsOk, vec_capacity};
 ghost use Rattle.dispatch_calls.specs.declared.call.Call.TheVariants.{Open, Windows, FocusOn};
 ghost use Rattle.route_split.specs.Marking.{IsWhole};
 ghost use Rattle.dispatch_round.specs.Rounds.{IsTimely};
@@ -150,6 +150,7 @@ fn tell_change(
         change.now.gained place clock routing.old routing.new) }
     ensures err { OnErr result (SameButRoom routing.old routing.new) }
     ensures calm { IsSilent mark [] change.now → change.now.target ≡ target_of routing.old.focus → IsOk result }
+    ensures list { vec_capacity keys.old ≤ vec_capacity keys.new }
 {
     match listening(routing) {
         Some(target) if change.target != Some(target) => {

@@ -48,6 +48,7 @@ mod motions;
 mod naming;
 mod owners;
 mod queueing;
+mod reserving;
 mod shown;
 mod stays;
 mod tables;

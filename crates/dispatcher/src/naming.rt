@@ -1,5 +1,5 @@
 //! Windows that do not answer.
-ghost use Rattle.std.specs.Prelude.{◌≡◌, ℕ, false, IfOk, OnOk, OnErr, IsOk};
+ghost use Rattle.std.specs.Prelude.{◌≡◌, ◌≤◌, ℕ, false, IfOk, OnOk, OnErr, IsOk, vec_capacity};
 ghost use Rattle.dispatch_calls.specs.declared.call.Call.TheVariants.{Tick};
 ghost use Rattle.dispatch_channels.specs.Table.{due_moment};
 ghost use Rattle.dispatch_history.specs.Reply.{is_due};
@@ -59,6 +59,7 @@ fn tell_names(
     ensures ok { OnOk result
         (Names mask (named_keys routing.old.focus mask routing.old.channels) place clock routing.old routing.new) }
     ensures err { OnErr result (SameButRoom routing.old routing.new) }
+    ensures list { vec_capacity keys.old ≤ vec_capacity keys.new }
 {
     match listening(routing) {
         Some(target) if mask_has(mask, target) => {

@@ -36,6 +36,7 @@ impl Tables {
     pub(crate) fn new(alloc: Global, displays: &Displays) -> Result<Tables, AllocError>
         ensures start { IfOk result (λ t. TablesStandFor [] t) }
         ensures displays { IfOk result (λ t. t.routing.displays ≡ displays.now) }
+        ensures pumps { IfOk result (λ t. t.queueing.pumps ≡ 0) }
     {
         let queueing = Queueing::new(alloc)?;
         let touches = Touches::new(alloc)?;

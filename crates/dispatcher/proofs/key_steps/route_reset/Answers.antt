@@ -2,7 +2,7 @@
 use Rattle.std.proofs.Common.{suc, Some, sym, subst, arith}
 use Rattle.input_types.specs.declared.message.Args.TheVariants.{Reset as ResetOf}
 use Rattle.dispatch_calls.specs.declared.reply.Reply.TheVariants.{Dispatched}
-use Rattle.dispatcher.proofs.Cancelling.{pumps_with}
+use Rattle.dispatcher.proofs.Cancelling.{same_with, pumps_with}
 use Rattle.dispatcher.specs.Roomy.{IsRoomy}
 use Rattle.dispatcher.proofs.Roomy.{longer}
 use Rattle.dispatcher.proofs.Oks.{on_ok}
@@ -18,3 +18,7 @@ returns-clause-roomy c n roomy =
     let old = c.args.routing.now in
     let told = c.tell_reset-told.ensures.roomy n (subst (λ l. IsRoomy (suc n) l old.channels) (sym c.take-keys.ensures) roomy) in
     (told.0, longer n _ _ c.tell_reset-told.new.routing.channels (omega (arith, c.keep.ensures, c.tell_reset-told.ensures.list)) told.1)
+
+pub returns-clause-err : goal.returns-clause-err
+returns-clause-err c =
+    same_with c.tell_reset-told.result _ _ c.args.routing.now c.tell_reset-told.new.routing c.tell_reset-told.ensures.err (omega (arith, c.take-keys.ensures, c.keep.ensures, c.tell_reset-told.ensures.list))
