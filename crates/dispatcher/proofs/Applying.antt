@@ -7,9 +7,11 @@ use Rattle.dispatch_history.specs.Effect.{Effect}
 use Rattle.dispatch_history.specs.Effects.{step}
 use Rattle.dispatcher.specs.declared.tables.Tables.{Tables}
 use Rattle.dispatcher.specs.Dispatching.{Dispatching, IsOfHistory}
-use Rattle.dispatcher.specs.Dispatching.{StandsFor, with_room}
+use Rattle.dispatcher.specs.Dispatching.{StandsFor, with_room, with_args_room}
 use Rattle.dispatcher.specs.Queueing.{args_in}
-use Rattle.dispatcher.specs.Queueing.{with_room as queue_with_room}
+use Rattle.dispatcher.specs.Queueing.{with_room as queue_with_room, with_args_room as queue_with_args_room}
+use Rattle.dispatcher.specs.Queue.{Queue}
+use Rattle.dispatcher.specs.Roomy.{KeepsPromise}
 use Rattle.dispatcher.specs.Tables.{TablesStandFor, GoesOn, GoesOnSomehow, SameAll, SameButRoom}
 use Rattle.dispatcher.proofs.Rooms.{stands_raw, stands_bare}
 
@@ -129,3 +131,33 @@ reserved_stands (Ok a) old new n ok err same es s =
     } in
     subst (StandsFor es) (sym is) (roomier es (seen old) n s)
 reserved_stands (Err e) old new n ok err same es s = subst (StandsFor es) (sym (seen_same old new (record { queueing_is = err; routing_is = same }))) s
+
+-- the same of room for args
+pub args_roomier : (es : List Effect) (d : Dispatching) (n : ℕ) → StandsFor es d → StandsFor es (with_args_room n d)
+args_roomier es d n s =
+    let q = s.knows.queue in
+    record {
+      lawful = s.lawful;
+      rise = s.rise;
+      knows =
+          record {
+            queue = record { clock_is = q.clock_is; place_is = q.place_is; waiting_is = q.waiting_is; down_is = q.down_is };
+            shown = s.knows.shown;
+            touches = s.knows.touches;
+            delivery = s.knows.delivery;
+            inputs = s.knows.inputs;
+            keying = s.knows.keying;
+          };
+    }
+
+pub args_stand : {A E : Type 0} (r : Result A E) (old : Tables) (later : Queue) (n : ℕ) → OnOk r (later ≡ queue_with_args_room n old.queueing)
+    → OnErr r (later ≡ old.queueing) → (es : List Effect) → StandsFor es (seen old) → StandsFor es (seen (record old { queueing = later }))
+args_stand (Ok a) old later n ok err es s =
+    subst (λ q. StandsFor es (seen (record old { queueing = q }))) (sym ok) (args_roomier es (seen old) n s)
+args_stand (Err e) old later n ok err es s = subst (λ q. StandsFor es (seen (record old { queueing = q }))) (sym err) s
+
+-- and the room for pumps stays
+pub args_promise : {A E : Type 0} (r : Result A E) (old : Tables) (later : Queue) (n : ℕ) → OnOk r (later ≡ queue_with_args_room n old.queueing)
+    → OnErr r (later ≡ old.queueing) → KeepsPromise old → KeepsPromise (record old { queueing = later })
+args_promise (Ok a) old later n ok err keeps = subst (λ q. KeepsPromise (record old { queueing = q })) (sym ok) keeps
+args_promise (Err e) old later n ok err keeps = subst (λ q. KeepsPromise (record old { queueing = q })) (sym err) keeps

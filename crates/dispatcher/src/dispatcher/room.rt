@@ -1,7 +1,7 @@
 //! Room for args.
 ghost use Rattle.std.specs.Prelude.{◌≡◌, ◌≤◌, List, OnErr, OnOk, IsOk};
 ghost use Rattle.dispatch_history.specs.Effect.{Effect};
-ghost use Rattle.dispatcher.specs.Dispatching.{StandsFor, with_room};
+ghost use Rattle.dispatcher.specs.Dispatching.{StandsFor, with_room, with_args_room};
 
 use super::Dispatcher;
 use crate::reserving::reserve;
@@ -21,5 +21,15 @@ impl Dispatcher {
         ensures stays { (es : List Effect) → StandsFor es self.old → StandsFor es self.new }
     {
         reserve(&mut self.tables, n)
+    }
+
+    /// Makes room for the next `n` args alone. Without memory nothing changes.
+    pub fn reserve_args(&mut self, n: u32) -> Result<(), AllocError>
+        ensures ok { OnOk result (self.new ≡ with_args_room n self.old) }
+        ensures err { OnErr result (self.new ≡ self.old) }
+        ensures reserved { n ≤ self.old.queue.spare → IsOk result }
+        ensures stays { (es : List Effect) → StandsFor es self.old → StandsFor es self.new }
+    {
+        self.tables.queueing.reserve(n)
     }
 }
