@@ -45,3 +45,4 @@ pub mod Gone
 pub mod Missing
 pub mod Cancelling
 pub mod Roomy
+pub mod RoomMade

@@ -3,7 +3,7 @@ use Rattle.std.proofs.Common.{length, ap, ◌∙◌}
 use Rattle.dispatch_channels.specs.Table.{but_for_room}
 use Rattle.dispatch_round.proofs.Rooms.{same_but_room}
 use Rattle.dispatcher.proofs.Oks.{on_ok}
-use Rattle.dispatcher.proofs.Roomy.{more_room, made_room}
+use Rattle.dispatcher.proofs.RoomMade.{more_room, made_room}
 use Rattle.dispatcher.proofs.reserving.reserve_one.Goals as goal
 
 pub returns-clause-same : goal.returns-clause-same

@@ -5,7 +5,7 @@ use Rattle.dispatch_channels.specs.Table.{channel_of}
 use Rattle.dispatcher.specs.Access.{gone, namings_gone}
 use Rattle.dispatcher.specs.Dispatching.{StandsFor}
 use Rattle.std.proofs.lemmas.Bool.{true≢false}
-use Rattle.dispatcher.proofs.Roomy.{let_go_room}
+use Rattle.dispatcher.proofs.RoomMade.{let_go_room}
 use Rattle.dispatcher.proofs.Applying.{raw, bare}
 use Rattle.dispatcher.proofs.LettingGo.{all_go_stands, stream_gone, others_gone, not_live, is_live}
 use Rattle.dispatcher.proofs.dispatcher.Dispatcher.let_all_go.Goals as goal

@@ -5,7 +5,7 @@ use Rattle.dispatch_history.specs.Effect.{past_of}
 use Rattle.dispatch_history.specs.History.{received}
 use Rattle.dispatcher.specs.Access.{gone, namings_gone}
 use Rattle.dispatcher.specs.Dispatching.{StandsFor}
-use Rattle.dispatcher.proofs.Roomy.{let_go_room}
+use Rattle.dispatcher.proofs.RoomMade.{let_go_room}
 use Rattle.dispatcher.proofs.Applying.{raw, bare}
 use Rattle.dispatcher.proofs.LettingGo.{let_go_stands, received_gone, live_gone, others_gone}
 use Rattle.dispatcher.proofs.dispatcher.Dispatcher.let_go.Goals as goal
