@@ -3,7 +3,7 @@ _inputflinger() {
     local word=${COMP_WORDS[COMP_CWORD]} before=${COMP_WORDS[COMP_CWORD-1]} options option
     COMPREPLY=()
     if [ "$COMP_CWORD" -eq 1 ]; then
-        mapfile -t COMPREPLY < <(compgen -W 'replay race check verify work batch hover emit inspect judge compare' -- "$word")
+        mapfile -t COMPREPLY < <(compgen -W 'replay race check verify work batch hover emit inspect why judge compare' -- "$word")
         return
     fi
     case ${COMP_WORDS[1]} in
@@ -16,6 +16,7 @@ _inputflinger() {
         hover) options='--session --events --mouse' ;;
         emit) options='--stream --channel --device' ;;
         inspect) options='--session --events' ;;
+        why) options='--session --events' ;;
         judge) options='--stream' ;;
         compare) options='--want --got --us --pixels' ;;
         *) return ;;

@@ -29,6 +29,9 @@ complete -c inputflinger -n '__fish_seen_subcommand_from emit' -l device -x
 complete -c inputflinger -n __fish_use_subcommand -a inspect -d 'what both files hold'
 complete -c inputflinger -n '__fish_seen_subcommand_from inspect' -l session -r -F
 complete -c inputflinger -n '__fish_seen_subcommand_from inspect' -l events -r -F
+complete -c inputflinger -n __fish_use_subcommand -a why -d 'why each finger and each key went where it went'
+complete -c inputflinger -n '__fish_seen_subcommand_from why' -l session -r -F
+complete -c inputflinger -n '__fish_seen_subcommand_from why' -l events -r -F
 complete -c inputflinger -n __fish_use_subcommand -a judge -d 'channel <id> whole <messages> for each section, where every stream of the file is whole'
 complete -c inputflinger -n '__fish_seen_subcommand_from judge' -l stream -r -F
 complete -c inputflinger -n __fish_use_subcommand -a compare -d 'same <sections> <points>, where a stream file has the points of another one, each at most so many microseconds and pixels away'

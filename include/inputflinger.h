@@ -5,9 +5,9 @@
  *
  * A live service sends touches and keys to the windows of a compositor's clients, by the rules of Android's dispatcher:
  * devices and clients come and go, events are handed in, and each client is given its messages (inputflinger_live_).
- * A judge tells a toolkit whether what a window is told of touches and keys makes sense (inputflinger_judge_). What
- * they do is written in Rattle and proved: docs/LIBRARY.md says which of the sentences below stand on a proof, and
- * which on the tests.
+ * A judge tells a toolkit whether what a window is told of touches and keys makes sense (inputflinger_judge_). A test
+ * tool runs the program inputflinger over recordings that it has in memory (inputflinger_run). What they do is written
+ * in Rattle and proved: docs/LIBRARY.md says which of the sentences below stand on a proof, and which on the tests.
  *
  * A touch's life
  *
@@ -116,7 +116,9 @@ enum inputflinger_status {
 	/* A panel has 1 to 16 slots. */
 	INPUTFLINGER_BAD_SLOTS = 19,
 	/* The text is no key layout. */
-	INPUTFLINGER_BAD_LAYOUT = 20
+	INPUTFLINGER_BAD_LAYOUT = 20,
+	/* The words are those of race, which starts threads. */
+	INPUTFLINGER_NO_THREADS = 21
 };
 
 /* The kinds of messages. */
@@ -456,6 +458,25 @@ int inputflinger_live_add_touch(struct inputflinger_live *live, uint8_t display,
 				const struct inputflinger_panel *panel, uint8_t *device);
 
 /*
+ * Plugs in a device with keys of a display, 0 to 3. device is its number then. Its layout is a text of len bytes in the
+ * form of Android's .kl files: a line `key 30 A` gives the kernel's scan code 30 the key code of A, and each other scan
+ * code has 0. text may be NULL where len is 0: then all have 0. line may be NULL.
+ *
+ *     add_keys(display 0, "key 30 A\n")               INPUTFLINGER_OK, device 1
+ *     event 1: EV_KEY 30 1                            INPUTFLINGER_OK: the window with the focus has a key, code 29
+ *     add_keys(display 0, "key 30 A\nkey 30 B\n")     INPUTFLINGER_BAD_LAYOUT, line 2: an earlier line has 30
+ *
+ *     INPUTFLINGER_OK            device is written
+ *     INPUTFLINGER_OUT_OF_RANGE  display
+ *     INPUTFLINGER_BAD_LAYOUT    the text is no layout: line is the number of its first line that is refused, from 1 on,
+ *                                or 0 where it is no UTF-8
+ *     INPUTFLINGER_TOO_MANY      each number of the display has a device
+ *     INPUTFLINGER_NO_MEMORY     for the layout
+ */
+int inputflinger_live_add_keys(struct inputflinger_live *live, uint8_t display, const char *text, size_t len,
+			       uint8_t *device, uint64_t *line);
+
+/*
  * Unplugs a device, 1 to 8. What is down on it is cancelled, and its number is free. It is delivered as by
  * inputflinger_live_event, whose INPUTFLINGER_INCONSISTENT, INPUTFLINGER_WAITS and INPUTFLINGER_NO_MEMORY it may answer.
  *
@@ -674,6 +695,52 @@ int inputflinger_live_is_responsive(struct inputflinger_live *live, const struct
  */
 int inputflinger_live_holds(struct inputflinger_live *live, const struct inputflinger_client *client, uint8_t device,
 			    uint32_t *ids);
+
+/* A file that a run reads: its bytes, which may be NULL where there are none. */
+struct inputflinger_file {
+	const void *bytes;
+	size_t len;
+};
+
+/* What a run came to. */
+struct inputflinger_ran {
+	/* How long the text is that the program prints to its standard output, in bytes. */
+	size_t out_len;
+	/* How long the line is that it prints to its standard error. */
+	size_t err_len;
+	/* The status that it ends with, 0 to 7: docs/STATUSES.md says what each means. */
+	uint32_t status;
+};
+
+/*
+ * Runs the program inputflinger over files in memory: any of its commands but race, which starts threads. words has
+ * what stands behind the program's name, a word on each line; they name the files 1, 2 and 3:
+ *
+ *     const char words[] = "replay\n--session\n1\n--events\n2\n";
+ *     struct inputflinger_file files[2] = {{session, session_len}, {recording, recording_len}};
+ *     struct inputflinger_ran ran;
+ *     int status = inputflinger_run(words, sizeof words - 1, files, 2, out, sizeof out, err, sizeof err, &ran);
+ *
+ *     what is handed in                     status                    ran.status, and what is told
+ *     a recording of a tap                  INPUTFLINGER_OK           0: the streams text is in out, err_len is 0
+ *     a recording whose line 3 is bad       INPUTFLINGER_OK           3: "recording: BadLine 3\n" is in err, out_len is 0
+ *     --events 3, of two files              INPUTFLINGER_OK           4: "read failed\n"
+ *     a text longer than out                INPUTFLINGER_NO_ROOM      0: out_len is how much room it needs
+ *
+ * The text goes to out, and the line to err, each as far as there is room, without a NUL behind it; what is behind it
+ * stays. out may be NULL where out_room is 0, so may err: a run with no room tells how much is needed. While it runs the
+ * program has memory of its own, for what it reads and for all that it prints; where that is wanting ran.status is 6, or
+ * 5 where it is wanting for what is printed.
+ *
+ *     INPUTFLINGER_OK            the program ended, and all is told
+ *     INPUTFLINGER_NO_ROOM       it ended, and a text is longer than its room: ran is written, and the front of the text
+ *     INPUTFLINGER_OUT_OF_RANGE  files_len is more than 3
+ *     INPUTFLINGER_NO_THREADS    the words are those of race: nothing ran
+ *     INPUTFLINGER_NO_MEMORY     for the words: nothing ran
+ *     INPUTFLINGER_NULL          ran is NULL, or what a length that is not 0 stands for
+ */
+int inputflinger_run(const char *words, size_t words_len, const struct inputflinger_file *files, size_t files_len, char *out,
+		     size_t out_room, char *err, size_t err_room, struct inputflinger_ran *ran);
 
 #ifdef __cplusplus
 }

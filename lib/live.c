@@ -31,6 +31,17 @@ int inputflinger_live_add_touch(struct inputflinger_live *live, uint8_t display,
 	return (int)inputflinger_proved_live_add_touch(live, display, slots, panel, device);
 }
 
+int inputflinger_live_add_keys(struct inputflinger_live *live, uint8_t display, const char *text, size_t len,
+		uint8_t *device, uint64_t *line)
+{
+	uint64_t unread = 0;
+
+	if (live == NULL || (text == NULL && len != 0) || device == NULL)
+		return INPUTFLINGER_NULL;
+	return (int)inputflinger_proved_live_add_keys(live, display, text != NULL ? text : "", len, device,
+			line != NULL ? line : &unread);
+}
+
 int inputflinger_live_remove_device(struct inputflinger_live *live, uint64_t now_us, uint8_t device)
 {
 	if (live == NULL)

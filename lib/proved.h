@@ -17,6 +17,8 @@ uint32_t inputflinger_proved_live_new(struct inputflinger_live *live, uint64_t l
 uint32_t inputflinger_proved_live_free(struct inputflinger_live *live);
 uint32_t inputflinger_proved_live_add_touch(struct inputflinger_live *live, uint8_t display, uint8_t slots,
 		const struct inputflinger_panel *panel, uint8_t *device);
+uint32_t inputflinger_proved_live_add_keys(struct inputflinger_live *live, uint8_t display, const char *text,
+		size_t len, uint8_t *device, uint64_t *line);
 uint32_t inputflinger_proved_live_remove_device(struct inputflinger_live *live, uint64_t now_us, uint8_t device);
 uint32_t inputflinger_proved_live_event(struct inputflinger_live *live, uint64_t now_us, uint8_t device,
 		uint16_t type, uint16_t code, int32_t value);
@@ -51,6 +53,9 @@ uint32_t inputflinger_proved_live_is_responsive(struct inputflinger_live *live,
 		const struct inputflinger_client *client, uint8_t *told);
 uint32_t inputflinger_proved_live_holds(struct inputflinger_live *live, const struct inputflinger_client *client,
 		uint8_t device, uint32_t *ids);
+uint32_t inputflinger_proved_run(const char *words, size_t words_len, uint32_t count, const uint8_t *first,
+		size_t first_len, const uint8_t *second, size_t second_len, const uint8_t *third, size_t third_len,
+		char *out, size_t out_room, char *err, size_t err_room, struct inputflinger_ran *ran);
 size_t inputflinger_proved_size(uint32_t number);
 
 #endif

@@ -113,14 +113,9 @@ static void take(struct loop *loop, const struct input_event *event)
 	deliver(loop);
 }
 
-/* After a SYN_DROPPED the device begins anew: what the kernel's slots have now is handed in, as one packet. */
-static void take_sync(struct loop *loop, struct libevdev *device)
+/* What the kernel's slots have now is handed in, as one packet. */
+static void hand_in_slots(struct loop *loop, struct libevdev *device)
 {
-	struct input_event unread;
-
-	while (libevdev_next_event(device, LIBEVDEV_READ_FLAG_SYNC, &unread) == LIBEVDEV_READ_STATUS_SYNC)
-		;
-	hand_in(loop, EV_SYN, SYN_REPORT, 0);
 	for (int slot = 0; slot < libevdev_get_num_slots(device); slot++) {
 		int id = libevdev_get_slot_value(device, (unsigned)slot, ABS_MT_TRACKING_ID);
 
@@ -134,6 +129,17 @@ static void take_sync(struct loop *loop, struct libevdev *device)
 	hand_in(loop, EV_ABS, ABS_MT_SLOT, libevdev_get_current_slot(device));
 	hand_in(loop, EV_SYN, SYN_REPORT, 0);
 	deliver(loop);
+}
+
+/* After a SYN_DROPPED the device begins anew, with what the kernel's slots have now. */
+static void take_sync(struct loop *loop, struct libevdev *device)
+{
+	struct input_event unread;
+
+	while (libevdev_next_event(device, LIBEVDEV_READ_FLAG_SYNC, &unread) == LIBEVDEV_READ_STATUS_SYNC)
+		;
+	hand_in(loop, EV_SYN, SYN_REPORT, 0);
+	hand_in_slots(loop, device);
 }
 
 /* All that the kernel has; false where the device is gone. */
@@ -174,6 +180,9 @@ static void run_device(struct loop *loop, int fd)
 		fail("device", "it is no touch panel with slots");
 	libevdev_set_clock_id(device, CLOCK_MONOTONIC);
 	begin(loop, x, y, libevdev_get_num_slots(device) < SLOTS_MOST ? libevdev_get_num_slots(device) : SLOTS_MOST);
+	/* Fingers that are down already: the kernel says nothing of them until they move. */
+	advance(loop, clock_us());
+	hand_in_slots(loop, device);
 	do {
 		if (poll(&wait, 1, wait_ms(loop)) < 0 && errno != EINTR)
 			break;

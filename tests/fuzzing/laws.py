@@ -7,7 +7,7 @@ LINES = {
     1: r"(order: (BadLine|NoStep) \d+|stream: (BadLine|NotWellFormed|TooLate|NotAssignable) \d+|stream: NoChannel"
     r"|stream: Broken \d+ [A-Z][A-Za-z]+|stream: StillDown \d+( \d:\d+(,\d+)*)*( key \d:\d+)*|stream: Nothing"
     r"|(want|got): BadLine \d+|compare: (Differs \d+|Missing|Added|NoSection|NewSection) \d+)\n",
-    2: r"usage: inputflinger replay\|race\|check\|verify\|work\|batch\|hover\|emit\|inspect\|judge\|compare\n",
+    2: r"usage: inputflinger replay\|race\|check\|verify\|work\|batch\|hover\|emit\|inspect\|why\|judge\|compare\n",
     3: r"(session: (NotToml|(Missing|Wrong|UnknownName) \S+|OutOfRange \S+ -?\d+|BadLayout \d \d+)"
     r"|recording: (BadLine|NoMoment|TooLong) \d+)\n",
     4: r"read failed\n",

@@ -4,7 +4,7 @@ import subprocess
 
 from .laws import Broken, ends_so, ending, need, sections
 
-USAGE = b"usage: inputflinger replay|race|check|verify|work|batch|hover|emit|inspect|judge|compare\n"
+USAGE = b"usage: inputflinger replay|race|check|verify|work|batch|hover|emit|inspect|why|judge|compare\n"
 
 
 # The seconds that a run may take.

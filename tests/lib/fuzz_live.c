@@ -245,6 +245,24 @@ static void finish(struct side *side, uint32_t i, uint64_t call)
 		s->taken++;
 }
 
+/* A device with keys, whose layout is of words that layouts have and of others. */
+static void add_keys(struct side *side)
+{
+	static const char *const words[] = {"key ", "30", "0x1e", " A", " b", "\n", "# ", "led 0x00", " ", "\xc3\xa4", "VIRTUAL"};
+	char text[64];
+	size_t len = 0;
+	uint64_t line;
+	uint8_t device;
+
+	for (uint32_t i = below(8); i > 0; i--) {
+		const char *word = words[below(sizeof words / sizeof *words)];
+
+		memcpy(text + len, word, strlen(word));
+		len += strlen(word);
+	}
+	inputflinger_live_add_keys(&side->live, (uint8_t)below(5), text, len, &device, &line);
+}
+
 /* Whatever can be asked, and the calls that are made rarely. */
 static void ask(struct side *side, uint32_t i)
 {
@@ -270,6 +288,8 @@ static void ask(struct side *side, uint32_t i)
 	if (rarely())
 		inputflinger_live_add_touch(&side->live, (uint8_t)below(5), (uint8_t)below(18),
 					    &(struct inputflinger_panel){{0, 999}, {(int32_t)below(2000), 999}, 1000, 1000, (uint8_t)below(5)}, &device);
+	if (rarely())
+		add_keys(side);
 }
 
 int main(int count, char **words)

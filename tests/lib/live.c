@@ -94,6 +94,7 @@ static void free_handles(void)
 
 	CHECK(inputflinger_live_free(&live) == INPUTFLINGER_FREE);
 	CHECK(inputflinger_live_add_touch(&live, 0, 1, &panel, &device) == INPUTFLINGER_FREE && device == 7);
+	CHECK(inputflinger_live_add_keys(&live, 0, "", 0, &device, &number) == INPUTFLINGER_FREE && device == 7 && number == 7);
 	CHECK(inputflinger_live_remove_device(&live, 0, 1) == INPUTFLINGER_FREE);
 	CHECK(inputflinger_live_event(&live, 0, 1, 0, 0, 0) == INPUTFLINGER_FREE);
 	CHECK(inputflinger_live_args(&live, 0, &m) == INPUTFLINGER_FREE);
@@ -132,6 +133,9 @@ static void nulls(void)
 	CHECK(inputflinger_live_add_touch(NULL, 0, 1, &panel, &device) == INPUTFLINGER_NULL);
 	CHECK(inputflinger_live_add_touch(&live, 0, 1, NULL, &device) == INPUTFLINGER_NULL);
 	CHECK(inputflinger_live_add_touch(&live, 0, 1, &panel, NULL) == INPUTFLINGER_NULL);
+	CHECK(inputflinger_live_add_keys(NULL, 0, "", 0, &device, &number) == INPUTFLINGER_NULL);
+	CHECK(inputflinger_live_add_keys(&live, 0, NULL, 1, &device, &number) == INPUTFLINGER_NULL);
+	CHECK(inputflinger_live_add_keys(&live, 0, "", 0, NULL, &number) == INPUTFLINGER_NULL);
 	CHECK(inputflinger_live_remove_device(NULL, 0, 1) == INPUTFLINGER_NULL);
 	CHECK(inputflinger_live_event(NULL, 0, 1, 0, 0, 0) == INPUTFLINGER_NULL);
 	CHECK(inputflinger_live_args(NULL, 0, &m) == INPUTFLINGER_NULL);
@@ -222,6 +226,46 @@ static void beginnings(void)
 	OK(inputflinger_live_event(&live, LATEST, 1, 0xffff, 0xffff, INT32_MIN));
 	OK(inputflinger_live_free(&live));
 	CHECK(!live.is_open && live.at == NULL);
+}
+
+/* Layouts, good and bad, and a key that goes through one. */
+static void layouts(void)
+{
+	static const char good[] = "# a keyboard\nkey 30 A\nkey 0x30 B\n", name[] = "key 30 a\n", twice[] = "key 30 A\nkey 30 B\n";
+	live_t live = {0};
+	struct inputflinger_displays displays = {{0, 0, 0, 1, 1, 1, 1, 1}};
+	client_t client = {0};
+	struct inputflinger_window one;
+	uint64_t line = 77;
+	uint8_t device = 77;
+	message_t m;
+
+	OK(inputflinger_live_new(&live, LIMIT, &displays));
+	CHECK(inputflinger_live_add_keys(&live, 4, good, sizeof good - 1, &device, &line) == INPUTFLINGER_OUT_OF_RANGE && line == 77);
+	CHECK(inputflinger_live_add_keys(&live, 0, name, sizeof name - 1, &device, &line) == INPUTFLINGER_BAD_LAYOUT && line == 1);
+	CHECK(inputflinger_live_add_keys(&live, 0, twice, sizeof twice - 1, &device, &line) == INPUTFLINGER_BAD_LAYOUT && line == 2);
+	CHECK(inputflinger_live_add_keys(&live, 0, "\xff", 1, &device, &line) == INPUTFLINGER_BAD_LAYOUT && line == 0);
+	CHECK(inputflinger_live_add_keys(&live, 0, name, sizeof name - 1, &device, NULL) == INPUTFLINGER_BAD_LAYOUT && device == 77);
+	line = 77;
+	OK(inputflinger_live_add_keys(&live, 0, good, sizeof good - 1, &device, &line));
+	CHECK(device == 1 && line == 77);
+	OK(inputflinger_live_add_keys(&live, 0, NULL, 0, &device, NULL));
+	CHECK(device == 2);
+	OK(inputflinger_live_add_keys(&live, 0, good, 0, &device, NULL));
+	CHECK(device == 3);
+	CHECK(inputflinger_live_add_keys(&live, 0, good, sizeof good - 1, &device, &line) == INPUTFLINGER_TOO_MANY && device == 3);
+	OK(inputflinger_live_open(&live, &client));
+	one = window(client, 0);
+	OK(show(&live, &one, 1, NULL));
+	OK(inputflinger_live_focus(&live, 0, 0, &client));
+	OK(inputflinger_live_event(&live, 0, 1, 1, 48, 1));
+	OK(inputflinger_live_event(&live, 0, 2, 1, 48, 1));
+	CHECK(next(&live, client).kind == INPUTFLINGER_FOCUS);
+	m = next(&live, client);
+	CHECK(m.kind == INPUTFLINGER_KEY && m.device == 1 && m.scan == 48 && m.code == 30 && m.down == 1);
+	m = next(&live, client);
+	CHECK(m.kind == INPUTFLINGER_KEY && m.device == 2 && m.scan == 48 && m.code == 0 && m.down == 1);
+	OK(inputflinger_live_free(&live));
 }
 
 static void clients(void)
@@ -530,6 +574,7 @@ int main(int count, char **words)
 	free_handles();
 	nulls();
 	beginnings();
+	layouts();
 	clients();
 	windows();
 	fingers();

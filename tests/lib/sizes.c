@@ -63,6 +63,11 @@ AT(inputflinger_panel, width, 16);
 AT(inputflinger_panel, height, 18);
 AT(inputflinger_panel, rotation, 20);
 AT(inputflinger_displays, of_device, 0);
+AT(inputflinger_ran, out_len, 0);
+AT(inputflinger_ran, err_len, 8);
+AT(inputflinger_ran, status, 16);
+AT(inputflinger_file, bytes, 0);
+AT(inputflinger_file, len, 8);
 _Static_assert(sizeof(struct inputflinger_judge) == 16, "a judge");
 _Static_assert(sizeof(struct inputflinger_pointer) == 12, "a pointer");
 _Static_assert(sizeof(struct inputflinger_message) == 240, "a message");
@@ -76,6 +81,7 @@ _Static_assert(sizeof(struct inputflinger_window) == 48, "a window");
 _Static_assert(sizeof(struct inputflinger_axis) == 8, "an axis");
 _Static_assert(sizeof(struct inputflinger_panel) == 24, "a panel");
 _Static_assert(sizeof(struct inputflinger_displays) == 8, "displays");
+_Static_assert(sizeof(struct inputflinger_ran) == 24, "what a run came to");
 
 int main(void)
 {
@@ -83,7 +89,8 @@ int main(void)
 		sizeof(struct inputflinger_judge), sizeof(struct inputflinger_pointer), sizeof(struct inputflinger_message),
 		sizeof(struct inputflinger_fault), sizeof(struct inputflinger_state), sizeof(struct inputflinger_key), sizeof(struct inputflinger_live),
 		sizeof(struct inputflinger_client), sizeof(struct inputflinger_rect), sizeof(struct inputflinger_window),
-		sizeof(struct inputflinger_axis), sizeof(struct inputflinger_panel), sizeof(struct inputflinger_displays), 0,
+		sizeof(struct inputflinger_axis), sizeof(struct inputflinger_panel), sizeof(struct inputflinger_displays),
+		sizeof(struct inputflinger_ran), 0,
 	};
 
 	for (uint32_t i = 0; i < sizeof sizes / sizeof *sizes; i++) {

@@ -1,5 +1,5 @@
 -- What is refused before a run is refused by `inspect` and by `replay`.
-use Rattle.std.proofs.Common.{◌≡◌, ℕ, Bool, true, false, List, [], ◌∷◌, reverse, nat_le, length, cond, Option, Some, None, Result, Ok, Err, refl, sym, subst, inl, inr, codes}
+use Rattle.std.proofs.Common.{◌≡◌, ℕ, Bool, true, false, List, [], ◌∷◌, nat_le, length, cond, Option, Some, None, Result, Ok, Err, refl, sym, subst, inl, inr, codes}
 use Rattle.std.specs.Prelude.{◌⊎◌}
 use Rattle.std.specs.Option.{IsSomeAnd}
 use Rattle.outside_io.specs.Outside.{bytes_of}
@@ -8,7 +8,7 @@ use Rattle.raw_events.specs.declared.event.RawEvent.{RawEvent}
 use Rattle.session_plan.specs.Plan.{PlanData}
 use Rattle.unread_keys.specs.Session.{unread_text}
 use Rattle.command_files.specs.Devices.{devices_of}
-use Rattle.command_files.specs.Inputs.{events_file, keyed_file, lined_file, session_file}
+use Rattle.command_files.specs.Inputs.{events_file, session_file}
 use Rattle.command_files.specs.Judged.{After, Answer, Ends, FileKind, Origin, Reads, beside, by_log, by_name, judged, with_more}
 use Rattle.command_files.specs.Refused.{Refused, too_long}
 use Rattle.command_answers.specs.Inspect.{CountsAnswer, InspectAnswers}

@@ -4,7 +4,7 @@ use Rattle.std.specs.Option.{IsSomeAnd}
 use Rattle.outside_io.specs.Outside.{bytes_of}
 use Rattle.raw_events.specs.declared.event.RawEvent.{RawEvent}
 use Rattle.session_plan.specs.Plan.{PlanData}
-use Rattle.command_words.specs.Command.{Command, Recorded, replay, race, check, verify, work, batch, hover, emit, judge, compare, inspect}
+use Rattle.command_words.specs.Command.{Command, Recorded, replay, race, check, verify, work, batch, hover, emit, judge, compare, inspect, why}
 use Rattle.command_words.specs.Forms.{form_of}
 use Rattle.emit_text.proofs.Once.{emitted_once}
 use Rattle.command_answers.specs.Batch.{BatchAnswers}
@@ -20,12 +20,13 @@ use Rattle.command_answers.specs.Inspect.{CountsAnswer, InspectAnswers}
 use Rattle.command_answers.specs.Judge.{JudgeAnswers}
 use Rattle.command_answers.specs.Replay.{RecordingAnswers, RunAnswers}
 use Rattle.command_answers.specs.Verify.{StreamAnswers}
+use Rattle.command_answers.specs.Why.{CausesAnswer, WhyAnswers}
 use Rattle.command_answers.specs.Race.{ThreadsAnswer}
 use Rattle.command_files.specs.Inputs.{events_file, got_file, keyed_file, lined_file, order_file, session_file, stream_file, want_file}
 use Rattle.command_answers.specs.Race.{RaceAnswers, Races}
 use Rattle.command_files.specs.Refused.{Refused}
 use Rattle.answer_laws.specs.Laws.{OneAnswer, OneRefusal}
-use Rattle.answer_laws.proofs.Runs.{follows_once, races_refused, replays_once, works_once}
+use Rattle.answer_laws.proofs.Runs.{explains_once, follows_once, races_refused, replays_once, works_once}
 
 -- an answer of a kind is the only one
 abbrev Once : (Answer → Type 0) → (Answer → Type 0) → Type 0
@@ -87,6 +88,9 @@ command_once Of from (Some (compare want got us pixels)) races =
 command_once Of from (Some (inspect files)) races =
     reads_once Of from files.session keyed_file (CountsAnswer files.events)
     (λ rest session. last_once Of rest files.events (lined_file (devices_of session.0)) (InspectAnswers session) (λ recording a b k x y. sym y ∙ x))
+command_once Of from (Some (why files)) races =
+    reads_once Of from files.session session_file (CausesAnswer files.events)
+    (λ rest plan. last_once Of rest files.events (events_file (devices_of plan)) (WhyAnswers plan) (λ events a b k x y. explains_once plan (reverse events) a b x y))
 
 pub one_answer : OneAnswer
 one_answer from words a b alone x y =

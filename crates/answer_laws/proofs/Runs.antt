@@ -2,9 +2,11 @@
 use Rattle.std.proofs.Common.{◌≡◌, ℕ, List, length, Ok, Err, sym, ap, ◌∙◌, arith}
 use Rattle.raw_events.specs.declared.event.RawEvent.{RawEvent}
 use Rattle.dispatch_history.proofs.OrderedLaws.{ordered_unique}
+use Rattle.session_plan.specs.DeviceDisplays.{device_displays}
 use Rattle.session_plan.specs.Plan.{PlanData}
 use Rattle.stream_text.specs.declared.order_line.OrderLine.{OrderLine}
 use Rattle.stream_text.specs.StreamsHistory.{streams_text}
+use Rattle.why_text.specs.Text.{why_text}
 use Rattle.workload_maker.specs.Session.{session}
 use Rattle.run_laws.proofs.Growing.{one_outcome}
 use Rattle.command_answers.specs.Checked.{IsFollowed, followed}
@@ -13,6 +15,7 @@ use Rattle.command_files.specs.Planned.{names_of, run_of}
 use Rattle.command_answers.specs.Race.{Races}
 use Rattle.command_files.specs.Refused.{Refused}
 use Rattle.command_answers.specs.Replay.{Overruns, Replayed, Replays}
+use Rattle.command_answers.specs.Why.{Explained, Explains}
 use Rattle.command_answers.specs.Work.{Worked, Works, summary, work_given, work_past}
 
 replays_one : (plan : PlanData) (past : List RawEvent) (s t : List ℕ) → Replayed plan past s → Replayed plan past t → t ≡ s
@@ -27,6 +30,19 @@ replays_once plan past (Ok s) (Ok t) x y = ap (λ text. Ok text) (replays_one pl
 replays_once plan past (Ok s) (Err r) x y = absurd (replays_within plan past s x y.0)
 replays_once plan past (Err r) (Ok t) x y = absurd (replays_within plan past t y x.0)
 replays_once plan past (Err r) (Err q) x y = ap (λ refused. Err refused) (y.1 ∙ sym x.1)
+
+explains_one : (plan : PlanData) (past : List RawEvent) (s t : List ℕ) → Explained plan past s → Explained plan past t → t ≡ s
+explains_one plan past s t x y =
+    y.text_is ∙ ap (why_text (device_displays plan.devices)) (ordered_unique (run_of plan past) y.es x.es y.ordered x.ordered) ∙ sym x.text_is
+
+explains_within : (plan : PlanData) (past : List RawEvent) (s : List ℕ) → Explained plan past s → Overruns plan past → ⊥
+explains_within plan past s x y = one_outcome (run_of plan past) x.es y.es x.ordered x.within y.rounds y.too_many
+
+pub explains_once : (plan : PlanData) (past : List RawEvent) (a b : Answer) → Explains plan past a → Explains plan past b → b ≡ a
+explains_once plan past (Ok s) (Ok t) x y = ap (λ text. Ok text) (explains_one plan past s t x y)
+explains_once plan past (Ok s) (Err r) x y = absurd (explains_within plan past s x y.0)
+explains_once plan past (Err r) (Ok t) x y = absurd (explains_within plan past t y x.0)
+explains_once plan past (Err r) (Err q) x y = ap (λ refused. Err refused) (y.1 ∙ sym x.1)
 
 works_one : (seed packets : ℕ) (s t : List ℕ) → Worked seed packets s → Worked seed packets t → t ≡ s
 works_one seed packets s t x y =

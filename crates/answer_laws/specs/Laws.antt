@@ -9,7 +9,7 @@ use Rattle.dispatch_history.specs.Ordered.{Rounds}
 use Rattle.dispatch_history.specs.Plan.{Line}
 use Rattle.session_plan.specs.DeviceDisplays.{device_displays}
 use Rattle.session_plan.specs.Plan.{PlanData}
-use Rattle.command_words.specs.Command.{Recorded, inspect, replay as replays}
+use Rattle.command_words.specs.Command.{Recorded, inspect, replay as replays, why as whys}
 use Rattle.command_words.specs.Forms.{form_of}
 use Rattle.run_laws.specs.Fitting.{NoneRefused}
 use Rattle.command_files.specs.Judged.{Answer, Origin}
@@ -49,3 +49,10 @@ abbrev pub ReplayRefuses : Type 0
 ReplayRefuses =
     (from : Origin) (files : Recorded) (r : Refused)
     → AnswersTo from (Some (replays files)) (Err r) → AnswersTo from (Some (inspect files)) (Err r) ⊎ (r ≡ too_long (codes "run"))
+
+-- What `why` refuses of two files, `replay` refuses so, and the other way round.
+abbrev pub WhyRefuses : Type 0
+WhyRefuses =
+    (from : Origin) (files : Recorded) (r : Refused)
+    → (AnswersTo from (Some (whys files)) (Err r) → AnswersTo from (Some (replays files)) (Err r))
+    × (AnswersTo from (Some (replays files)) (Err r) → AnswersTo from (Some (whys files)) (Err r))

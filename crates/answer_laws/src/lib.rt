@@ -1,5 +1,5 @@
-//! What is proved of the program's answers: there is one, no args are refused on the way to it, and `inspect` refuses
-//! what `replay` does.
+//! What is proved of the program's answers: there is one, no args are refused on the way to it, and `inspect` and `why`
+//! refuse what `replay` does.
 //!
 //! Take a session with one touch screen, and a recording in which a finger comes, is marked as a palm and goes. Its
 //! device gives

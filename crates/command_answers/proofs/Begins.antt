@@ -16,7 +16,8 @@ use Rattle.session_plan.specs.Plan.{PlanData}
 use Rattle.session_plan.specs.View.{channel_view, device_view, plan_view}
 use Rattle.schedule.specs.declared.plan.Plan.{Plan as RunPlan}
 use Rattle.schedule.specs.Planned.{plan_of, channel_of as run_channel, step_of as run_step}
-use Rattle.schedule.specs.State.{ScheduleState, Ran}
+use Rattle.schedule.specs.declared.keeping.Lines.{Lines}
+use Rattle.schedule.specs.State.{ScheduleState, RanWith}
 use Rattle.command_files.specs.declared.refusal.Refusal.{Refusal}
 use Rattle.command_files.specs.declared.refusal.Refusal.TheVariants.{Session as SessionOf, Recording, Order, Stream, ReadFailed, NoMemory, TooLong}
 use Rattle.command_files.specs.Cooked.{plans_of}
@@ -24,45 +25,45 @@ use Rattle.command_files.specs.Devices.{devices_of}
 use Rattle.replay_actors.specs.Session.{channel_of, step_of}
 use Rattle.command_files.specs.Planned.{script_of}
 use Rattle.command_files.specs.Judged.{Answer, Behind}
-use Rattle.command_answers.specs.Replay.{RunAnswers}
+use Rattle.command_answers.specs.declared.running.Telling.{Telling}
+use Rattle.command_answers.specs.Running.{Comes, RunTells, lines_of}
 use Rattle.command_files.specs.Inputs.{lines_judged}
 use Rattle.command_files.specs.Refusing.{RefusesSo}
 use Rattle.command_files.specs.Recorded.{HasEnded, HasRead, RefusesEvents}
 use Rattle.command_files.specs.RefusalView.{refusal_view}
-use Rattle.command_answers.specs.Replay.{Replays}
 
 pub same_script : (session : Session) (run : RunPlan) → run.displays ≡ device_displays (map device_view session.devices.items)
     → map run_channel run.channels.items ≡ map channel_of (map channel_view session.channels.items)
     → map run_step run.steps.items ≡ map step_of session.steps.items → run.until ≡ session.end → plan_of run ≡ script_of (plan_view session)
 same_script session run d c s u = rw (d, c, s, u) refl
 
-pub fresh : (p : PlanData) (run : RunPlan) (reader : Reader) (readers : ReadersState) (schedule : ScheduleState) (devices : Known)
+pub fresh : (how : Lines) (p : PlanData) (run : RunPlan) (reader : Reader) (readers : ReadersState) (schedule : ScheduleState) (devices : Known)
     → devices ≡ devices_of p → reader ≡ record { devices = devices; place = Ok (1, []) } → ReadersStandFor (plans_of p) [] readers → plan_of run ≡ script_of p
-    → Ran (plan_of run) [] schedule → HasRead p [] (record { reader = reader; readers = readers; schedule = schedule })
+    → RanWith how (plan_of run) [] schedule → HasRead how p [] (record { reader = reader; readers = readers; schedule = schedule })
 unfolding recorded
-fresh p run reader readers schedule devices d n stand is ran =
+fresh how p run reader readers schedule devices d n stand is ran =
     record {
       past = [];
       read = λ rest. rw (n, d) (nothing_in_front _);
       begun = rw n refl;
       readers = stand;
-      ran = subst (λ (r : Plan). Ran r [] schedule) is ran;
+      ran = subst (λ (r : Plan). RanWith how r [] schedule) is ran;
     }
 
 -- what the events of all lines come to is what the recording comes to
-pub judged : (p : PlanData) (bytes : List ℕ) (s : ScheduleState) (a : Answer) (ended : HasEnded p bytes s) → Replays p ended.past a
-    → Behind (RunAnswers p) (lines_judged (recorded (devices_of p) bytes)) a
-judged p bytes s a ended r =
-    subst (λ (x : Result (List RawEvent) LineError). Behind (RunAnswers p) (lines_judged x) a) (sym ended.read)
-    (subst (λ (xs : List RawEvent). Replays p xs a) (sym (reverse-reverse ended.past)) r)
+pub judged : (what : Telling) (p : PlanData) (bytes : List ℕ) (s : ScheduleState) (a : Answer) (ended : HasEnded (lines_of what) p bytes s)
+    → Comes what p ended.past a → Behind (RunTells what p) (lines_judged (recorded (devices_of p) bytes)) a
+judged what p bytes s a ended r =
+    subst (λ (x : Result (List RawEvent) LineError). Behind (RunTells what p) (lines_judged x) a) (sym ended.read)
+    (subst (λ (xs : List RawEvent). Comes what p xs a) (sym (reverse-reverse ended.past)) r)
 
-pub refuses_events : (p : PlanData) (bytes : List ℕ) (r : Refusal) → RefusesEvents p bytes r
-    → RefusesSo (λ x. Behind (RunAnswers p) (lines_judged (recorded (devices_of p) bytes)) (Err x)) r
-refuses_events p bytes (SessionOf e) h = absurd h
-refuses_events p bytes (Recording e) h =
-    subst (λ (x : Result (List RawEvent) LineError). Behind (RunAnswers p) (lines_judged x) (Err (refusal_view (Recording e)))) (sym h) refl
-refuses_events p bytes (Order e) h = absurd h
-refuses_events p bytes (Stream e) h = absurd h
-refuses_events p bytes ReadFailed h = absurd h
-refuses_events p bytes NoMemory h = tt
-refuses_events p bytes (TooLong what) h = absurd h
+pub refuses_events : (what : Telling) (p : PlanData) (bytes : List ℕ) (r : Refusal) → RefusesEvents p bytes r
+    → RefusesSo (λ x. Behind (RunTells what p) (lines_judged (recorded (devices_of p) bytes)) (Err x)) r
+refuses_events what p bytes (SessionOf e) h = absurd h
+refuses_events what p bytes (Recording e) h =
+    subst (λ (x : Result (List RawEvent) LineError). Behind (RunTells what p) (lines_judged x) (Err (refusal_view (Recording e)))) (sym h) refl
+refuses_events what p bytes (Order e) h = absurd h
+refuses_events what p bytes (Stream e) h = absurd h
+refuses_events what p bytes ReadFailed h = absurd h
+refuses_events what p bytes NoMemory h = tt
+refuses_events what p bytes (TooLong subject) h = absurd h

@@ -2,7 +2,7 @@
 use Rattle.std.proofs.Common.{◌≡◌, ℕ, List, Result, Ok, Err, reverse, ap, sym, subst, refl}
 use Rattle.raw_events.specs.declared.event.RawEvent.{RawEvent}
 use Rattle.raw_events.specs.declared.event.LineError.{LineError}
-use Rattle.raw_events.specs.Recording.{lines_of, recorded}
+use Rattle.raw_events.specs.Recording.{lines_of}
 use Rattle.session_plan.specs.Plan.{PlanData}
 use Rattle.inspect_text.specs.Inspected.{inspected}
 use Rattle.recording_tally.specs.Counted.{IsCounted, TallyState}
@@ -13,10 +13,9 @@ use Rattle.command_files.specs.Devices.{devices_of}
 use Rattle.command_files.specs.Inputs.{lined_file, lines_judged}
 use Rattle.command_files.specs.Judged.{Answer, Behind, beside}
 use Rattle.command_files.specs.Recorded.{RefusesEvents}
-use Rattle.command_files.specs.Refused.{Refused}
 use Rattle.command_files.specs.RefusalView.{refusal_view}
 use Rattle.command_files.specs.Refusing.{RefusesSo}
-use Rattle.command_answers.specs.Inspect.{InspectAnswers, looked_at}
+use Rattle.command_answers.specs.Inspect.{InspectAnswers}
 
 -- the answer by what the lines of a recording say
 abbrev Answered : PlanData × List ℕ → List ℕ → Result (List RawEvent) LineError → Answer → Type 0

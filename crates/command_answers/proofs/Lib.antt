@@ -1,6 +1,7 @@
 pub mod Answering
 pub mod Begins
 pub mod Bounds
+pub mod Coming
 pub mod Counts
 pub mod EndLines
 pub mod Examples
@@ -9,6 +10,7 @@ pub mod NextSection
 pub mod Orders
 pub mod Overruns
 pub mod RaceTexts
+pub mod Streams
 pub mod Ties
 pub mod Told
 pub mod WholeRun

@@ -12,13 +12,19 @@ use Rattle.dispatch_history.specs.History.{History}
 use Rattle.dispatch_core.specs.Machine.{called, steps}
 use Rattle.dispatch_core.specs.Recorded.{IsSound, history_of}
 use Rattle.dispatch_history.specs.Given.{opens}
-use Rattle.dispatch_history.specs.Plan.{Plan}
+use Rattle.dispatch_history.specs.Plan.{Cooked as PlanArgs, Plan, ScriptStep}
+use Rattle.input_service.specs.Services.{IsOf}
 use Rattle.dispatch_history.specs.Settled.{Settled}
 use Rattle.given_run.specs.declared.cooked.Cooked.{Cooked as GivenArgs}
 use Rattle.given_run.specs.Planned.{cooked_of}
 use Rattle.replay_actors.specs.Lanes.{Own, calls_made}
+use Rattle.replay_actors.specs.Opening.{IsCaller}
+use Rattle.replay_actors.specs.Raced.{OnlyOpens}
 use Rattle.replay_actors.specs.Race.{IsRace, ScriptsMade, SeatsDiffer, has_seat}
 use Rattle.turnstile.specs.History.{Entry as Called}
+use Rattle.turnstile.specs.Seats.{view}
+use Rattle.lane_runner.specs.Starts.{MayRun}
+use Rattle.lane_runner.specs.declared.runner.Start.{Start}
 use Rattle.replay_actors.proofs.Orders.{seat_lane, history_same}
 use Rattle.replay_actors.proofs.Spelled.{order_law}
 use Rattle.replay_actors.specs.Counting.{ticks, moves, idles}
@@ -36,6 +42,8 @@ use Rattle.replay_actors.specs.declared.part.RaceEnd.{RaceEnd}
 use Rattle.replay_actors.specs.Plans.{scripted}
 use Rattle.replay_actors.specs.Session.{channel_of}
 use Rattle.session_plan.specs.Plan.{PlanData}
+use Rattle.session_plan.specs.View.{channel_view}
+use Rattle.session_plan.specs.declared.plan.ChannelPlan.{ChannelPlan}
 use Rattle.raw_events.specs.declared.event.RawEvent.{RawEvent}
 use Rattle.stream_text.specs.OrderHistory.{lane_from, order_of_history}
 use Rattle.command_files.specs.Planned.{names_of, run_of}
@@ -136,11 +144,34 @@ race_written p past end ends again =
           (subst (λ f. EndsSettling f (length plan.channels) (steps (called end.core.entries))) (fun_ext ends.finishing_are) ends.ends));
     }
 
--- what holds of an answer by four facts
-pub if_ok_four : {A E : Type 0} (r : Result A E) (P Q R S T : A → Type 0)
-    → ((x : A) → P x → Q x → R x → S x → T x) → IfOk r P → IfOk r Q → IfOk r R → IfOk r S → IfOk r T
-if_ok_four (Ok x) P Q R S T f p q s t = f x p q s t
-if_ok_four (Err x) P Q R S T f p q s t = q
+-- what was answered for a start that may be is what is answered for some start
+pub ended_by : {A E S : Type 0} (r : Result A E) (s : S) (May : S → Type 0) (Post : S → Result A E → Type 0) → Post s r → May s
+    → IfOk r (λ x. (t : S) × May t × Post t (Ok x))
+ended_by (Ok x) s May Post post may = (s, may, post)
+ended_by (Err e) s May Post post may = tt
+
+-- what holds of each end that is answered for a start
+pub if_left : {A E S : Type 0} (r : Result A E) (s : S) (Post : S → Result A E → Type 0) (P : A → Type 0) → Post s r
+    → ((x : A) → Post s (Ok x) → P x) → IfOk r P
+if_left (Ok x) s Post P post f = f x post
+if_left (Err e) s Post P post f = tt
+
+-- the lanes of a plan may start once its channels are opened
+pub may_run : (s : Start) (channels : List ChannelPlan) (steps : List ScriptStep) (cooked : List PlanArgs)
+    → DoPlan (map channel_of (map channel_view channels)) steps cooked s.lanes → length channels ≤ 64 → IsOf s.service s.seat → IsCaller (view s.seat)
+    → OnlyOpens (view s.seat).mine.own → length (view s.seat).mine.own ≡ length channels → MayRun s
+may_run s channels steps cooked does few of caller only each =
+    let many : s.lanes.channels ≡ length channels =
+    does.channels_are ∙ length-map (map channel_view channels) channel_of ∙ length-map channels channel_view in
+    record {
+      channels = omega (arith, many, few);
+      scripts = omega (arith, does.few);
+      of_service = of;
+      number = caller.number;
+      made = caller.made;
+      opens = only;
+      opened = each ∙ sym many;
+    }
 
 -- the last calls of a race settle it
 ends_settling : (displays : List ℕ) (finishing : ℕ → Bool) (channels : ℕ) (own : List Own) (cooked : List (ℕ × Args)) (scripts : List (List Call))

@@ -2,7 +2,7 @@
 use Rattle.std.proofs.Common.{List, Option, None, Some}
 use Rattle.io_trace.specs.Trace.{Reading}
 use Rattle.outside_io.specs.Outside.{Entry}
-use Rattle.command_words.specs.Command.{Command, replay, race, check, verify, work, batch, hover, emit, judge, compare, inspect}
+use Rattle.command_words.specs.Command.{Command, replay, race, check, verify, work, batch, hover, emit, judge, compare, inspect, why}
 use Rattle.command_files.specs.Devices.{devices_of}
 use Rattle.command_files.specs.Inputs.{events_file, got_file, keyed_file, lined_file, order_file, session_file, stream_file, want_file}
 use Rattle.command_files.specs.Judged.{Answer, Ends, IfTold, by_log, by_name}
@@ -20,6 +20,7 @@ use Rattle.command_answers.specs.Program.{Answers, AnswersTo}
 use Rattle.command_answers.specs.Race.{RaceAnswers, ThreadsAnswer}
 use Rattle.command_answers.specs.Replay.{RecordingAnswers, RunAnswers}
 use Rattle.command_answers.specs.Verify.{StreamAnswers}
+use Rattle.command_answers.specs.Why.{CausesAnswer, WhyAnswers}
 
 pub command_told : (entries : List Entry) (command : Option Command) (rs : List Reading) (a : Answer) → AllAgree entries rs → AnswersTo (by_log rs) command a
     → AnswersTo (by_name entries) command a
@@ -52,6 +53,9 @@ command_told entries (Some (compare want got us pixels)) rs a agree h =
 command_told entries (Some (inspect files)) rs a agree h =
     reads_told entries files.session keyed_file (CountsAnswer files.events) rs a agree
     (λ ys more session. reads_told entries files.events (lined_file (devices_of session.0)) (λ rest given. Ends (InspectAnswers session given) rest) ys a more (λ zs all given k. (k.0, tt))) h
+command_told entries (Some (why files)) rs a agree h =
+    reads_told entries files.session session_file (CausesAnswer files.events) rs a agree
+    (λ ys more plan. reads_told entries files.events (events_file (devices_of plan)) (λ rest given. Ends (WhyAnswers plan given) rest) ys a more (λ zs all given k. (k.0, tt))) h
 
 -- the answer to a command, where the files are told
 pub answers_told : (told : Option (List Entry)) (before now : List Reading) (command : Command) (a : Answer) → Answers told before now command a

@@ -13,7 +13,9 @@ pub mod Program
 pub mod Race
 pub mod RaceEnds
 pub mod Replay
+pub mod Running
 pub mod Sides
 pub mod Verify
 pub mod Whole
+pub mod Why
 pub mod Work

@@ -2,7 +2,7 @@
 use Rattle.std.specs.Prelude.{codes, ◌≡◌, List, [], ◌∷◌, Option, Some, None, Err, ℕ, ⊤}
 use Rattle.io_trace.specs.Trace.{Reading}
 use Rattle.outside_io.specs.Outside.{Entry}
-use Rattle.command_words.specs.Command.{Command, replay, race, check, verify, work, batch, hover, emit, judge, compare, inspect}
+use Rattle.command_words.specs.Command.{Command, replay, race, check, verify, work, batch, hover, emit, judge, compare, inspect, why}
 use Rattle.command_words.specs.Forms.{form_of}
 use Rattle.command_files.specs.declared.refusal.Refusal.{Refusal}
 use Rattle.command_files.specs.Inputs.{keyed_file, order_limit, recording_limit, session_file, session_limit, stream_file, stream_limit, want_file}
@@ -19,11 +19,12 @@ use Rattle.command_answers.specs.Judge.{JudgeAnswers}
 use Rattle.command_answers.specs.Race.{ThreadsAnswer}
 use Rattle.command_answers.specs.Replay.{RecordingAnswers}
 use Rattle.command_answers.specs.Verify.{StreamAnswers}
+use Rattle.command_answers.specs.Why.{CausesAnswer}
 use Rattle.command_answers.specs.Work.{Works}
 
 -- the words are of no command
 abbrev pub usage : Refused
-usage = refused 2 (codes "usage: inputflinger replay|race|check|verify|work|batch|hover|emit|inspect|judge|compare")
+usage = refused 2 (codes "usage: inputflinger replay|race|check|verify|work|batch|hover|emit|inspect|why|judge|compare")
 
 -- a command that starts no threads, or none
 abbrev pub IsAlone : Option Command → Type 0
@@ -45,6 +46,7 @@ AnswersTo from (Some (emit stream channel device)) a =
 AnswersTo from (Some (judge stream)) a = Reads from stream stream_file (λ rest bytes. Ends (JudgeAnswers bytes) rest) a
 AnswersTo from (Some (compare want got us pixels)) a = Reads from want want_file (GotAnswers got us pixels) a
 AnswersTo from (Some (inspect files)) a = Reads from files.session keyed_file (CountsAnswer files.events) a
+AnswersTo from (Some (why files)) a = Reads from files.session session_file (CausesAnswer files.events) a
 
 -- what the program answers: the text that it writes or why it refuses, from the words and the files
 abbrev pub IsAnswer : Origin → List (List ℕ) → Answer → Type 0
@@ -63,6 +65,7 @@ files_of (emit stream channel device) = (stream, stream_limit) ∷ []
 files_of (judge stream) = (stream, stream_limit) ∷ []
 files_of (compare want got us pixels) = (want, stream_limit) ∷ (got, stream_limit) ∷ []
 files_of (inspect files) = (files.session, session_limit) ∷ (files.events, recording_limit) ∷ []
+files_of (why files) = (files.session, session_limit) ∷ (files.events, recording_limit) ∷ []
 
 -- files of a command were read so far as this is its answer by what they gave
 abbrev pub Answers : Option (List Entry) → List Reading → List Reading → Command → Answer → Type 0

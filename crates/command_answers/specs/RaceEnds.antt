@@ -1,5 +1,6 @@
 -- A race of a plan, as its functions see it.
 use Rattle.std.specs.Prelude.{◌≡◌, ℕ, List, length, map}
+use Rattle.stream_text.specs.OrderHistory.{order_of_history}
 use Rattle.window_snapshot.specs.Mask.{mask_has}
 use Rattle.dispatch_core.specs.Machine.{called, steps}
 use Rattle.dispatch_core.specs.Recorded.{IsSound}
@@ -11,6 +12,7 @@ use Rattle.replay_actors.specs.Orders.{AreLanes}
 use Rattle.replay_actors.specs.declared.part.Lanes.{Lanes}
 use Rattle.replay_actors.specs.declared.part.RaceEnd.{RaceEnd}
 use Rattle.replay_actors.specs.Plans.{scripted}
+use Rattle.replay_actors.specs.Texts.{ReadsAgain, race_output}
 use Rattle.session_plan.specs.View.{channel_view}
 use Rattle.session_plan.specs.declared.plan.ChannelPlan.{ChannelPlan}
 use Rattle.session_plan.specs.declared.plan.Step.{Step}
@@ -49,3 +51,12 @@ pub record EndsRace (plan : Plan) (end : RaceEnd) : Type 0 where
   pub sound : IsSound end.core
   pub race : RaceOf plan (mask_has mask) end.script_seats.items end.core.entries
   pub ends : EndsSettling (mask_has mask) (length plan.channels) (steps (called end.core.entries))
+
+-- A text is what the end of a race prints, where the end is one of these: the order of its calls, which is read again as this order, and
+-- then the streams of channels with some names.
+pub record PrintsEnd (left : RaceEnd → Type 0) (text : List ℕ) : Type 0 where
+  pub end : RaceEnd
+  pub was_left : left end
+  pub names : List (List ℕ)
+  pub text_is : text ≡ race_output names end.script_seats.items end.core
+  pub again : ReadsAgain (order_of_history end.script_seats.items end.core.entries)

@@ -11,9 +11,9 @@
 //! end 1 sent 2 received 2 finished 2
 //! ```
 //!
-//! `inspect` tells how many lines, events and fingers the recording has. Given this text, `verify` says
-//! `well formed 1 2`, `judge` says `channel 1 whole 2` and `judged 1 2`, and `compare` of it with itself says
-//! `same 1 2`.
+//! `inspect` tells how many lines, events and fingers the recording has, and `why` of each finger which window it
+//! went to and by which rule. Given this text, `verify` says `well formed 1 2`, `judge` says `channel 1 whole 2` and
+//! `judged 1 2`, and `compare` of it with itself says `same 1 2`.
 #![tactic(auto)]
 
 mod batch;
@@ -27,8 +27,10 @@ mod judge;
 mod plan;
 mod race;
 mod replay;
+mod running;
 mod texts;
 mod verify;
+mod why;
 mod work;
 
 pub use batch::answer_batch;
@@ -41,4 +43,5 @@ pub use judge::answer_judge;
 pub use race::answer_race;
 pub use replay::answer_replay;
 pub use verify::answer_verify;
+pub use why::answer_why;
 pub use work::answer_work;

@@ -5,6 +5,7 @@ ghost use Rattle.command_words.specs.CommandView.{recorded_view};
 ghost use Rattle.raw_events.specs.declared.event.RawEvent.{RawEvent as Event};
 ghost use Rattle.window_snapshot.specs.Mask.{mask_has};
 ghost use Rattle.given_run.specs.Planned.{cooked_of};
+ghost use Rattle.lane_runner.specs.Starts.{EndBy, RunsRaces};
 ghost use Rattle.session_plan.specs.Valid.{IsPlan};
 ghost use Rattle.session_plan.specs.View.{channel_view, plan_view};
 ghost use Rattle.replay_actors.specs.Session.{channel_of, step_of};
@@ -12,7 +13,7 @@ ghost use Rattle.command_files.specs.Inputs.{IsAccepted};
 ghost use Rattle.command_files.specs.Planned.{given};
 ghost use Rattle.command_answers.specs.Program.{Answers, RefusesCommand};
 ghost use Rattle.command_answers.specs.Race.{RaceAnswers, Races, finishes_from};
-ghost use Rattle.command_answers.specs.RaceEnds.{DoPlan, EndsRace, raced_plan};
+ghost use Rattle.command_answers.specs.RaceEnds.{DoPlan, EndsRace, PrintsEnd, raced_plan};
 ghost use Rattle.command_files.specs.Refusing.{RefusesSo};
 
 use crate::given::{GIVEN_LIMIT, cook_events};
@@ -22,13 +23,13 @@ use dispatch_core::Core;
 use given_run::Cooked;
 use input_service::Service;
 use input_types::{Args, Displays, Moment};
+use lane_runner::Start;
 use outside_io::Files;
 use raw_events::RawEvent;
-use replay_actors::{Gate, Lanes, RaceEnd, open_channels, race_text, run_lanes, scripts_of};
+use replay_actors::{Lanes, RaceEnd, open_channels, race_text, scripts_of};
 use session_plan::{ChannelPlan, Plan as Session, Step};
 use std::alloc::{AllocError, Global};
 use std::sync::Wait;
-use std::thread::Threads;
 use text_pieces::Pieces;
 use window_snapshot::mask_with;
 
@@ -81,17 +82,19 @@ fn lanes_of(
     })
 }
 
-/// Runs the threads of a race over a core of its own.
-fn raced<R: Threads + Wait + Sync, G: Gate + Sync>(
+/// Runs the lanes of a race over a core of its own.
+fn raced<R: Wait, K: Fn(Start) -> Result<RaceEnd, AllocError>>(
     rt: &R,
     alloc: Global,
     displays: &Displays,
     channels: &[ChannelPlan],
     steps: Vec<Step>,
     all: Vec<Cooked>,
-    gate: &G,
+    runner: &K,
 ) -> Result<RaceEnd, AllocError>
-    requires { length channels.now ≤ 64 }
+    requires few { length channels.now ≤ 64 }
+    requires runs { RunsRaces (K.pre runner.now) (λ s end. K.post runner.now s (Ok end)) }
+    ensures left { IfOk result (EndBy (λ s end. K.post runner.now s (Ok end))) }
     ensures seats { IfOk result (λ end. length end.script_seats.items ≡ 8) }
     ensures race { (until : ℕ)
         → IfOk result (EndsRace (raced_plan displays.now channels.now steps.items all.items until)) }
@@ -100,18 +103,24 @@ fn raced<R: Threads + Wait + Sync, G: Gate + Sync>(
     let (service, mut seat) = Service::new(alloc, core)?;
     open_channels(rt, &service, &mut seat, channels)?;
     let lanes = lanes_of(alloc, channels, steps, all)?;
-    run_lanes(rt, alloc, service, seat, lanes, gate)
+    runner(Start {
+        service,
+        seat,
+        lanes,
+    })
 }
 
 /// Runs a race, and makes the text of its order and of what it comes to.
-fn race_run<R: Threads + Wait + Sync, G: Gate + Sync>(
+fn race_run<R: Wait, K: Fn(Start) -> Result<RaceEnd, AllocError>>(
     rt: &R,
     alloc: Global,
     session: Session,
     all: Vec<Cooked>,
-    gate: &G,
+    runner: &K,
 ) -> Result<Pieces, Refusal>
-    requires { IsPlan session }
+    requires plan { IsPlan session }
+    requires runs { RunsRaces (K.pre runner.now) (λ s end. K.post runner.now s (Ok end)) }
+    ensures left { IfOk result (PrintsEnd (EndBy (λ s end. K.post runner.now s (Ok end)))) }
     ensures ok { (past : List Event) → map cooked_of all.items ≡ given (plan_view session) past
         → IfOk result (λ text. Races (plan_view session) past (Ok text)) }
     ensures err { (past : List Event) → map cooked_of all.items ≡ given (plan_view session) past
@@ -126,42 +135,46 @@ fn race_run<R: Threads + Wait + Sync, G: Gate + Sync>(
         steps,
         ..
     } = session;
-    let end = raced(rt, alloc, &displays, &channels, steps, all, gate)?;
+    let end = raced(rt, alloc, &displays, &channels, steps, all, runner)?;
     let mut text = Vec::new(alloc);
     race_text(&channels, &end, &mut text)?;
     Ok(Pieces::of(alloc, text))
 }
 
 /// The text of a race of a session and the events of a recording, or why there is none.
-fn race_of<R: Threads + Wait + Sync, G: Gate + Sync>(
+fn race_of<R: Wait, K: Fn(Start) -> Result<RaceEnd, AllocError>>(
     rt: &R,
     alloc: Global,
     session: Session,
     events: &[RawEvent],
-    gate: &G,
+    runner: &K,
 ) -> Result<Pieces, Refusal>
-    requires { IsPlan session }
+    requires plan { IsPlan session }
+    requires runs { RunsRaces (K.pre runner.now) (λ s end. K.post runner.now s (Ok end)) }
+    ensures left { IfOk result (PrintsEnd (EndBy (λ s end. K.post runner.now s (Ok end)))) }
     ensures ok { IfOk result (λ text. RaceAnswers (plan_view session) events.now (Ok text)) }
     ensures err { IfErr result (RefusesSo (λ r. RaceAnswers (plan_view session) events.now (Err r))) }
 {
     let mut readers = readers_of(alloc, &session)?;
     let all = cook_events(alloc, events, &mut readers)?;
-    race_run(rt, alloc, session, all, gate)
+    race_run(rt, alloc, session, all, runner)
 }
 
-/// Reads and judges both files of `race`, runs it, and makes the text.
-pub fn answer_race<R: Threads + Wait + Sync, F: Files, G: Gate + Sync>(
+/// Reads and judges both files of `race`, has its lanes run, and makes the text of what they left behind.
+pub fn answer_race<R: Wait, F: Files, K: Fn(Start) -> Result<RaceEnd, AllocError>>(
     rt: &R,
     alloc: Global,
     files: &mut F,
     names: Recorded<'_>,
-    gate: &G,
+    runner: &K,
 ) -> Result<Pieces, Refusal>
     requires session { IsTrue (F.lends files.old names.session.now) }
     requires events { IsAccepted (F.entries files.old) names.session.now → IsTrue (F.lends files.old names.events.now) }
     requires free { F.lent files.old ≡ None }
+    requires runs { RunsRaces (K.pre runner.now) (λ s end. K.post runner.now s (Ok end)) }
     ensures ok { IfOk result (λ text. Answers (F.entries files.old) (F.readings files.old) (F.readings files.new)
         (race (recorded_view names.entry)) (Ok text)) }
+    ensures left { IfOk result (PrintsEnd (EndBy (λ s end. K.post runner.now s (Ok end)))) }
     ensures err { IfErr result (RefusesCommand (F.entries files.old) (F.readings files.old) (F.readings files.new)
         (race (recorded_view names.entry)) (F.faults files.old) (F.faults files.new)) }
     ensures later { F.faults files.old ≤ F.faults files.new }
@@ -172,5 +185,5 @@ pub fn answer_race<R: Threads + Wait + Sync, F: Files, G: Gate + Sync>(
     let session = read_session(alloc, files, names.session)?;
     let devices = numbered_devices(alloc, &session)?;
     let events = read_events(alloc, files, &devices, names.events)?;
-    race_of(rt, alloc, session, &events, gate)
+    race_of(rt, alloc, session, &events, runner)
 }

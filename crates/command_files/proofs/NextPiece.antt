@@ -15,7 +15,8 @@ use Rattle.device_reader.specs.CookedList.{ReadersStandFor}
 use Rattle.session_plan.specs.Plan.{PlanData}
 use Rattle.schedule.specs.declared.plan.Plan.{Plan as RunPlan}
 use Rattle.schedule.specs.Planned.{plan_of}
-use Rattle.schedule.specs.State.{ScheduleState, Ran, Completed}
+use Rattle.schedule.specs.declared.keeping.Lines.{Lines}
+use Rattle.schedule.specs.State.{ScheduleState, RanWith, CompletedWith}
 use Rattle.command_files.specs.Cooked.{plans_of}
 use Rattle.command_files.specs.Devices.{devices_of}
 use Rattle.command_files.specs.Planned.{given, script_of}
@@ -79,12 +80,13 @@ newer past events cooked_ones same =
 pub piece_fed : (run : RunPlan) (old : RecordingState) (reader : Reader) (readers : ReadersState) (schedule : ScheduleState) (piece : List ℕ)
     (events cooked_ones : List RawEvent) (r : Result (Unit {0}) AllocError)
     → Does (Ok tt) (fed old.reader piece) old.reader reader [] events → cooked_ones ≡ events
-    → ((p : PlanData) (past : List RawEvent) → plan_of run ≡ script_of p → ReadersStandFor (plans_of p) past old.readers → Ran (script_of p) (given p past) old.schedule
-    → OnOk r (ReadersStandFor (plans_of p) (reverse cooked_ones ++ past) readers × Ran (script_of p) (given p (reverse cooked_ones ++ past)) schedule))
+    → ((how : Lines) (p : PlanData) (past : List RawEvent) → plan_of run ≡ script_of p → ReadersStandFor (plans_of p) past old.readers
+    → RanWith how (script_of p) (given p past) old.schedule
+    → OnOk r (ReadersStandFor (plans_of p) (reverse cooked_ones ++ past) readers × RanWith how (script_of p) (given p (reverse cooked_ones ++ past)) schedule))
     → OnOk r (Feeds run old (record { reader = reader; readers = readers; schedule = schedule }) piece)
 piece_fed run old reader readers schedule piece events cooked_ones (Err e) does same cooks = tt
-piece_fed run old reader readers schedule piece events cooked_ones (Ok x) does same cooks = λ p bytes is taken.
-    let done = cooks p taken.past is taken.readers taken.ran
+piece_fed run old reader readers schedule piece events cooked_ones (Ok x) does same cooks = λ how p bytes is taken.
+    let done = cooks how p taken.past is taken.readers taken.ran
     in record {
       past = reverse cooked_ones ++ taken.past;
       read = subst (λ (xs : List RawEvent). GoesOn (devices_of p) xs reader (bytes ++ piece)) (sym (newer taken.past events cooked_ones same))
@@ -98,7 +100,7 @@ piece_fed run old reader readers schedule piece events cooked_ones (Ok x) does s
 pub refused_piece : (run : RunPlan) (old : RecordingState) (reader : Reader) (piece : List ℕ) (error : LineError)
     → Err error ≡ answered (fed old.reader piece).place → reader ≡ record { devices = old.reader.devices; place = (fed old.reader piece).place }
     → Feeds run old (record { reader = reader; readers = old.readers; schedule = old.schedule }) piece
-refused_piece run old reader piece error a n = λ p bytes is taken.
+refused_piece run old reader piece error a n = λ how p bytes is taken.
     record {
       past = taken.past;
       read = refused_on (devices_of p) old.reader reader (reverse taken.past) bytes piece error a n taken.read;
@@ -116,43 +118,43 @@ refused_feed run old reader piece before events (errors.TooLong n) f d = refused
 refused_feed run old reader piece before events errors.Memory f d = absurd (cc)
 
 -- the end, where a line was refused
-pub refused_end : (p : PlanData) (bytes : List ℕ) (old : RecordingState) (reader : Reader) (before events : List RawEvent) (error : LineError)
-    → is_memory error ≡ false → Does (Err error) (finished old.reader) old.reader reader before events → HasRead p bytes old
+pub refused_end : (how : Lines) (p : PlanData) (bytes : List ℕ) (old : RecordingState) (reader : Reader) (before events : List RawEvent) (error : LineError)
+    → is_memory error ≡ false → Does (Err error) (finished old.reader) old.reader reader before events → HasRead how p bytes old
     → recorded (devices_of p) bytes ≡ Err error
-refused_end p bytes old reader before events (errors.BadLine n) f d taken =
+refused_end how p bytes old reader before events (errors.BadLine n) f d taken =
     end_refused old.reader reader (reverse taken.past) (reverse taken.past ++ (finished old.reader).events) (recorded (devices_of p) bytes) (errors.BadLine n)
     (is_begun old.reader.place taken.begun) (d.0, d.1, refl) (whole (devices_of p) old.reader (reverse taken.past) bytes taken.read)
-refused_end p bytes old reader before events (errors.NoMoment n) f d taken =
+refused_end how p bytes old reader before events (errors.NoMoment n) f d taken =
     end_refused old.reader reader (reverse taken.past) (reverse taken.past ++ (finished old.reader).events) (recorded (devices_of p) bytes) (errors.NoMoment n)
     (is_begun old.reader.place taken.begun) (d.0, d.1, refl) (whole (devices_of p) old.reader (reverse taken.past) bytes taken.read)
-refused_end p bytes old reader before events (errors.TooLong n) f d taken =
+refused_end how p bytes old reader before events (errors.TooLong n) f d taken =
     end_refused old.reader reader (reverse taken.past) (reverse taken.past ++ (finished old.reader).events) (recorded (devices_of p) bytes) (errors.TooLong n)
     (is_begun old.reader.place taken.begun) (d.0, d.1, refl) (whole (devices_of p) old.reader (reverse taken.past) bytes taken.read)
-refused_end p bytes old reader before events errors.Memory f d taken = absurd (cc)
+refused_end how p bytes old reader before events errors.Memory f d taken = absurd (cc)
 
 abbrev ok_of : List RawEvent → Result (List RawEvent) LineError
 ok_of xs = Ok xs
 
 -- the end, where a line was refused or memory ran out
-pub end_refuses : (p : PlanData) (bytes : List ℕ) (old : RecordingState) (reader : Reader) (before events : List RawEvent) (error : LineError)
-    → Does (Err error) (finished old.reader) old.reader reader before events → HasRead p bytes old → RefusesEvents p bytes (refusal_of error)
-end_refuses p bytes old reader before events (errors.BadLine n) d taken = refused_end p bytes old reader before events (errors.BadLine n) refl d taken
-end_refuses p bytes old reader before events (errors.NoMoment n) d taken = refused_end p bytes old reader before events (errors.NoMoment n) refl d taken
-end_refuses p bytes old reader before events (errors.TooLong n) d taken = refused_end p bytes old reader before events (errors.TooLong n) refl d taken
-end_refuses p bytes old reader before events errors.Memory d taken = tt
+pub end_refuses : (how : Lines) (p : PlanData) (bytes : List ℕ) (old : RecordingState) (reader : Reader) (before events : List RawEvent) (error : LineError)
+    → Does (Err error) (finished old.reader) old.reader reader before events → HasRead how p bytes old → RefusesEvents p bytes (refusal_of error)
+end_refuses how p bytes old reader before events (errors.BadLine n) d taken = refused_end how p bytes old reader before events (errors.BadLine n) refl d taken
+end_refuses how p bytes old reader before events (errors.NoMoment n) d taken = refused_end how p bytes old reader before events (errors.NoMoment n) refl d taken
+end_refuses how p bytes old reader before events (errors.TooLong n) d taken = refused_end how p bytes old reader before events (errors.TooLong n) refl d taken
+end_refuses how p bytes old reader before events errors.Memory d taken = tt
 
 -- The end, where no line was refused: the run is that of all events, and done.
-pub ended_run : (run : RunPlan) (p : PlanData) (bytes : List ℕ) (old : RecordingState) (reader : Reader) (events cooked_ones : List RawEvent) (schedule over : ScheduleState)
-    → plan_of run ≡ script_of p → HasRead p bytes old → Does (Ok tt) (finished old.reader) old.reader reader [] events → cooked_ones ≡ events
-    → ((past : List RawEvent) → ReadersStandFor (plans_of p) past old.readers → Ran (script_of p) (given p past) old.schedule
-    → Ran (script_of p) (given p (reverse cooked_ones ++ past)) schedule)
-    → ((before : List Cooked) → Ran (plan_of run) before schedule → Completed (plan_of run) before over) → HasEnded p bytes over
-ended_run run p bytes old reader events cooked_ones schedule over is taken does same cooks completes =
+pub ended_run : (how : Lines) (run : RunPlan) (p : PlanData) (bytes : List ℕ) (old : RecordingState) (reader : Reader) (events cooked_ones : List RawEvent) (schedule over : ScheduleState)
+    → plan_of run ≡ script_of p → HasRead how p bytes old → Does (Ok tt) (finished old.reader) old.reader reader [] events → cooked_ones ≡ events
+    → ((past : List RawEvent) → ReadersStandFor (plans_of p) past old.readers → RanWith how (script_of p) (given p past) old.schedule
+    → RanWith how (script_of p) (given p (reverse cooked_ones ++ past)) schedule)
+    → ((before : List Cooked) → RanWith how (plan_of run) before schedule → CompletedWith how (plan_of run) before over) → HasEnded how p bytes over
+ended_run how run p bytes old reader events cooked_ones schedule over is taken does same cooks completes =
     record {
       past = reverse cooked_ones ++ taken.past;
       read = ended (devices_of p) old.reader reader (reverse taken.past) events bytes taken.begun does taken.read
           ∙ ap (λ (xs : List RawEvent). ok_of xs) (sym (newer taken.past events cooked_ones same));
-      completed = subst (λ (r : Plan). Completed r (given p (reverse cooked_ones ++ taken.past)) over) is
+      completed = subst (λ (r : Plan). CompletedWith how r (given p (reverse cooked_ones ++ taken.past)) over) is
           (completes (given p (reverse cooked_ones ++ taken.past))
-          (subst (λ (r : Plan). Ran r (given p (reverse cooked_ones ++ taken.past)) schedule) (sym is) (cooks taken.past taken.readers taken.ran)));
+          (subst (λ (r : Plan). RanWith how r (given p (reverse cooked_ones ++ taken.past)) schedule) (sym is) (cooks taken.past taken.readers taken.ran)));
     }

@@ -10,7 +10,8 @@ use Rattle.device_reader.specs.CookedList.{ReadersStandFor}
 use Rattle.session_plan.specs.Plan.{PlanData}
 use Rattle.schedule.specs.declared.plan.Plan.{Plan as RunPlan}
 use Rattle.schedule.specs.Planned.{plan_of}
-use Rattle.schedule.specs.State.{ScheduleState, Ran, Completed}
+use Rattle.schedule.specs.declared.keeping.Lines.{Lines}
+use Rattle.schedule.specs.State.{ScheduleState, RanWith, CompletedWith}
 use Rattle.command_files.specs.Cooked.{plans_of}
 use Rattle.command_files.specs.Devices.{devices_of}
 use Rattle.command_files.specs.Planned.{given, script_of}
@@ -29,23 +30,24 @@ HasBegun (Err error) = Unit {0}
 HasBegun (Ok at) = line_len at.1 ≡ length at.1
 
 -- These bytes were read: whatever comes behind them, the reader goes on to what all bytes record, and the run is that of the events so
--- far, which stand with the newest first.
-pub record HasRead (plan : PlanData) (bytes : List ℕ) (s : RecordingState) : Type 0 where
+-- far, which stand with the newest first, with these lines.
+pub record HasRead (how : Lines) (plan : PlanData) (bytes : List ℕ) (s : RecordingState) : Type 0 where
   pub past : List RawEvent
   pub read : (rest : List ℕ) → with_events (reverse past) (still s.reader rest) ≡ recorded (devices_of plan) (bytes ++ rest)
   pub begun : HasBegun s.reader.place
   pub readers : ReadersStandFor (plans_of plan) past s.readers
-  pub ran : Ran (script_of plan) (given plan past) s.schedule
+  pub ran : RanWith how (script_of plan) (given plan past) s.schedule
 
 -- a piece was read besides what was read before
 abbrev pub Feeds : RunPlan → RecordingState → RecordingState → List ℕ → Type 0
-Feeds run old new piece = (plan : PlanData) (bytes : List ℕ) → plan_of run ≡ script_of plan → HasRead plan bytes old → HasRead plan (bytes ++ piece) new
+Feeds run old new piece =
+    (how : Lines) (plan : PlanData) (bytes : List ℕ) → plan_of run ≡ script_of plan → HasRead how plan bytes old → HasRead how plan (bytes ++ piece) new
 
--- these bytes record these events, and the run is done
-pub record HasEnded (plan : PlanData) (bytes : List ℕ) (s : ScheduleState) : Type 0 where
+-- these bytes record these events, and the run is done, with these lines
+pub record HasEnded (how : Lines) (plan : PlanData) (bytes : List ℕ) (s : ScheduleState) : Type 0 where
   pub past : List RawEvent
   pub read : recorded (devices_of plan) bytes ≡ Ok (reverse past)
-  pub completed : Completed (script_of plan) (given plan past) s
+  pub completed : CompletedWith how (script_of plan) (given plan past) s
 
 -- memory ran out
 abbrev pub is_memory : LineError → Bool

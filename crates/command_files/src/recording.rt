@@ -7,7 +7,7 @@ ghost use Rattle.session_plan.specs.Plan.{PlanData};
 ghost use Rattle.device_reader.specs.CookedList.{ReadersStandFor};
 ghost use Rattle.schedule.specs.declared.keeping.Lines.{Lines};
 ghost use Rattle.schedule.specs.Planned.{IsRun, plan_of};
-ghost use Rattle.schedule.specs.State.{Ran, RanWith};
+ghost use Rattle.schedule.specs.State.{RanWith};
 ghost use Rattle.command_files.specs.Cooked.{plans_of};
 ghost use Rattle.command_files.specs.Devices.{devices_of};
 ghost use Rattle.command_files.specs.Planned.{given, script_of};
@@ -132,11 +132,11 @@ fn run_events(
     plan: &Plan,
 ) -> Result<(), AllocError>
     requires { IsRun plan.now }
-    ensures { (p : PlanData) (past : List Event) → plan_of plan.now ≡ script_of p
+    ensures { (how : Lines) (p : PlanData) (past : List Event) → plan_of plan.now ≡ script_of p
         → ReadersStandFor (plans_of p) past readers.old
-        → Ran (script_of p) (given p past) schedule.old → OnOk result
+        → RanWith how (script_of p) (given p past) schedule.old → OnOk result
         (ReadersStandFor (plans_of p) (reverse events.now ++ past) readers.new
-        × Ran (script_of p) (given p (reverse events.now ++ past)) schedule.new) }
+        × RanWith how (script_of p) (given p (reverse events.now ++ past)) schedule.new) }
 {
     for event in events {
         run_event(*event, args, readers, schedule, plan)?;
@@ -161,9 +161,10 @@ impl Recording {
     /// Ends the recording and the run, which is answered. A line that is refused is answered now.
     pub fn end(self, plan: &Plan) -> Result<Schedule, Refusal>
         requires { IsRun plan.now }
-        ensures ok { (p : PlanData) (bytes : List ℕ) → plan_of plan.now ≡ script_of p → HasRead p bytes self
-            → IfOk result (HasEnded p bytes) }
-        ensures err { (p : PlanData) (bytes : List ℕ) → HasRead p bytes self → IfErr result (RefusesEvents p bytes) }
+        ensures ok { (how : Lines) (p : PlanData) (bytes : List ℕ) → plan_of plan.now ≡ script_of p
+            → HasRead how p bytes self → IfOk result (HasEnded how p bytes) }
+        ensures err { (how : Lines) (p : PlanData) (bytes : List ℕ) → HasRead how p bytes self
+            → IfErr result (RefusesEvents p bytes) }
     {
         let mut recording = self;
         recording.events.clear();
@@ -207,8 +208,8 @@ impl Taker for Recording {
         }
     }
 
-    ghost none = { λ _ s p bytes _. none_behind (HasRead p) s bytes };
+    ghost none = { λ _ s how p bytes _. none_behind (HasRead how p) s bytes };
 
-    ghost more = { λ _ s t u front behind f g p bytes is.
-        more_behind (HasRead p) s t u front behind (λ xs. f p xs is) (λ xs. g p xs is) bytes };
+    ghost more = { λ _ s t u front behind f g how p bytes is.
+        more_behind (HasRead how p) s t u front behind (λ xs. f how p xs is) (λ xs. g how p xs is) bytes };
 }

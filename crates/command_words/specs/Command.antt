@@ -7,8 +7,8 @@ pub record Recorded : Type 0 where
   pub session : List ℕ
   pub events : List ℕ
 
--- The commands. `replay`, `race` and `inspect` have the files of a run, `check` has an order file beside them, `verify`, `batch`, `emit` and `judge` have a stream file,
--- `work` has a seed and how many packets, `batch` the length of a frame, `hover` the path of a mouse, `emit` a channel and a device. `compare` has the stream file
+-- The commands. `replay`, `race`, `inspect` and `why` have the files of a run, `check` has an order file beside them, `verify`, `batch`, `emit` and `judge` have
+-- a stream file, `work` has a seed and how many packets, `batch` the length of a frame, `hover` the path of a mouse, `emit` a channel and a device. `compare` has the stream file
 -- that was wanted and the one that came, and how many microseconds and how many pixels may lie between them.
 pub data Command : Type 0 where
   replay : Recorded → Command
@@ -22,6 +22,7 @@ pub data Command : Type 0 where
   judge : List ℕ → Command
   compare : List ℕ → List ℕ → ℕ → ℕ → Command
   inspect : Recorded → Command
+  why : Recorded → Command
 
 -- the numbers of a command are in their ranges, and the path of its mouse is one
 abbrev pub InRanges : Command → Type 0

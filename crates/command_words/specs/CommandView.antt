@@ -3,10 +3,10 @@ use Rattle.std.specs.Prelude.{}
 use Rattle.command_words.specs.declared.command.Command.{Command as Parsed}
 use Rattle.command_words.specs.declared.command.Command.TheVariants.{Race, Alone}
 use Rattle.command_words.specs.declared.command.Alone.{Alone as ParsedAlone}
-use Rattle.command_words.specs.declared.command.Alone.TheVariants.{Replay, Check, Verify, Work, Batch, Hover, Emit, Judge, Compare, Inspect}
+use Rattle.command_words.specs.declared.command.Alone.TheVariants.{Replay, Check, Verify, Work, Batch, Hover, Emit, Judge, Compare, Inspect, Why}
 use Rattle.command_words.specs.declared.command.Recorded.{Recorded as Names}
 use Rattle.command_words.specs.declared.options.Given.{Given as Spelled}
-use Rattle.command_words.specs.Command.{Command, Recorded, replay, race, check, verify, work, batch, hover, emit, judge, compare, inspect}
+use Rattle.command_words.specs.Command.{Command, Recorded, replay, race, check, verify, work, batch, hover, emit, judge, compare, inspect, why}
 use Rattle.command_words.specs.Given.{Given}
 
 -- the names of a run's files, as bytes
@@ -25,6 +25,7 @@ alone_view (Emit stream channel device) = emit stream.now channel device
 alone_view (Judge stream) = judge stream.now
 alone_view (Compare want got us pixels) = compare want.now got.now us pixels
 alone_view (Inspect recorded) = inspect (recorded_view recorded)
+alone_view (Why recorded) = why (recorded_view recorded)
 
 -- a command with its names of files, as bytes
 abbrev pub command_view : Parsed → Command

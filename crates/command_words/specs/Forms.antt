@@ -1,6 +1,6 @@
 -- The forms of the commands.
 use Rattle.std.specs.Prelude.{codes, ℕ, ◌==◌, ◌&&◌, if◌then◌else◌, List, [], ◌∷◌, length, bytes_eq, Option, Some, None, option_map}
-use Rattle.command_words.specs.Command.{Command, Recorded, replay, race, check, verify, work, batch, hover, emit, judge, compare, inspect}
+use Rattle.command_words.specs.Command.{Command, Recorded, replay, race, check, verify, work, batch, hover, emit, judge, compare, inspect, why}
 use Rattle.command_words.specs.Given.{Given}
 use Rattle.command_words.specs.Options.{options_of, values_of}
 use Rattle.command_words.specs.Value.{number, only, path}
@@ -92,6 +92,19 @@ compare_of value = do
 unfoldable pub inspect_of : (List ℕ → Option (List ℕ)) → Option Command
 inspect_of value = option_map inspect (recorded_of value)
 
+-- `why`, with the files of a run
+unfoldable pub why_of : (List ℕ → Option (List ℕ)) → Option Command
+why_of value = option_map why (recorded_of value)
+
+-- the command for a person who looks into files, with a name, from how many options there are and what they say
+unfoldable pub looking_with : List ℕ → ℕ → (List ℕ → Option (List ℕ)) → Option Command
+looking_with name count value =
+    if bytes_eq name (codes "inspect") && count == 2 then inspect_of value
+    else if bytes_eq name (codes "why") && count == 2 then why_of value
+    else if bytes_eq name (codes "judge") && count == 1 then judge_of value
+    else if bytes_eq name (codes "compare") && count == 4 then compare_of value
+    else None
+
 -- the command with a name, from how many options there are, which is how many it has, and what they say
 unfoldable pub command_with : List ℕ → ℕ → (List ℕ → Option (List ℕ)) → Option Command
 command_with name count value =
@@ -103,10 +116,7 @@ command_with name count value =
     else if bytes_eq name (codes "batch") && count == 2 then batch_of value
     else if bytes_eq name (codes "hover") && count == 3 then hover_of value
     else if bytes_eq name (codes "emit") && count == 3 then emit_of value
-    else if bytes_eq name (codes "judge") && count == 1 then judge_of value
-    else if bytes_eq name (codes "compare") && count == 4 then compare_of value
-    else if bytes_eq name (codes "inspect") && count == 2 then inspect_of value
-    else None
+    else looking_with name count value
 
 -- The command that words give. The first word names it, and the others spell options: as many as the command has, and each of
 -- its own once, so no other one.

@@ -2,7 +2,7 @@
 ghost use Rattle.std.specs.Prelude.{◌≡◌, ◌≤◌, ◌<◌, ◌^◌, IfSome, length, map, option_map, string_bytes};
 ghost use Rattle.command_words.specs.Command.{InRanges};
 ghost use Rattle.command_words.specs.CommandView.{command_view, recorded_view};
-ghost use Rattle.command_words.specs.Forms.{batch_of, check_of, command_with, compare_of, emit_of, form_of, hover_of, inspect_of, judge_of, number_of, race_of, recorded_of, replay_of, value_of, verify_of, work_of};
+ghost use Rattle.command_words.specs.Forms.{batch_of, check_of, command_with, compare_of, emit_of, form_of, hover_of, inspect_of, judge_of, looking_with, number_of, race_of, recorded_of, replay_of, value_of, verify_of, why_of, work_of};
 
 use crate::number::number;
 use crate::options::Options;
@@ -74,6 +74,8 @@ pub enum Alone<'a> {
     },
     /// Prints what a session and a recording hold.
     Inspect(Recorded<'a>),
+    /// Prints what each call of a run came to, and why.
+    Why(Recorded<'a>),
 }
 
 /// The number from `low` to `high` that an option says.
@@ -229,6 +231,31 @@ fn inspect_of<'a>(options: &Options<'a>) -> Option<Command<'a>>
     Some(Command::Alone(Alone::Inspect(recorded)))
 }
 
+/// `why`, with the files of a run.
+#[tactic(auto, unfolding(crate::specs::Forms::why_of))]
+fn why_of<'a>(options: &Options<'a>) -> Option<Command<'a>>
+    ensures value { option_map command_view result ≡ why_of (value_of options.now) }
+    ensures ranges { IfSome result (λ c. InRanges (command_view c)) }
+{
+    let recorded = recorded_of(options)?;
+    Some(Command::Alone(Alone::Why(recorded)))
+}
+
+/// The command for a person who looks into files, where the options are as many as it has and say what they are to.
+#[tactic(auto, unfolding(crate::specs::Forms::looking_with))]
+fn looking_with<'a>(name: &str, options: &Options<'a>) -> Option<Command<'a>>
+    ensures value { option_map command_view result ≡ looking_with name.now (length options.now) (value_of options.now) }
+    ensures ranges { IfSome result (λ c. InRanges (command_view c)) }
+{
+    match (name, options.len()) {
+        ("inspect", 2) => inspect_of(options),
+        ("why", 2) => why_of(options),
+        ("judge", 1) => judge_of(options),
+        ("compare", 4) => compare_of(options),
+        _ => None,
+    }
+}
+
 /// The command with a name, where the options are as many as it has and say what they are to.
 #[tactic(auto, unfolding(crate::specs::Forms::command_with))]
 fn command_with<'a>(name: &str, options: &Options<'a>) -> Option<Command<'a>>
@@ -244,10 +271,7 @@ fn command_with<'a>(name: &str, options: &Options<'a>) -> Option<Command<'a>>
         ("batch", 2) => batch_of(options),
         ("hover", 3) => hover_of(options),
         ("emit", 3) => emit_of(options),
-        ("judge", 1) => judge_of(options),
-        ("compare", 4) => compare_of(options),
-        ("inspect", 2) => inspect_of(options),
-        _ => None,
+        _ => looking_with(name, options),
     }
 }
 

@@ -1,21 +1,18 @@
 -- Room for what pumps tell is there still after a round, for one pump less.
-use Rattle.std.proofs.Common.{◌≡◌, ◌≢◌, ◌*◌, max, ◌≤◌, ◌<◌, ◌+◌, ◌-◌, ◌^◌, ◌==◌, ℕ, zero, suc, Bool, true, false, not, cond, List, [], ◌∷◌, length, map, filter, Option, Some, None, unwrap_or, refl, sym, ap, ◌∙◌, subst, inl, inr, arith}
+use Rattle.std.proofs.Common.{◌≡◌, ◌≤◌, ◌+◌, ◌-◌, ◌==◌, ℕ, zero, suc, Bool, true, false, not, cond, List, [], ◌∷◌, length, map, filter, Option, Some, None, unwrap_or, refl, sym, ap, ◌∙◌, subst, inl, inr, arith}
 use Rattle.std.proofs.lemmas.Bool.{cases_Bool, cases_eq, eq-eqb, ne_eqb}
-use Rattle.std.proofs.lemmas.List.{length-map, get_or-set_same}
+use Rattle.std.proofs.lemmas.List.{length-map}
 use Rattle.input_types.specs.declared.key.KeyMsg.{KeyMsg}
 use Rattle.input_types.specs.declared.message.Body.TheVariants.{Key}
 use Rattle.window_snapshot.specs.Mask.{mask_has}
-use Rattle.input_channel.specs.State.{ChannelState, with_spare}
-use Rattle.cancel_synthesis.specs.Tracked.{with_spare as tracked_with_spare}
+use Rattle.input_channel.specs.State.{ChannelState}
 use Rattle.cancel_synthesis.specs.Tracked.{Tracked, is_before, same_key, with_key, keys_after}
 use Rattle.cancel_synthesis.specs.Ends.{keys_cancelled, key_cancelled, of_device}
 use Rattle.cancel_synthesis.specs.Laws.{keys_told}
 use Rattle.cancel_synthesis.proofs.KeyEnds.{device_keys_end}
 use Rattle.key_tables.specs.Held.{bodies_tracked}
-use Rattle.dispatch_channels.specs.Table.{Table, opened, channel_of, input_of, untold, with_channel, with_room, but_for_room, NoLessRoom}
+use Rattle.dispatch_channels.specs.Table.{Table, channel_of, input_of, but_for_room, NoLessRoom}
 use Rattle.dispatch_channels.proofs.Picking.{channel_low}
-use Rattle.dispatch_channels.proofs.Wholes.{channel_set_same}
-use Rattle.dispatch_round.proofs.Rooms.{no_less}
 use Rattle.dispatch_round.specs.declared.round.Round.{Round}
 use Rattle.dispatch_round.specs.Bodies.{keys_to}
 use Rattle.dispatch_round.specs.Rounds.{IsFew, IsLeft, HasMostRoom}
@@ -26,8 +23,7 @@ use Rattle.dispatcher.specs.Queue.{Queue}
 use Rattle.dispatcher.specs.Tables.{SameButRoom, SameAll}
 use Rattle.dispatcher.specs.Keying.{only_live}
 use Rattle.dispatcher.specs.Roomy.{HasRoomFor, IsRoomy, IsModest, AreModest, HasPumpRoom, KeepsPromise}
-use Rattle.dispatcher.proofs.Rooms.{input_bare, opened_bare}
-use Rattle.dispatcher.proofs.Slices.{channel_set}
+use Rattle.dispatcher.proofs.Rooms.{input_bare}
 
 -- ---- what is told of keys
 

@@ -26,7 +26,7 @@ use Rattle.dispatcher.specs.declared.tables.Tables.{Tables}
 use Rattle.dispatcher.specs.Memory.{IsCalm}
 use Rattle.dispatcher.specs.Needing.{NeedsNone}
 use Rattle.dispatcher.specs.Queueing.{stepped, dispatched, with_pumps}
-use Rattle.dispatcher.specs.Tables.{kept, Goes, GoesAs, Pumps, GoesOn, is_routed}
+use Rattle.dispatcher.specs.Tables.{kept, Goes, GoesAs, Pumps, GoesOn, is_routed, is_owned}
 use Rattle.dispatcher.proofs.KeySteps.{idle_reply}
 
 -- a call with its moment
@@ -48,6 +48,19 @@ stepped_goes (Receive c) answer q r = record { clock_is = refl; place_is = refl;
 stepped_goes (Finish now c seq) answer q r = record { clock_is = refl; place_is = refl; waiting_is = refl; down_is = refl }
 stepped_goes (Pilfer now c d) answer q r = record { clock_is = refl; place_is = refl; waiting_is = refl; down_is = refl }
 stepped_goes (Remove now c) answer q r = record { clock_is = refl; place_is = refl; waiting_is = refl; down_is = refl }
+
+-- a call of an owner hands in no args and dispatches none
+pub owned_routed : (call : Call) → is_owned call ≡ true → is_routed call ≡ true
+owned_routed (Open limit) o = absurd (true≢false (sym o))
+owned_routed (Windows now shown) o = absurd (true≢false (sym o))
+owned_routed (FocusOn now display channel) o = absurd (true≢false (sym o))
+owned_routed (Notify now args) o = absurd (true≢false (sym o))
+owned_routed (Pump now) o = absurd (true≢false (sym o))
+owned_routed (Tick now) o = absurd (true≢false (sym o))
+owned_routed (Receive c) o = refl
+owned_routed (Finish now c seq) o = refl
+owned_routed (Pilfer now c d) o = absurd (true≢false (sym o))
+owned_routed (Remove now c) o = refl
 
 -- a call that hands in no args and dispatches none
 pub routed_on : (old : Tables) (later : Queue) (new : Routing) (call : Call) (answer : Reply) (now place clk : ℕ)

@@ -1,7 +1,7 @@
 //! How each call is answered.
 ghost use Rattle.std.specs.Prelude.{◌≡◌, ◌<◌, ◌≤◌, ◌+◌, ◌^◌, ℕ, suc, true, false, List, None, Some, slice_get, if◌then◌else◌};
 ghost use Rattle.std.specs.Prelude.{IfOk, OnOk, OnErr, IsOk, IfSome};
-ghost use Rattle.dispatch_calls.specs.declared.call.Call.TheVariants.{Notify, Pump, Receive, Finish, Remove};
+ghost use Rattle.dispatch_calls.specs.declared.call.Call.TheVariants.{Notify, Pump};
 ghost use Rattle.dispatch_history.specs.Effect.{Effect};
 ghost use Rattle.dispatch_history.specs.PointerOf.{RisesIn};
 ghost use Rattle.dispatch_round.specs.Rounds.{IsTimely};
@@ -25,8 +25,9 @@ use std::alloc::AllocError;
 
 /// Answers a call. Without memory nothing changes but the room that channels have.
 ///
-/// A reply has the size of a message, and is copied whole where branches meet that make one. So those of the calls that
-/// come with each motion return by themselves.
+/// It is not inlined: a reply has the size of a message, and where branches that make one meet inside of another
+/// function it is copied once more for each.
+#[inline(never)]
 pub(crate) fn apply(tables: &mut Tables, call: &Call) -> Result<Reply, AllocError>
     requires { (es : List Effect) × TablesStandFor es tables.old }
     ensures ok { IfOk result (λ answer. GoesOn call.now answer tables.old tables.new) }
@@ -43,13 +44,9 @@ pub(crate) fn apply(tables: &mut Tables, call: &Call) -> Result<Reply, AllocErro
         return Err(AllocError);
     }
     match call {
-        Call::Notify { now, args } => return notify(tables, *now, args),
-        Call::Pump { now } => return pump(tables, *now),
-        Call::Receive { channel } => return Ok(receive_next(tables, *channel)),
-        Call::Finish { now, channel, seq } => {
-            return Ok(finish_one(tables, *now, *channel, *seq));
-        }
-        Call::Remove { now, channel } => return Ok(remove_one(tables, *now, *channel)),
+        Call::Notify { now, args } => notify(tables, *now, args),
+        Call::Pump { now } => pump(tables, *now),
+        Call::Receive { .. } | Call::Finish { .. } | Call::Remove { .. } => Ok(own(tables, call)),
         _ => route(tables, call),
     }
 }
@@ -176,42 +173,37 @@ fn idle_reply(is_due: bool) -> Reply
     if is_due { Reply::Repeated } else { Reply::Idle }
 }
 
-/// The owner of a channel is handed its next message, where there is one. Takes no memory.
-fn receive_next(tables: &mut Tables, channel: u32) -> Reply
-    requires { MayStep tables.old }
-    ensures goes { GoesOn (Receive channel) result tables.old tables.new }
+/// The owner of a channel asks something, or a channel is removed. Takes no memory.
+fn own(tables: &mut Tables, call: &Call) -> Reply
+    requires step { MayStep tables.old }
+    requires owned { is_owned call.now ≡ true }
+    ensures goes { GoesOn call.now result tables.old tables.new }
     ensures promise { KeepsPromise tables.old → KeepsPromise tables.new }
 {
-    tables.queueing.step(Moment::zero());
-    tables.queueing.set_pumps(0);
-    receive(&mut tables.routing, channel)
-}
-
-/// The owner of a channel is done with a message. Takes no memory.
-pub(crate) fn finish_one(tables: &mut Tables, now: Moment, channel: u32, seq: u64) -> Reply
-    requires { MayStep tables.old }
-    ensures goes { GoesOn (Finish now channel seq) result tables.old tables.new }
-    ensures promise { KeepsPromise tables.old → KeepsPromise tables.new }
-{
+    let now = call.moment();
     let clock = now.later(tables.queueing.clock());
-    tables.queueing.step(now);
-    tables.queueing.set_pumps(0);
-    finish(&mut tables.routing, channel, seq, clock)
-}
-
-/// A channel is removed. Takes no memory.
-fn remove_one(tables: &mut Tables, now: Moment, channel: u32) -> Reply
-    requires { MayStep tables.old }
-    ensures goes { GoesOn (Remove now channel) result tables.old tables.new }
-    ensures promise { KeepsPromise tables.old → KeepsPromise tables.new }
-{
     let place = tables.queueing.place();
     tables.queueing.step(now);
     tables.queueing.set_pumps(0);
-    remove(&mut tables.routing, channel, place)
+    answer_owner(&mut tables.routing, call, place, clock)
 }
 
-/// Any other call.
+/// How a call of an owner is answered, and a removal.
+fn answer_owner(routing: &mut Routing, call: &Call, place: u64, clock: Moment) -> Reply
+    requires timely { IsTimely clock routing.old.channels }
+    requires owned { is_owned call.now ≡ true }
+    ensures { GoesAs call.now result place clock routing.old routing.new }
+{
+    match call {
+        Call::Receive { channel } => receive(routing, *channel),
+        Call::Finish { channel, seq, .. } => finish(routing, *channel, *seq, clock),
+        Call::Remove { channel, .. } => remove(routing, *channel, place),
+        _ => unreachable!(),
+    }
+}
+
+/// Any other call. These are seldom made, so it is not inlined either.
+#[inline(never)]
 fn route(tables: &mut Tables, call: &Call) -> Result<Reply, AllocError>
     requires step { MayStep tables.old }
     requires routed { is_routed call.now ≡ true }

@@ -1,14 +1,14 @@
 //! Calls whose answers are not read, as those of a run: no message is copied, and no answer handed on.
 ghost use Rattle.std.specs.Prelude.{◌≡◌, ◌≤◌, ◌+◌, true, List, OnOk, OnErr, IsOk};
-ghost use Rattle.dispatch_calls.specs.declared.call.Call.TheVariants.{Receive};
+ghost use Rattle.dispatch_calls.specs.declared.call.Call.TheVariants.{Receive, Finish};
 ghost use Rattle.dispatch_history.specs.Effect.{Effect};
 ghost use Rattle.dispatcher.specs.Memory.{IsCalm, MayCount};
 ghost use Rattle.dispatcher.specs.Queueing.{args_in, is_input, is_pump};
 ghost use Rattle.dispatcher.specs.Roomy.{KeepsPromise};
 ghost use Rattle.dispatcher.specs.Tables.{TablesStandFor, MayStep, GoesOnSomehow, SameAll};
 
-use crate::apply::{apply, finish_one};
-use crate::owners::pass;
+use crate::apply::apply;
+use crate::owners::{finish, pass};
 use crate::tables::Tables;
 use dispatch_calls::Call;
 use input_types::Moment;
@@ -37,7 +37,7 @@ pub(crate) fn apply_unread(tables: &mut Tables, call: &Call) -> Result<(), Alloc
             Ok(())
         }
         Call::Finish { now, channel, seq } => {
-            let _reply = finish_one(tables, *now, *channel, *seq);
+            finish_unread(tables, *now, *channel, *seq);
             Ok(())
         }
         _ => apply_dropping(tables, call),
@@ -72,4 +72,16 @@ fn pass_next(tables: &mut Tables, channel: u32)
     tables.queueing.step(Moment::zero());
     tables.queueing.set_pumps(0);
     pass(&mut tables.routing, channel);
+}
+
+/// The owner of a channel is done with a message, and its answer is not read. Takes no memory.
+fn finish_unread(tables: &mut Tables, now: Moment, channel: u32, seq: u64)
+    requires { MayStep tables.old }
+    ensures goes { GoesOnSomehow (Finish now channel seq) tables.old tables.new }
+    ensures promise { KeepsPromise tables.old → KeepsPromise tables.new }
+{
+    let clock = now.later(tables.queueing.clock());
+    tables.queueing.step(now);
+    tables.queueing.set_pumps(0);
+    let _reply = finish(&mut tables.routing, channel, seq, clock);
 }

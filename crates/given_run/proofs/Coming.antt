@@ -81,6 +81,7 @@ has_whole plan cs es s h =
       noted = h.noted;
       heard = h.heard;
       as_many = h.as_many;
+      causes_are = h.causes_are;
       next_is = h.next_is;
       calls_are = h.calls_are;
     }

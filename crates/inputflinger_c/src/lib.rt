@@ -20,6 +20,12 @@
 //! inputflinger_judge_free                                    0, and the handle is free
 //! ```
 //!
+//! A program that keeps recordings runs one as `inputflinger replay` does, without files (`plain_run`):
+//!
+//! ```text
+//! inputflinger_run    replay --session 1 --events 2, of two files    0, and the text is in the buffer of the caller
+//! ```
+//!
 //! Each export takes what C can hand in: numbers, structs of numbers, and a handle, which owns a block of the C
 //! library's allocator or nothing. Its clause says what it answers and what the handle has then, in words of
 //! `plain_calls`, `live_input` and `gesture_verifier`. Raw pointers are in `unboxed`, `live_cell` and `judge_cell`
@@ -38,6 +44,7 @@ mod live_driving;
 mod live_exports;
 mod live_getting;
 mod live_showing;
+mod run_exports;
 mod service;
 mod sizes;
 mod unboxed;

@@ -1,17 +1,19 @@
 //! What is due in a live service, and what its devices give.
-ghost use Rattle.std.specs.Prelude.{◌≡◌, ⊤};
+ghost use Rattle.std.specs.Prelude.{◌≡◌, ⊤, nat_eq};
 ghost use Rattle.plain_calls.specs.Calling.{Reads, Replies, ok_of, told_status, written};
 ghost use Rattle.plain_calls.specs.Driving.{IsDue, CaughtUp, Happened, HandedIn, Removed, TouchAdded, event};
+ghost use Rattle.plain_calls.specs.Layouts.{AddsKeys, layout_from};
 ghost use Rattle.plain_calls.specs.Numbers.{device_of, display_of, moment_of};
 ghost use Rattle.plain_calls.specs.Plain.{args_of};
 ghost use Rattle.plain_calls.specs.Plugging.{cook_of};
 ghost use Rattle.plain_calls.specs.Replies.{add_status, args_status, advance_status};
+ghost use Rattle.plain_calls.specs.Status.{no_memory};
 ghost use Rattle.inputflinger_c.specs.Serving.{OnService};
 
 use crate::service::Service;
 use plain_calls::plugging::PlainCook;
 use plain_calls::status::FREE;
-use plain_calls::{PlainMessage, driving, plugging};
+use plain_calls::{PlainMessage, driving, layouts, plugging};
 use std::alloc::Global;
 
 /// The first moment at which something is due; see `driving::due`. `FREE` where the handle is free.
@@ -140,6 +142,31 @@ pub extern "C" fn inputflinger_proved_live_add_touch(
         return FREE;
     };
     let status = plugging::add_touch(&mut service, display, slots, cook, device);
+    live.put(service);
+    status
+}
+
+/// A device with keys is plugged in; see `layouts::add_keys`. `FREE` where the handle is free.
+#[unsafe(no_mangle)]
+pub extern "C" fn inputflinger_proved_live_add_keys(
+    alloc: Global,
+    live: &mut Service,
+    display: u8,
+    text: &[u8],
+    device: &mut u8,
+    line: &mut u64,
+) -> u32
+    ensures { OnService live.old.cell.state result live.new.cell.state
+        ((device.new ≡ device.old) × (line.new ≡ line.old))
+        (λ old new. Reads (display_of display) result
+        ((new ≡ old) × ((device.new ≡ device.old) × (line.new ≡ line.old)))
+        (λ y. AddsKeys (nat_eq result no_memory) (layout_from text.now) result y old new device.old device.new
+        line.old line.new)) }
+{
+    let Some(mut service) = live.take(alloc) else {
+        return FREE;
+    };
+    let status = layouts::add_keys(alloc, &mut service, display, text, device, line);
     live.put(service);
     status
 }

@@ -8,14 +8,15 @@ use crate::judge_state::PlainState;
 use crate::service::Service;
 use plain_calls::plugging::{PlainAxis, PlainCook};
 use plain_calls::{PlainClient, PlainDisplays, PlainMessage, PlainPointer, PlainRect, PlainWindow};
+use plain_run::PlainRan;
 use std::mem::size_of;
 
 /// How many bytes a struct has, by its number: 0 for a judge, 1 for a pointer, 2 for a message, 3 for a fault, 4 for a
 /// state, 5 for a key, 6 for a live service, 7 for a client, 8 for a rectangle, 9 for a window, 10 for an axis, 11 for
-/// a panel, 12 for displays. 0 for another number.
+/// a panel, 12 for displays, 13 for what a run came to. 0 for another number.
 #[unsafe(no_mangle)]
 pub extern "C" fn inputflinger_proved_size(number: u32) -> usize
-    ensures { 13 ≤ number → result ≡ 0 }
+    ensures { 14 ≤ number → result ≡ 0 }
 {
     match number {
         0 => size_of::<Judge>(),
@@ -31,6 +32,7 @@ pub extern "C" fn inputflinger_proved_size(number: u32) -> usize
         10 => size_of::<PlainAxis>(),
         11 => size_of::<PlainCook>(),
         12 => size_of::<PlainDisplays>(),
+        13 => size_of::<PlainRan>(),
         _ => 0,
     }
 }

@@ -23,9 +23,10 @@ impl Live {
     /// An event of a device, as the kernel's `struct input_event` has it: its reader takes it, and what that gives is
     /// dispatched to the windows.
     ///
-    /// After a SYN_DROPPED the device begins anew, and all that was down on it is cancelled. What the kernel's state is
-    /// then, as libevdev's sync gives it, is handed in as events too: the slots, with their tracking ids and positions,
-    /// and a SYN_REPORT. So it is for a device that is plugged in while fingers are down.
+    /// After a SYN_DROPPED the device begins anew, and all that was down on it is cancelled. What it holds then is
+    /// handed in as events too: each slot with a finger, with its tracking id and position, and a SYN_REPORT. libevdev
+    /// has them (`libevdev_get_slot_value`) once its sync is done, whose events are only what has changed. So it is for
+    /// a device that is plugged in while fingers are down.
     pub fn event(
         &mut self,
         now: Moment,

@@ -2,3 +2,6 @@ pub mod ReadPointers
 pub mod Written
 pub mod Reading
 pub mod ReadWindows
+pub mod ReadLayouts
+pub mod Again
+pub mod Examples

@@ -1,13 +1,14 @@
 -- What clients get, and what they are done with, as the service says it.
-use Rattle.std.specs.Prelude.{◌≡◌, ◌&&◌, ℕ, true, false, List, Option, None, Result, Ok, Err, IfOk, OnOk, OnErr, is_some}
+use Rattle.std.specs.Prelude.{◌≡◌, ◌+◌, ◌&&◌, ℕ, true, false, List, Option, None, Result, Ok, Err, IfOk, IfSome, OnOk, OnErr, is_some}
 use Rattle.std.specs.declared.alloc.AllocError.{AllocError}
 use Rattle.input_types.specs.declared.message.Message.{Message}
 use Rattle.window_snapshot.specs.Mask.{mask_has, is_channel}
 use Rattle.dispatch_calls.specs.declared.call.Call.TheVariants.{Receive, Finish, Pilfer}
-use Rattle.dispatch_history.specs.Effect.{Effect}
+use Rattle.dispatch_history.specs.Effect.{Effect, past_of}
+use Rattle.dispatch_history.specs.History.{received}
 use Rattle.dispatch_history.specs.Legal.{answered}
 use Rattle.dispatch_history.specs.Reply.{reply_to}
-use Rattle.dispatcher.specs.Access.{got}
+use Rattle.dispatcher.specs.Access.{gone, got}
 use Rattle.live_input.specs.declared.client.Client.{Client}
 use Rattle.live_input.specs.declared.refused.FinishRefused.{FinishRefused}
 use Rattle.live_input.specs.declared.refused.FinishRefused.TheVariants as finish
@@ -17,6 +18,7 @@ use Rattle.live_input.specs.Answers.{SameClients, Finishes, Pilfers, handed}
 use Rattle.live_input.specs.Seats.{is_open, seat_of, number_of}
 use Rattle.live_input.specs.Standing.{LiveIs}
 use Rattle.live_input.specs.State.{LiveState}
+use Rattle.live_input.specs.Told.{taken}
 
 -- what the next message of a client comes to
 pub record Received (client : Client) (old new : LiveState) (r : Result (Option Message) AllocError) : Type 0 where
@@ -27,6 +29,12 @@ pub record Received (client : Client) (old new : LiveState) (r : Result (Option 
   pub after :
       (ds : List ℕ) (es : List Effect) → LiveIs ds es old → is_open old.seats client ≡ true
       → OnOk r (LiveIs ds (answered ds (Receive client.channel) es) new)
+  pub numbers :
+      (ds : List ℕ) (es : List Effect) → LiveIs ds es old → is_open old.seats client ≡ true
+      → IfOk r (λ told. IfSome told (λ m. m.seq ≡ taken (seat_of old.seats client.channel) es client.channel + 1))
+  pub kept :
+      (ds : List ℕ) (es : List Effect) → LiveIs ds es old → is_open old.seats client ≡ true
+      → OnOk r (gone new.dispatcher client.channel ≡ received (past_of (answered ds (Receive client.channel) es)) client.channel)
   pub clients : SameClients old new
   pub named : new.named ≡ old.named
   pub err : OnErr r (new ≡ old)

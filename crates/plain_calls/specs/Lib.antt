@@ -9,7 +9,9 @@ pub mod Coming
 pub mod Getting
 pub mod Driving
 pub mod Plugging
+pub mod Layouts
 pub mod Screens
 pub mod Windows
 pub mod Showing
 pub mod Asking
+pub mod Laws

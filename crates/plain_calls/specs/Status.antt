@@ -80,3 +80,7 @@ bad_slots = 19
 -- the text is no key layout
 abbrev pub bad_layout : ℕ
 bad_layout = 20
+
+-- the words are those of a command that starts threads
+abbrev pub no_threads : ℕ
+no_threads = 21

@@ -8,6 +8,7 @@
 //! showing::windows  one of generation 1, channel 1          0
 //! driving::args     motion 1 DOWN 0:540,1200                14, NO_DEVICE: no device 1 is plugged in
 //! plugging::add_touch  display 4                            4, RANGE: displays are 0 to 3
+//! layouts::add_keys    display 0, key 30 a                  20, BAD_LAYOUT: line 1, names are in capitals
 //! getting::finish   1, of generation 7, channel 1           8, NOT_OPEN
 //! ```
 //!
@@ -20,6 +21,8 @@ mod client;
 pub mod coming;
 pub mod driving;
 pub mod getting;
+pub mod laws;
+pub mod layouts;
 mod message;
 mod numbers;
 pub mod plugging;

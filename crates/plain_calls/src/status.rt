@@ -59,3 +59,6 @@ pub const BAD_SLOTS: u32 = 19;
 
 /// The text is no key layout. Nothing changed.
 pub const BAD_LAYOUT: u32 = 20;
+
+/// The words are those of `race`, which starts threads. Nothing ran.
+pub const NO_THREADS: u32 = 21;

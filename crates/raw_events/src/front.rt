@@ -156,9 +156,10 @@ pub(crate) fn quick<'a>(
         return None;
     }
     let (part, end) = rest.split_at(front.part.len());
-    let fields = usual_fields(end)?;
-    let micros = micros(digits)?;
+    // What is compared comes before what is read, so that few numbers are held at a time.
     take_seconds(front, to_point)?;
     take_part(devices, front, part)?;
+    let micros = micros(digits)?;
+    let fields = usual_fields(end)?;
     Some(line_of(front.device, moment_of(front.seconds, micros), fields))
 }

@@ -3,25 +3,22 @@ ghost use Rattle.std.specs.Prelude.{◌≡◌, ◌∷◌, [], ◌<◌, ◌^◌, 
 ghost use Rattle.raw_events.specs.Text.{number};
 ghost use Rattle.raw_events.specs.Front.{MicrosSay};
 
-use crate::digits::value_of;
+use crate::digits::decimal_value;
 
 /// How many bytes the microseconds take with the second bracket.
 pub(crate) const MICROS_LEN: usize = 7;
 
-/// The number that three decimal digits write.
+/// The number that three decimal digits write; None says nothing.
 #[inline(always)]
 fn three(a: u8, b: u8, c: u8) -> Option<u32>
-    ensures value { result ≡ number 10 (a ∷ b ∷ c ∷ []) }
+    ensures value { IfSome result (λ n. number 10 (a ∷ b ∷ c ∷ []) ≡ Some n) }
     ensures bound { IfSome result (λ n. n < 10 ^ 3) }
 {
-    let a = value_of(a);
-    let b = value_of(b);
-    let c = value_of(c);
-    if a < 10 && b < 10 && c < 10 {
-        Some((a as u32 * 10 + b as u32) * 10 + c as u32)
-    } else {
-        None
-    }
+    let first = decimal_value(a);
+    let second = decimal_value(b);
+    let last = decimal_value(c);
+    let n = (first * 10 + second) * 10 + last;
+    if n < 1_000 { Some(n) } else { None }
 }
 
 /// The microseconds, where they are written as usual; None says nothing.

@@ -4,27 +4,24 @@ ghost use Rattle.raw_events.specs.Text.{number};
 ghost use Rattle.raw_events.specs.Line.{fields_of};
 ghost use Rattle.raw_events.specs.Front.{plain};
 
-use crate::digits::value_of;
+use crate::digits::hex_value;
 use crate::line::{Fields, fields_from};
 
 /// How many bytes type, code and value take with one space between them.
 pub(crate) const USUAL_LEN: usize = 18;
 
-/// The number that four hexadecimal digits write.
+/// The number that four hexadecimal digits write; None says nothing.
 #[inline(always)]
 fn four(a: u8, b: u8, c: u8, d: u8) -> Option<u32>
-    ensures value { result ≡ number 16 (a ∷ b ∷ c ∷ d ∷ []) }
+    ensures value { IfSome result (λ n. number 16 (a ∷ b ∷ c ∷ d ∷ []) ≡ Some n) }
     ensures bound { IfSome result (λ n. n < 16 ^ 4) }
 {
-    let a = value_of(a);
-    let b = value_of(b);
-    let c = value_of(c);
-    let d = value_of(d);
-    if a < 16 && b < 16 && c < 16 && d < 16 {
-        Some(((a as u32 * 16 + b as u32) * 16 + c as u32) * 16 + d as u32)
-    } else {
-        None
-    }
+    let first = hex_value(a);
+    let second = hex_value(b);
+    let third = hex_value(c);
+    let last = hex_value(d);
+    let n = ((first * 16 + second) * 16 + third) * 16 + last;
+    if n < 65_536 { Some(n) } else { None }
 }
 
 /// Type, code and value, where they are written as usual; None says nothing.

@@ -2,14 +2,16 @@
 use Rattle.std.proofs.Common.{◌≡◌, ◌∙◌, ℕ, List, [], Option, None, Some, Result, Ok, Err, IfOk, IfErr, refl, sym, ap, subst, le_refl}
 use Rattle.outside_io.specs.Outside.{Entry}
 use Rattle.command_words.specs.Command.{Command}
-use Rattle.command_words.specs.CommandView.{command_view}
+use Rattle.command_words.specs.CommandView.{alone_view, command_view}
 use Rattle.command_words.specs.declared.command.Command.{Command as Parsed}
+use Rattle.command_words.specs.declared.command.Alone.{Alone as ParsedAlone}
+use Rattle.command_words.specs.declared.command.Alone.TheVariants.{Replay, Check, Verify, Work, Batch, Hover, Emit, Judge, Compare, Inspect, Why}
 use Rattle.command_words.specs.Forms.{form_of}
 use Rattle.command_files.specs.declared.refusal.Refusal.{Refusal}
 use Rattle.command_files.specs.Judged.{Answer, IfTold, by_log, by_name}
 use Rattle.command_files.specs.Logged.{Logged}
 use Rattle.command_files.proofs.Logs.{by_map, log_same}
-use Rattle.command_answers.specs.Program.{Answers, AnswersTo, RefusesCommand, files_of, usage}
+use Rattle.command_answers.specs.Program.{Answers, AnswersTo, IsAlone, RefusesCommand, files_of, usage}
 use Rattle.command_answers.proofs.Told.{answers_told}
 use Rattle.replay_engine.specs.Outcome.{Asked, ComesTo, ReadsInTurn, files_in}
 use Rattle.replay_engine.specs.Refusing.{CameTo}
@@ -52,3 +54,17 @@ comes_usage q none same = (
       (log_same q.told q.before q.now [] (λ rs. AnswersTo (by_log rs) None (Err usage)) same (refl, refl)),
   subst (λ o. IfTold q.told (λ es. AnswersTo (by_name es) o (Err usage))) (sym none) (usage_told q.told),
 )
+
+-- a command that starts no threads is no race
+pub alone_is : (command : ParsedAlone) → IsAlone (Some (alone_view command))
+alone_is (Replay recorded) = tt
+alone_is (Check recorded order) = tt
+alone_is (Verify stream) = tt
+alone_is (Work seed packets) = tt
+alone_is (Batch stream frame) = tt
+alone_is (Hover recorded mouse) = tt
+alone_is (Emit stream channel device) = tt
+alone_is (Judge stream) = tt
+alone_is (Compare want got us pixels) = tt
+alone_is (Inspect recorded) = tt
+alone_is (Why recorded) = tt

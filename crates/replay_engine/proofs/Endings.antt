@@ -156,3 +156,13 @@ so_refused q out err (TooLong what) came kept line =
 pub ends_refused : (q : Asked) (out err : SinkEnds) (r : Refusal) (status : ℕ) → status ≡ status_of r → CameTo q (Err r) → out.now ≡ out.before
     → TellsLine err.faults_before err.faults_now err.before err.now (refusal_view r).line → Ends q out err status
 ends_refused q out err r status is came kept line = subst (λ n. Ends q out err n) (sym is) (so_refused q out err r came kept line)
+
+-- no refusal ends with 0
+pub not_whole : (r : Refusal) → status_of r ≢ 0
+not_whole (Session e) = λ is. absurd (omega (arith, is))
+not_whole (Recording e) = λ is. absurd (omega (arith, is))
+not_whole (Order e) = λ is. absurd (omega (arith, is))
+not_whole (Stream e) = λ is. absurd (omega (arith, is))
+not_whole ReadFailed = λ is. absurd (omega (arith, is))
+not_whole NoMemory = λ is. absurd (omega (arith, is))
+not_whole (TooLong what) = λ is. absurd (omega (arith, is))

@@ -3,7 +3,7 @@ use Rattle.std.specs.Prelude.{codes, ◌≡◌, ◌≢◌, ℕ, nat_eq, ◌||◌
 use Rattle.io_trace.specs.Trace.{Reading, Writing}
 use Rattle.outside_io.specs.Outside.{Entry, Rose}
 use Rattle.text_output.specs.Passing.{StopsWithin, WritesAll, Tells as TellsLine}
-use Rattle.command_words.specs.Command.{Command, replay, race, check, verify, work, batch, hover, emit, judge, compare, inspect}
+use Rattle.command_words.specs.Command.{Command, replay, race, check, verify, work, batch, hover, emit, judge, compare, inspect, why}
 use Rattle.command_words.specs.Forms.{form_of}
 use Rattle.command_files.specs.Inputs.{AreAccepted, IsAccepted, IsWant}
 use Rattle.command_files.specs.Judged.{Answer, IfTold, by_log, by_name}
@@ -28,6 +28,7 @@ LendsNames told lends (Some (emit stream channel device)) = IsTrue (lends stream
 LendsNames told lends (Some (judge stream)) = IsTrue (lends stream)
 LendsNames told lends (Some (compare want got us pixels)) = IsTrue (lends want) × (IsWant told want → IsTrue (lends got))
 LendsNames told lends (Some (inspect files)) = IsTrue (lends files.session) × (IsAccepted told files.session → IsTrue (lends files.events))
+LendsNames told lends (Some (why files)) = IsTrue (lends files.session) × (IsAccepted told files.session → IsTrue (lends files.events))
 
 -- What the program was asked: its words, the files where they are told, and the log of the readings and the count of faults of the
 -- files, before and now.

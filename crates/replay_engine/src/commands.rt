@@ -7,7 +7,7 @@ ghost use Rattle.replay_engine.specs.Outcome.{LendsNames};
 
 use command_answers::{
     answer_batch, answer_check, answer_compare, answer_emit, answer_hover, answer_inspect,
-    answer_judge, answer_replay, answer_verify, answer_work,
+    answer_judge, answer_replay, answer_verify, answer_why, answer_work,
 };
 use command_files::Refusal;
 use command_words::Alone;
@@ -60,5 +60,6 @@ pub fn answer_alone<F: Files>(
             answer_compare(alloc, files, want, got, tolerance)
         }
         Alone::Inspect(recorded) => answer_inspect(alloc, files, *recorded),
+        Alone::Why(recorded) => answer_why(alloc, files, *recorded),
     }
 }

@@ -19,7 +19,7 @@ use text_output::{tell, tell_named, tell_pair};
 
 /// The line that tells the commands.
 pub const USAGE: &str =
-    "usage: inputflinger replay|race|check|verify|work|batch|hover|emit|inspect|judge|compare\n";
+    "usage: inputflinger replay|race|check|verify|work|batch|hover|emit|inspect|why|judge|compare\n";
 
 /// Tells a line that ends with a number.
 pub fn tell_number<E: Sink>(err: &mut E, words: &str, number: u64)

@@ -1,17 +1,21 @@
 //! The top calls.
-ghost use Rattle.std.specs.Prelude.{◌≡◌, ◌≤◌, ◌↔◌, true, map, string_bytes, None};
+ghost use Rattle.std.specs.Prelude.{◌≡◌, ◌≤◌, ◌↔◌, true, map, string_bytes, None, Ok, Some, IfOk};
+ghost use Rattle.command_words.specs.Command.{Recorded as Names, race};
 ghost use Rattle.command_words.specs.Forms.{form_of};
 ghost use Rattle.command_answers.specs.Program.{IsAlone};
+ghost use Rattle.lane_runner.specs.Starts.{EndBy, Left, MayRun, RunsRaces};
 ghost use Rattle.replay_engine.specs.Outcome.{Ends, LendsNames, asked, sink_ends};
+ghost use Rattle.replay_engine.specs.Raced.{WroteEnd};
 
 use crate::commands::answer_alone;
 use crate::ending::{end_answered, end_with};
 use crate::statuses::USAGE;
 use command_answers::answer_race;
 use command_words::{Command, command_of};
+use lane_runner::{Start, run_start};
 use outside_io::{Files, Sink};
-use replay_actors::Gate;
-use std::alloc::Global;
+use replay_actors::{Gate, RaceEnd};
+use std::alloc::{AllocError, Global};
 use std::sync::Wait;
 use std::thread::Threads;
 
@@ -94,9 +98,44 @@ pub fn run<R: Threads + Wait + Sync, F: Files, O: Sink, E: Sink, G: Gate + Sync>
     ensures entries { F.entries files.new ≡ F.entries files.old }
     ensures names { F.lends files.new ≡ F.lends files.old }
 {
+    let runner = |start: Start| -> Result<RaceEnd, AllocError>
+        requires { MayRun start }
+        ensures { IfOk result (Left start) }
+    { run_start(rt, alloc, start, gate) };
+    run_by(rt, alloc, words, files, out, err, &runner)
+}
+
+/// Runs a command as [`run`] does, where the lanes of `race` are run by the caller's function. The order that is
+/// written is that of an end which the function answered.
+pub fn run_by<R: Wait, F: Files, O: Sink, E: Sink, K: Fn(Start) -> Result<RaceEnd, AllocError>>(
+    rt: &R,
+    alloc: Global,
+    words: &[String],
+    files: &mut F,
+    out: &mut O,
+    err: &mut E,
+    runner: &K,
+) -> u8
+    requires lends { LendsNames (F.entries files.old) (F.lends files.old) (form_of (map string_bytes words.now)) }
+    requires free { F.lent files.old ≡ None }
+    requires runs { RunsRaces (K.pre runner.now) (λ s end. K.post runner.now s (Ok end)) }
+    ensures ends { Ends
+        (asked (map string_bytes words.now) (F.entries files.old) (F.readings files.old) (F.readings files.new)
+        (F.faults files.old) (F.faults files.new))
+        (sink_ends (O.faults out.old) (O.faults out.new) (O.writing out.old) (O.writing out.new))
+        (sink_ends (E.faults err.old) (E.faults err.new) (E.writing err.old) (E.writing err.new)) result }
+    ensures raced { (files : Names) → form_of (map string_bytes words.now) ≡ Some (race files) → result ≡ 0
+        → WroteEnd (EndBy (λ s end. K.post runner.now s (Ok end))) (O.writing out.old) (O.writing out.new) }
+    ensures words { (form_of (map string_bytes words.now) ≡ None) ↔ (result ≡ 2) }
+    ensures later { F.faults files.old ≤ F.faults files.new }
+    ensures sinks_later { (O.faults out.old ≤ O.faults out.new) × (E.faults err.old ≤ E.faults err.new) }
+    ensures free { F.lent files.new ≡ None }
+    ensures entries { F.entries files.new ≡ F.entries files.old }
+    ensures names { F.lends files.new ≡ F.lends files.old }
+{
     match command_of(words) {
         Some(Command::Race(names)) => {
-            let answer = answer_race(rt, alloc, files, names, gate);
+            let answer = answer_race(rt, alloc, files, names, runner);
             end_answered(answer, out, err)
         }
         Some(Command::Alone(command)) => {

@@ -7,6 +7,7 @@ pub mod Opening
 pub mod Rounds
 pub mod Heard
 pub mod Letting
+pub mod Caused
 pub mod Stepping
 pub mod Taking
 pub mod Choosing

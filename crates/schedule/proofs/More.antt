@@ -1,13 +1,16 @@
 -- A run with one call more, and one that lets messages go.
-use Rattle.std.proofs.Common.{◌≡◌, List, [], ◌∷◌, ◌++◌, sym, ap, ◌∙◌, subst}
+use Rattle.std.proofs.Common.{◌≡◌, Bool, true, false, List, [], ◌∷◌, ◌++◌, cond, Result, Ok, Err, sym, ap, ◌∙◌, subst}
+use Rattle.std.specs.Prelude.{OnErr, OnOk}
 use Rattle.dispatch_calls.specs.declared.call.Call.{Call}
 use Rattle.dispatch_calls.specs.declared.reply.Reply.{Reply}
 use Rattle.dispatch_history.specs.Effect.{Effect}
 use Rattle.dispatch_history.specs.Effects.{step}
+use Rattle.dispatch_history.specs.Legal.{answered}
 use Rattle.dispatch_history.specs.Ordered.{extend}
 use Rattle.dispatcher.specs.Dispatching.{Dispatching, StandsFor}
 use Rattle.dispatch_tables.specs.Lawful.{Lawful}
 use Rattle.dispatch_tables.proofs.Lawfuls.{lawful_last}
+use Rattle.why_lines.specs.Telling.{MayMake}
 use Rattle.schedule.specs.More.{ComesTo}
 use Rattle.schedule.proofs.Receiving.{extend_append}
 
@@ -36,3 +39,27 @@ same_more es d later same goes k =
       calls = k.calls;
       stands = subst (λ ds. StandsFor (extend ds es k.calls) later) (sym same) (goes (extend d.displays es k.calls) k.stands);
     }
+
+-- a call that was made, or was not
+pub made_more : (es : List Effect) (d later : Dispatching) (call : Call) → MayMake call d later → ComesTo es d → ComesTo es later
+made_more es d later call made k =
+    let there = made.stands (extend d.displays es k.calls) k.stands in
+    by_made there.0 there.1
+  where
+    by_made : (b : Bool) → StandsFor (cond b (answered d.displays call (extend d.displays es k.calls)) (extend d.displays es k.calls)) later → ComesTo es later
+    by_made true stands =
+        record {
+          calls = k.calls ++ call ∷ [];
+          stands =
+              subst (λ gs. StandsFor gs later)
+              (sym (extend_append d.displays es k.calls (call ∷ [])) ∙ ap (λ ds. extend ds es (k.calls ++ call ∷ [])) (sym made.displays_are))
+              stands;
+        }
+    by_made false stands = record { calls = k.calls; stands = subst (λ ds. StandsFor (extend ds es k.calls) later) (sym made.displays_are) stands }
+
+-- a call whose answer is not read
+pub unread_more : {A E : Type 0} (r : Result A E) (es : List Effect) (d later : Dispatching) (call : Call) → later.displays ≡ d.displays
+    → ((fs : List Effect) → StandsFor fs d → OnOk r ((answer : Reply) × StandsFor (step d.displays call answer fs) later)) → OnErr r (later ≡ d)
+    → ComesTo es d → ComesTo es later
+unread_more (Ok a) es d later call same goes stays k = one_more es d later call same goes k
+unread_more (Err e) es d later call same goes stays k = subst (ComesTo es) (sym stays) k

@@ -30,6 +30,7 @@ lets_go how plan es s d c h stands same own others named =
       noted = named ∙ h.noted;
       heard = λ k low high. h.heard k low high ∙ sym (by_number k low (cases_eq k c));
       as_many = h.as_many;
+      causes_are = h.causes_are;
       next_is = h.next_is;
       calls_are = h.calls_are;
     }
@@ -56,6 +57,7 @@ ends how plan es s d lines c h few more stands same own others named =
       noted = named ∙ h.noted;
       heard = λ k low high. by_number k low (subst (λ n. k ≤ n) more.0 high) (cases_eq k c);
       as_many = more.0 ∙ h.as_many;
+      causes_are = h.causes_are;
       next_is = h.next_is;
       calls_are = h.calls_are;
     }

@@ -48,6 +48,7 @@ ready_latest how plan es s t r =
             noted = r.has.noted;
             heard = r.has.heard;
             as_many = r.has.as_many;
+            causes_are = r.has.causes_are;
             next_is = r.has.next_is;
             calls_are = r.has.calls_are;
           };

@@ -18,6 +18,7 @@ use Rattle.dispatch_tables.specs.Channel.{Receives, Untouched, part_of}
 use Rattle.dispatch_tables.proofs.Lawfuls.{lawful_last}
 use Rattle.stream_text.specs.Spelling.{message_line}
 use Rattle.schedule.specs.declared.keeping.Lines.{Lines}
+use Rattle.schedule.specs.Causes.{Applies, and_more, told_of}
 use Rattle.schedule.specs.Hearing.{Hears}
 use Rattle.schedule.specs.Kinds.{is_receiving}
 use Rattle.dispatch_history.specs.History.{received}
@@ -26,6 +27,7 @@ use Rattle.dispatch_tables.proofs.Letting.{received_grows}
 use Rattle.schedule.specs.Lines.{Heard, lines_at, lines_received, lines_had}
 use Rattle.schedule.specs.State.{ScheduleState, HasWith, counted}
 use Rattle.schedule.proofs.Behind.{is_receive}
+use Rattle.schedule.proofs.Caused.{causes_next, causes_stay}
 use Rattle.schedule.proofs.Heard.{heard_same, heard_more, had_received}
 use Rattle.schedule.proofs.Letting.{gone_few, got_few}
 
@@ -60,10 +62,13 @@ module _ (how : Lines) (plan : Plan) (es : List Effect) (s t : ScheduleState) (h
       ∙ sym (heard_same plan.displays call answer es c (gone s.dispatcher c) l (gone_few es s.dispatcher c h.stands low) (no_receive call answer c never))
       ∙ ap (λ n. lines_had (step plan.displays call answer es) n c) (sym (kept c low)))
 
-  pub has_step : (call : Call) (answer : Reply) → StandsFor (step s.dispatcher.displays call answer es) t.dispatcher → is_receiving call ≡ false
+  pub has_step : (call : Call) → Applies call es s.dispatcher.displays s.causes t.causes t.dispatcher → is_receiving call ≡ false
       → t.lines ≡ s.lines → t.next ≡ is_scripted call + scripted (past_of es) → t.calls ≡ counted (s.calls + 1)
       → HasWith how plan (answered plan.displays call es) t
-  has_step call answer stands never lines next calls =
+  has_step call applies never lines next calls =
+      let answer = applies.answer in
+      let stands = applies.stands in
+      let causes = subst (λ ds. t.causes ≡ and_more (told_of ds call answer es) s.causes) h.displays_are applies.causes in
       let there : StandsFor (step plan.displays call answer es) t.dispatcher = stands_plan how plan call answer es s t.dispatcher h stands in
       let l : Lawful plan.displays (step plan.displays call answer es) = lawful_plan plan (step plan.displays call answer es) t.dispatcher (same ∙ h.displays_are) there in
       subst (λ a. HasWith how plan (step plan.displays call a es) t) (lawful_last plan.displays call answer es l).0
@@ -73,6 +78,7 @@ module _ (how : Lines) (plan : Plan) (es : List Effect) (s t : ScheduleState) (h
         noted = named ∙ h.noted;
         heard = heard_all call answer l never lines;
         as_many = ap length lines ∙ h.as_many;
+        causes_are = causes_next how plan.displays call answer es s.causes t.causes h.causes_are causes;
         next_is = next;
         calls_are = calls ∙ one_more (length es) s.calls h.calls_are;
       })
@@ -114,9 +120,9 @@ module _ (how : Lines) (plan : Plan) (es : List Effect) (s t : ScheduleState) (h
   )
 
   pub has_received : (answer : Reply) (c : ℕ) → StandsFor (step s.dispatcher.displays (Receive c) answer es) t.dispatcher
-      → Hears (reply_to es (Receive c)) c s.lines t.lines → t.next ≡ s.next → t.calls ≡ counted (s.calls + 1)
+      → Hears (reply_to es (Receive c)) c s.lines t.lines → t.causes ≡ s.causes → t.next ≡ s.next → t.calls ≡ counted (s.calls + 1)
       → HasWith how plan (answered plan.displays (Receive c) es) t
-  has_received answer c stands hears next calls =
+  has_received answer c stands hears causes next calls =
       let there : StandsFor (step plan.displays (Receive c) answer es) t.dispatcher = stands_plan how plan (Receive c) answer es s t.dispatcher h stands in
       let l : Lawful plan.displays (step plan.displays (Receive c) answer es) = lawful_plan plan (step plan.displays (Receive c) answer es) t.dispatcher (same ∙ h.displays_are) there in
       let told = (lawful_last plan.displays (Receive c) answer es l).0 in
@@ -128,6 +134,7 @@ module _ (how : Lines) (plan : Plan) (es : List Effect) (s t : ScheduleState) (h
         noted = named ∙ h.noted;
         heard = lines.1;
         as_many = lines.0 ∙ h.as_many;
+        causes_are = causes ∙ h.causes_are ∙ causes_stay how plan.displays c answer es;
         next_is = next ∙ h.next_is ∙ omega arith;
         calls_are = calls ∙ one_more (length es) s.calls h.calls_are;
       })

@@ -66,6 +66,7 @@ has_with how plan es s messages h =
       noted = h.noted;
       heard = h.heard;
       as_many = h.as_many;
+      causes_are = h.causes_are;
       next_is = h.next_is;
       calls_are = h.calls_are;
     }

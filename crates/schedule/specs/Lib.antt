@@ -3,6 +3,7 @@ pub mod Next
 pub mod Planned
 pub mod Printing
 pub mod Lines
+pub mod Causes
 pub mod State
 pub mod More
 pub mod DueView

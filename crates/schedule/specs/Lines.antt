@@ -6,12 +6,13 @@ use Rattle.dispatcher.specs.Access.{gone}
 use Rattle.dispatcher.specs.Dispatching.{Dispatching}
 use Rattle.stream_text.specs.Spelling.{message_lines}
 use Rattle.schedule.specs.declared.keeping.Lines.{Lines}
-use Rattle.schedule.specs.declared.keeping.Lines.TheVariants.{Kept, Counted}
+use Rattle.schedule.specs.declared.keeping.Lines.TheVariants.{Kept, Counted, Causes}
 
 -- how many texts a run of so many channels has: one for each channel, or none
 abbrev pub texts : Lines → ℕ → ℕ
 texts Kept n = n
 texts Counted n = 0
+texts Causes n = 0
 
 -- the lines of a channel, where channel 1 is the first
 abbrev pub lines_at : List (List ℕ) → ℕ → List ℕ

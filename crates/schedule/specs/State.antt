@@ -1,5 +1,5 @@
 -- A run of a plan as contracts see it, and what it stands for.
-use Rattle.std.specs.Prelude.{◌≡◌, ℕ, ◌-◌, ◌^◌, ◌≤◌, ◌<◌, min, max, nat_lt, ◌||◌, Bool, true, List, ◌++◌, length, fold}
+use Rattle.std.specs.Prelude.{◌≡◌, ℕ, ◌-◌, ◌^◌, ◌≤◌, ◌<◌, min, max, nat_lt, ◌||◌, Bool, true, List, ◌++◌, length, fold, Option}
 use Rattle.dispatch_history.specs.History.{opened, live, received, clock}
 use Rattle.dispatch_history.specs.Effect.{Effect, past_of}
 use Rattle.dispatch_history.specs.Delivery.{published, delivery}
@@ -9,14 +9,16 @@ use Rattle.dispatcher.specs.Access.{namings_gone}
 use Rattle.dispatcher.specs.Dispatching.{Dispatching, StandsFor}
 use Rattle.schedule.specs.declared.keeping.Lines.{Lines}
 use Rattle.schedule.specs.declared.keeping.Lines.TheVariants.{Kept}
+use Rattle.schedule.specs.Causes.{causes_of}
 use Rattle.schedule.specs.Lines.{Heard, texts}
 use Rattle.schedule.specs.Run.{with_cooked, messages_in, IsWithin}
 
--- a run: the dispatcher, the lines of what each channel's owner received, how many steps were made, how many calls, how many messages
--- there are, and the latest moment of args
+-- a run: the dispatcher, the lines of what each channel's owner received, the causes of the calls where they are told, how many steps were
+-- made, how many calls, how many messages there are, and the latest moment of args
 pub record ScheduleState : Type 0 where
   pub dispatcher : Dispatching
   pub lines : List (List ℕ)
+  pub causes : Option (List ℕ)
   pub next : ℕ
   pub calls : ℕ
   pub messages : ℕ
@@ -31,13 +33,14 @@ abbrev pub is_over : ScheduleState → Bool
 is_over s = nat_lt 4000000 s.calls || nat_lt 4000000 s.messages
 
 -- it stands for these effects, no naming was let go, and of what each channel's owner received and of what was let go it has the lines, or none
--- where messages are only counted
+-- where they are not kept; where it tells causes it has their text
 pub record HasWith (how : Lines) (plan : Plan) (es : List Effect) (s : ScheduleState) : Type 0 where
   pub stands : StandsFor es s.dispatcher
   pub displays_are : s.dispatcher.displays ≡ plan.displays
   pub noted : namings_gone s.dispatcher ≡ 0
   pub heard : Heard es s.dispatcher s.lines
   pub as_many : length s.lines ≡ texts how (length plan.channels)
+  pub causes_are : s.causes ≡ causes_of how plan.displays es
   pub next_is : s.next ≡ scripted (past_of es)
   pub calls_are : s.calls ≡ counted (length es)
 

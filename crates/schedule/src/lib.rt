@@ -16,6 +16,11 @@
 //! effects of the ordered run of all args that came. The next round is found from the oldest message of each channel,
 //! since what is published is received at once. Where a run keeps its [`Lines`], each message is written as it is
 //! received, and the text of the run is made of these; a run that only counts them goes the same way, and has no text.
+//! A run that tells causes has, of each call but receives, what it came to: the first of these rounds gives
+//!
+//! ```text
+//! 5000 down 1 0 540,1200 touched 1 row first chosen 1 spies - pilfering - given 1 mute - outside -
+//! ```
 #![tactic(auto)]
 
 mod advance;

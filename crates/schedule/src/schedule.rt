@@ -1,5 +1,5 @@
 //! The run itself.
-ghost use Rattle.std.specs.Prelude.{◌≡◌, ◌≤◌, ◌<◌, ◌+◌, ◌-◌, ◌^◌, ℕ, true, false, List, [], ◌∷◌, IfOk, OnOk, drop, replicate, length, reverse};
+ghost use Rattle.std.specs.Prelude.{◌≡◌, ◌≤◌, ◌<◌, ◌+◌, ◌-◌, ◌^◌, ℕ, true, false, List, [], ◌∷◌, IfOk, OnOk, drop, replicate, length, option_map, reverse};
 ghost use Rattle.stream_text.specs.Spelling.{message_lines};
 ghost use Rattle.dispatch_calls.specs.declared.call.Call.{Call as CallView};
 ghost use Rattle.dispatch_history.specs.Effect.{Effect, past_of, stream};
@@ -7,9 +7,12 @@ ghost use Rattle.dispatch_history.specs.Legal.{answered};
 ghost use Rattle.dispatch_history.specs.Ordered.{extend, is_scripted, scripted, received_all};
 ghost use Rattle.dispatch_history.specs.Plan.{Plan as PlanView};
 ghost use Rattle.dispatch_history.specs.Reply.{reply_to};
-ghost use Rattle.dispatcher.specs.Access.{gone, is_opened};
+ghost use Rattle.dispatcher.specs.Access.{gone, is_opened, namings_gone};
 ghost use Rattle.dispatcher.specs.Dispatching.{StandsFor};
 ghost use Rattle.schedule.specs.declared.keeping.Lines.{Lines};
+ghost use Rattle.schedule.specs.declared.keeping.Lines.TheVariants.{Causes};
+ghost use Rattle.why_text.specs.Text.{why_text};
+ghost use Rattle.schedule.specs.Causes.{Applies};
 ghost use Rattle.schedule.specs.Hearing.{Hears, WithMore};
 ghost use Rattle.schedule.specs.Kinds.{is_receiving};
 ghost use Rattle.schedule.specs.Receives.{receives_of};
@@ -21,14 +24,17 @@ use crate::stream::{Stream, hear, hear_all};
 use dispatch_calls::Call;
 use dispatcher::Dispatcher;
 use input_types::Moment;
-use std::alloc::AllocError;
+use std::alloc::{AllocError, Global};
 use std::marker::Model;
+use std::mem;
 
 /// A run of a plan, to which args come one by one.
 #[derive(Drop)]
 pub struct Schedule {
     pub(crate) dispatcher: Dispatcher,
     pub(crate) streams: Vec<Stream>,
+    /// The causes of the calls so far as a text, where they are told.
+    pub(crate) causes: Option<Vec<u8>>,
     /// How many steps were made.
     pub(crate) next: usize,
     pub(crate) calls: u64,
@@ -38,6 +44,7 @@ pub struct Schedule {
 }
 
 impl Model for Schedule {
+    ghost use Rattle.std.specs.Prelude.{option_map};
     ghost use Rattle.schedule.specs.State.{ScheduleState};
 
     ghost Value = { ScheduleState };
@@ -45,6 +52,7 @@ impl Model for Schedule {
     ghost view = { λ s. record {
       dispatcher = s.dispatcher;
       lines = s.streams.items;
+      causes = option_map (λ text. text.items) s.causes;
       next = s.next;
       calls = s.calls;
       messages = s.messages;
@@ -58,6 +66,17 @@ impl Schedule {
         ensures { result ≡ self.now.next }
     {
         self.next
+    }
+
+    /// Takes out the text of the causes of the calls so far.
+    pub fn take_causes(&mut self, alloc: Global) -> Vec<u8>
+        ensures { (plan : PlanView) (es : List Effect) → HasWith Causes plan es self.old
+            → result.items ≡ why_text plan.displays es }
+    {
+        match mem::replace(&mut self.causes, None) {
+            Some(text) => text,
+            None => Vec::new(alloc),
+        }
     }
 
     /// One call that is no receive, after which so many steps were made. Of a channel that it removes nothing is kept
@@ -90,7 +109,7 @@ impl Schedule {
         ensures more { (es : List Effect) → ComesTo es self.old.dispatcher → ComesTo es self.new.dispatcher }
         ensures latest { self.new.latest ≡ self.old.latest }
     {
-        match self.dispatcher.apply_unread(call) {
+        match apply_call(&mut self.causes, &mut self.dispatcher, call) {
             Ok(()) => {
                 self.next = next;
                 self.calls = self.calls.saturating_add(1);
@@ -226,6 +245,26 @@ impl Schedule {
         }
         self.messages = messages;
         Ok(())
+    }
+}
+
+/// Applies a call, and puts what it comes to behind the text of the causes, where there is one.
+fn apply_call(
+    causes: &mut Option<Vec<u8>>,
+    dispatcher: &mut Dispatcher,
+    call: &Call,
+) -> Result<(), AllocError>
+    ensures after { (es : List Effect) → StandsFor es dispatcher.old
+        → OnOk result (Applies call.now es dispatcher.old.displays
+        (option_map (λ text. text.items) causes.old) (option_map (λ text. text.items) causes.new) dispatcher.new) }
+    ensures displays { dispatcher.new.displays ≡ dispatcher.old.displays }
+    ensures gone { (c : ℕ) → 1 ≤ c → gone dispatcher.new c ≡ gone dispatcher.old c }
+    ensures namings { namings_gone dispatcher.new ≡ namings_gone dispatcher.old }
+    ensures more { (es : List Effect) → ComesTo es dispatcher.old → ComesTo es dispatcher.new }
+{
+    match causes {
+        Some(text) => why_lines::apply(text, dispatcher, call),
+        None => dispatcher.apply_unread(call),
     }
 }
 

@@ -1,6 +1,6 @@
 //! The slots of a device.
 ghost use Rattle.std.specs.Prelude.{◌≡◌, ℕ, ◌+◌, ◌<◌, ◌≤◌, List, [], ◌∷◌, ◌++◌, MatchOption, ℤ, Bool, pos, false, not, ◌&&◌};
-ghost use Rattle.std.specs.Prelude.{◌||◌, int_le, length, nat_eq};
+ghost use Rattle.std.specs.Prelude.{◌||◌, int_le, length, nat_eq, if◌then◌else◌};
 ghost use Rattle.std.specs.List.{list_any};
 ghost use Rattle.std.specs.Ordering.{int_eq};
 ghost use Rattle.raw_events.specs.declared.event.RawEvent.{RawEvent as Event};
@@ -39,18 +39,38 @@ pub struct Slots {
     palms: Palms,
     current: i32,
     slots: u8,
+
+    /// Whether the tool type of a row is that of a palm.
+    palm_tool: bool,
 }
 
 impl Model for Slots {
+    ghost use Rattle.std.specs.Prelude.{◌≡◌};
+    ghost use Rattle.std.specs.List.{list_any};
     ghost use Rattle.slot_accumulator.specs.Table.{Table, IsTable};
+    ghost use Rattle.slot_accumulator.specs.SlotContacts.{has_palm_tool};
 
     ghost Value = { Table };
 
     ghost view = { λ s. record { slots = s.slots; current = s.current; rows = s.rows; palms = s.palms } };
 
-    ghost invariant = { λ s. IsTable s.slots s.rows };
+    ghost invariant = { λ s. IsTable s.slots s.rows × (list_any (λ r. has_palm_tool r) s.rows ≡ s.palm_tool) };
 
-    ghost inverse = { λ t. record { rows = t.rows; palms = t.palms; current = t.current; slots = t.slots } };
+    ghost inverse = { λ t. record {
+      rows = t.rows;
+      palms = t.palms;
+      current = t.current;
+      slots = t.slots;
+      palm_tool = list_any (λ r. has_palm_tool r) t.rows;
+    } };
+
+    ghost inverse_ok = { λ s h i. record {
+      rows = s.rows;
+      palms = s.palms;
+      current = s.current;
+      slots = s.slots;
+      palm_tool = h.1 i;
+    } };
 }
 
 impl Slots {
@@ -75,6 +95,7 @@ impl Slots {
             palms: Palms::empty(),
             current: 0,
             slots,
+            palm_tool: false,
         }
     }
 
@@ -90,7 +111,8 @@ impl Slots {
         ensures slots { self.new.slots ≡ self.old.slots }
     {
         if is_report(&event) {
-            self.palms = palms(self.rows.split_at(usize::from(self.slots)).0, &self.palms);
+            let rows = self.rows.split_at(usize::from(self.slots)).0;
+            note_palms(rows, self.palm_tool, &mut self.palms);
             return;
         }
         if event.kind != EV_ABS {
@@ -103,6 +125,7 @@ impl Slots {
         if let Some(at) = place(self.current) {
             let row = self.rows[at];
             self.rows[at] = written(&row, &event);
+            self.palm_tool = tool_after(event.code, self.palm_tool, &self.rows);
         }
     }
 
@@ -169,15 +192,44 @@ fn written(row: &Row, event: &RawEvent) -> Row
     after
 }
 
+/// Whether the tool type of a slot of some is that of a palm, after an event of this code was written to them.
+fn tool_after(code: u16, before: bool, rows: &[Row]) -> bool
+    ensures { result ≡ (if nat_eq code 55 then list_any (λ r. has_palm_tool r) rows.now else before) }
+{
+    if code == ABS_MT_TOOL_TYPE {
+        any_tool(rows)
+    } else {
+        before
+    }
+}
+
+/// Notes the tracking ids of the palms among the contacts of some slots, given those of the packet before. Nothing
+/// changes where there is none.
+fn note_palms(rows: &[Row], palm_tool: bool, noted: &mut Palms)
+    requires few { length rows.now ≤ 16 }
+    requires tool { palm_tool ≡ false → list_any (λ r. has_palm_tool r) rows.now ≡ false }
+    ensures { (tracking : ℤ) → is_kept noted.new tracking ≡ palm_below (row_in rows.now)
+        (λ t. is_kept noted.old t) (length rows.now) tracking }
+{
+    if no_palm(palm_tool, noted) {
+        return;
+    }
+    *noted = palms(rows, noted);
+}
+
+/// Whether no slot can hold a palm: there was none before, and no tool type is that of one.
+fn no_palm(palm_tool: bool, before: &Palms) -> bool
+    ensures { result ≡ (nat_eq (length before.now) 0 && not palm_tool) }
+{
+    before.len() == 0 && !palm_tool
+}
+
 /// The tracking ids of the palms among the contacts of some slots, given those of the packet before.
 fn palms(rows: &[Row], before: &Palms) -> Palms
     requires { length rows.now ≤ 16 }
     ensures { (tracking : ℤ) → is_kept result tracking ≡ palm_below (row_in rows.now)
         (λ t. is_kept before.now t) (length rows.now) tracking }
 {
-    if no_palm(rows, before) {
-        return Palms::empty();
-    }
     let mut palms = Palms::empty();
     for (slot, row) in rows.iter().enumerate() {
         if is_palm(row, rows.split_at(slot).0, before) {
@@ -185,13 +237,6 @@ fn palms(rows: &[Row], before: &Palms) -> Palms
         }
     }
     palms
-}
-
-/// Whether no slot can hold a palm: there was none before, and no tool type is that of one.
-fn no_palm(rows: &[Row], before: &Palms) -> bool
-    ensures { result ≡ (nat_eq (length before.now) 0 && not (list_any (λ r. has_palm_tool r) rows.now)) }
-{
-    before.len() == 0 && !any_tool(rows)
 }
 
 /// Whether the tool type of a slot is that of a palm.

@@ -39,7 +39,8 @@ held_by es h k only =
 pub held_none : (es : List Effect) (k : KeyArgs) → ((w : ℕ) → keys es w ≡ []) → first_of (key_holders es k) ≡ None
 held_none es k none = first_none (λ w. list_any (same_key k) (keys es w)) (λ w. ap (list_any (same_key k)) (none w))
 
-same_itself : (k : KeyArgs) → same_key k k ≡ true
+-- a key is the same as itself
+pub same_itself : (k : KeyArgs) → same_key k k ≡ true
 same_itself k = ap₂ (λ a b. a && b) (eq-eqb k.device k.device refl) (eq-eqb k.scan k.scan refl)
 
 -- a key that was put among keys is there

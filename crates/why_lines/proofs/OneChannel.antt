@@ -31,13 +31,17 @@ up_to test t (suc n) only low high =
         ap₂ (λ xs b. xs ++ cond b (suc n ∷ []) []) (more le) (only (suc n) (ne_eqb (suc n) t (λ e. omega (arith, le, e))))
         ∙ append-nil (cond (test t) (t ∷ []) [])
 
--- the first channel that passes is that one, where it does
-pub first_is : (test : ℕ → Bool) (t : ℕ) → is_channel t ≡ true → Only test t → first_of (channels_that test) ≡ cond (test t) (Some t) None
+-- the channels that pass are that one, where it does
+pub that_is : (test : ℕ → Bool) (t : ℕ) → is_channel t ≡ true → Only test t → channels_that test ≡ cond (test t) (t ∷ []) []
 unfolding channels_that
-first_is test t number only =
+that_is test t number only =
     let x = and_parts (nat_lt 0 t) (nat_le t 64) number in
     let low : 0 < t = ltb-true 0 t x.0 in
-    ap first_of (up_to test t 64 only (omega (arith, low)) (leb-true t 64 x.1)) ∙ by_test (test t)
+    up_to test t 64 only (omega (arith, low)) (leb-true t 64 x.1)
+
+-- the first channel that passes is that one, where it does
+pub first_is : (test : ℕ → Bool) (t : ℕ) → is_channel t ≡ true → Only test t → first_of (channels_that test) ≡ cond (test t) (Some t) None
+first_is test t number only = ap first_of (that_is test t number only) ∙ by_test (test t)
   where
     by_test : (b : Bool) → first_of (cond b (t ∷ []) []) ≡ cond b (Some t) None
     by_test true = refl

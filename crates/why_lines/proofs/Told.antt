@@ -1,5 +1,5 @@
 -- Steps that are told as they are made.
-use Rattle.std.proofs.Common.{◌≡◌, ℕ, max, false, List, ◌∷◌, ◌++◌, flat_map, Result, Ok, Err, IfOk, OnOk, refl, sym, ap, ap₂, ◌∙◌, subst}
+use Rattle.std.proofs.Common.{◌≡◌, ℕ, max, true, false, List, ◌∷◌, ◌++◌, flat_map, Result, Ok, Err, IfOk, OnOk, refl, sym, ap, ap₂, ◌∙◌, append-nil, subst}
 use Rattle.dispatch_calls.specs.Moments.{moment_of}
 use Rattle.dispatch_calls.specs.declared.call.Call.{Call}
 use Rattle.dispatch_calls.specs.declared.reply.Reply.{Reply}
@@ -11,9 +11,10 @@ use Rattle.dispatch_history.specs.Reply.{reply_to}
 use Rattle.dispatch_tables.specs.Lawful.{Lawful}
 use Rattle.dispatch_tables.proofs.Lawfuls.{lawful_last}
 use Rattle.dispatcher.specs.Dispatching.{Dispatching, StandsFor}
-use Rattle.why_text.specs.Laws.{may_move_focus}
+use Rattle.why_text.specs.Laws.{is_silent, may_move_focus}
 use Rattle.why_text.specs.Lines.{call_words}
 use Rattle.why_text.specs.Text.{focus_words, line}
+use Rattle.why_text.proofs.RestLaws.{silent_law}
 use Rattle.why_lines.specs.Growing.{with_lines}
 use Rattle.why_lines.specs.Telling.{Tells}
 use Rattle.why_lines.proofs.Growing.{more_lines}
@@ -75,4 +76,15 @@ tells_moved ds call es answer d t words old new stands same at grown are =
           ∙ more_lines t words changes old
           ∙ ap₂ (λ n ws. old ++ flat_map (line n) (ws ++ changes)) at (are (lawful_last ds call answer es l).0)
           ∙ ap (λ text. old ++ text) (sym (moved_law ds call answer es x refl));
+    }
+
+-- a silent step tells nothing
+pub untold : (ds : List ℕ) (call : Call) (es : List Effect) (text : List ℕ) (answer : Reply) (d : Dispatching) → StandsFor (step ds call answer es) d
+    → is_silent call answer ≡ true → Tells call es ds text text d
+untold ds call es text answer d stands silent =
+    let x = effect_of ds call answer (args_of call answer (inbound (past_of es))) es in
+    record {
+      answer = answer;
+      stands = stands;
+      text_is = sym (ap (λ more. text ++ more) (silent_law ds x es call answer refl silent) ∙ append-nil text);
     }

@@ -1,9 +1,12 @@
 pub mod Coming
 pub mod Focusing
+pub mod Gone
 pub mod Growing
+pub mod Held
 pub mod Holding
 pub mod Losing
 pub mod Owners
 pub mod Pumping
+pub mod Rows
 pub mod Telling
 pub mod Laws

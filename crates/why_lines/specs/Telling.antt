@@ -1,10 +1,12 @@
 -- A step that is made and told.
-use Rattle.std.specs.Prelude.{◌≡◌, ℕ, List, ◌++◌}
+use Rattle.std.specs.Prelude.{◌≡◌, ◌≤◌, ℕ, Bool, List, ◌++◌, if◌then◌else◌}
 use Rattle.dispatch_calls.specs.declared.call.Call.{Call}
 use Rattle.dispatch_calls.specs.declared.reply.Reply.{Reply}
 use Rattle.dispatch_history.specs.Effect.{Effect, past_of}
 use Rattle.dispatch_history.specs.Effects.{effect_of, step}
+use Rattle.dispatch_history.specs.Legal.{answered}
 use Rattle.dispatch_history.specs.Queue.{args_of, inbound}
+use Rattle.dispatcher.specs.Access.{gone, namings_gone}
 use Rattle.dispatcher.specs.Dispatching.{Dispatching, StandsFor}
 use Rattle.why_text.specs.Text.{step_text}
 
@@ -13,3 +15,13 @@ pub record Tells (call : Call) (es : List Effect) (displays old new : List ℕ) 
   pub answer : Reply
   pub stands : StandsFor (step displays call answer es) d
   pub text_is : new ≡ old ++ step_text displays (effect_of displays call answer (args_of call answer (inbound (past_of es))) es) es
+
+-- The call was made, or it was not: the dispatcher stands for the history with this step more, or without it. No message and no naming was
+-- let go.
+pub record MayMake (call : Call) (old new : Dispatching) : Type 0 where
+  pub displays_are : new.displays ≡ old.displays
+  pub gone_is : (c : ℕ) → 1 ≤ c → gone new c ≡ gone old c
+  pub namings_are : namings_gone new ≡ namings_gone old
+  pub stands :
+      (es : List Effect) → StandsFor es old
+      → (is_made : Bool) × StandsFor (if is_made then answered old.displays call es else es) new

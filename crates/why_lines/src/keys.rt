@@ -102,8 +102,8 @@ fn add_due(text: &mut Vec<u8>, clock: Moment, dispatcher: &Dispatcher) -> Result
     }
 }
 
-/// Whether a repeat is due at a moment.
-fn is_due(due: Option<u64>, now: Moment) -> bool
+/// Whether something is due at a moment.
+pub(crate) fn is_due(due: Option<u64>, now: Moment) -> bool
     ensures { result ≡ is_due due now }
 {
     match due {

@@ -1,5 +1,5 @@
 //! What is proved of the lines of a step. Each function has a law as its clause, and does nothing.
-ghost use Rattle.why_lines.specs.Laws.{FinishLaw, StillLaw};
+ghost use Rattle.why_lines.specs.Laws.{DownLaw, FinishLaw, NoDownLaw, StillLaw};
 
 /// A finish tells that its channel answers again exactly where that is able after it and was not before it.
 pub fn finishing()
@@ -9,4 +9,11 @@ pub fn finishing()
 /// A step that cannot move the focus tells just the lines of its call, each with the clock after the step in front.
 pub fn telling()
     ensures { StillLaw }
+{}
+
+/// The stream of a window gets a Down or a PointerDown exactly where the text gives it a pointer that goes down, or
+/// tells that one slips to it. So the text and the streams never disagree.
+pub fn streaming()
+    ensures motions { DownLaw }
+    ensures others { NoDownLaw }
 {}

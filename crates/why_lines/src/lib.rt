@@ -1,7 +1,7 @@
 //! What the next step of a dispatcher tells of its causes, as lines, from what the dispatcher itself is asked.
 //!
 //! Two windows stand side by side, 1 on the left and 2 on the right, and a finger is down on the left one. A second
-//! finger on the right one waits. [`add_pump`] puts this line behind a text:
+//! finger on the right one waits. [`apply`] of the pump that dispatches it puts this line behind a text:
 //!
 //! ```text
 //! 1010000 down 1 1 700,400 touched 2 row split chosen 2 spies - pilfering - given 2 mute - outside -
@@ -11,16 +11,18 @@
 //! by a second rule. What a pump and a pilfer tell is known before they are made, since their replies are. What a
 //! finish tells, and which changes of the focus a step tells, is known from what was asked before it and after it.
 //!
+//! - [`apply`]: any call of a dispatcher is made and told at once. What is put behind the text is `step_text` of the
+//!   step.
+//! - [`pump`], [`tick`], [`finish`], [`pilfer`], [`windows`], [`focus_on`], [`open`], [`remove`]: the same, each of
+//!   one call.
 //! - [`add_pump`]: a pointer that goes down, slips or goes up, a palm, a key, a repeat, or a device that begins anew.
 //! - [`add_pilfer`], [`add_finish`]: what owners of channels do ([`laws`]).
-//! - [`pump`], [`pilfer`], [`finish`], [`open`], [`remove`]: steps that are made and told at once. What is put behind
-//!   the text is `step_text` of the step.
 //! - [`all_focused`], [`add_changes`]: the changes of the focus, and of the window that keys go to.
-//!
-//! What windows lose to a new snapshot, to a new focus or to a timeout is not told by this crate yet.
 #![tactic(auto)]
 
+mod calls;
 mod focuses;
+mod gone;
 mod holders;
 mod keys;
 pub mod laws;
@@ -28,10 +30,17 @@ mod losing;
 mod motions;
 mod owners;
 mod pumps;
+mod requests;
+mod rows;
 mod seen;
+mod snapshots;
 mod steps;
+mod ticks;
 
+pub use calls::apply;
 pub use focuses::{Focuses, add_changes, all_focused};
 pub use owners::{add_finish, add_pilfer};
 pub use pumps::add_pump;
-pub use steps::{finish, open, pilfer, pump, remove};
+pub use requests::focus_on;
+pub use snapshots::windows;
+pub use steps::{finish, open, pilfer, pump, remove, tick};

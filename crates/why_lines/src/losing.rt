@@ -1,9 +1,7 @@
 //! What a window loses that is not able to take input any more: all that it holds.
-ghost use Rattle.std.specs.Prelude.{◌≡◌, ◌≤◌, ◌++◌, ◌==◌, ℕ, List, [], true, map, flat_map, if◌then◌else◌, IfOk};
-ghost use Rattle.bits32.specs.Set.{is_in};
+ghost use Rattle.std.specs.Prelude.{◌≡◌, ◌++◌, ◌==◌, List, [], true, map, flat_map, if◌then◌else◌, IfOk};
 ghost use Rattle.window_snapshot.specs.Mask.{is_channel};
 ghost use Rattle.routing_rules.specs.Told.{devices};
-ghost use Rattle.route_split.specs.Tables.{holds_at};
 ghost use Rattle.dispatch_calls.specs.declared.reply.Reply.TheVariants.{Done, Gone};
 ghost use Rattle.dispatch_history.specs.Effect.{Effect, past_of};
 ghost use Rattle.dispatch_history.specs.History.{live};
@@ -18,43 +16,21 @@ ghost use Rattle.why_lines.specs.Losing.{LosesAll};
 
 use crate::holders::{KeyHolder, key_holder};
 use crate::owners::is_live;
+use crate::rows::row_of;
 use bits32::Bits32;
 use dispatcher::Dispatcher;
-use input_types::{DeviceId, KeyArgs, KeyMsg, Moment};
-use route_split::Touches;
+use input_types::{KeyArgs, KeyMsg, Moment};
 use std::alloc::{AllocError, Global};
 use why_writer::{Lost, removed, removed_gone};
 use window_snapshot::is_channel;
 
-/// The ids of the pointers of a device that a window holds.
-fn held_by(touches: &Touches, window: u32, device: u8) -> Bits32
-    requires number { is_channel window ≡ true }
-    requires low { 1 ≤ device }
-    requires high { device ≤ 8 }
-    ensures { (i : ℕ) → is_in i result ≡ holds_at touches.now window device i }
-{
-    match DeviceId::new(device) {
-        Some(device) => touches.held(window, device),
-        None => Bits32::empty(),
-    }
-}
-
 /// The ids of the pointers that a window holds, of each device.
-fn ids_of(dispatcher: &Dispatcher, window: u32) -> [Bits32; 8]
+pub(crate) fn ids_of(dispatcher: &Dispatcher, window: u32) -> [Bits32; 8]
     requires { is_channel window ≡ true }
     ensures { (es : List Effect) → StandsFor es dispatcher.now
         → ids_from 1 result ≡ flat_map (λ d. ids_item d (ids_that (holds es window d))) devices }
 {
-    let touches = dispatcher.touches();
-    let first = held_by(touches, window, 1);
-    let second = held_by(touches, window, 2);
-    let third = held_by(touches, window, 3);
-    let fourth = held_by(touches, window, 4);
-    let fifth = held_by(touches, window, 5);
-    let sixth = held_by(touches, window, 6);
-    let seventh = held_by(touches, window, 7);
-    let eighth = held_by(touches, window, 8);
-    [first, second, third, fourth, fifth, sixth, seventh, eighth]
+    row_of(dispatcher.touches(), window)
 }
 
 /// The keys of messages.
@@ -77,7 +53,7 @@ fn keys_at(alloc: Global, holder: &KeyHolder, window: u32) -> Result<Vec<KeyArgs
 }
 
 /// The keys that a window holds.
-fn keys_held(
+pub(crate) fn keys_held(
     alloc: Global,
     dispatcher: &Dispatcher,
     window: u32,

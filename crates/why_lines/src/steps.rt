@@ -1,15 +1,16 @@
-//! Steps that are made and told. After want of memory the step may have been made or not, and a part of the lines may
-//! have been added.
+//! Steps that are made and told. After want of memory the step was made or it was not, and a part of the lines may have
+//! been added.
 ghost use Rattle.std.specs.Prelude.{List, OnOk};
-ghost use Rattle.dispatch_calls.specs.declared.call.Call.TheVariants.{Finish, Open, Pilfer, Pump, Remove};
+ghost use Rattle.dispatch_calls.specs.declared.call.Call.TheVariants.{Finish, Open, Pilfer, Pump, Remove, Tick};
 ghost use Rattle.dispatch_history.specs.Effect.{Effect};
 ghost use Rattle.dispatcher.specs.Dispatching.{StandsFor};
-ghost use Rattle.why_lines.specs.Telling.{Tells};
+ghost use Rattle.why_lines.specs.Telling.{MayMake, Tells};
 
 use crate::focuses::{add_changes, all_focused};
 use crate::losing::add_removal;
 use crate::owners::{add_finish, add_pilfer};
 use crate::pumps::add_pump;
+use crate::ticks::add_tick;
 use dispatch_calls::Call;
 use dispatcher::Dispatcher;
 use input_types::{DeviceId, Limit, Moment};
@@ -17,13 +18,26 @@ use std::alloc::AllocError;
 
 /// Makes a pump, and adds what it tells.
 pub fn pump(text: &mut Vec<u8>, dispatcher: &mut Dispatcher, now: Moment) -> Result<(), AllocError>
-    ensures { (es : List Effect) → StandsFor es dispatcher.old
+    ensures told { (es : List Effect) → StandsFor es dispatcher.old
         → OnOk result
         (Tells (Pump now) es dispatcher.old.displays text.old.items text.new.items dispatcher.new) }
+    ensures made { MayMake (Pump now) dispatcher.old dispatcher.new }
 {
     let clock = now.later(dispatcher.clock());
     add_pump(text, clock, dispatcher)?;
     dispatcher.apply_unread(&Call::Pump { now })
+}
+
+/// Makes a tick, and adds what it tells: of each window that it names, what that loses.
+pub fn tick(text: &mut Vec<u8>, dispatcher: &mut Dispatcher, now: Moment) -> Result<(), AllocError>
+    ensures told { (es : List Effect) → StandsFor es dispatcher.old
+        → OnOk result
+        (Tells (Tick now) es dispatcher.old.displays text.old.items text.new.items dispatcher.new) }
+    ensures made { MayMake (Tick now) dispatcher.old dispatcher.new }
+{
+    let clock = now.later(dispatcher.clock());
+    add_tick(text, clock, dispatcher)?;
+    dispatcher.apply_unread(&Call::Tick { now })
 }
 
 /// Makes a pilfer by a channel of a device, and adds what it tells.
@@ -34,9 +48,10 @@ pub fn pilfer(
     channel: u32,
     device: DeviceId,
 ) -> Result<(), AllocError>
-    ensures { (es : List Effect) → StandsFor es dispatcher.old
+    ensures told { (es : List Effect) → StandsFor es dispatcher.old
         → OnOk result
         (Tells (Pilfer now channel device) es dispatcher.old.displays text.old.items text.new.items dispatcher.new) }
+    ensures made { MayMake (Pilfer now channel device) dispatcher.old dispatcher.new }
 {
     let clock = now.later(dispatcher.clock());
     add_pilfer(text, clock, dispatcher, channel, device)?;
@@ -55,9 +70,10 @@ pub fn finish(
     channel: u32,
     seq: u64,
 ) -> Result<(), AllocError>
-    ensures { (es : List Effect) → StandsFor es dispatcher.old
+    ensures told { (es : List Effect) → StandsFor es dispatcher.old
         → OnOk result
         (Tells (Finish now channel seq) es dispatcher.old.displays text.old.items text.new.items dispatcher.new) }
+    ensures made { MayMake (Finish now channel seq) dispatcher.old dispatcher.new }
 {
     let clock = now.later(dispatcher.clock());
     let before = dispatcher.able();
@@ -73,9 +89,10 @@ pub fn remove(
     now: Moment,
     channel: u32,
 ) -> Result<(), AllocError>
-    ensures { (es : List Effect) → StandsFor es dispatcher.old
+    ensures told { (es : List Effect) → StandsFor es dispatcher.old
         → OnOk result
         (Tells (Remove now channel) es dispatcher.old.displays text.old.items text.new.items dispatcher.new) }
+    ensures made { MayMake (Remove now channel) dispatcher.old dispatcher.new }
 {
     let clock = now.later(dispatcher.clock());
     let before = all_focused(dispatcher);
@@ -87,9 +104,10 @@ pub fn remove(
 
 /// Opens a channel with a limit, and adds what that tells: the changes of the focus.
 pub fn open(text: &mut Vec<u8>, dispatcher: &mut Dispatcher, limit: Limit) -> Result<(), AllocError>
-    ensures { (es : List Effect) → StandsFor es dispatcher.old
+    ensures told { (es : List Effect) → StandsFor es dispatcher.old
         → OnOk result
         (Tells (Open limit) es dispatcher.old.displays text.old.items text.new.items dispatcher.new) }
+    ensures made { MayMake (Open limit) dispatcher.old dispatcher.new }
 {
     let clock = Moment::zero().later(dispatcher.clock());
     let before = all_focused(dispatcher);

@@ -1,5 +1,6 @@
 //! Android's input service for programs in Rust, over `libinputflinger.a`: a [`Live`] sends touches and keys to the windows
-//! of clients, and a [`Judge`] tells whether what one window is told makes sense.
+//! of clients, a [`Judge`] tells whether what one window is told makes sense, and [`run`] runs the program over recordings
+//! in memory.
 //!
 //! What the archive does is written in Rattle and proved; this crate declares its calls and gives them Rust's types. A
 //! [`Judge`] is shown the messages of one stream, one by one, and says at which one the stream stops to be well-formed:
@@ -24,8 +25,10 @@
 mod judge;
 mod live;
 mod message;
+mod program;
 mod sys;
 
 pub use judge::{Fault, HeldKey, Judge, NoMemory, Reason, State, StepError};
 pub use live::{window_flags, Body, Client, Live, LiveError, Panel, Received, Rect, Window};
 pub use message::{Action, Key, Message, Motion, Pointer, FLAG_CANCELED};
+pub use program::{run, Ran, RunError};

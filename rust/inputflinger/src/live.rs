@@ -192,6 +192,11 @@ pub enum LiveError {
     TooMany,
     /// A panel has 1 to 16 slots. Nothing changed.
     BadSlots,
+    /// The text is no key layout. Nothing changed.
+    BadLayout {
+        /// Its first line that is refused, from 1 on.
+        line: u64,
+    },
     /// The client of the window at this place, from 0, is not open. Nothing changed.
     WindowNotOpen {
         /// The first such place.
@@ -219,6 +224,7 @@ impl fmt::Display for LiveError {
             LiveError::Waits => write!(f, "memory was wanting: what the device gave waits"),
             LiveError::TooMany => write!(f, "too many windows, or no device number is free"),
             LiveError::BadSlots => write!(f, "a panel has 1 to 16 slots"),
+            LiveError::BadLayout { line } => write!(f, "line {line} of the key layout is refused"),
             LiveError::WindowNotOpen { place } => {
                 write!(f, "the client of window {place} is not open")
             }
@@ -339,6 +345,36 @@ impl Live {
             sys::inputflinger_live_add_touch(&mut self.handle, display, slots, &panel, &mut device)
         })?;
         Ok(device)
+    }
+
+    /// Plugs in a device with keys of a display. `layout` is a text in the form of Android's `.kl` files; a scan code
+    /// that it does not have gives the key code 0. The answer is its number.
+    ///
+    /// ```
+    /// use inputflinger::{Live, LiveError};
+    ///
+    /// let mut live = Live::new(5_000_000, [0; 8])?;
+    /// let keyboard = live.add_keys(0, "key 30 A\nkey 48 B\n")?;
+    /// assert_eq!(live.add_keys(0, "key 30 a\n"), Err(LiveError::BadLayout { line: 1 }));
+    /// live.event(1000, keyboard, 1, 30, 1)?;
+    /// # Ok::<(), LiveError>(())
+    /// ```
+    ///
+    /// # Errors
+    ///
+    /// `OutOfRange`, `BadLayout`, `NoMemory`, and `TooMany` where all numbers of the display are taken.
+    pub fn add_keys(&mut self, display: u8, layout: &str) -> Result<u8, LiveError> {
+        let (mut device, mut line) = (0, 0);
+        let (text, len) = (layout.as_ptr().cast(), layout.len());
+        // SAFETY: as above.
+        let status = unsafe {
+            let live = &mut self.handle;
+            sys::inputflinger_live_add_keys(live, display, text, len, &mut device, &mut line)
+        };
+        if status == sys::BAD_LAYOUT {
+            return Err(LiveError::BadLayout { line });
+        }
+        done(status).map(|()| device)
     }
 
     /// Unplugs a device. What is down on it is cancelled, and its number is free.

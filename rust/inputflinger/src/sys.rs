@@ -1,6 +1,6 @@
 //! The calls and structs of include/inputflinger.h. A test holds their sizes against those that the archive tells.
 
-use std::ffi::c_void;
+use std::ffi::{c_char, c_void};
 
 /// `struct inputflinger_judge`
 #[repr(C)]
@@ -129,6 +129,22 @@ pub struct Displays {
     pub of_device: [u8; 8],
 }
 
+/// `struct inputflinger_file`
+#[repr(C)]
+pub struct File {
+    pub bytes: *const c_void,
+    pub len: usize,
+}
+
+/// `struct inputflinger_ran`
+#[repr(C)]
+#[derive(Default)]
+pub struct Ran {
+    pub out_len: usize,
+    pub err_len: usize,
+    pub status: u32,
+}
+
 pub const OK: i32 = 0;
 pub const NO_MEMORY: i32 = 3;
 pub const OUT_OF_RANGE: i32 = 4;
@@ -146,8 +162,21 @@ pub const WAITS: i32 = 16;
 pub const TOO_MANY: i32 = 17;
 pub const TWICE: i32 = 18;
 pub const BAD_SLOTS: i32 = 19;
+pub const BAD_LAYOUT: i32 = 20;
+pub const NO_THREADS: i32 = 21;
 
 extern "C" {
+    pub fn inputflinger_run(
+        words: *const c_char,
+        words_len: usize,
+        files: *const File,
+        files_len: usize,
+        out: *mut c_char,
+        out_room: usize,
+        err: *mut c_char,
+        err_room: usize,
+        ran: *mut Ran,
+    ) -> i32;
     pub fn inputflinger_judge_new(judge: *mut Judge) -> i32;
     pub fn inputflinger_judge_step(
         judge: *mut Judge,
@@ -170,6 +199,14 @@ extern "C" {
         slots: u8,
         panel: *const Panel,
         device: *mut u8,
+    ) -> i32;
+    pub fn inputflinger_live_add_keys(
+        live: *mut Live,
+        display: u8,
+        text: *const c_char,
+        len: usize,
+        device: *mut u8,
+        line: *mut u64,
     ) -> i32;
     pub fn inputflinger_live_remove_device(live: *mut Live, now_us: u64, device: u8) -> i32;
     pub fn inputflinger_live_event(
@@ -263,6 +300,7 @@ mod tests {
             size_of::<Axis>(),
             size_of::<Panel>(),
             size_of::<Displays>(),
+            size_of::<Ran>(),
         ];
         for (number, size) in sizes.iter().enumerate() {
             // SAFETY: the call takes a number and answers one.

@@ -9,8 +9,8 @@ use std::alloc::AllocError;
 
 impl Dispatcher {
     /// Makes room for the next `n` calls of `Notify`, and for the next `n` of `Pump`, so that they cannot answer want
-    /// of memory. Only a Notify takes of the room for args, that of one at most. A Notify leaves the room for pumps, and
-    /// a Pump takes that of one. Any other call that is answered takes all room for pumps away.
+    /// of memory. Only a Notify takes of the room for args, that of one at most. A Notify leaves the room for pumps,
+    /// and a Pump takes that of one. Any other call that is answered takes all room for pumps away.
     ///
     /// For each pump 131 messages are made room for in each live channel: 128 may be cancels. Without memory nothing
     /// changes.

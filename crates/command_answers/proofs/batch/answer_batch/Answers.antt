@@ -1,43 +1,23 @@
 -- A stream file that is accepted, and what is answered of its bytes.
-use Rattle.std.proofs.Common.{ℕ, List, [], Ok, sym, subst}
 use Rattle.std.proofs.lemmas.Result.{err_from_is_err_and}
-use Rattle.command_files.specs.Inputs.{stream_file}
-use Rattle.command_files.specs.Logged.{IsRead}
-use Rattle.command_files.proofs.Logs.{file_by, last_by, last_file}
-use Rattle.command_files.proofs.Outcomes.{if_err_map, if_ok_map}
-use Rattle.command_files.specs.Judged.{Ends}
 use Rattle.command_answers.specs.Batch.{BatchAnswers}
+use Rattle.command_answers.proofs.Streams.{stream_refused, stream_stops, stream_told}
 use Rattle.command_answers.proofs.batch.answer_batch.Goals as goal
 
 pub returns-in_err-bytes-clause-err : goal.returns-in_err-bytes-clause-err
 returns-in_err-bytes-clause-err g c =
-    let told = g.F.Files.entries c.args.files.now in
-    let before = g.F.Files.readings c.args.files.now in
-    let now = g.F.Files.readings c.read_stream.new.files in
-    let fb = g.F.Files.faults c.args.files.now in
-    let fn = g.F.Files.faults c.read_stream.new.files in
     let p = err_from_is_err_and c.from_residual.result c.from_residual.ensures.1 in
     rw (p.1, p.2)
-    (file_by told before now c.args.name.now stream_file [] (λ rest bytes. Ends (BatchAnswers c.args.frame bytes) rest) fb fn c.in_err-bytes.field-0.0 c.in_err-bytes.ensures.err)
+    (stream_stops (g.F.Files.entries c.args.files.now) (g.F.Files.readings c.args.files.now) (g.F.Files.readings c.read_stream.new.files) c.args.name.now
+    (BatchAnswers c.args.frame) (g.F.Files.faults c.args.files.now) (g.F.Files.faults c.read_stream.new.files) c.in_err-bytes.field-0.0 c.in_err-bytes.ensures.err)
 
 pub returns-clause-ok : goal.returns-clause-ok
 returns-clause-ok g c =
-    let told = g.F.Files.entries c.args.files.now in
-    let before = g.F.Files.readings c.args.files.now in
-    let now = g.F.Files.readings c.read_stream.new.files in
-    let bytes : List ℕ = c.deref.result.now in
-    let one : IsRead told before now c.args.name.now stream_file (Ok bytes) =
-    subst (λ (bs : List ℕ). IsRead told before now c.args.name.now stream_file (Ok bs)) (sym c.deref.ensures.value) c.in_ok-bytes.ensures.ok in
-    if_ok_map c.batches_of.result _ _ (λ text h. last_file told before now c.args.name.now stream_file bytes (BatchAnswers c.args.frame) (Ok text) one h) c.batches_of.ensures.ok
+    stream_told (g.F.Files.entries c.args.files.now) (g.F.Files.readings c.args.files.now) (g.F.Files.readings c.read_stream.new.files) c.args.name.now _
+    c.deref.result.now (BatchAnswers c.args.frame) c.batches_of.result c.deref.ensures.value c.in_ok-bytes.ensures.ok c.batches_of.ensures.ok
 
 pub returns-clause-err : goal.returns-clause-err
 returns-clause-err g c =
-    let told = g.F.Files.entries c.args.files.now in
-    let before = g.F.Files.readings c.args.files.now in
-    let now = g.F.Files.readings c.read_stream.new.files in
-    let bytes : List ℕ = c.deref.result.now in
-    let one : IsRead told before now c.args.name.now stream_file (Ok bytes) =
-    subst (λ (bs : List ℕ). IsRead told before now c.args.name.now stream_file (Ok bs)) (sym c.deref.ensures.value) c.in_ok-bytes.ensures.ok in
-    if_err_map c.batches_of.result _ _
-    (λ r h. last_by told before now c.args.name.now stream_file bytes (BatchAnswers c.args.frame) (g.F.Files.faults c.args.files.now) (g.F.Files.faults c.read_stream.new.files) r one h)
-    c.batches_of.ensures.err
+    stream_refused (g.F.Files.entries c.args.files.now) (g.F.Files.readings c.args.files.now) (g.F.Files.readings c.read_stream.new.files) c.args.name.now _
+    c.deref.result.now (BatchAnswers c.args.frame) (g.F.Files.faults c.args.files.now) (g.F.Files.faults c.read_stream.new.files) c.batches_of.result c.deref.ensures.value
+    c.in_ok-bytes.ensures.ok c.batches_of.ensures.err

@@ -32,3 +32,17 @@ returns-clause-ok g c = λ past is.
     ∙ ap (λ (before : List ℕ). before ++ race_output (names_in c.deref-2.result.now) end.script_seats.items end.core) c.new-text.ensures.items
     ∙ ap (λ (ns : List (List ℕ)). race_output ns end.script_seats.items end.core) names in
     (few, subst (λ (t : List ℕ). RacedSo p past t) (sym text) (race_written p past end ends c.in_ok-race_text.ensures.again))
+
+pub returns-clause-left : goal.returns-clause-left
+returns-clause-left g c =
+    let end = c.in_ok-end.end in
+    record {
+      end = end;
+      was_left = c.in_ok-end.ensures.left;
+      names = names_in c.deref-2.result.now;
+      text_is =
+          c.of.ensures
+          ∙ c.in_ok-race_text.ensures.ok
+          ∙ ap (λ (before : List ℕ). before ++ race_output (names_in c.deref-2.result.now) end.script_seats.items end.core) c.new-text.ensures.items;
+      again = c.in_ok-race_text.ensures.again;
+    }

@@ -1,5 +1,5 @@
 -- One piece more, and the end.
-use Rattle.std.proofs.Common.{◌≡◌, ◌∙◌, ◌+◌, ◌++◌, ℕ, List, length, ap, refl, sym, subst, arith, rules}
+use Rattle.std.proofs.Common.{◌≡◌, ◌∙◌, ◌+◌, ℕ, List, length, ap, refl, sym, subst, arith, rules}
 use Rattle.std.proofs.lemmas.List.{length-append}
 use Rattle.command_files.proofs.Readings.{gives_on, none_gives}
 use Rattle.command_files.proofs.files.feed_all.Goals as goal

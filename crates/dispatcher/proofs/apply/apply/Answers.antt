@@ -5,11 +5,3 @@ use Rattle.dispatcher.proofs.apply.apply.Goals as goal
 pub returns-in-Notify-clause-ok : goal.returns-in-Notify-clause-ok
 returns-in-Notify-clause-ok c =
     subst (λ call. IfOk c.notify.result (λ answer. GoesOn call answer c.args.tables.now c.notify.new.tables)) (sym c.in-Notify.is) c.notify.ensures.ok
-
-pub returns-in-Receive-clause-ok : goal.returns-in-Receive-clause-ok
-returns-in-Receive-clause-ok c =
-    subst (λ call. GoesOn call c.receive_next.result c.args.tables.now c.receive_next.new.tables) (sym c.in-Receive.is) c.receive_next.ensures.goes
-
-pub returns-in-Finish-clause-ok : goal.returns-in-Finish-clause-ok
-returns-in-Finish-clause-ok c =
-    subst (λ call. GoesOn call c.finish_one.result c.args.tables.now c.finish_one.new.tables) (sym c.in-Finish.is) c.finish_one.ensures.goes

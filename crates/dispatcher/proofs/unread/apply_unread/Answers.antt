@@ -8,4 +8,4 @@ returns-in-Receive-clause-ok c =
 
 pub returns-in-Finish-clause-ok : goal.returns-in-Finish-clause-ok
 returns-in-Finish-clause-ok c =
-    subst (λ call. GoesOnSomehow call c.args.tables.now c.finish_one-reply.new.tables) (sym c.in-Finish.is) (c.finish_one-reply.result, c.finish_one-reply.ensures.goes)
+    subst (λ call. GoesOnSomehow call c.args.tables.now c.finish_unread.new.tables) (sym c.in-Finish.is) c.finish_unread.ensures.goes

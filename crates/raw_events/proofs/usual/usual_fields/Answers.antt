@@ -5,8 +5,8 @@ use Rattle.raw_events.proofs.usual.usual_fields.Goals as goal
 pub returns-clause-fields : goal.returns-clause-fields
 returns-clause-fields c =
     usual_says c.args.text.now c.in_ok-kind.kind c.in_ok-code.code c.in_ok-high.high c.in_ok-low.low c.if-text-ne-USUAL_LEN.false c.if-text-ne32.false c.if-text-ne32-2.false
-    (sym c.in_ok-kind.ensures.value) (sym c.in_ok-code.ensures.value) (sym c.in_ok-high.ensures.value) (sym c.in_ok-low.ensures.value)
+    c.in_ok-kind.ensures.value c.in_ok-code.ensures.value c.in_ok-high.ensures.value c.in_ok-low.ensures.value
     ∙ ap (λ f. Some f) (sym c.fields_from.ensures)
 
 pub returns-clause-plain : goal.returns-clause-plain
-returns-clause-plain c = usual_plain c.args.text.now c.in_ok-kind.kind c.if-text-ne-USUAL_LEN.false (sym c.in_ok-kind.ensures.value)
+returns-clause-plain c = usual_plain c.args.text.now c.in_ok-kind.kind c.if-text-ne-USUAL_LEN.false c.in_ok-kind.ensures.value

@@ -1,13 +1,12 @@
 -- A slot is noted exactly where it holds a palm.
-use Rattle.std.specs.Prelude.{◌≡◌, ◌&&◌, ◌||◌, not, pos, int_le, true, false, take, length, nat_eq, Bool, [], ◌∷◌}
+use Rattle.std.specs.Prelude.{◌≡◌, ◌&&◌, ◌||◌, not, pos, int_le, true, false, take, length, [], ◌∷◌}
 use Rattle.std.specs.List.{list_any}
 use Rattle.std.specs.Ordering.{int_eq}
 use Rattle.std.proofs.Common.{arith, sym, ◌∙◌, ap, add-one, length-append}
-use Rattle.std.proofs.lemmas.Bool.{eqb-true}
 use Rattle.slot_accumulator.specs.declared.slots.Row.{Row}
 use Rattle.slot_accumulator.specs.Table.{is_kept}
 use Rattle.slot_accumulator.specs.SlotContacts.{has_palm_tool, row_in}
-use Rattle.slot_accumulator.proofs.Listing.{and_first, and_second, none_kept, none_palm, palms_next, pushed_kept}
+use Rattle.slot_accumulator.proofs.Listing.{palms_next, pushed_kept}
 use Rattle.slot_accumulator.proofs.slots.palms.Goals.{then-is_palm, else-is_palm}
 use Rattle.slot_accumulator.proofs.slots.palms.Goals as goal
 
@@ -32,12 +31,3 @@ loop-slot-preserved c =
         few = omega (arith, c.loop-slot.invariant.few);
       })
     ]
-
-pub returns-then-no_palm : goal.returns-then-no_palm
-returns-then-no_palm c = λ t.
-    let none : Bool = list_any (λ (r : Row). has_palm_tool r) c.args.rows.now in
-    let both : (nat_eq (length c.args.before.now) 0 && not none) ≡ true = sym c.no_palm.ensures ∙ c.if-no_palm.true in
-    ap (λ xs. is_kept xs t) c.empty.ensures
-    ∙ sym (none_palm c.args.rows.now (λ i. is_kept c.args.before.now i) (length c.args.rows.now) t (omega arith)
-    (and_second (nat_eq (length c.args.before.now) 0) none both)
-    (none_kept c.args.before.now t (eqb-true (length c.args.before.now) 0 (and_first (nat_eq (length c.args.before.now) 0) (not none) both))))

@@ -6,11 +6,12 @@ use Rattle.dispatch_history.specs.Effects.{step}
 use Rattle.dispatch_history.specs.History.{clock}
 use Rattle.why_lines.specs.Owners.{again_words}
 use Rattle.why_lines.proofs.Finishing.{finish_law}
+use Rattle.why_lines.proofs.Making.{made_now}
 use Rattle.why_lines.proofs.Told.{from_if, stands_lawful, tells}
 use Rattle.why_lines.proofs.steps.finish.Goals as goal
 
-pub returns : goal.returns
-returns c es st =
+pub returns-clause-told : goal.returns-clause-told
+returns-clause-told c es st =
     let ds = c.args.dispatcher.now.displays in
     let now = c.args.now in
     let w = c.args.channel in
@@ -35,3 +36,9 @@ returns c es st =
     ap (λ b. again_words b w)
     (ap₂ (λ x y. not x && y) (c.able-before.ensures es st w) (c.able-after.ensures (step ds call p.0 es) p.1 w))
     ∙ sym (finish_law ds es now w seq p.0 lawful)))
+
+pub returns-clause-made : goal.returns-clause-made
+returns-clause-made c =
+    made_now (Finish c.args.now c.args.channel c.args.seq) c.args.dispatcher.now c.apply_unread.new.self c.in_ok-apply_unread.ensures.displays c.in_ok-apply_unread.ensures.gone
+    c.in_ok-apply_unread.ensures.namings
+    c.in_ok-apply_unread.ensures.after

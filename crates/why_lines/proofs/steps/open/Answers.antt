@@ -6,11 +6,12 @@ use Rattle.dispatch_history.specs.History.{clock}
 use Rattle.why_text.specs.Text.{focus_words}
 use Rattle.why_lines.specs.Growing.{with_lines}
 use Rattle.why_lines.proofs.Growing.{no_line}
+use Rattle.why_lines.proofs.Making.{made_now}
 use Rattle.why_lines.proofs.Told.{from_if, tells_moved}
 use Rattle.why_lines.proofs.steps.open.Goals as goal
 
-pub returns : goal.returns
-returns c es st =
+pub returns-clause-told : goal.returns-clause-told
+returns-clause-told c es st =
     let ds = c.args.dispatcher.now.displays in
     let call = Open c.args.limit in
     let text = c.args.text.now.items in
@@ -25,3 +26,9 @@ returns c es st =
     tells_moved ds call es p.0 later t [] text c.add_changes.new.text.items p.1 c.in_ok-apply_unread.ensures.displays at
     (grown ∙ ap (with_lines t (focus_words (past_of es) (past_of fs))) (no_line t text))
     (λ a. refl))
+
+pub returns-clause-made : goal.returns-clause-made
+returns-clause-made c =
+    made_now (Open c.args.limit) c.args.dispatcher.now c.apply_unread.new.self c.in_ok-apply_unread.ensures.displays c.in_ok-apply_unread.ensures.gone
+    c.in_ok-apply_unread.ensures.namings
+    c.in_ok-apply_unread.ensures.after

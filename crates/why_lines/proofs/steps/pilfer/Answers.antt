@@ -6,11 +6,12 @@ use Rattle.dispatch_history.specs.Reply.{pilfer_reply}
 use Rattle.dispatch_history.specs.Step.{scene}
 use Rattle.why_text.specs.Lines.{pilfer_words}
 use Rattle.why_lines.proofs.Growing.{one_line}
+use Rattle.why_lines.proofs.Making.{made_by}
 use Rattle.why_lines.proofs.Told.{on_ok, tells}
 use Rattle.why_lines.proofs.steps.pilfer.Goals as goal
 
-pub returns : goal.returns
-returns c es st =
+pub returns-clause-told : goal.returns-clause-told
+returns-clause-told c es st =
     let ds = c.args.dispatcher.now.displays in
     let now = c.args.now in
     let w = c.args.channel in
@@ -25,3 +26,10 @@ returns c es st =
     refl
     (c.in_ok-add_pilfer.ensures es st ∙ one_line c.later-clock.result words c.args.text.now.items)
     (λ a. ap (λ r. pilfer_words r (scene ds es) w d ∷ []) (sym a)))
+
+pub returns-clause-made : goal.returns-clause-made
+returns-clause-made c =
+    made_by (Pilfer c.args.now c.args.channel c.args.device) c.args.dispatcher.now c.apply_unread.new.self c.apply_unread.result c.apply_unread.ensures.displays c.apply_unread.ensures.gone
+    c.apply_unread.ensures.namings
+    c.apply_unread.ensures.after
+    c.apply_unread.ensures.err

@@ -3,11 +3,12 @@ use Rattle.dispatch_calls.specs.declared.call.Call.TheVariants.{Pump}
 use Rattle.dispatch_history.specs.Effect.{past_of}
 use Rattle.dispatch_history.specs.History.{clock}
 use Rattle.why_lines.specs.Pumping.{pump_words}
+use Rattle.why_lines.proofs.Making.{made_by}
 use Rattle.why_lines.proofs.Told.{answered_words, on_ok, tells}
 use Rattle.why_lines.proofs.steps.pump.Goals as goal
 
-pub returns : goal.returns
-returns c es st =
+pub returns-clause-told : goal.returns-clause-told
+returns-clause-told c es st =
     let ds = c.args.dispatcher.now.displays in
     let now = c.args.now in
     let at : c.later-clock.result ≡ max now (clock (past_of es)) = c.later-clock.ensures ∙ ap (max now) (c.clock.ensures es st) in
@@ -19,3 +20,10 @@ returns c es st =
     refl
     (c.in_ok-add_pump.ensures es now st at)
     (λ a. ap (answered_words ds (Pump now) es) (sym a)))
+
+pub returns-clause-made : goal.returns-clause-made
+returns-clause-made c =
+    made_by (Pump c.args.now) c.args.dispatcher.now c.apply_unread.new.self c.apply_unread.result c.apply_unread.ensures.displays c.apply_unread.ensures.gone
+    c.apply_unread.ensures.namings
+    c.apply_unread.ensures.after
+    c.apply_unread.ensures.err

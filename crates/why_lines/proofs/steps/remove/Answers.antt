@@ -10,11 +10,12 @@ use Rattle.why_text.specs.Text.{focus_words}
 use Rattle.why_lines.specs.Growing.{with_lines}
 use Rattle.why_lines.proofs.AllLost.{remove_loses}
 use Rattle.why_lines.proofs.Growing.{one_line}
+use Rattle.why_lines.proofs.Making.{made_now}
 use Rattle.why_lines.proofs.Told.{from_if, stands_lawful, tells_moved}
 use Rattle.why_lines.proofs.steps.remove.Goals as goal
 
-pub returns : goal.returns
-returns c es st =
+pub returns-clause-told : goal.returns-clause-told
+returns-clause-told c es st =
     let ds = c.args.dispatcher.now.displays in
     let now = c.args.now in
     let w = c.args.channel in
@@ -36,3 +37,9 @@ returns c es st =
     ∙ ap (with_lines t (focus_words (past_of es) (past_of fs)))
     (c.in_ok-add_removal.ensures es x st (remove_loses ds es now w p.0 lawful) ∙ one_line t words text))
     (λ a. ap (λ r. removed_words r x es w ∷ []) (sym a)))
+
+pub returns-clause-made : goal.returns-clause-made
+returns-clause-made c =
+    made_now (Remove c.args.now c.args.channel) c.args.dispatcher.now c.apply_unread.new.self c.in_ok-apply_unread.ensures.displays c.in_ok-apply_unread.ensures.gone
+    c.in_ok-apply_unread.ensures.namings
+    c.in_ok-apply_unread.ensures.after

@@ -3,22 +3,20 @@ use Rattle.std.proofs.Common.{refl, sym, subst}
 use Rattle.schedule.specs.State.{HasWith, ScheduleState}
 use Rattle.schedule.proofs.Stepping.{has_step}
 use Rattle.schedule.specs.More.{ComesTo}
-use Rattle.schedule.proofs.More.{one_more}
 use Rattle.schedule.proofs.schedule.Schedule.apply.Goals as goal
 
 pub returns-in-Ok-clause-after : goal.returns-in-Ok-clause-after
 returns-in-Ok-clause-after c = λ how plan es h never next.
     let before = subst (HasWith how plan es) (sym c.self.view_is) h in
-    let there = (rw c.in-Ok.is at c.apply_unread.ensures.after) es before.stands in
-    has_step how plan es _ _ before c.apply_unread.ensures.displays c.apply_unread.ensures.gone c.apply_unread.ensures.namings c.args.call.now there.0 there.1 never
+    let applies = (rw c.in-Ok.is at c.apply_call.ensures.after) es before.stands in
+    has_step how plan es _ _ before c.apply_call.ensures.displays c.apply_call.ensures.gone c.apply_call.ensures.namings c.args.call.now applies never
     refl next
     c.saturating_add-self-inside.ensures
 
 pub returns-in-Ok-clause-more : goal.returns-in-Ok-clause-more
 returns-in-Ok-clause-more c = λ es k.
-    one_more es _ _ c.args.call.now c.apply_unread.ensures.displays (rw c.in-Ok.is at c.apply_unread.ensures.after)
-    (subst (λ (s : ScheduleState). ComesTo es s.dispatcher) (sym c.self.view_is) k)
+    c.apply_call.ensures.more es (subst (λ (s : ScheduleState). ComesTo es s.dispatcher) (sym c.self.view_is) k)
 
 pub returns-in-Err-clause-more : goal.returns-in-Err-clause-more
 returns-in-Err-clause-more c = λ es k.
-    subst (ComesTo es) (sym c.in-Err.ensures.err) (subst (λ (s : ScheduleState). ComesTo es s.dispatcher) (sym c.self.view_is) k)
+    c.apply_call.ensures.more es (subst (λ (s : ScheduleState). ComesTo es s.dispatcher) (sym c.self.view_is) k)

@@ -11,7 +11,7 @@ pub returns-in-Ok-clause-after : goal.returns-in-Ok-clause-after
 returns-in-Ok-clause-after c = λ how plan es h.
     let before = subst (HasWith how plan es) (sym c.self.view_is) h in
     let there = (rw c.in-Ok.is at c.apply_unread.ensures.after) es before.stands in
-    has_received how plan es _ _ before c.apply_unread.ensures.displays c.apply_unread.ensures.gone c.apply_unread.ensures.namings there.0 c.args.channel there.1 (c.in_ok-hear_next.ensures es before.stands) refl
+    has_received how plan es _ _ before c.apply_unread.ensures.displays c.apply_unread.ensures.gone c.apply_unread.ensures.namings there.0 c.args.channel there.1 (c.in_ok-hear_next.ensures es before.stands) refl refl
     c.saturating_add-self-inside.ensures
 
 pub returns-in-Ok-clause-more : goal.returns-in-Ok-clause-more

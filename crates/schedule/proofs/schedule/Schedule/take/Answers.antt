@@ -1,5 +1,6 @@
 -- A round before the args, their own round, or none where the run is over.
 use Rattle.std.proofs.Common.{◌≡◌, ◌∙◌, false, sym, ap, subst}
+use Rattle.std.specs.Prelude.{option_map}
 use Rattle.dispatch_history.specs.Plan.{Cooked}
 use Rattle.schedule.specs.Choosing.{Advances}
 use Rattle.schedule.specs.Planned.{plan_of}
@@ -31,6 +32,7 @@ rounds-init c =
           let s : ScheduleState = record {
             dispatcher = c.self.inside.dispatcher;
             lines = c.self.inside.streams.items;
+            causes = option_map (λ v. v.items) c.self.inside.causes;
             next = c.self.inside.next;
             calls = c.self.inside.calls;
             messages = c.self.inside.messages;

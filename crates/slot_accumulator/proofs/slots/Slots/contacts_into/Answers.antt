@@ -11,7 +11,7 @@ use Rattle.slot_accumulator.proofs.slots.Slots.contacts_into.Goals as goal
 
 pub push-requires-clause-room : goal.push-requires-clause-room
 push-requires-clause-room c =
-    rw c.loop-slot.invariant (omega (arith, few (row_in c.self.inside.rows) (λ t. is_kept c.self.inside.palms t) c.loop-slot.slot, c.self.invariant.within))
+    rw c.loop-slot.invariant (omega (arith, few (row_in c.self.inside.rows) (λ t. is_kept c.self.inside.palms t) c.loop-slot.slot, c.self.invariant.0.within))
 
 pub push-requires-clause-joins : goal.push-requires-clause-joins
 push-requires-clause-joins c =
@@ -42,5 +42,5 @@ returns-clause-events c = λ past h.
     let last : c.loop-slot.slot ≡ c.self.inside.slots = omega arith in
     rw (c.loop-slot.invariant, last, ← c.self.view_is)
     (contacts_same (row_in c.self.inside.rows) (λ s. row s past) (λ t. is_kept c.self.inside.palms t) (λ t. is_palm c.self.inside.slots past t) c.self.inside.slots
-    (λ s lt. rw (← c.self.view_is) at (h.rows_are s (omega (arith, lt, c.self.invariant.within))))
+    (λ s lt. rw (← c.self.view_is) at (h.rows_are s (omega (arith, lt, c.self.invariant.0.within))))
     (λ t. rw (← c.self.view_is) at (h.palms_are t)))

@@ -1,0 +1,34 @@
+//! `why`: what each call came to in the run of a session and of a recording, and why.
+ghost use Rattle.std.specs.Prelude.{◌≡◌, ◌≤◌, IsTrue, None, Ok, IfOk, IfErr};
+ghost use Rattle.command_words.specs.Command.{why};
+ghost use Rattle.command_words.specs.CommandView.{recorded_view};
+ghost use Rattle.command_files.specs.Inputs.{IsAccepted};
+ghost use Rattle.command_answers.specs.Program.{Answers, RefusesCommand};
+
+use crate::running::{Telling, answer_run};
+use command_files::Refusal;
+use command_words::Recorded;
+use outside_io::Files;
+use std::alloc::Global;
+use text_pieces::Pieces;
+
+/// Reads and judges both files of `why`, and makes the text.
+pub fn answer_why<F: Files>(
+    alloc: Global,
+    files: &mut F,
+    names: Recorded<'_>,
+) -> Result<Pieces, Refusal>
+    requires session { IsTrue (F.lends files.old names.session.now) }
+    requires events { IsAccepted (F.entries files.old) names.session.now → IsTrue (F.lends files.old names.events.now) }
+    requires free { F.lent files.old ≡ None }
+    ensures ok { IfOk result (λ text. Answers (F.entries files.old) (F.readings files.old) (F.readings files.new)
+        (why (recorded_view names.entry)) (Ok text)) }
+    ensures err { IfErr result (RefusesCommand (F.entries files.old) (F.readings files.old) (F.readings files.new)
+        (why (recorded_view names.entry)) (F.faults files.old) (F.faults files.new)) }
+    ensures later { F.faults files.old ≤ F.faults files.new }
+    ensures free { F.lent files.new ≡ None }
+    ensures entries { F.entries files.new ≡ F.entries files.old }
+    ensures names { F.lends files.new ≡ F.lends files.old }
+{
+    answer_run(alloc, files, names, Telling::Causes)
+}

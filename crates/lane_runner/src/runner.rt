@@ -1,0 +1,37 @@
+//! The lanes of a race, run by another.
+ghost use Rattle.std.specs.Prelude.{IfOk};
+ghost use Rattle.lane_runner.specs.Starts.{Left, MayRun};
+
+use input_service::{Seat, Service};
+use replay_actors::{Gate, Lanes, RaceEnd, run_lanes};
+use std::alloc::{AllocError, Global};
+use std::sync::Wait;
+use std::thread::Threads;
+
+/// What a race begins with: a service whose channels its caller has opened, the caller's seat, and what the lanes are
+/// to do.
+#[derive(Drop)]
+pub struct Start {
+    pub service: Service,
+    pub seat: Seat,
+    pub lanes: Lanes,
+}
+
+/// Runs the lanes as threads, at which the gate stands, until all have ended, and then does all that is left to do.
+/// Want of memory is the only other answer, and then no core is left.
+pub fn run_start<R: Threads + Wait + Sync, G: Gate + Sync>(
+    rt: &R,
+    alloc: Global,
+    start: Start,
+    gate: &G,
+) -> Result<RaceEnd, AllocError>
+    requires { MayRun start }
+    ensures { IfOk result (Left start) }
+{
+    let Start {
+        service,
+        seat,
+        lanes,
+    } = start;
+    run_lanes(rt, alloc, service, seat, lanes, gate)
+}

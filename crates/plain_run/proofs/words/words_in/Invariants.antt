@@ -1,0 +1,13 @@
+use Rattle.std.proofs.Common.{◌≡◌, length, map}
+use Rattle.std.specs.Prelude.{string_bytes}
+use Rattle.text_lines.specs.Lines.{lines_of}
+use Rattle.plain_run.specs.Words.{words_in}
+use Rattle.plain_run.proofs.ReadWords.{in_front}
+use Rattle.plain_run.proofs.words.words_in.Given as goal
+
+-- the words so far, in front of those of the lines that are left, are all
+abbrev pub invariant-lines : goal.invariant-lines
+invariant-lines l = in_front (map string_bytes l.words.items) (words_in (lines_of l.rest)) ≡ words_in (lines_of l.bytes)
+
+abbrev pub decreases-lines : goal.decreases-lines
+decreases-lines l = length l.rest

@@ -1,0 +1,23 @@
+//! A run of the program inside another one: its words and up to three files come as bytes, and what it prints goes to
+//! buffers of the caller.
+//!
+//! The words stand one on a line, and name the files `1`, `2` and `3`:
+//!
+//! ```text
+//! verify --stream 1    one file, and room for 100 bytes and 100    0: the status is 0, and `well formed 1 2` is told
+//! the same             room for 10 bytes and 100                   6, ROOM: `well forme` is told, of 16 bytes
+//! verify --stream 2    one file, and room for 100 bytes and 100    0: the status is 4, and the line `read failed`
+//! race ..              two files                                   21, NO_THREADS: nothing ran
+//! ```
+#![tactic(auto)]
+
+mod filling;
+mod lent;
+mod program;
+mod ran;
+mod running;
+mod words;
+
+pub use lent::Lent;
+pub use ran::PlainRan;
+pub use running::run;

@@ -1,0 +1,13 @@
+//! What a run came to.
+
+/// What a run came to: `struct inputflinger_ran`.
+#[repr(C)]
+#[derive(Clone, Copy, Debug)]
+pub struct PlainRan {
+    /// How long the text is that the program prints to its standard output, in bytes.
+    pub out_len: usize,
+    /// How long its line on standard error is.
+    pub err_len: usize,
+    /// The status that it ended with, 0 to 7.
+    pub status: u32,
+}

@@ -1,0 +1,31 @@
+-- The causes of the calls of a run, as far as they are told.
+use Rattle.std.specs.Prelude.{◌≡◌, ℕ, List, ◌++◌, Option, Some, None, option_map}
+use Rattle.dispatch_calls.specs.declared.call.Call.{Call}
+use Rattle.dispatch_calls.specs.declared.reply.Reply.{Reply}
+use Rattle.dispatch_history.specs.Effect.{Effect, past_of}
+use Rattle.dispatch_history.specs.Effects.{effect_of, step}
+use Rattle.dispatch_history.specs.Queue.{args_of, inbound}
+use Rattle.dispatcher.specs.Dispatching.{Dispatching, StandsFor}
+use Rattle.why_text.specs.Text.{step_text, why_text}
+use Rattle.schedule.specs.declared.keeping.Lines.{Lines}
+use Rattle.schedule.specs.declared.keeping.Lines.TheVariants.{Kept, Counted, Causes}
+
+-- the text of the causes of all steps, where a run tells them
+abbrev pub causes_of : Lines → (displays : List ℕ) → List Effect → Option (List ℕ)
+causes_of Kept displays es = None
+causes_of Counted displays es = None
+causes_of Causes displays es = Some (why_text displays es)
+
+-- a text that there may be, with some more behind it
+abbrev pub and_more : List ℕ → Option (List ℕ) → Option (List ℕ)
+and_more more text = option_map (λ t. t ++ more) text
+
+-- the text of a step with this call and reply
+abbrev pub told_of : (displays : List ℕ) → Call → Reply → List Effect → List ℕ
+told_of displays call answer es = step_text displays (effect_of displays call answer (args_of call answer (inbound (past_of es))) es) es
+
+-- A call is answered: the dispatcher stands for one step more, and where there is a text of causes, just that of the step is put behind it.
+pub record Applies (call : Call) (es : List Effect) (displays : List ℕ) (old new : Option (List ℕ)) (d : Dispatching) : Type 0 where
+  pub answer : Reply
+  pub stands : StandsFor (step displays call answer es) d
+  pub causes : new ≡ and_more (told_of displays call answer es) old

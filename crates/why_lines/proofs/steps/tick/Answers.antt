@@ -1,0 +1,42 @@
+use Rattle.std.proofs.Common.{◌≡◌, max, map, refl, sym, ap, ◌∙◌}
+use Rattle.dispatch_calls.specs.declared.call.Call.TheVariants.{Tick}
+use Rattle.dispatch_history.specs.Effect.{past_of}
+use Rattle.dispatch_history.specs.Effects.{effect_of, step}
+use Rattle.dispatch_history.specs.History.{clock}
+use Rattle.dispatch_history.specs.Queue.{args_of, inbound}
+use Rattle.dispatch_history.specs.Reply.{is_due}
+use Rattle.dispatch_tables.specs.Dues.{due_moment}
+use Rattle.why_text.specs.Lines.{timeout_words}
+use Rattle.why_text.specs.Words.{channels_that}
+use Rattle.why_lines.proofs.Making.{made_by}
+use Rattle.why_lines.proofs.Ticking.{named_loses, named_words}
+use Rattle.why_lines.proofs.Told.{on_ok, stands_lawful, tells}
+use Rattle.why_lines.proofs.steps.tick.Goals as goal
+
+pub returns-clause-told : goal.returns-clause-told
+returns-clause-told c es st =
+    let ds = c.args.dispatcher.now.displays in
+    let now = c.args.now in
+    let call = Tick now in
+    let t = c.later-clock.result in
+    let later = c.apply_unread.new.self in
+    let at : t ≡ max now (clock (past_of es)) = c.later-clock.ensures ∙ ap (max now) (c.clock.ensures es st) in
+    on_ok c.apply_unread.result _ _ (c.apply_unread.ensures.after es st)
+    (λ p.
+    let x = effect_of ds call p.0 (args_of call p.0 (inbound (past_of es))) es in
+    let lawful = stands_lawful ds (step ds call p.0 es) later p.1 c.apply_unread.ensures.displays in
+    tells ds call es p.0 later t (map (timeout_words x es) (channels_that (λ w. is_due (due_moment es w) t))) c.args.text.now.items c.add_tick.new.text.items p.1
+    c.apply_unread.ensures.displays
+    at
+    refl
+    (c.in_ok-add_tick.ensures es x st (λ w due. named_loses ds es now w p.0 lawful (ap (is_due (due_moment es w)) (sym at) ∙ due)))
+    (λ a.
+    ap (λ n. map (timeout_words x es) (channels_that (λ w. is_due (due_moment es w) n))) at
+    ∙ named_words ds es now x p.0 st.lawful a))
+
+pub returns-clause-made : goal.returns-clause-made
+returns-clause-made c =
+    made_by (Tick c.args.now) c.args.dispatcher.now c.apply_unread.new.self c.apply_unread.result c.apply_unread.ensures.displays c.apply_unread.ensures.gone
+    c.apply_unread.ensures.namings
+    c.apply_unread.ensures.after
+    c.apply_unread.ensures.err

@@ -1,0 +1,63 @@
+//! Windows that lose something to a new focus, or to a new snapshot.
+ghost use Rattle.std.specs.Prelude.{◌≡◌, List, IfOk};
+ghost use Rattle.focus_resolver.specs.Resolver.{is_at};
+ghost use Rattle.dispatch_history.specs.Effect.{Effect};
+ghost use Rattle.dispatcher.specs.Dispatching.{StandsFor};
+ghost use Rattle.why_writer.specs.Lost.{items_of};
+ghost use Rattle.why_lines.specs.Gone.{gone_line, keys_gone, target_keys};
+ghost use Rattle.why_lines.specs.Growing.{with_lines};
+
+use crate::losing::keys_held;
+use dispatcher::Dispatcher;
+use input_types::{KeyArgs, Moment};
+use std::alloc::{AllocError, Global};
+use why_writer::{Lost, gone};
+
+/// Adds the line of a window that loses this, where it is something.
+pub(crate) fn add_gone(
+    text: &mut Vec<u8>,
+    clock: Moment,
+    window: u32,
+    lost: &Lost,
+) -> Result<(), AllocError>
+    ensures { IfOk result (λ _. text.new.items
+        ≡ with_lines clock (gone_line window (items_of lost.now.ids.now lost.now.keys.now)) text.old.items) }
+{
+    if lost.is_nothing() {
+        Ok(())
+    } else {
+        gone(text, clock, window, lost)
+    }
+}
+
+/// Whether keys go to a window.
+pub(crate) fn is_at(target: Option<u32>, window: u32) -> bool
+    ensures { result ≡ is_at target window }
+{
+    match target {
+        Some(channel) => window == channel,
+        None => false,
+    }
+}
+
+/// The keys that a window loses of those that it holds, where keys go to this target from now on.
+pub(crate) fn keys_gone(window: u32, held: &[KeyArgs], target: Option<u32>) -> &[KeyArgs]
+    ensures { result.now ≡ keys_gone window held.now target }
+{
+    if is_at(target, window) { &[] } else { held }
+}
+
+/// The keys that the window holds which keys go to, where there is one.
+pub(crate) fn target_keys(
+    alloc: Global,
+    dispatcher: &Dispatcher,
+    target: Option<u32>,
+) -> Result<Vec<KeyArgs>, AllocError>
+    ensures { (es : List Effect) → StandsFor es dispatcher.now
+        → IfOk result (λ v. v.items ≡ target_keys es target) }
+{
+    match target {
+        Some(window) => keys_held(alloc, dispatcher, window),
+        None => Ok(Vec::new(alloc)),
+    }
+}
