@@ -1,12 +1,12 @@
 //! The keys that are down in a window.
 ghost use Rattle.std.specs.Prelude.{◌≡◌, true, length, ◌+◌, ◌≤◌, ◌<◌, ◌==◌, ◌++◌};
-ghost use Rattle.std.specs.Prelude.{List, map, filter, IfOk, OnOk, OnErr, IsOk, vec_len, vec_capacity};
+ghost use Rattle.std.specs.Prelude.{List, map, filter, OnOk, OnErr, IsOk, vec_len, vec_capacity};
 ghost use Rattle.input_types.specs.declared.key.KeyMsg.{KeyMsg as Kept};
 ghost use Rattle.cancel_synthesis.specs.Tracked.{same_key, is_before, is_at, with_key, without_key, place_of};
 ghost use Rattle.cancel_synthesis.specs.Ends.{key_cancelled, keys_cancelled, of_device, keys_told};
 
 use input_types::{Body, DeviceId, FLAG_CANCELED, KeyArgs, KeyMsg};
-use std::alloc::{AllocError, Global};
+use std::alloc::AllocError;
 
 /// Whether two keys are one: the same scan code of the same device.
 fn same_key(a: &KeyArgs, b: &KeyArgs) -> bool
@@ -88,25 +88,38 @@ pub(crate) fn key_cancelled(message: &KeyMsg) -> KeyMsg
     }
 }
 
-/// The cancelled ups of these keys.
-pub(crate) fn keys_cancelled(alloc: Global, keys: &[KeyMsg]) -> Result<Vec<KeyMsg>, AllocError>
-    ensures { IfOk result (λ v. v.items ≡ keys_cancelled keys.now) }
+/// Fills a list with the cancelled ups of these keys. It needs no memory where the list has room for all of them.
+pub(crate) fn cancel_keys_into(out: &mut Vec<KeyMsg>, keys: &[KeyMsg]) -> Result<(), AllocError>
+    ensures ok { OnOk result (out.new.items ≡ keys_cancelled keys.now) }
+    ensures capacity { vec_capacity out.old ≤ vec_capacity out.new }
+    ensures reserved { length keys.now ≤ vec_capacity out.old → IsOk result }
 {
-    keys.iter().map(|kept| key_cancelled(kept)).collect(alloc)
+    out.clear();
+    out.reserve(keys.len())?;
+    for kept in keys {
+        out.push_reserved(key_cancelled(kept));
+    }
+    Ok(())
 }
 
-/// The cancelled ups of those of these keys that are of a device.
-pub(crate) fn device_keys_cancelled(
-    alloc: Global,
+/// Fills a list with the cancelled ups of those of these keys that are of a device.
+pub(crate) fn cancel_device_keys_into(
+    out: &mut Vec<KeyMsg>,
     keys: &[KeyMsg],
     device: DeviceId,
-) -> Result<Vec<KeyMsg>, AllocError>
-    ensures { IfOk result (λ v. v.items ≡ keys_cancelled (of_device device keys.now)) }
+) -> Result<(), AllocError>
+    ensures ok { OnOk result (out.new.items ≡ keys_cancelled (of_device device keys.now)) }
+    ensures capacity { vec_capacity out.old ≤ vec_capacity out.new }
+    ensures reserved { length keys.now ≤ vec_capacity out.old → IsOk result }
 {
-    keys.iter()
-        .filter(|kept| kept.key.device == device)
-        .map(|kept| key_cancelled(kept))
-        .collect(alloc)
+    out.clear();
+    out.reserve(keys.len())?;
+    for kept in keys {
+        if kept.key.device == device {
+            out.push_reserved(key_cancelled(kept));
+        }
+    }
+    Ok(())
 }
 
 /// Adds the cancelled ups of these keys to a list.

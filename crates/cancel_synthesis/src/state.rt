@@ -1,5 +1,5 @@
 //! What a window was told, as far as it has not ended.
-ghost use Rattle.std.specs.Prelude.{◌≡◌, ◌+◌, ◌≤◌, ◌<◌, ℕ, not, [], IfOk, OnOk, OnErr, IsOk, vec_len, vec_capacity};
+ghost use Rattle.std.specs.Prelude.{◌≡◌, ◌+◌, ◌≤◌, ◌<◌, ℕ, not, [], length, IfOk, OnOk, OnErr, IsOk, vec_len, vec_capacity};
 ghost use Rattle.bits32.specs.Set.{is_in};
 ghost use Rattle.input_types.specs.declared.message.Body.TheVariants.{Motion as MotionBody};
 ghost use Rattle.cancel_synthesis.specs.Cancelling.{still_told};
@@ -8,7 +8,7 @@ ghost use Rattle.cancel_synthesis.specs.Tracked.{keys_after, with_spare};
 ghost use Rattle.cancel_synthesis.specs.Ends.{pointers_cancelled, keys_cancelled, of_device, all_cancelled};
 
 use crate::cancels::Cancels;
-use crate::held_keys::{cancel_each_key, device_keys_cancelled, forget, keep, keys_cancelled};
+use crate::held_keys::{cancel_device_keys_into, cancel_each_key, cancel_keys_into, forget, keep};
 use crate::pointers::{cancel_devices, pointers_after};
 use bits32::Bits32;
 use input_types::{Body, DeviceId, KeyMsg, Motion, MotionAction, Pointers};
@@ -136,18 +136,27 @@ impl InputState {
         Ok(told)
     }
 
-    /// What it is told where its keys are taken from it.
-    pub fn cancel_keys(&self) -> Result<Vec<KeyMsg>, AllocError>
-        ensures { IfOk result (λ v. v.items ≡ keys_cancelled self.now.keys) }
+    /// Fills a list with what it is told where its keys are taken from it. It needs no memory where the list has room
+    /// for as many keys as are down.
+    pub fn cancel_keys_into(&self, out: &mut Vec<KeyMsg>) -> Result<(), AllocError>
+        ensures ok { OnOk result (out.new.items ≡ keys_cancelled self.now.keys) }
+        ensures capacity { vec_capacity out.old ≤ vec_capacity out.new }
+        ensures reserved { length self.now.keys ≤ vec_capacity out.old → IsOk result }
     {
-        keys_cancelled(*self.keys.allocator(), &self.keys)
+        cancel_keys_into(out, &self.keys)
     }
 
-    /// What it is told where its keys of a device are taken from it.
-    pub fn cancel_device_keys(&self, device: DeviceId) -> Result<Vec<KeyMsg>, AllocError>
-        ensures { IfOk result (λ v. v.items ≡ keys_cancelled (of_device device self.now.keys)) }
+    /// The same where its keys of a device are taken from it.
+    pub fn cancel_device_keys_into(
+        &self,
+        device: DeviceId,
+        out: &mut Vec<KeyMsg>,
+    ) -> Result<(), AllocError>
+        ensures ok { OnOk result (out.new.items ≡ keys_cancelled (of_device device self.now.keys)) }
+        ensures capacity { vec_capacity out.old ≤ vec_capacity out.new }
+        ensures reserved { length self.now.keys ≤ vec_capacity out.old → IsOk result }
     {
-        device_keys_cancelled(*self.keys.allocator(), &self.keys, device)
+        cancel_device_keys_into(out, &self.keys, device)
     }
 
     /// What it is told where all ends: device by device its pointers, and then its keys.

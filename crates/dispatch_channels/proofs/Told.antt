@@ -1,14 +1,14 @@
 -- What one channel is told, and the room that it has.
-use Rattle.std.proofs.Common.{◌≡◌, ℕ, zero, suc, ◌-◌, ◌<◌, ◌≤◌, Bool, true, false, not, cond, List, [], ◌∷◌, map, length, get_or, set, refl, sym, ap, ap₂, ◌∙◌, subst}
+use Rattle.std.proofs.Common.{◌≡◌, ℕ, zero, suc, ◌-◌, ◌<◌, ◌≤◌, Bool, true, false, not, cond, List, [], ◌∷◌, map, length, get_or, set, refl, sym, ap, ap₂, ◌∙◌, subst, arith}
 use Rattle.std.specs.Prelude.{◌==◌}
 use Rattle.std.proofs.lemmas.List.{get_or-set_same}
 use Rattle.input_types.specs.declared.axis.Pixel.{Pixel}
 use Rattle.input_types.specs.declared.message.Body.{Body}
 use Rattle.input_channel.specs.declared.unfinished.Unfinished.{Unfinished}
 use Rattle.input_channel.specs.Order.{NoneAfter, without}
-use Rattle.input_channel.specs.State.{ChannelState, enqueued, with_spare}
+use Rattle.input_channel.specs.State.{ChannelState, opened_with, enqueued, with_spare}
 use Rattle.cancel_synthesis.specs.Tracked.{Tracked, Tracks}
-use Rattle.dispatch_channels.specs.Table.{Table, channel_of, input_of, untold, but_for_room}
+use Rattle.dispatch_channels.specs.Table.{Table, channel_of, input_of, untold, but_for_room, NoLessRoom}
 use Rattle.dispatch_channels.specs.Heard.{body_from}
 use Rattle.dispatch_channels.specs.Changes.{Tells}
 
@@ -44,6 +44,38 @@ only_room t c n x s i from is same = ap₂ (λ ss is. let u : Table = record t {
 
     inputs : (but_for_room (record t { channels = set t.channels (c - 1) s; inputs = set t.inputs (c - 1) i })).inputs ≡ (but_for_room t).inputs
     inputs = map_set (λ y. let z : Tracked = record y { spare = 0 } in z) t.inputs (c - 1) i _ (ap (λ y. let z : Tracked = record y { spare = 0 } in z) same)
+
+-- no channel has less room where one has as much in its place, or more
+channel_room : (ss : List ChannelState) (i j : ℕ) (s d : ChannelState) → (get_or ss i d).spare ≤ s.spare
+    → (get_or ss j d).spare ≤ (get_or (set ss i s) j d).spare
+channel_room [] i j s d h = omega arith
+channel_room (x ∷ xs) zero zero s d h = h
+channel_room (x ∷ xs) zero (suc j) s d h = omega arith
+channel_room (x ∷ xs) (suc i) zero s d h = omega arith
+channel_room (x ∷ xs) (suc i) (suc j) s d h = channel_room xs i j s d h
+
+input_room : (is : List Tracked) (i j : ℕ) (s d : Tracked) → (get_or is i d).spare ≤ s.spare
+    → (get_or is j d).spare ≤ (get_or (set is i s) j d).spare
+input_room [] i j s d h = omega arith
+input_room (x ∷ xs) zero zero s d h = h
+input_room (x ∷ xs) zero (suc j) s d h = omega arith
+input_room (x ∷ xs) (suc i) zero s d h = omega arith
+input_room (x ∷ xs) (suc i) (suc j) s d h = input_room xs i j s d h
+
+pub more_in_channel : (t : Table) (c : ℕ) (x s : ChannelState) → x ≡ channel_of t c → x.spare ≤ s.spare
+    → NoLessRoom t (record t { channels = set t.channels (c - 1) s })
+more_in_channel t c x s from le k = (
+  channel_room t.channels (c - 1) (k - 1) s (opened_with 0) (subst (λ y. y.spare ≤ s.spare) from le),
+  omega arith,
+)
+
+pub more_in_both : (t : Table) (c : ℕ) (x s : ChannelState) (j i : Tracked)
+    → x ≡ channel_of t c → x.spare ≤ s.spare → j ≡ input_of t c → j.spare ≤ i.spare
+    → NoLessRoom t (record t { channels = set t.channels (c - 1) s; inputs = set t.inputs (c - 1) i })
+more_in_both t c x s j i from le was more k = (
+  channel_room t.channels (c - 1) (k - 1) s (opened_with 0) (subst (λ y. y.spare ≤ s.spare) from le),
+  input_room t.inputs (c - 1) (k - 1) i untold (subst (λ y. y.spare ≤ i.spare) was more),
+)
 
 -- no message is delivered later where one is finished
 none_after_if : (clock : ℕ) (b : Bool) (u : Unfinished) (us : List Unfinished) → u.delivery ≤ clock → NoneAfter clock us

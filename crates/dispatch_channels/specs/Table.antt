@@ -64,6 +64,11 @@ but_for_room t =
       inputs = map (λ i. let bare : Tracked = record i { spare = 0 } in bare) t.inputs;
     }
 
+-- no channel, and nothing that is kept of its window, has less room than before
+abbrev pub NoLessRoom : (old new : Table) → Type 0
+NoLessRoom old new =
+    (c : ℕ) → ((channel_of old c).spare ≤ (channel_of new c).spare) × ((input_of old c).spare ≤ (input_of new c).spare)
+
 -- the moment at which a channel is due to be named: its limit after the delivery of its oldest message that is published and not
 -- finished, where it is able
 abbrev pub due_moment : Table → ℕ → Option ℕ

@@ -6,7 +6,7 @@ ghost use Rattle.input_channel.specs.Order.{NoneAfter};
 ghost use Rattle.input_channel.specs.State.{next_of, received_one, received_next, let_go_of, all_let_go, may_finish};
 ghost use Rattle.dispatch_tables.specs.Delivery.{none_noted, noted_gone};
 ghost use Rattle.dispatch_history.specs.Reply.{is_due};
-ghost use Rattle.dispatch_channels.specs.Table.{opened, IsOpened, channel_of, input_of, with_channel, with_room, but_for_room, due_moment};
+ghost use Rattle.dispatch_channels.specs.Table.{opened, IsOpened, channel_of, input_of, with_channel, with_room, but_for_room, NoLessRoom, due_moment};
 ghost use Rattle.dispatch_channels.specs.Changes.{OpensOrNot, Tells, MayPublish, Publishes, finished_in, named_in, removed_in};
 
 mod asked;
@@ -131,6 +131,7 @@ impl Channels {
         requires { IsOpened self.old channel }
         ensures ok { OnOk result (self.new ≡ with_room channel n self.old) }
         ensures err { OnErr result (but_for_room self.new ≡ but_for_room self.old) }
+        ensures room { NoLessRoom self.old self.new }
         ensures reserved { n ≤ (channel_of self.old channel).spare → n ≤ (input_of self.old channel).spare
             → IsOk result }
     {

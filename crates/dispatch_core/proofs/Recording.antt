@@ -13,10 +13,10 @@ use Rattle.dispatch_history.specs.PointerOf.{AllRise}
 use Rattle.dispatch_history.proofs.LegalLaws.{effects_law}
 use Rattle.dispatch_history.proofs.WholeLaws.{whole_law, well_formed_law, removed_law, removed_state_law, gone_law}
 use Rattle.dispatcher.specs.Access.{gone, namings_gone}
-use Rattle.dispatcher.specs.Dispatching.{Dispatching, StandsFor, with_room}
+use Rattle.dispatcher.specs.Dispatching.{Dispatching, StandsFor, with_args_room}
 use Rattle.dispatcher.specs.Memory.{MayCount}
 use Rattle.dispatcher.specs.Queueing.{args_in}
-use Rattle.dispatcher.proofs.Applying.{roomier}
+use Rattle.dispatcher.proofs.Applying.{args_roomier}
 use Rattle.dispatch_core.specs.Recorded.{history_of, IsRecorded, IsSound, AnswersGone, HasRoom}
 
 -- the history is legal
@@ -121,7 +121,7 @@ one_in (Pilfer now c device) = omega arith
 one_in (Remove now c) = omega arith
 
 -- a dispatcher with more room for args stands for the same entries
-pub recorded_roomier : (entries : List Entry) (old new : Dispatching) (n : ℕ) → new ≡ with_room n old → IsRecorded entries old → IsRecorded entries new
+pub recorded_roomier : (entries : List Entry) (old new : Dispatching) (n : ℕ) → new ≡ with_args_room n old → IsRecorded entries old → IsRecorded entries new
 recorded_roomier entries old new n is r =
     subst (IsRecorded entries) (sym is)
-    (record { stands = roomier (effects old.displays (history_of entries)) old n r.stands; kept = r.kept; noted = r.noted })
+    (record { stands = args_roomier (effects old.displays (history_of entries)) old n r.stands; kept = r.kept; noted = r.noted })

@@ -98,7 +98,7 @@ impl Core {
         ensures reserved { n ≤ self.old.spare → IsOk result }
     {
         if self.spare < n {
-            self.dispatcher.reserve(n)?;
+            self.dispatcher.reserve_args(n)?;
             make_room(&mut self.entries, n as usize)?;
             self.spare = n;
         }

@@ -1,10 +1,11 @@
 -- A window is told what the round has for it.
-use Rattle.std.proofs.Common.{◌≡◌, ℕ, ◌&&◌, ◌+◌, ◌≤◌, Bool, true, false, List, [], length, map, flat_map, Option, Some, None, refl, sym, ap, ◌∙◌, subst, arith}
+use Rattle.std.proofs.Common.{◌≡◌, ℕ, ◌&&◌, ◌+◌, ◌-◌, ◌++◌, ◌≤◌, Bool, true, false, List, [], ◌∷◌, length, map, flat_map, Option, Some, None, refl, sym, ap, ◌∙◌, subst, arith, length-append}
 use Rattle.std.specs.Prelude.{IfSome}
 use Rattle.std.specs.Option.{option_copied}
 use Rattle.std.proofs.lemmas.List.{length-map}
 use Rattle.bits32.specs.Set.{is_in}
 use Rattle.input_types.specs.declared.key.KeyMsg.{KeyMsg}
+use Rattle.input_types.specs.declared.message.Body.{Body}
 use Rattle.input_types.specs.declared.message.Body.TheVariants.{Motion as MotionBody, Key}
 use Rattle.input_types.specs.declared.motion.Motion.{Motion}
 use Rattle.window_snapshot.specs.Mask.{mask_has}
@@ -12,7 +13,7 @@ use Rattle.routing_rules.specs.Scene.{Scene, Moves}
 use Rattle.routing_rules.specs.Given.{changed, mark}
 use Rattle.routing_rules.specs.Told.{after, told, devices}
 use Rattle.routing_rules.proofs.Listings.{has_id, has_id-listing}
-use Rattle.cancel_synthesis.specs.Tracked.{pointers_of}
+use Rattle.cancel_synthesis.specs.Tracked.{pointers_of, keys_then}
 use Rattle.touch_state.specs.Touches.{Touches}
 use Rattle.route_split.specs.declared.tells.Tells.{Tells}
 use Rattle.route_split.specs.Tables.{holds_at}
@@ -21,13 +22,14 @@ use Rattle.route_split.specs.Telling.{IsTold, IsListed}
 use Rattle.route_split.proofs.ToldBy.{after_is}
 use Rattle.routing_rules.specs.Watching.{is_watching}
 use Rattle.key_tables.specs.Focused.{change_of, change_told}
-use Rattle.dispatch_channels.specs.Table.{Table, input_of}
+use Rattle.key_tables.specs.Held.{bodies_tracked}
+use Rattle.dispatch_channels.specs.Table.{Table, channel_of, input_of}
 use Rattle.dispatch_round.specs.declared.round.Round.{Round}
 use Rattle.dispatch_round.specs.declared.listener.Listener.{Listener}
 use Rattle.dispatch_round.specs.Bodies.{keys_to, bodies_of}
 use Rattle.dispatch_round.specs.Rounds.{IsStepIn, may_take, most_motions, most_bodies}
-use Rattle.dispatch_round.specs.Saying.{CanHear, TellsOne, motions_by, losses, pilfered_from, HearsMotions, HearsRound}
-use Rattle.dispatch_round.proofs.Saying.{tells_none, tells_then, hears_after}
+use Rattle.dispatch_round.specs.Saying.{CanHear, TellsOne, motions_by, losses, pilfered_from, HearsMotions, HearsRound, Spends}
+use Rattle.dispatch_round.proofs.Saying.{tells_none, tells_then, hears_after, heard-spare}
 use Rattle.dispatch_round.proofs.Cancelling.{found_few, all_losses_few, pilfered_few}
 use Rattle.dispatch_round.proofs.Ruling.{found_all, lost_all, pilfered_all, none_all}
 
@@ -118,6 +120,44 @@ room_for_change r to t u keys change h is can =
     let many : length (change_told change) ≡ length (change_told (change_of r.lost r.gained to.window)) = ap (λ x. length (change_told x)) is in
     hears_after to (map Key keys) _ _ t u h can (omega (arith, size, many))
 
+-- motions and a change of the focus leave the keys
+motions_leave : (ms : List Motion) (bs : List Body) (held : List KeyMsg) → bodies_tracked (map MotionBody ms ++ bs) held ≡ bodies_tracked bs held
+motions_leave [] bs held = refl
+motions_leave (m ∷ ms) bs held = motions_leave ms bs held
+
+change_leaves : (bs : List Body) (change : Option Bool) (held : List KeyMsg)
+    → bodies_tracked (bs ++ change_told change) held ≡ bodies_tracked bs held
+change_leaves [] None held = refl
+change_leaves [] (Some b) held = refl
+change_leaves (b ∷ bs) change held = change_leaves bs change (keys_then b held)
+
+-- what is told takes no more of the room than the most that may be told
+round_spends : (r : Round) (us : List Touches) (o : Option (List ℕ)) (to : Listener) (t u x : Table) (keys : List KeyMsg) (change : Option Bool)
+    → (h : HearsMotions r us o to t u) → TellsOne to (bodies_of h.motions keys change) t x
+    → keys ≡ keys_to r.target r.keys.now to.window → change ≡ change_of r.lost r.gained to.window
+    → Spends r to.window t x
+round_spends r us o to t u x keys change h told k c =
+    let bodies = bodies_of h.motions keys change in
+    let motions : length (map MotionBody h.motions) ≡ length h.motions = length-map h.motions MotionBody in
+    let many : length (map Key keys) ≡ length keys = length-map keys Key in
+    let both = map MotionBody h.motions ++ map Key keys in
+    let rest : length both ≡ length (map MotionBody h.motions) + length (map Key keys) = length-append (map MotionBody h.motions) (map Key keys) in
+    let size : length bodies ≡ length both + length (change_told change) = length-append both (change_told change) in
+    let as_keys : length keys ≡ length (keys_to r.target r.keys.now to.window) = ap length k in
+    let as_change : length (change_told change) ≡ length (change_told (change_of r.lost r.gained to.window)) = ap (λ x. length (change_told x)) c in
+    let few = h.few in
+    let spare : (channel_of x to.window).spare ≡ (channel_of t to.window).spare - length bodies =
+    ap (λ s. s.spare) told.channel_is ∙ heard-spare bodies to.origin to.clock (channel_of t to.window) in
+    record {
+      room = omega (arith, spare, size, motions, rest, many, as_keys, as_change, few);
+      track_room = omega (arith, told.track_spare, size, motions, rest, many, as_keys, as_change, few);
+      keys_are =
+          told.tracks.keys_are
+          ∙ change_leaves both change (input_of t to.window).keys
+          ∙ motions_leave h.motions (map Key keys) (input_of t to.window).keys
+          ∙ ap (λ ks. bodies_tracked (map Key ks) (input_of t to.window).keys) k;
+    }
+
 -- all together
 pub hears_round : (r : Round) (us : List Touches) (o : Option (List ℕ)) (to : Listener) (t u v x : Table) (keys : List KeyMsg) (change : Option Bool)
     → HearsMotions r us o to t u → TellsOne to (map Key keys) u v → TellsOne to (change_told change) v x
@@ -125,6 +165,10 @@ pub hears_round : (r : Round) (us : List Touches) (o : Option (List ℕ)) (to : 
     → HearsRound r us o to t x
 hears_round r us o to t u v x keys change h p q k c = record {
   bodies = bodies_of h.motions keys change;
-  told = tells_then to _ (change_told change) t v x (tells_then to (map MotionBody h.motions) (map Key keys) t u v h.told p) q;
+  told = all;
+  spends = round_spends r us o to t u x keys change h all k c;
   by_rules = λ s e ts by round holds i. bodies_of (h.by_rules s e ts by round holds i) (k i) (c i);
 }
+  where
+    all : TellsOne to (bodies_of h.motions keys change) t x
+    all = tells_then to _ (change_told change) t v x (tells_then to (map MotionBody h.motions) (map Key keys) t u v h.told p) q

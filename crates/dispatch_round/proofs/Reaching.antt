@@ -1,9 +1,10 @@
 -- The windows of a mask are told, one after another, and then all are published.
-use Rattle.std.proofs.Common.{◌≡◌, ◌≢◌, ℕ, ◌≤◌, Bool, true, false, not, ◌&&◌, cond, List, Option, refl, sym, ap, ap₂, ◌∙◌, subst, inl, inr}
+use Rattle.std.proofs.Common.{◌≡◌, ◌≢◌, ℕ, ◌+◌, ◌≤◌, map, Bool, true, false, not, ◌&&◌, cond, List, Option, refl, sym, ap, ap₂, ◌∙◌, subst, inl, inr}
 use Rattle.std.specs.Prelude.{bit_and}
 use Rattle.std.proofs.lemmas.Bool.{cases_eq, eq-eqb, ne_eqb, and_parts, both_ways}
 use Rattle.input_types.specs.declared.axis.Pixel.{Pixel}
 use Rattle.input_types.specs.declared.message.Body.{Body}
+use Rattle.input_types.specs.declared.message.Body.TheVariants.{Key}
 use Rattle.input_channel.specs.State.{ChannelState, published_at}
 use Rattle.window_snapshot.specs.Mask.{mask_has, mask_with}
 use Rattle.window_snapshot.proofs.Masks.{mask_has_channel}
@@ -17,10 +18,11 @@ use Rattle.dispatch_channels.specs.Changes.{Publishes}
 use Rattle.dispatch_channels.proofs.Picking.{channel_low, has-without, mask_has-and}
 use Rattle.dispatch_channels.proofs.Moved.{reached, all_reached}
 use Rattle.dispatch_round.specs.declared.round.Round.{Round}
-use Rattle.dispatch_round.specs.Bodies.{TracksAll}
-use Rattle.dispatch_round.specs.Rounds.{IsRound, HoldsPointers, AllHoldPointers, is_concerned, told_in}
+use Rattle.key_tables.specs.Held.{bodies_tracked}
+use Rattle.dispatch_round.specs.Bodies.{TracksAll, keys_to}
+use Rattle.dispatch_round.specs.Rounds.{IsRound, HoldsPointers, AllHoldPointers, is_concerned, told_in, most_bodies, IsLeft}
 use Rattle.dispatch_round.specs.Told.{origin_at, heard, TellsAll}
-use Rattle.dispatch_round.specs.Saying.{HearsRound}
+use Rattle.dispatch_round.specs.Saying.{HearsRound, Spends}
 use Rattle.dispatch_round.specs.Each.{HearsEach}
 use Rattle.dispatch_round.proofs.Saying.{heard-unfinished, heard-gone}
 use Rattle.dispatch_round.proofs.Ruling.{quiet_told}
@@ -59,6 +61,22 @@ IsToldAt r origins clock t v s e c =
     (channel_of v c ≡ heard (told_in r s e c) (origin_at origins c) clock (channel_of t c))
     × TracksAll (input_of t c) (input_of v c) (told_in r s e c)
 
+-- a channel that stays as it is afterwards has spent as much, and one that was as it is before too
+same_spends : (r : Round) (c : ℕ) (t u v : Table) → channel_of v c ≡ channel_of u c → input_of v c ≡ input_of u c → Spends r c t u → Spends r c t v
+same_spends r c t u v e f h = record {
+  room = subst (λ s. (channel_of t c).spare ≤ s.spare + most_bodies r c (input_of t c)) (sym e) h.room;
+  track_room = subst (λ i. (input_of t c).spare ≤ i.spare + most_bodies r c (input_of t c)) (sym f) h.track_room;
+  keys_are = ap (λ i. i.keys) f ∙ h.keys_are;
+}
+
+spends_from : (r : Round) (c : ℕ) (t u v : Table) → channel_of u c ≡ channel_of t c → input_of u c ≡ input_of t c → Spends r c u v → Spends r c t v
+spends_from r c t u v e f h = record {
+  room = subst (λ (s : ChannelState). s.spare ≤ (channel_of v c).spare + most_bodies r c (input_of t c)) e
+      (subst (λ (i : Tracked). (channel_of u c).spare ≤ (channel_of v c).spare + most_bodies r c i) f h.room);
+  track_room = subst (λ (i : Tracked). i.spare ≤ (input_of v c).spare + most_bodies r c i) f h.track_room;
+  keys_are = h.keys_are ∙ ap (λ i. bodies_tracked (map Key (keys_to r.target r.keys.now c)) i.keys) f;
+}
+
 -- it is told
 pub each_next : (r : Round) (ts : List Touches) (o' : Option (List ℕ)) (mask rest k : ℕ) (o : Pixel) (origins : List Pixel) (clock : ℕ) (t u v : Table)
     → mask_has rest k ≡ true → mask_has mask k ≡ true → mask_has t.live k ≡ true → o ≡ origin_at origins k
@@ -77,6 +95,14 @@ each_next r ts o' mask rest k o origins clock t u v e is live from_origin p q =
         | inr ne ↦
             let before = p.stays c from (sym (reached_other mask rest k c e ne) ∙ no) in
             ((q.told.others c from ne).0 ∙ before.0, (q.told.others c from ne).1 ∙ before.1)
+      ];
+      spends = λ c hear. elim (cases_eq c k) [
+        | inl same ↦ subst (λ n. Spends r n t v) (sym same) spent
+        | inr ne ↦
+            let from : 1 ≤ c = channel_low mask c (and_parts (mask_has mask c) (not (mask_has (mask_less rest (mask_with 0 k)) c)) hear).0 in
+            let was = p.spends c (sym (reached_other mask rest k c e ne) ∙ hear) in
+            let other = q.told.others c from ne in
+            same_spends r c t u v other.0 other.1 was
       ];
       unfinished_is = λ c from. elim (cases_eq c k) [
         | inl same ↦ subst (λ n. (channel_of v n).unfinished ≡ (channel_of t n).unfinished) (sym same)
@@ -99,6 +125,9 @@ each_next r ts o' mask rest k o origins clock t u v e is live from_origin p q =
 
     still : (channel_of u k ≡ channel_of t k) × (input_of u k ≡ input_of t k)
     still = p.stays k low (not_reached mask rest k e)
+
+    spent : Spends r k t v
+    spent = spends_from r k t u v still.0 still.1 q.spends
 
     here : (s : Scene) (f : Step) (before : List Touches) → IsChanged before ts r.mark o' → IsRound s f before r → AllHoldPointers s t → IsToldAt r origins clock t v s f k
     here s f before by h holds =
@@ -127,6 +156,7 @@ each_last r ts o mask rest origins clock t u none p =
     record {
       told = λ s e before by h holds c hear. p.told s e before by h holds c (all c ∙ hear);
       stays = λ c from no. p.stays c from (all c ∙ no);
+      spends = λ c hear. p.spends c (all c ∙ hear);
       unfinished_is = p.unfinished_is;
       gone_is = p.gone_is;
       as_many = p.as_many;
@@ -173,6 +203,32 @@ tells_all s e r ts us o mask origins clock t u v whole is p q by h holds =
       able_is = q.able_is ∙ p.able_is;
       namings_are = q.namings_are ∙ p.namings_are;
     }
+
+-- what is published takes no room
+pub published_spends : (r : Round) (mask clock : ℕ) (t u v : Table) → Publishes mask clock u v → (c : ℕ) → 1 ≤ c → Spends r c t u → Spends r c t v
+published_spends r mask clock t u v q c low h = record {
+  room = subst (λ n. (channel_of t c).spare ≤ n + most_bodies r c (input_of t c)) (sym spare) h.room;
+  track_room = subst (λ i. (input_of t c).spare ≤ i.spare + most_bodies r c (input_of t c)) (sym input) h.track_room;
+  keys_are = ap (λ i. i.keys) input ∙ h.keys_are;
+}
+  where
+    by_test : (b : Bool) → (cond b (published_at clock (channel_of u c)) (channel_of u c)).spare ≡ (channel_of u c).spare
+    by_test true = refl
+    by_test false = refl
+
+    spare : (channel_of v c).spare ≡ (channel_of u c).spare
+    spare = ap (λ s. s.spare) (q.channels_are c low) ∙ by_test (mask_has mask c && mask_has u.live c)
+
+    input : input_of v c ≡ input_of u c
+    input = ap (λ is. input_of (record u { inputs = is }) c) q.inputs_are
+
+-- what nobody was told leaves a channel as it was
+pub published_left : (r : Round) (us : List Touches) (o : Option (List ℕ)) (mask : ℕ) (origins : List Pixel) (clock : ℕ) (t u v : Table)
+    → HearsEach r us o (mask_has mask) origins clock t u → Publishes mask clock u v → (c : ℕ) → 1 ≤ c → mask_has mask c ≡ false → IsLeft t v c
+published_left r us o mask origins clock t u v p q c from out = (
+  q.channels_are c from ∙ leaves (mask_has mask c) (mask_has u.live c) _ _ out ∙ (p.stays c from out).0,
+  ap (λ is. input_of (record u { inputs = is }) c) q.inputs_are ∙ (p.stays c from out).1,
+)
 
 -- nothing is let go where channels are published
 pub published_gone : (mask clock : ℕ) (t u : Table) → Publishes mask clock t u → (c : ℕ) → 1 ≤ c → (channel_of u c).gone ≡ (channel_of t c).gone

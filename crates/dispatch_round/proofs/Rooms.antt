@@ -8,7 +8,7 @@ use Rattle.cancel_synthesis.specs.Tracked.{Tracked}
 use Rattle.cancel_synthesis.specs.Tracked.{with_spare as tracked_with_spare}
 use Rattle.window_snapshot.specs.Mask.{mask_has, mask_with}
 use Rattle.dispatch_tables.specs.Masks.{mask_less}
-use Rattle.dispatch_channels.specs.Table.{Table, opened, channel_of, input_of, untold, with_room, but_for_room}
+use Rattle.dispatch_channels.specs.Table.{Table, opened, channel_of, input_of, untold, with_room, but_for_room, NoLessRoom}
 use Rattle.dispatch_channels.proofs.Wholes.{channel_set_same, channel_set_other}
 use Rattle.dispatch_channels.proofs.Picking.{channel_low}
 use Rattle.touch_state.specs.Touches.{Touches}
@@ -17,7 +17,7 @@ use Rattle.input_types.specs.declared.motion.Motion.{Motion}
 use Rattle.key_tables.specs.Focused.{change_of, change_told}
 use Rattle.dispatch_round.specs.declared.round.Round.{Round}
 use Rattle.dispatch_round.specs.Bodies.{keys_to}
-use Rattle.dispatch_round.specs.Rounds.{most_motions, most_bodies, is_concerned, HasRoom, HasMadeRoom, IsLeft, MakesRoom}
+use Rattle.dispatch_round.specs.Rounds.{most_motions, most_bodies, most_told, is_concerned, IsFew, HasMostRoom, HasRoom, HasMadeRoom, IsLeft, MakesRoom}
 use Rattle.dispatch_round.proofs.Reaching.{not_reached, reached_next, reached_other}
 
 -- more room is no change but of the room
@@ -106,6 +106,19 @@ made_enough r first t c h =
     fits : (a b s x : ℕ) → a ≡ b → s ≡ max b x → a ≤ s
     fits a b s x e f = omega (arith, e, f)
 
+-- and they are few still
+pub few_made : (r : Round) (first t : Table) (c : ℕ) → HasMadeRoom r first t c → IsFew r first c → IsFew r t c
+few_made r first t c h few =
+    subst (λ (i : Tracked). most_bodies r c i ≤ most_told r c) (sym h.1)
+    (as_few (option_copied r.motion) few)
+  where
+    as_few : (o : Option Motion)
+        → most_motions o (input_of first c) + length (keys_to r.target r.keys.now c) + length (change_told (change_of r.lost r.gained c)) ≤ most_told r c
+        → most_motions o (tracked_with_spare (most_bodies r c (input_of first c)) (input_of first c)) + length (keys_to r.target r.keys.now c)
+        + length (change_told (change_of r.lost r.gained c)) ≤ most_told r c
+    as_few None h = h
+    as_few (Some m) h = h
+
 -- room that is there is there still
 pub still_room : (r : Round) (first t : Table) (c : ℕ) → IsLeft first t c → HasRoom r first c → HasRoom r t c
 still_room r first t c same h = record {
@@ -124,3 +137,26 @@ makes_room r ts mask rest first t none is made left =
     let all : (c : ℕ) → reached mask rest c ≡ (is_concerned ts r c && mask_has first.live c) =
     λ c. ap (λ n. reached mask n c) none ∙ all_reached mask c ∙ is c in
     record { made = λ w hear. made w (all w ∙ hear); left = λ w from no. left w from (all w ∙ no) }
+
+-- no less room, and again no less
+pub no_less : (t u v : Table) → NoLessRoom t u → NoLessRoom u v → NoLessRoom t v
+no_less t u v h k c = (omega (arith, (h c).0, (k c).0), omega (arith, (h c).1, (k c).1))
+
+-- another window is told few bodies
+pub few_next : (r : Round) (first t : Table) (mask rest k : ℕ) → mask_has rest k ≡ true → mask_has mask k ≡ true
+    → ((c : ℕ) → 1 ≤ c → reached mask rest c ≡ false → IsLeft first t c)
+    → IsFew r t k
+    → ((c : ℕ) → reached mask rest c ≡ true → IsFew r first c)
+    → (c : ℕ) → reached mask (mask_less rest (mask_with 0 k)) c ≡ true → IsFew r first c
+few_next r first t mask rest k e is left here before c hear = elim (cases_eq c k) [
+  | inl same ↦
+      let was = left k (channel_low rest k e) (not_reached mask rest k e) in
+      subst (IsFew r first) (sym same) (subst (λ (i : Tracked). most_bodies r k i ≤ most_told r k) was.1 here)
+  | inr ne ↦ before c (sym (reached_other mask rest k c e ne) ∙ hear)
+]
+
+pub still_most : (r : Round) (first t : Table) (c : ℕ) → IsLeft first t c → HasMostRoom r first c → HasMostRoom r t c
+still_most r first t c same h = record {
+  room = subst (λ (s : ChannelState). most_told r c ≤ s.spare) (sym same.0) h.room;
+  track_room = subst (λ (i : Tracked). most_told r c ≤ i.spare) (sym same.1) h.track_room;
+}

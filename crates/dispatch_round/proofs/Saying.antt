@@ -85,7 +85,7 @@ tells_then to xs ys t u v p q =
     }
 
 -- each takes some of the room
-heard-spare : (xs : List Body) (o : Pixel) (now : ℕ) (s : ChannelState) → (heard xs o now s).spare ≡ s.spare - length xs
+pub heard-spare : (xs : List Body) (o : Pixel) (now : ℕ) (s : ChannelState) → (heard xs o now s).spare ≡ s.spare - length xs
 heard-spare [] o now s = omega arith
 heard-spare (x ∷ xs) o now s =
     let rest : (heard xs o now (enqueued (body_from o x) now s)).spare ≡ s.spare - 1 - length xs =

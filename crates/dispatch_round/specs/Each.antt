@@ -9,6 +9,7 @@ use Rattle.dispatch_round.specs.declared.round.Round.{Round}
 use Rattle.dispatch_round.specs.Bodies.{TracksAll}
 use Rattle.dispatch_round.specs.Rounds.{IsRound, AllHoldPointers, told_in}
 use Rattle.dispatch_round.specs.Told.{origin_at, heard}
+use Rattle.dispatch_round.specs.Saying.{Spends}
 
 -- The channels that pass the test are told what is said in the round, in each scene; the others are as they were, and so is all else.
 pub record HearsEach
@@ -22,6 +23,7 @@ pub record HearsEach
       × TracksAll (input_of old c) (input_of new c) (told_in r s e c)
   pub stays :
       (c : ℕ) → 1 ≤ c → hear c ≡ false → (channel_of new c ≡ channel_of old c) × (input_of new c ≡ input_of old c)
+  pub spends : (c : ℕ) → hear c ≡ true → Spends r c old new
   pub unfinished_is : (c : ℕ) → 1 ≤ c → (channel_of new c).unfinished ≡ (channel_of old c).unfinished
   pub gone_is : (c : ℕ) → 1 ≤ c → (channel_of new c).gone ≡ (channel_of old c).gone
   pub as_many : opened new ≡ opened old

@@ -99,6 +99,19 @@ most_bodies r w input =
     + length (keys_to r.target r.keys.now w)
     + length (change_told (change_of r.lost r.gained w))
 
+-- So many bodies at most, whatever the window has: the cancels of 16 pointers of each of 8 devices, its keys, and a change of the focus.
+abbrev pub most_told : Round → (w : ℕ) → ℕ
+most_told r w = 129 + length (keys_to r.target r.keys.now w)
+
+-- there is room for so many
+pub record HasMostRoom (r : Round) (t : Table) (w : ℕ) : Type 0 where
+  pub room : most_told r w ≤ (channel_of t w).spare
+  pub track_room : most_told r w ≤ (input_of t w).spare
+
+-- it is told no more than that
+abbrev pub IsFew : Round → Table → (w : ℕ) → Type 0
+IsFew r t w = most_bodies r w (input_of t w) ≤ most_told r w
+
 -- there is room for all of them
 pub record HasRoom (r : Round) (t : Table) (w : ℕ) : Type 0 where
   pub room : most_bodies r w (input_of t w) ≤ (channel_of t w).spare

@@ -1,9 +1,9 @@
 -- One window is told something.
-use Rattle.std.specs.Prelude.{◌≡◌, ◌≢◌, ◌≤◌, ℕ, ◌-◌, not, true, List, [], ◌∷◌, length, map, Option}
+use Rattle.std.specs.Prelude.{◌≡◌, ◌≢◌, ◌≤◌, ℕ, ◌+◌, ◌-◌, not, true, List, [], ◌∷◌, length, map, Option}
 use Rattle.std.specs.Option.{option_copied}
 use Rattle.bits32.specs.Set.{is_in}
 use Rattle.input_types.specs.declared.message.Body.{Body}
-use Rattle.input_types.specs.declared.message.Body.TheVariants.{Motion as MotionBody}
+use Rattle.input_types.specs.declared.message.Body.TheVariants.{Motion as MotionBody, Key}
 use Rattle.input_types.specs.declared.motion.Motion.{Motion}
 use Rattle.input_types.specs.declared.pointer.Pointer.{Pointer}
 use Rattle.window_snapshot.specs.Mask.{mask_has}
@@ -18,11 +18,12 @@ use Rattle.route_split.specs.Tables.{holds_at}
 use Rattle.route_split.specs.Marking.{IsChanged}
 use Rattle.cancel_synthesis.specs.Ends.{pointers_cancelled}
 use Rattle.cancel_synthesis.specs.Tracked.{Tracked, pointers_of}
+use Rattle.key_tables.specs.Held.{bodies_tracked}
 use Rattle.dispatch_channels.specs.Table.{Table, opened, IsOpened, channel_of, input_of}
 use Rattle.dispatch_round.specs.declared.round.Round.{Round}
 use Rattle.dispatch_round.specs.declared.listener.Listener.{Listener}
-use Rattle.dispatch_round.specs.Bodies.{TracksAll, motions_of}
-use Rattle.dispatch_round.specs.Rounds.{IsRound, HoldsPointers, told_in, most_motions}
+use Rattle.dispatch_round.specs.Bodies.{TracksAll, keys_to, motions_of}
+use Rattle.dispatch_round.specs.Rounds.{IsRound, HoldsPointers, told_in, most_motions, most_bodies}
 use Rattle.dispatch_round.specs.Told.{heard}
 
 -- a live channel has room for so many bodies more
@@ -70,10 +71,18 @@ pub record HearsMotions (r : Round) (ts : List Touches) (losses : Option (List �
       → IsChanged before ts r.mark losses
       → IsRound s e before r → HoldsPointers s to.window (input_of old to.window) → motions ≡ motions_of s e to.window
 
+-- What a window is told takes no more of its room than the most that it may be told, and of its keys it leaves what the keys of the
+-- round leave.
+pub record Spends (r : Round) (w : ℕ) (old new : Table) : Type 0 where
+  pub room : (channel_of old w).spare ≤ (channel_of new w).spare + most_bodies r w (input_of old w)
+  pub track_room : (input_of old w).spare ≤ (input_of new w).spare + most_bodies r w (input_of old w)
+  pub keys_are : (input_of new w).keys ≡ bodies_tracked (map Key (keys_to r.target r.keys.now w)) (input_of old w).keys
+
 -- It is told bodies, in each scene those of the round.
 pub record HearsRound (r : Round) (ts : List Touches) (losses : Option (List ℕ)) (to : Listener) (old new : Table) : Type 0 where
   pub bodies : List Body
   pub told : TellsOne to bodies old new
+  pub spends : Spends r to.window old new
   pub by_rules :
       (s : Scene) (e : Step) (before : List Touches)
       → IsChanged before ts r.mark losses

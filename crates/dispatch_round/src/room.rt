@@ -1,10 +1,12 @@
 //! Room for what a step tells.
-ghost use Rattle.std.specs.Prelude.{◌≡◌, ◌≤◌, ◌<◌, ◌^◌, ℕ, false, length, max, OnOk, OnErr, IfOk, IsOk};
+ghost use Rattle.std.specs.Prelude.{◌≡◌, ◌≤◌, ◌<◌, ◌^◌, ℕ, true, false, length, max, OnOk, OnErr, IfOk, IsOk};
 ghost use Rattle.key_tables.specs.Focused.{change_told};
 ghost use Rattle.std.specs.Option.{option_copied};
 ghost use Rattle.routing_rules.specs.Told.{devices};
-ghost use Rattle.dispatch_channels.specs.Table.{IsOpened, input_of, with_room, but_for_room};
+ghost use Rattle.dispatch_channels.specs.Table.{IsOpened, input_of, with_room, but_for_room, NoLessRoom};
 ghost use Rattle.dispatch_round.specs.Bodies.{keys_to};
+ghost use Rattle.window_snapshot.specs.Mask.{mask_has};
+ghost use Rattle.dispatch_round.specs.Rounds.{most_told, IsFew, HasMostRoom};
 ghost use Rattle.dispatch_round.specs.Rounds.{count_of, most_motions, most_bodies, is_concerned, HasRoom, IsReady, AreListeners, MakesRoom};
 
 use crate::concern::listeners;
@@ -69,6 +71,7 @@ fn count_of(change: Option<bool>) -> usize
 fn most_bodies(round: &Round, channels: &Channels, window: u32) -> Result<u32, AllocError>
     requires { IsOpened channels.now window }
     ensures value { IfOk result (λ n. n ≡ most_bodies round.now window (input_of channels.now window)) }
+    ensures most { IfOk result (λ n. n ≤ most_told round.now window) }
     ensures fits { length round.now.keys.now < 2 ^ 31 → IsOk result }
 {
     let motions = most_motions(round, channels.input(window));
@@ -86,6 +89,9 @@ fn make_room_in(round: &Round, channels: &mut Channels, window: u32) -> Result<(
     ensures ok { let most = most_bodies round.now window (input_of channels.old window) in
         OnOk result (channels.new ≡ with_room window most channels.old) }
     ensures err { OnErr result (but_for_room channels.new ≡ but_for_room channels.old) }
+    ensures room { NoLessRoom channels.old channels.new }
+    ensures most { OnOk result (IsFew round.now channels.old window) }
+    ensures roomy { length round.now.keys.now < 2 ^ 31 → HasMostRoom round.now channels.old window → IsOk result }
     ensures reserved { length round.now.keys.now < 2 ^ 31 → HasRoom round.now channels.old window → IsOk result }
 {
     let count = most_bodies(round, channels, window)?;
@@ -104,6 +110,10 @@ pub fn make_room(
     ensures ready { OnOk result (IsReady touches.now round.now channels.new) }
     ensures told { IfOk result (λ told. AreListeners told touches.now round.now channels.new) }
     ensures same { but_for_room channels.new ≡ but_for_room channels.old }
+    ensures room { NoLessRoom channels.old channels.new }
+    ensures few { IfOk result (λ told. (w : ℕ) → mask_has told w ≡ true → IsFew round.now channels.new w) }
+    ensures roomy { length round.now.keys.now < 2 ^ 31 → ((w : ℕ) → mask_has channels.old.live w ≡ true
+        → is_concerned touches.now round.now w ≡ true → HasMostRoom round.now channels.old w) → IsOk result }
     ensures reserved { length round.now.keys.now < 2 ^ 31 →
         IsReady touches.now round.now channels.old → IsOk result }
     ensures calm { ((w : ℕ) → is_concerned touches.now round.now w ≡ false) → IsOk result }

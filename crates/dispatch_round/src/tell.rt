@@ -1,5 +1,5 @@
 //! The windows of a step are told.
-ghost use Rattle.std.specs.Prelude.{◌≡◌, ◌≤◌, ℕ, true, length};
+ghost use Rattle.std.specs.Prelude.{◌≡◌, ◌≤◌, ℕ, true, false, length};
 ghost use Rattle.std.specs.Option.{option_copied};
 ghost use Rattle.window_snapshot.specs.Mask.{mask_has};
 ghost use Rattle.routing_rules.specs.Scene.{Scene, Step};
@@ -8,8 +8,8 @@ ghost use Rattle.route_split.specs.Tables.{ChangesAll};
 ghost use Rattle.route_split.specs.Marking.{gives, taking, IsWhole};
 ghost use Rattle.dispatch_channels.specs.Table.{opened, channel_of, input_of};
 ghost use Rattle.dispatch_round.specs.Rounds.{IsRound, AllHoldPointers, told_in, most_bodies};
-ghost use Rattle.dispatch_round.specs.Rounds.{HasRoom, IsReady, AreListeners, IsTimely};
-ghost use Rattle.dispatch_round.specs.Saying.{CanHear, HearsRound};
+ghost use Rattle.dispatch_round.specs.Rounds.{HasRoom, IsReady, IsLeft, AreListeners, IsTimely};
+ghost use Rattle.dispatch_round.specs.Saying.{CanHear, HearsRound, Spends};
 ghost use Rattle.dispatch_round.specs.Each.{HearsEach};
 ghost use Rattle.dispatch_round.specs.Told.{TellsAll};
 
@@ -95,6 +95,9 @@ pub fn tell_all(
         (pilfers (taking touches.old k)) }
     ensures told { (s : Scene) (e : Step) → IsRound s e touches.old round.now → AllHoldPointers s channels.old
         → TellsAll told (told_in round.now s e) origins.now clock channels.old channels.new }
+    ensures spends { (w : ℕ) → mask_has told w ≡ true → Spends round.now w channels.old channels.new }
+    ensures left { (w : ℕ) → 1 ≤ w → mask_has told w ≡ false → IsLeft channels.old channels.new w }
+    ensures live { channels.new.live ≡ channels.old.live }
     ensures gone { (c : ℕ) → 1 ≤ c → (channel_of channels.new c).gone ≡ (channel_of channels.old c).gone }
     ensures namings { channels.new.namings ≡ channels.old.namings }
 {

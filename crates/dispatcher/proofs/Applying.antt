@@ -7,9 +7,12 @@ use Rattle.dispatch_history.specs.Effect.{Effect}
 use Rattle.dispatch_history.specs.Effects.{step}
 use Rattle.dispatcher.specs.declared.tables.Tables.{Tables}
 use Rattle.dispatcher.specs.Dispatching.{Dispatching, IsOfHistory}
-use Rattle.dispatcher.specs.Dispatching.{StandsFor, with_room}
+use Rattle.dispatcher.specs.Dispatching.{StandsFor, with_room, with_args_room}
 use Rattle.dispatcher.specs.Queueing.{args_in}
-use Rattle.dispatcher.specs.Tables.{TablesStandFor, GoesOn, GoesOnSomehow, SameAll}
+use Rattle.dispatcher.specs.Queueing.{with_room as queue_with_room, with_args_room as queue_with_args_room}
+use Rattle.dispatcher.specs.Queue.{Queue}
+use Rattle.dispatcher.specs.Roomy.{KeepsPromise}
+use Rattle.dispatcher.specs.Tables.{TablesStandFor, GoesOn, GoesOnSomehow, SameAll, SameButRoom}
 use Rattle.dispatcher.proofs.Rooms.{stands_raw, stands_bare}
 
 -- what contracts see of the tables
@@ -37,13 +40,13 @@ seen_same : (old new : Tables) → SameAll old new → seen new ≡ seen old
 seen_same old new h =
     λ i.
     record {
-      displays = (h.routing_is i).displays;
+      displays = (h.routing_is.0 i).displays;
       queue = h.queueing_is i;
-      shown = (h.routing_is i).shown;
-      touches = (h.routing_is i).touches;
-      channels = (h.routing_is i).channels;
-      focus = (h.routing_is i).focus;
-      repeat = (h.routing_is i).repeat;
+      shown = (h.routing_is.0 i).shown;
+      touches = (h.routing_is.0 i).touches;
+      channels = (h.routing_is.0 i).channels;
+      focus = (h.routing_is.0 i).focus;
+      repeat = (h.routing_is.0 i).repeat;
     }
 
 -- with some answer, where there is one
@@ -110,3 +113,51 @@ pub roomier_or_not : {A E : Type 0} (r : Result A E) (old new : Dispatching) (n 
     → (es : List Effect) → StandsFor es old → StandsFor es new
 roomier_or_not (Ok a) old new n ok err es s = subst (StandsFor es) (sym ok) (roomier es old n s)
 roomier_or_not (Err e) old new n ok err es s = subst (StandsFor es) (sym err) s
+
+-- where room was reserved, or was not to be had
+pub reserved_stands : {A E : Type 0} (r : Result A E) (old new : Tables) (n : ℕ) → OnOk r (new.queueing ≡ queue_with_room n old.queueing)
+    → OnErr r (new.queueing ≡ old.queueing) → SameButRoom old.routing new.routing → (es : List Effect) → StandsFor es (seen old) → StandsFor es (seen new)
+reserved_stands (Ok a) old new n ok err same es s =
+    let is : seen new ≡ with_room n (seen old) =
+    λ i.
+    record {
+      displays = (same.0 i).displays;
+      queue = ok i;
+      shown = (same.0 i).shown;
+      touches = (same.0 i).touches;
+      channels = (same.0 i).channels;
+      focus = (same.0 i).focus;
+      repeat = (same.0 i).repeat;
+    } in
+    subst (StandsFor es) (sym is) (roomier es (seen old) n s)
+reserved_stands (Err e) old new n ok err same es s = subst (StandsFor es) (sym (seen_same old new (record { queueing_is = err; routing_is = same }))) s
+
+-- the same of room for args
+pub args_roomier : (es : List Effect) (d : Dispatching) (n : ℕ) → StandsFor es d → StandsFor es (with_args_room n d)
+args_roomier es d n s =
+    let q = s.knows.queue in
+    record {
+      lawful = s.lawful;
+      rise = s.rise;
+      knows =
+          record {
+            queue = record { clock_is = q.clock_is; place_is = q.place_is; waiting_is = q.waiting_is; down_is = q.down_is };
+            shown = s.knows.shown;
+            touches = s.knows.touches;
+            delivery = s.knows.delivery;
+            inputs = s.knows.inputs;
+            keying = s.knows.keying;
+          };
+    }
+
+pub args_stand : {A E : Type 0} (r : Result A E) (old : Tables) (later : Queue) (n : ℕ) → OnOk r (later ≡ queue_with_args_room n old.queueing)
+    → OnErr r (later ≡ old.queueing) → (es : List Effect) → StandsFor es (seen old) → StandsFor es (seen (record old { queueing = later }))
+args_stand (Ok a) old later n ok err es s =
+    subst (λ q. StandsFor es (seen (record old { queueing = q }))) (sym ok) (args_roomier es (seen old) n s)
+args_stand (Err e) old later n ok err es s = subst (λ q. StandsFor es (seen (record old { queueing = q }))) (sym err) s
+
+-- and the room for pumps stays
+pub args_promise : {A E : Type 0} (r : Result A E) (old : Tables) (later : Queue) (n : ℕ) → OnOk r (later ≡ queue_with_args_room n old.queueing)
+    → OnErr r (later ≡ old.queueing) → KeepsPromise old → KeepsPromise (record old { queueing = later })
+args_promise (Ok a) old later n ok err keeps = subst (λ q. KeepsPromise (record old { queueing = q })) (sym ok) keeps
+args_promise (Err e) old later n ok err keeps = subst (λ q. KeepsPromise (record old { queueing = q })) (sym err) keeps

@@ -40,7 +40,7 @@ told w = if w == 1 then record { pointers = []; keys = message true 0 0 ∷ []; 
 abbrev kept : ℕ → List Args → Kept
 kept count waiting =
     record {
-      queue = record { clock = 1000000; place = 5; waiting = waiting; spare = 0; down = down };
+      queue = record { clock = 1000000; place = 5; waiting = waiting; spare = 0; pumps = 0; down = down };
       shown = record { windows = []; origins = [] };
       touches = replicate 8 no_table;
       delivery = record { count = count; channel = λ c. opened_with 5000000; live = 1; able = 1; noted = none_noted };

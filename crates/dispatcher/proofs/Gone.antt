@@ -85,4 +85,4 @@ answered_gone call (Ok a) old new ok err =
       of_namings = ok.1.gone_are.of_namings;
     }
 answered_gone call (Err e) old new ok err =
-    record { of_channels = λ c low. ap (λ r. (channel_of r.channels c).gone) err.routing_is; of_namings = ap (λ r. r.channels.namings.gone) err.routing_is }
+    record { of_channels = λ c low. ap (λ r. (channel_of r.channels c).gone) err.routing_is.0; of_namings = ap (λ r. r.channels.namings.gone) err.routing_is.0 }

@@ -43,3 +43,6 @@ pub mod Pilfering
 pub mod Motioning
 pub mod Gone
 pub mod Missing
+pub mod Cancelling
+pub mod Roomy
+pub mod RoomMade

@@ -25,7 +25,7 @@ use Rattle.dispatcher.specs.declared.tables.Routing.{Routing}
 use Rattle.dispatcher.specs.declared.tables.Tables.{Tables}
 use Rattle.dispatcher.specs.Memory.{IsCalm}
 use Rattle.dispatcher.specs.Needing.{NeedsNone}
-use Rattle.dispatcher.specs.Queueing.{stepped, dispatched}
+use Rattle.dispatcher.specs.Queueing.{stepped, dispatched, with_pumps}
 use Rattle.dispatcher.specs.Tables.{kept, Goes, GoesAs, Pumps, GoesOn, is_routed, is_owned}
 use Rattle.dispatcher.proofs.KeySteps.{idle_reply}
 
@@ -153,3 +153,31 @@ needs_none es q r (Receive c) now clk s m time routed calm = tt
 needs_none es q r (Finish n c seq) now clk s m time routed calm = tt
 needs_none es q r (Pilfer n c d) now clk s m time routed calm = calm
 needs_none es q r (Remove n c) now clk s m time routed calm = tt
+
+-- for how many pumps there is room says nothing of a history
+pub other_pumps : (call : Call) (answer : Reply) (old : Tables) (q : Queue) (r : Routing) (n : ℕ)
+    → GoesOn call answer old (record { queueing = q; routing = r }) → GoesOn call answer old (record { queueing = with_pumps n q; routing = r })
+other_pumps call answer old q r n h =
+    record {
+      after = λ es s. pumps_free (step old.routing.displays call answer es) q r n (h.after es s);
+      displays_are = h.displays_are;
+      gone_are = h.gone_are;
+      room_is = h.room_is;
+    }
+  where
+    pumps_free : (es : List Effect) (q : Queue) (r : Routing) (n : ℕ) → KeptStandsFor r.displays es (kept q r) → KeptStandsFor r.displays es (kept (with_pumps n q) r)
+    pumps_free es q r n s =
+        let i = s.knows.queue in
+        record {
+          lawful = s.lawful;
+          rise = s.rise;
+          knows =
+              record {
+                queue = record { clock_is = i.clock_is; place_is = i.place_is; waiting_is = i.waiting_is; down_is = i.down_is };
+                shown = s.knows.shown;
+                touches = s.knows.touches;
+                delivery = s.knows.delivery;
+                inputs = s.knows.inputs;
+                keying = s.knows.keying;
+              };
+        }

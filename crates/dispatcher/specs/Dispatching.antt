@@ -6,7 +6,7 @@ use Rattle.key_repeat.specs.Due.{Sent}
 use Rattle.dispatch_channels.specs.Table.{Table, but_for_room}
 use Rattle.dispatch_history.specs.Effect.{Effect}
 use Rattle.dispatcher.specs.Queue.{Queue}
-use Rattle.dispatcher.specs.Queueing.{with_room as queue_with_room}
+use Rattle.dispatcher.specs.Queueing.{with_room as queue_with_room, with_args_room as queue_with_args_room}
 use Rattle.dispatcher.specs.Shown.{Shown}
 use Rattle.dispatcher.specs.Knows.{Kept}
 use Rattle.dispatcher.specs.Knows.{KeptStandsFor}
@@ -36,6 +36,10 @@ seen_of displays queue shown touches channels focus repeat =
     }
 
 -- room for at least so many args more
+abbrev pub with_args_room : ℕ → Dispatching → Dispatching
+with_args_room n d = record d { queue = queue_with_args_room n d.queue }
+
+-- room for at least so many args more, and for at least so many pumps
 abbrev pub with_room : ℕ → Dispatching → Dispatching
 with_room n d = record d { queue = queue_with_room n d.queue }
 

@@ -24,3 +24,4 @@ pub mod Keying
 pub mod Carrying
 pub mod Naming
 pub mod Opening
+pub mod Roomy

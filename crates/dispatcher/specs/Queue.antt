@@ -19,6 +19,8 @@ pub record Queue : Type 0 where
   pub place : ℕ
   pub waiting : List Args
   pub spare : ℕ
+  -- for how many pumps there is room in the channels
+  pub pumps : ℕ
   pub down : List Kept
 
 -- it stands for the effects of a history

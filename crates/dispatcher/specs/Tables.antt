@@ -4,7 +4,7 @@ use Rattle.dispatch_calls.specs.declared.call.Call.{Call}
 use Rattle.dispatch_calls.specs.declared.call.Call.TheVariants.{Notify, Pump, Receive, Finish, Remove}
 use Rattle.dispatch_calls.specs.declared.reply.Reply.{Reply}
 use Rattle.input_types.specs.declared.message.Args.{Args}
-use Rattle.dispatch_channels.specs.Table.{Table, channel_of, but_for_room}
+use Rattle.dispatch_channels.specs.Table.{Table, channel_of, but_for_room, NoLessRoom}
 use Rattle.dispatch_history.specs.Effect.{Effect}
 use Rattle.dispatch_history.specs.Effects.{step}
 use Rattle.dispatch_history.specs.History.{moment_of}
@@ -60,11 +60,11 @@ pub record Pumps (first : Option Args) (answer : Reply) (place clock : ℕ) (old
   pub displays_are : new.displays ≡ old.displays
   pub gone_are : LetsNoneGo old.channels new.channels
 
--- they are the same, but for the room that the channels have
+-- They are the same, but for the room that the channels have, and that for keys that are cancelled. There is no less of it.
 abbrev pub SameButRoom : (old new : Routing) → Type 0
 SameButRoom old new =
-    let bare : Routing → Routing = λ r. record r { channels = but_for_room r.channels } in
-    bare new ≡ bare old
+    let bare : Routing → Routing = λ r. record r { channels = but_for_room r.channels; cancelled = 0 } in
+    (bare new ≡ bare old) × NoLessRoom old.channels new.channels × (old.cancelled ≤ new.cancelled)
 
 -- the tables may go one step on: they stand for some history, and the number of its steps is not the greatest
 pub record MayStep (t : Tables) : Type 0 where

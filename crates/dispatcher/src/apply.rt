@@ -1,5 +1,5 @@
 //! How each call is answered.
-ghost use Rattle.std.specs.Prelude.{◌≡◌, ◌<◌, ◌≤◌, ◌^◌, true, false, List, None, Some, slice_get, if◌then◌else◌};
+ghost use Rattle.std.specs.Prelude.{◌≡◌, ◌<◌, ◌≤◌, ◌+◌, ◌^◌, ℕ, suc, true, false, List, None, Some, slice_get, if◌then◌else◌};
 ghost use Rattle.std.specs.Prelude.{IfOk, OnOk, OnErr, IsOk, IfSome};
 ghost use Rattle.dispatch_calls.specs.declared.call.Call.TheVariants.{Notify, Pump};
 ghost use Rattle.dispatch_history.specs.Effect.{Effect};
@@ -8,7 +8,8 @@ ghost use Rattle.dispatch_round.specs.Rounds.{IsTimely};
 ghost use Rattle.dispatch_calls.specs.declared.reply.Reply.TheVariants.{Inconsistent, Dispatched, Repeated, Idle};
 ghost use Rattle.dispatcher.specs.Memory.{IsCalm, MayCount};
 ghost use Rattle.dispatcher.specs.Needing.{NeedsNone};
-ghost use Rattle.dispatcher.specs.Queueing.{args_in};
+ghost use Rattle.dispatcher.specs.Queueing.{args_in, is_input, is_pump};
+ghost use Rattle.dispatcher.specs.Roomy.{HasPumpRoom, KeepsPromise};
 ghost use Rattle.dispatcher.specs.Tables.{TablesStandFor, MayStep, GoesAs, Pumps, GoesOn, is_routed, is_owned};
 ghost use Rattle.dispatcher.specs.Tables.{SameButRoom, SameAll};
 
@@ -34,6 +35,10 @@ pub(crate) fn apply(tables: &mut Tables, call: &Call) -> Result<Reply, AllocErro
     ensures calm { (es : List Effect) → TablesStandFor es tables.old → MayCount es → IsCalm es call.now → IsOk result }
     ensures reserved { (es : List Effect) → TablesStandFor es tables.old → MayCount es
         → args_in call.now ≡ 1 → 1 ≤ tables.old.queueing.spare → IsOk result }
+    ensures promise { KeepsPromise tables.old → KeepsPromise tables.new }
+    ensures pumped { (es : List Effect) → TablesStandFor es tables.old → MayCount es
+        → is_pump call.now ≡ true → 1 ≤ tables.old.queueing.pumps → KeepsPromise tables.old → IsOk result }
+    ensures pumps { is_input call.now ≡ true → tables.old.queueing.pumps ≤ tables.new.queueing.pumps + 1 }
 {
     if tables.queueing.place() == u64::MAX {
         return Err(AllocError);
@@ -52,6 +57,8 @@ fn notify(tables: &mut Tables, now: Moment, args: &Args) -> Result<Reply, AllocE
     ensures ok { IfOk result (λ answer. GoesOn (Notify now args.now) answer tables.old tables.new) }
     ensures err { OnErr result (SameAll tables.old tables.new) }
     ensures reserved { 1 ≤ tables.old.queueing.spare → IsOk result }
+    ensures promise { KeepsPromise tables.old → KeepsPromise tables.new }
+    ensures pumps { tables.new.queueing.pumps ≡ tables.old.queueing.pumps }
 {
     rises(now, args);
     match tables.queueing.plan(args) {
@@ -91,6 +98,9 @@ fn pump(tables: &mut Tables, now: Moment) -> Result<Reply, AllocError>
     ensures ok { IfOk result (λ answer. GoesOn (Pump now) answer tables.old tables.new) }
     ensures err { OnErr result (SameAll tables.old tables.new) }
     ensures calm { (es : List Effect) → TablesStandFor es tables.old → IsCalm es (Pump now) → IsOk result }
+    ensures promise { KeepsPromise tables.old → KeepsPromise tables.new }
+    ensures pumped { 1 ≤ tables.old.queueing.pumps → KeepsPromise tables.old → IsOk result }
+    ensures pumps { tables.old.queueing.pumps ≤ tables.new.queueing.pumps + 1 }
 {
     if tables.queueing.first().is_none() {
         return idle(tables, now);
@@ -105,12 +115,16 @@ fn dispatch_first(tables: &mut Tables, now: Moment) -> Result<(), AllocError>
     ensures ok { OnOk result (IfSome (slice_get tables.old.queueing.waiting 0)
         (λ args. GoesOn (Pump now) Dispatched tables.old tables.new)) }
     ensures err { OnErr result (SameAll tables.old tables.new) }
+    ensures promise { KeepsPromise tables.old → KeepsPromise tables.new }
+    ensures pumped { 1 ≤ tables.old.queueing.pumps → KeepsPromise tables.old → IsOk result }
+    ensures pumps { tables.old.queueing.pumps ≤ tables.new.queueing.pumps + 1 }
 {
     let clock = now.later(tables.queueing.clock());
     let place = tables.queueing.place();
     if let Some(args) = tables.queueing.first() {
         dispatch(&mut tables.routing, args, place, clock)?;
         tables.queueing.dispatch(now);
+        tables.queueing.spend_pump();
     }
     Ok(())
 }
@@ -120,6 +134,7 @@ fn dispatch(routing: &mut Routing, args: &Args, place: u64, clock: Moment) -> Re
     requires { IsTimely clock routing.old.channels }
     ensures ok { OnOk result (Pumps (Some args.now) Dispatched place clock routing.old routing.new) }
     ensures err { OnErr result (SameButRoom routing.old routing.new) }
+    ensures roomy { (n : ℕ) → HasPumpRoom (suc n) routing.old → IsOk result × HasPumpRoom n routing.new }
 {
     match args {
         Args::Motion(motion) => route_motion(routing, motion, place, clock),
@@ -135,12 +150,16 @@ fn idle(tables: &mut Tables, now: Moment) -> Result<Reply, AllocError>
     ensures ok { IfOk result (λ answer. GoesOn (Pump now) answer tables.old tables.new) }
     ensures err { OnErr result (SameAll tables.old tables.new) }
     ensures calm { (es : List Effect) → TablesStandFor es tables.old → IsCalm es (Pump now) → IsOk result }
+    ensures promise { KeepsPromise tables.old → KeepsPromise tables.new }
+    ensures pumped { 1 ≤ tables.old.queueing.pumps → KeepsPromise tables.old → IsOk result }
+    ensures pumps { tables.old.queueing.pumps ≤ tables.new.queueing.pumps + 1 }
 {
     let clock = now.later(tables.queueing.clock());
     let place = tables.queueing.place();
     match repeat(&mut tables.routing, place, clock) {
         Ok(is_due) => {
             tables.queueing.step(now);
+            tables.queueing.spend_pump();
             Ok(idle_reply(is_due))
         }
         Err(error) => Err(error),
@@ -158,12 +177,14 @@ fn idle_reply(is_due: bool) -> Reply
 fn own(tables: &mut Tables, call: &Call) -> Reply
     requires step { MayStep tables.old }
     requires owned { is_owned call.now ≡ true }
-    ensures { GoesOn call.now result tables.old tables.new }
+    ensures goes { GoesOn call.now result tables.old tables.new }
+    ensures promise { KeepsPromise tables.old → KeepsPromise tables.new }
 {
     let now = call.moment();
     let clock = now.later(tables.queueing.clock());
     let place = tables.queueing.place();
     tables.queueing.step(now);
+    tables.queueing.set_pumps(0);
     answer_owner(&mut tables.routing, call, place, clock)
 }
 
@@ -190,6 +211,7 @@ fn route(tables: &mut Tables, call: &Call) -> Result<Reply, AllocError>
     ensures ok { IfOk result (λ answer. GoesOn call.now answer tables.old tables.new) }
     ensures err { OnErr result (SameAll tables.old tables.new) }
     ensures calm { (es : List Effect) → TablesStandFor es tables.old → IsCalm es call.now → IsOk result }
+    ensures promise { KeepsPromise tables.old → KeepsPromise tables.new }
 {
     let now = call.moment();
     let clock = now.later(tables.queueing.clock());
@@ -197,6 +219,7 @@ fn route(tables: &mut Tables, call: &Call) -> Result<Reply, AllocError>
     match answer(&mut tables.routing, call, place, clock) {
         Ok(reply) => {
             tables.queueing.step(now);
+            tables.queueing.set_pumps(0);
             Ok(reply)
         }
         Err(error) => Err(error),

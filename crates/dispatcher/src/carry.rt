@@ -1,8 +1,10 @@
 //! How a step is carried out.
-ghost use Rattle.std.specs.Prelude.{◌≡◌, ℕ, false, OnOk, OnErr, IsOk};
+ghost use Rattle.std.specs.Prelude.{◌≡◌, ℕ, suc, false, OnOk, OnErr, IsOk};
 ghost use Rattle.route_split.specs.Marking.{IsWhole};
 ghost use Rattle.dispatch_round.specs.Rounds.{AreListeners, IsReady, IsTimely, is_concerned};
 ghost use Rattle.dispatcher.specs.Carrying.{IsSilent, CarriesOut, CarriesFrom, CarriesSome};
+ghost use Rattle.dispatcher.specs.Keying.{target_number};
+ghost use Rattle.dispatcher.specs.Roomy.{IsRoomy, AreModest, TakesRoom};
 ghost use Rattle.dispatcher.specs.Tables.{SameButRoom};
 
 use crate::tables::Routing;
@@ -19,7 +21,9 @@ pub(crate) fn carry_out(routing: &mut Routing, told: u64, round: &Round, place: 
     requires told { AreListeners told routing.old.touches round.now routing.old.channels }
     requires ready { IsReady routing.old.touches round.now routing.old.channels }
     requires timely { IsTimely clock routing.old.channels }
-    ensures { CarriesOut round.now place clock routing.old routing.new }
+    ensures carries { CarriesOut round.now place clock routing.old routing.new }
+    ensures room { TakesRoom told round.now routing.old.channels routing.new.channels }
+    ensures list { routing.new.cancelled ≡ routing.old.cancelled }
 {
     tell_all(
         told,
@@ -45,6 +49,10 @@ pub(crate) fn tell(
     ensures ok { OnOk result (CarriesFrom round.now place clock routing.old routing.new) }
     ensures err { OnErr result (SameButRoom routing.old routing.new) }
     ensures calm { ((w : ℕ) → is_concerned routing.old.touches round.now w ≡ false) → IsOk result }
+    ensures roomy { (n list : ℕ) → IsRoomy (suc n) list routing.old.channels
+        → AreModest round.now.target round.now.keys.now routing.old.channels
+        → IsOk result × IsRoomy n list routing.new.channels }
+    ensures list { routing.new.cancelled ≡ routing.old.cancelled }
 {
     let told = make_room(round, &routing.touches, &mut routing.channels)?;
     carry_out(routing, told, round, place, clock);
@@ -67,6 +75,10 @@ pub(crate) fn tell_still(
         (CarriesSome mark keys.now change.now.lost change.now.gained place clock routing.old routing.new) }
     ensures err { OnErr result (SameButRoom routing.old routing.new) }
     ensures calm { IsSilent mark keys.now change.now → IsOk result }
+    ensures roomy { (n list : ℕ) → IsRoomy (suc n) list routing.old.channels
+        → AreModest (target_number routing.old.focus) keys.now routing.old.channels
+        → IsOk result × IsRoomy n list routing.new.channels }
+    ensures list { routing.new.cancelled ≡ routing.old.cancelled }
 {
     let round = Round {
         mark,

@@ -7,7 +7,7 @@ ghost use Rattle.dispatch_calls.specs.declared.reply.Reply.{Reply as Answer};
 ghost use Rattle.dispatch_history.specs.Due.{counts, first_due, namings};
 ghost use Rattle.dispatch_history.specs.Effect.{Effect, past_of, stream};
 ghost use Rattle.dispatch_history.specs.Effects.{step};
-ghost use Rattle.dispatch_history.specs.History.{clock, live, opened, received};
+ghost use Rattle.dispatch_history.specs.History.{live, opened, received};
 ghost use Rattle.dispatch_history.specs.PointerOf.{RisesIn};
 ghost use Rattle.dispatch_history.specs.Reply.{reply_to};
 ghost use Rattle.dispatch_tables.specs.Channel.{MayGo};
@@ -18,7 +18,7 @@ ghost use Rattle.dispatcher.specs.Access.{is_opened, gone, namings_gone, message
 ghost use Rattle.dispatcher.specs.Access.{is_waiting, next_repeat, HoldsInput};
 ghost use Rattle.dispatcher.specs.Dispatching.{StandsFor};
 ghost use Rattle.dispatcher.specs.Memory.{IsCalm, MayCount};
-ghost use Rattle.dispatcher.specs.Queueing.{args_in};
+ghost use Rattle.dispatcher.specs.Queueing.{args_in, is_input, is_pump};
 
 mod asked;
 mod room;
@@ -46,6 +46,7 @@ pub struct Dispatcher {
 
 impl Model for Dispatcher {
     ghost use Rattle.dispatcher.specs.Dispatching.{Dispatching, IsOfHistory, seen_of};
+    ghost use Rattle.dispatcher.specs.Roomy.{KeepsPromise};
 
     ghost Value = { Dispatching };
 
@@ -53,7 +54,8 @@ impl Model for Dispatcher {
         seen_of r.displays d.tables.queueing r.shown r.touches r.channels r.focus r.repeat };
 
     ghost invariant = { λ d. let r = d.tables.routing in
-        IsOfHistory (seen_of r.displays d.tables.queueing r.shown r.touches r.channels r.focus r.repeat) };
+        IsOfHistory (seen_of r.displays d.tables.queueing r.shown r.touches r.channels r.focus r.repeat)
+        × KeepsPromise d.tables };
 }
 
 impl Dispatcher {
@@ -83,6 +85,9 @@ impl Dispatcher {
         ensures reserved { (es : List Effect) → StandsFor es self.old → MayCount es
             → args_in call.now ≡ 1 → 1 ≤ self.old.queue.spare → IsOk result }
         ensures room { self.old.queue.spare ≤ self.new.queue.spare + args_in call.now }
+        ensures pumped { (es : List Effect) → StandsFor es self.old → MayCount es
+            → is_pump call.now ≡ true → 1 ≤ self.old.queue.pumps → IsOk result }
+        ensures pumps { is_input call.now ≡ true → self.old.queue.pumps ≤ self.new.queue.pumps + 1 }
     {
         apply(&mut self.tables, call)
     }
@@ -100,6 +105,9 @@ impl Dispatcher {
         ensures reserved { (es : List Effect) → StandsFor es self.old → MayCount es
             → args_in call.now ≡ 1 → 1 ≤ self.old.queue.spare → IsOk result }
         ensures room { self.old.queue.spare ≤ self.new.queue.spare + args_in call.now }
+        ensures pumped { (es : List Effect) → StandsFor es self.old → MayCount es
+            → is_pump call.now ≡ true → 1 ≤ self.old.queue.pumps → IsOk result }
+        ensures pumps { is_input call.now ≡ true → self.old.queue.pumps ≤ self.new.queue.pumps + 1 }
     {
         apply_unread(&mut self.tables, call)
     }
@@ -150,13 +158,6 @@ impl Dispatcher {
         ensures messages { (c : ℕ) → 1 ≤ c → gone self.new c ≡ gone self.old c }
     {
         self.tables.routing.channels.let_namings_go();
-    }
-
-    /// The greatest moment that was handed in.
-    pub fn clock(&self) -> Moment
-        ensures { (es : List Effect) → StandsFor es self.now → result ≡ clock (past_of es) }
-    {
-        self.tables.queueing.clock()
     }
 
     /// How many channels were opened. They have the numbers from 1 to this.
@@ -280,12 +281,5 @@ impl Dispatcher {
         } else {
             None
         }
-    }
-
-    /// The displays of the devices.
-    pub fn displays(&self) -> &Displays
-        ensures { result.now ≡ self.now.displays }
-    {
-        &self.tables.routing.displays
     }
 }

@@ -1,5 +1,5 @@
 //! What changes who has the focus: a channel that is opened, other windows, and requests.
-ghost use Rattle.std.specs.Prelude.{◌≡◌, ◌<◌, [], IfOk, OnOk, OnErr, IsOk};
+ghost use Rattle.std.specs.Prelude.{◌≡◌, ◌<◌, ◌≤◌, [], IfOk, OnOk, OnErr, IsOk, vec_capacity};
 ghost use Rattle.dispatch_calls.specs.declared.call.Call.TheVariants.{Open, Windows, FocusOn};
 ghost use Rattle.route_split.specs.Marking.{IsWhole};
 ghost use Rattle.dispatch_round.specs.Rounds.{IsTimely};
@@ -17,7 +17,7 @@ use crate::tables::Routing;
 use dispatch_calls::Reply;
 use dispatch_round::{Round, listeners};
 use focus_resolver::Change;
-use input_types::{DisplayId, Limit, Moment};
+use input_types::{DisplayId, KeyMsg, Limit, Moment};
 use key_tables::focusable;
 use route_split::Mark;
 use std::alloc::AllocError;
@@ -128,10 +128,34 @@ fn refocus(
     ensures err { OnErr result (SameButRoom routing.old routing.new) }
     ensures calm { IsSilent mark [] change.now → change.now.target ≡ target_of routing.old.focus → IsOk result }
 {
+    let mut keys = routing.cancelled.take();
+    let told = tell_change(routing, &mut keys, mark, change, place, clock);
+    routing.cancelled.keep(keys);
+    told
+}
+
+/// The same with a list for the keys that are cancelled.
+fn tell_change(
+    routing: &mut Routing,
+    keys: &mut Vec<KeyMsg>,
+    mark: Mark,
+    change: &Change,
+    place: u64,
+    clock: Moment,
+) -> Result<(), AllocError>
+    requires whole { IsWhole mark }
+    requires timely { IsTimely clock routing.old.channels }
+    ensures ok { OnOk result
+        (CarriesSome mark (lost_keys routing.old.focus change.now.target routing.old.channels) change.now.lost
+        change.now.gained place clock routing.old routing.new) }
+    ensures err { OnErr result (SameButRoom routing.old routing.new) }
+    ensures calm { IsSilent mark [] change.now → change.now.target ≡ target_of routing.old.focus → IsOk result }
+    ensures list { vec_capacity keys.old ≤ vec_capacity keys.new }
+{
     match listening(routing) {
         Some(target) if change.target != Some(target) => {
-            let keys = routing.channels.input(target).cancel_keys()?;
-            tell_still(routing, mark, &keys, change, place, clock)
+            routing.channels.input(target).cancel_keys_into(keys)?;
+            tell_still(routing, mark, keys.as_slice(), change, place, clock)
         }
         _ => tell_still(routing, mark, &[], change, place, clock),
     }

@@ -1,5 +1,5 @@
 //! Keys: dispatched, cancelled by a reset of their device, and repeated.
-ghost use Rattle.std.specs.Prelude.{◌≡◌, None, Some, true, OnOk, OnErr, IfOk, IfSome, if◌then◌else◌};
+ghost use Rattle.std.specs.Prelude.{◌≡◌, ◌≤◌, ℕ, suc, None, Some, true, OnOk, OnErr, IfOk, IsOk, IfSome, vec_capacity, if◌then◌else◌};
 ghost use Rattle.input_types.specs.declared.message.Args.TheVariants.{Key as KeyOfDevice, Reset as ResetOf};
 ghost use Rattle.key_repeat.specs.Due.{due_of};
 ghost use Rattle.dispatch_calls.specs.declared.reply.Reply.TheVariants.{Dispatched, Repeated, Idle};
@@ -7,11 +7,12 @@ ghost use Rattle.dispatch_history.specs.Reply.{is_due};
 ghost use Rattle.dispatch_round.specs.Rounds.{IsTimely};
 ghost use Rattle.dispatch_channels.specs.Table.{IsOpened};
 ghost use Rattle.dispatcher.specs.Keying.{listening};
+ghost use Rattle.dispatcher.specs.Roomy.{HasPumpRoom, IsRoomy};
 ghost use Rattle.dispatcher.specs.Tables.{Pumps, SameButRoom};
 
 use crate::carry::{no_change, tell_still};
 use crate::tables::Routing;
-use input_types::{DeviceId, KeyArgs, Moment};
+use input_types::{DeviceId, KeyArgs, KeyMsg, Moment};
 use key_tables::key_heard;
 use route_split::Mark;
 use std::alloc::AllocError;
@@ -41,6 +42,7 @@ pub(crate) fn route_key(
     requires { IsTimely clock routing.old.channels }
     ensures ok { OnOk result (Pumps (Some (KeyOfDevice key.now)) Dispatched place clock routing.old routing.new) }
     ensures err { OnErr result (SameButRoom routing.old routing.new) }
+    ensures roomy { (n : ℕ) → HasPumpRoom (suc n) routing.old → IsOk result × HasPumpRoom n routing.new }
 {
     let Some(target) = listening(routing) else {
         return Ok(());
@@ -65,14 +67,39 @@ pub(crate) fn route_reset(
     requires { IsTimely clock routing.old.channels }
     ensures ok { OnOk result (Pumps (Some (ResetOf device)) Dispatched place clock routing.old routing.new) }
     ensures err { OnErr result (SameButRoom routing.old routing.new) }
+    ensures roomy { (n : ℕ) → HasPumpRoom (suc n) routing.old → IsOk result × HasPumpRoom n routing.new }
+{
+    let mut keys = routing.cancelled.take();
+    let told = tell_reset(routing, &mut keys, device, place, clock);
+    routing.cancelled.keep(keys);
+    told
+}
+
+/// The same with a list for the keys that are cancelled.
+fn tell_reset(
+    routing: &mut Routing,
+    keys: &mut Vec<KeyMsg>,
+    device: DeviceId,
+    place: u64,
+    clock: Moment,
+) -> Result<(), AllocError>
+    requires { IsTimely clock routing.old.channels }
+    ensures ok { OnOk result (Pumps (Some (ResetOf device)) Dispatched place clock routing.old routing.new) }
+    ensures err { OnErr result (SameButRoom routing.old routing.new) }
+    ensures roomy { (n : ℕ) → IsRoomy (suc n) (vec_capacity keys.old) routing.old.channels
+        → IsOk result × IsRoomy n (vec_capacity keys.old) routing.new.channels }
+    ensures list { vec_capacity keys.old ≤ vec_capacity keys.new }
 {
     let mark = Mark::Empty { device };
     let change = no_change(routing);
     let Some(target) = listening(routing) else {
         return tell_still(routing, mark, &[], &change, place, clock);
     };
-    let keys = routing.channels.input(target).cancel_device_keys(device)?;
-    tell_still(routing, mark, &keys, &change, place, clock)
+    routing
+        .channels
+        .input(target)
+        .cancel_device_keys_into(device, keys)?;
+    tell_still(routing, mark, keys.as_slice(), &change, place, clock)
 }
 
 /// Whether a repeat is due at the clock.
@@ -92,6 +119,7 @@ pub(crate) fn repeat(routing: &mut Routing, place: u64, clock: Moment) -> Result
         (λ is_due. Pumps None (if is_due then Repeated else Idle) place clock routing.old routing.new) }
     ensures err { OnErr result (SameButRoom routing.old routing.new) }
     ensures calm { OnErr result (is_due (due_of routing.old.repeat) clock ≡ true) }
+    ensures roomy { (n : ℕ) → HasPumpRoom (suc n) routing.old → IsOk result × HasPumpRoom n routing.new }
 {
     if !is_due(routing.repeat.due(), clock) {
         return Ok(false);

@@ -39,6 +39,7 @@
 #![tactic(auto)]
 
 mod apply;
+mod cancelled;
 mod carry;
 mod dispatcher;
 mod focusing;
@@ -47,6 +48,7 @@ mod motions;
 mod naming;
 mod owners;
 mod queueing;
+mod reserving;
 mod shown;
 mod stays;
 mod tables;

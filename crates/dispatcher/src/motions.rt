@@ -1,5 +1,5 @@
 //! Motions of touch devices, and pilfering.
-ghost use Rattle.std.specs.Prelude.{◌≡◌, Some, true, IfOk, OnOk, OnErr, ◌==◌, ◌&&◌};
+ghost use Rattle.std.specs.Prelude.{◌≡◌, ℕ, suc, Some, true, IfOk, OnOk, OnErr, IsOk, ◌==◌, ◌&&◌};
 ghost use Rattle.std.specs.List.{list_any};
 ghost use Rattle.window_snapshot.specs.Mask.{is_channel};
 ghost use Rattle.window_snapshot.specs.Window.{is_spy};
@@ -7,6 +7,7 @@ ghost use Rattle.input_types.specs.declared.message.Args.TheVariants.{Motion as 
 ghost use Rattle.dispatch_calls.specs.declared.call.Call.TheVariants.{Pilfer};
 ghost use Rattle.dispatch_calls.specs.declared.reply.Reply.TheVariants.{Done, Dispatched};
 ghost use Rattle.dispatch_round.specs.Rounds.{IsTimely};
+ghost use Rattle.dispatcher.specs.Roomy.{HasPumpRoom};
 ghost use Rattle.dispatcher.specs.Tables.{Goes, Pumps, SameButRoom};
 
 use crate::carry::{no_change, tell, tell_still};
@@ -28,6 +29,7 @@ pub(crate) fn route_motion(
     requires { IsTimely clock routing.old.channels }
     ensures ok { OnOk result (Pumps (Some (MotionArgs motion.now)) Dispatched place clock routing.old routing.new) }
     ensures err { OnErr result (SameButRoom routing.old routing.new) }
+    ensures roomy { (n : ℕ) → HasPumpRoom (suc n) routing.old → IsOk result × HasPumpRoom n routing.new }
 {
     let windows = routing.shown.windows();
     let reach = routing.channels.live() & windows.on(routing.displays.of(motion.device));

@@ -1,5 +1,5 @@
 //! Windows that do not answer.
-ghost use Rattle.std.specs.Prelude.{◌≡◌, ℕ, false, IfOk, OnOk, OnErr, IsOk};
+ghost use Rattle.std.specs.Prelude.{◌≡◌, ◌≤◌, ℕ, false, IfOk, OnOk, OnErr, IsOk, vec_capacity};
 ghost use Rattle.dispatch_calls.specs.declared.call.Call.TheVariants.{Tick};
 ghost use Rattle.dispatch_channels.specs.Table.{due_moment};
 ghost use Rattle.dispatch_history.specs.Reply.{is_due};
@@ -41,10 +41,30 @@ fn name_some(routing: &mut Routing, mask: u64, place: u64, clock: Moment) -> Res
         (Names mask (named_keys routing.old.focus mask routing.old.channels) place clock routing.old routing.new) }
     ensures err { OnErr result (SameButRoom routing.old routing.new) }
 {
+    let mut keys = routing.cancelled.take();
+    let named = tell_names(routing, &mut keys, mask, place, clock);
+    routing.cancelled.keep(keys);
+    named
+}
+
+/// The same with a list for the keys that are cancelled.
+fn tell_names(
+    routing: &mut Routing,
+    keys: &mut Vec<KeyMsg>,
+    mask: u64,
+    place: u64,
+    clock: Moment,
+) -> Result<(), AllocError>
+    requires { IsTimely clock routing.old.channels }
+    ensures ok { OnOk result
+        (Names mask (named_keys routing.old.focus mask routing.old.channels) place clock routing.old routing.new) }
+    ensures err { OnErr result (SameButRoom routing.old routing.new) }
+    ensures list { vec_capacity keys.old ≤ vec_capacity keys.new }
+{
     match listening(routing) {
         Some(target) if mask_has(mask, target) => {
-            let keys = routing.channels.input(target).cancel_keys()?;
-            name(routing, mask, &keys, place, clock)
+            routing.channels.input(target).cancel_keys_into(keys)?;
+            name(routing, mask, keys.as_slice(), place, clock)
         }
         _ => name(routing, mask, &[], place, clock),
     }

@@ -1,11 +1,11 @@
 //! The clock, how many steps there were, the args that wait, and what is down on each device.
-ghost use Rattle.std.specs.Prelude.{◌≡◌, ◌<◌, ◌≤◌, ◌^◌, [], slice_get, Ok, Err, IfOk, OnErr, OnOk, IsOk, option_copied};
+ghost use Rattle.std.specs.Prelude.{◌≡◌, ◌<◌, ◌≤◌, ◌+◌, ◌-◌, ◌^◌, [], slice_get, Ok, Err, IfOk, OnErr, OnOk, IsOk, option_copied};
 ghost use Rattle.input_types.specs.DeviceRule.{device_of};
 ghost use Rattle.device_down.specs.Down.{PlansAt};
 ghost use Rattle.dispatch_calls.specs.declared.call.Call.{Call};
 ghost use Rattle.dispatch_calls.specs.declared.reply.Reply.{Reply};
 ghost use Rattle.dispatcher.specs.Queue.{QueueIs, QueueGoes};
-ghost use Rattle.dispatcher.specs.Queueing.{stepped, dispatched, with_room};
+ghost use Rattle.dispatcher.specs.Queueing.{stepped, dispatched, with_args_room, with_pumps};
 
 use device_down::{Change, DevicesDown, Inconsistent};
 use input_types::{Args, Moment};
@@ -21,6 +21,8 @@ pub(crate) struct Queueing {
     place: u64,
     waiting: Inbound,
     down: DevicesDown,
+    /// For how many pumps there is room in the channels.
+    pumps: u32,
 }
 
 impl Model for Queueing {
@@ -33,6 +35,7 @@ impl Model for Queueing {
       place = q.place;
       waiting = q.waiting.args;
       spare = q.waiting.spare;
+      pumps = q.pumps;
       down = q.down;
     } };
 }
@@ -40,7 +43,8 @@ impl Model for Queueing {
 impl Queueing {
     /// Before the first step.
     pub(crate) fn new(alloc: Global) -> Result<Queueing, AllocError>
-        ensures { IfOk result (λ q. QueueIs [] q) }
+        ensures start { IfOk result (λ q. QueueIs [] q) }
+        ensures pumps { IfOk result (λ q. q.pumps ≡ 0) }
     {
         let down = DevicesDown::new(alloc)?;
         Ok(Queueing {
@@ -48,6 +52,7 @@ impl Queueing {
             place: 0,
             waiting: Inbound::new(alloc),
             down,
+            pumps: 0,
         })
     }
 
@@ -81,11 +86,32 @@ impl Queueing {
 
     /// Makes room for the next `n` args. Without memory nothing changes.
     pub(crate) fn reserve(&mut self, n: u32) -> Result<(), AllocError>
-        ensures ok { OnOk result (self.new ≡ with_room n self.old) }
+        ensures ok { OnOk result (self.new ≡ with_args_room n self.old) }
         ensures err { OnErr result (self.new ≡ self.old) }
         ensures reserved { n ≤ self.old.spare → IsOk result }
     {
         self.waiting.reserve(n as usize)
+    }
+
+    /// For how many pumps there is room.
+    pub(crate) fn pumps(&self) -> u32
+        ensures { result ≡ self.now.pumps }
+    {
+        self.pumps
+    }
+
+    /// There is room for so many pumps.
+    pub(crate) fn set_pumps(&mut self, pumps: u32)
+        ensures { self.new ≡ with_pumps pumps self.old }
+    {
+        self.pumps = pumps;
+    }
+
+    /// There is room for one pump less.
+    pub(crate) fn spend_pump(&mut self)
+        ensures { self.new ≡ with_pumps (self.old.pumps - 1) self.old }
+    {
+        self.pumps = self.pumps.saturating_sub(1);
     }
 
     /// One step more, which hands in a moment.
@@ -109,6 +135,7 @@ impl Queueing {
         requires planned { PlansAt self.old.down args.now (Ok change.now) }
         ensures ok { OnOk result (QueueGoes (Call.Notify now args.now) Reply.Taken self.old self.new) }
         ensures spare { OnOk result (self.old.spare ≤ self.new.spare + 1) }
+        ensures pumps { self.new.pumps ≡ self.old.pumps }
         ensures err { OnErr result (self.new ≡ self.old) }
         ensures reserved { 1 ≤ self.old.spare → IsOk result }
     {
@@ -130,8 +157,6 @@ impl Queueing {
         self.place += 1;
     }
 }
-
-ghost use Rattle.std.specs.Prelude.{◌-◌, ◌+◌};
 
 fn copy_of(args: &Args) -> Args
     ensures { result ≡ args.now }

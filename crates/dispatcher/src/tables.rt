@@ -2,6 +2,7 @@
 ghost use Rattle.std.specs.Prelude.{◌≡◌, [], IfOk};
 ghost use Rattle.dispatcher.specs.Tables.{TablesStandFor};
 
+use crate::cancelled::Cancelled;
 use crate::queueing::Queueing;
 use crate::shown::Shown;
 use dispatch_channels::Channels;
@@ -20,6 +21,7 @@ pub(crate) struct Routing {
     pub(crate) channels: Channels,
     pub(crate) focus: Focus,
     pub(crate) repeat: Repeat,
+    pub(crate) cancelled: Cancelled,
 }
 
 /// What the next answers need, table by table.
@@ -34,6 +36,7 @@ impl Tables {
     pub(crate) fn new(alloc: Global, displays: &Displays) -> Result<Tables, AllocError>
         ensures start { IfOk result (λ t. TablesStandFor [] t) }
         ensures displays { IfOk result (λ t. t.routing.displays ≡ displays.now) }
+        ensures pumps { IfOk result (λ t. t.queueing.pumps ≡ 0) }
     {
         let queueing = Queueing::new(alloc)?;
         let touches = Touches::new(alloc)?;
@@ -44,6 +47,7 @@ impl Tables {
             channels: Channels::new(alloc),
             focus: Focus::new(),
             repeat: Repeat::new(),
+            cancelled: Cancelled::new(alloc),
         };
         Ok(Tables { queueing, routing })
     }

@@ -1,9 +1,10 @@
 //! Calls whose answers are not read, as those of a run: no message is copied, and no answer handed on.
-ghost use Rattle.std.specs.Prelude.{◌≡◌, ◌≤◌, List, OnOk, OnErr, IsOk};
+ghost use Rattle.std.specs.Prelude.{◌≡◌, ◌≤◌, ◌+◌, true, List, OnOk, OnErr, IsOk};
 ghost use Rattle.dispatch_calls.specs.declared.call.Call.TheVariants.{Receive, Finish};
 ghost use Rattle.dispatch_history.specs.Effect.{Effect};
 ghost use Rattle.dispatcher.specs.Memory.{IsCalm, MayCount};
-ghost use Rattle.dispatcher.specs.Queueing.{args_in};
+ghost use Rattle.dispatcher.specs.Queueing.{args_in, is_input, is_pump};
+ghost use Rattle.dispatcher.specs.Roomy.{KeepsPromise};
 ghost use Rattle.dispatcher.specs.Tables.{TablesStandFor, MayStep, GoesOnSomehow, SameAll};
 
 use crate::apply::apply;
@@ -22,6 +23,10 @@ pub(crate) fn apply_unread(tables: &mut Tables, call: &Call) -> Result<(), Alloc
     ensures calm { (es : List Effect) → TablesStandFor es tables.old → MayCount es → IsCalm es call.now → IsOk result }
     ensures reserved { (es : List Effect) → TablesStandFor es tables.old → MayCount es
         → args_in call.now ≡ 1 → 1 ≤ tables.old.queueing.spare → IsOk result }
+    ensures promise { KeepsPromise tables.old → KeepsPromise tables.new }
+    ensures pumped { (es : List Effect) → TablesStandFor es tables.old → MayCount es
+        → is_pump call.now ≡ true → 1 ≤ tables.old.queueing.pumps → KeepsPromise tables.old → IsOk result }
+    ensures pumps { is_input call.now ≡ true → tables.old.queueing.pumps ≤ tables.new.queueing.pumps + 1 }
 {
     if tables.queueing.place() == u64::MAX {
         return Err(AllocError);
@@ -47,6 +52,10 @@ fn apply_dropping(tables: &mut Tables, call: &Call) -> Result<(), AllocError>
     ensures calm { (es : List Effect) → TablesStandFor es tables.old → MayCount es → IsCalm es call.now → IsOk result }
     ensures reserved { (es : List Effect) → TablesStandFor es tables.old → MayCount es
         → args_in call.now ≡ 1 → 1 ≤ tables.old.queueing.spare → IsOk result }
+    ensures promise { KeepsPromise tables.old → KeepsPromise tables.new }
+    ensures pumped { (es : List Effect) → TablesStandFor es tables.old → MayCount es
+        → is_pump call.now ≡ true → 1 ≤ tables.old.queueing.pumps → KeepsPromise tables.old → IsOk result }
+    ensures pumps { is_input call.now ≡ true → tables.old.queueing.pumps ≤ tables.new.queueing.pumps + 1 }
 {
     match apply(tables, call) {
         Ok(_) => Ok(()),
@@ -57,18 +66,22 @@ fn apply_dropping(tables: &mut Tables, call: &Call) -> Result<(), AllocError>
 /// The owner of a channel has its next message. Takes no memory.
 fn pass_next(tables: &mut Tables, channel: u32)
     requires { MayStep tables.old }
-    ensures { GoesOnSomehow (Receive channel) tables.old tables.new }
+    ensures goes { GoesOnSomehow (Receive channel) tables.old tables.new }
+    ensures promise { KeepsPromise tables.old → KeepsPromise tables.new }
 {
     tables.queueing.step(Moment::zero());
+    tables.queueing.set_pumps(0);
     pass(&mut tables.routing, channel);
 }
 
 /// The owner of a channel is done with a message, and its answer is not read. Takes no memory.
 fn finish_unread(tables: &mut Tables, now: Moment, channel: u32, seq: u64)
     requires { MayStep tables.old }
-    ensures { GoesOnSomehow (Finish now channel seq) tables.old tables.new }
+    ensures goes { GoesOnSomehow (Finish now channel seq) tables.old tables.new }
+    ensures promise { KeepsPromise tables.old → KeepsPromise tables.new }
 {
     let clock = now.later(tables.queueing.clock());
     tables.queueing.step(now);
+    tables.queueing.set_pumps(0);
     let _reply = finish(&mut tables.routing, channel, seq, clock);
 }

@@ -128,7 +128,9 @@ fn ups_leave_the_others(rt: HostRuntime) -> Result<(), Fail> {
     )?;
     assert_eq!(rt; *state.pointers(device(1)?), pointers(&[0, 2])?);
     assert_eq!(rt; state.keys(), [key(8, true, 0)?].as_slice());
-    assert_eq!(rt; state.cancel_device_keys(device(1)?)?.len(), 0);
+    let mut of_device = Vec::new(rt.alloc());
+    state.cancel_device_keys_into(device(1)?, &mut of_device)?;
+    assert_eq!(rt; of_device.len(), 0);
     let cancel = plain(device(1)?, MotionAction::Cancel, pointers(&[0, 2])?);
     let cancels = state.cancel_pointers(device(1)?, two_ids())?;
     assert_eq!(rt; cancels.as_slice(), [cancel].as_slice());
@@ -154,9 +156,11 @@ fn a_spy_takes_two_of_three(rt: HostRuntime) -> Result<(), Fail> {
     assert_eq!(rt; told.as_slice(), [first, second].as_slice());
     let mut up = key(1, false, 0)?;
     up.flags = FLAG_CANCELED;
-    assert_eq!(rt; state.cancel_keys()?.as_slice(), [up].as_slice());
-    let of_device = state.cancel_device_keys(device(1)?)?;
-    assert_eq!(rt; of_device.as_slice(), [up].as_slice());
+    let mut ups = Vec::new(rt.alloc());
+    state.cancel_keys_into(&mut ups)?;
+    assert_eq!(rt; ups.as_slice(), [up].as_slice());
+    state.cancel_device_keys_into(device(1)?, &mut ups)?;
+    assert_eq!(rt; ups.as_slice(), [up].as_slice());
     assert_eq!(rt; state.cancel_all()?.len(), 2);
     Ok(())
 }

@@ -7,14 +7,14 @@ ghost use Rattle.key_repeat.specs.Due.{next_of};
 ghost use Rattle.dispatch_history.specs.Delivery.{able};
 ghost use Rattle.dispatch_history.specs.Effect.{Effect, past_of};
 ghost use Rattle.dispatch_history.specs.Focus.{focus, key_target};
-ghost use Rattle.dispatch_history.specs.History.{snapshot};
+ghost use Rattle.dispatch_history.specs.History.{clock, snapshot};
 ghost use Rattle.dispatch_history.specs.KeyTold.{last_key, while_held};
 ghost use Rattle.dispatch_history.specs.Queue.{inbound};
 ghost use Rattle.dispatch_history.specs.Step.{reach};
 ghost use Rattle.dispatcher.specs.Dispatching.{StandsFor};
 
 use crate::dispatcher::Dispatcher;
-use input_types::{Args, DeviceId, DisplayId, KeyMsg};
+use input_types::{Args, DeviceId, DisplayId, Displays, KeyMsg, Moment};
 use window_snapshot::Snapshot;
 
 impl Dispatcher {
@@ -74,5 +74,19 @@ impl Dispatcher {
             → option_map (λ n. (n.0, n.1)) result ≡ next_of (while_held es (last_key es)) }
     {
         self.tables.routing.repeat.next()
+    }
+
+    /// The greatest moment that was handed in.
+    pub fn clock(&self) -> Moment
+        ensures { (es : List Effect) → StandsFor es self.now → result ≡ clock (past_of es) }
+    {
+        self.tables.queueing.clock()
+    }
+
+    /// The displays of the devices.
+    pub fn displays(&self) -> &Displays
+        ensures { result.now ≡ self.now.displays }
+    {
+        &self.tables.routing.displays
     }
 }

@@ -1,13 +1,13 @@
-use Rattle.std.proofs.Common.{◌≤◌, refl, ap, ◌&&◌, sym, ◌∙◌, arith}
+use Rattle.std.proofs.Common.{◌≤◌, refl, ap, ◌&&◌, sym, subst, ◌∙◌, arith}
 use Rattle.std.proofs.lemmas.List.{length-set}
 use Rattle.std.proofs.lemmas.Bool.{both_ways, and_parts, and_from, true≢false}
 use Rattle.window_snapshot.specs.Mask.{mask_has}
-use Rattle.dispatch_channels.specs.Table.{opened}
+use Rattle.dispatch_channels.specs.Table.{opened, input_of, with_room, NoLessRoom}
 use Rattle.dispatch_channels.proofs.Picking.{less_without}
 use Rattle.dispatch_channels.proofs.Moved.{reached, all_reached, rest_within}
-use Rattle.dispatch_round.specs.Rounds.{is_concerned}
+use Rattle.dispatch_round.specs.Rounds.{is_concerned, most_bodies}
 use Rattle.dispatch_round.proofs.Reaching.{not_reached}
-use Rattle.dispatch_round.proofs.Rooms.{same_but_room, left_next, made_next, made_enough, still_room, makes_room}
+use Rattle.dispatch_round.proofs.Rooms.{same_but_room, left_next, made_next, made_enough, still_room, makes_room, no_less, few_next, few_made, still_most}
 use Rattle.dispatch_round.proofs.room.make_room.Goals as goal
 
 pub make_room_in-requires : goal.make_room_in-requires
@@ -36,6 +36,9 @@ loop-rest-preserved c =
       length-set t.inputs _ _ ∙ c.loop-rest.invariant.4 ∙ sym (length-set t.channels _ _),
       made_next c.args.round.now c.args.channels.now t _ c.loop-rest.rest k _ has refl high c.loop-rest.invariant.4 c.loop-rest.invariant.6 c.loop-rest.invariant.5,
       left_next c.args.channels.now t _ c.loop-rest.rest k _ has is c.loop-rest.invariant.6,
+      no_less c.args.channels.now t (with_room k (most_bodies c.args.round.now k (input_of t k)) t) c.loop-rest.invariant.7
+          (subst (NoLessRoom t) c.in_ok-make_room_in.ensures.ok c.in_ok-make_room_in.ensures.room),
+      few_next c.args.round.now c.args.channels.now t _ c.loop-rest.rest k has is c.loop-rest.invariant.6 c.in_ok-make_room_in.ensures.most c.loop-rest.invariant.8,
     )
 
 pub returns-clause-told : goal.returns-clause-told
@@ -73,3 +76,17 @@ returns-in_err-make_room_in-clause-calm c none =
     let k = c.first_of-window.result in
     let both = and_parts (is_concerned c.args.touches.now c.args.round.now k) _ (sym (c.listeners-told.ensures.are k) ∙ c.loop-rest.invariant.0 k c.first_of-window.ensures.has) in
     absurd (both_ways _ (none k) both.0)
+
+pub returns-clause-few : goal.returns-clause-few
+returns-clause-few c w has =
+    let told = c.listeners-told.result in
+    let is = ap (λ n. reached told n w) c.loop-rest-test.false ∙ all_reached told w ∙ has in
+    few_made c.args.round.now c.args.channels.now c.loop-rest.channels w (c.loop-rest.invariant.5 w is) (c.loop-rest.invariant.8 w is)
+
+pub returns-in_err-make_room_in-clause-roomy : goal.returns-in_err-make_room_in-clause-roomy
+returns-in_err-make_room_in-clause-roomy c small ready =
+    let k = c.first_of-window.result in
+    let has = c.first_of-window.ensures.has in
+    let both = and_parts (is_concerned c.args.touches.now c.args.round.now k) _ (sym (c.listeners-told.ensures.are k) ∙ c.loop-rest.invariant.0 k has) in
+    absurd (true≢false (sym (c.in_err-make_room_in.ensures.roomy small
+    (still_most c.args.round.now c.args.channels.now c.loop-rest.channels k (c.loop-rest.invariant.6 k c.first_of-window.ensures.from (not_reached _ c.loop-rest.rest k has)) (ready k both.1 both.0)))))

@@ -1,8 +1,8 @@
 use Rattle.std.proofs.Common.{◌≡◌, ◌≤◌, ℕ, true, false, length}
 use Rattle.window_snapshot.specs.Mask.{mask_has}
-use Rattle.dispatch_channels.specs.Table.{opened, but_for_room}
+use Rattle.dispatch_channels.specs.Table.{opened, but_for_room, NoLessRoom}
 use Rattle.dispatch_channels.proofs.Moved.{reached}
-use Rattle.dispatch_round.specs.Rounds.{HasMadeRoom, IsLeft}
+use Rattle.dispatch_round.specs.Rounds.{HasMadeRoom, IsLeft, IsFew}
 use Rattle.dispatch_round.proofs.room.make_room.Given as goal
 
 -- room is made in the windows that were reached, and the others are as they were
@@ -15,6 +15,8 @@ invariant-loop-rest l =
     × (length l.channels.inputs ≡ opened l.channels)
     × ((w : ℕ) → reached l.initial.rest l.rest w ≡ true → HasMadeRoom l.round l.initial.channels l.channels w)
     × ((w : ℕ) → 1 ≤ w → reached l.initial.rest l.rest w ≡ false → IsLeft l.initial.channels l.channels w)
+    × NoLessRoom l.initial.channels l.channels
+    × ((w : ℕ) → reached l.initial.rest l.rest w ≡ true → IsFew l.round l.initial.channels w)
 
 abbrev pub decreases-loop-rest : goal.decreases-loop-rest
 decreases-loop-rest l = l.rest

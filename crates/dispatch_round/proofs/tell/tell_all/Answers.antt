@@ -4,7 +4,8 @@ use Rattle.std.specs.Option.{option_copied}
 use Rattle.std.proofs.lemmas.Bool.{and_parts}
 use Rattle.route_split.specs.Marking.{IsChanged, AreLosses}
 use Rattle.dispatch_round.specs.Rounds.{is_concerned}
-use Rattle.dispatch_round.proofs.Reaching.{tells_all, published_gone}
+use Rattle.dispatch_channels.proofs.Picking.{channel_low}
+use Rattle.dispatch_round.proofs.Reaching.{tells_all, published_gone, published_spends, published_left}
 use Rattle.dispatch_round.proofs.tell.tell_all.Goals as goal
 
 pub tell_each-requires-clause-opened : goal.tell_each-requires-clause-opened
@@ -34,3 +35,16 @@ returns-clause-gone c k low =
 
 pub returns-clause-namings : goal.returns-clause-namings
 returns-clause-namings c = c.publish.ensures.namings_are ∙ c.tell_each.ensures.namings_are
+
+pub returns-clause-spends : goal.returns-clause-spends
+returns-clause-spends c w has =
+    published_spends c.args.round.now c.args.told c.args.clock c.args.channels.now c.tell_each.new.channels c.publish.new.self c.publish.ensures w (channel_low c.args.told w has)
+    (c.tell_each.ensures.spends w has)
+
+pub returns-clause-left : goal.returns-clause-left
+returns-clause-left c w from out =
+    published_left c.args.round.now _ _ c.args.told c.args.origins.now c.args.clock c.args.channels.now c.tell_each.new.channels c.publish.new.self c.tell_each.ensures c.publish.ensures w
+    from out
+
+pub returns-clause-live : goal.returns-clause-live
+returns-clause-live c = c.publish.ensures.live_is ∙ c.tell_each.ensures.live_is

@@ -3,8 +3,8 @@ use Rattle.input_types.specs.declared.axis.Pixel.{Pixel}
 use Rattle.dispatcher.specs.Carrying.{TellsRound}
 use Rattle.dispatcher.proofs.carry.carry_out.Goals as goal
 
-pub returns : goal.returns
-returns c =
+pub returns-clause-carries : goal.returns-clause-carries
+returns-clause-carries c =
     let old = c.args.routing.now in
     record {
       touches = c.tell_all.ensures.changes;
@@ -16,3 +16,6 @@ returns c =
       shown_is = refl;
       focus_is = refl;
     }
+
+pub returns-clause-room : goal.returns-clause-room
+returns-clause-room c = record { spends = c.tell_all.ensures.spends; left = c.tell_all.ensures.left; live_is = c.tell_all.ensures.live }

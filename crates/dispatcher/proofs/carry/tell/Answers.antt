@@ -1,5 +1,6 @@
-use Rattle.std.proofs.Common.{sym}
+use Rattle.std.proofs.Common.{refl, sym}
 use Rattle.std.proofs.lemmas.Bool.{true≢false}
+use Rattle.dispatcher.proofs.Roomy.{round_roomy, most_room}
 use Rattle.dispatcher.proofs.Timely.{timely_room}
 use Rattle.dispatcher.proofs.carry.tell.Goals as goal
 
@@ -9,3 +10,19 @@ carry_out-requires-clause-timely c =
 
 pub returns-in_err-told-clause-calm : goal.returns-in_err-told-clause-calm
 returns-in_err-told-clause-calm c = λ none. absurd (true≢false (sym (c.in_err-told.ensures.calm none)))
+
+pub returns-clause-roomy : goal.returns-clause-roomy
+returns-clause-roomy c n list roomy modest = (
+  refl,
+  round_roomy n list c.in_ok-told.told c.args.round.now c.args.routing.now.channels c.make_room.new.channels c.carry_out.new.routing.channels roomy modest c.in_ok-told.ensures.same
+      c.in_ok-told.ensures.room
+      c.in_ok-told.ensures.few
+      c.carry_out.ensures.room.spends
+      c.carry_out.ensures.room.left
+      c.carry_out.ensures.room.live_is,
+)
+
+pub returns-in_err-told-clause-roomy : goal.returns-in_err-told-clause-roomy
+returns-in_err-told-clause-roomy c n list roomy modest =
+    let rt = c.args.routing.now in
+    absurd (true≢false (sym (c.in_err-told.ensures.roomy modest.few (λ w lives _. most_room n list c.args.round.now rt.channels roomy modest w lives))))

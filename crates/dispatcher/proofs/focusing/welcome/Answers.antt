@@ -31,4 +31,4 @@ returns c =
     (refocuses_by old.shown.windows _ _ _ old.focus c.windows-change.new.self _ c.windows-change.ensures.state c.focusable-windows.ensures c.windows.ensures
     c.live.ensures.value)
     c.windows-change.ensures.gained
-    c.carry_out.ensures
+    c.carry_out.ensures.carries

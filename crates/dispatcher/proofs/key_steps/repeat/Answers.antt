@@ -1,5 +1,7 @@
-use Rattle.std.proofs.Common.{option_map, sym, ap, ◌∙◌}
+use Rattle.std.proofs.Common.{option_map, refl, sym, ap, ◌∙◌}
 use Rattle.dispatch_history.specs.Reply.{is_due}
+use Rattle.std.proofs.lemmas.Bool.{true≢false}
+use Rattle.dispatcher.proofs.Roomy.{modest_one, still_list}
 use Rattle.dispatcher.proofs.KeySteps.{idle_pump, repeat_pump, due_next}
 use Rattle.dispatcher.proofs.key_steps.repeat.Goals as goal
 
@@ -24,3 +26,12 @@ returns-clause-ok c =
     due
     (sym c.next.ensures ∙ ap (λ o. option_map (λ n. (n.0, n.1)) o) c.in-Some.is)
     c.in_ok-tell_still.ensures.ok
+
+pub returns-in_err-tell_still-clause-roomy : goal.returns-in_err-tell_still-clause-roomy
+returns-in_err-tell_still-clause-roomy c n roomy =
+    absurd (true≢false (sym (c.in_err-tell_still.ensures.roomy n _ roomy (modest_one _ c.in-Some.message c.args.routing.now.channels)).0))
+
+pub returns-clause-roomy : goal.returns-clause-roomy
+returns-clause-roomy c n roomy =
+    let told = c.in_ok-tell_still.ensures.roomy n _ roomy (modest_one _ c.in-Some.message c.args.routing.now.channels) in
+    (refl, still_list n c.args.routing.now c.tell_still.new.routing c.in_ok-tell_still.ensures.list told.1)

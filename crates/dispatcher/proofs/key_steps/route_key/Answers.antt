@@ -4,6 +4,7 @@ use Rattle.window_snapshot.specs.Mask.{mask_has}
 use Rattle.focus_resolver.specs.Resolver.{target_of}
 use Rattle.key_tables.specs.Held.{key_heard, one_told}
 use Rattle.route_split.specs.declared.mark.Mark.TheVariants.{Rests}
+use Rattle.dispatcher.proofs.Roomy.{modest_one, still_list}
 use Rattle.dispatcher.proofs.Stepping.{other_steps}
 use Rattle.dispatcher.specs.Tables.{kept}
 use Rattle.dispatcher.proofs.Oks.{on_ok}
@@ -45,3 +46,8 @@ returns-in-None-clause-ok c =
     ∙ ap (λ ks. key_heard c.args.key.now (mask_has old.channels.able t) ks) (c.keys.ensures ∙ ap (λ i. i.keys) c.input.ensures) in
     nobody_pump old c.args.place c.args.clock c.args.key.now
     (λ now. keyed_one (target_of old.focus) old.channels.live _ t _ (sym c.in-Some.is ∙ c.listening.ensures.value) (ap one_told heard))
+
+pub returns-in-Some-key_heard-clause-roomy : goal.returns-in-Some-key_heard-clause-roomy
+returns-in-Some-key_heard-clause-roomy c n roomy =
+    let told = c.tell_still.ensures.roomy n _ roomy (modest_one _ c.in-Some-key_heard.message c.args.routing.now.channels) in
+    (told.0, still_list n c.args.routing.now c.tell_still.new.routing c.tell_still.ensures.list told.1)

@@ -1,36 +1,24 @@
-use Rattle.std.proofs.Common.{[], sym, ap, ◌∙◌}
+-- The list of cancelled keys says nothing of a history.
+use Rattle.std.proofs.Common.{suc, Some, sym, subst, arith}
 use Rattle.input_types.specs.declared.message.Args.TheVariants.{Reset as ResetOf}
-use Rattle.focus_resolver.specs.Resolver.{target_of}
-use Rattle.cancel_synthesis.specs.Ends.{keys_cancelled, of_device}
-use Rattle.route_split.specs.declared.mark.Mark.TheVariants.{Empty}
-use Rattle.dispatcher.proofs.Stepping.{other_steps}
-use Rattle.dispatcher.specs.Tables.{kept}
+use Rattle.dispatch_calls.specs.declared.reply.Reply.TheVariants.{Dispatched}
+use Rattle.dispatcher.proofs.Cancelling.{same_with, pumps_with}
+use Rattle.dispatcher.specs.Roomy.{IsRoomy}
+use Rattle.dispatcher.proofs.Roomy.{longer}
 use Rattle.dispatcher.proofs.Oks.{on_ok}
-use Rattle.dispatcher.proofs.KeySteps.{keyed_nobody, keyed_one, args_pump}
 use Rattle.dispatcher.proofs.key_steps.route_reset.Goals as goal
-
-pub returns-in_default-clause-ok : goal.returns-in_default-clause-ok
-returns-in_default-clause-ok c =
-    let old = c.args.routing.now in
-    on_ok _ _ c.tell_still.result c.tell_still.ensures.ok
-    (λ some.
-    args_pump old c.tell_still.new.routing c.args.place c.args.clock (ResetOf c.args.device) (Empty c.args.device) [] _ _
-    c.no_change-change.ensures.0
-    c.no_change-change.ensures.1
-    some
-    (λ es now w queue stands first. (other_steps old.displays es (kept queue old) stands).resets now c.args.device w first)
-    (λ now. keyed_nobody (target_of old.focus) old.channels.live _ (sym c.in_default.is ∙ c.listening.ensures.value)))
 
 pub returns-clause-ok : goal.returns-clause-ok
 returns-clause-ok c =
+    on_ok _ _ c.tell_reset-told.result c.tell_reset-told.ensures.ok
+    (pumps_with (Some (ResetOf c.args.device)) Dispatched c.args.place c.args.clock _ _ c.args.routing.now c.tell_reset-told.new.routing)
+
+pub returns-clause-roomy : goal.returns-clause-roomy
+returns-clause-roomy c n roomy =
     let old = c.args.routing.now in
-    let told =
-    c.deref.ensures.value ∙ c.in_ok-keys.ensures ∙ ap (λ i. keys_cancelled (of_device c.args.device i.keys)) c.input.ensures in
-    on_ok _ _ c.tell_still-2.result c.tell_still-2.ensures.ok
-    (λ some.
-    args_pump old c.tell_still-2.new.routing c.args.place c.args.clock (ResetOf c.args.device) (Empty c.args.device) c.deref.result.now _ _
-    c.no_change-change.ensures.0
-    c.no_change-change.ensures.1
-    some
-    (λ es now w queue stands first. (other_steps old.displays es (kept queue old) stands).resets now c.args.device w first)
-    (λ now. keyed_one (target_of old.focus) old.channels.live _ c.in-Some.target _ (sym c.in-Some.is ∙ c.listening.ensures.value) told))
+    let told = c.tell_reset-told.ensures.roomy n (subst (λ l. IsRoomy (suc n) l old.channels) (sym c.take-keys.ensures) roomy) in
+    (told.0, longer n _ _ c.tell_reset-told.new.routing.channels (omega (arith, c.keep.ensures, c.tell_reset-told.ensures.list)) told.1)
+
+pub returns-clause-err : goal.returns-clause-err
+returns-clause-err c =
+    same_with c.tell_reset-told.result _ _ c.args.routing.now c.tell_reset-told.new.routing c.tell_reset-told.ensures.err (omega (arith, c.take-keys.ensures, c.keep.ensures, c.tell_reset-told.ensures.list))

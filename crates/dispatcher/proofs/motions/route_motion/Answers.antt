@@ -1,4 +1,5 @@
 use Rattle.std.proofs.Common.{refl, ap, ◌∙◌, unwrap_or}
+use Rattle.dispatcher.proofs.Roomy.{modest_none, still_list}
 use Rattle.dispatcher.proofs.Oks.{on_ok}
 use Rattle.dispatcher.proofs.Motioning.{motion_told}
 use Rattle.dispatcher.proofs.motions.route_motion.Goals as goal
@@ -27,3 +28,8 @@ returns-clause-ok c =
     c.on.ensures
     c.mark_of.ensures.mark
     c.watchers.ensures)
+
+pub returns-clause-roomy : goal.returns-clause-roomy
+returns-clause-roomy c n roomy =
+    let told = c.tell.ensures.roomy n _ roomy (modest_none _ c.args.routing.now.channels) in
+    (told.0, still_list n c.args.routing.now c.tell.new.routing c.tell.ensures.list told.1)

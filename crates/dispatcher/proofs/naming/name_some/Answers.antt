@@ -1,15 +1,16 @@
-use Rattle.std.proofs.Common.{sym, ap, ◌∙◌, subst}
-use Rattle.cancel_synthesis.specs.Ends.{keys_cancelled}
-use Rattle.dispatcher.specs.Naming.{Names}
+-- The list of cancelled keys says nothing of a history.
+use Rattle.std.proofs.Common.{arith}
+use Rattle.dispatcher.specs.Keying.{named_keys}
+use Rattle.dispatcher.proofs.Cancelling.{same_with, names_with}
 use Rattle.dispatcher.proofs.Oks.{on_ok}
-use Rattle.dispatcher.proofs.Refocused.{named_is}
 use Rattle.dispatcher.proofs.naming.name_some.Goals as goal
 
-pub returns-in_ok-keys-in-Some-clause-ok : goal.returns-in_ok-keys-in-Some-clause-ok
-returns-in_ok-keys-in-Some-clause-ok c =
+pub returns-clause-ok : goal.returns-clause-ok
+returns-clause-ok c =
     let old = c.args.routing.now in
-    on_ok _ _ c.name.result c.name.ensures.ok
-    (subst (λ ks. Names c.args.mask ks c.args.place c.args.clock old c.name.new.routing)
-    (named_is old.focus c.args.mask old.channels c.in-Some.target c.deref.result.now (sym c.in-Some.is ∙ c.listening.ensures.value)
-    (sym c.mask_has.ensures ∙ c.if-mask_has.true)
-    (c.deref.ensures.value ∙ c.in_ok-keys-in-Some.ensures ∙ ap (λ i. keys_cancelled i.keys) c.input.ensures)))
+    on_ok _ _ c.tell_names-named.result c.tell_names-named.ensures.ok
+    (names_with c.args.mask (named_keys old.focus c.args.mask old.channels) c.args.place c.args.clock _ _ old c.tell_names-named.new.routing)
+
+pub returns-clause-err : goal.returns-clause-err
+returns-clause-err c =
+    same_with c.tell_names-named.result _ _ c.args.routing.now c.tell_names-named.new.routing c.tell_names-named.ensures.err (omega (arith, c.take-keys.ensures, c.keep.ensures, c.tell_names-named.ensures.list))

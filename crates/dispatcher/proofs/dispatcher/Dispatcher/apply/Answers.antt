@@ -1,4 +1,4 @@
-use Rattle.std.proofs.Common.{◌≤◌, sym, ap, ◌∙◌, subst}
+use Rattle.std.proofs.Common.{◌≤◌, ◌+◌, sym, ap, ◌∙◌, subst}
 use Rattle.dispatcher.specs.Access.{gone, namings_gone}
 use Rattle.dispatcher.specs.Dispatching.{StandsFor}
 use Rattle.dispatcher.proofs.Gone.{answered_gone}
@@ -6,14 +6,16 @@ use Rattle.dispatcher.proofs.Applying.{raw, somehow, history_after, stands_after
 use Rattle.dispatcher.proofs.dispatcher.Dispatcher.apply.Goals as goal
 
 pub apply-requires : goal.apply-requires
-apply-requires c = let s = c.self.invariant in (s.0, raw s.0 c.self.inside.tables s.1)
+apply-requires c = let s = c.self.invariant.0 in (s.0, raw s.0 c.self.inside.tables s.1)
 
 pub invariant_of-self : goal.invariant_of-self
-invariant_of-self c =
-    history_after c.args.call.now c.apply.result c.self.inside.tables c.apply.new.tables
-    (somehow c.args.call.now c.apply.result c.self.inside.tables c.apply.new.tables c.apply.ensures.ok)
-    c.apply.ensures.err
-    c.self.invariant
+invariant_of-self c = (
+  history_after c.args.call.now c.apply.result c.self.inside.tables c.apply.new.tables
+      (somehow c.args.call.now c.apply.result c.self.inside.tables c.apply.new.tables c.apply.ensures.ok)
+      c.apply.ensures.err
+      c.self.invariant.0,
+  c.apply.ensures.promise c.self.invariant.1,
+)
 
 pub returns-clause-after : goal.returns-clause-after
 returns-clause-after c =
@@ -52,3 +54,13 @@ returns-clause-room c =
     room_left c.args.call.now c.apply.result c.self.inside.tables c.apply.new.tables c.args.self.now c.self.view_is
     (somehow c.args.call.now c.apply.result c.self.inside.tables c.apply.new.tables c.apply.ensures.ok)
     c.apply.ensures.err
+
+pub returns-clause-pumped : goal.returns-clause-pumped
+returns-clause-pumped c =
+    λ es s few pump some.
+    c.apply.ensures.pumped es (raw es c.self.inside.tables (subst (StandsFor es) (sym c.self.view_is) s)) few pump
+    (subst (λ d. 1 ≤ d.queue.pumps) (sym c.self.view_is) some)
+    c.self.invariant.1
+
+pub returns-clause-pumps : goal.returns-clause-pumps
+returns-clause-pumps c = λ input. subst (λ d. d.queue.pumps ≤ c.apply.new.tables.queueing.pumps + 1) c.self.view_is (c.apply.ensures.pumps input)

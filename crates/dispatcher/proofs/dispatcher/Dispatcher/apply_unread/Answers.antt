@@ -1,4 +1,4 @@
-use Rattle.std.proofs.Common.{◌≤◌, sym, ap, ◌∙◌, subst}
+use Rattle.std.proofs.Common.{◌≤◌, ◌+◌, sym, ap, ◌∙◌, subst}
 use Rattle.dispatcher.specs.Access.{gone, namings_gone}
 use Rattle.dispatcher.specs.Dispatching.{StandsFor}
 use Rattle.dispatcher.proofs.Gone.{answered_gone}
@@ -6,11 +6,13 @@ use Rattle.dispatcher.proofs.Applying.{raw, history_after, stands_somehow, room_
 use Rattle.dispatcher.proofs.dispatcher.Dispatcher.apply_unread.Goals as goal
 
 pub apply_unread-requires : goal.apply_unread-requires
-apply_unread-requires c = let s = c.self.invariant in (s.0, raw s.0 c.self.inside.tables s.1)
+apply_unread-requires c = let s = c.self.invariant.0 in (s.0, raw s.0 c.self.inside.tables s.1)
 
 pub invariant_of-self : goal.invariant_of-self
-invariant_of-self c =
-    history_after c.args.call.now c.apply_unread.result c.self.inside.tables c.apply_unread.new.tables c.apply_unread.ensures.ok c.apply_unread.ensures.err c.self.invariant
+invariant_of-self c = (
+  history_after c.args.call.now c.apply_unread.result c.self.inside.tables c.apply_unread.new.tables c.apply_unread.ensures.ok c.apply_unread.ensures.err c.self.invariant.0,
+  c.apply_unread.ensures.promise c.self.invariant.1,
+)
 
 pub returns-clause-after : goal.returns-clause-after
 returns-clause-after c =
@@ -43,3 +45,13 @@ returns-clause-room c =
     room_left c.args.call.now c.apply_unread.result c.self.inside.tables c.apply_unread.new.tables c.args.self.now c.self.view_is
     c.apply_unread.ensures.ok
     c.apply_unread.ensures.err
+
+pub returns-clause-pumped : goal.returns-clause-pumped
+returns-clause-pumped c =
+    λ es s few pump some.
+    c.apply_unread.ensures.pumped es (raw es c.self.inside.tables (subst (StandsFor es) (sym c.self.view_is) s)) few pump
+    (subst (λ d. 1 ≤ d.queue.pumps) (sym c.self.view_is) some)
+    c.self.invariant.1
+
+pub returns-clause-pumps : goal.returns-clause-pumps
+returns-clause-pumps c = λ input. subst (λ d. d.queue.pumps ≤ c.apply_unread.new.tables.queueing.pumps + 1) c.self.view_is (c.apply_unread.ensures.pumps input)

@@ -1,29 +1,39 @@
-use Rattle.std.proofs.Common.{max, sym, ap, ◌∙◌, subst, arith}
+use Rattle.std.proofs.Common.{max, refl, sym, ap, ◌∙◌, subst, arith}
 use Rattle.input_channel.specs.State.{let_go_of}
 use Rattle.dispatch_channels.specs.Table.{channel_of}
 use Rattle.dispatch_history.specs.Effect.{past_of}
 use Rattle.dispatch_history.specs.History.{received}
 use Rattle.dispatcher.specs.Access.{gone, namings_gone}
 use Rattle.dispatcher.specs.Dispatching.{StandsFor}
+use Rattle.dispatcher.proofs.RoomMade.{let_go_room}
 use Rattle.dispatcher.proofs.Applying.{raw, bare}
 use Rattle.dispatcher.proofs.LettingGo.{let_go_stands, received_gone, live_gone, others_gone}
 use Rattle.dispatcher.proofs.dispatcher.Dispatcher.let_go.Goals as goal
 
 pub invariant_of-self : goal.invariant_of-self
 invariant_of-self c =
-    let s = c.self.invariant in (
-      s.0,
-      bare s.0 _
-          (let_go_stands s.0 c.self.inside.tables c.let_go.new.self c.args.channel (raw s.0 c.self.inside.tables s.1)
+    let s = c.self.invariant.0 in
+    let r = c.self.inside.tables.routing in (
+      (
+        s.0,
+        bare s.0 (record c.self.inside.tables { routing = record r { channels = c.let_go.new.self } })
+            (let_go_stands s.0 c.self.inside.tables c.let_go.new.self c.args.channel (raw s.0 c.self.inside.tables s.1)
+            (omega (arith, c.if-channel-gt0.true))
+            (omega (arith, c.if-channel-opened.true, c.opened.ensures.value))
+            c.let_go.ensures),
+      ),
+      λ some.
+          let_go_room _ c.args.channel r c.let_go.new.self (let_go_of (channel_of r.channels c.args.channel)) c.let_go.ensures
           (omega (arith, c.if-channel-gt0.true))
           (omega (arith, c.if-channel-opened.true, c.opened.ensures.value))
-          c.let_go.ensures),
+          (λ _. refl)
+          (c.self.invariant.1 some),
     )
 
 pub returns-then-channel-opened-clause-stays : goal.returns-then-channel-opened-clause-stays
 returns-then-channel-opened-clause-stays c =
     λ es s.
-    bare es _
+    bare es (record c.self.inside.tables { routing = record c.self.inside.tables.routing { channels = c.let_go.new.self } })
     (let_go_stands es c.self.inside.tables c.let_go.new.self c.args.channel (raw es c.self.inside.tables (subst (StandsFor es) (sym c.self.view_is) s))
     (omega (arith, c.if-channel-gt0.true))
     (omega (arith, c.if-channel-opened.true, c.opened.ensures.value))

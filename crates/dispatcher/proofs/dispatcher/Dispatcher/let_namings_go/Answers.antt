@@ -1,19 +1,27 @@
 use Rattle.std.proofs.Common.{sym, ap, ◌∙◌, subst}
-use Rattle.dispatch_channels.specs.Table.{channel_of, but_for_room}
+use Rattle.dispatch_channels.specs.Table.{Table, channel_of, but_for_room}
 use Rattle.dispatcher.specs.Access.{gone}
 use Rattle.dispatcher.specs.Dispatching.{StandsFor}
+use Rattle.dispatcher.specs.Roomy.{IsRoomy}
 use Rattle.dispatcher.proofs.Applying.{raw, bare}
 use Rattle.dispatcher.proofs.LettingGo.{namings_go}
 use Rattle.dispatcher.proofs.dispatcher.Dispatcher.let_namings_go.Goals as goal
 
 pub invariant_of-self : goal.invariant_of-self
 invariant_of-self c =
-    let s = c.self.invariant in
-    (s.0, bare s.0 _ (namings_go s.0 c.self.inside.tables c.let_namings_go.new.self (raw s.0 c.self.inside.tables s.1) c.let_namings_go.ensures).0)
+    let s = c.self.invariant.0 in
+    let r = c.self.inside.tables.routing in (
+      (
+        s.0,
+        bare s.0 (record c.self.inside.tables { routing = record r { channels = c.let_namings_go.new.self } })
+            (namings_go s.0 c.self.inside.tables c.let_namings_go.new.self (raw s.0 c.self.inside.tables s.1) c.let_namings_go.ensures).0,
+      ),
+      λ some. subst (λ (t : Table). IsRoomy c.self.inside.tables.queueing.pumps r.cancelled t) (sym c.let_namings_go.ensures) (c.self.invariant.1 some),
+    )
 
 pub returns-clause-stays : goal.returns-clause-stays
 returns-clause-stays c =
-    λ es s. bare es _ (namings_go es c.self.inside.tables c.let_namings_go.new.self (raw es c.self.inside.tables (subst (StandsFor es) (sym c.self.view_is) s)) c.let_namings_go.ensures).0
+    λ es s. bare es (record c.self.inside.tables { routing = record c.self.inside.tables.routing { channels = c.let_namings_go.new.self } }) (namings_go es c.self.inside.tables c.let_namings_go.new.self (raw es c.self.inside.tables (subst (StandsFor es) (sym c.self.view_is) s)) c.let_namings_go.ensures).0
 
 pub returns-clause-gone : goal.returns-clause-gone
 returns-clause-gone c =

@@ -10,10 +10,10 @@ pub returns-clause-start : goal.returns-clause-start
 returns-clause-start c =
     knows_first _ _
     (record {
-      clock_is = c.in_ok-queueing.ensures.clock_is;
-      place_is = c.in_ok-queueing.ensures.place_is;
-      waiting_is = c.in_ok-queueing.ensures.waiting_is;
-      down_is = c.in_ok-queueing.ensures.down_is;
+      clock_is = c.in_ok-queueing.ensures.start.clock_is;
+      place_is = c.in_ok-queueing.ensures.start.place_is;
+      waiting_is = c.in_ok-queueing.ensures.start.waiting_is;
+      down_is = c.in_ok-queueing.ensures.start.down_is;
       windows_are = ap (λ s. s.windows) c.new-3.ensures;
       origins_are = λ w. ap (λ s. origin_at s.origins w) c.new-3.ensures ∙ same_default 64 (w - 1) corner;
       touches_are = c.in_ok-touches.ensures;

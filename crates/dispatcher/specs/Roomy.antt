@@ -1,0 +1,51 @@
+-- Room for what pumps tell.
+use Rattle.std.specs.Prelude.{◌≡◌, ◌≤◌, ◌<◌, ◌+◌, ◌*◌, ◌^◌, ℕ, true, false, List, length, map}
+use Rattle.input_types.specs.declared.key.KeyMsg.{KeyMsg}
+use Rattle.input_types.specs.declared.message.Body.TheVariants.{Key}
+use Rattle.window_snapshot.specs.Mask.{mask_has}
+use Rattle.input_channel.specs.State.{ChannelState}
+use Rattle.cancel_synthesis.specs.Tracked.{Tracked}
+use Rattle.key_tables.specs.Held.{bodies_tracked}
+use Rattle.dispatch_channels.specs.Table.{Table, channel_of, input_of}
+use Rattle.dispatch_round.specs.declared.round.Round.{Round}
+use Rattle.dispatch_round.specs.Bodies.{keys_to}
+use Rattle.dispatch_round.specs.Rounds.{IsLeft}
+use Rattle.dispatch_round.specs.Saying.{Spends}
+use Rattle.dispatcher.specs.declared.tables.Routing.{Routing}
+use Rattle.dispatcher.specs.declared.tables.Tables.{Tables}
+
+-- A channel has room for what n pumps tell it: for 131 messages each, of which 128 may be cancels of pointers, and for one for each key that
+-- is down in its window. So has what is kept of the window; and a list has room for those keys when they are cancelled.
+pub record HasRoomFor (n list : ℕ) (s : ChannelState) (i : Tracked) : Type 0 where
+  pub room : 131 * n + length i.keys ≤ s.spare
+  pub track_room : 131 * n + length i.keys ≤ i.spare
+  pub small : 131 * n + length i.keys < 2 ^ 31
+  pub list_room : length i.keys + n ≤ list
+
+-- and so for each live channel
+abbrev pub IsRoomy : (n list : ℕ) → Table → Type 0
+IsRoomy n list t = (c : ℕ) → mask_has t.live c ≡ true → HasRoomFor n list (channel_of t c) (input_of t c)
+
+-- Key messages leave a window that holds these keys one more at most, and with each message but two one less.
+pub record IsModest (keys held : List KeyMsg) : Type 0 where
+  pub with_them : length (bodies_tracked (map Key keys) held) + length keys ≤ length held + 2
+  pub one_more : length (bodies_tracked (map Key keys) held) ≤ length held + 1
+
+-- and so what the key target is told leaves each live window
+pub record AreModest (target : ℕ) (keys : List KeyMsg) (t : Table) : Type 0 where
+  pub few : length keys < 2 ^ 31
+  pub each : (w : ℕ) → mask_has t.live w ≡ true → IsModest (keys_to target keys w) (input_of t w).keys
+
+-- Those of a mask that are told a round spend no more than the most that they may be told; the others are left, and so is who is live.
+pub record TakesRoom (told : ℕ) (r : Round) (old new : Table) : Type 0 where
+  pub spends : (w : ℕ) → mask_has told w ≡ true → Spends r w old new
+  pub left : (w : ℕ) → 1 ≤ w → mask_has told w ≡ false → IsLeft old new w
+  pub live_is : new.live ≡ old.live
+
+-- there is room for what n pumps tell, and in the list for the keys that they cancel
+abbrev pub HasPumpRoom : (n : ℕ) → Routing → Type 0
+HasPumpRoom n r = IsRoomy n r.cancelled r.channels
+
+-- where room for pumps is promised, there is room
+abbrev pub KeepsPromise : Tables → Type 0
+KeepsPromise t = 1 ≤ t.queueing.pumps → HasPumpRoom t.queueing.pumps t.routing
