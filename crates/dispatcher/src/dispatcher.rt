@@ -123,6 +123,7 @@ impl Dispatcher {
             → live (past_of es) channel ≡ true → gone self.new channel ≡ received (past_of es) channel }
         ensures others { (c : ℕ) → 1 ≤ c → (c == channel) ≡ false → gone self.new c ≡ gone self.old c }
         ensures namings { namings_gone self.new ≡ namings_gone self.old }
+        ensures room { self.new.queue ≡ self.old.queue }
     {
         if 0 < channel && channel <= self.tables.routing.channels.opened() {
             self.tables.routing.channels.let_go(channel);
@@ -141,6 +142,7 @@ impl Dispatcher {
             → gone self.new channel ≡ gone self.old channel }
         ensures others { (c : ℕ) → 1 ≤ c → (c == channel) ≡ false → gone self.new c ≡ gone self.old c }
         ensures namings { namings_gone self.new ≡ namings_gone self.old }
+        ensures room { self.new.queue ≡ self.old.queue }
     {
         if mask_has(self.tables.routing.channels.live(), channel) {
             return;
@@ -156,6 +158,7 @@ impl Dispatcher {
         ensures displays { self.new.displays ≡ self.old.displays }
         ensures gone { (es : List Effect) → StandsFor es self.old → namings_gone self.new ≡ length (namings es) }
         ensures messages { (c : ℕ) → 1 ≤ c → gone self.new c ≡ gone self.old c }
+        ensures room { self.new.queue ≡ self.old.queue }
     {
         self.tables.routing.channels.let_namings_go();
     }
