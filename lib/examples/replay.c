@@ -1,8 +1,8 @@
 /*
  * `inputflinger replay` as a program in C: a session and a recording are read into memory, run, and what the program
- * prints is printed, with its status.
+ * prints is printed, with its status. With another command of the same two files, `why` or `inspect`, it is that.
  *
- *     replay SESSION RECORDING
+ *     replay SESSION RECORDING [COMMAND]
  */
 #include <errno.h>
 #include <stdio.h>
@@ -65,15 +65,16 @@ int main(int count, char **words)
 {
 	struct inputflinger_file files[2];
 	struct inputflinger_ran ran = {0};
-	char err[512], *out;
+	char said[100], err[512], *out;
 
-	if (count != 3) {
-		fprintf(stderr, "usage: replay SESSION RECORDING\n");
+	if (count != 3 && count != 4) {
+		fprintf(stderr, "usage: replay SESSION RECORDING [COMMAND]\n");
 		return 2;
 	}
 	files[0] = read_file(words[1]);
 	files[1] = read_file(words[2]);
-	out = run("replay\n--session\n1\n--events\n2\n", files, err, sizeof err, &ran);
+	snprintf(said, sizeof said, "%.60s\n--session\n1\n--events\n2\n", count == 4 ? words[3] : "replay");
+	out = run(said, files, err, sizeof err, &ran);
 	fwrite(out, 1, ran.out_len, stdout);
 	fwrite(err, 1, ran.err_len < sizeof err ? ran.err_len : sizeof err, stderr);
 	free(out);
