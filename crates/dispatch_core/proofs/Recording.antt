@@ -1,5 +1,5 @@
 -- A dispatcher with its history, and what its history says.
-use Rattle.std.proofs.Common.{◌≡◌, ℕ, suc, ◌+◌, ◌-◌, ◌^◌, ◌<◌, ◌≤◌, max, List, [], ◌∷◌, ◌++◌, length, reverse, arith, refl, sym, subst, ap, ◌∙◌}
+use Rattle.std.proofs.Common.{◌≡◌, ℕ, Bool, true, false, if◌then◌else◌, suc, ◌+◌, ◌-◌, ◌^◌, ◌<◌, ◌≤◌, max, List, [], ◌∷◌, ◌++◌, length, reverse, arith, refl, sym, subst, ap, ◌∙◌}
 use Rattle.std.proofs.lemmas.List.{length-reverse, reverse-append}
 use Rattle.input_types.specs.StreamRule.{stream_state}
 use Rattle.dispatch_calls.specs.declared.call.Call.{Call}
@@ -13,11 +13,10 @@ use Rattle.dispatch_history.specs.PointerOf.{AllRise}
 use Rattle.dispatch_history.proofs.LegalLaws.{effects_law}
 use Rattle.dispatch_history.proofs.WholeLaws.{whole_law, well_formed_law, removed_law, removed_state_law, gone_law}
 use Rattle.dispatcher.specs.Access.{gone, namings_gone}
-use Rattle.dispatcher.specs.Dispatching.{Dispatching, StandsFor, with_args_room}
+use Rattle.dispatcher.specs.Dispatching.{Dispatching, StandsFor}
 use Rattle.dispatcher.specs.Memory.{MayCount}
-use Rattle.dispatcher.specs.Queueing.{args_in}
-use Rattle.dispatcher.proofs.Applying.{args_roomier}
-use Rattle.dispatch_core.specs.Recorded.{history_of, IsRecorded, IsSound, AnswersGone, HasRoom}
+use Rattle.dispatcher.specs.Queueing.{args_in, is_input}
+use Rattle.dispatch_core.specs.Recorded.{history_of, pumps_left, IsRecorded, IsSound, AnswersGone, HasRoom}
 
 -- the history is legal
 pub legal_of : (entries : List Entry) (d : Dispatching) → IsRecorded entries d → Legal d.displays (history_of entries)
@@ -48,9 +47,9 @@ pub replied : (e : Entry) (entries : List Entry) (d : Dispatching) → IsRecorde
 replied e entries d r = (legal_of (e ∷ entries) d r).0
 
 -- what is known of its history
-pub sound_of : (entries : List Entry) (d : Dispatching) (n : ℕ) → IsRecorded entries d
-    → IsSound (record { displays = d.displays; entries = entries; spare = n })
-sound_of entries d n r =
+pub sound_of : (entries : List Entry) (d : Dispatching) (n m : ℕ) → IsRecorded entries d
+    → IsSound (record { displays = d.displays; entries = entries; spare = n; pumps = m })
+sound_of entries d n m r =
     let legal : Legal d.displays (history_of entries) = legal_of entries d r in
     let rise : AllRise (history_of entries) = rise_of entries d r in
     record {
@@ -120,8 +119,11 @@ one_in (Finish now c seq) = omega arith
 one_in (Pilfer now c device) = omega arith
 one_in (Remove now c) = omega arith
 
--- a dispatcher with more room for args stands for the same entries
-pub recorded_roomier : (entries : List Entry) (old new : Dispatching) (n : ℕ) → new ≡ with_args_room n old → IsRecorded entries old → IsRecorded entries new
-recorded_roomier entries old new n is r =
-    subst (IsRecorded entries) (sym is)
-    (record { stands = args_roomier (effects old.displays (history_of entries)) old n r.stands; kept = r.kept; noted = r.noted })
+-- what a call leaves of the room for pumps, by whether it is a Notify or a Pump
+left_fits : (b : Bool) (pumps old new : ℕ) → pumps ≤ old → (b ≡ true → old ≤ new + 1) → (if b then pumps - 1 else 0) ≤ new
+left_fits true pumps old new fits one = let less : old ≤ new + 1 = one refl in omega (arith, fits, less)
+left_fits false pumps old new fits one = omega arith
+
+-- the dispatcher has room for the pumps that a call leaves room for
+pub pumps_fit : (call : Call) (pumps left old new : ℕ) → pumps ≤ old → (is_input call ≡ true → old ≤ new + 1) → left ≡ pumps_left call pumps → left ≤ new
+pumps_fit call pumps left old new fits one is = subst (λ n. n ≤ new) (sym is) (left_fits (is_input call) pumps old new fits one)

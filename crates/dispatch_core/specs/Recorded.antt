@@ -14,12 +14,15 @@ use Rattle.dispatch_history.specs.Known.{known_state}
 use Rattle.dispatch_history.specs.Legal.{Legal}
 use Rattle.dispatcher.specs.Access.{gone, namings_gone, is_opened}
 use Rattle.dispatcher.specs.Dispatching.{Dispatching, StandsFor}
+use Rattle.dispatcher.specs.Queueing.{is_input}
 
 -- the displays of the devices, the entries, the newest first, and for how many more there is room
 pub record Recorded : Type 0 where
   pub displays : List ℕ
   pub entries : List Entry
   pub spare : ℕ
+  -- for how many more calls of Notify and Pump there is room for what pumps tell
+  pub pumps : ℕ
 
 -- the history of these entries: no rule reads who made a call
 abbrev pub history_of : List Entry → History
@@ -33,13 +36,27 @@ effects_of r = effects r.displays (history_of r.entries)
 abbrev pub stream_of : Recorded → ℕ → Option (List Message)
 stream_of r c = if is_opened (effects_of r) c then Some (reverse (stream (effects_of r) c)) else None
 
+-- what a call leaves of the room for pumps: a Notify or a Pump takes that of one, any other call takes all
+abbrev pub pumps_left : Call → ℕ → ℕ
+pumps_left call n = if is_input call then n - 1 else 0
+
 -- one entry more, in one of the places that are sure, where there are any
 abbrev pub with_entry : Entry → Recorded → Recorded
-with_entry e r = record { displays = r.displays; entries = e ∷ r.entries; spare = r.spare - 1 }
+with_entry e r =
+    record {
+      displays = r.displays;
+      entries = e ∷ r.entries;
+      spare = r.spare - 1;
+      pumps = pumps_left e.call r.pumps;
+    }
 
 -- room for at least so many entries
 abbrev pub with_spare : ℕ → Recorded → Recorded
-with_spare n r = record { displays = r.displays; entries = r.entries; spare = max n r.spare }
+with_spare n r = record { displays = r.displays; entries = r.entries; spare = max n r.spare; pumps = r.pumps }
+
+-- room for at least so many entries, and for what as many calls of Notify and Pump tell
+abbrev pub with_pumps : ℕ → Recorded → Recorded
+with_pumps n r = record { displays = r.displays; entries = r.entries; spare = max n r.spare; pumps = max n r.pumps }
 
 -- Nothing follows a removal: the channel stays removed, its stream is that of just before it, and leaves its owner knowing what its window
 -- held then.

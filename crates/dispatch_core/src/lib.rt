@@ -14,8 +14,8 @@
 //!
 //! A [`Core`] is a `Dispatcher` with the list of these entries, and lets no message go, so that its `stream` of channel
 //! 1 is the whole one. All that it answers and all that can be read of it is what the entries say (specs/Recorded): the
-//! last reply is that of the entries before it, and who made a call is read by no rule. Room for entries can be
-//! reserved, and then some calls cannot answer want of memory.
+//! last reply is that of the entries before it, and who made a call is read by no rule. Room for entries, and for what
+//! pumps tell, can be reserved, and then some calls cannot answer want of memory.
 //!
 //! As a machine of the turnstile its history is the same list (specs/Machine).
 #![tactic(auto)]

@@ -10,8 +10,8 @@ ghost use Rattle.dispatcher.specs.Access.{is_opened, next_repeat, HoldsInput};
 ghost use Rattle.dispatcher.specs.ReadLaws.{ReadsTouches};
 ghost use Rattle.window_snapshot.specs.Mask.{is_channel};
 ghost use Rattle.dispatcher.specs.Memory.{IsCalm};
-ghost use Rattle.dispatcher.specs.Queueing.{args_in};
-ghost use Rattle.dispatch_core.specs.Recorded.{history_of, effects_of, stream_of, with_entry, with_spare};
+ghost use Rattle.dispatcher.specs.Queueing.{args_in, is_pump};
+ghost use Rattle.dispatch_core.specs.Recorded.{history_of, effects_of, stream_of, with_entry, with_spare, with_pumps, pumps_left};
 ghost use Rattle.dispatch_core.specs.Recorded.{AnswersGone, IsSound, HasRoom};
 
 use cancel_synthesis::InputState;
@@ -24,14 +24,16 @@ use std::marker::Model;
 
 /// A dispatcher with its history: all its calls with their replies, and all messages that it ever told.
 ///
-/// Contracts see the displays of the devices, the entries, the newest first, and for how many more of them there is
-/// room. All that can be read of it is what these entries say.
+/// Contracts see the displays of the devices, the entries, the newest first, and for how many more of them, and of
+/// pumps, there is room. All that can be read of it is what these entries say.
 #[derive(Drop)]
 pub struct Core {
     dispatcher: Dispatcher,
     entries: Vec<Entry>,
     // For how many entries more the list has room, and the dispatcher for their args.
     spare: u32,
+    // For how many calls of Notify and Pump more the dispatcher has room for what pumps tell.
+    pumps: u32,
 }
 
 impl Model for Core {
@@ -40,24 +42,30 @@ impl Model for Core {
 
     ghost Value = { Recorded };
 
-    ghost view = { λ c.
-        record { displays = c.dispatcher.displays; entries = reverse c.entries.items; spare = c.spare } };
+    ghost view = { λ c. record {
+      displays = c.dispatcher.displays;
+      entries = reverse c.entries.items;
+      spare = c.spare;
+      pumps = c.pumps;
+    } };
 
     ghost invariant = { λ c. IsRecorded (reverse c.entries.items) c.dispatcher
         × HasRoom (vec_len c.entries) (vec_capacity c.entries) c.spare
-        × c.spare ≤ c.dispatcher.queue.spare };
+        × c.spare ≤ c.dispatcher.queue.spare
+        × c.pumps ≤ c.dispatcher.queue.pumps };
 }
 
 impl Core {
     /// A dispatcher before its first call, whose devices are on these displays.
     pub fn new(alloc: Global, displays: &Displays) -> Result<Core, AllocError>
-        ensures { IfOk result (λ c. c ≡ record { displays = displays.now; entries = []; spare = 0 }) }
+        ensures { IfOk result (λ c. c ≡ record { displays = displays.now; entries = []; spare = 0; pumps = 0 }) }
     {
         let dispatcher = Dispatcher::new(alloc, displays)?;
         Ok(Core {
             dispatcher,
             entries: Vec::new(alloc),
             spare: 0,
+            pumps: 0,
         })
     }
 
@@ -65,7 +73,8 @@ impl Core {
     /// nothing, makes no entry and drops the call.
     ///
     /// Where room was reserved, some calls cannot answer want of memory: args that are handed in, owners that receive
-    /// or finish, a removal, a request that changes no focus, a tick that names nobody and a pump that is idle.
+    /// or finish, a removal, a request that changes no focus, a tick that names nobody and a pump that is idle. Where
+    /// room for pumps was reserved too, no pump can.
     pub fn apply(&mut self, seat: u64, call: Call) -> Result<Reply, AllocError>
         ensures reply { IfOk result (λ answer. answer ≡ reply self.old.displays (history_of self.old.entries) call) }
         ensures entry { IfOk result (λ answer.
@@ -73,15 +82,17 @@ impl Core {
         ensures err { OnErr result (self.new ≡ self.old) }
         ensures calm { 1 ≤ self.old.spare → IsCalm (effects_of self.old) call → IsOk result }
         ensures reserved { 1 ≤ self.old.spare → args_in call ≡ 1 → IsOk result }
+        ensures pumped { 1 ≤ self.old.spare → is_pump call ≡ true → 1 ≤ self.old.pumps → IsOk result }
 
         // The history is legal, so every stream is well-formed, and says what the window of a live channel holds.
         // Nothing follows a removal.
         ensures sound { IsSound self.new }
         ensures gone { IfOk result (λ answer. AnswersGone (history_of self.old.entries) call answer) }
     {
-        make_sure(&mut self.entries, self.spare)?;
+        make_sure(&mut self.entries, self.spare, 1)?;
         match self.dispatcher.apply(&call) {
             Ok(reply) => {
+                self.pumps = pumps_after(&call, self.pumps);
                 note(&mut self.entries, seat, call, &reply);
                 self.spare = self.spare.saturating_sub(1);
                 Ok(reply)
@@ -102,6 +113,21 @@ impl Core {
             make_room(&mut self.entries, n as usize)?;
             self.spare = n;
         }
+        Ok(())
+    }
+
+    /// Makes room for the next `n` entries, and for what these calls need where they are `Notify` and `Pump`, in any
+    /// order: then none of them can answer want of memory. Each Notify and each Pump takes the room of one, and any
+    /// other call that is answered takes all room for pumps away. Without memory nothing changes.
+    pub fn reserve_pumps(&mut self, n: u32) -> Result<(), AllocError>
+        ensures ok { OnOk result (self.new ≡ with_pumps n self.old) }
+        ensures err { OnErr result (self.new ≡ self.old) }
+        ensures reserved { n ≤ self.old.spare → n ≤ self.old.pumps → IsOk result }
+    {
+        make_sure(&mut self.entries, self.spare, n)?;
+        self.dispatcher.reserve(n)?;
+        self.spare = self.spare.max(n);
+        self.pumps = self.pumps.max(n);
         Ok(())
     }
 
@@ -190,16 +216,16 @@ impl Core {
     }
 }
 
-/// Makes sure of a place for one entry more, where there are so many that are sure.
-fn make_sure(entries: &mut Vec<Entry>, spare: u32) -> Result<(), AllocError>
+/// Makes sure of places for `n` entries more, where there are so many that are sure.
+fn make_sure(entries: &mut Vec<Entry>, spare: u32, n: u32) -> Result<(), AllocError>
     requires { HasRoom (vec_len entries.old) (vec_capacity entries.old) spare }
     ensures items { entries.new.items ≡ entries.old.items }
     ensures room { HasRoom (vec_len entries.new) (vec_capacity entries.new) spare }
-    ensures ok { OnOk result (HasRoom (vec_len entries.new) (vec_capacity entries.new) (max 1 spare)) }
-    ensures calm { 1 ≤ spare → IsOk result }
+    ensures ok { OnOk result (HasRoom (vec_len entries.new) (vec_capacity entries.new) (max n spare)) }
+    ensures calm { n ≤ spare → IsOk result }
 {
-    if spare == 0 {
-        make_room(entries, 1)?;
+    if spare < n {
+        make_room(entries, n as usize)?;
     }
     Ok(())
 }
@@ -217,6 +243,16 @@ fn make_room(entries: &mut Vec<Entry>, n: usize) -> Result<(), AllocError>
         return Err(AllocError);
     }
     entries.reserve(n)
+}
+
+/// What a call leaves of the room for pumps.
+fn pumps_after(call: &Call, pumps: u32) -> u32
+    ensures { result ≡ pumps_left call.now pumps }
+{
+    match call {
+        Call::Notify { .. } | Call::Pump { .. } => pumps.saturating_sub(1),
+        _ => 0,
+    }
 }
 
 /// Puts an entry behind the others, where there is room for it.

@@ -3,23 +3,23 @@ use Rattle.dispatch_calls.specs.declared.call.Entry.{Entry}
 use Rattle.dispatch_history.specs.Legal.{reply}
 use Rattle.dispatcher.specs.Memory.{IsCalm}
 use Rattle.dispatch_core.specs.Recorded.{effects_of, history_of, IsRecorded, IsSound, AnswersGone}
-use Rattle.dispatch_core.proofs.Recording.{recorded_more, recorded_behind, replied, sound_of, gone_of, room_after, may_count, one_in}
+use Rattle.dispatch_core.proofs.Recording.{recorded_more, recorded_behind, replied, sound_of, gone_of, room_after, may_count, one_in, pumps_fit}
 use Rattle.dispatch_core.proofs.record.Core.apply.Goals.{in-Windows-2, in-Open-2}
 use Rattle.dispatch_core.proofs.record.Core.apply.Goals as goal
 
 pub returns-in_err-make_sure-clause-sound : goal.returns-in_err-make_sure-clause-sound
 returns-in_err-make_sure-clause-sound c =
-    subst (λ es. IsSound (record { displays = c.self.inside.dispatcher.displays; entries = reverse es; spare = c.self.inside.spare })) (sym c.in_err-make_sure.ensures.items) (sound_of _ c.self.inside.dispatcher _ c.self.invariant.0)
+    subst (λ es. IsSound (record { displays = c.self.inside.dispatcher.displays; entries = reverse es; spare = c.self.inside.spare; pumps = c.self.inside.pumps })) (sym c.in_err-make_sure.ensures.items) (sound_of _ c.self.inside.dispatcher _ _ c.self.invariant.0)
 
-abbrev entry : goal.After-self-1 → Entry
+abbrev entry : goal.After-self-in-Ok-1 → Entry
 entry c = record { seat = c.args.seat; call = c.args.call; reply = c.in-Ok.reply }
 
-newest : (c : goal.After-self-1) → IsRecorded (entry c ∷ reverse c.self.inside.entries.items) c.apply.new.self
+newest : (c : goal.After-self-in-Ok-1) → IsRecorded (entry c ∷ reverse c.self.inside.entries.items) c.apply.new.self
 newest c =
     recorded_more (entry c) _ c.self.inside.dispatcher c.apply.new.self c.self.invariant.0 (c.in-Ok.ensures.after _ c.self.invariant.0.stands) c.in-Ok.ensures.displays c.in-Ok.ensures.gone
     c.in-Ok.ensures.namings
 
-all : (c : goal.After-self-1) → IsRecorded (reverse c.note.new.entries.items) c.apply.new.self
+all : (c : goal.After-self-in-Ok-1) → IsRecorded (reverse c.note.new.entries.items) c.apply.new.self
 all c = recorded_behind (entry c) c.self.inside.entries.items c.note.new.entries.items c.apply.new.self (c.note.ensures.items ∙ ap (λ (xs : List Entry). xs ++ entry c ∷ []) c.in_ok-make_sure.ensures.items) (newest c)
 
 pub invariant_of-self-in-Ok : goal.invariant_of-self-in-Ok
@@ -27,10 +27,11 @@ invariant_of-self-in-Ok c = (
   all c,
   room_after _ _ c.self.inside.spare _ _ _ c.in_ok-make_sure.ensures.ok c.note.ensures.len c.note.ensures.capacity c.saturating_sub-self-inside.ensures,
   omega (arith, c.saturating_sub-self-inside.ensures, c.self.invariant.2, c.in-Ok.ensures.room, one_in c.args.call),
+  pumps_fit c.args.call _ _ _ _ c.self.invariant.3 c.in-Ok.ensures.pumps c.pumps_after-self-inside.ensures,
 )
 
 pub returns-in-Ok-clause-sound : goal.returns-in-Ok-clause-sound
-returns-in-Ok-clause-sound c = sound_of _ c.apply.new.self _ (all c)
+returns-in-Ok-clause-sound c = sound_of _ c.apply.new.self _ _ (all c)
 
 pub returns-in-Ok-clause-gone : goal.returns-in-Ok-clause-gone
 returns-in-Ok-clause-gone c =
@@ -49,12 +50,12 @@ returns-in-Err-clause-calm c =
 
 -- nothing changed
 unchanged : (c : goal.Joined-call-2)
-    → c.match-call-2.self ≡ record { displays = c.apply.new.self.displays; entries = reverse c.make_sure.new.entries.items; spare = c.self.inside.spare }
+    → c.match-call-2.self ≡ record { displays = c.apply.new.self.displays; entries = reverse c.make_sure.new.entries.items; spare = c.self.inside.spare; pumps = c.self.inside.pumps }
     → IsSound c.match-call-2.self
 unchanged c is =
-    let same : c.match-call-2.self ≡ record { displays = c.self.inside.dispatcher.displays; entries = reverse c.self.inside.entries.items; spare = c.self.inside.spare } =
-    is ∙ (λ i. record { displays = (c.in-Err.ensures.err i).displays; entries = reverse (c.in_ok-make_sure.ensures.items i); spare = c.self.inside.spare }) in
-    subst IsSound (sym same) (sound_of _ c.self.inside.dispatcher _ c.self.invariant.0)
+    let same : c.match-call-2.self ≡ record { displays = c.self.inside.dispatcher.displays; entries = reverse c.self.inside.entries.items; spare = c.self.inside.spare; pumps = c.self.inside.pumps } =
+    is ∙ (λ i. record { displays = (c.in-Err.ensures.err i).displays; entries = reverse (c.in_ok-make_sure.ensures.items i); spare = c.self.inside.spare; pumps = c.self.inside.pumps }) in
+    subst IsSound (sym same) (sound_of _ c.self.inside.dispatcher _ _ c.self.invariant.0)
 
 pub returns-in-Err-clause-sound : goal.returns-in-Err-clause-sound
 returns-in-Err-clause-sound c = elim c.match-call-2.branch [ in-Windows-2 w ↦ unchanged c w.self-is | in-Open-2 w ↦ unchanged c w.self-is ]
@@ -67,3 +68,13 @@ returns-in-Err-clause-reserved c =
     (may_count c.self.inside.dispatcher.displays c.self.inside.entries.items _ _ c.self.inside.spare (sym c.self.inside.entries.ok.0) c.self.invariant.1 held)
     one
     (omega (arith, held, c.self.invariant.2))
+
+pub returns-in-Err-clause-pumped : goal.returns-in-Err-clause-pumped
+returns-in-Err-clause-pumped c =
+    λ some is_pump one.
+    let held : 1 ≤ c.self.inside.spare = subst (λ r. 1 ≤ r.spare) (sym c.self.view_is) some in
+    let left : 1 ≤ c.self.inside.pumps = subst (λ r. 1 ≤ r.pumps) (sym c.self.view_is) one in
+    c.in-Err.ensures.pumped _ c.self.invariant.0.stands
+    (may_count c.self.inside.dispatcher.displays c.self.inside.entries.items _ _ c.self.inside.spare (sym c.self.inside.entries.ok.0) c.self.invariant.1 held)
+    is_pump
+    (omega (arith, left, c.self.invariant.3))

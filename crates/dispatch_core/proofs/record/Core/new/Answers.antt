@@ -8,4 +8,5 @@ returns c =
       displays = c.in_ok-dispatcher.ensures.displays i;
       entries = reverse (c.new-2.ensures.items i);
       spare = 0;
+      pumps = 0;
     }
