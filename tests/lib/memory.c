@@ -118,6 +118,17 @@ static void args(struct life *life, const struct inputflinger_message *m)
 	given(life, status);
 }
 
+static void remove_device(struct life *life, uint8_t device)
+{
+	int status = inputflinger_live_remove_device(&life->live, life->now, device);
+
+	if (status == INPUTFLINGER_NO_MEMORY) {
+		refused++;
+		status = inputflinger_live_remove_device(&life->live, life->now, device);
+	}
+	given(life, status);
+}
+
 /* All that a client has is got, judged and finished. */
 static void get(struct life *life, const struct inputflinger_client *client)
 {
@@ -199,8 +210,8 @@ static void live_on(struct life *life)
 	CHECK(mask == 1);
 	AGAIN(inputflinger_live_close(&life->live, life->now, &spy));
 	AGAIN(inputflinger_live_open(&life->live, &late));
-	AGAIN(inputflinger_live_remove_device(&life->live, life->now, 2));
-	AGAIN(inputflinger_live_remove_device(&life->live, life->now, 1));
+	remove_device(life, 2);
+	remove_device(life, 1);
 	get(life, &behind);
 	CHECK(inputflinger_live_free(&life->live) == INPUTFLINGER_OK);
 	CHECK(inputflinger_judge_free(&life->judge) == INPUTFLINGER_OK);
