@@ -11,6 +11,7 @@ use Rattle.raw_events.specs.Text.{◌>>=◌, after_blanks, after_byte, number, n
 use Rattle.text_lines.specs.Blanks.{is_blank, skip_blanks, ends_in, word_len}
 use Rattle.raw_events.specs.Line.{Known, seconds_at, moment_at, path_at, fields_of, sender, sent, formed, judged_text}
 use Rattle.raw_events.specs.Front.{plain, SecondsSay, MicrosSay, PathSays}
+use Rattle.raw_events.specs.Recording.{line_len}
 
 both : {A B : Type 0} (o : Option A) (f : A → Option B) (y : B) → (o >>= f) ≡ Some y → (x : A) × (o ≡ Some x) × (f x ≡ Some y)
 both None f y h = cc
@@ -96,9 +97,9 @@ byte_is c (b ∷ bs) x h =
     [ true ↦ λ e k. let same : b ≡ c = eqb-true b c e in cc | false ↦ λ e k. cc ]) refl h
 
 pub seconds_are : (front inside point : List ℕ) (seconds : ℕ) → after_byte (byte "[") front ≡ Some inside → seconds_at (skip_blanks inside) ≡ Some (seconds, point)
-    → after_byte (byte ".") point ≡ Some [] → seconds < 10 ^ 12 → SecondsSay front seconds
+    → after_byte (byte ".") point ≡ Some [] → seconds < 10 ^ 12 → line_len front ≡ length front → SecondsSay front seconds
 unfolding moment_at
-seconds_are front inside point seconds h s p few = record {
+seconds_are front inside point seconds h s p few unended = record {
   inside = inside;
   bracket = byte_is (byte "[") front inside h;
   says = λ r.
@@ -109,6 +110,7 @@ seconds_are front inside point seconds h s p few = record {
       )
       refl;
   few = few;
+  unended = unended;
 }
 
 blanks_more : (bs r x : List ℕ) → after_blanks bs ≡ Some x → 0 < length x → after_blanks (bs ++ r) ≡ Some (x ++ r)
@@ -195,15 +197,16 @@ path_more b bs r path h some p =
     ]) h
 
 pub part_is : (devices : Known) (part inside : List ℕ) (path : Option (List ℕ)) (device : Option DeviceId) → after_blanks part ≡ Some inside → path_at inside ≡ Some (path, []) → is_some path ≡ true
-    → sender devices path ≡ device → PathSays devices part device
+    → sender devices path ≡ device → line_len part ≡ length part → PathSays devices part device
 unfolding path_at
-part_is devices part [] path device h k some s = absurd (not_named path (first_same None path [] [] k) some)
-part_is devices part (b ∷ bs) path device h k some s = record {
+part_is devices part [] path device h k some s unended = absurd (not_named path (first_same None path [] [] k) some)
+part_is devices part (b ∷ bs) path device h k some s unended = record {
   path = path;
   inside = b ∷ bs;
   blanks = λ r. blanks_more part r (b ∷ bs) h (omega arith);
   says = λ r p. path_more b bs r path k some p;
   sent = s;
+  unended = unended;
 }
 
 pub line_says : (devices : Known) (to_point digits part text : List ℕ) (seconds micros : ℕ) (device : Option DeviceId) (fields : Fields) → SecondsSay to_point seconds → MicrosSay digits micros

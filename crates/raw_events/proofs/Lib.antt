@@ -8,6 +8,7 @@ pub mod Steps
 pub mod Cuts
 pub mod Heads
 pub mod Fields
+pub mod Unended
 pub mod LineByLine
 pub mod SixDigits
 pub mod BothEnds

@@ -1,10 +1,11 @@
 -- The front of a line, from its first bracket up to its type, and what it says whatever stands behind it.
-use Rattle.std.specs.Prelude.{ℕ, ◌+◌, ◌*◌, ◌^◌, ◌<◌, ◌≡◌, Bool, true, not, List, [], ◌∷◌, ◌++◌, Option, Some}
+use Rattle.std.specs.Prelude.{ℕ, ◌+◌, ◌*◌, ◌^◌, ◌<◌, ◌≡◌, Bool, true, not, List, [], ◌∷◌, ◌++◌, length, Option, Some}
 use Rattle.std.specs.Str.{byte}
 use Rattle.input_types.specs.declared.number.DeviceId.{DeviceId}
 use Rattle.raw_events.specs.Text.{◌>>=◌, after_blanks, after_byte, number_at}
 use Rattle.text_lines.specs.Blanks.{is_blank, skip_blanks}
 use Rattle.raw_events.specs.Line.{Known, moment_at, path_at, sender}
+use Rattle.raw_events.specs.Recording.{line_len}
 
 -- no blank stands in front
 abbrev pub plain : List ℕ → Bool
@@ -18,24 +19,26 @@ fraction_at seconds bs = do
   rest ← after_byte (byte "]") (skip_blanks fraction.1)
   Some (seconds * 1000000 + fraction.0, rest)
 
--- bytes from the first bracket to the point, with so many seconds between them
+-- bytes from the first bracket to the point, with so many seconds between them and no newline
 pub record SecondsSay (front : List ℕ) (seconds : ℕ) : Type 0 where
   pub inside : List ℕ
   pub bracket : front ≡ byte "[" ∷ inside
   pub says : (rest : List ℕ) → moment_at (inside ++ rest) ≡ fraction_at seconds rest
   pub few : seconds < 10 ^ 12
+  pub unended : line_len front ≡ length front
 
 -- bytes from the point to the second bracket, with so many microseconds between them
 abbrev pub MicrosSay : List ℕ → ℕ → Type 0
 MicrosSay digits micros = (seconds : ℕ) (rest : List ℕ) → fraction_at seconds (digits ++ rest) ≡ Some (seconds * 1000000 + micros, rest)
 
--- bytes behind the second bracket up to the type, with the path of this device between blanks
+-- bytes behind the second bracket up to the type, with the path of this device between blanks and no newline
 pub record PathSays (devices : Known) (part : List ℕ) (device : Option DeviceId) : Type 0 where
   pub path : Option (List ℕ)
   pub inside : List ℕ
   pub blanks : (rest : List ℕ) → after_blanks (part ++ rest) ≡ Some (inside ++ rest)
   pub says : (rest : List ℕ) → plain rest ≡ true → path_at (inside ++ rest) ≡ Some (path, rest)
   pub sent : sender devices path ≡ device
+  pub unended : line_len part ≡ length part
 
 -- both parts of a front, between which the microseconds stand
 abbrev pub FrontSays : Known → List ℕ → ℕ → List ℕ → Option DeviceId → Type 0

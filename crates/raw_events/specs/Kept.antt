@@ -1,11 +1,12 @@
 -- What a reader keeps between two pieces, and what its parts read.
-use Rattle.std.specs.Prelude.{ℕ, ◌≡◌, ◌<◌, ◌≤◌, List, ◌++◌, length, take, Option, Some, None, Result, Ok, Err}
+use Rattle.std.specs.Prelude.{ℕ, ◌≡◌, ◌<◌, ◌≤◌, List, ◌∷◌, ◌++◌, length, take, Option, Some, None, Result, Ok, Err}
 use Rattle.raw_events.specs.declared.event.RawEvent.{RawEvent}
 use Rattle.raw_events.specs.declared.event.LineError.{LineError}
 use Rattle.raw_events.specs.declared.event.LineError.TheVariants as errors
 use Rattle.raw_events.specs.declared.line.Line.{Line}
 use Rattle.raw_events.specs.Recording.{line_len, next_number}
-use Rattle.raw_events.specs.Pieces.{Told, Place, Step, with_told}
+use Rattle.raw_events.specs.Line.{Known, judged}
+use Rattle.raw_events.specs.Pieces.{Told, Place, Step, parts, with_told}
 
 -- the bytes of a line that has begun, with room for the longest line
 pub record IsKept (kept : List ℕ) (capacity : ℕ) : Type 0 where
@@ -27,6 +28,13 @@ place_of n kept (Some error) = Err error
 -- events that were told before
 abbrev pub behind : List RawEvent → Told → Told
 behind before told = record { events = before ++ told.events; next = told.next }
+
+-- the first line that ends in these bytes says this, and so much stands behind its newline
+pub record TakesLine (devices : Known) (bytes : List ℕ) (line : Line) (after : List ℕ) : Type 0 where
+  pub text : List ℕ
+  pub cut : parts bytes ≡ record { ended = text ∷ (parts after).ended; begun = (parts after).begun }
+  pub says : line ≡ judged devices text
+  pub shorter : length after < length bytes
 
 -- A line was told: what the lines behind it tell is still to come. After want of memory nothing was added.
 abbrev pub TellsLine : Result ℕ LineError → Line → ℕ → List RawEvent → List RawEvent → Type 0

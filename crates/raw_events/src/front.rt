@@ -1,12 +1,17 @@
 //! The front of a line, from its first bracket up to its type. Lines that follow one another mostly have the same one
 //! but for the microseconds, so that it is read once for many lines.
-ghost use Rattle.std.specs.Prelude.{◌≡◌, ◌+◌, ◌*◌, ◌^◌, ◌<◌, IfSome};
+ghost use Rattle.std.specs.Prelude.{◌≡◌, ◌+◌, ◌*◌, ◌^◌, ◌<◌, ◌∷◌, ◌⊎◌, length, IfSome, IsTrue};
 ghost use Rattle.raw_events.specs.Line.{known, sent, judged_text};
+ghost use Rattle.raw_events.specs.Line.{without_return};
 ghost use Rattle.raw_events.specs.Front.{SecondsSay, PathSays, FrontSays};
+ghost use Rattle.raw_events.specs.Kept.{TakesLine};
+ghost use Rattle.raw_events.specs.Recording.{line_len};
+ghost use Rattle.text_lines.specs.Blanks.{skip_blanks};
 
 use crate::event::RawEvent;
-use crate::line::{Fields, Line, path, seconds, sender_of};
+use crate::line::{Fields, Line, MAX_LINE, path, seconds, sender_of};
 use crate::micros::{MICROS_LEN, micros};
+use crate::piece::line_in_front;
 use crate::same::is_same;
 use crate::text::{past_blanks, past_byte};
 use crate::usual::{USUAL_LEN, usual_fields};
@@ -24,6 +29,16 @@ pub(crate) struct Front<'a> {
     /// From the second bracket up to the type.
     part: &'a [u8],
     device: Option<DeviceId>,
+
+    /// How long its line was, as the next one mostly is.
+    len: usize,
+}
+
+/// Whether no newline stands in these bytes.
+fn is_unended(bytes: &[u8]) -> bool
+    ensures { IsTrue result → line_len bytes.now ≡ length bytes.now }
+{
+    line_in_front(bytes) == bytes.len()
 }
 
 /// The seconds between the first bracket and the point.
@@ -32,7 +47,7 @@ fn seconds_say(to_point: &[u8]) -> Option<u64>
 {
     let (seconds, rest) = seconds(skip_blanks(past_byte(b'[', to_point)?))?;
     let behind = past_byte(b'.', rest)?;
-    if !behind.is_empty() {
+    if !behind.is_empty() || !is_unended(to_point) {
         return None;
     }
     Some(seconds)
@@ -43,7 +58,7 @@ fn part_says(devices: &[(String, DeviceId)], part: &[u8]) -> Option<Option<Devic
     ensures { IfSome result (λ device. PathSays (known devices.now) part.now device) }
 {
     let (path, rest) = path(past_blanks(part)?)?;
-    if path.is_none() || !rest.is_empty() {
+    if path.is_none() || !rest.is_empty() || !is_unended(part) {
         return None;
     }
     Some(sender_of(devices, path))
@@ -67,6 +82,7 @@ pub(crate) fn front_of<'a>(devices: &[(String, DeviceId)], text: &'a [u8]) -> Op
         seconds,
         part,
         device,
+        len: text.len(),
     })
 }
 
@@ -141,6 +157,8 @@ pub(crate) fn quick<'a>(
     requires { FrontSays (known devices.now) front.old.to_point.now front.old.seconds front.old.part.now
         front.old.device }
     ensures line { IfSome result (λ line. line ≡ judged_text (known devices.now) text.now) }
+    ensures unended { IfSome result (λ line. line_len text.now ≡ length text.now) }
+    ensures whole { IfSome result (λ line. (without_return text.now ≡ text.now) × (skip_blanks text.now ≡ text.now)) }
     ensures front { FrontSays (known devices.now) front.new.to_point.now front.new.seconds front.new.part.now
         front.new.device }
 {
@@ -162,4 +180,40 @@ pub(crate) fn quick<'a>(
     let micros = micros(digits)?;
     let fields = usual_fields(end)?;
     Some(line_of(front.device, moment_of(front.seconds, micros), fields))
+}
+
+/// What stands behind the end of a line: a newline, in front of which a carriage return may stand.
+#[inline(always)]
+fn past_end(bytes: &[u8]) -> Option<&[u8]>
+    ensures { IfSome result (λ after. (bytes.now ≡ 10 ∷ after.now) ⊎ (bytes.now ≡ 13 ∷ 10 ∷ after.now)) }
+{
+    match bytes {
+        [b'\n', after @ ..] => Some(after),
+        [b'\r', b'\n', after @ ..] => Some(after),
+        _ => None,
+    }
+}
+
+/// What the first line says that ends in these bytes, and what stands behind its newline, where the line is as long as
+/// the one before it and has such a front. None says nothing.
+#[inline(always)]
+pub(crate) fn quick_line<'a>(
+    devices: &[(String, DeviceId)],
+    front: &mut Front<'a>,
+    bytes: &'a [u8],
+) -> Option<(Line, &'a [u8])>
+    requires { FrontSays (known devices.now) front.old.to_point.now front.old.seconds front.old.part.now
+        front.old.device }
+    ensures line { IfSome result (λ taken. TakesLine (known devices.now) bytes.now taken.0 taken.1.now) }
+    ensures front { FrontSays (known devices.now) front.new.to_point.now front.new.seconds front.new.part.now
+        front.new.device }
+{
+    let len = front.len;
+    if len >= MAX_LINE || bytes.len() <= len {
+        return None;
+    }
+    let (text, rest) = bytes.split_at(len);
+    let after = past_end(rest)?;
+    let line = quick(devices, front, text)?;
+    Some((line, after))
 }

@@ -5,7 +5,7 @@ ghost use Rattle.raw_events.specs.Front.{FrontSays};
 ghost use Rattle.raw_events.specs.Line.{known, seconds_at, moment_at, path_at, fields_of, sender, sent, formed, judged_text, without_return, judged, device_at};
 
 use crate::event::RawEvent;
-use crate::front::{Front, front_of, quick};
+use crate::front::{Front, front_of};
 use crate::text::{decimal_at, digits_in_front, hex_at, past_blanks, past_byte};
 use input_types::{DeviceId, Moment};
 use text_lines::{skip_blanks, word_len};
@@ -203,8 +203,7 @@ pub(crate) fn judge(devices: &[(String, DeviceId)], line: &[u8]) -> Line
     judge_text(devices, skip_blanks(strip_return(line)))
 }
 
-/// What a line says, with the help of the front of the line before it, which becomes its own.
-#[inline(always)]
+/// What a line says, whose front is kept.
 #[tactic(auto, unfolding(crate::specs::Line::judged))]
 pub(crate) fn judge_next<'a>(
     devices: &[(String, DeviceId)],
@@ -218,37 +217,7 @@ pub(crate) fn judge_next<'a>(
     if line.len() > MAX_LINE {
         return Line::Refused(Cause::TooLong);
     }
-    judge_behind(devices, front, skip_blanks(strip_return(line)))
-}
-
-/// What a line says that has no blanks in front, behind a line with this front.
-#[inline(always)]
-fn judge_behind<'a>(
-    devices: &[(String, DeviceId)],
-    front: &mut Option<Front<'a>>,
-    text: &'a [u8],
-) -> Line
-    requires { IfSome front.old (λ f. FrontSays (known devices.now) f.to_point.now f.seconds f.part.now f.device) }
-    ensures line { result ≡ judged_text (known devices.now) text.now }
-    ensures front { IfSome front.new (λ f. FrontSays (known devices.now) f.to_point.now f.seconds f.part.now f.device) }
-{
-    if let Some(kept) = front {
-        if let Some(line) = quick(devices, kept, text) {
-            return line;
-        }
-    }
-    judge_alone(devices, front, text)
-}
-
-/// What a line says that has no blanks in front, by itself; its front is kept.
-fn judge_alone<'a>(
-    devices: &[(String, DeviceId)],
-    front: &mut Option<Front<'a>>,
-    text: &'a [u8],
-) -> Line
-    ensures line { result ≡ judged_text (known devices.now) text.now }
-    ensures front { IfSome front.new (λ f. FrontSays (known devices.now) f.to_point.now f.seconds f.part.now f.device) }
-{
+    let text = skip_blanks(strip_return(line));
     *front = front_of(devices, text);
     judge_text(devices, text)
 }

@@ -1,7 +1,8 @@
 //! The microseconds of a moment as every recorder writes them: six digits and the second bracket.
-ghost use Rattle.std.specs.Prelude.{◌≡◌, ◌∷◌, [], ◌<◌, ◌^◌, IfSome};
+ghost use Rattle.std.specs.Prelude.{◌≡◌, ◌∷◌, [], ◌<◌, ◌^◌, length, IfSome};
 ghost use Rattle.raw_events.specs.Text.{number};
 ghost use Rattle.raw_events.specs.Front.{MicrosSay};
+ghost use Rattle.raw_events.specs.Recording.{line_len};
 
 use crate::digits::decimal_value;
 
@@ -25,6 +26,7 @@ fn three(a: u8, b: u8, c: u8) -> Option<u32>
 #[inline(always)]
 pub(crate) fn micros(text: &[u8]) -> Option<u64>
     ensures value { IfSome result (λ n. MicrosSay text.now n) }
+    ensures unended { IfSome result (λ n. line_len text.now ≡ length text.now) }
     ensures bound { IfSome result (λ n. n < 10 ^ 6) }
 {
     if text.len() != MICROS_LEN || text[6] != b']' {

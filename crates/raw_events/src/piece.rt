@@ -1,20 +1,21 @@
 //! What a piece of a recording tells.
 ghost use Rattle.std.specs.Prelude.{◌≡◌, ◌<◌, ◌≤◌, length, ◌∷◌, ◌++◌, [], IfOk, IfSome, MatchOption, vec_capacity};
 ghost use Rattle.std.specs.Result.{result_map_both};
+ghost use Rattle.raw_events.specs.Front.{FrontSays};
 ghost use Rattle.raw_events.specs.Line.{known, judged};
 ghost use Rattle.raw_events.specs.Recording.{line_len, refusal};
 ghost use Rattle.raw_events.specs.Pieces.{parts, last_line, tell, from_parts};
-ghost use Rattle.raw_events.specs.Kept.{IsKept, TellsLine, TellsLines, ReadsPiece, Keeps};
+ghost use Rattle.raw_events.specs.Kept.{IsKept, TakesLine, TellsLine, TellsLines, ReadsPiece, Keeps};
 
 use crate::event::{LineError, RawEvent};
-use crate::front::Front;
+use crate::front::{Front, quick_line};
 use crate::line::{Cause, Line, MAX_LINE, judge, judge_next};
 use input_types::DeviceId;
 use memchr::memchr;
 
 /// How many bytes stand before the first newline.
 #[inline(always)]
-fn line_in_front(bytes: &[u8]) -> usize
+pub(crate) fn line_in_front(bytes: &[u8]) -> usize
     ensures value { result ≡ line_len bytes.now }
     ensures within { result ≤ length bytes.now }
 {
@@ -76,6 +77,29 @@ pub(crate) fn tell_line(
     Ok(number.saturating_add(1))
 }
 
+/// What the first line says that ends in these bytes, and what stands behind its newline, with the help of the front of
+/// the line before it, in whose place its own is put; None where there is no newline.
+#[inline(always)]
+#[tactic(auto, using(crate::proofs::Unended::takes_cut))]
+fn take_line<'a>(
+    devices: &[(String, DeviceId)],
+    front: &mut Option<Front<'a>>,
+    bytes: &'a [u8],
+) -> Option<(Line, &'a [u8])>
+    requires { IfSome front.old (λ f. FrontSays (known devices.now) f.to_point.now f.seconds f.part.now f.device) }
+    ensures line { MatchOption result (parts bytes.now ≡ record { ended = []; begun = bytes.now })
+        (λ taken. TakesLine (known devices.now) bytes.now taken.0 taken.1.now) }
+    ensures front { IfSome front.new (λ f. FrontSays (known devices.now) f.to_point.now f.seconds f.part.now f.device) }
+{
+    if let Some(kept) = front {
+        if let Some(taken) = quick_line(devices, kept, bytes) {
+            return Some(taken);
+        }
+    }
+    let (line, after) = next_line(bytes)?;
+    Some((judge_next(devices, front, line), after))
+}
+
 /// Appends the events of the lines that end in these bytes, and answers the number of the line behind them with its
 /// bytes.
 pub(crate) fn read_lines<'a>(
@@ -91,8 +115,7 @@ pub(crate) fn read_lines<'a>(
     let mut number = number;
     let mut rest = bytes;
     let mut front: Option<Front> = None;
-    'lines: while let Some((line, after)) = next_line(rest) {
-        let said = judge_next(devices, &mut front, line);
+    'lines: while let Some((said, after)) = take_line(devices, &mut front, rest) {
         number = tell_line(&said, number, events)?;
         rest = after;
     }

@@ -1,8 +1,10 @@
 //! Type, code and value as every recorder writes them: 18 bytes, with one space between them.
-ghost use Rattle.std.specs.Prelude.{◌≡◌, ◌∷◌, [], true, ◌<◌, ◌^◌, IfSome};
+ghost use Rattle.std.specs.Prelude.{◌≡◌, ◌∷◌, [], true, false, ◌<◌, ◌^◌, length, IfSome};
 ghost use Rattle.raw_events.specs.Text.{number};
 ghost use Rattle.raw_events.specs.Line.{fields_of};
 ghost use Rattle.raw_events.specs.Front.{plain};
+ghost use Rattle.raw_events.specs.Recording.{line_len};
+ghost use Rattle.text_lines.specs.Blanks.{ends_in};
 
 use crate::digits::hex_value;
 use crate::line::{Fields, fields_from};
@@ -29,6 +31,8 @@ fn four(a: u8, b: u8, c: u8, d: u8) -> Option<u32>
 pub(crate) fn usual_fields(text: &[u8]) -> Option<Fields>
     ensures fields { IfSome result (λ f. fields_of text.now ≡ Some f) }
     ensures plain { IfSome result (λ f. plain text.now ≡ true) }
+    ensures unended { IfSome result (λ f. line_len text.now ≡ length text.now) }
+    ensures digit { IfSome result (λ f. (0 < length text.now) × (ends_in 13 text.now ≡ false)) }
 {
     if text.len() != USUAL_LEN || text[4] != b' ' || text[9] != b' ' {
         return None;

@@ -39,7 +39,7 @@ impl Stream {
     {
         Stream {
             lines: Vec::new(alloc),
-            writer: LineWriter::new(alloc),
+            writer: LineWriter::new(),
         }
     }
 

@@ -6,6 +6,7 @@ pub mod OrderLines
 pub mod OrderPassed
 pub mod OrderReading
 pub mod OrderTexts
+pub mod Digits
 pub mod Numbers
 pub mod Pointers
 pub mod Streams

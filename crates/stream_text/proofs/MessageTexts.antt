@@ -10,7 +10,7 @@ use Rattle.input_types.specs.declared.message.Body.{Body}
 use Rattle.input_types.specs.declared.message.Body.TheVariants.{Motion as MotionBody, Key, Focus}
 use Rattle.input_types.specs.declared.message.Message.{Message}
 use Rattle.stream_text.specs.Number.{◌>>=◌, after, number_at, NoDigit}
-use Rattle.stream_text.specs.Spelling.{body, canceled, key, key_end, labeled, motion, numbered}
+use Rattle.stream_text.specs.Spelling.{body, canceled, key, key_end, labeled, numbered}
 use Rattle.stream_text.specs.MessageLine.{body_of, codes_at, device_at, flags_at, focus_of, key_of, labeled_at, message_of, message_words, motion_of, way_at, way_by, HasKeyFlag, HasSpelling, SpelledBody, SpelledKey}
 use Rattle.stream_text.proofs.Numbers.{after_only, bind_some, number_again, number_only}
 use Rattle.stream_text.proofs.PartTexts.{labeled_again, labeled_only, device_again, device_only, flags_again, flags_only, by_word, whole_only, labeled_front, regroup}

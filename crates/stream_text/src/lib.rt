@@ -33,6 +33,7 @@ mod order;
 mod order_error;
 mod order_front;
 mod order_line;
+mod prepend;
 mod section;
 mod stream_error;
 mod stream_file;

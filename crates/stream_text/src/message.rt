@@ -1,177 +1,201 @@
 //! Messages as lines.
-ghost use Rattle.std.specs.Prelude.{◌≡◌, ◌++◌, codes, cond, IfOk, OnOk, OnErr, decimal};
+ghost use Rattle.std.specs.Prelude.{◌≡◌, ◌+◌, ◌*◌, ◌≤◌, ◌++◌, codes, cond, length, drop, IfOk, OnOk, OnErr, decimal};
 ghost use Rattle.stream_text.specs.Spelling.{action, body, canceled, indexed, key, key_end, message_line, message_lines, motion, numbered, pointer, pointers};
 
+use crate::prepend::{ROOM, Room, prepend_labeled, prepend_number, prepend_signed, prepend_word};
 use input_types::{Body, FLAG_CANCELED, KeyMsg, Message, Motion, MotionAction, Pointer};
-use std::alloc::{AllocError, Global};
-use text_lines::{add_labeled, add_number, add_signed, add_word};
+use std::alloc::AllocError;
 
-fn add_canceled(text: &mut Vec<u8>, flags: u32) -> Result<(), AllocError>
-    ensures { IfOk result (λ _. text.new.items ≡ text.old.items ++ canceled flags) }
+fn prepend_canceled(line: &mut Room, end: usize, flags: u32) -> usize
+    requires { (9 ≤ end) × (end ≤ 1280) }
+    ensures within { (result ≤ end) × (end ≤ result + 9) }
+    ensures written { drop result line.new ≡ canceled flags ++ drop end line.old }
 {
     if flags == FLAG_CANCELED {
-        add_word(text, " canceled")
+        prepend_word(line, end, " canceled")
     } else {
-        Ok(())
+        end
     }
 }
 
 #[tactic(auto, unfolding(crate::specs::Spelling::indexed))]
-fn add_indexed(text: &mut Vec<u8>, name: &str, index: u8) -> Result<(), AllocError>
-    ensures { IfOk result (λ _. text.new.items ≡ text.old.items ++ indexed name.now index) }
+fn prepend_indexed(line: &mut Room, end: usize, name: &str, index: u8) -> usize
+    requires { (length name.now + 21 ≤ end) × (end ≤ 1280) }
+    ensures within { (result ≤ end) × (end ≤ result + length name.now + 21) }
+    ensures written { drop result line.new ≡ indexed name.now index ++ drop end line.old }
 {
-    add_word(text, name)?;
-    add_word(text, ":")?;
-    add_number(text, u64::from(index))
+    let at = prepend_number(line, end, u64::from(index));
+    let at = prepend_word(line, at, ":");
+    prepend_word(line, at, name)
 }
 
-fn add_action(text: &mut Vec<u8>, motion: &Motion) -> Result<(), AllocError>
-    ensures { IfOk result (λ _. text.new.items ≡ text.old.items ++ action motion.now.action motion.now.index) }
+fn prepend_action(line: &mut Room, end: usize, motion: &Motion) -> usize
+    requires { (33 ≤ end) × (end ≤ 1280) }
+    ensures within { (result ≤ end) × (end ≤ result + 33) }
+    ensures written { drop result line.new ≡ action motion.now.action motion.now.index ++ drop end line.old }
 {
     match motion.action {
-        MotionAction::Down => add_word(text, "DOWN"),
-        MotionAction::Up => add_word(text, "UP"),
-        MotionAction::Move => add_word(text, "MOVE"),
-        MotionAction::Cancel => add_word(text, "CANCEL"),
-        MotionAction::Outside => add_word(text, "OUTSIDE"),
-        MotionAction::PointerDown => add_indexed(text, "POINTER_DOWN", motion.index),
-        MotionAction::PointerUp => add_indexed(text, "POINTER_UP", motion.index),
+        MotionAction::Down => prepend_word(line, end, "DOWN"),
+        MotionAction::Up => prepend_word(line, end, "UP"),
+        MotionAction::Move => prepend_word(line, end, "MOVE"),
+        MotionAction::Cancel => prepend_word(line, end, "CANCEL"),
+        MotionAction::Outside => prepend_word(line, end, "OUTSIDE"),
+        MotionAction::PointerDown => prepend_indexed(line, end, "POINTER_DOWN", motion.index),
+        MotionAction::PointerUp => prepend_indexed(line, end, "POINTER_UP", motion.index),
     }
 }
 
 #[tactic(auto, unfolding(crate::specs::Spelling::pointer))]
-fn add_pointer(text: &mut Vec<u8>, id: u8, x: i32, y: i32) -> Result<(), AllocError>
-    ensures { IfOk result (λ _. text.new.items ≡ text.old.items ++ pointer id x y) }
+fn prepend_pointer(line: &mut Room, end: usize, id: u8, x: i32, y: i32) -> usize
+    requires { (66 ≤ end) × (end ≤ 1280) }
+    ensures within { (result ≤ end) × (end ≤ result + 66) }
+    ensures written { drop result line.new ≡ pointer id x y ++ drop end line.old }
 {
-    add_word(text, " ")?;
-    add_number(text, u64::from(id))?;
-    add_word(text, "@")?;
-    add_signed(text, x)?;
-    add_word(text, ",")?;
-    add_signed(text, y)
+    let at = prepend_signed(line, end, y);
+    let at = prepend_word(line, at, ",");
+    let at = prepend_signed(line, at, x);
+    let at = prepend_word(line, at, "@");
+    let at = prepend_number(line, at, u64::from(id));
+    prepend_word(line, at, " ")
 }
 
-fn add_pointers(text: &mut Vec<u8>, list: &[Pointer]) -> Result<(), AllocError>
-    ensures { IfOk result (λ _. text.new.items ≡ text.old.items ++ pointers list.now) }
+fn prepend_pointers(line: &mut Room, end: usize, list: &[Pointer]) -> usize
+    requires { (66 * length list.now ≤ end) × (end ≤ 1280) }
+    ensures within { (result ≤ end) × (end ≤ result + 66 * length list.now) }
+    ensures written { drop result line.new ≡ pointers list.now ++ drop end line.old }
 {
-    for p in list {
-        add_pointer(text, p.id.get(), p.at.x, p.at.y)?;
+    let mut at = end;
+    let mut left = list.len();
+    while left > 0 {
+        left -= 1;
+        let p = list[left];
+        at = prepend_pointer(line, at, p.id.get(), p.at.x, p.at.y);
     }
-    Ok(())
+    at
 }
 
 #[tactic(auto, unfolding(crate::specs::Spelling::motion))]
-fn add_motion(text: &mut Vec<u8>, told: &Motion) -> Result<(), AllocError>
-    ensures { IfOk result (λ _. text.new.items ≡ text.old.items ++ motion told.now) }
+fn prepend_motion(line: &mut Room, end: usize, told: &Motion) -> usize
+    requires { (1130 ≤ end) × (end ≤ 1280) }
+    ensures within { (result ≤ end) × (end ≤ result + 1130) }
+    ensures written { drop result line.new ≡ motion told.now ++ drop end line.old }
 {
-    add_word(text, "motion ")?;
-    add_number(text, u64::from(told.device.get()))?;
-    add_word(text, " ")?;
-    add_action(text, told)?;
-    add_canceled(text, told.flags)?;
-    add_pointers(text, told.pointers.as_slice())
+    let at = prepend_pointers(line, end, told.pointers.as_slice());
+    let at = prepend_canceled(line, at, told.flags);
+    let at = prepend_action(line, at, told);
+    let at = prepend_word(line, at, " ");
+    let at = prepend_number(line, at, u64::from(told.device.get()));
+    prepend_word(line, at, "motion ")
 }
 
 #[tactic(auto, unfolding(crate::specs::Spelling::key))]
-fn add_key(
-    text: &mut Vec<u8>,
-    device: u8,
-    scan: u16,
-    code: u16,
-    meta: u32,
-) -> Result<(), AllocError>
-    ensures { IfOk result (λ _. text.new.items ≡ text.old.items ++ key device scan code meta) }
+fn prepend_key(line: &mut Room, end: usize, device: u8, scan: u16, code: u16, meta: u32) -> usize
+    requires { (90 ≤ end) × (end ≤ 1280) }
+    ensures within { (result ≤ end) × (end ≤ result + 90) }
+    ensures written { drop result line.new ≡ key device scan code meta ++ drop end line.old }
 {
-    add_labeled(text, "key ", u64::from(device))?;
-    add_labeled(text, " ", u64::from(scan))?;
-    add_labeled(text, " ", u64::from(code))?;
-    add_labeled(text, " ", u64::from(meta))
+    let at = prepend_labeled(line, end, " ", u64::from(meta));
+    let at = prepend_labeled(line, at, " ", u64::from(code));
+    let at = prepend_labeled(line, at, " ", u64::from(scan));
+    prepend_labeled(line, at, "key ", u64::from(device))
 }
 
-fn add_direction(text: &mut Vec<u8>, down: bool, flags: u32) -> Result<(), AllocError>
-    ensures { IfOk result (λ _. text.new.items
-        ≡ text.old.items ++ cond down (codes " DOWN ") (codes " UP" ++ canceled flags ++ codes " ")) }
+fn prepend_direction(line: &mut Room, end: usize, down: bool, flags: u32) -> usize
+    requires { (13 ≤ end) × (end ≤ 1280) }
+    ensures within { (result ≤ end) × (end ≤ result + 13) }
+    ensures written { drop result line.new
+        ≡ cond down (codes " DOWN ") (codes " UP" ++ canceled flags ++ codes " ") ++ drop end line.old }
 {
     if down {
-        return add_word(text, " DOWN ");
+        return prepend_word(line, end, " DOWN ");
     }
-    add_word(text, " UP")?;
-    add_canceled(text, flags)?;
-    add_word(text, " ")
+    let at = prepend_word(line, end, " ");
+    let at = prepend_canceled(line, at, flags);
+    prepend_word(line, at, " UP")
 }
 
 #[tactic(auto, unfolding(crate::specs::Spelling::key_end))]
-fn add_key_end(text: &mut Vec<u8>, down: bool, flags: u32, repeat: u32) -> Result<(), AllocError>
-    ensures { IfOk result (λ _. text.new.items ≡ text.old.items ++ key_end down flags repeat) }
+fn prepend_key_end(line: &mut Room, end: usize, down: bool, flags: u32, repeat: u32) -> usize
+    requires { (33 ≤ end) × (end ≤ 1280) }
+    ensures within { (result ≤ end) × (end ≤ result + 33) }
+    ensures written { drop result line.new ≡ key_end down flags repeat ++ drop end line.old }
 {
-    add_direction(text, down, flags)?;
-    add_number(text, u64::from(repeat))
+    let at = prepend_number(line, end, u64::from(repeat));
+    prepend_direction(line, at, down, flags)
 }
 
-fn add_key_message(text: &mut Vec<u8>, told: &KeyMsg) -> Result<(), AllocError>
-    ensures { IfOk result (λ _. text.new.items ≡ text.old.items ++ body (Body.Key told.now)) }
+fn prepend_key_message(line: &mut Room, end: usize, told: &KeyMsg) -> usize
+    requires { (123 ≤ end) × (end ≤ 1280) }
+    ensures within { (result ≤ end) × (end ≤ result + 123) }
+    ensures written { drop result line.new ≡ body (Body.Key told.now) ++ drop end line.old }
 {
-    add_key(
-        text,
+    let at = prepend_key_end(line, end, told.key.down, told.flags, told.repeat);
+    prepend_key(
+        line,
+        at,
         told.key.device.get(),
         told.key.scan,
         told.key.code,
         told.key.meta,
-    )?;
-    add_key_end(text, told.key.down, told.flags, told.repeat)
+    )
 }
 
-fn add_body(text: &mut Vec<u8>, told: &Body) -> Result<(), AllocError>
-    ensures { IfOk result (λ _. text.new.items ≡ text.old.items ++ body told.now) }
+fn prepend_body(line: &mut Room, end: usize, told: &Body) -> usize
+    requires { (1130 ≤ end) × (end ≤ 1280) }
+    ensures within { (result ≤ end) × (end ≤ result + 1130) }
+    ensures written { drop result line.new ≡ body told.now ++ drop end line.old }
 {
     match told {
-        Body::Motion(motion) => add_motion(text, motion),
-        Body::Key(key) => add_key_message(text, key),
-        Body::Focus(true) => add_word(text, "focus 1"),
-        Body::Focus(false) => add_word(text, "focus 0"),
+        Body::Motion(motion) => prepend_motion(line, end, motion),
+        Body::Key(key) => prepend_key_message(line, end, key),
+        Body::Focus(true) => prepend_word(line, end, "focus 1"),
+        Body::Focus(false) => prepend_word(line, end, "focus 0"),
     }
 }
 
 #[tactic(auto, unfolding(crate::specs::Spelling::numbered))]
-fn add_numbered(text: &mut Vec<u8>, seq: u64, moment: u64) -> Result<(), AllocError>
-    ensures { IfOk result (λ _. text.new.items ≡ text.old.items ++ numbered seq moment) }
+fn prepend_numbered(line: &mut Room, end: usize, seq: u64, moment: u64) -> usize
+    requires { (42 ≤ end) × (end ≤ 1280) }
+    ensures within { (result ≤ end) × (end ≤ result + 42) }
+    ensures written { drop result line.new ≡ numbered seq moment ++ drop end line.old }
 {
-    add_number(text, seq)?;
-    add_word(text, " ")?;
-    add_number(text, moment)?;
-    add_word(text, " ")
+    let at = prepend_word(line, end, " ");
+    let at = prepend_number(line, at, moment);
+    let at = prepend_word(line, at, " ");
+    prepend_number(line, at, seq)
 }
 
-fn add_message(text: &mut Vec<u8>, message: &Message) -> Result<(), AllocError>
-    ensures { IfOk result (λ _. text.new.items ≡ text.old.items ++ message_line message.now) }
+/// Makes the line of a message at the end of the place, and answers where it begins.
+fn prepend_message(line: &mut Room, message: &Message) -> usize
+    ensures within { result ≤ 1280 }
+    ensures written { drop result line.new ≡ message_line message.now }
 {
-    add_numbered(text, message.seq, message.moment.get())?;
-    add_body(text, &message.body)?;
-    add_word(text, "\n")
+    let at = prepend_word(line, ROOM, "\n");
+    let at = prepend_body(line, at, &message.body);
+    prepend_numbered(line, at, message.seq, message.moment.get())
 }
 
 /// Adds the lines of messages.
 pub(crate) fn add_messages(text: &mut Vec<u8>, messages: &[Message]) -> Result<(), AllocError>
     ensures { IfOk result (λ _. text.new.items ≡ text.old.items ++ message_lines messages.now) }
 {
+    let mut writer = LineWriter::new();
     for message in messages {
-        add_message(text, message)?;
+        writer.message(message, text)?;
     }
     Ok(())
 }
 
-/// Writes lines of messages, and keeps one buffer for them.
+/// Writes lines of messages, each of which it makes in one place that it keeps.
 #[derive(Drop)]
 pub struct LineWriter {
-    line: Vec<u8>,
+    line: Room,
 }
 
 impl LineWriter {
-    /// A writer that has no buffer yet.
-    pub fn new(alloc: Global) -> LineWriter {
-        LineWriter {
-            line: Vec::new(alloc),
-        }
+    /// A writer.
+    pub fn new() -> LineWriter {
+        LineWriter { line: [0; ROOM] }
     }
 
     /// Appends the line of a message. After want of memory `out` is as before.
@@ -182,9 +206,8 @@ impl LineWriter {
         ensures ok { OnOk result (out.new.items ≡ out.old.items ++ message_line message.now) }
         ensures err { OnErr result (out.new.items ≡ out.old.items) }
     {
-        self.line.clear();
-        add_message(&mut self.line, message)?;
-        out.extend_from_slice(&self.line)
+        let at = prepend_message(&mut self.line, message);
+        out.extend_from_slice(self.line.as_slice().split_at(at).1)
     }
 }
 
@@ -193,5 +216,5 @@ pub fn message_text(message: &Message, out: &mut Vec<u8>) -> Result<(), AllocErr
     ensures ok { OnOk result (out.new.items ≡ out.old.items ++ message_line message.now) }
     ensures err { OnErr result (out.new.items ≡ out.old.items) }
 {
-    LineWriter::new(*out.allocator()).message(message, out)
+    LineWriter::new().message(message, out)
 }

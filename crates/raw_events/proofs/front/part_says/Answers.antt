@@ -13,4 +13,4 @@ pub returns : goal.returns
 returns c =
     let none : c.in_ok-path.rest.now ≡ [] = nil_from_length c.in_ok-path.rest.now (eqb-true (length c.in_ok-path.rest.now) 0 (sym c.if-not-is_empty.ensures)) in
     part_is (known c.args.devices.now) c.args.part.now c.in_ok-past_blanks.field-0.now (option_map (λ p. p.now) c.in_ok-path.path) c.sender_of.result (sym c.in_ok-past_blanks.ensures)
-    (rw none at (sym c.in_ok-path.ensures)) (some_mapped (λ p. p.now) c.in_ok-path.path ∙ c.if-is_none.ensures) (sym c.sender_of.ensures)
+    (rw none at (sym c.in_ok-path.ensures)) (some_mapped (λ p. p.now) c.in_ok-path.path ∙ c.if-is_none.ensures) (sym c.sender_of.ensures) (c.is_unended.ensures c.if-not-is_unended.false)
