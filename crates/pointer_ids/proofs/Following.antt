@@ -2,7 +2,6 @@
 use Rattle.std.specs.Prelude.{◌≡◌, ◌≢◌, ℕ, suc, ◌+◌, ◌<◌, ◌≤◌, Bool, true, false, not, ◌&&◌, ℤ, List, [], ◌∷◌, ◌++◌, length, drop, get_or, Option, Some, None, if◌then◌else◌}
 use Rattle.std.specs.Ordering.{int_eq}
 use Rattle.std.proofs.Common.{sym, ◌∙◌, ap, refl, arith, append_assoc}
-use Rattle.std.proofs.lemmas.List.{append-nil, drop_all}
 use Rattle.std.proofs.lemmas.Bool.Decides.{Decides-int_eq}
 use Rattle.slot_accumulator.specs.declared.contacts.Contact.{Contact}
 use Rattle.slot_accumulator.specs.Contacts.{IsBeforeAll, AreContacts}
@@ -124,9 +123,3 @@ one_moved done ns cs i n c fingers_left contacts_left =
     ∙ ap (λ xs. done ++ xs)
     (sym (ap (λ xs. moved xs (drop i cs)) (drop_at ns i n fingers_left)
     ∙ ap (λ xs. moved (get_or ns i n ∷ drop (i + 1) ns) xs) (drop_at cs i c contacts_left)))
-
--- none is left
-pub all_moved : (done ns : List Named) (cs : List Contact) (i : ℕ) → length ns ≤ i
-    → done ++ moved (drop i ns) (drop i cs) ≡ moved ns cs → done ≡ moved ns cs
-all_moved done ns cs i le h =
-    sym (ap (λ xs. done ++ moved xs (drop i cs)) (drop_all i ns le) ∙ append-nil done) ∙ h

@@ -7,7 +7,7 @@ ghost use Rattle.pointer_ids.specs.PointerIds.{named_from, named as named_in, na
 ghost use Rattle.pointer_ids.specs.PointerIds.{some_palm, held, by_id, assigned, finger_at, ArePlaces};
 
 use crate::assigned::{Assigned, Held};
-use crate::moved::{are_same, put_moved};
+use crate::moved::{are_same, move_fingers};
 use crate::named::{Named, NamedList};
 use bits32::Bits32;
 use input_types::PointerId;
@@ -90,9 +90,7 @@ fn name_next(last: &mut NamedList, now: &Contacts) -> Bits32
     ensures cancelled { (k : ℕ) → is_in k result ≡ is_cancelled last.old now.now k }
 {
     if are_same(last.as_slice(), now.as_slice()) {
-        let mut moved = NamedList::empty();
-        put_moved(last.as_slice(), now, &mut moved);
-        *last = moved;
+        move_fingers(last, now);
         return Bits32::empty();
     }
     let ids = cancelled(last.as_slice(), now.as_slice());

@@ -1,5 +1,5 @@
 //! Packets whose fingers are those of the packet before: they only moved.
-ghost use Rattle.std.specs.Prelude.{◌≡◌, [], true, not, ◌&&◌};
+ghost use Rattle.std.specs.Prelude.{◌≡◌, true, not, ◌&&◌};
 ghost use Rattle.std.specs.Ordering.{int_eq};
 ghost use Rattle.pointer_ids.specs.PointerIds.{named as named_in};
 ghost use Rattle.pointer_ids.specs.Following.{are_same as same_fingers};
@@ -31,14 +31,14 @@ fn is_same(finger: &Named, contact: &Contact) -> bool
     finger.tracking == contact.tracking && !contact.palm
 }
 
-/// Puts the fingers of a packet with their ids into a list that has none, where they only moved.
-pub(crate) fn put_moved(before: &[Named], now: &Contacts, named: &mut NamedList)
-    requires same { same_fingers before.now now.now ≡ true }
-    requires empty { named.old ≡ [] }
-    ensures { named.new ≡ named_in before.now now.now }
+/// Puts the fingers where a packet has them, where they only moved.
+pub(crate) fn move_fingers(named: &mut NamedList, now: &Contacts)
+    requires { same_fingers named.old now.now ≡ true }
+    ensures { named.new ≡ named_in named.old now.now }
 {
     let contacts = now.as_slice();
     for i in 0..now.len() {
-        named.push(name(&contacts[i], before[i].id));
+        let id = named.as_slice()[i].id;
+        named.set(i, name(&contacts[i], id));
     }
 }

@@ -18,3 +18,11 @@ table_put nothing items used x h lt =
           ∙ drop-replicate 1 (16 - used) nothing
           ∙ ap (λ n. replicate n nothing) (omega arith);
     }
+
+-- an element that is set in a place in use leaves the others as they are
+pub table_set : {A : Type 0} (nothing : A) (items : List A) (used i : ℕ) (x : A) → IsTable nothing items used → i < used → IsTable nothing (set items i x) used
+table_set nothing items used i x h lt = record {
+  whole = length-set items i x ∙ h.whole;
+  within = h.within;
+  rest = drop-set-lt used items i x lt ∙ h.rest;
+}

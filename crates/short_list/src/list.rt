@@ -1,5 +1,5 @@
 //! The list and its calls.
-ghost use Rattle.std.specs.Prelude.{◌≡◌, ◌+◌, ◌<◌, ◌≤◌, ◌==◌, [], ◌∷◌, ◌++◌, length, slice_get};
+ghost use Rattle.std.specs.Prelude.{◌≡◌, ◌+◌, ◌<◌, ◌≤◌, ◌==◌, [], ◌∷◌, ◌++◌, length, slice_get, slice_set};
 
 use crate::blank::Blank;
 use std::alloc::AllocError;
@@ -82,6 +82,15 @@ impl<T: Blank> ShortList<T> {
         ensures range { length result.now ≤ 16 }
     {
         &self.items[..usize::from(self.used)]
+    }
+
+    /// Sets the element at index `i`, counted from 0; nothing changes where `i` is not below `len`.
+    pub fn set(&mut self, i: usize, item: T)
+        ensures { self.new ≡ slice_set self.old i item }
+    {
+        if i < self.len() {
+            self.items[i] = item;
+        }
     }
 
     /// Puts an element behind the others.
