@@ -118,7 +118,7 @@ further_first f g c first (Some m) here others gone h =
     first_with f g m c first here others h (nothing_off m c first (not_first f c first gone h))
 
 -- a mask without a channel has the others
-kept : (c mask later : ℕ) → ((k : ℕ) → mask_has later k ≡ (not (k == c) && mask_has mask k)) → (k : ℕ) → k ≢ c
+pub kept : (c mask later : ℕ) → ((k : ℕ) → mask_has later k ≡ (not (k == c) && mask_has mask k)) → (k : ℕ) → k ≢ c
     → mask_has later k ≡ mask_has mask k
 kept c mask later without k other = without k ∙ ap (λ b. not b && mask_has mask k) (ne_eqb k c other)
 

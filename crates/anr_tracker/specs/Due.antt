@@ -1,5 +1,5 @@
 -- Which channel is due first.
-use Rattle.std.specs.Prelude.{◌≡◌, ℕ, zero, suc, Bool, false, ◌&&◌, ◌||◌, nat_eq, nat_lt, List, length, slice_index_or, Option, Some, None, if◌then◌else◌}
+use Rattle.std.specs.Prelude.{◌≡◌, ◌≤◌, ℕ, zero, suc, Bool, false, ◌&&◌, ◌||◌, nat_eq, nat_lt, List, length, slice_index_or, Option, Some, None, if◌then◌else◌}
 use Rattle.window_snapshot.specs.Mask.{mask_has}
 
 -- when a channel is due, by a table that begins with channel 1
@@ -36,6 +36,20 @@ sooner_of (Some p) q = if is_before q p then q else p
 abbrev pub further : Option (ℕ × ℕ) → (due : Option ℕ) → ℕ → Option (ℕ × ℕ)
 further first None c = first
 further first (Some m) c = Some (sooner_of first (m, c))
+
+-- the moment of what comes first, 0 where nothing does
+abbrev pub moment_of : Option (ℕ × ℕ) → ℕ
+moment_of None = 0
+moment_of (Some p) = p.0
+
+-- a channel with this due is due at the moment
+abbrev pub is_at : Option ℕ → (moment : ℕ) → Bool
+is_at None moment = false
+is_at (Some due) moment = nat_eq due moment
+
+-- no channel is due before the moment
+abbrev pub NoneBelow : (ℕ → Option ℕ) → (moment : ℕ) → Type 0
+NoneBelow due moment = (c at : ℕ) → due c ≡ Some at → moment ≤ at
 
 -- a table of 64 channels, what comes first in it, and a mask outside of which no channel is due
 pub record IsTable (dues : List (Option ℕ)) (first : Option (ℕ × ℕ)) (pending : ℕ) : Type 0 where

@@ -1,7 +1,7 @@
 //! The map from channels to due moments.
 ghost use Rattle.std.specs.Prelude.{◌≡◌, ℕ, ◌-◌, ◌≤◌, false, None, Some, replicate, slice_set};
 ghost use Rattle.window_snapshot.specs.Mask.{mask_has};
-ghost use Rattle.anr_tracker.specs.Due.{due_of, IsFirst, is_before, is_of, is_put_off, sooner_of, further};
+ghost use Rattle.anr_tracker.specs.Due.{due_of, IsFirst, NoneBelow, is_at, is_before, is_of, is_put_off, moment_of, sooner_of, further};
 
 use std::marker::Model;
 use window_snapshot::{mask_first, mask_with, mask_without};
@@ -48,7 +48,7 @@ impl Tracker {
         self.dues[channel as usize - 1] = Some(due);
         self.pending = mask_with(self.pending, channel);
         if is_put_off(self.first, (due, channel)) {
-            self.first = first_of(&self.dues, self.pending);
+            self.first = first_of(&self.dues, self.pending, moment_of(self.first));
         } else {
             self.first = Some(sooner(self.first, (due, channel)));
         }
@@ -62,7 +62,7 @@ impl Tracker {
         self.dues[channel as usize - 1] = None;
         self.pending = mask_without(self.pending, channel);
         if is_of(self.first, channel) {
-            self.first = first_of(&self.dues, self.pending);
+            self.first = first_of(&self.dues, self.pending, moment_of(self.first));
         }
     }
 
@@ -97,6 +97,16 @@ fn is_of(first: Option<(u64, u32)>, channel: u32) -> bool
     match first {
         Some(first) => first.1 == channel,
         None => false,
+    }
+}
+
+/// The moment of what comes first; 0 where nothing does.
+fn moment_of(first: Option<(u64, u32)>) -> u64
+    ensures { result ≡ moment_of first }
+{
+    match first {
+        Some(first) => first.0,
+        None => 0,
     }
 }
 
@@ -145,16 +155,34 @@ fn further(first: Option<(u64, u32)>, due: Option<u64>, channel: u32) -> Option<
     }
 }
 
+/// Whether a channel with this due is due at the moment.
+fn is_at(due: Option<u64>, moment: u64) -> bool
+    ensures { result ≡ is_at due moment }
+{
+    match due {
+        Some(due) => due == moment,
+        None => false,
+    }
+}
+
 /// The pair that comes first, looked for in a mask outside of which no channel is due.
-fn first_of(dues: &[Option<u64>; 64], pending: u64) -> Option<(u64, u32)>
-    requires { (c : ℕ) → mask_has pending c ≡ false → due_of dues.now c ≡ None }
+///
+/// No channel is due before the moment `least`, so that the first one that is due at it ends the search: channels that
+/// were told at one step are mostly due at one moment.
+fn first_of(dues: &[Option<u64>; 64], pending: u64, least: u64) -> Option<(u64, u32)>
+    requires out { (c : ℕ) → mask_has pending c ≡ false → due_of dues.now c ≡ None }
+    requires least { NoneBelow (due_of dues.now) least }
     ensures { IsFirst (due_of dues.now) result }
 {
     let mut first = None;
     let mut rest = pending;
     while rest != 0 {
         let channel = mask_first(rest);
-        first = further(first, due_at(dues, channel), channel);
+        let due = due_at(dues, channel);
+        if is_at(due, least) {
+            return Some((least, channel));
+        }
+        first = further(first, due, channel);
         rest = mask_without(rest, channel);
     }
     first

@@ -1,6 +1,8 @@
 //! What a window was told, as far as it has not ended.
 ghost use Rattle.std.specs.Prelude.{◌≡◌, ◌+◌, ◌≤◌, ◌<◌, ℕ, not, [], length, IfOk, OnOk, OnErr, IsOk, vec_len, vec_capacity};
 ghost use Rattle.bits32.specs.Set.{is_in};
+ghost use Rattle.routing_rules.specs.Told.{listing, plain};
+ghost use Rattle.input_types.specs.declared.motion.MotionAction.TheVariants.{Move};
 ghost use Rattle.input_types.specs.declared.message.Body.TheVariants.{Motion as MotionBody};
 ghost use Rattle.cancel_synthesis.specs.Cancelling.{still_told};
 ghost use Rattle.cancel_synthesis.specs.Tracked.{Tracks, pointers_of, pointers_in, pointers_then};
@@ -12,7 +14,7 @@ use crate::held_keys::{cancel_device_keys_into, cancel_each_key, cancel_keys_int
 use crate::pointers::{cancel_devices, pointers_after};
 use bits32::Bits32;
 use input_types::{Body, DeviceId, KeyMsg, Motion, MotionAction, Pointers};
-use split_motion::{part, part_but};
+use split_motion::{part, part_but, part_into};
 use std::alloc::{AllocError, Global};
 use std::marker::Model;
 
@@ -104,6 +106,14 @@ impl InputState {
         self.spare = self.spare.saturating_sub(1);
     }
 
+    /// The window is told that pointers of a device move: those of a list that have these ids. Takes no memory.
+    pub fn track_moves(&mut self, device: DeviceId, pointers: &Pointers, ids: Bits32)
+        ensures { Tracks self.old self.new (MotionBody (plain device Move (listing (λ i. is_in i ids) pointers.now))) }
+    {
+        set_moved(&mut self.pointers, device, pointers, ids);
+        self.spare = self.spare.saturating_sub(1);
+    }
+
     /// What the window is told where pointers of a device with these ids are taken from it, one motion after the
     /// other. Takes no memory.
     pub fn cancels(&self, device: DeviceId, lost: Bits32) -> Cancels
@@ -192,6 +202,15 @@ fn set_pointers(pointers: &mut [Pointers; 8], motion: &Motion)
             pointers[place] = pointers_after(motion, &pointers[place]);
         }
     }
+}
+
+/// Sets the pointers of a device to those of a list that have these ids.
+fn set_moved(pointers: &mut [Pointers; 8], device: DeviceId, listed: &Pointers, ids: Bits32)
+    ensures { (d : ℕ) → pointers_in pointers.new d
+        ≡ pointers_then (MotionBody (plain device Move (listing (λ i. is_in i ids) listed.now))) d
+        (pointers_in pointers.old d) }
+{
+    part_into(&mut pointers[usize::from(device.get()) - 1], listed, ids);
 }
 
 /// Keeps the message of a key that is down, and forgets that of one that is up.

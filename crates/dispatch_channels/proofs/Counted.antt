@@ -17,3 +17,9 @@ ends_counted o (x ∷ xs) zero p rises within is = tt
 ends_counted o (x ∷ []) (suc i) p rises within is = absurd (omega (arith, within))
 ends_counted o (x ∷ y ∷ ps) (suc zero) p rises within is = let Above : Pointer → Type 0 = λ q. x.id < q.id in subst Above (sym is) rises.0
 ends_counted o (x ∷ y ∷ ps) (suc (suc i)) p rises within is = ends_counted o (y ∷ ps) (suc i) p rises.1 (omega (arith, within)) is
+
+-- counted from an origin a list ends where it ended
+pub ends_still : (o : Pixel) (ps : List Pointer) (n : ℕ) → EndsBelow ps n → EndsBelow (map (counted o) ps) n
+ends_still o [] n e = tt
+ends_still o (p ∷ []) n e = e
+ends_still o (p ∷ q ∷ ps) n e = ends_still o (q ∷ ps) n e

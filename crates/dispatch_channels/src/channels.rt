@@ -10,6 +10,7 @@ ghost use Rattle.dispatch_channels.specs.Table.{opened, IsOpened, channel_of, in
 ghost use Rattle.dispatch_channels.specs.Changes.{OpensOrNot, Tells, MayPublish, Publishes, finished_in, named_in, removed_in};
 
 mod asked;
+mod moves;
 
 use crate::due::{clear_all, due_channels, due_in, set_due};
 use crate::heard::{body_from, motion_from};

@@ -3,9 +3,13 @@ ghost use Rattle.std.specs.Prelude.{◌≡◌, ◌∷◌, [], ◌++◌, ◌<◌,
 ghost use Rattle.input_types.specs.Pointers.{EndsBelow};
 ghost use Rattle.dispatch_history.specs.Said.{motion_from};
 ghost use Rattle.window_snapshot.specs.Origins.{place_from};
+ghost use Rattle.bits32.specs.Set.{is_in};
+ghost use Rattle.routing_rules.specs.Told.{listing, plain};
+ghost use Rattle.input_types.specs.declared.motion.MotionAction.TheVariants.{Move};
 ghost use Rattle.dispatch_channels.specs.Heard.{body_from};
 
-use input_types::{Body, Motion, Pixel, Pointer, Pointers, PushRefused};
+use bits32::Bits32;
+use input_types::{Body, Motion, MotionAction, Pixel, Pointer, Pointers, PushRefused};
 
 /// A body in display pixels, with the places of a motion counted from an origin.
 pub(crate) fn body_from(origin: Pixel, body: &Body) -> Body
@@ -43,6 +47,38 @@ fn pointers_from(origin: Pixel, pointers: &Pointers) -> Pointers
         put(&mut moved, Pointer { id: pointer.id, at });
     }
     moved
+}
+
+/// The Move of those pointers of a motion that have these ids, with their places counted from an origin.
+#[inline(always)]
+pub(crate) fn moves_from(origin: Pixel, motion: &Motion, ids: Bits32) -> Motion
+    ensures { let moving = listing (λ i. is_in i ids) motion.now.pointers in
+        result ≡ motion_from origin (plain motion.now.device Move moving) }
+{
+    let mut moved = Motion {
+        device: motion.device,
+        action: MotionAction::Move,
+        index: 0,
+        flags: 0,
+        pointers: Pointers::empty(),
+    };
+    part_from(&mut moved.pointers, origin, &motion.pointers, ids);
+    moved
+}
+
+/// Fills a list with the pointers that have these ids, with their places counted from an origin.
+#[inline(always)]
+fn part_from(moved: &mut Pointers, origin: Pixel, pointers: &Pointers, ids: Bits32)
+    requires { moved.old ≡ [] }
+    ensures { moved.new
+        ≡ map (λ p. record { id = p.id; at = place_from origin p.at }) (listing (λ i. is_in i ids) pointers.now) }
+{
+    for pointer in pointers.as_slice() {
+        if ids.has(pointer.id.get()) {
+            let at = place_from(origin, pointer.at);
+            put(moved, Pointer { id: pointer.id, at });
+        }
+    }
 }
 
 /// A place counted from an origin, kept at the ends of its type.

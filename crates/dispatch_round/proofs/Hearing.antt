@@ -33,6 +33,10 @@ use Rattle.dispatch_round.proofs.Saying.{tells_none, tells_then, hears_after, he
 use Rattle.dispatch_round.proofs.Cancelling.{found_few, all_losses_few, pilfered_few}
 use Rattle.dispatch_round.proofs.Ruling.{found_all, lost_all, pilfered_all, none_all}
 
+-- what holds of a value where there is one
+pub of_some : {A : Type 0} (P : A → Type 0) (o : Option A) (x : A) → o ≡ Some x → IfSome o P → P x
+of_some P o x e h = subst (λ q. IfSome q P) e h
+
 -- at a motion what was found for its device
 pub hears_found : (r : Round) (us : List Touches) (to : Listener) (t u : Table) (m : Motion) (x : Tells) (before : ℕ) (watches : Bool) (lost : Option (List ℕ))
     → option_copied r.motion ≡ Some m → 1 ≤ m.device → m.device ≤ 8 → watches ≡ mask_has r.watchers to.window

@@ -1,9 +1,9 @@
 -- The windows of a mask are told something, one after another.
-use Rattle.std.specs.Prelude.{◌≡◌, ◌≤◌, ℕ, Bool, true, false, List, Option}
+use Rattle.std.specs.Prelude.{◌≡◌, ◌≤◌, ℕ, Bool, true, false, List, Option, IfSome}
 use Rattle.input_types.specs.declared.axis.Pixel.{Pixel}
 use Rattle.routing_rules.specs.Scene.{Scene, Step}
 use Rattle.touch_state.specs.Touches.{Touches}
-use Rattle.route_split.specs.Marking.{IsChanged}
+use Rattle.route_split.specs.Marking.{IsChanged, AreLosses}
 use Rattle.dispatch_channels.specs.Table.{Table, opened, channel_of, input_of}
 use Rattle.dispatch_round.specs.declared.round.Round.{Round}
 use Rattle.dispatch_round.specs.Bodies.{TracksAll}
@@ -30,3 +30,10 @@ pub record HearsEach
   pub live_is : new.live ≡ old.live
   pub able_is : new.able ≡ old.able
   pub namings_are : new.namings ≡ old.namings
+
+-- the same, by what windows lost with the mark of the round, where one pilfers
+pub record HearsChanged
+    (r : Round) (before ts : List Touches) (hear : ℕ → Bool) (origins : List Pixel) (clock : ℕ) (old new : Table) : Type 0 where
+  pub losses : Option (List ℕ)
+  pub losses_are : IfSome losses (AreLosses before r.mark)
+  pub hears : HearsEach r ts losses hear origins clock old new

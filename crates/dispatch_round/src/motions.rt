@@ -1,5 +1,5 @@
 //! One window is told the motions of a step.
-ghost use Rattle.std.specs.Prelude.{◌≡◌, ◌≤◌, ℕ, true, ◌==◌, length, map, flat_map};
+ghost use Rattle.std.specs.Prelude.{◌≡◌, ◌≤◌, ℕ, true, ◌==◌, List, Option, Some, length, map, flat_map};
 ghost use Rattle.std.specs.List.{list_any};
 ghost use Rattle.std.specs.Option.{option_copied};
 ghost use Rattle.bits32.specs.Set.{is_in};
@@ -13,7 +13,7 @@ ghost use Rattle.dispatch_round.specs.Saying.{CanHear, TellsOne, HearsMotions, l
 use crate::devices::device_at;
 use crate::listener::Listener;
 use crate::round::Round;
-use crate::say::{say_cancels, say_found};
+use crate::say::{say_cancels, say_found, say_moves};
 use bits32::Bits32;
 use dispatch_channels::Channels;
 use input_types::{DeviceId, Motion, Pointers};
@@ -84,6 +84,31 @@ fn say_pilfered(to: &Listener, mark: &Mark, losses: &Losses, channels: &mut Chan
     }
 }
 
+/// Tells what the rules say of the motion of a step, where the window held these ids before. It is not inlined: most
+/// motions only move.
+#[inline(never)]
+fn say_told(
+    to: &Listener,
+    round: &Round,
+    motion: &Motion,
+    touches: &Touches,
+    before: Bits32,
+    channels: &mut Channels,
+)
+    requires motion { option_copied round.now.motion ≡ Some motion.now }
+    requires before { (i : ℕ) → is_in i before
+        ≡ list_any (λ p. p.id == i) (pointers_of (input_of channels.old to.now.window) motion.now.device) }
+    requires room { let input = input_of channels.old to.now.window in
+        CanHear to.now.window (most_motions (option_copied round.now.motion) input) channels.old }
+    ensures { (lost : Option (List ℕ)) → HearsMotions round.now touches.now lost to.now channels.old channels.new }
+{
+    // Read for its clause alone: devices have the numbers 1 to 8, which contracts do not see of the type.
+    let _number = motion.device.get();
+    let watches = mask_has(round.watchers, to.window);
+    let tells = touches.tells(motion, to.window, before, watches);
+    say_found(to, motion.device, &tells, channels);
+}
+
 /// Tells the motions of a step, by which the tables of touches have changed.
 pub(crate) fn say_motions(
     to: &Listener,
@@ -101,9 +126,10 @@ pub(crate) fn say_motions(
             // Read for its clause alone: devices have the numbers 1 to 8, which contracts do not see of the type.
             let _number = motion.device.get();
             let before = ids_of(channels.input(to.window).pointers(motion.device));
-            let watches = mask_has(round.watchers, to.window);
-            let tells = touches.tells(motion, to.window, before, watches);
-            say_found(to, motion.device, &tells, channels);
+            match touches.moving(motion, to.window, before) {
+                Some(ids) => say_moves(to, motion, ids, channels),
+                None => say_told(to, round, motion, touches, before, channels),
+            }
         }
         None => match losses {
             Some(losses) => say_pilfered(to, &round.mark, losses, channels),

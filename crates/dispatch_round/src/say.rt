@@ -1,6 +1,8 @@
 //! One window is told motions of a device, keys, or a change of its focus. None of this takes memory.
 ghost use Rattle.std.specs.Prelude.{◌≡◌, max, [], ◌∷◌, map, length};
 ghost use Rattle.input_types.specs.declared.message.Body.TheVariants.{Motion as MotionBody, Key as KeyBody, Focus as FocusBody};
+ghost use Rattle.input_types.specs.declared.motion.MotionAction.TheVariants.{Move};
+ghost use Rattle.routing_rules.specs.Told.{listing, plain};
 ghost use Rattle.bits32.specs.Set.{is_in};
 ghost use Rattle.cancel_synthesis.specs.Cancelling.{still_told};
 ghost use Rattle.cancel_synthesis.specs.Ends.{pointers_cancelled};
@@ -30,6 +32,16 @@ fn say_motion(to: &Listener, motion: &Motion, channels: &mut Channels)
     ensures { TellsOne to.now (MotionBody motion.now ∷ []) channels.old channels.new }
 {
     channels.tell_motion(to.window, motion, to.origin, to.clock);
+}
+
+/// Tells that the pointers of a motion with these ids move.
+pub(crate) fn say_moves(to: &Listener, motion: &Motion, ids: Bits32, channels: &mut Channels)
+    requires { CanHear to.now.window 1 channels.old }
+    ensures { TellsOne to.now
+        (MotionBody (plain motion.now.device Move (listing (λ i. is_in i ids) motion.now.pointers)) ∷ [])
+        channels.old channels.new }
+{
+    channels.tell_moves(to.window, motion, ids, to.origin, to.clock);
 }
 
 /// Tells the cancels of pointers that are taken from the window, one after the other.

@@ -10,7 +10,7 @@ ghost use Rattle.dispatch_channels.specs.Table.{opened, channel_of, input_of};
 ghost use Rattle.dispatch_round.specs.Rounds.{IsRound, AllHoldPointers, told_in, most_bodies};
 ghost use Rattle.dispatch_round.specs.Rounds.{HasRoom, IsReady, IsLeft, AreListeners, IsTimely};
 ghost use Rattle.dispatch_round.specs.Saying.{CanHear, HearsRound, Spends};
-ghost use Rattle.dispatch_round.specs.Each.{HearsEach};
+ghost use Rattle.dispatch_round.specs.Each.{HearsEach, HearsChanged};
 ghost use Rattle.dispatch_round.specs.Told.{TellsAll};
 
 use crate::listener::Listener;
@@ -22,7 +22,7 @@ use dispatch_channels::{Channels, first_of, without};
 use input_types::{Moment, Pixel};
 use key_tables::focus_change;
 use pilfer_monitor::Losses;
-use route_split::Touches;
+use route_split::{Mark, Touches};
 
 /// One window is told all of a step: motions, then keys, then a change of its focus.
 fn tell_one(
@@ -71,6 +71,71 @@ fn tell_each(
     }
 }
 
+/// Changes the tables of touches by the mark of the step, at its place, and tells the windows of a mask.
+fn change_and_tell(
+    told: u64,
+    clock: Moment,
+    origins: &[Pixel; 64],
+    round: &Round,
+    touches: &mut Touches,
+    channels: &mut Channels,
+    place: u64,
+)
+    requires whole { IsWhole round.now.mark }
+    requires opened { (w : ℕ) → mask_has told w ≡ true → w ≤ opened channels.old }
+    requires live { (w : ℕ) → mask_has told w ≡ true → mask_has channels.old.live w ≡ true }
+    requires room { (w : ℕ) → mask_has told w ≡ true → HasRoom round.now channels.old w }
+    ensures changes { let k = round.now.mark in
+        ChangesAll touches.old touches.new (gives k) (takes (taking touches.old k)) place
+        (pilfers (taking touches.old k)) }
+    ensures told { HearsChanged round.now touches.old touches.new (mask_has told) origins.now clock
+        channels.old channels.new }
+{
+    match round.mark {
+        Mark::Pilfer { .. } => pilfer_and_tell(
+            told, clock, origins, round, touches, channels, place,
+        ),
+        _ => {
+            touches.change_plain(&round.mark, place);
+            tell_each(told, clock, origins, round, touches, None, channels);
+        }
+    }
+}
+
+/// The same of a mark with which a window may pilfer. It is not inlined: the list of what each window lost is large,
+/// and seldom made.
+#[inline(never)]
+fn pilfer_and_tell(
+    told: u64,
+    clock: Moment,
+    origins: &[Pixel; 64],
+    round: &Round,
+    touches: &mut Touches,
+    channels: &mut Channels,
+    place: u64,
+)
+    requires whole { IsWhole round.now.mark }
+    requires opened { (w : ℕ) → mask_has told w ≡ true → w ≤ opened channels.old }
+    requires live { (w : ℕ) → mask_has told w ≡ true → mask_has channels.old.live w ≡ true }
+    requires room { (w : ℕ) → mask_has told w ≡ true → HasRoom round.now channels.old w }
+    ensures changes { let k = round.now.mark in
+        ChangesAll touches.old touches.new (gives k) (takes (taking touches.old k)) place
+        (pilfers (taking touches.old k)) }
+    ensures told { HearsChanged round.now touches.old touches.new (mask_has told) origins.now clock
+        channels.old channels.new }
+{
+    let losses = touches.change(&round.mark, place);
+    tell_each(
+        told,
+        clock,
+        origins,
+        round,
+        touches,
+        losses.as_ref(),
+        channels,
+    );
+}
+
 /// Changes the tables of touches by the mark of the step, at its place, tells the windows of the mask `told` what the
 /// rules of the step say, and publishes it at the clock. Takes no memory.
 ///
@@ -101,15 +166,6 @@ pub fn tell_all(
     ensures gone { (c : ℕ) → 1 ≤ c → (channel_of channels.new c).gone ≡ (channel_of channels.old c).gone }
     ensures namings { channels.new.namings ≡ channels.old.namings }
 {
-    let losses = touches.change(&round.mark, place);
-    tell_each(
-        told,
-        clock,
-        origins,
-        round,
-        touches,
-        losses.as_ref(),
-        channels,
-    );
+    change_and_tell(told, clock, origins, round, touches, channels, place);
     channels.publish(told, clock);
 }

@@ -1,3 +1,4 @@
+pub mod Briefly
 pub mod QueueLaws
 pub mod ShownLaws
 pub mod Pointed

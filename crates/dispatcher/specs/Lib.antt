@@ -1,3 +1,4 @@
+pub mod Briefs
 pub mod Queue
 pub mod Shown
 pub mod Pointing

@@ -1,11 +1,12 @@
 //! How each call is answered.
 ghost use Rattle.std.specs.Prelude.{◌≡◌, ◌<◌, ◌≤◌, ◌+◌, ◌^◌, ℕ, suc, true, false, List, None, Some, slice_get, if◌then◌else◌};
 ghost use Rattle.std.specs.Prelude.{IfOk, OnOk, OnErr, IsOk, IfSome};
-ghost use Rattle.dispatch_calls.specs.declared.call.Call.TheVariants.{Notify, Pump};
+ghost use Rattle.dispatch_calls.specs.declared.call.Call.TheVariants.{Notify, Pump, Receive, Finish, Remove};
 ghost use Rattle.dispatch_history.specs.Effect.{Effect};
 ghost use Rattle.dispatch_history.specs.PointerOf.{RisesIn};
 ghost use Rattle.dispatch_round.specs.Rounds.{IsTimely};
 ghost use Rattle.dispatch_calls.specs.declared.reply.Reply.TheVariants.{Inconsistent, Dispatched, Repeated, Idle};
+ghost use Rattle.dispatcher.specs.Briefs.{reply_of};
 ghost use Rattle.dispatcher.specs.Memory.{IsCalm, MayCount};
 ghost use Rattle.dispatcher.specs.Needing.{NeedsNone};
 ghost use Rattle.dispatcher.specs.Queueing.{args_in, is_input, is_pump};
@@ -13,6 +14,7 @@ ghost use Rattle.dispatcher.specs.Roomy.{HasPumpRoom, KeepsPromise};
 ghost use Rattle.dispatcher.specs.Tables.{TablesStandFor, MayStep, GoesAs, Pumps, GoesOn, is_routed, is_owned};
 ghost use Rattle.dispatcher.specs.Tables.{SameButRoom, SameAll};
 
+use crate::brief::{Brief, reply_of, told};
 use crate::focusing::{open, request, show};
 use crate::key_steps::{repeat, route_key, route_reset};
 use crate::motions::{pilfer, route_motion};
@@ -25,8 +27,8 @@ use std::alloc::AllocError;
 
 /// Answers a call. Without memory nothing changes but the room that channels have.
 ///
-/// It is not inlined: a reply has the size of a message, and where branches that make one meet inside of another
-/// function it is copied once more for each.
+/// It is not inlined: a reply has the size of a message, and is copied whole where branches meet that make one. So the
+/// calls that come with each motion return by themselves.
 #[inline(never)]
 pub(crate) fn apply(tables: &mut Tables, call: &Call) -> Result<Reply, AllocError>
     requires { (es : List Effect) × TablesStandFor es tables.old }
@@ -44,17 +46,22 @@ pub(crate) fn apply(tables: &mut Tables, call: &Call) -> Result<Reply, AllocErro
         return Err(AllocError);
     }
     match call {
-        Call::Notify { now, args } => notify(tables, *now, args),
-        Call::Pump { now } => pump(tables, *now),
-        Call::Receive { .. } | Call::Finish { .. } | Call::Remove { .. } => Ok(own(tables, call)),
-        _ => route(tables, call),
+        Call::Notify { now, args } => return told(notify(tables, *now, args)),
+        Call::Pump { now } => return told(pump(tables, *now)),
+        Call::Receive { channel } => return Ok(receive_next(tables, *channel)),
+        Call::Finish { now, channel, seq } => {
+            return Ok(reply_of(finish_one(tables, *now, *channel, *seq)));
+        }
+        Call::Remove { now, channel } => return Ok(reply_of(remove_one(tables, *now, *channel))),
+        _ => {}
     }
+    route(tables, call)
 }
 
 /// Args of a device are put behind those that wait, where they may follow what is down on it.
-fn notify(tables: &mut Tables, now: Moment, args: &Args) -> Result<Reply, AllocError>
+pub(crate) fn notify(tables: &mut Tables, now: Moment, args: &Args) -> Result<Brief, AllocError>
     requires { MayStep tables.old }
-    ensures ok { IfOk result (λ answer. GoesOn (Notify now args.now) answer tables.old tables.new) }
+    ensures ok { IfOk result (λ answer. GoesOn (Notify now args.now) (reply_of answer) tables.old tables.new) }
     ensures err { OnErr result (SameAll tables.old tables.new) }
     ensures reserved { 1 ≤ tables.old.queueing.spare → IsOk result }
     ensures promise { KeepsPromise tables.old → KeepsPromise tables.new }
@@ -64,7 +71,7 @@ fn notify(tables: &mut Tables, now: Moment, args: &Args) -> Result<Reply, AllocE
     match tables.queueing.plan(args) {
         Ok(change) => {
             tables.queueing.accept(now, args, &change)?;
-            Ok(Reply::Taken)
+            Ok(Brief::Taken)
         }
         Err(refused) => {
             let reply = refusal(refused.pointers, refused.key_down);
@@ -75,11 +82,11 @@ fn notify(tables: &mut Tables, now: Moment, args: &Args) -> Result<Reply, AllocE
 }
 
 /// What is told of args that may not come.
-fn refusal(pointers: u32, key_down: bool) -> Reply
-    ensures reply { result ≡ Inconsistent pointers key_down }
+fn refusal(pointers: u32, key_down: bool) -> Brief
+    ensures reply { reply_of result ≡ Inconsistent pointers key_down }
     ensures small { pointers < 2 ^ 32 }
 {
-    Reply::Inconsistent { pointers, key_down }
+    Brief::Inconsistent { pointers, key_down }
 }
 
 /// The pointers of args have rising ids, as those of every motion. It does nothing: of the list alone contracts do not
@@ -93,9 +100,9 @@ fn rises(now: Moment, args: &Args)
 }
 
 /// The first args that wait are dispatched; where none wait, a key that is held is repeated.
-fn pump(tables: &mut Tables, now: Moment) -> Result<Reply, AllocError>
+pub(crate) fn pump(tables: &mut Tables, now: Moment) -> Result<Brief, AllocError>
     requires { MayStep tables.old }
-    ensures ok { IfOk result (λ answer. GoesOn (Pump now) answer tables.old tables.new) }
+    ensures ok { IfOk result (λ answer. GoesOn (Pump now) (reply_of answer) tables.old tables.new) }
     ensures err { OnErr result (SameAll tables.old tables.new) }
     ensures calm { (es : List Effect) → TablesStandFor es tables.old → IsCalm es (Pump now) → IsOk result }
     ensures promise { KeepsPromise tables.old → KeepsPromise tables.new }
@@ -106,7 +113,7 @@ fn pump(tables: &mut Tables, now: Moment) -> Result<Reply, AllocError>
         return idle(tables, now);
     }
     dispatch_first(tables, now)?;
-    Ok(Reply::Dispatched)
+    Ok(Brief::Dispatched)
 }
 
 /// The first args that wait are dispatched.
@@ -144,10 +151,10 @@ fn dispatch(routing: &mut Routing, args: &Args, place: u64, clock: Moment) -> Re
 }
 
 /// Nothing waits.
-fn idle(tables: &mut Tables, now: Moment) -> Result<Reply, AllocError>
+fn idle(tables: &mut Tables, now: Moment) -> Result<Brief, AllocError>
     requires step { MayStep tables.old }
     requires none { slice_get tables.old.queueing.waiting 0 ≡ None }
-    ensures ok { IfOk result (λ answer. GoesOn (Pump now) answer tables.old tables.new) }
+    ensures ok { IfOk result (λ answer. GoesOn (Pump now) (reply_of answer) tables.old tables.new) }
     ensures err { OnErr result (SameAll tables.old tables.new) }
     ensures calm { (es : List Effect) → TablesStandFor es tables.old → IsCalm es (Pump now) → IsOk result }
     ensures promise { KeepsPromise tables.old → KeepsPromise tables.new }
@@ -167,39 +174,45 @@ fn idle(tables: &mut Tables, now: Moment) -> Result<Reply, AllocError>
 }
 
 /// What a pump is answered for which nothing waits.
-fn idle_reply(is_due: bool) -> Reply
-    ensures { result ≡ (if is_due then Repeated else Idle) }
+fn idle_reply(is_due: bool) -> Brief
+    ensures { reply_of result ≡ (if is_due then Repeated else Idle) }
 {
-    if is_due { Reply::Repeated } else { Reply::Idle }
+    if is_due { Brief::Repeated } else { Brief::Idle }
 }
 
-/// The owner of a channel asks something, or a channel is removed. Takes no memory.
-fn own(tables: &mut Tables, call: &Call) -> Reply
-    requires step { MayStep tables.old }
-    requires owned { is_owned call.now ≡ true }
-    ensures goes { GoesOn call.now result tables.old tables.new }
+/// The owner of a channel takes its next message. Takes no memory.
+fn receive_next(tables: &mut Tables, channel: u32) -> Reply
+    requires { MayStep tables.old }
+    ensures goes { GoesOn (Receive channel) result tables.old tables.new }
     ensures promise { KeepsPromise tables.old → KeepsPromise tables.new }
 {
-    let now = call.moment();
+    tables.queueing.step(Moment::zero());
+    tables.queueing.set_pumps(0);
+    receive(&mut tables.routing, channel)
+}
+
+/// The owner of a channel is done with a message. Takes no memory.
+pub(crate) fn finish_one(tables: &mut Tables, now: Moment, channel: u32, seq: u64) -> Brief
+    requires { MayStep tables.old }
+    ensures goes { GoesOn (Finish now channel seq) (reply_of result) tables.old tables.new }
+    ensures promise { KeepsPromise tables.old → KeepsPromise tables.new }
+{
     let clock = now.later(tables.queueing.clock());
+    tables.queueing.step(now);
+    tables.queueing.set_pumps(0);
+    finish(&mut tables.routing, channel, seq, clock)
+}
+
+/// A channel is removed. Takes no memory.
+fn remove_one(tables: &mut Tables, now: Moment, channel: u32) -> Brief
+    requires { MayStep tables.old }
+    ensures goes { GoesOn (Remove now channel) (reply_of result) tables.old tables.new }
+    ensures promise { KeepsPromise tables.old → KeepsPromise tables.new }
+{
     let place = tables.queueing.place();
     tables.queueing.step(now);
     tables.queueing.set_pumps(0);
-    answer_owner(&mut tables.routing, call, place, clock)
-}
-
-/// How a call of an owner is answered, and a removal.
-fn answer_owner(routing: &mut Routing, call: &Call, place: u64, clock: Moment) -> Reply
-    requires timely { IsTimely clock routing.old.channels }
-    requires owned { is_owned call.now ≡ true }
-    ensures { GoesAs call.now result place clock routing.old routing.new }
-{
-    match call {
-        Call::Receive { channel } => receive(routing, *channel),
-        Call::Finish { channel, seq, .. } => finish(routing, *channel, *seq, clock),
-        Call::Remove { channel, .. } => remove(routing, *channel, place),
-        _ => unreachable!(),
-    }
+    remove(&mut tables.routing, channel, place)
 }
 
 /// Any other call. These are seldom made, so it is not inlined either.

@@ -39,6 +39,7 @@
 #![tactic(auto)]
 
 mod apply;
+mod brief;
 mod cancelled;
 mod carry;
 mod dispatcher;

@@ -4,8 +4,10 @@ ghost use Rattle.focus_resolver.specs.Resolver.{is_at};
 ghost use Rattle.dispatch_calls.specs.declared.call.Call.{Call};
 ghost use Rattle.dispatch_calls.specs.declared.reply.Reply.{Reply as Answer};
 ghost use Rattle.dispatch_round.specs.Rounds.{IsTimely};
+ghost use Rattle.dispatcher.specs.Briefs.{reply_of};
 ghost use Rattle.dispatcher.specs.Tables.{Goes};
 
+use crate::brief::Brief;
 use crate::tables::Routing;
 use dispatch_calls::Reply;
 use input_types::Moment;
@@ -44,26 +46,28 @@ pub(crate) fn pass(routing: &mut Routing, channel: u32)
 }
 
 /// The owner of a channel is done with a message.
-pub(crate) fn finish(routing: &mut Routing, channel: u32, seq: u64, clock: Moment) -> Reply
+pub(crate) fn finish(routing: &mut Routing, channel: u32, seq: u64, clock: Moment) -> Brief
     requires { IsTimely clock routing.old.channels }
-    ensures { (place : ℕ) → Goes (λ now. Call.Finish now channel seq) result place clock routing.old routing.new }
+    ensures { (place : ℕ)
+        → Goes (λ now. Call.Finish now channel seq) (reply_of result) place clock routing.old routing.new }
 {
     if !mask_has(routing.channels.live(), channel) {
-        return Reply::Gone;
+        return Brief::Gone;
     }
     match routing.channels.finish(channel, seq, clock) {
-        Ok(()) => Reply::Done,
-        Err(_) => Reply::UnknownSeq,
+        Ok(()) => Brief::Done,
+        Err(_) => Brief::UnknownSeq,
     }
 }
 
 /// A channel is closed for good. Nobody is told of it: the window is not live any more, and no other one loses or
 /// gains anything.
-pub(crate) fn remove(routing: &mut Routing, channel: u32, place: u64) -> Reply
-    ensures { (clock : ℕ) → Goes (λ now. Call.Remove now channel) result place clock routing.old routing.new }
+pub(crate) fn remove(routing: &mut Routing, channel: u32, place: u64) -> Brief
+    ensures { (clock : ℕ)
+        → Goes (λ now. Call.Remove now channel) (reply_of result) place clock routing.old routing.new }
 {
     if !mask_has(routing.channels.live(), channel) {
-        return Reply::Gone;
+        return Brief::Gone;
     }
     let target = routing.focus.target();
     routing.channels.remove(channel);
@@ -73,7 +77,7 @@ pub(crate) fn remove(routing: &mut Routing, channel: u32, place: u64) -> Reply
     let windows = focusable(routing.shown.windows(), routing.channels.live());
     let _change = routing.focus.windows(windows);
     forget_key(&mut routing.repeat, target, channel);
-    Reply::Done
+    Brief::Done
 }
 
 /// No key is repeated any more where the key target is the channel.

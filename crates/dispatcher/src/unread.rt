@@ -1,14 +1,15 @@
 //! Calls whose answers are not read, as those of a run: no message is copied, and no answer handed on.
-ghost use Rattle.std.specs.Prelude.{◌≡◌, ◌≤◌, ◌+◌, true, List, OnOk, OnErr, IsOk};
-ghost use Rattle.dispatch_calls.specs.declared.call.Call.TheVariants.{Receive, Finish};
+ghost use Rattle.std.specs.Prelude.{◌≡◌, ◌≤◌, ◌+◌, is_ok, true, List, OnOk, OnErr, IsOk};
+ghost use Rattle.dispatch_calls.specs.declared.call.Call.TheVariants.{Receive};
 ghost use Rattle.dispatch_history.specs.Effect.{Effect};
 ghost use Rattle.dispatcher.specs.Memory.{IsCalm, MayCount};
 ghost use Rattle.dispatcher.specs.Queueing.{args_in, is_input, is_pump};
 ghost use Rattle.dispatcher.specs.Roomy.{KeepsPromise};
 ghost use Rattle.dispatcher.specs.Tables.{TablesStandFor, MayStep, GoesOnSomehow, SameAll};
 
-use crate::apply::apply;
-use crate::owners::{finish, pass};
+use crate::apply::{apply, finish_one, notify, pump};
+use crate::brief::Brief;
+use crate::owners::pass;
 use crate::tables::Tables;
 use dispatch_calls::Call;
 use input_types::Moment;
@@ -32,19 +33,31 @@ pub(crate) fn apply_unread(tables: &mut Tables, call: &Call) -> Result<(), Alloc
         return Err(AllocError);
     }
     match call {
+        Call::Notify { now, args } => dropped(notify(tables, *now, args)),
+        Call::Pump { now } => dropped(pump(tables, *now)),
         Call::Receive { channel } => {
             pass_next(tables, *channel);
             Ok(())
         }
         Call::Finish { now, channel, seq } => {
-            finish_unread(tables, *now, *channel, *seq);
+            let _answer = finish_one(tables, *now, *channel, *seq);
             Ok(())
         }
         _ => apply_dropping(tables, call),
     }
 }
 
-/// A call whose answer is not read.
+/// An answer that is not read.
+fn dropped(answer: Result<Brief, AllocError>) -> Result<(), AllocError>
+    ensures { is_ok result ≡ is_ok answer }
+{
+    match answer {
+        Ok(_) => Ok(()),
+        Err(error) => Err(error),
+    }
+}
+
+/// Any other call.
 fn apply_dropping(tables: &mut Tables, call: &Call) -> Result<(), AllocError>
     requires { (es : List Effect) × TablesStandFor es tables.old }
     ensures ok { OnOk result (GoesOnSomehow call.now tables.old tables.new) }
@@ -72,16 +85,4 @@ fn pass_next(tables: &mut Tables, channel: u32)
     tables.queueing.step(Moment::zero());
     tables.queueing.set_pumps(0);
     pass(&mut tables.routing, channel);
-}
-
-/// The owner of a channel is done with a message, and its answer is not read. Takes no memory.
-fn finish_unread(tables: &mut Tables, now: Moment, channel: u32, seq: u64)
-    requires { MayStep tables.old }
-    ensures goes { GoesOnSomehow (Finish now channel seq) tables.old tables.new }
-    ensures promise { KeepsPromise tables.old → KeepsPromise tables.new }
-{
-    let clock = now.later(tables.queueing.clock());
-    tables.queueing.step(now);
-    tables.queueing.set_pumps(0);
-    let _reply = finish(&mut tables.routing, channel, seq, clock);
 }

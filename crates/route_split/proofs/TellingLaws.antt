@@ -1,6 +1,7 @@
 -- What a window is told of a motion, by what it holds before and later.
-use Rattle.std.proofs.Common.{ℕ, Bool, true, false, not, ◌&&◌, ◌==◌, ◌≡◌, if◌then◌else◌, List, [], ◌∷◌, length, Option, Some, None, refl, sym, ap, ◌∙◌, inl, inr, arith}
+use Rattle.std.proofs.Common.{ℕ, Bool, true, false, not, ◌&&◌, ◌||◌, ◌==◌, cond, ◌≡◌, if◌then◌else◌, List, [], ◌∷◌, length, Option, Some, None, refl, sym, ap, ◌∙◌, inl, inr, arith}
 use mathlib.Core.Path.{fun_ext}
+use Rattle.std.specs.List.{list_any}
 use Rattle.std.proofs.lemmas.Bool.{cases_eq, ne_eqb, eqb-true, and_parts, and_from, not-true, true≢false}
 use Rattle.std.proofs.lemmas.Nat.Bits.{bit_at-zero}
 use Rattle.bits32.specs.Set.{is_in}
@@ -137,3 +138,37 @@ some_move d (p ∷ ps) ys e = refl
 pub none_move : (d : ℕ) (ps : List Pointer) (ys : List Motion) → (length ps == 0) ≡ true → or_else (moves d ps) ys ≡ ys
 none_move d [] ys e = refl
 none_move d (p ∷ ps) ys e = let z : length (p ∷ ps) ≡ 0 = eqb-true (length (p ∷ ps)) 0 e in absurd (omega (arith, z))
+
+-- some of a list are listed whose ids are in a set
+pub some_listed : (f : ℕ → Bool) (ps : List Pointer) → list_any (λ p. f p.id) ps ≡ true → (length (listing f ps) == 0) ≡ false
+some_listed f [] h = absurd (true≢false (sym h))
+some_listed f (p ∷ ps) h = by_test (f p.id) h (some_listed f ps)
+  where
+    by_test : (b : Bool) → (b || list_any (λ q. f q.id) ps) ≡ true → (list_any (λ q. f q.id) ps ≡ true → (length (listing f ps) == 0) ≡ false)
+        → (length (cond b (p ∷ listing f ps) (listing f ps)) == 0) ≡ false
+    by_test true h r = ne_eqb (length (p ∷ listing f ps)) 0 (λ z. omega (arith, z))
+    by_test false h r = r h
+
+-- nothing is in the empty set
+none_in : (i : ℕ) → is_in i 0 ≡ false
+none_in i = rw (bit_at-zero i) refl
+
+not_lost : (b : Bool) → (b && not b) ≡ false
+not_lost true = refl
+not_lost false = refl
+
+-- where a window holds still what it held, and some of that is listed by a Move, just that moves
+pub move_told : (s : Scene) (m : Motion) (w : ℕ) (held : ℕ → Bool) → m.action ≡ Move → (length (listing held m.pointers) == 0) ≡ false
+    → told_motion s m (changed m) w held held ≡ plain m.device Move (listing held m.pointers) ∷ []
+move_told s m w held is some = by_changed (changed m)
+  where
+    rest : (watched : Option Pointer) → told_rest m watched (s.last m.device) held held ≡ plain m.device Move (listing held m.pointers) ∷ []
+    rest watched =
+        kept_told m watched (s.last m.device) held held 0 refl (λ i. none_in i ∙ sym (not_lost (held i)))
+        ∙ some_move m.device (listing held m.pointers) (outside_of m.device watched) some
+
+    by_changed : (o : Option Pointer) → told_motion s m o w held held ≡ plain m.device Move (listing held m.pointers) ∷ []
+    by_changed None = none_told s m w held held ∙ rest None
+    by_changed (Some p) =
+        rest_told s m p w held held (is_watching s m (Some p) w) (not_lost (held p.id)) (ap (λ a. is_up a && held p.id) is) refl
+        ∙ rest (if is_watching s m (Some p) w then Some p else None)

@@ -1,4 +1,5 @@
 -- What is told by the rules, where what is held before and later is known.
+use Rattle.std.specs.Prelude.{IfSome}
 use Rattle.std.proofs.Common.{ℕ, Bool, true, false, not, ◌&&◌, ◌||◌, ◌==◌, ◌≡◌, if◌then◌else◌, List, [], Option, Some, None, refl, sym, ap, ap₂, ◌∙◌, subst}
 use Rattle.std.specs.List.{list_any}
 use Rattle.std.proofs.lemmas.Bool.{eq-eqb, both_ways, true≢false}
@@ -127,3 +128,8 @@ lost_by s k e w d t before later h n p q is =
 
 pub still_held : (ts : List Touches) (k : Mark) (e : Step) (w d i : ℕ) → IsStepOf k e → holds_after ts k w d i ≡ true → holds_at ts w d i ≡ true
 still_held ts k e w d i h l = was_held (gives k w d i) (holds_at ts w d i) (takes (taking ts k) w d i) (gives_none k e w d i h) l
+
+-- what follows of each value follows of one that may be there
+pub then_some : {A : Type 0} {P Q : A → Type 0} (o : Option A) → IfSome o P → ((x : A) → P x → Q x) → IfSome o Q
+then_some None h f = tt
+then_some (Some x) h f = f x h

@@ -57,7 +57,7 @@ pub(crate) fn change_by(states: &mut [TouchState], mark: &Mark, place: u64) -> O
 }
 
 /// The same of a mark with which no window pilfers.
-fn change_plain(states: &mut [TouchState], mark: &Mark, place: u64)
+pub(crate) fn change_plain(states: &mut [TouchState], mark: &Mark, place: u64)
     requires tables { IsTables states.old }
     requires whole { IsWhole mark.now }
     requires plain { is_pilfer mark.now ≡ false }

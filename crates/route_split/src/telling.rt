@@ -1,5 +1,6 @@
 //! What a window is told of a motion.
-ghost use Rattle.std.specs.Prelude.{◌≡◌, ℕ, [], ◌∷◌, List, Bool, true, not, ◌&&◌, if◌then◌else◌};
+ghost use Rattle.std.specs.Prelude.{◌≡◌, ℕ, [], ◌∷◌, List, Bool, true, not, ◌&&◌, IfSome, if◌then◌else◌};
+ghost use Rattle.std.specs.List.{list_any};
 ghost use Rattle.bits32.specs.Set.{is_in};
 ghost use Rattle.input_types.specs.declared.pointer.Pointer.{Pointer as Listed};
 ghost use Rattle.routing_rules.specs.Scene.{Scene};
@@ -7,8 +8,8 @@ ghost use Rattle.routing_rules.specs.Given.{changed};
 ghost use Rattle.routing_rules.specs.Told.{is_up, told_motion};
 ghost use Rattle.split_motion.specs.Split.{as_down, split_of};
 ghost use Rattle.split_motion.specs.Laws.{if_some};
-ghost use Rattle.input_types.specs.declared.motion.MotionAction.TheVariants.{Outside};
-ghost use Rattle.routing_rules.specs.Told.{plain};
+ghost use Rattle.input_types.specs.declared.motion.MotionAction.TheVariants.{Move, Outside};
+ghost use Rattle.routing_rules.specs.Told.{listing, plain};
 ghost use Rattle.route_split.specs.declared.tells.Tells.TheVariants.{One};
 ghost use Rattle.route_split.specs.Telling.{IsTold, told_rest, AreListed, OnlyNew};
 ghost use Rattle.routing_rules.specs.Watching.{is_watching};
@@ -32,6 +33,36 @@ pub(crate) fn tells_of(motion: &Motion, before: Bits32, later: Bits32, watches: 
     match changed(motion) {
         Some(pointer) => tells_changed(motion, pointer, before, later, watches),
         None => tells_rest(motion, before, later, None),
+    }
+}
+
+/// The ids that move, where the motion is a Move, the set stays, and some of its ids are listed.
+#[inline(always)]
+pub(crate) fn moving_of(motion: &Motion, before: Bits32, later: Bits32) -> Option<Bits32>
+    ensures { IfSome result (λ ids. (s : Scene) (w : ℕ)
+        → told_motion s motion.now (changed motion.now) w (λ i. is_in i before) (λ i. is_in i later)
+        ≡ plain motion.now.device Move (listing (λ i. is_in i ids) motion.now.pointers) ∷ []) }
+{
+    if !is_move(motion.action) {
+        return None;
+    }
+    if before.bits() != later.bits() {
+        return None;
+    }
+    if has_some(&motion.pointers, later) {
+        Some(later)
+    } else {
+        None
+    }
+}
+
+/// Whether it is the action with which pointers move.
+fn is_move(action: MotionAction) -> bool
+    ensures { result ≡ true → action ≡ Move }
+{
+    match action {
+        MotionAction::Move => true,
+        _ => false,
     }
 }
 
@@ -131,6 +162,16 @@ fn tells_rest(motion: &Motion, before: Bits32, later: Bits32, watched: Option<Po
         Some(pointer) => tells_outside(motion.device, pointer),
         None => Tells::Nothing,
     }
+}
+
+/// Whether some of the pointers have ids in the set.
+fn has_some(pointers: &Pointers, set: Bits32) -> bool
+    ensures { result ≡ list_any (λ p. is_in p.id set) pointers.now }
+{
+    pointers
+        .as_slice()
+        .iter()
+        .any(|pointer| set.has(pointer.id.get()))
 }
 
 /// The motion, where there is one.

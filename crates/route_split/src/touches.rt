@@ -1,5 +1,5 @@
 //! The touch states of all devices.
-ghost use Rattle.std.specs.Prelude.{◌≡◌, ◌==◌, ℕ, true, IfOk, IfSome, option_map};
+ghost use Rattle.std.specs.Prelude.{◌≡◌, ◌==◌, ℕ, [], ◌∷◌, false, true, IfOk, IfSome, option_map};
 ghost use Rattle.std.specs.List.{list_any};
 ghost use Rattle.bits32.specs.Set.{is_in};
 ghost use Rattle.window_snapshot.specs.Mask.{is_channel, mask_has};
@@ -7,24 +7,25 @@ ghost use Rattle.routing_rules.specs.Choice.{choice_at, takers};
 ghost use Rattle.routing_rules.specs.Taking.{takes, pilfers};
 ghost use Rattle.routing_rules.specs.Scene.{Scene, Moves};
 ghost use Rattle.routing_rules.specs.Given.{changed, mark as rule_mark};
-ghost use Rattle.routing_rules.specs.Told.{after, told};
+ghost use Rattle.routing_rules.specs.Told.{after, listing, plain, told};
+ghost use Rattle.input_types.specs.declared.motion.MotionAction.TheVariants.{Move};
 ghost use Rattle.routing_rules.specs.Slip.{slip};
 ghost use Rattle.route_split.specs.Seen.{Sees};
 ghost use Rattle.route_split.specs.Slipping.{rule_slip};
 ghost use Rattle.route_split.specs.Telling.{IsTold, IsListed};
 ghost use Rattle.routing_rules.specs.Watching.{is_watching};
 ghost use Rattle.route_split.specs.Tables.{table_of, any_at, holds_at, pilfering_at, Stands, IsFresh, ChangesAll};
-ghost use Rattle.route_split.specs.Marking.{gives, taking, IsWhole, IsMark, AreLosses, may_be_told};
+ghost use Rattle.route_split.specs.Marking.{gives, taking, is_pilfer, IsWhole, IsMark, AreLosses, may_be_told};
 
 use crate::choice::{choice_at, takers};
 use crate::concern::given_windows;
 use crate::holding::holding;
 use crate::mark::Mark;
-use crate::marking::{change_by, fresh_states, index_of};
+use crate::marking::{change_by, change_plain, fresh_states, index_of};
 use crate::motion::mark_of;
 use crate::seen::Seen;
 use crate::slip::{Way, slip_of};
-use crate::telling::tells_of;
+use crate::telling::{moving_of, tells_of};
 use crate::tells::Tells;
 use bits32::Bits32;
 use input_types::{DeviceId, Motion, Pixel, PointerId};
@@ -195,6 +196,21 @@ impl Touches {
         tells_of(motion, before, later, watches)
     }
 
+    /// The ids that move in a window, where it is told just that of the motion: it held them before the step, as these
+    /// are, and holds them still. None says nothing of what it is told.
+    #[inline(always)]
+    pub fn moving(&self, motion: &Motion, window: u32, before: Bits32) -> Option<Bits32>
+        requires { is_channel window ≡ true }
+        ensures { IfSome result (λ ids. (s : Scene)
+            → ((i : ℕ) → s.holds window motion.now.device i ≡ is_in i before)
+            → ((i : ℕ) → after s (rule_mark s (Moves motion.now)) window motion.now.device i
+            ≡ holds_at self.now window motion.now.device i)
+            → told s (Moves motion.now) window motion.now.device
+            ≡ plain motion.now.device Move (listing (λ i. is_in i ids) motion.now.pointers) ∷ []) }
+    {
+        moving_of(motion, before, self.held(window, motion.device))
+    }
+
     /// Changes the tables by the mark of a step, at a place, which is how many steps were before it. Answers what each
     /// window lost, where one pilfers that holds something.
     #[inline(always)]
@@ -205,5 +221,16 @@ impl Touches {
         ensures losses { IfSome result (AreLosses self.old mark.now) }
     {
         change_by(&mut self.states, mark, place)
+    }
+
+    /// The same of a mark with which no window pilfers, so that no list is made of what windows lost.
+    #[inline(always)]
+    pub fn change_plain(&mut self, mark: &Mark, place: u64)
+        requires whole { IsWhole mark.now }
+        requires plain { is_pilfer mark.now ≡ false }
+        ensures { ChangesAll self.old self.new (gives mark.now) (takes (taking self.old mark.now)) place
+            (pilfers (taking self.old mark.now)) }
+    {
+        change_plain(&mut self.states, mark, place);
     }
 }

@@ -19,5 +19,5 @@ pub mod laws;
 mod listed;
 mod window;
 
-pub use listed::{about, part, part_but, plain};
+pub use listed::{about, part, part_but, part_into, plain};
 pub use window::split;

@@ -7,6 +7,19 @@ ghost use Rattle.routing_rules.specs.Told.{listing, index_in, plain};
 use bits32::Bits32;
 use input_types::{DeviceId, Motion, MotionAction, Pointer, PointerId, Pointers, PushRefused};
 
+/// Sets a list to those of the pointers whose ids are in the set, in the same order.
+#[inline(always)]
+pub fn part_into(listed: &mut Pointers, pointers: &Pointers, set: Bits32)
+    ensures { listed.new ≡ listing (λ i. is_in i set) pointers.now }
+{
+    *listed = Pointers::empty();
+    for pointer in pointers.as_slice() {
+        if set.has(pointer.id.get()) {
+            put(listed, *pointer);
+        }
+    }
+}
+
 /// The pointers whose ids are in the set, in the same order.
 pub fn part(pointers: &Pointers, set: Bits32) -> Pointers
     ensures { result ≡ listing (λ i. is_in i set) pointers.now }

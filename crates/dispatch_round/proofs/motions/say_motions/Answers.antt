@@ -1,22 +1,35 @@
-use Rattle.std.proofs.Common.{◌≤◌, ap, sym, ◌∙◌, subst}
+use Rattle.std.proofs.Common.{◌≤◌, refl, ap, sym, ◌∙◌, subst}
+use Rattle.bits32.specs.Set.{is_in}
+use Rattle.window_snapshot.specs.Mask.{mask_has}
+use Rattle.input_types.specs.declared.motion.MotionAction.TheVariants.{Move}
+use Rattle.routing_rules.specs.Told.{listing, plain}
+use Rattle.route_split.specs.declared.tells.Tells.TheVariants.{One}
 use Rattle.std.specs.Option.{option_copied}
 use Rattle.cancel_synthesis.specs.Tracked.{pointers_of}
 use Rattle.routing_rules.proofs.Listings.{has_id}
-use Rattle.dispatch_round.proofs.Hearing.{hears_found, hears_lost, hears_pilfered, hears_none}
+use Rattle.dispatch_round.proofs.Hearing.{of_some, hears_found, hears_lost, hears_pilfered, hears_none}
 use Rattle.dispatch_round.proofs.motions.say_motions.Goals as goal
 
-pub returns-in-Some : goal.returns-in-Some
-returns-in-Some c =
+pub say_told-requires-clause-before : goal.say_told-requires-clause-before
+say_told-requires-clause-before c i =
+    c.ids_of-before.ensures i ∙ ap (has_id i) (c.pointers.ensures ∙ ap (λ t. pointers_of t c.in-Some.motion.now.device) c.input.ensures)
+
+pub returns-in-Some-moving : goal.returns-in-Some-moving
+returns-in-Some-moving c =
     let m = c.in-Some.motion.now in
-    hears_found c.args.round.now c.args.touches.now c.args.to.now c.args.channels.now c.say_found.new.channels m c.tells-tells.result c.ids_of-before.result c.mask_has-watches.result
+    let ids = c.in-Some-moving.ids in
+    hears_found c.args.round.now c.args.touches.now c.args.to.now c.args.channels.now c.say_moves.new.channels m
+    (One (plain m.device Move (listing (λ i. is_in i ids) m.pointers)))
+    c.ids_of-before.result
+    (mask_has c.args.round.now.watchers c.args.to.now.window)
     (option_copied c.args.losses)
     (ap option_copied c.in-Some.is)
     (subst (λ n. 1 ≤ n) c.get-number.ensures.value c.get-number.ensures.range.0)
     (subst (λ n. n ≤ 8) c.get-number.ensures.value c.get-number.ensures.range.1)
-    c.mask_has-watches.ensures
+    refl
     (λ i. c.ids_of-before.ensures i ∙ ap (has_id i) (c.pointers.ensures ∙ ap (λ t. pointers_of t m.device) c.input.ensures))
-    c.tells-tells.ensures
-    c.say_found.ensures
+    (λ s held left listed watching. of_some _ c.moving.result ids c.in-Some-moving.is c.moving.ensures s held left)
+    c.say_moves.ensures
 
 pub returns-in-Some-losses : goal.returns-in-Some-losses
 returns-in-Some-losses c =

@@ -3,6 +3,7 @@ use Rattle.dispatch_calls.specs.declared.call.Call.TheVariants.{Pump}
 use Rattle.dispatcher.specs.Tables.{GoesOn}
 use Rattle.std.proofs.lemmas.Bool.{true≢false}
 use Rattle.dispatcher.proofs.Roomy.{promise_less, promise_ok, same_room}
+use Rattle.dispatcher.specs.Briefs.{reply_of}
 use Rattle.dispatcher.proofs.Timely.{timely}
 use Rattle.dispatcher.proofs.Stepped.{idle_on, not_idle, other_pumps}
 use Rattle.dispatcher.proofs.apply.idle.Goals as goal
@@ -14,9 +15,9 @@ repeat-requires c =
 
 pub returns-in-Ok-clause-ok : goal.returns-in-Ok-clause-ok
 returns-in-Ok-clause-ok c =
-    subst (λ q. GoesOn (Pump c.args.now) c.idle_reply.result c.args.tables.now (record { queueing = q; routing = c.repeat.new.routing })) (sym c.spend_pump.ensures)
-    (other_pumps (Pump c.args.now) c.idle_reply.result c.args.tables.now c.step.new.self c.repeat.new.routing _
-    (idle_on c.args.tables.now c.step.new.self c.repeat.new.routing c.in-Ok.is_due c.idle_reply.result c.args.now c.place-place.result c.later-clock.result
+    subst (λ q. GoesOn (Pump c.args.now) (reply_of c.idle_reply.result) c.args.tables.now (record { queueing = q; routing = c.repeat.new.routing })) (sym c.spend_pump.ensures)
+    (other_pumps (Pump c.args.now) (reply_of c.idle_reply.result) c.args.tables.now c.step.new.self c.repeat.new.routing _
+    (idle_on c.args.tables.now c.step.new.self c.repeat.new.routing c.in-Ok.is_due (reply_of c.idle_reply.result) c.args.now c.place-place.result c.later-clock.result
     c.requires.none
     (c.later-clock.ensures ∙ ap (λ n. max c.args.now n) c.clock.ensures)
     c.place-place.ensures

@@ -1,0 +1,37 @@
+//! Pointers that move.
+ghost use Rattle.std.specs.Prelude.{◌≡◌, ◌≤◌, true};
+ghost use Rattle.bits32.specs.Set.{is_in};
+ghost use Rattle.input_types.specs.declared.message.Body.TheVariants.{Motion as MotionBody};
+ghost use Rattle.input_types.specs.declared.motion.MotionAction.TheVariants.{Move};
+ghost use Rattle.routing_rules.specs.Told.{listing, plain};
+ghost use Rattle.window_snapshot.specs.Mask.{mask_has};
+ghost use Rattle.dispatch_channels.specs.Table.{channel_of};
+ghost use Rattle.dispatch_channels.specs.Changes.{Tells};
+
+use super::Channels;
+use crate::heard::moves_from;
+use bits32::Bits32;
+use input_types::{Body, Moment, Motion, Pixel};
+
+impl Channels {
+    /// A live channel is told that the pointers of a motion with these ids move, as `tell` would tell it. The places go
+    /// from the motion straight into the message and into what the window was told. Takes no memory.
+    pub fn tell_moves(
+        &mut self,
+        channel: u32,
+        motion: &Motion,
+        ids: Bits32,
+        origin: Pixel,
+        clock: Moment,
+    )
+        requires live { mask_has self.old.live channel ≡ true }
+        requires room { 1 ≤ (channel_of self.old channel).spare }
+        ensures { let moving = listing (λ i. is_in i ids) motion.now.pointers in
+            Tells channel (MotionBody (plain motion.now.device Move moving)) origin clock self.old self.new }
+    {
+        let place = channel as usize - 1;
+        let body = Body::Motion(moves_from(origin, motion, ids));
+        let _seq = self.channels[place].enqueue_reserved(body, clock);
+        self.inputs[place].track_moves(motion.device, &motion.pointers, ids);
+    }
+}
