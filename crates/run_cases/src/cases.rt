@@ -30,6 +30,8 @@ const JUDGE: &str = "judge --stream stream";
 
 const INSPECT: &str = "inspect --session session --events events";
 
+const WHY: &str = "why --session session --events events";
+
 const COMPARE: &str = "compare --want stream --got other --us 0 --pixels 0";
 
 /// A run that comes to a text: each read and each write fails in turn.
@@ -195,6 +197,27 @@ fn add_inspected<R: Threads + Wait + Sync>(rt: &R, text: &mut Vec<u8>) -> io::Re
     add_each(rt, text, &cases)
 }
 
+/// Adds why a finger went where it went, by reads of any length.
+fn add_explained<R: Threads + Wait + Sync>(rt: &R, text: &mut Vec<u8>) -> io::Result<()> {
+    let tap = told(
+        "a tap explained",
+        WHY,
+        &[("session", &[SESSION, STEP]), ("events", &[TAP, "\r\n"])],
+    );
+    add_case(rt, text, &tap)?;
+    add_pieces(rt, text, &tap, 1)?;
+    add_pieces(rt, text, &tap, 7)?;
+    let cases = [
+        refused(
+            "no moment explained",
+            WHY,
+            &[("session", &[SESSION]), ("events", &[TIMELESS, TAP])],
+        ),
+        stopped("no recording explained", WHY, &[("session", &[SESSION])]),
+    ];
+    add_each(rt, text, &cases)
+}
+
 /// Adds runs of an order, of a number, and of a mouse.
 fn add_runs<R: Threads + Wait + Sync>(rt: &R, text: &mut Vec<u8>) -> io::Result<()> {
     let cases = [
@@ -249,6 +272,7 @@ pub(crate) fn add_all<R: Threads + Wait + Sync>(rt: &R, text: &mut Vec<u8>) -> i
     add_streams(rt, text)?;
     add_judged(rt, text)?;
     add_inspected(rt, text)?;
+    add_explained(rt, text)?;
     add_runs(rt, text)?;
     add_race(rt, text)
 }
