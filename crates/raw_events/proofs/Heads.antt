@@ -4,14 +4,15 @@ use Rattle.std.specs.Prelude.{option_map, is_some}
 use Rattle.std.specs.Char.{is_digit}
 use Rattle.std.specs.List.{prefix_len}
 use Rattle.std.specs.Str.{byte}
-use Rattle.std.proofs.lemmas.List.{take-append-le, drop-append-le, length-append, length-drop}
+use Rattle.std.proofs.lemmas.List.{take-append-le, drop-append-le, length-append, length-drop, append_assoc}
 use Rattle.input_types.specs.declared.number.DeviceId.{DeviceId}
 use Rattle.raw_events.specs.declared.line.Fields.{Fields}
 use Rattle.raw_events.specs.Text.{◌>>=◌, after_blanks, after_byte, number, number_at}
 use Rattle.text_lines.specs.Blanks.{is_blank, skip_blanks, ends_in, word_len}
 use Rattle.raw_events.specs.Line.{Known, seconds_at, moment_at, path_at, fields_of, sender, sent, formed, judged_text}
-use Rattle.raw_events.specs.Front.{plain, SecondsSay, MicrosSay, PathSays}
+use Rattle.raw_events.specs.Front.{plain, SecondsSay, MicrosSay, PathSays, HeadSays}
 use Rattle.raw_events.specs.Recording.{line_len}
+use Rattle.raw_events.proofs.Parts.{both_unended}
 
 both : {A B : Type 0} (o : Option A) (f : A → Option B) (y : B) → (o >>= f) ≡ Some y → (x : A) × (o ≡ Some x) × (f x ≡ Some y)
 both None f y h = cc
@@ -215,3 +216,21 @@ pub line_says : (devices : Known) (to_point digits part text : List ℕ) (second
 unfolding judged_text formed
 line_says devices to_point digits part text seconds micros device fields t m p k h =
     rw (t.bracket, t.says (digits ++ (part ++ text)), m seconds (part ++ text), p.blanks text, p.says text k, h, p.sent) refl
+
+-- both parts of a front with the microseconds between them
+module _ (devices : Known) (to_point digits part : List ℕ) (seconds micros : ℕ) (device : Option DeviceId) where
+  parts_says : SecondsSay to_point seconds → MicrosSay digits micros → PathSays devices part device → (end : List ℕ) (fields : Fields) → plain end ≡ true → fields_of end ≡ Some fields
+      → judged_text devices ((to_point ++ (digits ++ part)) ++ end) ≡ sent device (seconds * 1000000 + micros) fields
+  parts_says t m p end fields k h =
+      ap (judged_text devices) (append_assoc to_point (digits ++ part) end ∙ ap (λ rest. to_point ++ rest) (append_assoc digits part end))
+      ∙ line_says devices to_point digits part end seconds micros device fields t m p k h
+
+  pub head_says : (head : List ℕ) → head ≡ to_point ++ (digits ++ part) → SecondsSay to_point seconds → MicrosSay digits micros → PathSays devices part device → line_len digits ≡ length digits
+      → length head < 4078 → HeadSays devices head device (seconds * 1000000 + micros)
+  head_says head is t m p d short = record {
+    inside = t.inside ++ (digits ++ part);
+    bracket = is ∙ ap (λ front. front ++ (digits ++ part)) t.bracket;
+    says = λ end fields k h. ap (λ front. judged_text devices (front ++ end)) is ∙ parts_says t m p end fields k h;
+    unended = rw is (both_unended to_point (digits ++ part) t.unended (both_unended digits part d p.unended));
+    short = short;
+  }

@@ -78,20 +78,12 @@ ends_back c xs ys some =
     let at : length (xs ++ ys) - 1 ≡ length xs + (length ys - 1) = omega (arith, length-append xs ys, some) in
     ap (λ b. b == c) (ap (λ i. get_or (xs ++ ys) i 0) at ∙ get_or-append-add xs ys (length ys - 1) 0)
 
-module _ (to_point digits part end : List ℕ) where
-  abbrev pub text : List ℕ
-  text = to_point ++ (digits ++ (part ++ end))
-
-  pub text_unended : line_len to_point ≡ length to_point → line_len digits ≡ length digits → line_len part ≡ length part → line_len end ≡ length end → line_len text ≡ length text
-  text_unended a b c d = both_unended to_point (digits ++ (part ++ end)) a (both_unended digits (part ++ end) b (both_unended part end c d))
-
-  -- a line that begins with a bracket and ends with a digit has no blanks in front, and no carriage return
-  pub text_whole : (inside : List ℕ) → to_point ≡ 91 ∷ inside → 0 < length end → ends_in 13 end ≡ false → (without_return text ≡ text) × (skip_blanks text ≡ text)
-  text_whole inside bracket some other =
-      let behind : 0 < length (part ++ end) = omega (arith, length-append part end) in
-      let more : 0 < length (digits ++ (part ++ end)) = omega (arith, length-append digits (part ++ end)) in
-      let last : ends_in 13 text ≡ false = ends_back 13 to_point (digits ++ (part ++ end)) more ∙ (ends_back 13 digits (part ++ end) behind ∙ (ends_back 13 part end some ∙ other)) in
-      (rw last refl, rw bracket refl)
+-- a line that begins with a bracket and ends with a digit has no blanks in front, and no carriage return
+pub text_whole : (head end inside : List ℕ) → head ≡ 91 ∷ inside → 0 < length end → ends_in 13 end ≡ false
+    → (without_return (head ++ end) ≡ head ++ end) × (skip_blanks (head ++ end) ≡ head ++ end)
+text_whole head end inside bracket some other =
+    let last : ends_in 13 (head ++ end) ≡ false = ends_back 13 head end some ∙ other in
+    (rw last refl, rw bracket refl)
 
 -- the bytes of a line as it stands in the recording, and what they say
 judged_whole : (devices : Known) (text : List ℕ) → length text < 4096 → without_return text ≡ text → skip_blanks text ≡ text → judged devices text ≡ judged_text devices text

@@ -2,9 +2,10 @@
 use Rattle.std.specs.Prelude.{ℕ, ◌+◌, ◌*◌, ◌^◌, ◌<◌, ◌≡◌, Bool, true, not, List, [], ◌∷◌, ◌++◌, length, Option, Some}
 use Rattle.std.specs.Str.{byte}
 use Rattle.input_types.specs.declared.number.DeviceId.{DeviceId}
+use Rattle.raw_events.specs.declared.line.Fields.{Fields}
 use Rattle.raw_events.specs.Text.{◌>>=◌, after_blanks, after_byte, number_at}
 use Rattle.text_lines.specs.Blanks.{is_blank, skip_blanks}
-use Rattle.raw_events.specs.Line.{Known, moment_at, path_at, sender}
+use Rattle.raw_events.specs.Line.{Known, moment_at, path_at, fields_of, sender, sent, judged_text}
 use Rattle.raw_events.specs.Recording.{line_len}
 
 -- no blank stands in front
@@ -40,6 +41,14 @@ pub record PathSays (devices : Known) (part : List ℕ) (device : Option DeviceI
   pub sent : sender devices path ≡ device
   pub unended : line_len part ≡ length part
 
--- both parts of a front, between which the microseconds stand
-abbrev pub FrontSays : Known → List ℕ → ℕ → List ℕ → Option DeviceId → Type 0
-FrontSays devices to_point seconds part device = SecondsSay to_point seconds × PathSays devices part device
+-- bytes from the first bracket up to the type: what a line of this device says at this moment that begins with them, whatever its fields are
+pub record HeadSays (devices : Known) (head : List ℕ) (device : Option DeviceId) (moment : ℕ) : Type 0 where
+  pub inside : List ℕ
+  pub bracket : head ≡ byte "[" ∷ inside
+  pub says : (end : List ℕ) (fields : Fields) → plain end ≡ true → fields_of end ≡ Some fields → judged_text devices (head ++ end) ≡ sent device moment fields
+  pub unended : line_len head ≡ length head
+  pub short : length head < 4078
+
+-- both parts of a front, between which the microseconds stand, and all of it
+abbrev pub FrontSays : Known → List ℕ → ℕ → List ℕ → Option DeviceId → List ℕ → ℕ → Type 0
+FrontSays devices to_point seconds part device head moment = SecondsSay to_point seconds × PathSays devices part device × HeadSays devices head device moment

@@ -1,12 +1,10 @@
 //! The front of a line, from its first bracket up to its type. Lines that follow one another mostly have the same one
 //! but for the microseconds, so that it is read once for many lines.
-ghost use Rattle.std.specs.Prelude.{◌≡◌, ◌+◌, ◌*◌, ◌^◌, ◌<◌, ◌∷◌, ◌⊎◌, length, IfSome, IsTrue};
-ghost use Rattle.raw_events.specs.Line.{known, sent, judged_text};
-ghost use Rattle.raw_events.specs.Line.{without_return};
+ghost use Rattle.std.specs.Prelude.{◌≡◌, ◌+◌, ◌*◌, ◌^◌, ◌<◌, ◌∷◌, ◌++◌, ◌⊎◌, length, IfSome, IsTrue};
+ghost use Rattle.raw_events.specs.Line.{Known, known, sent};
 ghost use Rattle.raw_events.specs.Front.{SecondsSay, PathSays, FrontSays};
 ghost use Rattle.raw_events.specs.Kept.{TakesLine};
 ghost use Rattle.raw_events.specs.Recording.{line_len};
-ghost use Rattle.text_lines.specs.Blanks.{skip_blanks};
 
 use crate::event::RawEvent;
 use crate::line::{Fields, Line, MAX_LINE, path, seconds, sender_of};
@@ -30,8 +28,9 @@ pub(crate) struct Front<'a> {
     part: &'a [u8],
     device: Option<DeviceId>,
 
-    /// How long its line was, as the next one mostly is.
-    len: usize,
+    /// All of it: both parts with the microseconds between them.
+    head: &'a [u8],
+    moment: Moment,
 }
 
 /// Whether no newline stands in these bytes.
@@ -42,6 +41,7 @@ fn is_unended(bytes: &[u8]) -> bool
 }
 
 /// The seconds between the first bracket and the point.
+#[inline(never)]
 fn seconds_say(to_point: &[u8]) -> Option<u64>
     ensures { IfSome result (λ s. SecondsSay to_point.now s) }
 {
@@ -54,6 +54,7 @@ fn seconds_say(to_point: &[u8]) -> Option<u64>
 }
 
 /// The device of the path that stands between blanks.
+#[inline(never)]
 fn part_says(devices: &[(String, DeviceId)], part: &[u8]) -> Option<Option<DeviceId>>
     ensures { IfSome result (λ device. PathSays (known devices.now) part.now device) }
 {
@@ -64,62 +65,6 @@ fn part_says(devices: &[(String, DeviceId)], part: &[u8]) -> Option<Option<Devic
     Some(sender_of(devices, path))
 }
 
-/// The front of a line whose microseconds, type, code and value are written as usual.
-pub(crate) fn front_of<'a>(devices: &[(String, DeviceId)], text: &'a [u8]) -> Option<Front<'a>>
-    ensures { IfSome result (λ f. FrontSays (known devices.now) f.to_point.now f.seconds f.part.now f.device) }
-{
-    let bracket = memchr(b']', text)?;
-    let (time, rest) = text.split_at(bracket + 1);
-    if time.len() < MICROS_LEN || rest.len() < USUAL_LEN {
-        return None;
-    }
-    let (to_point, _) = time.split_at(time.len() - MICROS_LEN);
-    let (part, _) = rest.split_at(rest.len() - USUAL_LEN);
-    let seconds = seconds_say(to_point)?;
-    let device = part_says(devices, part)?;
-    Some(Front {
-        to_point,
-        seconds,
-        part,
-        device,
-        len: text.len(),
-    })
-}
-
-/// Takes the seconds of the next line, of which nothing changes where they are those of the line before.
-#[inline(always)]
-fn take_seconds<'a>(front: &mut Front<'a>, to_point: &'a [u8]) -> Option<()>
-    requires { SecondsSay front.old.to_point.now front.old.seconds }
-    ensures seconds { SecondsSay front.new.to_point.now front.new.seconds }
-    ensures taken { IfSome result (λ done. front.new.to_point.now ≡ to_point.now) }
-    ensures part { (front.new.part.now ≡ front.old.part.now) × (front.new.device ≡ front.old.device) }
-{
-    if !is_same(to_point, front.to_point) {
-        front.seconds = seconds_say(to_point)?;
-        front.to_point = to_point;
-    }
-    Some(())
-}
-
-/// Takes the path of the next line with its blanks, of which nothing changes where it is that of the line before.
-#[inline(always)]
-fn take_part<'a>(
-    devices: &[(String, DeviceId)],
-    front: &mut Front<'a>,
-    part: &'a [u8],
-) -> Option<()>
-    requires { PathSays (known devices.now) front.old.part.now front.old.device }
-    ensures part { PathSays (known devices.now) front.new.part.now front.new.device }
-    ensures taken { IfSome result (λ done. front.new.part.now ≡ part.now) }
-    ensures seconds { (front.new.to_point.now ≡ front.old.to_point.now) × (front.new.seconds ≡ front.old.seconds) }
-{
-    if !is_same(part, front.part) {
-        front.device = part_says(devices, part)?;
-        front.part = part;
-    }
-    Some(())
-}
-
 /// The moment of so many seconds and microseconds.
 #[inline(always)]
 fn moment_of(seconds: u64, micros: u64) -> Moment
@@ -128,6 +73,135 @@ fn moment_of(seconds: u64, micros: u64) -> Moment
     ensures { result ≡ seconds * 1000000 + micros }
 {
     Moment::new(seconds * 1_000_000 + micros).unwrap()
+}
+
+/// The front that is made of these parts, where its microseconds are written as usual.
+#[inline(always)]
+fn front_with<'a>(
+    to_point: &'a [u8],
+    seconds: u64,
+    digits: &[u8],
+    part: &'a [u8],
+    device: Option<DeviceId>,
+    head: &'a [u8],
+) -> Option<Front<'a>>
+    requires seconds { SecondsSay to_point.now seconds }
+    requires whole { head.now ≡ to_point.now ++ (digits.now ++ part.now) }
+    requires short { length head.now < 4078 }
+    ensures says { (devices : Known) → PathSays devices part.now device → IfSome result
+        (λ f. FrontSays devices f.to_point.now f.seconds f.part.now f.device f.head.now f.moment) }
+    ensures head { IfSome result (λ f. f.head.now ≡ head.now) }
+{
+    let micros = micros(digits)?;
+    Some(Front {
+        to_point,
+        seconds,
+        part,
+        device,
+        head,
+        moment: moment_of(seconds, micros),
+    })
+}
+
+/// The front of a line whose microseconds, type, code and value are written as usual.
+pub(crate) fn front_of<'a>(devices: &[(String, DeviceId)], text: &'a [u8]) -> Option<Front<'a>>
+    ensures { IfSome result (λ f. FrontSays (known devices.now) f.to_point.now f.seconds f.part.now f.device
+        f.head.now f.moment) }
+{
+    let bracket = memchr(b']', text)?;
+    if bracket + 1 < MICROS_LEN || text.len() < USUAL_LEN || text.len() >= MAX_LINE {
+        return None;
+    }
+    let (head, _) = text.split_at(text.len() - USUAL_LEN);
+    if head.len() < bracket + 1 {
+        return None;
+    }
+    let (to_point, rest) = head.split_at(bracket + 1 - MICROS_LEN);
+    let (digits, part) = rest.split_at(MICROS_LEN);
+    let seconds = seconds_say(to_point)?;
+    let device = part_says(devices, part)?;
+    front_with(to_point, seconds, digits, part, device, head)
+}
+
+/// The seconds of the next line, which are those of the line before where they are written alike.
+#[inline(always)]
+fn next_seconds(last: &[u8], seconds: u64, to_point: &[u8]) -> Option<u64>
+    requires { SecondsSay last.now seconds }
+    ensures { IfSome result (λ s. SecondsSay to_point.now s) }
+{
+    if is_same(to_point, last) {
+        Some(seconds)
+    } else {
+        seconds_say(to_point)
+    }
+}
+
+/// The device of the next line, which is that of the line before where their paths stand alike.
+#[inline(always)]
+fn next_device(
+    devices: &[(String, DeviceId)],
+    last: &[u8],
+    device: Option<DeviceId>,
+    part: &[u8],
+) -> Option<Option<DeviceId>>
+    requires { PathSays (known devices.now) last.now device }
+    ensures { IfSome result (λ device. PathSays (known devices.now) part.now device) }
+{
+    if is_same(part, last) {
+        Some(device)
+    } else {
+        part_says(devices, part)
+    }
+}
+
+/// Takes the head of the next line, where it is as long as that of the line before in all its parts.
+#[inline(always)]
+fn renew<'a>(devices: &[(String, DeviceId)], front: &mut Front<'a>, head: &'a [u8]) -> Option<()>
+    requires front { FrontSays (known devices.now) front.old.to_point.now front.old.seconds front.old.part.now
+        front.old.device front.old.head.now front.old.moment }
+    requires short { length head.now < 4078 }
+    ensures front { FrontSays (known devices.now) front.new.to_point.now front.new.seconds front.new.part.now
+        front.new.device front.new.head.now front.new.moment }
+    ensures taken { IfSome result (λ done. front.new.head.now ≡ head.now) }
+{
+    if head.len() < front.to_point.len() {
+        return None;
+    }
+    let (to_point, rest) = head.split_at(front.to_point.len());
+    if rest.len() < MICROS_LEN {
+        return None;
+    }
+    let (digits, part) = rest.split_at(MICROS_LEN);
+    let seconds = next_seconds(front.to_point, front.seconds, to_point)?;
+    let device = next_device(devices, front.part, front.device, part)?;
+    let micros = micros(digits)?;
+    front.to_point = to_point;
+    front.seconds = seconds;
+    front.part = part;
+    front.device = device;
+    front.head = head;
+    front.moment = moment_of(seconds, micros);
+    Some(())
+}
+
+/// Takes the head of the next line, of which nothing changes where it is that of the line before.
+#[inline(always)]
+fn take_head<'a>(
+    devices: &[(String, DeviceId)],
+    front: &mut Front<'a>,
+    head: &'a [u8],
+) -> Option<()>
+    requires front { FrontSays (known devices.now) front.old.to_point.now front.old.seconds front.old.part.now
+        front.old.device front.old.head.now front.old.moment }
+    requires short { length head.now < 4078 }
+    ensures front { FrontSays (known devices.now) front.new.to_point.now front.new.seconds front.new.part.now
+        front.new.device front.new.head.now front.new.moment }
+    ensures taken { IfSome result (λ done. front.new.head.now ≡ head.now) }
+{
+    if !is_same(head, front.head) {
+        renew(devices, front, head)?;
+    }
+    Some(())
 }
 
 /// What a line with these fields says, from this device at this moment.
@@ -147,39 +221,15 @@ fn line_of(device: Option<DeviceId>, moment: Moment, fields: Fields) -> Line
     }
 }
 
-/// What a line says whose front is as long as the one of the line before it, which becomes its own. None says nothing.
-#[inline(always)]
-pub(crate) fn quick<'a>(
-    devices: &[(String, DeviceId)],
-    front: &mut Front<'a>,
-    text: &'a [u8],
-) -> Option<Line>
-    requires { FrontSays (known devices.now) front.old.to_point.now front.old.seconds front.old.part.now
-        front.old.device }
-    ensures line { IfSome result (λ line. line ≡ judged_text (known devices.now) text.now) }
-    ensures unended { IfSome result (λ line. line_len text.now ≡ length text.now) }
-    ensures whole { IfSome result (λ line. (without_return text.now ≡ text.now) × (skip_blanks text.now ≡ text.now)) }
-    ensures front { FrontSays (known devices.now) front.new.to_point.now front.new.seconds front.new.part.now
-        front.new.device }
+/// What stands behind a carriage return and a newline.
+#[inline(never)]
+fn past_return(bytes: &[u8]) -> Option<&[u8]>
+    ensures { IfSome result (λ after. bytes.now ≡ 13 ∷ 10 ∷ after.now) }
 {
-    if text.len() < front.to_point.len() {
-        return None;
+    match bytes {
+        [b'\r', b'\n', after @ ..] => Some(after),
+        _ => None,
     }
-    let (to_point, rest) = text.split_at(front.to_point.len());
-    if rest.len() < MICROS_LEN {
-        return None;
-    }
-    let (digits, rest) = rest.split_at(MICROS_LEN);
-    if rest.len() < front.part.len() {
-        return None;
-    }
-    let (part, end) = rest.split_at(front.part.len());
-    // What is compared comes before what is read, so that few numbers are held at a time.
-    take_seconds(front, to_point)?;
-    take_part(devices, front, part)?;
-    let micros = micros(digits)?;
-    let fields = usual_fields(end)?;
-    Some(line_of(front.device, moment_of(front.seconds, micros), fields))
 }
 
 /// What stands behind the end of a line: a newline, in front of which a carriage return may stand.
@@ -189,8 +239,7 @@ fn past_end(bytes: &[u8]) -> Option<&[u8]>
 {
     match bytes {
         [b'\n', after @ ..] => Some(after),
-        [b'\r', b'\n', after @ ..] => Some(after),
-        _ => None,
+        _ => past_return(bytes),
     }
 }
 
@@ -203,17 +252,19 @@ pub(crate) fn quick_line<'a>(
     bytes: &'a [u8],
 ) -> Option<(Line, &'a [u8])>
     requires { FrontSays (known devices.now) front.old.to_point.now front.old.seconds front.old.part.now
-        front.old.device }
+        front.old.device front.old.head.now front.old.moment }
     ensures line { IfSome result (λ taken. TakesLine (known devices.now) bytes.now taken.0 taken.1.now) }
     ensures front { FrontSays (known devices.now) front.new.to_point.now front.new.seconds front.new.part.now
-        front.new.device }
+        front.new.device front.new.head.now front.new.moment }
 {
-    let len = front.len;
-    if len >= MAX_LINE || bytes.len() <= len {
+    let len = front.head.len();
+    if bytes.len() <= len + USUAL_LEN {
         return None;
     }
-    let (text, rest) = bytes.split_at(len);
+    let (head, rest) = bytes.split_at(len);
+    let (end, rest) = rest.split_at(USUAL_LEN);
     let after = past_end(rest)?;
-    let line = quick(devices, front, text)?;
-    Some((line, after))
+    take_head(devices, front, head)?;
+    let fields = usual_fields(end)?;
+    Some((line_of(front.device, front.moment, fields), after))
 }

@@ -210,9 +210,11 @@ pub(crate) fn judge_next<'a>(
     front: &mut Option<Front<'a>>,
     line: &'a [u8],
 ) -> Line
-    requires { IfSome front.old (λ f. FrontSays (known devices.now) f.to_point.now f.seconds f.part.now f.device) }
+    requires { IfSome front.old (λ f. FrontSays (known devices.now) f.to_point.now f.seconds f.part.now f.device
+        f.head.now f.moment) }
     ensures line { result ≡ judged (known devices.now) line.now }
-    ensures front { IfSome front.new (λ f. FrontSays (known devices.now) f.to_point.now f.seconds f.part.now f.device) }
+    ensures front { IfSome front.new (λ f. FrontSays (known devices.now) f.to_point.now f.seconds f.part.now f.device
+        f.head.now f.moment) }
 {
     if line.len() > MAX_LINE {
         return Line::Refused(Cause::TooLong);

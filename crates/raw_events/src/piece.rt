@@ -77,27 +77,47 @@ pub(crate) fn tell_line(
     Ok(number.saturating_add(1))
 }
 
+/// What the first line says that ends in these bytes, and what stands behind its newline; its front is kept. None where
+/// there is no newline.
+#[inline(never)]
+#[tactic(auto, using(crate::proofs::Unended::takes_cut))]
+fn find_line<'a>(
+    devices: &[(String, DeviceId)],
+    front: &mut Option<Front<'a>>,
+    bytes: &'a [u8],
+) -> Option<(Line, &'a [u8])>
+    requires { IfSome front.old (λ f. FrontSays (known devices.now) f.to_point.now f.seconds f.part.now f.device
+        f.head.now f.moment) }
+    ensures line { MatchOption result (parts bytes.now ≡ record { ended = []; begun = bytes.now })
+        (λ taken. TakesLine (known devices.now) bytes.now taken.0 taken.1.now) }
+    ensures front { IfSome front.new (λ f. FrontSays (known devices.now) f.to_point.now f.seconds f.part.now f.device
+        f.head.now f.moment) }
+{
+    let (line, after) = next_line(bytes)?;
+    Some((judge_next(devices, front, line), after))
+}
+
 /// What the first line says that ends in these bytes, and what stands behind its newline, with the help of the front of
 /// the line before it, in whose place its own is put; None where there is no newline.
 #[inline(always)]
-#[tactic(auto, using(crate::proofs::Unended::takes_cut))]
 fn take_line<'a>(
     devices: &[(String, DeviceId)],
     front: &mut Option<Front<'a>>,
     bytes: &'a [u8],
 ) -> Option<(Line, &'a [u8])>
-    requires { IfSome front.old (λ f. FrontSays (known devices.now) f.to_point.now f.seconds f.part.now f.device) }
+    requires { IfSome front.old (λ f. FrontSays (known devices.now) f.to_point.now f.seconds f.part.now f.device
+        f.head.now f.moment) }
     ensures line { MatchOption result (parts bytes.now ≡ record { ended = []; begun = bytes.now })
         (λ taken. TakesLine (known devices.now) bytes.now taken.0 taken.1.now) }
-    ensures front { IfSome front.new (λ f. FrontSays (known devices.now) f.to_point.now f.seconds f.part.now f.device) }
+    ensures front { IfSome front.new (λ f. FrontSays (known devices.now) f.to_point.now f.seconds f.part.now f.device
+        f.head.now f.moment) }
 {
     if let Some(kept) = front {
         if let Some(taken) = quick_line(devices, kept, bytes) {
             return Some(taken);
         }
     }
-    let (line, after) = next_line(bytes)?;
-    Some((judge_next(devices, front, line), after))
+    find_line(devices, front, bytes)
 }
 
 /// Appends the events of the lines that end in these bytes, and answers the number of the line behind them with its

@@ -1,5 +1,5 @@
 //! Whether two short texts are the same.
-ghost use Rattle.std.specs.Prelude.{◌≡◌, ◌≤◌, length, take, IsTrue};
+ghost use Rattle.std.specs.Prelude.{◌≡◌, ◌+◌, ◌≤◌, length, take, drop, IsTrue, IfSome};
 ghost use Rattle.std.specs.Int.{to_le_bytes, w64};
 
 /// The first eight bytes as one word.
@@ -13,21 +13,58 @@ fn word(text: &[u8]) -> u64
     ])
 }
 
-/// Whether two texts are the same, by words of eight bytes.
+/// Whether the words of eight bytes at a place are the same.
+#[inline(always)]
+fn same_word(a: &[u8], b: &[u8], at: usize) -> bool
+    requires a { at + 8 ≤ length a.now }
+    requires b { at + 8 ≤ length b.now }
+    ensures { IsTrue result → take 8 (drop at a.now) ≡ take 8 (drop at b.now) }
+{
+    word(a.split_at(at).1) == word(b.split_at(at).1)
+}
+
+/// So many bytes in front are the same: 32, or none where the texts are shorter. None says nothing.
+#[inline(always)]
+fn same_in_front(a: &[u8], b: &[u8]) -> Option<usize>
+    requires { length a.now ≡ length b.now }
+    ensures { IfSome result (λ n. (take n a.now ≡ take n b.now) × (n ≤ length a.now)) }
+{
+    if a.len() < 32 {
+        return Some(0);
+    }
+    if !same_word(a, b, 0) {
+        return None;
+    }
+    if !same_word(a, b, 8) {
+        return None;
+    }
+    if !same_word(a, b, 16) {
+        return None;
+    }
+    if !same_word(a, b, 24) {
+        return None;
+    }
+    Some(32)
+}
+
+/// Whether two texts are the same, by words of eight bytes; false says nothing.
 #[inline(always)]
 pub(crate) fn is_same(a: &[u8], b: &[u8]) -> bool
     ensures { IsTrue result → a.now ≡ b.now }
 {
     let len = a.len();
     if len != b.len() || len < 8 {
-        return a == b;
+        return false;
     }
-    let mut at = 0;
+    let Some(start) = same_in_front(a, b) else {
+        return false;
+    };
+    let mut at = start;
     'words: while len - at > 8 {
-        if word(a.split_at(at).1) != word(b.split_at(at).1) {
+        if !same_word(a, b, at) {
             return false;
         }
         at += 8;
     }
-    word(a.split_at(len - 8).1) == word(b.split_at(len - 8).1)
+    same_word(a, b, len - 8)
 }

@@ -6,7 +6,7 @@ ghost use Rattle.raw_events.specs.Front.{plain};
 ghost use Rattle.raw_events.specs.Recording.{line_len};
 ghost use Rattle.text_lines.specs.Blanks.{ends_in};
 
-use crate::digits::hex_value;
+use crate::digits::hex_place;
 use crate::line::{Fields, fields_from};
 
 /// How many bytes type, code and value take with one space between them.
@@ -18,11 +18,7 @@ fn four(a: u8, b: u8, c: u8, d: u8) -> Option<u32>
     ensures value { IfSome result (λ n. number 16 (a ∷ b ∷ c ∷ d ∷ []) ≡ Some n) }
     ensures bound { IfSome result (λ n. n < 16 ^ 4) }
 {
-    let first = hex_value(a);
-    let second = hex_value(b);
-    let third = hex_value(c);
-    let last = hex_value(d);
-    let n = ((first * 16 + second) * 16 + third) * 16 + last;
+    let n = hex_place(3, a) + hex_place(2, b) + hex_place(1, c) + hex_place(0, d);
     if n < 65_536 { Some(n) } else { None }
 }
 

@@ -10,7 +10,7 @@ abbrev pub invariant-lines : goal.invariant-lines
 invariant-lines l = record {
   told : behind l.events.items (tell (known l.devices) l.number (parts l.rest).ended) ≡ behind l.fn.events.items (tell (known l.devices) l.fn.number (parts l.bytes).ended);
   begun : (parts l.rest).begun ≡ (parts l.bytes).begun;
-  front : IfSome l.front (λ f. FrontSays (known l.devices) f.to_point.now f.seconds f.part.now f.device);
+  front : IfSome l.front (λ f. FrontSays (known l.devices) f.to_point.now f.seconds f.part.now f.device f.head.now f.moment);
   before : take (length l.fn.events.items) l.events.items ≡ l.fn.events.items;
 }
 
