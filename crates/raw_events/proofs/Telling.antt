@@ -50,3 +50,11 @@ line_stopped devices line lines (errors.BadLine m) n all before mid after t same
 line_stopped devices line lines (errors.NoMoment m) n all before mid after t same h = t (tell devices (next_number n) lines) ∙ same
 line_stopped devices line lines (errors.TooLong m) n all before mid after t same h = t (tell devices (next_number n) lines) ∙ same
 line_stopped devices line lines errors.Memory n all before mid after t same h = rw t h
+
+-- lines that were told up to a refusal, behind lines that were told
+pub front_stopped : (error : LineError) (told all : Told) (before mid after : List RawEvent) → TellsLines (Err error) told mid after → behind mid told ≡ behind before all → take (length before) mid ≡ before
+    → TellsLines (Err error) all before after
+front_stopped (errors.BadLine m) told all before mid after t same h = t ∙ same
+front_stopped (errors.NoMoment m) told all before mid after t same h = t ∙ same
+front_stopped (errors.TooLong m) told all before mid after t same h = t ∙ same
+front_stopped errors.Memory told all before mid after t same h = begins_both before mid after h t

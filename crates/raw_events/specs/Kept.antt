@@ -6,7 +6,7 @@ use Rattle.raw_events.specs.declared.event.LineError.TheVariants as errors
 use Rattle.raw_events.specs.declared.line.Line.{Line}
 use Rattle.raw_events.specs.Recording.{line_len, next_number}
 use Rattle.raw_events.specs.Line.{Known, judged}
-use Rattle.raw_events.specs.Pieces.{Told, Place, Step, parts, with_told}
+use Rattle.raw_events.specs.Pieces.{Told, Place, Step, parts, tell, with_told}
 
 -- the bytes of a line that has begun, with room for the longest line
 pub record IsKept (kept : List ℕ) (capacity : ℕ) : Type 0 where
@@ -46,6 +46,13 @@ TellsLine (Err error) line n before after = (told : Told) → record { events = 
 abbrev pub TellsLines : Result ℕ LineError → Told → List RawEvent → List RawEvent → Type 0
 TellsLines (Err errors.Memory) told before after = take (length before) after ≡ before
 TellsLines next told before after = record { events = after; next = next } ≡ behind before told
+
+-- Lines in front were told, and these bytes stand behind them. After want of memory some events may have been added.
+abbrev pub TellsFront : Known → Result (ℕ × List ℕ) LineError → ℕ → List ℕ → List RawEvent → List RawEvent → Type 0
+TellsFront devices (Ok read) n bytes before after =
+    (behind after (tell devices read.0 (parts read.1).ended) ≡ behind before (tell devices n (parts bytes).ended)) × ((parts read.1).begun ≡ (parts bytes).begun)
+    × (take (length before) after ≡ before) × (length read.1 ≤ length bytes)
+TellsFront devices (Err error) n bytes before after = TellsLines (Err error) (tell devices n (parts bytes).ended) before after
 
 -- A piece was read up to where a line goes on. After want of memory some events and some bytes may have been added.
 abbrev pub ReadsPiece : Result ℕ LineError → Step → List RawEvent → List RawEvent → List ℕ → List ℕ → Type 0

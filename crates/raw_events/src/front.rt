@@ -6,8 +6,7 @@ ghost use Rattle.raw_events.specs.Front.{SecondsSay, PathSays, FrontSays};
 ghost use Rattle.raw_events.specs.Kept.{TakesLine};
 ghost use Rattle.raw_events.specs.Recording.{line_len};
 
-use crate::event::RawEvent;
-use crate::line::{Fields, Line, MAX_LINE, path, seconds, sender_of};
+use crate::line::{Fields, MAX_LINE, path, seconds, sender_of};
 use crate::micros::{MICROS_LEN, micros};
 use crate::piece::line_in_front;
 use crate::same::is_same;
@@ -26,11 +25,11 @@ pub(crate) struct Front<'a> {
 
     /// From the second bracket up to the type.
     part: &'a [u8],
-    device: Option<DeviceId>,
+    pub(crate) device: Option<DeviceId>,
 
     /// All of it: both parts with the microseconds between them.
     head: &'a [u8],
-    moment: Moment,
+    pub(crate) moment: Moment,
 }
 
 /// Whether no newline stands in these bytes.
@@ -204,23 +203,6 @@ fn take_head<'a>(
     Some(())
 }
 
-/// What a line with these fields says, from this device at this moment.
-#[inline(always)]
-fn line_of(device: Option<DeviceId>, moment: Moment, fields: Fields) -> Line
-    ensures { result ≡ sent device moment fields }
-{
-    match device {
-        Some(device) => Line::Event(RawEvent {
-            device,
-            moment,
-            kind: fields.kind,
-            code: fields.code,
-            value: fields.value,
-        }),
-        None => Line::PassedOver,
-    }
-}
-
 /// What stands behind a carriage return and a newline.
 #[inline(never)]
 fn past_return(bytes: &[u8]) -> Option<&[u8]>
@@ -243,17 +225,18 @@ fn past_end(bytes: &[u8]) -> Option<&[u8]>
     }
 }
 
-/// What the first line says that ends in these bytes, and what stands behind its newline, where the line is as long as
-/// the one before it and has such a front. None says nothing.
+/// The fields of the first line that ends in these bytes, and what stands behind its newline, where the line is as long
+/// as the one before it and has such a front. None says nothing.
 #[inline(always)]
-pub(crate) fn quick_line<'a>(
+pub(crate) fn quick_fields<'a>(
     devices: &[(String, DeviceId)],
     front: &mut Front<'a>,
     bytes: &'a [u8],
-) -> Option<(Line, &'a [u8])>
+) -> Option<(Fields, &'a [u8])>
     requires { FrontSays (known devices.now) front.old.to_point.now front.old.seconds front.old.part.now
         front.old.device front.old.head.now front.old.moment }
-    ensures line { IfSome result (λ taken. TakesLine (known devices.now) bytes.now taken.0 taken.1.now) }
+    ensures line { IfSome result (λ taken. TakesLine (known devices.now) bytes.now
+        (sent front.new.device front.new.moment taken.0) taken.1.now) }
     ensures front { FrontSays (known devices.now) front.new.to_point.now front.new.seconds front.new.part.now
         front.new.device front.new.head.now front.new.moment }
 {
@@ -266,5 +249,5 @@ pub(crate) fn quick_line<'a>(
     let after = past_end(rest)?;
     take_head(devices, front, head)?;
     let fields = usual_fields(end)?;
-    Some((line_of(front.device, front.moment, fields), after))
+    Some((fields, after))
 }

@@ -2,15 +2,15 @@
 ghost use Rattle.std.specs.Prelude.{◌≡◌, ◌<◌, ◌≤◌, length, ◌∷◌, ◌++◌, [], IfOk, IfSome, MatchOption, vec_capacity};
 ghost use Rattle.std.specs.Result.{result_map_both};
 ghost use Rattle.raw_events.specs.Front.{FrontSays};
-ghost use Rattle.raw_events.specs.Line.{known, judged};
+ghost use Rattle.raw_events.specs.Line.{known, judged, sent};
 ghost use Rattle.raw_events.specs.Recording.{line_len, refusal};
 ghost use Rattle.raw_events.specs.Pieces.{parts, last_line, tell, from_parts};
-ghost use Rattle.raw_events.specs.Kept.{IsKept, TakesLine, TellsLine, TellsLines, ReadsPiece, Keeps};
+ghost use Rattle.raw_events.specs.Kept.{IsKept, TakesLine, TellsFront, TellsLine, TellsLines, ReadsPiece, Keeps};
 
 use crate::event::{LineError, RawEvent};
-use crate::front::{Front, quick_line};
-use crate::line::{Cause, Line, MAX_LINE, judge, judge_next};
-use input_types::DeviceId;
+use crate::front::{Front, quick_fields};
+use crate::line::{Cause, Fields, Line, MAX_LINE, judge, judge_next};
+use input_types::{DeviceId, Moment};
 use memchr::memchr;
 
 /// How many bytes stand before the first newline.
@@ -97,27 +97,74 @@ fn find_line<'a>(
     Some((judge_next(devices, front, line), after))
 }
 
-/// What the first line says that ends in these bytes, and what stands behind its newline, with the help of the front of
-/// the line before it, in whose place its own is put; None where there is no newline.
+/// Appends what a line with these fields says, from this device at this moment, and answers the number of the next line.
 #[inline(always)]
-fn take_line<'a>(
+fn tell_fields(
+    device: Option<DeviceId>,
+    moment: Moment,
+    fields: Fields,
+    number: u64,
+    events: &mut Vec<RawEvent>,
+) -> Result<u64, LineError>
+    ensures { TellsLine result (sent device moment fields) number events.old.items events.new.items }
+{
+    if let Some(device) = device {
+        // Field by field, so that what lies between the fields is not carried along.
+        events.push(RawEvent {
+            device,
+            moment,
+            kind: fields.kind,
+            code: fields.code,
+            value: fields.value,
+        })?;
+    }
+    Ok(number.saturating_add(1))
+}
+
+/// Appends the events of the lines in front that have such a front, and answers the number of the line behind them with
+/// all bytes behind them.
+fn read_quick<'a>(
+    devices: &[(String, DeviceId)],
+    front: &mut Front<'a>,
+    number: u64,
+    bytes: &'a [u8],
+    events: &mut Vec<RawEvent>,
+) -> Result<(u64, &'a [u8]), LineError>
+    requires { FrontSays (known devices.now) front.old.to_point.now front.old.seconds front.old.part.now
+        front.old.device front.old.head.now front.old.moment }
+    ensures told { TellsFront (known devices.now) (result_map_both (λ r. (r.0, r.1.now)) (λ e. e) result) number
+        bytes.now events.old.items events.new.items }
+    ensures front { FrontSays (known devices.now) front.new.to_point.now front.new.seconds front.new.part.now
+        front.new.device front.new.head.now front.new.moment }
+{
+    let mut number = number;
+    let mut rest = bytes;
+    'lines: while let Some((fields, after)) = quick_fields(devices, front, rest) {
+        number = tell_fields(front.device, front.moment, fields, number, events)?;
+        rest = after;
+    }
+    Ok((number, rest))
+}
+
+/// Appends the events of the lines in front that have the front that is kept, where one is.
+fn read_alike<'a>(
     devices: &[(String, DeviceId)],
     front: &mut Option<Front<'a>>,
+    number: u64,
     bytes: &'a [u8],
-) -> Option<(Line, &'a [u8])>
+    events: &mut Vec<RawEvent>,
+) -> Result<(u64, &'a [u8]), LineError>
     requires { IfSome front.old (λ f. FrontSays (known devices.now) f.to_point.now f.seconds f.part.now f.device
         f.head.now f.moment) }
-    ensures line { MatchOption result (parts bytes.now ≡ record { ended = []; begun = bytes.now })
-        (λ taken. TakesLine (known devices.now) bytes.now taken.0 taken.1.now) }
+    ensures told { TellsFront (known devices.now) (result_map_both (λ r. (r.0, r.1.now)) (λ e. e) result) number
+        bytes.now events.old.items events.new.items }
     ensures front { IfSome front.new (λ f. FrontSays (known devices.now) f.to_point.now f.seconds f.part.now f.device
         f.head.now f.moment) }
 {
-    if let Some(kept) = front {
-        if let Some(taken) = quick_line(devices, kept, bytes) {
-            return Some(taken);
-        }
+    match front {
+        Some(kept) => read_quick(devices, kept, number, bytes, events),
+        None => Ok((number, bytes)),
     }
-    find_line(devices, front, bytes)
 }
 
 /// Appends the events of the lines that end in these bytes, and answers the number of the line behind them with its
@@ -135,9 +182,11 @@ pub(crate) fn read_lines<'a>(
     let mut number = number;
     let mut rest = bytes;
     let mut front: Option<Front> = None;
-    'lines: while let Some((said, after)) = take_line(devices, &mut front, rest) {
-        number = tell_line(&said, number, events)?;
-        rest = after;
+    'lines: while let Some((said, after)) = find_line(devices, &mut front, rest) {
+        let next = tell_line(&said, number, events)?;
+        let (behind, others) = read_alike(devices, &mut front, next, after, events)?;
+        number = behind;
+        rest = others;
     }
     Ok((number, rest))
 }
