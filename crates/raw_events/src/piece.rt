@@ -97,7 +97,8 @@ fn find_line<'a>(
     Some((judge_next(devices, front, line), after))
 }
 
-/// Appends what a line with these fields says, from this device at this moment, and answers the number of the next line.
+/// Appends what a line with these fields says, from this device at this moment, and answers the number of the next
+/// line.
 #[inline(always)]
 fn tell_fields(
     device: Option<DeviceId>,

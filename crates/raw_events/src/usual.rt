@@ -22,6 +22,21 @@ fn four(a: u8, b: u8, c: u8, d: u8) -> Option<u32>
     if n < 65_536 { Some(n) } else { None }
 }
 
+/// Four zeros as one word.
+const ZEROS: u32 = 0x3030_3030;
+
+/// The number that four hexadecimal digits write, which are mostly zeros; None says nothing.
+#[inline(always)]
+fn mostly_zeros(a: u8, b: u8, c: u8, d: u8) -> Option<u32>
+    ensures value { IfSome result (λ n. number 16 (a ∷ b ∷ c ∷ d ∷ []) ≡ Some n) }
+    ensures bound { IfSome result (λ n. n < 16 ^ 4) }
+{
+    if u32::from_le_bytes([a, b, c, d]) == ZEROS {
+        return Some(0);
+    }
+    four(a, b, c, d)
+}
+
 /// Type, code and value, where they are written as usual; None says nothing.
 #[inline(always)]
 pub(crate) fn usual_fields(text: &[u8]) -> Option<Fields>
@@ -35,7 +50,7 @@ pub(crate) fn usual_fields(text: &[u8]) -> Option<Fields>
     }
     let kind = four(text[0], text[1], text[2], text[3])?;
     let code = four(text[5], text[6], text[7], text[8])?;
-    let high = four(text[10], text[11], text[12], text[13])?;
+    let high = mostly_zeros(text[10], text[11], text[12], text[13])?;
     let low = four(text[14], text[15], text[16], text[17])?;
     Some(fields_from(kind, code, high * 65536 + low))
 }
