@@ -1,4 +1,5 @@
 pub mod Rows
 pub mod Listing
+pub mod Moving
 pub mod ToolTypes
 pub mod Examples

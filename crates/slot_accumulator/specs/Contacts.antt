@@ -1,5 +1,5 @@
 -- Lists of contacts.
-use Rattle.std.specs.Prelude.{◌<◌, ◌≢◌, Bool, false, ℤ, pos, List, [], ◌∷◌, ◌≤ℤ◌}
+use Rattle.std.specs.Prelude.{ℕ, ◌<◌, ◌≢◌, Bool, false, ℤ, pos, nat_eq, List, [], ◌∷◌, ◌≤ℤ◌, if◌then◌else◌}
 use Rattle.std.specs.List.{list_any}
 use Rattle.std.specs.Ordering.{int_eq}
 use Rattle.slot_accumulator.specs.declared.contacts.Contact.{Contact}
@@ -27,6 +27,16 @@ AreContacts (c ∷ cs) = (pos 0 ≤ℤ c.tracking) × IsBeforeAll c cs × AreCon
 abbrev pub Joins : List Contact → Contact → Type 0
 Joins [] d = pos 0 ≤ℤ d.tracking
 Joins (c ∷ cs) d = IsBefore c d × Joins cs d
+
+-- a contact after its slot got a place: another contact stays where it is
+abbrev pub put_at : ℕ → ℤ → ℤ → Contact → Contact
+put_at slot x y c = record {
+  slot = c.slot;
+  tracking = c.tracking;
+  x = if nat_eq c.slot slot then x else c.x;
+  y = if nat_eq c.slot slot then y else c.y;
+  palm = c.palm;
+}
 
 -- what stands in the places of a list that are not in use
 abbrev pub unused : Contact

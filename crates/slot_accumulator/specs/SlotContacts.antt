@@ -60,6 +60,10 @@ no_row = record { tracking = pos 0; x = pos 0; y = pos 0; tool = pos 0 }
 abbrev pub row_in : List Row → ℕ → Row
 row_in rows s = get_or rows s no_row
 
+-- the contacts that a table holds, in rising slot
+abbrev pub contacts_in : Table → List Contact
+contacts_in t = contacts_of (row_in t.rows) (λ i. is_kept t.palms i) t.slots
+
 -- a table says of each of its 16 slots what these events have written to it, and which tracking ids are those of palms
 pub record SlotsStandFor (past : List RawEvent) (t : Table) : Type 0 where
   pub current_is : t.current ≡ current past

@@ -1,5 +1,5 @@
 //! The slots of a device.
-ghost use Rattle.std.specs.Prelude.{◌≡◌, ℕ, ◌+◌, ◌<◌, ◌≤◌, List, [], ◌∷◌, ◌++◌, MatchOption, ℤ, Bool, pos, false, not, ◌&&◌};
+ghost use Rattle.std.specs.Prelude.{◌≡◌, ℕ, ◌+◌, ◌<◌, ◌≤◌, List, [], ◌∷◌, ◌++◌, MatchOption, ℤ, Bool, pos, true, false, not, ◌&&◌};
 ghost use Rattle.std.specs.Prelude.{◌||◌, int_le, length, nat_eq, if◌then◌else◌};
 ghost use Rattle.std.specs.List.{list_any};
 ghost use Rattle.std.specs.Ordering.{int_eq};
@@ -7,7 +7,9 @@ ghost use Rattle.raw_events.specs.declared.event.RawEvent.{RawEvent as Event};
 ghost use Rattle.slot_accumulator.specs.SlotValues.{row_after, is_slot};
 ghost use Rattle.slot_accumulator.specs.Contacts.{has_tracking};
 ghost use Rattle.slot_accumulator.specs.Table.{is_kept};
-ghost use Rattle.slot_accumulator.specs.SlotContacts.{contact as contact_of, contacts_at, contacts_of, has_palm_tool};
+ghost use Rattle.raw_events.specs.Packets.{is_report as ends_packet};
+ghost use Rattle.slot_accumulator.specs.SlotContacts.{contact as contact_of, contacts_at, contacts_in, contacts_of};
+ghost use Rattle.slot_accumulator.specs.SlotContacts.{has_palm_tool};
 ghost use Rattle.slot_accumulator.specs.SlotContacts.{palm_below, row_in, SlotsStandFor};
 
 use crate::contacts::{Contact, Contacts, tracked};
@@ -83,6 +85,7 @@ impl Slots {
         requires { (1 ≤ slots) × (slots ≤ 16) }
         ensures state { SlotsStandFor [] result }
         ensures slots { result.slots ≡ slots }
+        ensures contacts { contacts_in result ≡ [] }
     {
         let row = Row {
             tracking: -1,
@@ -111,8 +114,7 @@ impl Slots {
         ensures slots { self.new.slots ≡ self.old.slots }
     {
         if is_report(&event) {
-            let rows = self.rows.split_at(usize::from(self.slots)).0;
-            note_palms(rows, self.palm_tool, &mut self.palms);
+            self.note();
             return;
         }
         if event.kind != EV_ABS {
@@ -127,6 +129,81 @@ impl Slots {
             self.rows[at] = written(&row, &event);
             self.palm_tool = tool_after(event.code, self.palm_tool, &self.rows);
         }
+    }
+
+    /// Takes the next event of the device, as `take` does, and keeps a list of the contacts: where it had those of
+    /// before, it has those of now. Only a tracking id and a packet with a palm make the list anew.
+    pub fn follow(&mut self, event: &RawEvent, contacts: &mut Contacts)
+        ensures state { (past : List Event) → SlotsStandFor past self.old → SlotsStandFor (event.now ∷ past) self.new }
+        ensures slots { self.new.slots ≡ self.old.slots }
+        ensures contacts { contacts.old ≡ contacts_in self.old → contacts.new ≡ contacts_in self.new }
+        ensures events { (past : List Event) → SlotsStandFor past self.old → contacts.old ≡ contacts_in self.old
+            → contacts.new ≡ contacts_at self.old.slots (event.now ∷ past) }
+    {
+        let _ = &self.slots;
+        if self.changes(event, contacts) {
+            self.list_anew(contacts);
+        }
+    }
+
+    /// Takes the next event, and answers whether the list of the contacts has to be made anew. Where not, it is kept.
+    fn changes(&mut self, event: &RawEvent, contacts: &mut Contacts) -> bool
+        ensures state { (past : List Event) → SlotsStandFor past self.old → SlotsStandFor (event.now ∷ past) self.new }
+        ensures slots { self.new.slots ≡ self.old.slots }
+        ensures contacts { result ≡ false → contacts.old ≡ contacts_in self.old → contacts.new ≡ contacts_in self.new }
+    {
+        if event.kind == EV_ABS {
+            return self.write(event, contacts);
+        }
+        if is_report(event) {
+            return self.note();
+        }
+        false
+    }
+
+    /// Takes an EV_ABS event, and answers whether the list of the contacts has to be made anew.
+    fn write(&mut self, event: &RawEvent, contacts: &mut Contacts) -> bool
+        requires { event.now.kind ≡ 3 }
+        ensures state { (past : List Event) → SlotsStandFor past self.old → SlotsStandFor (event.now ∷ past) self.new }
+        ensures slots { self.new.slots ≡ self.old.slots }
+        ensures contacts { result ≡ false → contacts.old ≡ contacts_in self.old → contacts.new ≡ contacts_in self.new }
+    {
+        if event.code == ABS_MT_SLOT {
+            self.current = event.value;
+            return false;
+        }
+        if let Some(at) = place(self.current) {
+            let row = written(&self.rows[at], event);
+            self.rows[at] = row;
+            self.palm_tool = tool_after(event.code, self.palm_tool, &self.rows);
+            if event.code == ABS_MT_TRACKING_ID {
+                return true;
+            }
+            contacts.put(at, &row);
+        }
+        false
+    }
+
+    /// Notes the palms at the end of a packet, and answers whether there may be one. Where not, nothing changes.
+    fn note(&mut self) -> bool
+        ensures state { (past : List Event) (e : Event) → ends_packet e ≡ true → SlotsStandFor past self.old
+            → SlotsStandFor (e ∷ past) self.new }
+        ensures slots { self.new.slots ≡ self.old.slots }
+        ensures same { result ≡ false → self.new ≡ self.old }
+    {
+        let none = no_palm(self.palm_tool, &self.palms);
+        let rows = self.rows.split_at(usize::from(self.slots)).0;
+        note_palms(rows, self.palm_tool, &mut self.palms);
+        !none
+    }
+
+    /// Makes a list that of the contacts now.
+    #[inline(never)]
+    fn list_anew(&self, contacts: &mut Contacts)
+        ensures { contacts.new ≡ contacts_in self.now }
+    {
+        *contacts = Contacts::empty();
+        self.contacts_into(contacts);
     }
 
     /// The contacts now: the slots of the device whose tracking id is not negative and is that of no lower slot, each
@@ -160,6 +237,7 @@ impl Slots {
     pub fn reset(&mut self)
         ensures state { SlotsStandFor [] self.new }
         ensures slots { self.new.slots ≡ self.old.slots }
+        ensures contacts { contacts_in self.new ≡ [] }
     {
         *self = Slots::new(self.slots);
     }
@@ -208,8 +286,9 @@ fn tool_after(code: u16, before: bool, rows: &[Row]) -> bool
 fn note_palms(rows: &[Row], palm_tool: bool, noted: &mut Palms)
     requires few { length rows.now ≤ 16 }
     requires tool { palm_tool ≡ false → list_any (λ r. has_palm_tool r) rows.now ≡ false }
-    ensures { (tracking : ℤ) → is_kept noted.new tracking ≡ palm_below (row_in rows.now)
+    ensures noted { (tracking : ℤ) → is_kept noted.new tracking ≡ palm_below (row_in rows.now)
         (λ t. is_kept noted.old t) (length rows.now) tracking }
+    ensures same { (nat_eq (length noted.old) 0 && not palm_tool) ≡ true → noted.new ≡ noted.old }
 {
     if no_palm(palm_tool, noted) {
         return;

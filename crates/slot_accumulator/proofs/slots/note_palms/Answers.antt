@@ -6,8 +6,8 @@ use Rattle.slot_accumulator.specs.Table.{is_kept}
 use Rattle.slot_accumulator.proofs.Listing.{and_first, and_second, none_kept, none_palm}
 use Rattle.slot_accumulator.proofs.slots.note_palms.Goals as goal
 
-pub returns-then-no_palm : goal.returns-then-no_palm
-returns-then-no_palm c = λ t.
+pub returns-then-no_palm-clause-noted : goal.returns-then-no_palm-clause-noted
+returns-then-no_palm-clause-noted c = λ t.
     let both : (nat_eq (length c.args.noted.now) 0 && not c.args.palm_tool) ≡ true = sym c.no_palm.ensures ∙ c.if-no_palm.true in
     let kept : is_kept c.args.noted.now t ≡ false =
     none_kept c.args.noted.now t (eqb-true (length c.args.noted.now) 0 (and_first (nat_eq (length c.args.noted.now) 0) (not c.args.palm_tool) both)) in

@@ -1,0 +1,153 @@
+-- A contact that gets another place, in a list of contacts and among the slots.
+use Rattle.std.specs.Prelude.{◌≡◌, ◌≢◌, ℕ, zero, suc, ◌<◌, ◌≤◌, Bool, true, false, not, ◌&&◌, ℤ, pos, nat_eq, List, [], ◌∷◌, ◌++◌, length, map, set, get_or, ◌⊎◌, if◌then◌else◌, int_le}
+use Rattle.std.specs.List.{list_any}
+use Rattle.std.proofs.Common.{sym, ◌∙◌, ap, refl, arith, eq-eqb, ne_eqb, inl, inr, get_or-set_same, get_or-set_other}
+use Rattle.std.proofs.lemmas.Bool.{cases_eq}
+use Rattle.std.proofs.lemmas.List.{map-append}
+use Rattle.slot_accumulator.specs.declared.contacts.Contact.{Contact}
+use Rattle.slot_accumulator.specs.declared.slots.Row.{Row}
+use Rattle.slot_accumulator.specs.Contacts.{IsBeforeAll, AreContacts, put_at, unused}
+use Rattle.slot_accumulator.specs.SlotContacts.{lower_has, holds, contact, contacts_of, row_in}
+use Rattle.slot_accumulator.specs.SlotValues.{row_after}
+use Rattle.slot_accumulator.specs.SlotContacts.{contacts_in, contacts_at, is_palm, SlotsStandFor}
+use Rattle.slot_accumulator.specs.SlotValues.{row}
+use Rattle.slot_accumulator.specs.Table.{Table, is_kept}
+use Rattle.slot_accumulator.proofs.Listing.{or_left, or_right, contacts_same}
+use Rattle.raw_events.specs.declared.event.RawEvent.{RawEvent}
+
+other_stays : (c : Contact) (slot : ℕ) (x y : ℤ) → nat_eq c.slot slot ≡ false → put_at slot x y c ≡ c
+other_stays c slot x y h = rw h refl
+
+-- a list without a contact of the slot stays
+pub none_there : (cs : List Contact) (slot : ℕ) (x y : ℤ) → list_any (λ (c : Contact). nat_eq c.slot slot) cs ≡ false
+    → map (λ (c : Contact). put_at slot x y c) cs ≡ cs
+none_there [] slot x y h = refl
+none_there (c ∷ cs) slot x y h =
+    let here : nat_eq c.slot slot ≡ false = or_left (nat_eq c.slot slot) (list_any (λ (d : Contact). nat_eq d.slot slot) cs) h in
+    let behind : list_any (λ (d : Contact). nat_eq d.slot slot) cs ≡ false = or_right (nat_eq c.slot slot) (list_any (λ (d : Contact). nat_eq d.slot slot) cs) h in
+    ap (λ d. d ∷ map (λ (e : Contact). put_at slot x y e) cs) (other_stays c slot x y here)
+    ∙ ap (λ ds. c ∷ ds) (none_there cs slot x y behind)
+
+-- what is behind the contact of the slot stays
+behind_stay : (c : Contact) (cs : List Contact) (slot : ℕ) (x y : ℤ) → IsBeforeAll c cs → c.slot ≡ slot
+    → map (λ (d : Contact). put_at slot x y d) cs ≡ cs
+behind_stay c [] slot x y h is = refl
+behind_stay c (d ∷ ds) slot x y h is =
+    let other : d.slot ≢ slot = λ same. omega (arith, same, is, h.0.0) in
+    ap (λ e. e ∷ map (λ (n : Contact). put_at slot x y n) ds) (other_stays d slot x y (ne_eqb d.slot slot other))
+    ∙ ap (λ es. d ∷ es) (behind_stay c ds slot x y h.1 is)
+
+before_at : (c : Contact) (cs : List Contact) (i : ℕ) (d : Contact) → IsBeforeAll c cs → i < length cs → c.slot < (get_or cs i d).slot
+before_at c [] i d h lt = absurd (omega (arith, lt))
+before_at c (e ∷ es) zero d h lt = h.0.0
+before_at c (e ∷ es) (suc i) d h lt = before_at c es i d h.1 (omega (arith, lt))
+
+-- the contact of the slot is set in its place
+pub one_put : (cs : List Contact) (i slot : ℕ) (x y : ℤ) (n : Contact) → AreContacts cs → i < length cs → (get_or cs i unused).slot ≡ slot
+    → n ≡ put_at slot x y (get_or cs i unused) → set cs i n ≡ map (λ (c : Contact). put_at slot x y c) cs
+one_put [] i slot x y n a lt is new = absurd (omega (arith, lt))
+one_put (c ∷ cs) zero slot x y n a lt is new =
+    ap (λ d. d ∷ cs) new ∙ ap (λ ds. put_at slot x y c ∷ ds) (sym (behind_stay c cs slot x y a.1 is))
+one_put (c ∷ cs) (suc i) slot x y n a lt is new =
+    let lower : c.slot < (get_or cs i unused).slot = before_at c cs i unused a.1 (omega (arith, lt)) in
+    let other : c.slot ≢ slot = λ same. omega (arith, same, is, lower) in
+    ap (λ ds. c ∷ ds) (one_put cs i slot x y n a.2 (omega (arith, lt)) is new)
+    ∙ ap (λ d. d ∷ map (λ (e : Contact). put_at slot x y e) cs) (sym (other_stays c slot x y (ne_eqb c.slot slot other)))
+
+-- the same, where the list is lent twice
+pub put_there : (cs xs ys : List Contact) (i slot : ℕ) (x y : ℤ) (n : Contact) → AreContacts cs → xs ≡ cs → ys ≡ cs → i < length xs → (get_or xs i unused).slot ≡ slot
+    → n ≡ put_at (get_or ys i unused).slot x y (get_or ys i unused) → set cs i n ≡ map (λ (c : Contact). put_at slot x y c) cs
+put_there cs xs ys i slot x y n a first second lt is new =
+    let here : (get_or cs i unused).slot ≡ slot = ap (λ (zs : List Contact). (get_or zs i unused).slot) (sym first) ∙ is in
+    one_put cs i slot x y n a (omega (arith, lt, ap (λ (zs : List Contact). length zs) first)) here
+    (new ∙ ap (λ (zs : List Contact). put_at (get_or zs i unused).slot x y (get_or zs i unused)) second ∙ ap (λ s. put_at s x y (get_or cs i unused)) here)
+
+before_put : (c : Contact) (cs : List Contact) (slot : ℕ) (x y : ℤ) → IsBeforeAll c cs
+    → IsBeforeAll (put_at slot x y c) (map (λ (d : Contact). put_at slot x y d) cs)
+before_put c [] slot x y h = tt
+before_put c (d ∷ ds) slot x y h = (h.0, before_put c ds slot x y h.1)
+
+-- the list is one of contacts still
+pub AreContacts-put : (cs : List Contact) (slot : ℕ) (x y : ℤ) → AreContacts cs → AreContacts (map (λ (c : Contact). put_at slot x y c) cs)
+AreContacts-put [] slot x y a = tt
+AreContacts-put (c ∷ cs) slot x y a = (a.0, before_put c cs slot x y a.1, AreContacts-put cs slot x y a.2)
+
+-- ---- the contacts of slots of which one has other positions
+
+lower_tracks : (f g : ℕ → Row) (n : ℕ) (t : ℤ) → ((s : ℕ) → (f s).tracking ≡ (g s).tracking) → lower_has f n t ≡ lower_has g n t
+lower_tracks f g zero t h = refl
+lower_tracks f g (suc s) t h = rw (h s, lower_tracks f g s t h) refl
+
+holds_same : (f g : ℕ → Row) (s : ℕ) → ((i : ℕ) → (f i).tracking ≡ (g i).tracking) → holds f s ≡ holds g s
+holds_same f g s h =
+    ap (λ t. int_le (pos 0) t && not (lower_has f s t)) (h s)
+    ∙ ap (λ b. int_le (pos 0) (g s).tracking && not b) (lower_tracks f g s (g s).tracking h)
+
+push_put : (slot : ℕ) (x y : ℤ) (cs : List Contact) (c : Contact) (b : Bool)
+    → (if b then map (λ (d : Contact). put_at slot x y d) cs ++ put_at slot x y c ∷ [] else map (λ (d : Contact). put_at slot x y d) cs)
+    ≡ map (λ (d : Contact). put_at slot x y d) (if b then cs ++ c ∷ [] else cs)
+push_put slot x y cs c true = sym (map-append (λ (d : Contact). put_at slot x y d) cs (c ∷ []))
+push_put slot x y cs c false = refl
+
+put_all : (f g : ℕ → Row) (palms : ℤ → Bool) (slot : ℕ) (x y : ℤ) (n : ℕ) → ((s : ℕ) → (f s).tracking ≡ (g s).tracking)
+    → ((s : ℕ) → contact palms s (f s) ≡ put_at slot x y (contact palms s (g s)))
+    → contacts_of f palms n ≡ map (λ (c : Contact). put_at slot x y c) (contacts_of g palms n)
+put_all f g palms slot x y zero h each = refl
+put_all f g palms slot x y (suc s) h each =
+    ap (λ b. if b then contacts_of f palms s ++ contact palms s (f s) ∷ [] else contacts_of f palms s) (holds_same f g s h)
+    ∙ ap (λ xs. if holds g s then xs ++ contact palms s (f s) ∷ [] else xs) (put_all f g palms slot x y s h each)
+    ∙ ap (λ c. if holds g s then map (λ (d : Contact). put_at slot x y d) (contacts_of g palms s) ++ c ∷ [] else map (λ (d : Contact). put_at slot x y d) (contacts_of g palms s)) (each s)
+    ∙ push_put slot x y (contacts_of g palms s) (contact palms s (g s)) (holds g s)
+
+tracking_kept : (r q : Row) (code : ℕ) (v : ℤ) → nat_eq code 57 ≡ false → r ≡ row_after code v q → r.tracking ≡ q.tracking
+tracking_kept r q code v h is = ap (λ (p : Row). p.tracking) is ∙ (rw h refl)
+
+tracks_by : (rows : List Row) (at s : ℕ) (r : Row) → at < length rows → r.tracking ≡ (row_in rows at).tracking → (s ≡ at) ⊎ (s ≢ at)
+    → (row_in (set rows at r) s).tracking ≡ (row_in rows s).tracking
+tracks_by rows at s r lt kept (inl here) =
+    ap (λ (q : Row). q.tracking) (ap (λ i. row_in (set rows at r) i) here ∙ get_or-set_same rows at r _ lt)
+    ∙ kept
+    ∙ ap (λ i. (row_in rows i).tracking) (sym here)
+tracks_by rows at s r lt kept (inr other) = ap (λ (q : Row). q.tracking) (get_or-set_other rows at s r _ other)
+
+here_put : (palms : ℤ → Bool) (s at : ℕ) (r q : Row) → s ≡ at → q.tracking ≡ r.tracking → contact palms s r ≡ put_at at r.x r.y (contact palms s q)
+here_put palms s at r q here same = rw (eq-eqb s at here, same) refl
+
+row_by : (rows : List Row) (at s : ℕ) (r : Row) (palms : ℤ → Bool) → at < length rows → r.tracking ≡ (row_in rows at).tracking → (s ≡ at) ⊎ (s ≢ at)
+    → contact palms s (row_in (set rows at r) s) ≡ put_at at r.x r.y (contact palms s (row_in rows s))
+row_by rows at s r palms lt kept (inl here) =
+    ap (λ (q : Row). contact palms s q) (ap (λ i. row_in (set rows at r) i) here ∙ get_or-set_same rows at r _ lt)
+    ∙ here_put palms s at r (row_in rows s) here (ap (λ i. (row_in rows i).tracking) here ∙ sym kept)
+row_by rows at s r palms lt kept (inr other) =
+    ap (λ (q : Row). contact palms s q) (get_or-set_other rows at s r _ other)
+    ∙ sym (other_stays (contact palms s (row_in rows s)) at r.x r.y (ne_eqb s at other))
+
+-- an event that is no tracking id moves the contact of its slot, where there is one
+pub written_put : (rows : List Row) (at : ℕ) (r : Row) (code : ℕ) (v : ℤ) (palms : ℤ → Bool) (n : ℕ) → at < length rows → nat_eq code 57 ≡ false
+    → r ≡ row_after code v (row_in rows at)
+    → contacts_of (row_in (set rows at r)) palms n ≡ map (λ (c : Contact). put_at at r.x r.y c) (contacts_of (row_in rows) palms n)
+written_put rows at r code v palms n lt other is =
+    let kept : r.tracking ≡ (row_in rows at).tracking = tracking_kept r (row_in rows at) code v other is in
+    put_all (row_in (set rows at r)) (row_in rows) palms at r.x r.y n
+    (λ s. tracks_by rows at s r lt kept (cases_eq s at))
+    (λ s. row_by rows at s r palms lt kept (cases_eq s at))
+
+-- ---- slots that hold nothing
+
+not_held : (z low : Bool) → z ≡ false → (z && not low) ≡ false
+not_held true low h = absurd (cc)
+not_held false low h = refl
+
+-- slots whose tracking ids are negative hold no contact
+pub none_held : (rows : ℕ → Row) (palms : ℤ → Bool) (n : ℕ) → ((s : ℕ) → s < n → int_le (pos 0) (rows s).tracking ≡ false) → contacts_of rows palms n ≡ []
+none_held rows palms zero h = refl
+none_held rows palms (suc s) h =
+    ap (λ b. if b then contacts_of rows palms s ++ contact palms s (rows s) ∷ [] else contacts_of rows palms s)
+    (not_held (int_le (pos 0) (rows s).tracking) (lower_has rows s (rows s).tracking) (h s (omega arith)))
+    ∙ none_held rows palms s (λ i lt. h i (omega (arith, lt)))
+
+-- the contacts that a table holds are those after the events that it stands for
+pub contacts_stand : (t : Table) (past : List RawEvent) → t.slots ≤ 16 → SlotsStandFor past t → contacts_in t ≡ contacts_at t.slots past
+contacts_stand t past le h =
+    contacts_same (row_in t.rows) (λ s. row s past) (λ i. is_kept t.palms i) (λ i. is_palm t.slots past i) t.slots
+    (λ s lt. h.rows_are s (omega (arith, lt, le))) h.palms_are
