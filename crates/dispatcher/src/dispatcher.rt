@@ -21,6 +21,7 @@ ghost use Rattle.dispatcher.specs.Memory.{IsCalm, MayCount};
 ghost use Rattle.dispatcher.specs.Queueing.{args_in, is_input, is_pump};
 
 mod asked;
+mod direct;
 mod room;
 
 use crate::apply::apply;

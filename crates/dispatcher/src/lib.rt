@@ -42,6 +42,7 @@ mod apply;
 mod brief;
 mod cancelled;
 mod carry;
+mod direct;
 mod dispatcher;
 mod focusing;
 mod key_steps;

@@ -48,7 +48,7 @@ pub(crate) fn apply_unread(tables: &mut Tables, call: &Call) -> Result<(), Alloc
 }
 
 /// An answer that is not read.
-fn dropped(answer: Result<Brief, AllocError>) -> Result<(), AllocError>
+pub(crate) fn dropped(answer: Result<Brief, AllocError>) -> Result<(), AllocError>
     ensures { is_ok result ≡ is_ok answer }
 {
     match answer {
@@ -77,7 +77,7 @@ fn apply_dropping(tables: &mut Tables, call: &Call) -> Result<(), AllocError>
 }
 
 /// The owner of a channel has its next message. Takes no memory.
-fn pass_next(tables: &mut Tables, channel: u32)
+pub(crate) fn pass_next(tables: &mut Tables, channel: u32)
     requires { MayStep tables.old }
     ensures goes { GoesOnSomehow (Receive channel) tables.old tables.new }
     ensures promise { KeepsPromise tables.old → KeepsPromise tables.new }

@@ -1,0 +1,31 @@
+use Rattle.std.proofs.Common.{ap, ◌∙◌}
+use Rattle.dispatch_calls.specs.declared.call.Call.TheVariants.{Notify}
+use Rattle.dispatcher.specs.Access.{gone, namings_gone}
+use Rattle.dispatcher.proofs.Gone.{answered_gone}
+use Rattle.dispatcher.proofs.Applying.{raw, history_after, stands_somehow}
+use Rattle.dispatcher.proofs.dispatcher.Dispatcher.notify.Goals as goal
+
+pub hand_in-requires : goal.hand_in-requires
+hand_in-requires c = let s = c.self.invariant.0 in (s.0, raw s.0 c.self.inside.tables s.1)
+
+pub invariant_of-self : goal.invariant_of-self
+invariant_of-self c = (
+  history_after (Notify c.args.now c.args.args.now) c.hand_in.result c.self.inside.tables c.hand_in.new.tables c.hand_in.ensures.ok c.hand_in.ensures.err c.self.invariant.0,
+  c.hand_in.ensures.promise c.self.invariant.1,
+)
+
+pub returns-clause-after : goal.returns-clause-after
+returns-clause-after c =
+    λ es s.
+    stands_somehow (Notify c.args.now c.args.args.now) c.hand_in.result c.self.inside.tables c.hand_in.new.tables c.args.self.now c.self.view_is c.hand_in.ensures.ok es s
+
+pub returns-clause-gone : goal.returns-clause-gone
+returns-clause-gone c =
+    λ k low.
+    (answered_gone (Notify c.args.now c.args.args.now) c.hand_in.result c.self.inside.tables c.hand_in.new.tables c.hand_in.ensures.ok c.hand_in.ensures.err).of_channels k low
+    ∙ ap (λ d. gone d k) c.self.view_is
+
+pub returns-clause-namings : goal.returns-clause-namings
+returns-clause-namings c =
+    (answered_gone (Notify c.args.now c.args.args.now) c.hand_in.result c.self.inside.tables c.hand_in.new.tables c.hand_in.ensures.ok c.hand_in.ensures.err).of_namings
+    ∙ ap namings_gone c.self.view_is

@@ -1,0 +1,31 @@
+use Rattle.std.proofs.Common.{ap, ◌∙◌}
+use Rattle.dispatch_calls.specs.declared.call.Call.TheVariants.{Pump}
+use Rattle.dispatcher.specs.Access.{gone, namings_gone}
+use Rattle.dispatcher.proofs.Gone.{answered_gone}
+use Rattle.dispatcher.proofs.Applying.{raw, history_after, stands_somehow}
+use Rattle.dispatcher.proofs.dispatcher.Dispatcher.pump.Goals as goal
+
+pub pump_on-requires : goal.pump_on-requires
+pump_on-requires c = let s = c.self.invariant.0 in (s.0, raw s.0 c.self.inside.tables s.1)
+
+pub invariant_of-self : goal.invariant_of-self
+invariant_of-self c = (
+  history_after (Pump c.args.now) c.pump_on.result c.self.inside.tables c.pump_on.new.tables c.pump_on.ensures.ok c.pump_on.ensures.err c.self.invariant.0,
+  c.pump_on.ensures.promise c.self.invariant.1,
+)
+
+pub returns-clause-after : goal.returns-clause-after
+returns-clause-after c =
+    λ es s.
+    stands_somehow (Pump c.args.now) c.pump_on.result c.self.inside.tables c.pump_on.new.tables c.args.self.now c.self.view_is c.pump_on.ensures.ok es s
+
+pub returns-clause-gone : goal.returns-clause-gone
+returns-clause-gone c =
+    λ k low.
+    (answered_gone (Pump c.args.now) c.pump_on.result c.self.inside.tables c.pump_on.new.tables c.pump_on.ensures.ok c.pump_on.ensures.err).of_channels k low
+    ∙ ap (λ d. gone d k) c.self.view_is
+
+pub returns-clause-namings : goal.returns-clause-namings
+returns-clause-namings c =
+    (answered_gone (Pump c.args.now) c.pump_on.result c.self.inside.tables c.pump_on.new.tables c.pump_on.ensures.ok c.pump_on.ensures.err).of_namings
+    ∙ ap namings_gone c.self.view_is
