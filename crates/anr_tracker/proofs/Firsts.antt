@@ -3,7 +3,7 @@ use Rattle.std.specs.Prelude.{◌≡◌, ◌≢◌, ◌⊎◌, ℕ, zero, suc, �
 use Rattle.std.specs.Int.{bit_not, w64}
 use Rattle.std.proofs.Common.{refl, sym, subst, ◌∙◌, ap, arith, inl, inr, set, get_or-set_same, get_or-set_other}
 use Rattle.std.proofs.lemmas.Nat.{and_le_l}
-use Rattle.std.proofs.lemmas.List.{get_or-replicate, get_or_past, length-set, length-replicate}
+use Rattle.std.proofs.lemmas.List.{get_or-replicate, get_or_past, length-replicate}
 use Rattle.std.proofs.lemmas.Bool.{cases_eq, eqb-false, ne_eqb, eq-eqb, and_left, and_from, or_right, both_ways, lt-ltb, le-leb}
 use Rattle.std.proofs.lemmas.Bool.Decides.{nat_tests}
 use Rattle.window_snapshot.specs.Mask.{is_channel, mask_has, mask_less, mask_with}
@@ -207,8 +207,8 @@ due-set_other dues c x low zero other = refl
 due-set_other dues c x low (suc k) other =
     get_or-set_other dues (c - 1) k x None (λ same. other (omega arith))
 
-pub none-table : IsTable (replicate 64 None) None 0
-none-table = record { whole = refl; first_is = due-none 64; none_out = λ c out. due-none 64 c }
+pub none-table : IsTable (replicate 64 None) 0 0
+none-table = record { whole = refl; none_below = λ c at is. omega arith; none_out = λ c out. due-none 64 c }
 
 -- the mask with a channel has it
 with_itself : (pending c : ℕ) → 1 ≤ c → c ≤ 64 → mask_has (mask_with pending c) c ≡ true
@@ -238,40 +238,3 @@ none_left dues c pending later low high none without k out = elim (cases_eq k c)
   | inl same ↦ rw same (due-set_same dues c None low high)
   | inr other ↦ due-set_other dues c None low k other ∙ none k (sym (kept c pending later without k other) ∙ out)
 ]
-
--- the table once a channel is due, where that does not put off what came first
-pub table_with : (dues : List (Option ℕ)) (first : Option (ℕ × ℕ)) (pending m c : ℕ) → IsTable dues first pending → 1 ≤ c
-    → c ≤ 64 → is_put_off first (m, c) ≡ false
-    → IsTable (set dues (c - 1) (Some m)) (Some (sooner_of first (m, c))) (mask_with pending c)
-table_with dues first pending m c h low high stays = record {
-  whole = length-set dues (c - 1) (Some m) ∙ h.whole;
-  first_is =
-      first_with (due_of dues) (due_of (set dues (c - 1) (Some m))) m c first
-      (due-set_same dues c (Some m) low (omega (arith, h.whole)))
-      (due-set_other dues c (Some m) low)
-      h.first_is
-      stays;
-  none_out = none_over dues (Some m) c pending low high h.none_out;
-}
-
--- the table once a channel is not due, with what comes first in it
-pub table_left : (dues : List (Option ℕ)) (first later : Option (ℕ × ℕ)) (pending rest c : ℕ) → IsTable dues first pending
-    → 1 ≤ c → c ≤ 64 → ((k : ℕ) → mask_has rest k ≡ (not (k == c) && mask_has pending k))
-    → IsFirst (due_of (set dues (c - 1) None)) later → IsTable (set dues (c - 1) None) later rest
-table_left dues first later pending rest c h low high without is = record {
-  whole = length-set dues (c - 1) None ∙ h.whole;
-  first_is = is;
-  none_out = none_left dues c pending rest low (omega (arith, high, h.whole)) h.none_out without;
-}
-
--- where it is not that what came first is of this channel
-pub table_without : (dues : List (Option ℕ)) (first : Option (ℕ × ℕ)) (pending rest c : ℕ) → IsTable dues first pending
-    → 1 ≤ c → c ≤ 64 → ((k : ℕ) → mask_has rest k ≡ (not (k == c) && mask_has pending k)) → is_of first c ≡ false
-    → IsTable (set dues (c - 1) None) first rest
-table_without dues first pending rest c h low high without away =
-    table_left dues first first pending rest c h low high without
-    (first_without (due_of dues) (due_of (set dues (c - 1) None)) c first
-    (due-set_same dues c None low (omega (arith, high, h.whole)))
-    (due-set_other dues c None low)
-    away
-    h.first_is)

@@ -1,45 +1,73 @@
 -- The first channel that is due at the least moment.
-use Rattle.std.specs.Prelude.{◌≡◌, ◌≢◌, ℕ, ◌-◌, ◌≤◌, Bool, true, false, not, ◌&&◌, ◌==◌, List, Option, Some, None}
+use Rattle.std.specs.Prelude.{◌≡◌, ◌≢◌, ◌⊎◌, ℕ, ◌-◌, ◌≤◌, Bool, true, false, not, ◌&&◌, ◌==◌, nat_eq, List, length, Option, Some, None}
 use Rattle.std.proofs.Common.{refl, sym, ◌∙◌, ap, arith, inl, inr, set}
+use Rattle.std.proofs.lemmas.List.{length-set}
 use Rattle.std.proofs.lemmas.Bool.{cases_eq, eqb-true, false≢true, eq-eqb, both_ways}
 use Rattle.std.proofs.lemmas.Bool.Decides.{nat_tests}
-use Rattle.window_snapshot.specs.Mask.{mask_has}
-use Rattle.anr_tracker.specs.Due.{due_of, IsFirst, IsTable, NoneBelow, is_at, is_before, is_put_off, moment_of}
-use Rattle.anr_tracker.proofs.Firsts.{due-set_same, due-set_other, kept}
+use Rattle.window_snapshot.specs.Mask.{mask_has, mask_with}
+use Rattle.window_snapshot.proofs.Masks.{mask_has-zero}
+use Rattle.anr_tracker.specs.Due.{due_of, IsFirst, IsTable, NoneBelow, is_at, is_before, least_with}
+use Rattle.anr_tracker.proofs.Firsts.{due-set_same, due-set_other, kept, none_over, none_left}
 
--- no channel is due before what comes first
-none_below : (f : ℕ → Option ℕ) (first : Option (ℕ × ℕ)) → IsFirst f first → NoneBelow f (moment_of first)
-none_below f None h c at is = omega arith
-none_below f (Some p) h c at is = not_less p.0 p.1 at c (h.1 (at, c) is)
+-- the moment is not above that at which one more is due
+least_low : (pending least m : ℕ) → least_with pending least m ≤ m
+least_low pending least m = grind (arith, nat_tests)
+
+-- nor above the moment before, where some channel was due
+least_less : (pending least m : ℕ) → pending ≢ 0 → least_with pending least m ≤ least
+least_less pending least m some = of (nat_eq pending 0) refl
   where
-    not_less : (o j n k : ℕ) → is_before (n, k) (o, j) ≡ false → o ≤ n
-    not_less o j n k b = grind (arith, nat_tests)
+    of : (b : Bool) → nat_eq pending 0 ≡ b → least_with pending least m ≤ least
+    of true e = absurd (some (eqb-true pending 0 e))
+    of false e = rw e grind (arith, nat_tests)
 
--- nor once a channel is not due, or is due later
-pub below_left : (f g : ℕ → Option ℕ) (c : ℕ) (first : Option (ℕ × ℕ)) → IsFirst f first → ((i : ℕ) → i ≢ c → g i ≡ f i)
-    → ((at : ℕ) → g c ≡ Some at → moment_of first ≤ at) → NoneBelow g (moment_of first)
-below_left f g c first h others own k at is = elim (cases_eq k c) [
-  | inl same ↦ own at (ap g (sym same) ∙ is)
-  | inr other ↦ none_below f first h k at (sym (others k other) ∙ is)
+-- no channel is due below it, once one more is due
+below_with : (dues : List (Option ℕ)) (least pending m c : ℕ) → IsTable dues least pending → 1 ≤ c → c ≤ 64
+    → NoneBelow (due_of (set dues (c - 1) (Some m))) (least_with pending least m)
+below_with dues least pending m c h low high k at is = elim (cases_eq k c) [
+  | inl same ↦
+      own at (sym (due-set_same dues c (Some m) low (omega (arith, high, h.whole)))
+      ∙ ap (due_of (set dues (c - 1) (Some m))) (sym same) ∙ is)
+  | inr other ↦ others (sym (due-set_other dues c (Some m) low k other) ∙ is) (cases_eq pending 0)
+]
+  where
+    own : (n : ℕ) → Some m ≡ Some n → least_with pending least m ≤ n
+    own n e = let one : m ≡ n = cc in let le : least_with pending least m ≤ m = least_low pending least m in omega (arith, le, one)
+
+    others : due_of dues k ≡ Some at → (pending ≡ 0) ⊎ (pending ≢ 0) → least_with pending least m ≤ at
+    others there (inl none) =
+        let gone : due_of dues k ≡ None = h.none_out k (ap (λ p. mask_has p k) none ∙ mask_has-zero k) in cc
+    others there (inr some) =
+        let le : least_with pending least m ≤ least = least_less pending least m some in
+        let below : least ≤ at = h.none_below k at there in omega (arith, le, below)
+
+-- nor once one is not due
+below_without : (dues : List (Option ℕ)) (least c : ℕ) → length dues ≡ 64 → NoneBelow (due_of dues) least → 1 ≤ c → c ≤ 64
+    → NoneBelow (due_of (set dues (c - 1) None)) least
+below_without dues least c whole below low high k at is = elim (cases_eq k c) [
+  | inl same ↦
+      (let gone : due_of (set dues (c - 1) None) k ≡ None =
+      ap (due_of (set dues (c - 1) None)) same ∙ due-set_same dues c None low (omega (arith, high, whole)) in cc)
+  | inr other ↦ below k at (sym (due-set_other dues c None low k other) ∙ is)
 ]
 
-pub below_without : (dues : List (Option ℕ)) (first : Option (ℕ × ℕ)) (pending c : ℕ) → IsTable dues first pending → 1 ≤ c → c ≤ 64
-    → NoneBelow (due_of (set dues (c - 1) None)) (moment_of first)
-below_without dues first pending c h low high =
-    below_left (due_of dues) (due_of (set dues (c - 1) None)) c first h.first_is (due-set_other dues c None low) gone
-  where
-    gone : (at : ℕ) → due_of (set dues (c - 1) None) c ≡ Some at → moment_of first ≤ at
-    gone at is = let none : due_of (set dues (c - 1) None) c ≡ None = due-set_same dues c None low (omega (arith, high, h.whole)) in cc
+-- the table once one more is due
+pub table_with : (dues : List (Option ℕ)) (least pending m c : ℕ) → IsTable dues least pending → 1 ≤ c → c ≤ 64
+    → IsTable (set dues (c - 1) (Some m)) (least_with pending least m) (mask_with pending c)
+table_with dues least pending m c h low high = record {
+  whole = length-set dues (c - 1) (Some m) ∙ h.whole;
+  none_below = below_with dues least pending m c h low high;
+  none_out = none_over dues (Some m) c pending low high h.none_out;
+}
 
-pub below_put_off : (dues : List (Option ℕ)) (first : Option (ℕ × ℕ)) (pending m c : ℕ) → IsTable dues first pending → 1 ≤ c → c ≤ 64
-    → is_put_off first (m, c) ≡ true → NoneBelow (due_of (set dues (c - 1) (Some m))) (moment_of first)
-below_put_off dues first pending m c h low high off =
-    below_left (due_of dues) (due_of (set dues (c - 1) (Some m))) c first h.first_is (due-set_other dues c (Some m) low)
-    (λ at is. later first off at (sym (due-set_same dues c (Some m) low (omega (arith, high, h.whole))) ∙ is))
-  where
-    later : (p : Option (ℕ × ℕ)) → is_put_off p (m, c) ≡ true → (at : ℕ) → Some m ≡ Some at → moment_of p ≤ at
-    later None off at is = omega arith
-    later (Some p) off at is = let one : m ≡ at = cc in grind (arith, nat_tests)
+-- and once one is not due
+pub table_without : (dues : List (Option ℕ)) (least pending rest c : ℕ) → IsTable dues least pending → 1 ≤ c → c ≤ 64
+    → ((k : ℕ) → mask_has rest k ≡ (not (k == c) && mask_has pending k)) → IsTable (set dues (c - 1) None) least rest
+table_without dues least pending rest c h low high without = record {
+  whole = length-set dues (c - 1) None ∙ h.whole;
+  none_below = below_without dues least c h.whole h.none_below low high;
+  none_out = none_left dues c pending rest low (omega (arith, high, h.whole)) h.none_out without;
+}
 
 -- no channel that was looked at is due at the moment
 abbrev pub NoneAt : (due : ℕ → Option ℕ) (rest moment : ℕ) → Type 0

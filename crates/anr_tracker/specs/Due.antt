@@ -37,11 +37,6 @@ abbrev pub further : Option (ℕ × ℕ) → (due : Option ℕ) → ℕ → Opti
 further first None c = first
 further first (Some m) c = Some (sooner_of first (m, c))
 
--- the moment of what comes first, 0 where nothing does
-abbrev pub moment_of : Option (ℕ × ℕ) → ℕ
-moment_of None = 0
-moment_of (Some p) = p.0
-
 -- a channel with this due is due at the moment
 abbrev pub is_at : Option ℕ → (moment : ℕ) → Bool
 is_at None moment = false
@@ -51,8 +46,13 @@ is_at (Some due) moment = nat_eq due moment
 abbrev pub NoneBelow : (ℕ → Option ℕ) → (moment : ℕ) → Type 0
 NoneBelow due moment = (c at : ℕ) → due c ≡ Some at → moment ≤ at
 
--- a table of 64 channels, what comes first in it, and a mask outside of which no channel is due
-pub record IsTable (dues : List (Option ℕ)) (first : Option (ℕ × ℕ)) (pending : ℕ) : Type 0 where
+-- a moment before which no channel is due, once one is due at a moment that was not, or was at another one: the lesser one, where some
+-- channel was due
+abbrev pub least_with : (pending least due : ℕ) → ℕ
+least_with pending least due = if nat_eq pending 0 || nat_lt due least then due else least
+
+-- a table of 64 channels, a moment before which none is due, and a mask outside of which none is
+pub record IsTable (dues : List (Option ℕ)) (least pending : ℕ) : Type 0 where
   pub whole : length dues ≡ 64
-  pub first_is : IsFirst (due_of dues) first
+  pub none_below : NoneBelow (due_of dues) least
   pub none_out : (c : ℕ) → mask_has pending c ≡ false → due_of dues c ≡ None

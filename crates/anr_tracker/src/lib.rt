@@ -11,9 +11,9 @@
 //! clear 2                nobody is due
 //! ```
 //!
-//! Of one moment the least channel comes first. The map is a fixed table; the first pair stands beside it, and is
-//! looked for again only where it was that of the channel that changes, and only among the channels that are due, of
-//! which a mask is kept.
+//! Of one moment the least channel comes first. The map is a fixed table, with a mask of the channels that are due and
+//! a moment before which none is. What comes first is looked for where it is asked for, among those channels alone, and
+//! mostly is the first one of them: channels that were told at one step are due at one moment.
 #![tactic(auto)]
 
 mod tracker;

@@ -1,7 +1,7 @@
 //! The map from channels to due moments.
 ghost use Rattle.std.specs.Prelude.{◌≡◌, ℕ, ◌-◌, ◌≤◌, false, None, Some, replicate, slice_set};
 ghost use Rattle.window_snapshot.specs.Mask.{mask_has};
-ghost use Rattle.anr_tracker.specs.Due.{due_of, IsFirst, NoneBelow, is_at, is_before, is_of, is_put_off, moment_of, sooner_of, further};
+ghost use Rattle.anr_tracker.specs.Due.{due_of, IsFirst, NoneBelow, is_at, is_before, sooner_of, further, least_with};
 
 use std::marker::Model;
 use window_snapshot::{mask_first, mask_with, mask_without};
@@ -12,7 +12,8 @@ use window_snapshot::{mask_first, mask_with, mask_without};
 #[derive(Debug, Drop)]
 pub struct Tracker {
     dues: [Option<u64>; 64],
-    first: Option<(u64, u32)>,
+    /// No channel is due before this moment.
+    least: u64,
     /// The mask of the channels that are due, in which the first pair is looked for.
     pending: u64,
 }
@@ -25,7 +26,7 @@ impl Model for Tracker {
 
     ghost view = { λ t. t.dues };
 
-    ghost invariant = { λ t. IsTable t.dues t.first t.pending };
+    ghost invariant = { λ t. IsTable t.dues t.least t.pending };
 }
 
 impl Tracker {
@@ -35,7 +36,7 @@ impl Tracker {
     {
         Tracker {
             dues: none_due(),
-            first: None,
+            least: 0,
             pending: 0,
         }
     }
@@ -46,12 +47,8 @@ impl Tracker {
         ensures { self.new ≡ slice_set self.old (channel - 1) (Some due) }
     {
         self.dues[channel as usize - 1] = Some(due);
+        self.least = least_with(self.pending, self.least, due);
         self.pending = mask_with(self.pending, channel);
-        if is_put_off(self.first, (due, channel)) {
-            self.first = first_of(&self.dues, self.pending, moment_of(self.first));
-        } else {
-            self.first = Some(sooner(self.first, (due, channel)));
-        }
     }
 
     /// The channel is not due.
@@ -61,9 +58,6 @@ impl Tracker {
     {
         self.dues[channel as usize - 1] = None;
         self.pending = mask_without(self.pending, channel);
-        if is_of(self.first, channel) {
-            self.first = first_of(&self.dues, self.pending, moment_of(self.first));
-        }
     }
 
     /// When the channel is due.
@@ -79,7 +73,7 @@ impl Tracker {
     pub fn first_due(&self) -> Option<(u64, u32)>
         ensures { IsFirst (due_of self.now) result }
     {
-        self.first
+        first_of(&self.dues, self.pending, self.least)
     }
 }
 
@@ -90,33 +84,14 @@ fn none_due() -> [Option<u64>; 64]
     [None; 64]
 }
 
-/// Whether what comes first is of the channel.
-fn is_of(first: Option<(u64, u32)>, channel: u32) -> bool
-    ensures { result ≡ is_of first channel }
+/// A moment before which no channel is due, once one is due that was not, or was due at another one.
+fn least_with(pending: u64, least: u64, due: u64) -> u64
+    ensures { result ≡ least_with pending least due }
 {
-    match first {
-        Some(first) => first.1 == channel,
-        None => false,
-    }
-}
-
-/// The moment of what comes first; 0 where nothing does.
-fn moment_of(first: Option<(u64, u32)>) -> u64
-    ensures { result ≡ moment_of first }
-{
-    match first {
-        Some(first) => first.0,
-        None => 0,
-    }
-}
-
-/// Whether the channel that came first is now due later.
-fn is_put_off(first: Option<(u64, u32)>, pair: (u64, u32)) -> bool
-    ensures { result ≡ is_put_off first pair }
-{
-    match first {
-        Some(first) => first.1 == pair.1 && first.0 < pair.0,
-        None => false,
+    if pending == 0 || due < least {
+        due
+    } else {
+        least
     }
 }
 
