@@ -1,7 +1,8 @@
 -- What a channel is after some calls.
-use Rattle.std.specs.Prelude.{◌≡◌, true, false, [], None, Some, replicate, length}
+use Rattle.std.specs.Prelude.{◌≡◌, pos, true, false, [], ◌∷◌, None, Some, replicate, length}
 use Rattle.std.proofs.Common.{refl}
-use Rattle.input_types.specs.declared.message.Body.TheVariants.{Focus}
+use Rattle.input_types.specs.declared.message.Body.TheVariants.{Motion as MotionBody, Focus}
+use Rattle.input_channel.specs.Moves.{move_of, moves_from}
 use Rattle.input_channel.specs.State.{ChannelState, opened_with, sent, enqueued, published_at, next_of, received_next, may_finish, finished_with, let_go_of, all_let_go, oldest_of, has_late}
 
 -- Two messages with the clock at 0 and at 1000000, both received
@@ -96,3 +97,8 @@ one_more = refl
 
 pub delivered_later : length (published_at 9 (finished_with 30 many)).unfinished ≡ 64
 delivered_later = refl
+
+-- a pointer at 300,250 moves in a window whose corner is at 100,200
+pub places_from_the_corner : moves_from (record { x = pos 100; y = pos 200 }) 1 (record { id = 0; at = record { x = pos 300; y = pos 250 } } ∷ [])
+    ≡ MotionBody (move_of 1 (record { id = 0; at = record { x = pos 200; y = pos 50 } } ∷ []))
+places_from_the_corner = refl

@@ -4,12 +4,13 @@ ghost use Rattle.std.specs.Option.{option_copied};
 ghost use Rattle.input_channel.specs.Order.{NoneAfter};
 ghost use Rattle.input_channel.specs.State.{IsChannel, opened_with, sent, enqueued, with_spare, published_at};
 ghost use Rattle.input_channel.specs.State.{next_of, received_one, received_next, may_finish, finished_with};
+ghost use Rattle.input_channel.specs.Moves.{moves_from};
 ghost use Rattle.input_channel.specs.State.{let_go_of, all_let_go, oldest_of, has_late};
 
 use crate::kept::Kept;
 use crate::unfinished::{MOST, Unfinished, deliver, place_of};
 use arrayvec::ArrayVec;
-use input_types::{Body, Limit, Message, Moment};
+use input_types::{Body, DeviceId, Limit, Message, Moment, Pixel, Pointers};
 use std::alloc::{AllocError, Global};
 use std::marker::Model;
 
@@ -126,6 +127,21 @@ impl Channel {
         ensures state { self.new ≡ enqueued body moment self.old }
     {
         self.kept.push(body, moment)
+    }
+
+    /// The same of the Move of these pointers of a device, with their places counted from an origin. They go straight
+    /// into the list of the messages.
+    pub fn enqueue_moves(
+        &mut self,
+        device: DeviceId,
+        pointers: &Pointers,
+        origin: Pixel,
+        moment: Moment,
+    )
+        requires { 1 ≤ self.old.spare }
+        ensures { self.new ≡ enqueued (moves_from origin device pointers.now) moment self.old }
+    {
+        self.kept.push_moves(device, pointers, origin, moment);
     }
 
     /// Publishes all messages, but so that at most 64 are published and not finished. Takes no memory.

@@ -1,8 +1,10 @@
 //! The messages of a channel that were not let go.
 ghost use Rattle.std.specs.Prelude.{◌≡◌, ◌+◌, ◌≤◌, [], IsOk, IfOk, OnErr, OnOk, drop, length, vec_len, vec_capacity};
 ghost use Rattle.input_channel.specs.Kept.{sent_in, kept_with, kept_after, kept_none, kept_with_spare};
+ghost use Rattle.input_channel.specs.Moves.{moves_from};
 
-use input_types::{Body, Message, Moment};
+use crate::moves::push_moves;
+use input_types::{Body, DeviceId, Message, Moment, Pixel, Pointers};
 use std::alloc::{AllocError, Global};
 use std::marker::Model;
 
@@ -93,6 +95,23 @@ impl Kept {
         self.list.push_reserved(Message { seq, moment, body });
         self.spare -= 1;
         seq
+    }
+
+    /// Puts the Move of these pointers behind the others, with the next number, and with their places counted from an
+    /// origin.
+    pub(crate) fn push_moves(
+        &mut self,
+        device: DeviceId,
+        pointers: &Pointers,
+        origin: Pixel,
+        moment: Moment,
+    )
+        requires { 1 ≤ self.old.spare }
+        ensures { self.new ≡ kept_with (moves_from origin device pointers.now) moment self.old }
+    {
+        let seq = self.gone + (self.list.len() - self.dropped) as u64 + 1;
+        push_moves(&mut self.list, seq, moment, device, pointers, origin);
+        self.spare -= 1;
     }
 
     /// Lets the first `count` messages go.

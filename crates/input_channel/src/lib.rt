@@ -21,6 +21,8 @@
 
 mod channel;
 mod kept;
+mod moves;
 mod unfinished;
 
 pub use channel::{Channel, UnknownSeq};
+pub use moves::list_from;
