@@ -1,13 +1,18 @@
 -- What one channel is told, and the room that it has.
 use Rattle.std.proofs.Common.{◌≡◌, ℕ, zero, suc, ◌-◌, ◌<◌, ◌≤◌, Bool, true, false, not, cond, List, [], ◌∷◌, map, length, get_or, set, refl, sym, ap, ap₂, ◌∙◌, subst, arith}
-use Rattle.std.specs.Prelude.{◌==◌}
+use Rattle.std.specs.Prelude.{◌==◌, if◌then◌else◌}
+use Rattle.std.proofs.lemmas.Bool.{eq-eqb}
 use Rattle.std.proofs.lemmas.List.{get_or-set_same}
 use Rattle.input_types.specs.declared.axis.Pixel.{Pixel}
 use Rattle.input_types.specs.declared.message.Body.{Body}
+use Rattle.input_types.specs.declared.message.Body.TheVariants.{Motion as MotionBody}
+use Rattle.input_types.specs.declared.motion.MotionAction.TheVariants.{Move}
+use Rattle.input_types.specs.declared.pointer.Pointer.{Pointer}
+use Rattle.routing_rules.specs.Told.{plain}
 use Rattle.input_channel.specs.declared.unfinished.Unfinished.{Unfinished}
 use Rattle.input_channel.specs.Order.{NoneAfter, without}
 use Rattle.input_channel.specs.State.{ChannelState, opened_with, enqueued, with_spare}
-use Rattle.cancel_synthesis.specs.Tracked.{Tracked, Tracks}
+use Rattle.cancel_synthesis.specs.Tracked.{Tracked, Tracks, pointers_of}
 use Rattle.dispatch_channels.specs.Table.{Table, channel_of, input_of, untold, but_for_room, NoLessRoom}
 use Rattle.dispatch_channels.specs.Heard.{body_from}
 use Rattle.dispatch_channels.specs.Changes.{Tells}
@@ -27,6 +32,10 @@ tells t c body heard o clock x s j i from hears is was tracked within =
       able_is = refl;
       namings_are = refl;
     }
+
+-- what is kept of a window that was told that pointers move
+pub moved : (d : ℕ) (ps : List Pointer) (j i : Tracked) → Tracks j i (MotionBody (plain d Move ps)) → pointers_of i d ≡ ps
+moved d ps j i h = h.pointers_are d ∙ ap (λ b. if b then ps else pointers_of j d) (eq-eqb d d refl)
 
 map_set : {A B : Type 0} (f : A → B) (xs : List A) (k : ℕ) (v d : A) → f v ≡ f (get_or xs k d) → map f (set xs k v) ≡ map f xs
 map_set f [] k v d e = refl

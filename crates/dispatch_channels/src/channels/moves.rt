@@ -9,13 +9,12 @@ ghost use Rattle.dispatch_channels.specs.Table.{channel_of};
 ghost use Rattle.dispatch_channels.specs.Changes.{Tells};
 
 use super::Channels;
-use crate::heard::moves_from;
 use bits32::Bits32;
-use input_types::{Body, Moment, Motion, Pixel};
+use input_types::{Moment, Motion, Pixel};
 
 impl Channels {
     /// A live channel is told that the pointers of a motion with these ids move, as `tell` would tell it. The places go
-    /// from the motion straight into the message and into what the window was told. Takes no memory.
+    /// from the motion into what the window was told, and from there straight into the message. Takes no memory.
     pub fn tell_moves(
         &mut self,
         channel: u32,
@@ -30,8 +29,8 @@ impl Channels {
             Tells channel (MotionBody (plain motion.now.device Move moving)) origin clock self.old self.new }
     {
         let place = channel as usize - 1;
-        let body = Body::Motion(moves_from(origin, motion, ids));
-        let _seq = self.channels[place].enqueue_reserved(body, clock);
         self.inputs[place].track_moves(motion.device, &motion.pointers, ids);
+        let moving = self.inputs[place].pointers(motion.device);
+        self.channels[place].enqueue_moves(motion.device, moving, origin, clock);
     }
 }

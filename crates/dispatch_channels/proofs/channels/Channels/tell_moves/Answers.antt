@@ -1,13 +1,15 @@
-use Rattle.std.proofs.Common.{◌<◌, ◌≤◌, ◌-◌, length, ap, ◌∙◌, arith}
-use Rattle.std.proofs.lemmas.List.{get_or_default, length-set}
+use Rattle.std.proofs.Common.{◌≡◌, ◌<◌, ◌≤◌, ◌-◌, length, ap, ◌∙◌, arith}
+use Rattle.std.proofs.lemmas.List.{get_or_default, get_or-set_same, length-set}
 use Rattle.input_types.specs.declared.message.Body.TheVariants.{Motion as MotionBody}
 use Rattle.input_types.specs.declared.motion.MotionAction.TheVariants.{Move}
 use Rattle.bits32.specs.Set.{is_in}
 use Rattle.routing_rules.specs.Told.{listing, plain}
 use Rattle.dispatch_tables.specs.Dues.{due_in}
+use Rattle.cancel_synthesis.specs.Tracked.{pointers_of}
+use Rattle.input_channel.specs.Moves.{moves_from}
 use Rattle.dispatch_channels.proofs.Picking.{channel_low}
 use Rattle.dispatch_channels.proofs.Wholes.{whole_kept}
-use Rattle.dispatch_channels.proofs.Told.{tells}
+use Rattle.dispatch_channels.proofs.Told.{moved, tells}
 use Rattle.dispatch_channels.proofs.channels.Channels.tell_moves.Goals as goal
 
 pub invariant_of-self : goal.invariant_of-self
@@ -19,13 +21,13 @@ invariant_of-self c =
     let there : c.args.channel - 1 < length c.self.inside.channels.items = omega (arith, low, high) in
     whole_kept c.self.inside.channels.items (length c.self.inside.inputs.items) _ c.self.inside.live c.self.inside.able
     c.self.inside.tracker c.args.channel
-    c.enqueue_reserved-seq.new.self
+    c.enqueue_moves.new.self
     c.self.invariant
     (length-set c.self.inside.inputs.items (c.args.channel - 1) c.track_moves.new.self)
     low
     high
-    (λ b. ap (due_in b) (c.enqueue_reserved-seq.ensures.state)
-    ∙ ap (due_in b) (c.index_mut.ensures.value ∙ get_or_default _ _ _ _ there))
+    (λ b. ap (due_in b) (c.enqueue_moves.ensures)
+    ∙ ap (due_in b) (c.index_mut-2.ensures.value ∙ get_or_default _ _ _ _ there))
 
 pub returns : goal.returns
 returns c =
@@ -36,15 +38,19 @@ returns c =
     let there : c.args.channel - 1 < length c.self.inside.channels.items = omega (arith, low, high) in
     let within : c.args.channel - 1 < length c.self.inside.inputs.items =
     omega (arith, low, high, c.self.invariant.as_many) in
+    let device = c.args.motion.now.device in
+    let moving = listing (λ i. is_in i c.args.ids) c.args.motion.now.pointers in
+    let again : c.index.result.now ≡ c.track_moves.new.self =
+    c.index.ensures ∙ get_or-set_same c.self.inside.inputs.items (c.args.channel - 1) c.track_moves.new.self _ within in
     rw (← c.self.view_is)
-    (tells _ c.args.channel (MotionBody (plain c.args.motion.now.device Move (listing (λ i. is_in i c.args.ids) c.args.motion.now.pointers))) (MotionBody c.moves_from.result) c.args.origin c.args.clock
-    c.index_mut.result.now
-    c.enqueue_reserved-seq.new.self
+    (tells _ c.args.channel (MotionBody (plain device Move moving)) (moves_from c.args.origin device c.pointers-moving.result.now) c.args.origin c.args.clock
     c.index_mut-2.result.now
+    c.enqueue_moves.new.self
+    c.index_mut.result.now
     c.track_moves.new.self
-    (c.index_mut.ensures.value ∙ get_or_default _ _ _ _ there)
-    (ap MotionBody c.moves_from.ensures)
-    c.enqueue_reserved-seq.ensures.state
-    (c.index_mut-2.ensures.value ∙ get_or_default _ _ _ _ within)
+    (c.index_mut-2.ensures.value ∙ get_or_default _ _ _ _ there)
+    (ap (moves_from c.args.origin device) (c.pointers-moving.ensures ∙ ap (λ j. pointers_of j device) again ∙ moved device moving c.index_mut.result.now c.track_moves.new.self c.track_moves.ensures))
+    c.enqueue_moves.ensures
+    (c.index_mut.ensures.value ∙ get_or_default _ _ _ _ within)
     c.track_moves.ensures
     within)
