@@ -5,3 +5,5 @@ pub mod Stepping
 pub mod Hearing
 pub mod Reaching
 pub mod Rooms
+pub mod MoveLaws
+pub mod Lightly

@@ -33,7 +33,7 @@ same_but_room c n t =
     (map_set (λ y. let z : Tracked = record y { spare = 0 } in z) t.inputs (c - 1) (tracked_with_spare n (input_of t c)) untold refl)
 
 -- room in one channel
-made_here : (t : Table) (k n : ℕ) → 1 ≤ k → k ≤ opened t → length t.inputs ≡ opened t
+pub made_here : (t : Table) (k n : ℕ) → 1 ≤ k → k ≤ opened t → length t.inputs ≡ opened t
     → (channel_of (with_room k n t) k ≡ with_spare n (channel_of t k)) × (input_of (with_room k n t) k ≡ tracked_with_spare n (input_of t k))
 made_here t k n low high many = (
   channel_set_same t.channels k (with_spare n (channel_of t k)) low high,

@@ -3,3 +3,4 @@ pub mod Rounds
 pub mod Told
 pub mod Saying
 pub mod Each
+pub mod Light

@@ -24,6 +24,7 @@
 
 mod concern;
 mod devices;
+mod light;
 mod listener;
 mod motions;
 mod room;
@@ -32,6 +33,7 @@ mod say;
 mod tell;
 
 pub use concern::listeners;
+pub use light::{make_light_room, tell_light};
 pub use room::make_room;
 pub use round::Round;
 pub use tell::tell_all;

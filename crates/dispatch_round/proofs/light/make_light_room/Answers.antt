@@ -1,0 +1,60 @@
+use Rattle.std.proofs.Common.{◌≤◌, refl, ap, ◌&&◌, sym, subst, ◌∙◌, arith}
+use Rattle.std.proofs.lemmas.List.{length-set}
+use Rattle.std.proofs.lemmas.Bool.{and_parts, true≢false}
+use Rattle.window_snapshot.specs.Mask.{mask_has}
+use Rattle.dispatch_channels.specs.Table.{opened, with_room, NoLessRoom}
+use Rattle.dispatch_channels.proofs.Picking.{less_without}
+use Rattle.dispatch_channels.proofs.Moved.{reached, all_reached, rest_within}
+use Rattle.dispatch_round.specs.Light.{most_light}
+use Rattle.dispatch_round.specs.Rounds.{is_concerned}
+use Rattle.dispatch_round.proofs.Rooms.{same_but_room, no_less}
+use Rattle.dispatch_round.proofs.Lightly.{light_next, more_light}
+use Rattle.dispatch_round.proofs.light.make_light_room.Goals as goal
+
+pub make_room_in-requires : goal.make_room_in-requires
+make_room_in-requires c =
+    let k = c.first_of-window.result in
+    let is = c.loop-rest.invariant.0 k c.first_of-window.ensures.has in
+    let high : k ≤ opened c.args.channels.now = c.hearers-told.ensures.opened k is in
+    (c.first_of-window.ensures.from, omega (arith, high, c.loop-rest.invariant.3))
+
+pub loop-rest-smaller : goal.loop-rest-smaller
+loop-rest-smaller c = rw c.without-rest.ensures (less_without c.loop-rest.rest c.first_of-window.result c.first_of-window.ensures.has)
+
+pub loop-rest-preserved : goal.loop-rest-preserved
+loop-rest-preserved c =
+    let k = c.first_of-window.result in
+    let t = c.loop-rest.channels in
+    let has = c.first_of-window.ensures.has in
+    let is = c.loop-rest.invariant.0 k has in
+    let was : k ≤ opened c.args.channels.now = c.hearers-told.ensures.opened k is in
+    let high : k ≤ opened t = omega (arith, was, c.loop-rest.invariant.3) in
+    let more : NoLessRoom t (with_room k (most_light c.args.round.now k) t) = subst (NoLessRoom t) c.in_ok-make_room_in.ensures.ok c.in_ok-make_room_in.ensures.room in
+    rw (c.without-rest.ensures, c.in_ok-make_room_in.ensures.ok) (
+      rest_within _ c.loop-rest.rest k has c.loop-rest.invariant.0,
+      same_but_room k _ t ∙ c.loop-rest.invariant.1,
+      c.loop-rest.invariant.2,
+      length-set t.channels _ _ ∙ c.loop-rest.invariant.3,
+      length-set t.inputs _ _ ∙ c.loop-rest.invariant.4 ∙ sym (length-set t.channels _ _),
+      no_less c.args.channels.now t (with_room k (most_light c.args.round.now k) t) c.loop-rest.invariant.5 more,
+      light_next c.args.round.now _ c.loop-rest.rest k t has high c.loop-rest.invariant.4 more c.loop-rest.invariant.6,
+    )
+
+pub returns-clause-told : goal.returns-clause-told
+returns-clause-told c = record {
+  are = λ w. c.hearers-told.ensures.are w ∙ ap (λ n. is_concerned c.args.touches.now c.args.round.now w && mask_has n w) (sym c.loop-rest.invariant.2);
+  opened = λ w has. let high : w ≤ opened c.args.channels.now = c.hearers-told.ensures.opened w has in omega (arith, high, c.loop-rest.invariant.3);
+}
+
+pub returns-clause-enough : goal.returns-clause-enough
+returns-clause-enough c w has =
+    let told = c.hearers-told.result in
+    c.loop-rest.invariant.6 w (ap (λ n. reached told n w) c.loop-rest-test.false ∙ all_reached told w ∙ has)
+
+pub returns-in_err-make_room_in-clause-roomy : goal.returns-in_err-make_room_in-clause-roomy
+returns-in_err-make_room_in-clause-roomy c small ready =
+    let k = c.first_of-window.result in
+    let has = c.first_of-window.ensures.has in
+    let both = and_parts (is_concerned c.args.touches.now c.args.round.now k) _ (sym (c.hearers-told.ensures.are k) ∙ c.loop-rest.invariant.0 k has) in
+    let now = more_light c.args.round.now c.args.channels.now c.loop-rest.channels k c.loop-rest.invariant.5 (ready k both.1) in
+    absurd (true≢false (sym (c.in_err-make_room_in.ensures.roomy small now)))

@@ -1,0 +1,17 @@
+use Rattle.std.proofs.Common.{◌≤◌, ap, subst}
+use Rattle.std.specs.Option.{option_copied}
+use Rattle.dispatch_round.proofs.Lightly.{hears_moved, hears_nothing}
+use Rattle.dispatch_round.proofs.light.say_light.Goals as goal
+
+pub returns-in-Some : goal.returns-in-Some
+returns-in-Some c =
+    hears_moved c.in-Some.motion.now c.args.round.now c.args.touches.now c.args.to.now c.args.channels.now c.move_held.new.channels
+    c.requires.light
+    (ap option_copied c.in-Some.is)
+    (subst (λ n. 1 ≤ n) c.get-number.ensures.value c.get-number.ensures.range.0)
+    (subst (λ n. n ≤ 8) c.get-number.ensures.value c.get-number.ensures.range.1)
+    c.move_held.ensures
+
+pub returns-in-None : goal.returns-in-None
+returns-in-None c =
+    hears_nothing c.args.round.now c.args.touches.now c.args.to.now c.args.channels.now c.requires.light (ap option_copied c.in-None.is)

@@ -1,0 +1,230 @@
+//! Light rounds: they give no window a pointer and take none from a window, and leave the focus. So a window is told of
+//! a Move that some of its pointers move, and of keys.
+ghost use Rattle.std.specs.Prelude.{◌≡◌, ◌≤◌, ◌<◌, ◌^◌, ℕ, true, false, None, length, OnOk, OnErr, IfOk, IsOk};
+ghost use Rattle.std.specs.List.{list_any};
+ghost use Rattle.std.specs.Option.{option_copied};
+ghost use Rattle.bits32.specs.Set.{is_in};
+ghost use Rattle.window_snapshot.specs.Mask.{mask_has};
+ghost use Rattle.routing_rules.specs.Scene.{Scene, Step};
+ghost use Rattle.routing_rules.specs.Taking.{takes, pilfers};
+ghost use Rattle.route_split.specs.Tables.{ChangesAll};
+ghost use Rattle.route_split.specs.Marking.{gives, taking};
+ghost use Rattle.dispatch_channels.specs.Table.{opened, IsOpened, channel_of, with_room, but_for_room, NoLessRoom};
+ghost use Rattle.dispatch_round.specs.Rounds.{IsRound, AllHoldPointers, told_in, IsLeft, AreListeners, IsTimely};
+ghost use Rattle.dispatch_round.specs.Saying.{CanHear, TellsOne, HearsRound};
+ghost use Rattle.dispatch_round.specs.Each.{HearsEach};
+ghost use Rattle.dispatch_round.specs.Light.{IsLight, held_by, most_moves, most_light, HasLight, HearsMoves, SpendsLight, moved};
+ghost use Rattle.dispatch_round.specs.Told.{TellsAll};
+
+use crate::concern::keyed;
+use crate::listener::Listener;
+use crate::room::keys_to;
+use crate::round::Round;
+use crate::say::say_keys;
+use bits32::Bits32;
+use dispatch_channels::{Channels, first_of, without};
+use input_types::{Moment, Motion, Pixel, Pointers};
+use route_split::Touches;
+use std::alloc::AllocError;
+
+/// The mask of the windows that hold something of the device of a motion.
+#[inline(always)]
+fn holders(motion: Option<&Motion>, touches: &Touches) -> u64
+    ensures { (w : ℕ) → mask_has result w ≡ held_by touches.now (option_copied motion.entry) w }
+{
+    match motion {
+        Some(motion) => touches.holders(motion.device),
+        None => 0,
+    }
+}
+
+/// The mask of the live windows that may be told something.
+#[inline(always)]
+fn hearers(round: &Round, touches: &Touches, channels: &Channels) -> u64
+    requires { IsLight round.now }
+    ensures { AreListeners result touches.now round.now channels.now }
+{
+    (holders(round.motion, touches) | keyed(round.keys, round.target)) & channels.live()
+}
+
+/// How many Moves a window may be told.
+#[inline(always)]
+fn most_moves(motion: Option<&Motion>) -> usize
+    ensures value { result ≡ most_moves (option_copied motion.entry) }
+    ensures few { result ≤ 1 }
+{
+    match motion {
+        Some(_) => 1,
+        None => 0,
+    }
+}
+
+/// The most messages that a window is told; without memory for so many, none.
+#[inline(always)]
+fn most_light(round: &Round, window: u32) -> Result<u32, AllocError>
+    ensures value { IfOk result (λ n. n ≡ most_light round.now window) }
+    ensures fits { length round.now.keys.now < 2 ^ 31 → IsOk result }
+{
+    let keys = keys_to(round.keys, round.target, window).len();
+    match u32::try_from(most_moves(round.motion) + keys) {
+        Ok(count) => Ok(count),
+        Err(_) => Err(AllocError),
+    }
+}
+
+/// Makes room for what a light round tells a window.
+#[inline(always)]
+fn make_room_in(round: &Round, channels: &mut Channels, window: u32) -> Result<(), AllocError>
+    requires { IsOpened channels.old window }
+    ensures ok { OnOk result (channels.new ≡ with_room window (most_light round.now window) channels.old) }
+    ensures err { OnErr result (but_for_room channels.new ≡ but_for_room channels.old) }
+    ensures room { NoLessRoom channels.old channels.new }
+    ensures roomy { length round.now.keys.now < 2 ^ 31 → HasLight round.now channels.old window → IsOk result }
+{
+    let count = most_light(round, window)?;
+    channels.reserve(window, count)
+}
+
+/// Makes room for all that a light round tells the windows that are live, so that [`tell_light`] takes no memory, and
+/// answers their mask. With and without memory nothing changes but the room that channels have. Where they have enough
+/// already, no memory is taken.
+#[inline(always)]
+pub fn make_light_room(
+    round: &Round,
+    touches: &Touches,
+    channels: &mut Channels,
+) -> Result<u64, AllocError>
+    requires { IsLight round.now }
+    ensures told { IfOk result (λ told. AreListeners told touches.now round.now channels.new) }
+    ensures enough { IfOk result (λ told. (w : ℕ) → mask_has told w ≡ true → HasLight round.now channels.new w) }
+    ensures same { but_for_room channels.new ≡ but_for_room channels.old }
+    ensures room { NoLessRoom channels.old channels.new }
+    ensures roomy { length round.now.keys.now < 2 ^ 31
+        → ((w : ℕ) → mask_has channels.old.live w ≡ true → HasLight round.now channels.old w) → IsOk result }
+{
+    // Its clauses say that what each window was told is kept.
+    let _opened = channels.opened();
+    let told = hearers(round, touches, channels);
+    let mut rest = told;
+    while rest != 0 {
+        let window = first_of(rest);
+        make_room_in(round, channels, window)?;
+        rest = without(rest, window);
+    }
+    Ok(told)
+}
+
+/// Whether some of the pointers have ids in the set.
+fn has_some(pointers: &Pointers, set: Bits32) -> bool
+    ensures { result ≡ list_any (λ p. is_in p.id set) pointers.now }
+{
+    pointers
+        .as_slice()
+        .iter()
+        .any(|pointer| set.has(pointer.id.get()))
+}
+
+/// One window is told that the pointers move that it holds, where the motion lists some of them.
+#[inline(always)]
+fn move_held(to: &Listener, motion: &Motion, touches: &Touches, channels: &mut Channels)
+    requires { CanHear to.now.window 1 channels.old }
+    ensures { TellsOne to.now (moved touches.now motion.now to.now.window) channels.old channels.new }
+{
+    let held = touches.held(to.window, motion.device);
+    if has_some(&motion.pointers, held) {
+        channels.tell_moves(to.window, motion, held, to.origin, to.clock);
+    }
+}
+
+/// One window is told of the motion of a light round, where it has one.
+#[inline(always)]
+fn say_light(to: &Listener, round: &Round, touches: &Touches, channels: &mut Channels)
+    requires light { IsLight round.now }
+    requires room { CanHear to.now.window (most_moves (option_copied round.now.motion)) channels.old }
+    ensures { HearsMoves round.now touches.now to.now channels.old channels.new }
+{
+    match round.motion {
+        Some(motion) => {
+            // Read for its clause alone: devices have the numbers 1 to 8, which contracts do not see of the type.
+            let _number = motion.device.get();
+            move_held(to, motion, touches, channels);
+        }
+        None => {}
+    }
+}
+
+/// One window is told all of a light round: of its motion, and then of keys.
+#[inline(always)]
+fn tell_one(to: &Listener, round: &Round, touches: &Touches, channels: &mut Channels)
+    requires light { IsLight round.now }
+    requires room { CanHear to.now.window (most_light round.now to.now.window) channels.old }
+    ensures hears { HearsRound round.now touches.now None to.now channels.old channels.new }
+    ensures spends { SpendsLight round.now channels.old channels.new to.now.window }
+{
+    say_light(to, round, touches, channels);
+    say_keys(to, keys_to(round.keys, round.target, to.window), channels);
+}
+
+/// The windows of a mask are told so, the first one first.
+#[inline(always)]
+fn tell_each(
+    told: u64,
+    clock: Moment,
+    origins: &[Pixel; 64],
+    round: &Round,
+    touches: &Touches,
+    channels: &mut Channels,
+)
+    requires light { IsLight round.now }
+    requires opened { (w : ℕ) → mask_has told w ≡ true → w ≤ opened channels.old }
+    requires live { (w : ℕ) → mask_has told w ≡ true → mask_has channels.old.live w ≡ true }
+    requires room { (w : ℕ) → mask_has told w ≡ true → HasLight round.now channels.old w }
+    ensures each { HearsEach round.now touches.now None (mask_has told) origins.now clock channels.old channels.new }
+    ensures spends { (w : ℕ) → mask_has told w ≡ true → SpendsLight round.now channels.old channels.new w }
+{
+    let mut rest = told;
+    while rest != 0 {
+        let window = first_of(rest);
+        let to = Listener {
+            window,
+            origin: origins[window as usize - 1],
+            clock,
+        };
+        tell_one(&to, round, touches, channels);
+        rest = without(rest, window);
+    }
+}
+
+/// Tells the windows of the mask `told` what the rules of the step of a light round say, and publishes it at the clock.
+/// It is what [`tell_all`](crate::tell_all) makes of the round, found with less work. Takes no memory.
+///
+/// The mask is that which [`make_light_room`] answers.
+#[inline(always)]
+pub fn tell_light(
+    told: u64,
+    round: &Round,
+    touches: &mut Touches,
+    channels: &mut Channels,
+    origins: &[Pixel; 64],
+    place: u64,
+    clock: Moment,
+)
+    requires light { IsLight round.now }
+    requires told { AreListeners told touches.old round.now channels.old }
+    requires enough { (w : ℕ) → mask_has told w ≡ true → HasLight round.now channels.old w }
+    requires timely { IsTimely clock channels.old }
+    ensures changes { let k = round.now.mark in
+        ChangesAll touches.old touches.new (gives k) (takes (taking touches.old k)) place
+        (pilfers (taking touches.old k)) }
+    ensures told { (s : Scene) (e : Step) → IsRound s e touches.old round.now → AllHoldPointers s channels.old
+        → TellsAll told (told_in round.now s e) origins.now clock channels.old channels.new }
+    ensures spends { (w : ℕ) → mask_has told w ≡ true → SpendsLight round.now channels.old channels.new w }
+    ensures left { (w : ℕ) → 1 ≤ w → mask_has told w ≡ false → IsLeft channels.old channels.new w }
+    ensures live { channels.new.live ≡ channels.old.live }
+    ensures gone { (c : ℕ) → 1 ≤ c → (channel_of channels.new c).gone ≡ (channel_of channels.old c).gone }
+    ensures namings { channels.new.namings ≡ channels.old.namings }
+{
+    touches.change_plain(&round.mark, place);
+    tell_each(told, clock, origins, round, touches, channels);
+    channels.publish(told, clock);
+}
