@@ -6,7 +6,9 @@ pub mod OrderLines
 pub mod OrderPassed
 pub mod OrderReading
 pub mod OrderTexts
-pub mod Digits
+pub mod Places
+pub mod Held
+pub mod Triples
 pub mod Numbers
 pub mod Pointers
 pub mod Streams

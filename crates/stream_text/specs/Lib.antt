@@ -1,4 +1,6 @@
 pub mod Spelling
+pub mod Triple
+pub mod KeptText
 pub mod Number
 pub mod Order
 pub mod OrderHistory

@@ -43,6 +43,10 @@ pointers (p ∷ ps) = pointer p.id p.at.x p.at.y ++ pointers ps
 unfoldable pub motion : Motion → List ℕ
 motion m = codes "motion " ++ decimal m.device ++ codes " " ++ action m.action m.index ++ canceled m.flags ++ pointers m.pointers
 
+-- a motion without its pointers
+abbrev pub head : Motion → List ℕ
+head m = codes "motion " ++ decimal m.device ++ codes " " ++ action m.action m.index ++ canceled m.flags
+
 -- the last words of a key message: DOWN and the repeat number, or UP, canceled or not, and the repeat number
 unfoldable pub key_end : Bool → ℕ → ℕ → List ℕ
 key_end down flags repeat = cond down (codes " DOWN ") (codes " UP" ++ canceled flags ++ codes " ") ++ decimal repeat

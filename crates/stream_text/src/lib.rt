@@ -26,6 +26,9 @@
 //! by line and takes no memory; `StreamReader` answers its streams.
 #![tactic(auto)]
 
+mod digits;
+mod kept_digits;
+mod kept_pointers;
 mod message;
 mod message_line;
 mod number;

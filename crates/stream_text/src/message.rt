@@ -1,10 +1,14 @@
 //! Messages as lines.
-ghost use Rattle.std.specs.Prelude.{◌≡◌, ◌+◌, ◌*◌, ◌≤◌, ◌++◌, codes, cond, length, drop, IfOk, OnOk, OnErr, decimal};
-ghost use Rattle.stream_text.specs.Spelling.{action, body, canceled, indexed, key, key_end, message_line, message_lines, motion, numbered, pointer, pointers};
+ghost use Rattle.std.specs.Prelude.{◌≡◌, ◌+◌, ◌*◌, ◌≤◌, [], ◌∷◌, ◌++◌, codes, cond, length, drop, IfOk, OnOk, OnErr, decimal};
+ghost use Rattle.stream_text.specs.Spelling.{action, body, canceled, head, indexed, key, key_end, message_line, message_lines, motion, numbered};
+ghost use Rattle.stream_text.specs.KeptText.{Holds};
 
-use crate::prepend::{ROOM, Room, prepend_labeled, prepend_number, prepend_signed, prepend_word};
-use input_types::{Body, FLAG_CANCELED, KeyMsg, Message, Motion, MotionAction, Pointer};
+use crate::kept_digits::{Counted, Timed};
+use crate::kept_pointers::KeptPointers;
+use crate::prepend::{ROOM, Room, prepend_labeled, prepend_number, prepend_word};
+use input_types::{Body, FLAG_CANCELED, KeyMsg, Message, Motion, MotionAction};
 use std::alloc::AllocError;
+use std::marker::Model;
 
 fn prepend_canceled(line: &mut Room, end: usize, flags: u32) -> usize
     requires { (9 ≤ end) × (end ≤ 1280) }
@@ -20,7 +24,7 @@ fn prepend_canceled(line: &mut Room, end: usize, flags: u32) -> usize
 
 #[tactic(auto, unfolding(crate::specs::Spelling::indexed))]
 fn prepend_indexed(line: &mut Room, end: usize, name: &str, index: u8) -> usize
-    requires { (length name.now + 21 ≤ end) × (end ≤ 1280) }
+    requires { (length name.now + 23 ≤ end) × (end ≤ 1280) }
     ensures within { (result ≤ end) × (end ≤ result + length name.now + 21) }
     ensures written { drop result line.new ≡ indexed name.now index ++ drop end line.old }
 {
@@ -29,63 +33,60 @@ fn prepend_indexed(line: &mut Room, end: usize, name: &str, index: u8) -> usize
     prepend_word(line, at, name)
 }
 
-fn prepend_action(line: &mut Room, end: usize, motion: &Motion) -> usize
-    requires { (33 ≤ end) × (end ≤ 1280) }
-    ensures within { (result ≤ end) × (end ≤ result + 33) }
-    ensures written { drop result line.new ≡ action motion.now.action motion.now.index ++ drop end line.old }
+#[inline(never)]
+fn prepend_seldom(line: &mut Room, end: usize, motion: &Motion) -> usize
+    requires { (60 ≤ end) × (end ≤ 1280) }
+    ensures within { (result ≤ end) × (end ≤ result + 42) }
+    ensures written { drop result line.new
+        ≡ action motion.now.action motion.now.index ++ canceled motion.now.flags ++ drop end line.old }
 {
+    let at = prepend_canceled(line, end, motion.flags);
     match motion.action {
-        MotionAction::Down => prepend_word(line, end, "DOWN"),
-        MotionAction::Up => prepend_word(line, end, "UP"),
-        MotionAction::Move => prepend_word(line, end, "MOVE"),
-        MotionAction::Cancel => prepend_word(line, end, "CANCEL"),
-        MotionAction::Outside => prepend_word(line, end, "OUTSIDE"),
-        MotionAction::PointerDown => prepend_indexed(line, end, "POINTER_DOWN", motion.index),
-        MotionAction::PointerUp => prepend_indexed(line, end, "POINTER_UP", motion.index),
+        MotionAction::Down => prepend_word(line, at, "DOWN"),
+        MotionAction::Up => prepend_word(line, at, "UP"),
+        MotionAction::Move => prepend_word(line, at, "MOVE"),
+        MotionAction::Cancel => prepend_word(line, at, "CANCEL"),
+        MotionAction::Outside => prepend_word(line, at, "OUTSIDE"),
+        MotionAction::PointerDown => prepend_indexed(line, at, "POINTER_DOWN", motion.index),
+        MotionAction::PointerUp => prepend_indexed(line, at, "POINTER_UP", motion.index),
     }
 }
 
-#[tactic(auto, unfolding(crate::specs::Spelling::pointer))]
-fn prepend_pointer(line: &mut Room, end: usize, id: u8, x: i32, y: i32) -> usize
-    requires { (66 ≤ end) × (end ≤ 1280) }
-    ensures within { (result ≤ end) × (end ≤ result + 66) }
-    ensures written { drop result line.new ≡ pointer id x y ++ drop end line.old }
+#[inline(always)]
+fn prepend_action(line: &mut Room, end: usize, motion: &Motion) -> usize
+    requires { (60 ≤ end) × (end ≤ 1280) }
+    ensures within { (result ≤ end) × (end ≤ result + 42) }
+    ensures written { drop result line.new
+        ≡ action motion.now.action motion.now.index ++ canceled motion.now.flags ++ drop end line.old }
 {
-    let at = prepend_signed(line, end, y);
-    let at = prepend_word(line, at, ",");
-    let at = prepend_signed(line, at, x);
-    let at = prepend_word(line, at, "@");
-    let at = prepend_number(line, at, u64::from(id));
-    prepend_word(line, at, " ")
-}
-
-fn prepend_pointers(line: &mut Room, end: usize, list: &[Pointer]) -> usize
-    requires { (66 * length list.now ≤ end) × (end ≤ 1280) }
-    ensures within { (result ≤ end) × (end ≤ result + 66 * length list.now) }
-    ensures written { drop result line.new ≡ pointers list.now ++ drop end line.old }
-{
-    let mut at = end;
-    let mut left = list.len();
-    while left > 0 {
-        left -= 1;
-        let p = list[left];
-        at = prepend_pointer(line, at, p.id.get(), p.at.x, p.at.y);
+    if motion.action == MotionAction::Move && motion.flags != FLAG_CANCELED {
+        return prepend_word(line, end, "MOVE");
     }
-    at
+    prepend_seldom(line, end, motion)
 }
 
-#[tactic(auto, unfolding(crate::specs::Spelling::motion))]
-fn prepend_motion(line: &mut Room, end: usize, told: &Motion) -> usize
-    requires { (1130 ≤ end) × (end ≤ 1280) }
-    ensures within { (result ≤ end) × (end ≤ result + 1130) }
-    ensures written { drop result line.new ≡ motion told.now ++ drop end line.old }
+/// Puts what stands in front of the pointers of a motion in front of `end`, and answers where it begins.
+#[inline(always)]
+fn prepend_head(line: &mut Room, end: usize, told: &Motion) -> usize
+    requires { (80 ≤ end) × (end ≤ 1280) }
+    ensures within { (result ≤ end) × (end ≤ result + 70) }
+    ensures written { drop result line.new ≡ head told.now ++ drop end line.old }
 {
-    let at = prepend_pointers(line, end, told.pointers.as_slice());
-    let at = prepend_canceled(line, at, told.flags);
-    let at = prepend_action(line, at, told);
+    let at = prepend_action(line, end, told);
     let at = prepend_word(line, at, " ");
     let at = prepend_number(line, at, u64::from(told.device.get()));
     prepend_word(line, at, "motion ")
+}
+
+#[inline(always)]
+fn prepend_motion(line: &mut Room, kept: &mut KeptPointers, told: &Motion) -> usize
+    requires { Holds line.old kept.old.list kept.old.at }
+    ensures within { (150 ≤ result) × (result ≤ kept.new.at) }
+    ensures holds { Holds line.new kept.new.list kept.new.at }
+    ensures written { drop result line.new ≡ motion told.now ++ 10 ∷ [] }
+{
+    let at = kept.put(line, &told.pointers);
+    prepend_head(line, at, told)
 }
 
 #[tactic(auto, unfolding(crate::specs::Spelling::key))]
@@ -140,39 +141,46 @@ fn prepend_key_message(line: &mut Room, end: usize, told: &KeyMsg) -> usize
     )
 }
 
-fn prepend_body(line: &mut Room, end: usize, told: &Body) -> usize
-    requires { (1130 ≤ end) × (end ≤ 1280) }
-    ensures within { (result ≤ end) × (end ≤ result + 1130) }
-    ensures written { drop result line.new ≡ body told.now ++ drop end line.old }
+#[inline(always)]
+fn prepend_body(line: &mut Room, kept: &mut KeptPointers, told: &Body) -> usize
+    requires { Holds line.old kept.old.list kept.old.at }
+    ensures within { (150 ≤ result) × (result ≤ kept.new.at) }
+    ensures holds { Holds line.new kept.new.list kept.new.at }
+    ensures written { drop result line.new ≡ body told.now ++ 10 ∷ [] }
+    ensures long { length line.new ≡ 1280 }
 {
     match told {
-        Body::Motion(motion) => prepend_motion(line, end, motion),
-        Body::Key(key) => prepend_key_message(line, end, key),
-        Body::Focus(true) => prepend_word(line, end, "focus 1"),
-        Body::Focus(false) => prepend_word(line, end, "focus 0"),
+        Body::Motion(motion) => prepend_motion(line, kept, motion),
+        Body::Key(key) => {
+            let at = kept.put_none(line);
+            prepend_key_message(line, at, key)
+        }
+        Body::Focus(has) => {
+            let at = kept.put_none(line);
+            prepend_word(line, at, if *has { "focus 1" } else { "focus 0" })
+        }
     }
 }
 
+/// Puts the number and the moment of a message in front of `end`, and answers where they begin.
+#[inline(always)]
 #[tactic(auto, unfolding(crate::specs::Spelling::numbered))]
-fn prepend_numbered(line: &mut Room, end: usize, seq: u64, moment: u64) -> usize
-    requires { (42 ≤ end) × (end ≤ 1280) }
-    ensures within { (result ≤ end) × (end ≤ result + 42) }
-    ensures written { drop result line.new ≡ numbered seq moment ++ drop end line.old }
+fn prepend_numbered(
+    line: &mut Room,
+    moments: &mut Timed,
+    numbers: &mut Counted,
+    end: usize,
+    message: &Message,
+) -> usize
+    requires { (150 ≤ end) × (end ≤ 1280) }
+    ensures within { result ≤ end }
+    ensures written { drop result line.new ≡ numbered message.now.seq message.now.moment ++ drop end line.old }
+    ensures long { length line.new ≡ 1280 }
 {
     let at = prepend_word(line, end, " ");
-    let at = prepend_number(line, at, moment);
+    let at = moments.prepend(line, at, message.moment.get());
     let at = prepend_word(line, at, " ");
-    prepend_number(line, at, seq)
-}
-
-/// Makes the line of a message at the end of the place, and answers where it begins.
-fn prepend_message(line: &mut Room, message: &Message) -> usize
-    ensures within { result ≤ 1280 }
-    ensures written { drop result line.new ≡ message_line message.now }
-{
-    let at = prepend_word(line, ROOM, "\n");
-    let at = prepend_body(line, at, &message.body);
-    prepend_numbered(line, at, message.seq, message.moment.get())
+    numbers.prepend(line, at, message.seq)
 }
 
 /// Adds the lines of messages.
@@ -190,12 +198,30 @@ pub(crate) fn add_messages(text: &mut Vec<u8>, messages: &[Message]) -> Result<(
 #[derive(Drop)]
 pub struct LineWriter {
     line: Room,
+    pointers: KeptPointers,
+    moments: Timed,
+    numbers: Counted,
+}
+
+impl Model for LineWriter {
+    ghost use Rattle.stream_text.specs.KeptText.{Holds};
+
+    ghost Value = { Unit {0} };
+
+    ghost view = { λ _. tt };
+
+    ghost invariant = { λ w. Holds w.line w.pointers.list w.pointers.at };
 }
 
 impl LineWriter {
     /// A writer.
     pub fn new() -> LineWriter {
-        LineWriter { line: [0; ROOM] }
+        LineWriter {
+            line: [b'\n'; ROOM],
+            pointers: KeptPointers::none(),
+            moments: Timed::new(),
+            numbers: Counted::new(),
+        }
     }
 
     /// Appends the line of a message. After want of memory `out` is as before.
@@ -206,7 +232,14 @@ impl LineWriter {
         ensures ok { OnOk result (out.new.items ≡ out.old.items ++ message_line message.now) }
         ensures err { OnErr result (out.new.items ≡ out.old.items) }
     {
-        let at = prepend_message(&mut self.line, message);
+        let at = prepend_body(&mut self.line, &mut self.pointers, &message.body);
+        let at = prepend_numbered(
+            &mut self.line,
+            &mut self.moments,
+            &mut self.numbers,
+            at,
+            message,
+        );
         out.extend_from_slice(self.line.as_slice().split_at(at).1)
     }
 }
