@@ -204,7 +204,7 @@ fn take_head<'a>(
 }
 
 /// What stands behind a carriage return and a newline.
-#[inline(never)]
+#[inline(always)]
 fn past_return(bytes: &[u8]) -> Option<&[u8]>
     ensures { IfSome result (λ after. bytes.now ≡ 13 ∷ 10 ∷ after.now) }
 {
