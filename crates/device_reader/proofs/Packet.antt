@@ -1,6 +1,6 @@
 -- What the end of a packet adds.
 use Rattle.std.specs.Prelude.{◌≡◌, ℕ, Bool, true, List, ◌∷◌, ◌++◌, map}
-use Rattle.std.proofs.Common.{◌∙◌, ap, refl}
+use Rattle.std.proofs.Common.{sym, ◌∙◌, ap, refl}
 use Rattle.std.proofs.Math.Path.{fun_ext}
 use Rattle.bits32.specs.Set.{is_in}
 use Rattle.raw_events.specs.declared.event.RawEvent.{RawEvent}
@@ -16,7 +16,12 @@ use Rattle.pointer_ids.specs.PointerIds.{named, named_after, is_cancelled, assig
 use Rattle.touch_mapper.specs.Gesture.{placed_all, gesture, as_args}
 use Rattle.touch_mapper.specs.GestureState.{GestureState}
 use Rattle.device_reader.specs.Packets.{packets}
-use Rattle.device_reader.specs.Cooked.{TouchPlan, cancelled_at, pointers_at, touch_args}
+use Rattle.slot_accumulator.specs.Table.{Table}
+use Rattle.slot_accumulator.specs.SlotContacts.{contacts_in, SlotsStandFor}
+use Rattle.touch_mapper.specs.Gesture.{after_packet}
+use Rattle.pointer_ids.specs.declared.assigned.Held.{Held}
+use Rattle.device_reader.specs.declared.touch.Touch.{Touch}
+use Rattle.device_reader.specs.Cooked.{TouchPlan, TouchStandsFor, cancelled_at, pointers_at, touch_args}
 
 -- the motions of the packet that a SYN_REPORT ends
 ends : (plan : TouchPlan) (past : List RawEvent) (e : RawEvent) → is_report e ≡ true
@@ -40,3 +45,25 @@ touch_step plan past e given items ids cs a g h named_is contacts_are pointers_a
     (pointers_are ∙ ap (λ ns. assigned (named ns cs)) named_is ∙ ap (λ xs. assigned (named (named_after (packets plan.slots past)) xs)) contacts_are)
     ∙ ap (λ (s : GestureState). gesture s.device (λ i. cancelled_at plan past e i) s.last (placed_all s.cook (assigned (named (named_after (packets plan.slots past)) (contacts_at plan.slots (e ∷ past)))))) state_is)
     ∙ ap (λ xs. given ++ xs) (ends plan past e h)
+
+packets_next : (slots : ℕ) (past : List RawEvent) (e : RawEvent) → is_report e ≡ true → contacts_at slots (e ∷ past) ∷ packets slots past ≡ packets slots (e ∷ past)
+packets_next slots past e h = rw h refl
+
+-- what is known of the device stands for the packet too
+pub touch_stands : (plan : TouchPlan) (past : List RawEvent) (e : RawEvent) (t : Touch) (slots : Table) (cs : List Contact) (ids : List Named) (a : Assignment) (g : GestureState)
+    → is_report e ≡ true → TouchStandsFor plan past t → SlotsStandFor (e ∷ past) slots → slots.slots ≡ plan.slots → cs ≡ contacts_in slots
+    → cs ≡ contacts_at plan.slots (e ∷ past) → ids ≡ named t.ids cs → a.pointers ≡ assigned (named t.ids cs) → g ≡ after_packet t.gestures a
+    → TouchStandsFor plan (e ∷ past) (record { slots = slots; contacts = cs; ids = ids; gestures = g })
+touch_stands plan past e t slots cs ids a g ends h stand many are events named_are pointers_are after =
+    let now : ids ≡ named_after (packets plan.slots (e ∷ past)) =
+    named_are ∙ ap (λ ns. named ns cs) h.ids_are ∙ ap (λ xs. named (named_after (packets plan.slots past)) xs) events
+    ∙ ap (λ ps. named_after ps) (packets_next plan.slots past e ends) in
+    let pointers : a.pointers ≡ assigned (named_after (packets plan.slots (e ∷ past))) = pointers_are ∙ ap (λ ns. assigned ns) (sym named_are ∙ now) in
+    record {
+      slots_stand = stand;
+      slots_are = many;
+      ids_are = now;
+      contacts_are = are;
+      gestures_are = after ∙ ap (λ (s : GestureState). record { device = s.device; cook = s.cook; last = placed_all s.cook a.pointers }) h.gestures_are
+          ∙ ap (λ (hs : List Held). record { device = plan.device; cook = plan.cook; last = placed_all plan.cook hs }) pointers;
+    }

@@ -6,7 +6,7 @@ use Rattle.input_types.specs.declared.key.KeyArgs.{KeyArgs}
 use Rattle.input_types.specs.declared.message.Args.{Args}
 use Rattle.input_types.specs.declared.message.Args.TheVariants.{Key, Reset}
 use Rattle.raw_events.specs.Packets.{is_report, is_drop, is_void}
-use Rattle.slot_accumulator.specs.SlotContacts.{contacts_at, SlotsStandFor}
+use Rattle.slot_accumulator.specs.SlotContacts.{contacts_at, contacts_in, SlotsStandFor}
 use Rattle.pointer_ids.specs.PointerIds.{named_after, is_cancelled, assigned}
 use Rattle.touch_mapper.specs.Cooking.{Cooking}
 use Rattle.touch_mapper.specs.Gesture.{placed_all, gesture, as_args}
@@ -87,6 +87,7 @@ pub record TouchStandsFor (plan : TouchPlan) (past : List RawEvent) (t : Touch) 
   pub slots_stand : SlotsStandFor past t.slots
   pub slots_are : t.slots.slots ≡ plan.slots
   pub ids_are : t.ids ≡ named_after (packets plan.slots past)
+  pub contacts_are : t.contacts ≡ contacts_in t.slots
   pub gestures_are : t.gestures ≡ record { device = plan.device; cook = plan.cook; last = pointers_at plan past }
 
 -- what is known of a device with keys does

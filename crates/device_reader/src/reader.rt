@@ -116,11 +116,29 @@ impl DeviceReader {
         ensures err { OnErr result (self.new ≡ self.old) }
         ensures given { OnErr result (args.new.items ≡ args.old.items) }
     {
+        self.take_from(&event, args)
+    }
+
+    /// Does what `take_into` does with an event that is lent.
+    pub(crate) fn take_from(
+        &mut self,
+        event: &RawEvent,
+        args: &mut Vec<Args>,
+    ) -> Result<(), AllocError>
+        requires { event.now.device ≡ self.old.device }
+        ensures ok { (plan : DevicePlan) (past : List Event) → DeviceStandsFor plan past self.old
+            → OnOk result (args.new.items ≡ args.old.items ++ args_of plan past event.now) }
+        ensures after { (plan : DevicePlan) (past : List Event) → DeviceStandsFor plan past self.old
+            → OnOk result (DeviceStandsFor plan (event.now ∷ past) self.new) }
+        ensures device { self.new.device ≡ self.old.device }
+        ensures err { OnErr result (self.new ≡ self.old) }
+        ensures given { OnErr result (args.new.items ≡ args.old.items) }
+    {
         if self.void {
-            self.void = !is_report(&event);
+            self.void = !is_report(event);
             return Ok(());
         }
-        if is_drop(&event) {
+        if is_drop(event) {
             args.push(Args::Reset(self.device))?;
             reset(&mut self.kind);
             self.void = true;
@@ -131,21 +149,22 @@ impl DeviceReader {
 }
 
 /// Takes an event that is neither void nor a drop, and adds what it gives.
-fn take_by_kind(kind: &mut Kind, event: RawEvent, args: &mut Vec<Args>) -> Result<(), AllocError>
+fn take_by_kind(kind: &mut Kind, event: &RawEvent, args: &mut Vec<Args>) -> Result<(), AllocError>
     ensures ok { (plan : DevicePlan) (past : List Event) → KindStandsFor plan past kind.old
-        → OnOk result (args.new.items ≡ args.old.items ++ kind_args plan past event) }
+        → OnOk result (args.new.items ≡ args.old.items ++ kind_args plan past event.now) }
     ensures after { (plan : DevicePlan) (past : List Event) → KindStandsFor plan past kind.old
-        → OnOk result (KindStandsFor plan (event ∷ past) kind.new) }
+        → OnOk result (KindStandsFor plan (event.now ∷ past) kind.new) }
     ensures err { OnErr result (kind.new ≡ kind.old) }
     ensures given { OnErr result (args.new.items ≡ args.old.items) }
 {
     match kind {
         Kind::Touch(touch) => touch.take(event, args),
-        Kind::Keys(keys) => take_key(keys, event, args),
+        Kind::Keys(keys) => take_key(keys, *event, args),
     }
 }
 
 /// Takes an event of a device with keys, and adds the key that it moves.
+#[inline(never)]
 fn take_key(keys: &mut Keys, event: RawEvent, args: &mut Vec<Args>) -> Result<(), AllocError>
     ensures ok { (plan : KeysPlan) (past : List Event) → HeldStandsFor plan past keys.old
         → OnOk result (args.new.items ≡ args.old.items ++ key_args plan past event) }

@@ -65,7 +65,7 @@ impl Readers {
     {
         let moment = event.moment;
         let before = args.len();
-        take_any(&mut self.readers, event, args)?;
+        take_any(&mut self.readers, &event, args)?;
         self.latest = raised(self.latest, moment, args.len() != before);
         Ok(self.latest)
     }
@@ -74,21 +74,21 @@ impl Readers {
 /// Takes an event by the reader of its device, and adds what it gives.
 fn take_any(
     readers: &mut [DeviceReader],
-    event: RawEvent,
+    event: &RawEvent,
     args: &mut Vec<Args>,
 ) -> Result<(), AllocError>
     requires { AreNumbered readers.old }
     ensures ok { (plans : List DevicePlan) (past : List Event) → AllStandFor plans past readers.old
-        → OnOk result (args.new.items ≡ args.old.items ++ added plans past event) }
+        → OnOk result (args.new.items ≡ args.old.items ++ added plans past event.now) }
     ensures after { (plans : List DevicePlan) (past : List Event) → AllStandFor plans past readers.old
-        → OnOk result (AllStandFor plans (event ∷ past) readers.new) }
+        → OnOk result (AllStandFor plans (event.now ∷ past) readers.new) }
     ensures numbered { AreNumbered readers.new }
     ensures err { OnErr result (readers.new ≡ readers.old) }
     ensures given { OnErr result (args.new.items ≡ args.old.items) }
 {
     let i = usize::from(event.device.get() - 1);
     if i < readers.len() {
-        readers[i].take_into(event, args)
+        readers[i].take_from(event, args)
     } else {
         Ok(())
     }

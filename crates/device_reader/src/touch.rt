@@ -1,6 +1,7 @@
 //! What is known of a touch device.
-ghost use Rattle.std.specs.Prelude.{◌≡◌, ◌≤◌, List, [], ◌∷◌, ◌++◌, OnOk, OnErr};
+ghost use Rattle.std.specs.Prelude.{◌≡◌, ◌≤◌, true, List, [], ◌∷◌, ◌++◌, OnOk, OnErr};
 ghost use Rattle.raw_events.specs.declared.event.RawEvent.{RawEvent as Event};
+ghost use Rattle.raw_events.specs.Packets.{is_report as ends_packet};
 ghost use Rattle.device_reader.specs.Cooked.{TouchPlan, TouchStandsFor, touch_args};
 
 use input_types::{Args, DeviceId};
@@ -15,6 +16,8 @@ use touch_mapper::{Cook, Gestures};
 #[derive(Clone, Copy)]
 pub(crate) struct Touch {
     slots: Slots,
+    /// What the slots hold.
+    contacts: Contacts,
     ids: Ids,
     gestures: Gestures,
 }
@@ -27,31 +30,44 @@ impl Touch {
     {
         Touch {
             slots: Slots::new(slots),
+            contacts: Contacts::empty(),
             ids: Ids::new(),
             gestures: Gestures::new(device, cook),
         }
     }
 
     /// Takes the next event, and adds the motions of the packet that it ends.
-    pub fn take(&mut self, event: RawEvent, args: &mut Vec<Args>) -> Result<(), AllocError>
+    pub fn take(&mut self, event: &RawEvent, args: &mut Vec<Args>) -> Result<(), AllocError>
         ensures ok { (plan : TouchPlan) (past : List Event) → TouchStandsFor plan past self.old
-            → OnOk result (args.new.items ≡ args.old.items ++ touch_args plan past event) }
+            → OnOk result (args.new.items ≡ args.old.items ++ touch_args plan past event.now) }
         ensures after { (plan : TouchPlan) (past : List Event) → TouchStandsFor plan past self.old
-            → OnOk result (TouchStandsFor plan (event ∷ past) self.new) }
+            → OnOk result (TouchStandsFor plan (event.now ∷ past) self.new) }
         ensures err { OnErr result (self.new ≡ self.old) }
         ensures given { OnErr result (args.new.items ≡ args.old.items) }
     {
-        if !is_report(&event) {
-            self.slots.take(event);
-            return Ok(());
+        if is_report(event) {
+            return self.end_packet(event, args);
         }
+        self.slots.follow(event, &mut self.contacts);
+        Ok(())
+    }
+
+    /// Takes the end of a packet, and adds its motions.
+    #[inline(never)]
+    fn end_packet(&mut self, event: &RawEvent, args: &mut Vec<Args>) -> Result<(), AllocError>
+        requires { ends_packet event.now ≡ true }
+        ensures ok { (plan : TouchPlan) (past : List Event) → TouchStandsFor plan past self.old
+            → OnOk result (args.new.items ≡ args.old.items ++ touch_args plan past event.now) }
+        ensures after { (plan : TouchPlan) (past : List Event) → TouchStandsFor plan past self.old
+            → OnOk result (TouchStandsFor plan (event.now ∷ past) self.new) }
+        ensures err { OnErr result (self.new ≡ self.old) }
+        ensures given { OnErr result (args.new.items ≡ args.old.items) }
+    {
         // With room for all that a packet makes nothing fails after the slots changed.
         args.reserve(Gestures::MOST)?;
-        self.slots.take(event);
-        let mut contacts = Contacts::empty();
-        self.slots.contacts_into(&mut contacts);
+        self.slots.follow(event, &mut self.contacts);
         let mut pointers = Assigned::empty();
-        self.ids.assign_into(&contacts, &mut pointers);
+        self.ids.assign_into(&self.contacts, &mut pointers);
         self.gestures.next_into(args, &pointers)
     }
 
@@ -61,6 +77,7 @@ impl Touch {
             → TouchStandsFor plan [] self.new }
     {
         self.slots.reset();
+        self.contacts = Contacts::empty();
         self.ids.reset();
         self.gestures.reset();
     }

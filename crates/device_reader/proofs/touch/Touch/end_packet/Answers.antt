@@ -1,6 +1,6 @@
 -- The end of a packet adds its motions.
 use Rattle.std.specs.Prelude.{List, ◌∷◌, ◌++◌, map}
-use Rattle.std.proofs.Common.{sym, ◌∙◌, ap}
+use Rattle.std.proofs.Common.{◌∙◌, ap}
 use Rattle.bits32.specs.Set.{is_in}
 use Rattle.input_types.specs.declared.motion.Motion.{Motion}
 use Rattle.input_types.specs.declared.message.Args.{Args}
@@ -9,8 +9,8 @@ use Rattle.slot_accumulator.specs.SlotContacts.{contacts_at}
 use Rattle.touch_mapper.specs.Gesture.{gesture, placed_all}
 use Rattle.touch_mapper.specs.GestureState.{GestureState}
 use Rattle.device_reader.proofs.All.{on_ok}
-use Rattle.device_reader.proofs.Packet.{touch_step}
-use Rattle.device_reader.proofs.touch.Touch.take.Goals as goal
+use Rattle.device_reader.proofs.Packet.{touch_step, touch_stands}
+use Rattle.device_reader.proofs.touch.Touch.end_packet.Goals as goal
 
 pub returns-clause-ok : goal.returns-clause-ok
 returns-clause-ok c = λ plan past h.
@@ -19,11 +19,20 @@ returns-clause-ok c = λ plan past h.
     map (λ (m : Motion). MotionArgs m)
     (gesture before.device (λ i. is_in i c.assign_into.new.pointers.cancelled) before.last (placed_all before.cook c.assign_into.new.pointers.pointers)) in
     on_ok c.next_into.result
-    (λ q. touch_step plan past c.args.event c.args.args.now.items c.next_into.new.given.items c.args.self.now.ids c.contacts_into.new.contacts c.assign_into.new.pointers before
-    (sym c.is_report.ensures ∙ c.if-not-is_report.false)
+    (λ q. touch_step plan past c.args.event.now c.args.args.now.items c.next_into.new.given.items c.args.self.now.ids c.follow.new.contacts c.assign_into.new.pointers before
+    c.requires
     h.ids_are
-    (c.contacts_into.ensures.events (c.args.event ∷ past) (c.take-2.ensures.state past h.slots_stand)
-    ∙ ap (λ n. contacts_at n (c.args.event ∷ past)) (c.take-2.ensures.slots ∙ h.slots_are))
+    (c.follow.ensures.events past h.slots_stand h.contacts_are ∙ ap (λ n. contacts_at n (c.args.event.now ∷ past)) h.slots_are)
     c.assign_into.ensures.pointers c.assign_into.ensures.cancelled h.gestures_are
     (q ∙ ap (λ xs. xs ++ motions) c.reserve.ensures.items))
     c.next_into.ensures.ok
+
+pub returns-clause-after : goal.returns-clause-after
+returns-clause-after c = λ plan past h.
+    on_ok c.next_into.result
+    (λ gestures. touch_stands plan past c.args.event.now c.args.self.now c.follow.new.self c.follow.new.contacts c.assign_into.new.self c.assign_into.new.pointers c.next_into.new.self
+    c.requires h
+    (c.follow.ensures.state past h.slots_stand) (c.follow.ensures.slots ∙ h.slots_are) (c.follow.ensures.contacts h.contacts_are)
+    (c.follow.ensures.events past h.slots_stand h.contacts_are ∙ ap (λ n. contacts_at n (c.args.event.now ∷ past)) h.slots_are)
+    c.assign_into.ensures.last c.assign_into.ensures.pointers gestures)
+    c.next_into.ensures.after

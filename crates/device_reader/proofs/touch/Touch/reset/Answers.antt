@@ -1,6 +1,6 @@
 -- Without events no pointer is down.
 use Rattle.std.specs.Prelude.{[]}
-use Rattle.std.proofs.Common.{◌∙◌, ap}
+use Rattle.std.proofs.Common.{sym, ◌∙◌, ap}
 use Rattle.pointer_ids.specs.PointerIds.{assigned}
 use Rattle.touch_mapper.specs.GestureState.{GestureState}
 use Rattle.device_reader.proofs.touch.Touch.reset.Goals as goal
@@ -11,5 +11,6 @@ returns c = λ plan past h. record {
   slots_stand = c.reset.ensures.state;
   slots_are = c.reset.ensures.slots ∙ h.slots_are;
   ids_are = c.reset-2.ensures;
+  contacts_are = c.empty-self.ensures ∙ sym c.reset.ensures.contacts;
   gestures_are = c.reset-3.ensures ∙ ap (λ (g : GestureState). record { device = g.device; cook = g.cook; last = [] }) h.gestures_are;
 }
