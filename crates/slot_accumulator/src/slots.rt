@@ -133,6 +133,7 @@ impl Slots {
 
     /// Takes the next event of the device, as `take` does, and keeps a list of the contacts: where it had those of
     /// before, it has those of now. Only a tracking id and a packet with a palm make the list anew.
+    #[inline(always)]
     pub fn follow(&mut self, event: &RawEvent, contacts: &mut Contacts)
         ensures state { (past : List Event) → SlotsStandFor past self.old → SlotsStandFor (event.now ∷ past) self.new }
         ensures slots { self.new.slots ≡ self.old.slots }
@@ -147,6 +148,7 @@ impl Slots {
     }
 
     /// Takes the next event, and answers whether the list of the contacts has to be made anew. Where not, it is kept.
+    #[inline(always)]
     fn changes(&mut self, event: &RawEvent, contacts: &mut Contacts) -> bool
         ensures state { (past : List Event) → SlotsStandFor past self.old → SlotsStandFor (event.now ∷ past) self.new }
         ensures slots { self.new.slots ≡ self.old.slots }
@@ -162,6 +164,7 @@ impl Slots {
     }
 
     /// Takes an EV_ABS event, and answers whether the list of the contacts has to be made anew.
+    #[inline(always)]
     fn write(&mut self, event: &RawEvent, contacts: &mut Contacts) -> bool
         requires { event.now.kind ≡ 3 }
         ensures state { (past : List Event) → SlotsStandFor past self.old → SlotsStandFor (event.now ∷ past) self.new }
