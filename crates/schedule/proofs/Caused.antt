@@ -1,5 +1,6 @@
 -- The causes of a run with one step more.
-use Rattle.std.proofs.Common.{◌≡◌, ℕ, List, ◌++◌, Option, Some, refl, sym, ap, ◌∙◌, append-nil, None}
+use Rattle.std.proofs.Common.{◌≡◌, ℕ, List, ◌++◌, Option, Some, refl, sym, ap, ◌∙◌, append-nil, None, is_some, false}
+use Rattle.std.specs.Prelude.{option_map}
 use Rattle.dispatch_calls.specs.declared.call.Call.{Call}
 use Rattle.dispatch_calls.specs.declared.call.Call.TheVariants.{Receive}
 use Rattle.dispatch_calls.specs.declared.reply.Reply.{Reply}
@@ -40,3 +41,9 @@ applies_told call es ds old new d t = record { answer = t.answer; stands = t.sta
 pub applies_alone : (call : Call) (es : List Effect) (ds : List ℕ) (d : Dispatching) → (answer : Reply) × StandsFor (step ds call answer es) d
     → Applies call es ds None None d
 applies_alone call es ds d there = record { answer = there.0; stands = there.1; causes = refl }
+
+-- the same, where there is no text
+pub applies_silent : {X : Type 0} (call : Call) (es : List Effect) (ds : List ℕ) (o : Option X) (f : X → List ℕ) (d : Dispatching) → is_some o ≡ false
+    → (answer : Reply) × StandsFor (step ds call answer es) d → Applies call es ds (option_map f o) (option_map f o) d
+applies_silent call es ds None f d none there = applies_alone call es ds d there
+applies_silent call es ds (Some x) f d none there = absurd (cc none)

@@ -1,5 +1,6 @@
 //! The rounds of a run.
 ghost use Rattle.std.specs.Prelude.{Some, option_map, ◌≡◌, ◌≤◌, ◌<◌, ◌+◌, ◌-◌, ◌^◌, ◌++◌, ℕ, true, false, List, [], ◌∷◌, IfOk, OnOk, None, map, max};
+ghost use Rattle.dispatch_calls.specs.declared.call.Call.{Call as CallView};
 ghost use Rattle.dispatch_history.specs.Effect.{Effect, past_of};
 ghost use Rattle.dispatch_history.specs.Legal.{answered};
 ghost use Rattle.dispatch_history.specs.Ordered.{soonest, is_scripted, is_notified, round, scripted, extend, received_all};
@@ -7,7 +8,7 @@ ghost use Rattle.dispatch_tables.specs.Lawful.{Lawful};
 ghost use Rattle.dispatch_history.specs.Plan.{Plan as PlanView, Cooked};
 ghost use Rattle.schedule.specs.declared.keeping.Lines.{Lines};
 ghost use Rattle.schedule.specs.Choosing.{Advances};
-ghost use Rattle.schedule.specs.DueView.{candidate_of};
+ghost use Rattle.schedule.specs.DueView.{call_of, candidate_of};
 ghost use Rattle.schedule.specs.Next.{fore};
 ghost use Rattle.schedule.specs.Kinds.{is_receiving, is_opening};
 ghost use Rattle.schedule.specs.Handing.{handing, single};
@@ -18,7 +19,7 @@ ghost use Rattle.schedule.specs.Run.{messages_in};
 ghost use Rattle.schedule.specs.State.{Caught, HasWith, ReadyWith, counted};
 
 use crate::choose::{first_step, next_due};
-use crate::due::Due;
+use crate::due::{Due, What};
 use crate::plan::Plan;
 use crate::schedule::Schedule;
 use dispatch_calls::Call;
@@ -39,28 +40,19 @@ impl Schedule {
         ensures latest { self.new.latest ≡ self.old.latest }
     {
         self.step(call, next)?;
-        self.receive_after(call)
+        self.receive_all()
     }
 
-    /// The owners of live channels take all that is published after a call. After a finish that is the owner of its
-    /// channel alone.
-    fn receive_after(&mut self, call: &Call) -> Result<(), AllocError>
-        ensures after { (how : Lines) (plan : PlanView) (es : List Effect) → Lawful plan.displays es → Caught es
-            → HasWith how plan (answered plan.displays call.now es) self.old
-            → OnOk result
-            (HasWith how plan (received_all plan.displays (answered plan.displays call.now es)) self.new) }
-        ensures messages { (how : Lines) (plan : PlanView) (es : List Effect) → Lawful plan.displays es
-            → HasWith how plan (answered plan.displays call.now es) self.old
-            → self.old.messages ≡ counted (messages_in es)
-            → OnOk result (self.new.messages ≡ counted (messages_in (answered plan.displays call.now es))) }
-        ensures calls { OnOk result (self.old.calls ≤ self.new.calls) }
+    /// The round of a finish. After it only the owner of its channel may have more to take.
+    fn finish_round(&mut self, now: Moment, channel: u32, seq: u64) -> Result<(), AllocError>
+        ensures after { (how : Lines) (plan : PlanView) (es : List Effect) → ReadyWith how plan es self.old
+            → OnOk result (ReadyWith how plan (round plan es (single (CallView.Finish now channel seq))) self.new) }
+        ensures calls { OnOk result (self.old.calls < 2 ^ 64 - 1 → self.old.calls < self.new.calls) }
         ensures more { (es : List Effect) → ComesTo es self.old.dispatcher → ComesTo es self.new.dispatcher }
         ensures latest { self.new.latest ≡ self.old.latest }
     {
-        match call {
-            Call::Finish { channel, .. } => self.receive_on(*channel),
-            _ => self.receive_all(),
-        }
+        self.finish_one(now, channel, seq)?;
+        self.receive_on(channel)
     }
 
     /// The owner of a channel takes all that is published on it.
@@ -76,6 +68,24 @@ impl Schedule {
         Ok(())
     }
 
+    /// The round of what is due, at this moment.
+    fn due_round(&mut self, due: Due, at: Moment) -> Result<(), AllocError>
+        ensures after { (how : Lines) (plan : PlanView) (es : List Effect) → ReadyWith how plan es self.old
+            → OnOk result (ReadyWith how plan (round plan es (single (call_of at due.what))) self.new) }
+        ensures calls { OnOk result (self.old.calls < 2 ^ 64 - 1 → self.old.calls < self.new.calls) }
+        ensures more { (es : List Effect) → ComesTo es self.old.dispatcher → ComesTo es self.new.dispatcher }
+        ensures latest { self.new.latest ≡ self.old.latest }
+    {
+        let next = self.next;
+        match due.what {
+            What::Finish { channel, seq } => self.finish_round(at, channel, seq),
+            _ => {
+                let call = due.call(at);
+                self.round(&call, next)
+            }
+        }
+    }
+
     /// The round that hands in args.
     pub(crate) fn hand_in(&mut self, moment: Moment, args: &Args) -> Result<(), AllocError>
         ensures after { (how : Lines) (plan : PlanView) (es : List Effect) → ReadyWith how plan es self.old
@@ -84,12 +94,8 @@ impl Schedule {
         ensures more { (es : List Effect) → ComesTo es self.old.dispatcher → ComesTo es self.new.dispatcher }
         ensures latest { self.new.latest ≡ self.old.latest }
     {
-        let notify = Call::Notify {
-            now: moment,
-            args: *args,
-        };
-        self.step(&notify, self.next)?;
-        self.step(&Call::Pump { now: moment }, self.next)?;
+        self.notify(moment, args)?;
+        self.pump(moment)?;
         self.receive_all()
     }
 
@@ -128,8 +134,7 @@ impl Schedule {
             return Ok(false);
         }
         let at = Moment::new(due.moment).unwrap();
-        let call = due.call(at);
-        self.round(&call, self.next)?;
+        self.due_round(due, at)?;
         Ok(true)
     }
 

@@ -25,6 +25,7 @@
 
 mod advance;
 mod choose;
+mod direct;
 mod due;
 mod keeping;
 pub mod laws;

@@ -148,7 +148,7 @@ impl Schedule {
         ensures latest { self.new.latest ≡ self.old.latest }
     {
         hear_next(&mut self.streams, &self.dispatcher, channel)?;
-        match self.dispatcher.apply_unread(&Call::Receive { channel }) {
+        match self.dispatcher.pass(channel) {
             Ok(()) => {
                 self.calls = self.calls.saturating_add(1);
                 Ok(())

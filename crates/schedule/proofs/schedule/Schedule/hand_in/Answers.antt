@@ -1,10 +1,7 @@
 -- The args are handed in and dispatched, and all that is published is received.
-use Rattle.std.proofs.Common.{◌≡◌, ◌+◌, refl, sym, subst, arith}
+use Rattle.std.proofs.Common.{refl}
 use Rattle.dispatch_calls.specs.declared.call.Call.TheVariants.{Notify, Pump}
-use Rattle.dispatch_history.specs.Effect.{past_of}
 use Rattle.dispatch_history.specs.Legal.{answered}
-use Rattle.dispatch_history.specs.Ordered.{scripted}
-use Rattle.schedule.specs.State.{HasWith}
 use Rattle.schedule.proofs.Going.{first_call, second_call, clock_twice, ready_again, on_ok_both}
 use Rattle.schedule.proofs.Stepping.{lawful_of}
 use Rattle.schedule.proofs.schedule.Schedule.hand_in.Goals as goal
@@ -15,10 +12,8 @@ returns-clause-after c = λ how plan es r.
     let a = c.args.args.now in
     let one = answered plan.displays (Notify t a) es in
     let two = answered plan.displays (Pump t) one in
-    let before = subst (HasWith how plan es) (sym c.step.view_is) r.has in
-    let has = c.in_ok-step.ensures.after how plan es r.has refl (let n : c.step.inside.next ≡ 0 + scripted (past_of es) = omega (arith, before.next_is) in n) in
-    let again = subst (HasWith how plan one) (sym c.step-3.view_is) has in
-    let both = c.in_ok-step-2.ensures.after how plan one has refl (let n : c.step-3.inside.next ≡ 0 + scripted (past_of one) = omega (arith, again.next_is) in n) in
+    let has = c.in_ok-notify.ensures.after how plan es r.has in
+    let both = c.in_ok-pump.ensures.after how plan one has in
     let first = first_call plan.displays es (Notify t a) (lawful_of how plan es _ r.has) r.caught refl in
     on_ok_both c.receive_all.result _ _ _ (c.receive_all.ensures.after how plan two both) (c.receive_all.ensures.messages how plan two both)
     (λ all messages.

@@ -10,15 +10,15 @@ use Rattle.schedule.proofs.schedule.Schedule.receive_one.Goals as goal
 pub returns-in-Ok-clause-after : goal.returns-in-Ok-clause-after
 returns-in-Ok-clause-after c = λ how plan es h.
     let before = subst (HasWith how plan es) (sym c.self.view_is) h in
-    let there = (rw c.in-Ok.is at c.apply_unread.ensures.after) es before.stands in
-    has_received how plan es _ _ before c.apply_unread.ensures.displays c.apply_unread.ensures.gone c.apply_unread.ensures.namings there.0 c.args.channel there.1 (c.in_ok-hear_next.ensures es before.stands) refl refl
+    let there = (rw c.in-Ok.is at c.pass.ensures.after) es before.stands in
+    has_received how plan es _ _ before c.pass.ensures.displays c.pass.ensures.gone c.pass.ensures.namings there.0 c.args.channel there.1 (c.in_ok-hear_next.ensures es before.stands) refl refl
     c.saturating_add-self-inside.ensures
 
 pub returns-in-Ok-clause-more : goal.returns-in-Ok-clause-more
 returns-in-Ok-clause-more c = λ es k.
-    one_more es _ _ (Receive c.args.channel) c.apply_unread.ensures.displays (rw c.in-Ok.is at c.apply_unread.ensures.after)
+    one_more es _ _ (Receive c.args.channel) c.pass.ensures.displays (rw c.in-Ok.is at c.pass.ensures.after)
     (subst (λ (s : ScheduleState). ComesTo es s.dispatcher) (sym c.self.view_is) k)
 
-pub returns-clause-more : goal.returns-clause-more
-returns-clause-more c = λ es k.
+pub returns-in-Err-clause-more : goal.returns-in-Err-clause-more
+returns-in-Err-clause-more c = λ es k.
     subst (ComesTo es) (sym c.in-Err.ensures.err) (subst (λ (s : ScheduleState). ComesTo es s.dispatcher) (sym c.self.view_is) k)

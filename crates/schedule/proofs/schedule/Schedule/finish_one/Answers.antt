@@ -1,0 +1,34 @@
+-- By the call that is put together, and by itself.
+use Rattle.std.proofs.Common.{◌≡◌, ◌+◌, ◌∙◌, refl, sym, subst, arith}
+use Rattle.dispatch_calls.specs.declared.call.Call.TheVariants.{Finish}
+use Rattle.dispatch_history.specs.Effect.{past_of}
+use Rattle.dispatch_history.specs.Ordered.{scripted}
+use Rattle.schedule.specs.More.{ComesTo}
+use Rattle.schedule.specs.State.{HasWith, ScheduleState}
+use Rattle.schedule.proofs.Caused.{applies_silent}
+use Rattle.schedule.proofs.More.{one_more}
+use Rattle.schedule.proofs.Stepping.{has_step}
+use Rattle.schedule.proofs.schedule.Schedule.finish_one.Goals as goal
+
+pub returns-then-is_some-clause-after : goal.returns-then-is_some-clause-after
+returns-then-is_some-clause-after c = λ how plan es h.
+    let before = subst (HasWith how plan es) (sym c.self.view_is) h in
+    c.step.ensures.after how plan es h refl (let n : c.self.inside.next ≡ 0 + scripted (past_of es) = omega (arith, before.next_is) in n)
+
+pub returns-in-Ok-clause-after : goal.returns-in-Ok-clause-after
+returns-in-Ok-clause-after c = λ how plan es h.
+    let before = subst (HasWith how plan es) (sym c.self.view_is) h in
+    let there = (rw c.in-Ok.is at c.finish.ensures.after) es before.stands in
+    has_step how plan es _ _ before c.finish.ensures.displays c.finish.ensures.gone c.finish.ensures.namings (Finish c.args.now c.args.channel c.args.seq)
+    (applies_silent (Finish c.args.now c.args.channel c.args.seq) es _ c.self.inside.causes (λ text. text.items) _ (sym c.is_some.ensures ∙ c.if-is_some.false) there) refl
+    refl (let n : c.self.inside.next ≡ 0 + scripted (past_of es) = omega (arith, before.next_is) in n)
+    c.saturating_add-self-inside.ensures
+
+pub returns-in-Ok-clause-more : goal.returns-in-Ok-clause-more
+returns-in-Ok-clause-more c = λ es k.
+    one_more es _ _ (Finish c.args.now c.args.channel c.args.seq) c.finish.ensures.displays (rw c.in-Ok.is at c.finish.ensures.after)
+    (subst (λ (s : ScheduleState). ComesTo es s.dispatcher) (sym c.self.view_is) k)
+
+pub returns-in-Err-clause-more : goal.returns-in-Err-clause-more
+returns-in-Err-clause-more c = λ es k.
+    subst (ComesTo es) (sym (rw c.in-Err.is at c.finish.ensures.err)) (subst (λ (s : ScheduleState). ComesTo es s.dispatcher) (sym c.self.view_is) k)
