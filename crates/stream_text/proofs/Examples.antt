@@ -5,6 +5,14 @@ use Rattle.input_types.specs.declared.motion.MotionAction.TheVariants.{Move}
 use Rattle.input_types.specs.declared.message.Body.TheVariants.{Motion, Key}
 use Rattle.input_types.specs.declared.message.Message.{Message}
 use Rattle.stream_text.specs.Spelling.{message_line, labeled, pointer, motion, key, key_end, numbered}
+use Rattle.stream_text.specs.Triple.{digit_count, triple_digits}
+
+-- 42 has two digits, and as three it is 042
+pub two_of_three : digit_count 42 ≡ 2
+two_of_three = refl
+
+pub three_of_two : triple_digits 42 ≡ codes "042"
+three_of_two = refl
 
 -- a finger that moved beside one that stayed
 abbrev moved : Message

@@ -1,6 +1,5 @@
 -- The digits of a number below 1,000, three at a time.
-use Rattle.std.specs.Prelude.{◌≡◌, ℕ, ◌+◌, ◌*◌, ◌/◌, ◌%◌, nat_lt, cond, List, [], ◌∷◌, refl}
-use Rattle.std.specs.Fmt.{decimal}
+use Rattle.std.specs.Prelude.{ℕ, ◌+◌, ◌*◌, ◌/◌, ◌%◌, nat_lt, cond, List, [], ◌∷◌}
 
 -- its three digits, with zeros in front
 abbrev pub triple_digits : ℕ → List ℕ

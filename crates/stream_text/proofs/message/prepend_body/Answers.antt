@@ -1,4 +1,4 @@
-use Rattle.std.proofs.Common.{◌≡◌, ◌+◌, ◌≤◌, arith}
+use Rattle.std.proofs.Common.{arith}
 use Rattle.input_types.specs.declared.message.Body.TheVariants.{Key}
 use Rattle.stream_text.specs.Spelling.{body}
 use Rattle.stream_text.proofs.Held.{still_held}

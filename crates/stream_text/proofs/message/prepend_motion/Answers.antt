@@ -1,4 +1,4 @@
-use Rattle.std.proofs.Common.{◌≡◌, ◌≤◌, [], ◌∷◌, ◌++◌, drop, ap, sym, ◌∙◌, arith}
+use Rattle.std.proofs.Common.{[], ◌∷◌, ◌++◌, drop, ap, ◌∙◌, arith}
 use Rattle.stream_text.specs.Spelling.{head, pointers}
 use Rattle.stream_text.proofs.Held.{motion_told, still_held}
 use Rattle.stream_text.proofs.message.prepend_motion.Goals as goal

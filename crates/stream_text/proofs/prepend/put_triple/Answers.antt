@@ -1,4 +1,4 @@
-use Rattle.std.proofs.Common.{◌≡◌, ◌+◌, ◌-◌, ◌<◌, ◌≤◌, arith, length}
+use Rattle.std.proofs.Common.{◌≡◌, ◌+◌, ◌-◌, arith}
 use Rattle.stream_text.proofs.Triples.{bytes, four_put, last_of}
 use Rattle.stream_text.proofs.prepend.put_triple.Goals as goal
 

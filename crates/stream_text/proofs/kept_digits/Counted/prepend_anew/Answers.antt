@@ -1,6 +1,5 @@
-use Rattle.std.proofs.Common.{◌≡◌, ◌+◌, ◌/◌, ◌≤◌, length, arith, ◌∙◌}
-use Rattle.std.proofs.lemmas.Fmt.{length-decimal-le}
-use Rattle.stream_text.proofs.Triples.{at_least, front_of, more_long}
+use Rattle.std.proofs.Common.{arith, ◌∙◌}
+use Rattle.stream_text.proofs.Triples.{front_of, more_long}
 use Rattle.stream_text.proofs.kept_digits.Counted.prepend_anew.Goals as goal
 
 pub keep-requires : goal.keep-requires

@@ -1,4 +1,4 @@
-use Rattle.std.proofs.Common.{◌≡◌, ◌+◌, ◌-◌, ◌≤◌, ◌++◌, length, drop, ap, arith}
+use Rattle.std.proofs.Common.{◌≡◌, ◌+◌, ◌-◌, ◌++◌, drop, ap, arith}
 use Rattle.stream_text.proofs.Places.{drop_put}
 use Rattle.stream_text.proofs.kept_digits.Digits.prepend.Goals as goal
 

@@ -1,4 +1,4 @@
-use Rattle.std.proofs.Common.{◌≡◌, ◌+◌, ◌/◌, ◌≤◌, length, arith, ◌∙◌}
+use Rattle.std.proofs.Common.{◌/◌, arith, ◌∙◌}
 use Rattle.std.proofs.lemmas.Fmt.{length-decimal-le}
 use Rattle.stream_text.proofs.Triples.{at_least, front_of_six, more_long}
 use Rattle.stream_text.proofs.kept_digits.Timed.prepend_anew.Goals as goal

@@ -1,4 +1,4 @@
-use Rattle.std.proofs.Common.{◌≡◌, ◌+◌, ◌≤◌, ◌++◌, length, drop, ap, ◌∙◌, arith}
+use Rattle.std.proofs.Common.{◌++◌, length, drop, ap, ◌∙◌, arith}
 use Rattle.stream_text.specs.Spelling.{pointers}
 use Rattle.stream_text.proofs.Places.{newline_put}
 use Rattle.stream_text.proofs.kept_pointers.KeptPointers.put.Goals as goal

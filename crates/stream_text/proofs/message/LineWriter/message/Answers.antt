@@ -1,4 +1,3 @@
-use Rattle.std.proofs.Common.{◌≡◌, ◌≤◌, arith}
 use Rattle.stream_text.specs.Spelling.{numbered}
 use Rattle.stream_text.proofs.Held.{still_held}
 use Rattle.stream_text.proofs.message.LineWriter.message.Goals as goal
