@@ -47,3 +47,4 @@ pub mod Missing
 pub mod Cancelling
 pub mod Roomy
 pub mod RoomMade
+pub mod Moved

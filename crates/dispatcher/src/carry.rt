@@ -1,14 +1,16 @@
 //! How a step is carried out.
-ghost use Rattle.std.specs.Prelude.{◌≡◌, ℕ, suc, false, OnOk, OnErr, IsOk};
+ghost use Rattle.std.specs.Prelude.{◌≡◌, ℕ, suc, false, [], ◌∷◌, OnOk, OnErr, IsOk};
+ghost use Rattle.route_split.specs.declared.mark.Mark.TheVariants.{Rests};
 ghost use Rattle.route_split.specs.Marking.{IsWhole};
 ghost use Rattle.dispatch_round.specs.Rounds.{AreListeners, IsReady, IsTimely, is_concerned};
+ghost use Rattle.dispatch_round.specs.Light.{IsLight};
 ghost use Rattle.dispatcher.specs.Carrying.{IsSilent, CarriesOut, CarriesFrom, CarriesSome};
 ghost use Rattle.dispatcher.specs.Keying.{target_number};
 ghost use Rattle.dispatcher.specs.Roomy.{IsRoomy, AreModest, TakesRoom};
 ghost use Rattle.dispatcher.specs.Tables.{SameButRoom};
 
 use crate::tables::Routing;
-use dispatch_round::{Round, make_room, tell_all};
+use dispatch_round::{Round, make_light_room, make_room, tell_all, tell_light};
 use focus_resolver::Change;
 use input_types::{KeyMsg, Moment};
 use key_tables::remember;
@@ -57,6 +59,65 @@ pub(crate) fn tell(
     let told = make_room(round, &routing.touches, &mut routing.channels)?;
     carry_out(routing, told, round, place, clock);
     Ok(())
+}
+
+/// The same of a light round, which gives and takes no pointer. Without memory nothing changes but the room that
+/// channels have. It is inlined, so that only what there is of the round is looked at.
+#[inline(always)]
+pub(crate) fn tell_lightly(
+    routing: &mut Routing,
+    round: &Round,
+    place: u64,
+    clock: Moment,
+) -> Result<(), AllocError>
+    requires light { IsLight round.now }
+    requires timely { IsTimely clock routing.old.channels }
+    ensures ok { OnOk result (CarriesFrom round.now place clock routing.old routing.new) }
+    ensures err { OnErr result (SameButRoom routing.old routing.new) }
+    ensures roomy { (n list : ℕ) → IsRoomy (suc n) list routing.old.channels
+        → AreModest round.now.target round.now.keys.now routing.old.channels
+        → IsOk result × IsRoomy n list routing.new.channels }
+    ensures list { routing.new.cancelled ≡ routing.old.cancelled }
+{
+    let told = make_light_room(round, &routing.touches, &mut routing.channels)?;
+    tell_light(
+        told,
+        round,
+        &mut routing.touches,
+        &mut routing.channels,
+        routing.shown.origins(),
+        place,
+        clock,
+    );
+    remember(&mut routing.repeat, round.target, round.keys, clock);
+    Ok(())
+}
+
+/// The key target is told one key message.
+pub(crate) fn tell_key(
+    routing: &mut Routing,
+    message: KeyMsg,
+    place: u64,
+    clock: Moment,
+) -> Result<(), AllocError>
+    requires timely { IsTimely clock routing.old.channels }
+    ensures ok { OnOk result (CarriesSome Rests (message ∷ []) 0 0 place clock routing.old routing.new) }
+    ensures err { OnErr result (SameButRoom routing.old routing.new) }
+    ensures roomy { (n list : ℕ) → IsRoomy (suc n) list routing.old.channels
+        → AreModest (target_number routing.old.focus) (message ∷ []) routing.old.channels
+        → IsOk result × IsRoomy n list routing.new.channels }
+    ensures list { routing.new.cancelled ≡ routing.old.cancelled }
+{
+    let round = Round {
+        mark: Mark::Rests,
+        motion: None,
+        watchers: 0,
+        target: routing.focus.target().unwrap_or(0),
+        keys: &[message],
+        lost: 0,
+        gained: 0,
+    };
+    tell_lightly(routing, &round, place, clock)
 }
 
 /// The key target is told keys, and windows are told that they lost the focus or have it now, while pointers change

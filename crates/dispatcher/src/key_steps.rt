@@ -10,7 +10,7 @@ ghost use Rattle.dispatcher.specs.Keying.{listening};
 ghost use Rattle.dispatcher.specs.Roomy.{HasPumpRoom, IsRoomy};
 ghost use Rattle.dispatcher.specs.Tables.{Pumps, SameButRoom};
 
-use crate::carry::{no_change, tell_still};
+use crate::carry::{no_change, tell_key, tell_still};
 use crate::tables::Routing;
 use input_types::{DeviceId, KeyArgs, KeyMsg, Moment};
 use key_tables::key_heard;
@@ -49,10 +49,7 @@ pub(crate) fn route_key(
     };
     let hears = mask_has(routing.channels.able(), target);
     match key_heard(key, hears, routing.channels.input(target).keys()) {
-        Some(message) => {
-            let change = no_change(routing);
-            tell_still(routing, Mark::Rests, &[message], &change, place, clock)
-        }
+        Some(message) => tell_key(routing, message, place, clock),
         None => Ok(()),
     }
 }
@@ -127,7 +124,6 @@ pub(crate) fn repeat(routing: &mut Routing, place: u64, clock: Moment) -> Result
     let Some((_, message)) = routing.repeat.next() else {
         return Ok(true);
     };
-    let change = no_change(routing);
-    tell_still(routing, Mark::Rests, &[message], &change, place, clock)?;
+    tell_key(routing, message, place, clock)?;
     Ok(true)
 }

@@ -1,20 +1,21 @@
 //! Motions of touch devices, and pilfering.
-ghost use Rattle.std.specs.Prelude.{◌≡◌, ℕ, suc, Some, true, IfOk, OnOk, OnErr, IsOk, ◌==◌, ◌&&◌};
+ghost use Rattle.std.specs.Prelude.{◌≡◌, ℕ, suc, Some, true, false, IfOk, OnOk, OnErr, IsOk, ◌==◌, ◌&&◌};
 ghost use Rattle.std.specs.List.{list_any};
 ghost use Rattle.window_snapshot.specs.Mask.{is_channel};
-ghost use Rattle.window_snapshot.specs.Window.{is_spy};
+ghost use Rattle.window_snapshot.specs.Window.{is_spy, is_slippery};
 ghost use Rattle.input_types.specs.declared.message.Args.TheVariants.{Motion as MotionArgs};
+ghost use Rattle.input_types.specs.declared.motion.MotionAction.TheVariants.{Move};
 ghost use Rattle.dispatch_calls.specs.declared.call.Call.TheVariants.{Pilfer};
 ghost use Rattle.dispatch_calls.specs.declared.reply.Reply.TheVariants.{Done, Dispatched};
 ghost use Rattle.dispatch_round.specs.Rounds.{IsTimely};
 ghost use Rattle.dispatcher.specs.Roomy.{HasPumpRoom};
 ghost use Rattle.dispatcher.specs.Tables.{Goes, Pumps, SameButRoom};
 
-use crate::carry::{no_change, tell, tell_still};
+use crate::carry::{no_change, tell, tell_lightly, tell_still};
 use crate::tables::Routing;
 use dispatch_calls::Reply;
 use dispatch_round::Round;
-use input_types::{DeviceId, Moment, Motion};
+use input_types::{DeviceId, Moment, Motion, MotionAction};
 use route_split::{Mark, watchers};
 use std::alloc::AllocError;
 use window_snapshot::{Window, mask_has};
@@ -31,6 +32,11 @@ pub(crate) fn route_motion(
     ensures err { OnErr result (SameButRoom routing.old routing.new) }
     ensures roomy { (n : ℕ) → HasPumpRoom (suc n) routing.old → IsOk result × HasPumpRoom n routing.new }
 {
+    if is_move(motion.action) {
+        if !routing.shown.slips() {
+            return route_move(routing, motion, place, clock);
+        }
+    }
     let windows = routing.shown.windows();
     let reach = routing.channels.live() & windows.on(routing.displays.of(motion.device));
     let able = routing.channels.able();
@@ -44,6 +50,42 @@ pub(crate) fn route_motion(
         gained: 0,
     };
     tell(routing, &round, place, clock)
+}
+
+/// A Move is dispatched, while no window is slippery: pointers only move with it, and none changes hands.
+fn route_move(
+    routing: &mut Routing,
+    motion: &Motion,
+    place: u64,
+    clock: Moment,
+) -> Result<(), AllocError>
+    requires timely { IsTimely clock routing.old.channels }
+    requires moves { motion.now.action ≡ Move }
+    requires none { list_any is_slippery routing.old.shown.windows ≡ false }
+    ensures ok { OnOk result (Pumps (Some (MotionArgs motion.now)) Dispatched place clock routing.old routing.new) }
+    ensures err { OnErr result (SameButRoom routing.old routing.new) }
+    ensures roomy { (n : ℕ) → HasPumpRoom (suc n) routing.old → IsOk result × HasPumpRoom n routing.new }
+{
+    let round = Round {
+        mark: Mark::Rests,
+        motion: Some(motion),
+        watchers: 0,
+        target: routing.focus.target().unwrap_or(0),
+        keys: &[],
+        lost: 0,
+        gained: 0,
+    };
+    tell_lightly(routing, &round, place, clock)
+}
+
+/// Whether it is the action with which pointers move.
+fn is_move(action: MotionAction) -> bool
+    ensures { result ≡ true → action ≡ Move }
+{
+    match action {
+        MotionAction::Move => true,
+        _ => false,
+    }
 }
 
 /// A spy takes the pointers of a device that it holds from all other windows.

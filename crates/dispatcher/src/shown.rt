@@ -1,6 +1,8 @@
 //! The windows that are shown, and the origin of each channel's window.
 ghost use Rattle.std.specs.Prelude.{◌≡◌, ◌≤◌, ℕ, [], ◌∷◌, replicate};
+ghost use Rattle.std.specs.List.{list_any};
 ghost use Rattle.window_snapshot.specs.Origins.{corner};
+ghost use Rattle.window_snapshot.specs.Window.{is_slippery};
 ghost use Rattle.dispatcher.specs.Shown.{origin_at};
 ghost use Rattle.dispatcher.specs.Showing.{Shows, origins_from};
 
@@ -13,16 +15,23 @@ use window_snapshot::{Snapshot, Window, is_channel};
 #[derive(Drop)]
 pub(crate) struct Shown {
     windows: Snapshot,
+    /// Whether one of the windows is slippery.
+    slips: bool,
     /// That of channel 1 first.
     origins: [Pixel; 64],
 }
 
 impl Model for Shown {
+    ghost use Rattle.std.specs.Prelude.{◌≡◌};
+    ghost use Rattle.std.specs.List.{list_any};
+    ghost use Rattle.window_snapshot.specs.Window.{is_slippery};
     ghost use Rattle.dispatcher.specs.Shown.{Shown as Kept};
 
     ghost Value = { Kept };
 
     ghost view = { λ s. record { windows = s.windows; origins = s.origins } };
+
+    ghost invariant = { λ s. s.slips ≡ list_any is_slippery s.windows };
 }
 
 impl Shown {
@@ -32,6 +41,7 @@ impl Shown {
     {
         Shown {
             windows: Snapshot::empty(alloc),
+            slips: false,
             origins: corners(),
         }
     }
@@ -40,6 +50,13 @@ impl Shown {
         ensures { result.now ≡ self.now.windows }
     {
         &self.windows
+    }
+
+    /// Whether one of the windows is slippery.
+    pub(crate) fn slips(&self) -> bool
+        ensures { result ≡ list_any is_slippery self.now.windows }
+    {
+        self.slips
     }
 
     pub(crate) fn origins(&self) -> &[Pixel; 64]
@@ -53,8 +70,16 @@ impl Shown {
         ensures { Shows windows self.old self.new }
     {
         move_origins(&mut self.origins, windows.windows());
+        self.slips = has_slippery(windows.windows());
         self.windows = windows;
     }
+}
+
+/// Whether one of these windows is slippery.
+fn has_slippery(windows: &[Window]) -> bool
+    ensures { result ≡ list_any is_slippery windows.now }
+{
+    windows.iter().any(|window| window.is_slippery())
 }
 
 /// The corner of the display for each channel.

@@ -19,19 +19,18 @@ returns-in_default-clause-ok c =
 pub returns-clause-ok : goal.returns-clause-ok
 returns-clause-ok c =
     let due = ap (λ o. is_due o c.args.clock) (sym c.due.ensures) ∙ sym c.is_due.ensures ∙ c.if-not-is_due.false in
-    repeat_pump c.args.routing.now c.tell_still.new.routing c.args.place c.args.clock (c.in-Some.field-0-0, c.in-Some.message) c.no_change-change.result.lost
-    c.no_change-change.result.gained
-    c.no_change-change.ensures.0
-    c.no_change-change.ensures.1
+    repeat_pump c.args.routing.now c.tell_key.new.routing c.args.place c.args.clock (c.in-Some.field-0-0, c.in-Some.message) 0 0
+    refl
+    refl
     due
     (sym c.next.ensures ∙ ap (λ o. option_map (λ n. (n.0, n.1)) o) c.in-Some.is)
-    c.in_ok-tell_still.ensures.ok
+    c.in_ok-tell_key.ensures.ok
 
-pub returns-in_err-tell_still-clause-roomy : goal.returns-in_err-tell_still-clause-roomy
-returns-in_err-tell_still-clause-roomy c n roomy =
-    absurd (true≢false (sym (c.in_err-tell_still.ensures.roomy n _ roomy (modest_one _ c.in-Some.message c.args.routing.now.channels)).0))
+pub returns-in_err-tell_key-clause-roomy : goal.returns-in_err-tell_key-clause-roomy
+returns-in_err-tell_key-clause-roomy c n roomy =
+    absurd (true≢false (sym (c.in_err-tell_key.ensures.roomy n _ roomy (modest_one _ c.in-Some.message c.args.routing.now.channels)).0))
 
 pub returns-clause-roomy : goal.returns-clause-roomy
 returns-clause-roomy c n roomy =
-    let told = c.in_ok-tell_still.ensures.roomy n _ roomy (modest_one _ c.in-Some.message c.args.routing.now.channels) in
-    (refl, still_list n c.args.routing.now c.tell_still.new.routing c.in_ok-tell_still.ensures.list told.1)
+    let told = c.in_ok-tell_key.ensures.roomy n _ roomy (modest_one _ c.in-Some.message c.args.routing.now.channels) in
+    (refl, still_list n c.args.routing.now c.tell_key.new.routing c.in_ok-tell_key.ensures.list told.1)

@@ -1,4 +1,4 @@
-use Rattle.std.proofs.Common.{◌∷◌, [], sym, ap, ◌∙◌}
+use Rattle.std.proofs.Common.{◌∷◌, [], refl, sym, ap, ◌∙◌}
 use Rattle.input_types.specs.declared.message.Args.TheVariants.{Key as KeyOfDevice}
 use Rattle.window_snapshot.specs.Mask.{mask_has}
 use Rattle.focus_resolver.specs.Resolver.{target_of}
@@ -26,11 +26,11 @@ returns-in-Some-key_heard-clause-ok c =
     ∙ c.key_heard.ensures
     ∙ ap (λ b. key_heard c.args.key.now b c.keys.result.now) (c.mask_has-hears.ensures ∙ ap (λ m. mask_has m t) c.able.ensures.value)
     ∙ ap (λ ks. key_heard c.args.key.now (mask_has old.channels.able t) ks) (c.keys.ensures ∙ ap (λ i. i.keys) c.input.ensures) in
-    on_ok _ _ c.tell_still.result c.tell_still.ensures.ok
+    on_ok _ _ c.tell_key.result c.tell_key.ensures.ok
     (λ some.
-    args_pump old c.tell_still.new.routing c.args.place c.args.clock (KeyOfDevice c.args.key.now) Rests (c.in-Some-key_heard.message ∷ []) _ _
-    c.no_change-change.ensures.0
-    c.no_change-change.ensures.1
+    args_pump old c.tell_key.new.routing c.args.place c.args.clock (KeyOfDevice c.args.key.now) Rests (c.in-Some-key_heard.message ∷ []) 0 0
+    refl
+    refl
     some
     (λ es now w queue stands first. (other_steps old.displays es (kept queue old) stands).keys now w c.args.key.now first)
     (λ now. keyed_one (target_of old.focus) old.channels.live _ t _ (sym c.in-Some.is ∙ c.listening.ensures.value) (ap one_told heard)))
@@ -49,5 +49,5 @@ returns-in-None-clause-ok c =
 
 pub returns-in-Some-key_heard-clause-roomy : goal.returns-in-Some-key_heard-clause-roomy
 returns-in-Some-key_heard-clause-roomy c n roomy =
-    let told = c.tell_still.ensures.roomy n _ roomy (modest_one _ c.in-Some-key_heard.message c.args.routing.now.channels) in
-    (told.0, still_list n c.args.routing.now c.tell_still.new.routing c.tell_still.ensures.list told.1)
+    let told = c.tell_key.ensures.roomy n _ roomy (modest_one _ c.in-Some-key_heard.message c.args.routing.now.channels) in
+    (told.0, still_list n c.args.routing.now c.tell_key.new.routing c.tell_key.ensures.list told.1)

@@ -1,0 +1,30 @@
+use Rattle.std.proofs.Common.{refl, ap, ◌∙◌, unwrap_or}
+use Rattle.dispatcher.proofs.Oks.{on_ok}
+use Rattle.dispatcher.proofs.carry.tell_key.Goals as goal
+
+pub tell_lightly-requires-clause-light : goal.tell_lightly-requires-clause-light
+tell_lightly-requires-clause-light c = record {
+  mark_is = refl;
+  motion_is = tt;
+  watchers_is = refl;
+  lost_is = refl;
+  gained_is = refl;
+}
+
+pub returns-clause-ok : goal.returns-clause-ok
+returns-clause-ok c =
+    on_ok _ _ c.tell_lightly.result c.tell_lightly.ensures.ok
+    (λ from.
+    record {
+      round = _;
+      is =
+          record {
+            mark_is = refl;
+            motion_is = refl;
+            target_is = c.unwrap_or.ensures ∙ ap (λ o. unwrap_or o 0) c.target.ensures;
+            keys_are = refl;
+            lost_is = refl;
+            gained_is = refl;
+          };
+      carries = from;
+    })

@@ -1,0 +1,38 @@
+use Rattle.std.proofs.Common.{refl, ap, ◌∙◌, unwrap_or}
+use Rattle.dispatcher.proofs.Roomy.{modest_none, still_list}
+use Rattle.dispatcher.proofs.Oks.{on_ok}
+use Rattle.dispatcher.proofs.Moved.{move_told}
+use Rattle.dispatcher.proofs.motions.route_move.Goals as goal
+
+pub tell_lightly-requires-clause-light : goal.tell_lightly-requires-clause-light
+tell_lightly-requires-clause-light c = record {
+  mark_is = refl;
+  motion_is = c.requires.moves;
+  watchers_is = refl;
+  lost_is = refl;
+  gained_is = refl;
+}
+
+pub returns-clause-ok : goal.returns-clause-ok
+returns-clause-ok c =
+    let old = c.args.routing.now in
+    on_ok _ _ c.tell_lightly.result c.tell_lightly.ensures.ok
+    (λ from.
+    move_told old c.tell_lightly.new.routing c.args.place c.args.clock c.args.motion.now _
+    (record {
+      mark_is = refl;
+      motion_is = refl;
+      target_is = c.unwrap_or.ensures ∙ ap (λ o. unwrap_or o 0) c.target.ensures;
+      keys_are = refl;
+      lost_is = refl;
+      gained_is = refl;
+    })
+    refl
+    from
+    c.requires.moves
+    c.requires.none)
+
+pub returns-clause-roomy : goal.returns-clause-roomy
+returns-clause-roomy c n roomy =
+    let told = c.tell_lightly.ensures.roomy n _ roomy (modest_none _ c.args.routing.now.channels) in
+    (told.0, still_list n c.args.routing.now c.tell_lightly.new.routing c.tell_lightly.ensures.list told.1)
