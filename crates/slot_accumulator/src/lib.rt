@@ -17,6 +17,7 @@
 #![tactic(auto)]
 
 mod contacts;
+mod palm_slots;
 mod palms;
 mod report;
 mod slots;

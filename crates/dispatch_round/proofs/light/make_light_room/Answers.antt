@@ -1,4 +1,4 @@
-use Rattle.std.proofs.Common.{◌≤◌, refl, ap, ◌&&◌, sym, subst, ◌∙◌, arith}
+use Rattle.std.proofs.Common.{◌≤◌, ap, ◌&&◌, sym, subst, ◌∙◌, arith}
 use Rattle.std.proofs.lemmas.List.{length-set}
 use Rattle.std.proofs.lemmas.Bool.{and_parts, true≢false}
 use Rattle.window_snapshot.specs.Mask.{mask_has}

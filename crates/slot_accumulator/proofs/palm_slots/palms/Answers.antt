@@ -7,8 +7,8 @@ use Rattle.slot_accumulator.specs.declared.slots.Row.{Row}
 use Rattle.slot_accumulator.specs.Table.{is_kept}
 use Rattle.slot_accumulator.specs.SlotContacts.{has_palm_tool, row_in}
 use Rattle.slot_accumulator.proofs.Listing.{palms_next, pushed_kept}
-use Rattle.slot_accumulator.proofs.slots.palms.Goals.{then-is_palm, else-is_palm}
-use Rattle.slot_accumulator.proofs.slots.palms.Goals as goal
+use Rattle.slot_accumulator.proofs.palm_slots.palms.Goals.{then-is_palm, else-is_palm}
+use Rattle.slot_accumulator.proofs.palm_slots.palms.Goals as goal
 
 pub loop-slot-preserved : goal.loop-slot-preserved
 loop-slot-preserved c =

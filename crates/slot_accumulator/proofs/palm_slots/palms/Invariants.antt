@@ -1,7 +1,7 @@
 use Rattle.std.specs.Prelude.{◌≡◌, ℤ, ◌≤◌, length}
 use Rattle.slot_accumulator.specs.Table.{is_kept}
 use Rattle.slot_accumulator.specs.SlotContacts.{palm_below, row_in}
-use Rattle.slot_accumulator.proofs.slots.palms.Given as goal
+use Rattle.slot_accumulator.proofs.palm_slots.palms.Given as goal
 
 -- the palms of the slots so far
 abbrev pub invariant-loop-slot : goal.invariant-loop-slot

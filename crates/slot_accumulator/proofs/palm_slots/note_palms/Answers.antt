@@ -4,7 +4,7 @@ use Rattle.std.proofs.Common.{arith, sym, ◌∙◌}
 use Rattle.std.proofs.lemmas.Bool.{eqb-true}
 use Rattle.slot_accumulator.specs.Table.{is_kept}
 use Rattle.slot_accumulator.proofs.Listing.{and_first, and_second, none_kept, none_palm}
-use Rattle.slot_accumulator.proofs.slots.note_palms.Goals as goal
+use Rattle.slot_accumulator.proofs.palm_slots.note_palms.Goals as goal
 
 pub returns-then-no_palm-clause-noted : goal.returns-then-no_palm-clause-noted
 returns-then-no_palm-clause-noted c = λ t.
