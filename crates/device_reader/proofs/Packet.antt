@@ -20,6 +20,7 @@ use Rattle.slot_accumulator.specs.Table.{Table}
 use Rattle.slot_accumulator.specs.SlotContacts.{contacts_in, SlotsStandFor}
 use Rattle.touch_mapper.specs.Gesture.{after_packet}
 use Rattle.pointer_ids.specs.declared.assigned.Held.{Held}
+use Rattle.touch_mapper.specs.Cooking.{Cooking}
 use Rattle.device_reader.specs.declared.touch.Touch.{Touch}
 use Rattle.device_reader.specs.Cooked.{TouchPlan, TouchStandsFor, cancelled_at, pointers_at, touch_args}
 
@@ -46,6 +47,13 @@ touch_step plan past e given items ids cs a g h named_is contacts_are pointers_a
     ∙ ap (λ (s : GestureState). gesture s.device (λ i. cancelled_at plan past e i) s.last (placed_all s.cook (assigned (named (named_after (packets plan.slots past)) (contacts_at plan.slots (e ∷ past)))))) state_is)
     ∙ ap (λ xs. given ++ xs) (ends plan past e h)
 
+-- the pointers of the last packet are at their pixels
+pub placed_last : (plan : TouchPlan) (past : List RawEvent) (t : Touch) → TouchStandsFor plan past t → t.gestures.last ≡ placed_all t.gestures.cook t.pointers.pointers
+placed_last plan past t h =
+    ap (λ (g : GestureState). g.last) h.gestures_are
+    ∙ ap (λ (c : Cooking). placed_all c (assigned (named_after (packets plan.slots past)))) (sym (ap (λ (g : GestureState). g.cook) h.gestures_are))
+    ∙ ap (λ (hs : List Held). placed_all t.gestures.cook hs) (sym h.pointers_are)
+
 packets_next : (slots : ℕ) (past : List RawEvent) (e : RawEvent) → is_report e ≡ true → contacts_at slots (e ∷ past) ∷ packets slots past ≡ packets slots (e ∷ past)
 packets_next slots past e h = rw h refl
 
@@ -53,7 +61,7 @@ packets_next slots past e h = rw h refl
 pub touch_stands : (plan : TouchPlan) (past : List RawEvent) (e : RawEvent) (t : Touch) (slots : Table) (cs : List Contact) (ids : List Named) (a : Assignment) (g : GestureState)
     → is_report e ≡ true → TouchStandsFor plan past t → SlotsStandFor (e ∷ past) slots → slots.slots ≡ plan.slots → cs ≡ contacts_in slots
     → cs ≡ contacts_at plan.slots (e ∷ past) → ids ≡ named t.ids cs → a.pointers ≡ assigned (named t.ids cs) → g ≡ after_packet t.gestures a
-    → TouchStandsFor plan (e ∷ past) (record { slots = slots; contacts = cs; ids = ids; gestures = g })
+    → TouchStandsFor plan (e ∷ past) (record { slots = slots; contacts = cs; ids = ids; pointers = a; gestures = g })
 touch_stands plan past e t slots cs ids a g ends h stand many are events named_are pointers_are after =
     let now : ids ≡ named_after (packets plan.slots (e ∷ past)) =
     named_are ∙ ap (λ ns. named ns cs) h.ids_are ∙ ap (λ xs. named (named_after (packets plan.slots past)) xs) events
@@ -64,6 +72,7 @@ touch_stands plan past e t slots cs ids a g ends h stand many are events named_a
       slots_are = many;
       ids_are = now;
       contacts_are = are;
+      pointers_are = pointers;
       gestures_are = after ∙ ap (λ (s : GestureState). record { device = s.device; cook = s.cook; last = placed_all s.cook a.pointers }) h.gestures_are
           ∙ ap (λ (hs : List Held). record { device = plan.device; cook = plan.cook; last = placed_all plan.cook hs }) pointers;
     }

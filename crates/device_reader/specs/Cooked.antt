@@ -88,6 +88,7 @@ pub record TouchStandsFor (plan : TouchPlan) (past : List RawEvent) (t : Touch) 
   pub slots_are : t.slots.slots ≡ plan.slots
   pub ids_are : t.ids ≡ named_after (packets plan.slots past)
   pub contacts_are : t.contacts ≡ contacts_in t.slots
+  pub pointers_are : t.pointers.pointers ≡ assigned (named_after (packets plan.slots past))
   pub gestures_are : t.gestures ≡ record { device = plan.device; cook = plan.cook; last = pointers_at plan past }
 
 -- what is known of a device with keys does

@@ -159,13 +159,29 @@ fn take_by_kind(kind: &mut Kind, event: &RawEvent, args: &mut Vec<Args>) -> Resu
 {
     match kind {
         Kind::Touch(touch) => touch.take(event, args),
-        Kind::Keys(keys) => take_key(keys, *event, args),
+        Kind::Keys(keys) => take_key(keys, event, args),
     }
 }
 
 /// Takes an event of a device with keys, and adds the key that it moves.
+fn take_key(keys: &mut Keys, event: &RawEvent, args: &mut Vec<Args>) -> Result<(), AllocError>
+    ensures ok { (plan : KeysPlan) (past : List Event) → HeldStandsFor plan past keys.old
+        → OnOk result (args.new.items ≡ args.old.items ++ key_args plan past event.now) }
+    ensures after { (plan : KeysPlan) (past : List Event) → HeldStandsFor plan past keys.old
+        → OnOk result (HeldStandsFor plan (event.now ∷ past) keys.new) }
+    ensures err { OnErr result (keys.new ≡ keys.old) }
+    ensures given { OnErr result (args.new.items ≡ args.old.items) }
+{
+    if event.kind == EV_KEY {
+        return move_key(keys, *event, args);
+    }
+    Ok(())
+}
+
+/// Takes an EV_KEY event, and adds the key that it moves.
 #[inline(never)]
-fn take_key(keys: &mut Keys, event: RawEvent, args: &mut Vec<Args>) -> Result<(), AllocError>
+fn move_key(keys: &mut Keys, event: RawEvent, args: &mut Vec<Args>) -> Result<(), AllocError>
+    requires { event.kind ≡ 1 }
     ensures ok { (plan : KeysPlan) (past : List Event) → HeldStandsFor plan past keys.old
         → OnOk result (args.new.items ≡ args.old.items ++ key_args plan past event) }
     ensures after { (plan : KeysPlan) (past : List Event) → HeldStandsFor plan past keys.old
@@ -173,9 +189,6 @@ fn take_key(keys: &mut Keys, event: RawEvent, args: &mut Vec<Args>) -> Result<()
     ensures err { OnErr result (keys.new ≡ keys.old) }
     ensures given { OnErr result (args.new.items ≡ args.old.items) }
 {
-    if event.kind != EV_KEY {
-        return Ok(());
-    }
     // With room for a key nothing fails after the keys changed.
     args.reserve(1)?;
     match keys.take(event.code, event.value)? {

@@ -50,6 +50,7 @@ impl Readers {
     ///
     /// The moment is the greatest one of the events that gave args up to this one, so moments never fall. An event of a
     /// device without a reader adds nothing.
+    #[inline(always)]
     pub fn take(&mut self, event: RawEvent, args: &mut Vec<Args>) -> Result<Moment, AllocError>
         ensures ok { (plans : List DevicePlan) (past : List Event) → ReadersStandFor plans past self.old
             → OnOk result (args.new.items ≡ args.old.items ++ added plans past event) }

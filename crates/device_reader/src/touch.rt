@@ -19,6 +19,8 @@ pub(crate) struct Touch {
     /// What the slots hold.
     contacts: Contacts,
     ids: Ids,
+    /// The pointers of the last packet in the device's units.
+    pointers: Assigned,
     gestures: Gestures,
 }
 
@@ -32,6 +34,7 @@ impl Touch {
             slots: Slots::new(slots),
             contacts: Contacts::empty(),
             ids: Ids::new(),
+            pointers: Assigned::empty(),
             gestures: Gestures::new(device, cook),
         }
     }
@@ -66,9 +69,10 @@ impl Touch {
         // With room for all that a packet makes nothing fails after the slots changed.
         args.reserve(Gestures::MOST)?;
         self.slots.follow(event, &mut self.contacts);
-        let mut pointers = Assigned::empty();
-        self.ids.assign_into(&self.contacts, &mut pointers);
-        self.gestures.next_into(args, &pointers)
+        match self.ids.follow(&self.contacts, &mut self.pointers) {
+            Some(moved) => self.gestures.move_into(args, moved, &self.pointers),
+            None => self.gestures.next_into(args, &self.pointers),
+        }
     }
 
     /// Begins anew, as after `new`.
@@ -79,6 +83,7 @@ impl Touch {
         self.slots.reset();
         self.contacts = Contacts::empty();
         self.ids.reset();
+        self.pointers = Assigned::empty();
         self.gestures.reset();
     }
 }

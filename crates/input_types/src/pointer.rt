@@ -1,5 +1,5 @@
 //! Pointers, and lists of them.
-ghost use Rattle.std.specs.Prelude.{◌≡◌, ℕ, ◌+◌, ◌<◌, ◌≤◌, ◌==◌, ◌↔◌, IsTrue, List, [], ◌∷◌, ◌++◌, length, slice_get, OnOk, OnErr};
+ghost use Rattle.std.specs.Prelude.{◌≡◌, ℕ, ◌+◌, ◌<◌, ◌≤◌, ◌==◌, ◌↔◌, IsTrue, List, [], ◌∷◌, ◌++◌, length, slice_get, slice_set, get_or, OnOk, OnErr};
 ghost use Rattle.input_types.specs.Pointers.{IsRising, EndsBelow, unused};
 
 use crate::axis::Pixel;
@@ -118,6 +118,25 @@ impl Pointers {
         }
         self.list.push(p);
         Ok(())
+    }
+
+    /// The same where the list has room and its last id is below that of `p`, which nobody has to look at then.
+    pub fn put(&mut self, p: Pointer)
+        requires room { length self.old < 16 }
+        requires rises { EndsBelow self.old p.id }
+        ensures { self.new ≡ self.old ++ p ∷ [] }
+    {
+        self.list.push(p);
+    }
+
+    /// Puts the pointer at index `i`, counted from 0, at another place; nothing changes where `i` is not below `len`.
+    pub fn move_to(&mut self, i: usize, at: Pixel)
+        ensures { self.new ≡ slice_set self.old i (record { id = (get_or self.old i unused).id; at = at }) }
+    {
+        if i < self.list.len() {
+            let id = self.list.as_slice()[i].id;
+            self.list.set(i, Pointer { id, at });
+        }
     }
 }
 

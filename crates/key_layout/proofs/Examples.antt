@@ -1,8 +1,11 @@
 -- Layouts, worked out.
-use Rattle.std.specs.Prelude.{◌≡◌, codes, ◌++◌, [], ◌∷◌, Ok, Err, refl}
+use Rattle.std.specs.Prelude.{◌≡◌, codes, ◌++◌, [], ◌∷◌, Ok, Err, get_or, replicate, refl}
+use Rattle.std.proofs.Common.{arith}
+use Rattle.std.proofs.lemmas.List.{get_or-replicate}
 use Rattle.key_layout.specs.declared.error.LayoutError.TheVariants.{BadLine, BadName, Twice}
 use Rattle.key_layout.specs.KeyNames.{code_of_name, key_table}
 use Rattle.key_layout.specs.Layout.{code_at, layout_of}
+use Rattle.key_layout.specs.Low.{IsLow}
 use Rattle.key_layout.specs.Line.{key_said, line_said, said}
 use Rattle.key_layout.specs.Text.{behind_word, number, scan_of, without_comment, word}
 
@@ -49,3 +52,23 @@ greatest_scan_code = refl
 -- a scan code without a line has key code 0
 pub absent : code_at ((30, 29) ∷ (42, 59) ∷ []) 31 ≡ 0
 absent = refl
+
+-- ---- the table of low scan codes
+
+-- without lines each of its 256 places has 0
+pub no_lines : IsLow [] (replicate 256 0)
+no_lines = record { whole = refl; each = λ scan lt. get_or-replicate 256 scan 0 0 lt }
+
+-- with the line "key 30 A" there are 30 places with 0, that of A, and 225 more with 0
+pub place_of_a : get_or (replicate 30 0 ++ 29 ∷ replicate 225 0) 30 0 ≡ code_at ((30, 29) ∷ []) 30
+place_of_a = refl
+
+pub place_behind_a : get_or (replicate 30 0 ++ 29 ∷ replicate 225 0) 31 0 ≡ code_at ((30, 29) ∷ []) 31
+place_behind_a = refl
+
+-- a table that has 0 in the place of A is not that of the line, and one with a place less is no table
+pub a_left_out : IsLow ((30, 29) ∷ []) (replicate 256 0) → ⊥
+a_left_out h = omega (arith, h.each 30 (omega arith))
+
+pub too_short : IsLow [] (replicate 255 0) → ⊥
+too_short h = omega (arith, h.whole)

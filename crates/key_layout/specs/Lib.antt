@@ -1,4 +1,5 @@
 pub mod KeyNames
 pub mod Layout
+pub mod Low
 pub mod Line
 pub mod Text

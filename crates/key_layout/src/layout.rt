@@ -1,5 +1,6 @@
 //! The keys of a layout.
 ghost use Rattle.std.specs.Prelude.{◌≡◌};
+ghost use Rattle.key_layout.specs.Low.{IsLow};
 
 use crate::error::LayoutError;
 use crate::line::{Line, line_said};
@@ -13,14 +14,19 @@ use text_lines::first_line;
 #[derive(Drop)]
 pub struct Layout {
     codes: BTreeMap<u16, u16>,
+    /// The key codes of the scan codes below 256, which most keys have.
+    low: [u16; 256],
 }
 
 impl Model for Layout {
     ghost use Rattle.key_layout.specs.Layout.{Codes};
+    ghost use Rattle.key_layout.specs.Low.{IsLow};
 
     ghost Value = { Codes };
 
     ghost view = { λ l. l.codes.entries };
+
+    ghost invariant = { λ l. IsLow l.codes.entries l.low };
 }
 
 impl Layout {
@@ -47,21 +53,43 @@ impl Layout {
             number = number.saturating_add(1);
             rest = line.rest;
         }
-        Ok(Layout { codes })
+        let low = low_codes(&codes);
+        Ok(Layout { codes, low })
     }
 
     /// The key code of a scan code, and 0 where no line gives it one.
     pub fn code_of(&self, scan: u16) -> u16
         ensures { result ≡ code_at self.now scan }
     {
-        match self.codes.get(&scan) {
-            Some(code) => *code,
-            None => 0,
+        if scan < 256 {
+            return self.low[usize::from(scan)];
         }
+        code_in(&self.codes, scan)
     }
 }
 
-ghost use Rattle.key_layout.specs.Layout.{Answers, with_line};
+ghost use Rattle.key_layout.specs.Layout.{Answers, code_at, with_line};
+
+/// The key code that stands beside a scan code, and 0 where none does.
+fn code_in(codes: &BTreeMap<u16, u16>, scan: u16) -> u16
+    ensures { result ≡ code_at codes.now.entries scan }
+{
+    match codes.get(&scan) {
+        Some(code) => *code,
+        None => 0,
+    }
+}
+
+/// The key codes of the scan codes below 256, in a table.
+fn low_codes(codes: &BTreeMap<u16, u16>) -> [u16; 256]
+    ensures { IsLow codes.now.entries result }
+{
+    let mut low = [0; 256];
+    for scan in 0..256 {
+        low[scan] = code_in(codes, scan as u16);
+    }
+    low
+}
 
 /// Adds what a line says; on a refusal the codes do not matter any more.
 fn add_line(codes: &mut BTreeMap<u16, u16>, number: u64, line: Line) -> Result<(), LayoutError>
@@ -85,6 +113,7 @@ impl Clone for Layout {
     fn clone(&self) -> Result<Layout, AllocError> {
         Ok(Layout {
             codes: self.codes.clone()?,
+            low: self.low,
         })
     }
 }

@@ -2,6 +2,7 @@
 use Rattle.std.specs.Prelude.{◌≡◌, ℕ, true, false, pos, [], ◌∷◌, Some, None, refl}
 use Rattle.key_layout.specs.Layout.{Codes}
 use Rattle.key_mapper.specs.Key.{KeyEvent, key_of, meta_of}
+use Rattle.key_mapper.specs.Held.{sets_meta}
 
 abbrev keyboard : Codes
 keyboard = (30, 29) ∷ (42, 59) ∷ []
@@ -41,3 +42,10 @@ either_key_sets_the_bit = refl
 -- both SHIFT keys, CTRL_RIGHT and ALT_RIGHT
 pub bits_join : meta_of ((1, 59) ∷ (2, 60) ∷ (3, 114) ∷ (4, 58) ∷ []) (press 4 ∷ press 3 ∷ press 2 ∷ press 1 ∷ []) ≡ 0x50e3
 bits_join = refl
+
+-- SHIFT_LEFT sets meta bits, and A sets none
+pub shift_sets_bits : sets_meta 59 ≡ true
+shift_sets_bits = refl
+
+pub a_sets_none : sets_meta 29 ≡ false
+a_sets_none = refl

@@ -12,7 +12,8 @@ use Rattle.std.proofs.lemmas.Map.Entries.{lookup_from_place}
 use Rattle.std.proofs.lemmas.Map.Keys.{IsDistinct-from_sorted}
 use Rattle.key_layout.specs.Layout.{Codes, found_at, code_at}
 use Rattle.key_mapper.specs.Key.{KeyEvent, is_press, is_release, is_down, has_down, bits_where, meta_bits, meta_of}
-use Rattle.key_mapper.specs.Held.{Held, KeysStandFor, count, counts, bits}
+use Rattle.key_mapper.specs.declared.modifiers.Modifiers.{Modifiers}
+use Rattle.key_mapper.specs.Held.{Held, KeysStandFor, count, counts, bits, sets_meta, with_key, without_key}
 use Rattle.key_mapper.proofs.Counts.{count_found, count_some}
 
 -- an element that passes a test, and the test of the list
@@ -110,3 +111,46 @@ pub meta_is : (k : Held) (past : List KeyEvent) → KeysStandFor past k → IsSt
 meta_is k past stands sorted =
     same_bits (λ codes. list_any (λ code. nat_lt 0 (count code (values_of k.down))) codes) (has_down k.layout past) meta_bits
     (λ codes. one_answer (list_any (λ code. nat_lt 0 (count code (values_of k.down))) codes) (has_down k.layout past codes) (by_counts k past codes stands sorted) (by_events k.layout past codes))
+
+-- ---- a key that sets no meta bit
+
+or_neither : (a b : Bool) → (a || b) ≡ false → (a ≡ false) × (b ≡ false)
+or_neither true b h = absurd (cc)
+or_neither false b h = (refl, h)
+
+-- it is none of the codes that are counted
+abbrev IsOther : ℕ → Type 0
+IsOther c =
+    (nat_eq c 57 ≡ false) × (nat_eq c 58 ≡ false) × (nat_eq c 59 ≡ false) × (nat_eq c 60 ≡ false) × (nat_eq c 113 ≡ false) × (nat_eq c 114 ≡ false)
+
+is_other : (c : ℕ) → sets_meta c ≡ false → IsOther c
+is_other c h =
+    let one = or_neither (nat_eq c 57) (nat_eq c 58 || (nat_eq c 59 || (nat_eq c 60 || (nat_eq c 113 || nat_eq c 114)))) h in
+    let two = or_neither (nat_eq c 58) (nat_eq c 59 || (nat_eq c 60 || (nat_eq c 113 || nat_eq c 114))) one.1 in
+    let three = or_neither (nat_eq c 59) (nat_eq c 60 || (nat_eq c 113 || nat_eq c 114)) two.1 in
+    let four = or_neither (nat_eq c 60) (nat_eq c 113 || nat_eq c 114) three.1 in
+    let five = or_neither (nat_eq c 113) (nat_eq c 114) four.1 in
+    (one.0, two.0, three.0, four.0, five.0, five.1)
+
+other_more : (m : Modifiers) (c : ℕ) → IsOther c → with_key m c ≡ m
+other_more m c h = rw (h.0, h.1, h.2, h.3, h.4, h.5) refl
+
+other_fewer : (m : Modifiers) (c : ℕ) → IsOther c → without_key m c ≡ m
+other_fewer m c h = rw (h.0, h.1, h.2, h.3, h.4, h.5) refl
+
+more_at : (m : Modifiers) (c meta : ℕ) (b : Bool) → meta ≡ bits m → (b ≡ false → with_key m c ≡ m) → (if b then bits (with_key m c) else meta) ≡ bits (with_key m c)
+more_at m c meta true told same = refl
+more_at m c meta false told same = told ∙ ap (λ n. bits n) (sym (same refl))
+
+-- the meta bits with one key more
+pub bits_more : (m : Modifiers) (c meta : ℕ) → meta ≡ bits m → (if sets_meta c then bits (with_key m c) else meta) ≡ bits (with_key m c)
+bits_more m c meta told = more_at m c meta (sets_meta c) told (λ h. other_more m c (is_other c h))
+
+fewer_at : (m : Modifiers) (c meta : ℕ) (b : Bool) → meta ≡ bits m → (b ≡ false → without_key m c ≡ m)
+    → (if b then bits (without_key m c) else meta) ≡ bits (without_key m c)
+fewer_at m c meta true told same = refl
+fewer_at m c meta false told same = told ∙ ap (λ n. bits n) (sym (same refl))
+
+-- the meta bits with one key less
+pub bits_fewer : (m : Modifiers) (c meta : ℕ) → meta ≡ bits m → (if sets_meta c then bits (without_key m c) else meta) ≡ bits (without_key m c)
+bits_fewer m c meta told = fewer_at m c meta (sets_meta c) told (λ h. other_fewer m c (is_other c h))

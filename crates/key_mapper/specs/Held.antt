@@ -1,5 +1,5 @@
 -- What contracts see of the keys of a device.
-use Rattle.std.specs.Prelude.{◌≡◌, ℕ, ◌+◌, ◌-◌, ◌<◌, nat_eq, nat_lt, List, Some, None, if◌then◌else◌}
+use Rattle.std.specs.Prelude.{◌≡◌, ℕ, ◌+◌, ◌-◌, ◌<◌, ◌||◌, nat_eq, nat_lt, Bool, List, Some, None, if◌then◌else◌}
 use Rattle.std.specs.List.{list_any, count_by}
 use Rattle.std.specs.List.Sorted.{IsStrictlySortedBy}
 use Rattle.std.specs.Map.{keys_of, values_of}
@@ -87,7 +87,12 @@ number_of m code =
 abbrev pub bits : Modifiers → ℕ
 bits m = bits_where (λ codes. list_any (λ code. nat_lt 0 (number_of m code)) codes) meta_bits
 
--- the keys that are down stand in rising scan code, and those that set meta bits are counted
-pub record IsHeld (down : Codes) (modifiers : Modifiers) : Type 0 where
+-- a key code sets meta bits: it is one of `meta_bits`
+abbrev pub sets_meta : ℕ → Bool
+sets_meta c = nat_eq c 57 || (nat_eq c 58 || (nat_eq c 59 || (nat_eq c 60 || (nat_eq c 113 || nat_eq c 114))))
+
+-- the keys that are down stand in rising scan code, those that set meta bits are counted, and those are the bits
+pub record IsHeld (down : Codes) (modifiers : Modifiers) (meta : ℕ) : Type 0 where
   pub ordered : IsStrictlySortedBy nat_cmp (keys_of down)
   pub counted : modifiers ≡ counts down
+  pub told : meta ≡ bits modifiers

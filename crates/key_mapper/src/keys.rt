@@ -23,6 +23,8 @@ pub struct Keys {
     /// The keys that are down, with their key codes.
     down: BTreeMap<u16, u16>,
     modifiers: Modifiers,
+    /// The meta bits that the keys set.
+    meta: u32,
 }
 
 impl Model for Keys {
@@ -32,7 +34,7 @@ impl Model for Keys {
 
     ghost view = { λ k. record { device = k.device; layout = k.layout; down = k.down.entries } };
 
-    ghost invariant = { λ k. IsHeld k.down.entries k.modifiers };
+    ghost invariant = { λ k. IsHeld k.down.entries k.modifiers k.meta };
 }
 
 impl Keys {
@@ -47,6 +49,7 @@ impl Keys {
             layout,
             down: BTreeMap::new(alloc),
             modifiers: Modifiers::none(),
+            meta: 0,
         }
     }
 
@@ -90,6 +93,7 @@ impl Keys {
         let _others = self.down.len();
         self.down.insert(scan, code)?;
         self.modifiers.add(code);
+        self.meta = self.modifiers.bits_after(code, self.meta);
         Ok(Some(self.moved(scan, code, true)))
     }
 
@@ -103,6 +107,7 @@ impl Keys {
     {
         let code = self.down.remove(&scan)?;
         self.modifiers.remove(code);
+        self.meta = self.modifiers.bits_after(code, self.meta);
         Some(self.moved(scan, code, false))
     }
 
@@ -121,7 +126,7 @@ impl Keys {
             device: self.device,
             scan,
             code,
-            meta: self.modifiers.bits(),
+            meta: self.meta,
             down,
         }
     }
@@ -134,5 +139,6 @@ impl Keys {
     {
         self.down.clear();
         self.modifiers = Modifiers::none();
+        self.meta = 0;
     }
 }

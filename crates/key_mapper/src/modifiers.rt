@@ -1,7 +1,7 @@
 //! How many keys are down of each code that sets meta bits.
 ghost use Rattle.std.specs.Prelude.{◌≡◌, ◌<◌, ◌≤◌, ◌^◌, ◌∷◌, [], nat_lt, if◌then◌else◌};
 ghost use Rattle.std.specs.List.{list_any};
-ghost use Rattle.key_mapper.specs.Held.{AreBelow, bits as bits_of, with_key, without_key};
+ghost use Rattle.key_mapper.specs.Held.{AreBelow, bits as bits_of, sets_meta as sets_bits, with_key, without_key};
 
 use key_layout::key_code;
 
@@ -63,6 +63,14 @@ impl Modifiers {
         }
     }
 
+    /// The meta bits that these keys set once one of a code went down or up, from those of before: a key that sets none
+    /// leaves them as they were.
+    pub fn bits_after(&self, code: u16, before: u32) -> u32
+        ensures { result ≡ (if sets_bits code then bits_of self.now else before) }
+    {
+        if sets_meta(code) { self.bits() } else { before }
+    }
+
     /// The meta bits that these keys set, by KeyEvent's constants `META_SHIFT_ON` to `META_CTRL_RIGHT_ON`.
     pub fn bits(&self) -> u32
         ensures { result ≡ bits_of self.now }
@@ -77,6 +85,17 @@ impl Modifiers {
             + bit(some(&[self.ctrl_left]), 0x2000)
             + bit(some(&[self.ctrl_right]), 0x4000)
     }
+}
+
+/// Whether keys of this code set meta bits.
+fn sets_meta(code: u16) -> bool
+    ensures { result ≡ sets_bits code }
+{
+    code == key_code::ALT_LEFT
+        || (code == key_code::ALT_RIGHT
+            || (code == key_code::SHIFT_LEFT
+                || (code == key_code::SHIFT_RIGHT
+                    || (code == key_code::CTRL_LEFT || code == key_code::CTRL_RIGHT))))
 }
 
 /// Whether one of these numbers is not 0.

@@ -1,5 +1,5 @@
 -- Where each contact is the finger at its place in the packet before, and no palm, the fingers keep their ids.
-use Rattle.std.specs.Prelude.{◌≡◌, ◌≢◌, ℕ, suc, ◌+◌, ◌<◌, ◌≤◌, Bool, true, false, not, ◌&&◌, ℤ, List, [], ◌∷◌, ◌++◌, length, drop, get_or, Option, Some, None, if◌then◌else◌}
+use Rattle.std.specs.Prelude.{◌≡◌, ◌≢◌, ℕ, suc, ◌+◌, ◌<◌, Bool, true, false, not, ◌&&◌, ℤ, List, [], ◌∷◌, ◌++◌, length, drop, get_or, Option, Some, None, if◌then◌else◌}
 use Rattle.std.specs.Ordering.{int_eq}
 use Rattle.std.proofs.Common.{sym, ◌∙◌, ap, refl, arith, append_assoc}
 use Rattle.std.proofs.lemmas.Bool.Decides.{Decides-int_eq}
@@ -10,7 +10,7 @@ use Rattle.pointer_ids.specs.PointerIds.{fingers, has_id, id_in, named_contact, 
 use Rattle.pointer_ids.specs.Following.{are_same, moved}
 use Rattle.pointer_ids.proofs.Naming.{drop_at, finger_first}
 
-both_so : (a b : Bool) → (a && b) ≡ true → (a ≡ true) × (b ≡ true)
+pub both_so : (a b : Bool) → (a && b) ≡ true → (a ≡ true) × (b ≡ true)
 both_so true b h = (refl, h)
 both_so false b h = absurd (cc)
 
@@ -23,7 +23,7 @@ never true h = absurd (h refl)
 never false h = refl
 
 -- what the test says of the first contact
-first_same : (n : Named) (c : Contact) (rest : Bool) → ((int_eq n.tracking c.tracking && not c.palm) && rest) ≡ true
+pub first_same : (n : Named) (c : Contact) (rest : Bool) → ((int_eq n.tracking c.tracking && not c.palm) && rest) ≡ true
     → (int_eq n.tracking c.tracking ≡ true) × (c.palm ≡ false) × (rest ≡ true)
 first_same n c rest h =
     let here = both_so (int_eq n.tracking c.tracking && not c.palm) rest h in

@@ -1,6 +1,8 @@
 pub mod Taken
 pub mod Naming
 pub mod RisingId
+pub mod Moving
+pub mod Elsewhere
 pub mod Examples
 pub mod Palms
 pub mod Places

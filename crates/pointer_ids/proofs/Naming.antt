@@ -25,7 +25,7 @@ eqb_by a b (inr other) =
     let back : b ≢ a = λ same. other (sym same) in
     rw (ne_eqb a b other, ne_eqb b a back) refl
 
-eqb_sym : (a b : ℕ) → nat_eq a b ≡ nat_eq b a
+pub eqb_sym : (a b : ℕ) → nat_eq a b ≡ nat_eq b a
 eqb_sym a b = eqb_by a b (cases_eq a b)
 
 -- one id more is marked, one contact fewer is left

@@ -1,5 +1,5 @@
 -- The pointers of a packet in rising id.
-use Rattle.std.specs.Prelude.{◌≡◌, ℕ, zero, suc, ◌+◌, ◌-◌, ◌<◌, ◌≤◌, Bool, true, false, nat_eq, nat_lt, List, [], ◌∷◌, ◌++◌, length, Option, Some, None, find, if◌then◌else◌}
+use Rattle.std.specs.Prelude.{◌≡◌, ℕ, zero, suc, ◌+◌, ◌-◌, ◌<◌, ◌≤◌, Bool, true, false, nat_eq, nat_lt, List, [], ◌∷◌, ◌++◌, length, get_or, set, Option, Some, None, find, if◌then◌else◌}
 use Rattle.std.proofs.Common.{sym, ◌∙◌, ap, subst, refl, arith, length-append}
 use Rattle.std.proofs.lemmas.Bool.{eqb-true, ltb-true, ltb-false}
 use Rattle.pointer_ids.specs.declared.named.Named.{Named}
@@ -12,6 +12,15 @@ pub IsRising-append : (ps : List Held) (p : Held) → IsRising ps → EndsBelow 
 IsRising-append [] p h e = tt
 IsRising-append (q ∷ []) p h e = (e, tt)
 IsRising-append (q ∷ r ∷ ps) p h e = (h.0, IsRising-append (r ∷ ps) p h.1 e)
+
+-- a pointer with the id of the one at its place is set there
+pub IsRising-set : (ps : List Held) (i : ℕ) (p d : Held) → i < length ps → (get_or ps i d).id ≡ p.id → IsRising ps → IsRising (set ps i p)
+IsRising-set [] i p d lt is r = absurd (omega (arith, lt))
+IsRising-set (q ∷ []) zero p d lt is r = tt
+IsRising-set (q ∷ []) (suc i) p d lt is r = tt
+IsRising-set (q ∷ s ∷ ps) zero p d lt is r = (omega (arith, r.0, is), r.1)
+IsRising-set (q ∷ s ∷ ps) (suc zero) p d lt is r = (omega (arith, r.0, is), IsRising-set (s ∷ ps) zero p d (omega arith) is r.1)
+IsRising-set (q ∷ s ∷ ps) (suc (suc i)) p d lt is r = (r.0, IsRising-set (s ∷ ps) (suc i) p d (omega (arith, lt)) is r.1)
 
 -- ---- pointers by id
 
@@ -55,11 +64,11 @@ pub rises_next : (i : ℕ) (ns : List Named) (n : Named) → find (λ (x : Named
 rises_next i ns n e = rw (found_id ns i n e) (ends_below (by_id i ns) i (by_id_below i ns))
 
 -- how many contacts have ids below `i`
-abbrev lower : ℕ → List Named → ℕ
+abbrev pub lower : ℕ → List Named → ℕ
 lower i [] = 0
 lower i (n ∷ ns) = (if nat_lt n.id i then 1 else 0) + lower i ns
 
-lower_le : (i : ℕ) (ns : List Named) → lower i ns ≤ length ns
+pub lower_le : (i : ℕ) (ns : List Named) → lower i ns ≤ length ns
 lower_le i [] = omega arith
 lower_le i (n ∷ ns) =
     elim (nat_lt n.id i) as (λ b. (if b then 1 else 0) + lower i ns ≤ length (n ∷ ns)) [
@@ -68,7 +77,7 @@ lower_le i (n ∷ ns) =
     ]
 
 -- one id more counts no fewer
-one_le : (x i : ℕ) (b c : Bool) → nat_lt x i ≡ b → nat_lt x (suc i) ≡ c → (if b then 1 else 0) ≤ (if c then 1 else 0)
+pub one_le : (x i : ℕ) (b c : Bool) → nat_lt x i ≡ b → nat_lt x (suc i) ≡ c → (if b then 1 else 0) ≤ (if c then 1 else 0)
 one_le x i true true h k = omega arith
 one_le x i true false h k = absurd (omega (arith, ltb-true x i h, ltb-false x (suc i) k))
 one_le x i false c h k = omega arith
@@ -77,7 +86,7 @@ lower_more : (i : ℕ) (ns : List Named) → lower i ns ≤ lower (suc i) ns
 lower_more i [] = omega arith
 lower_more i (n ∷ ns) = omega (arith, one_le n.id i (nat_lt n.id i) (nat_lt n.id (suc i)) refl refl, lower_more i ns)
 
-one_here : (x i : ℕ) (b c : Bool) → x ≡ i → nat_lt x i ≡ b → nat_lt x (suc i) ≡ c → (if b then 1 else 0) + 1 ≤ (if c then 1 else 0)
+pub one_here : (x i : ℕ) (b c : Bool) → x ≡ i → nat_lt x i ≡ b → nat_lt x (suc i) ≡ c → (if b then 1 else 0) + 1 ≤ (if c then 1 else 0)
 one_here x i true c e h k = absurd (omega (arith, ltb-true x i h))
 one_here x i false true e h k = omega arith
 one_here x i false false e h k = absurd (omega (arith, ltb-false x (suc i) k))
@@ -100,7 +109,7 @@ joined_few : (hs : List Held) (i : ℕ) (ns : List Named) (o : Option Named) →
 joined_few hs i ns None is h = omega (arith, h, lower_more i ns)
 joined_few hs i ns (Some n) is h = omega (arith, h, lower_found ns i n (sym is), length-append hs (held n ∷ []))
 
-few_below : (i : ℕ) (ns : List Named) → length (by_id i ns) ≤ lower i ns
+pub few_below : (i : ℕ) (ns : List Named) → length (by_id i ns) ≤ lower i ns
 few_below zero ns = omega arith
 few_below (suc i) ns = joined_few (by_id i ns) i ns (find (λ (x : Named). nat_eq x.id i) ns) refl (few_below i ns)
 

@@ -1,14 +1,17 @@
 //! Pointer ids from packet to packet.
-ghost use Rattle.std.specs.Prelude.{◌≡◌, ℕ, ◌+◌, ◌<◌, ◌≤◌, List, [], ◌∷◌, length, option_map, find, nat_eq};
+ghost use Rattle.std.specs.Prelude.{◌≡◌, ℕ, ◌+◌, ◌<◌, ◌≤◌, List, [], ◌∷◌, length, option_map, find, nat_eq, ◌&&◌, is_some, IfSome};
 ghost use Rattle.bits32.specs.Set.{is_in, members};
 ghost use Rattle.slot_accumulator.specs.declared.contacts.Contact.{Contact as Touch};
 ghost use Rattle.pointer_ids.specs.PointerIds.{id_in, id_of, taken_after, least_free, has_id, named_contact};
 ghost use Rattle.pointer_ids.specs.PointerIds.{named_from, named as named_in, named_after, has_palm, is_cancelled};
 ghost use Rattle.pointer_ids.specs.PointerIds.{some_palm, held, by_id, assigned, finger_at, ArePlaces};
+ghost use Rattle.pointer_ids.specs.Following.{are_same as same_fingers};
+ghost use Rattle.pointer_ids.specs.OnlyMoved.{OnlyMoved, AreElsewhere};
 
-use crate::assigned::{Assigned, Held};
+use crate::assigned::Assigned;
+use crate::follow::follow_fingers;
 use crate::moved::{are_same, move_fingers};
-use crate::named::{Named, NamedList};
+use crate::named::{Named, NamedList, name, pointer};
 use bits32::Bits32;
 use input_types::PointerId;
 use slot_accumulator::{Contact, Contacts};
@@ -74,6 +77,32 @@ impl Ids {
     {
         pointers.cancel(name_next(&mut self.last, now));
         put_by_id(self.last.as_slice(), pointers);
+    }
+
+    /// Takes the next packet, as `assign` does, where `pointers` has what it answered for the packet before: then it
+    /// has what it answers for this one. Where the fingers are those of the packet before, each with a pointer, only
+    /// what moved is written, and the answer says at which places; the other pointers are as before.
+    pub fn follow(&mut self, now: &Contacts, pointers: &mut Assigned) -> Option<Bits32>
+        ensures pointers { pointers.old.pointers ≡ assigned self.old → pointers.new.pointers
+            ≡ assigned (named_in self.old now.now) }
+        ensures cancelled { (i : ℕ) → is_in i pointers.new.cancelled ≡ is_cancelled self.old now.now i }
+        ensures last { self.new ≡ named_in self.old now.now }
+        ensures packets { (past : List (List Touch)) → self.old ≡ named_after past → self.new
+            ≡ named_after (now.now ∷ past) }
+        ensures some { is_some result
+            ≡ (nat_eq (length pointers.old.pointers) (length self.old) && same_fingers self.old now.now) }
+        ensures moved { IfSome result (λ places. OnlyMoved places pointers.old.pointers pointers.new.pointers) }
+        ensures places { pointers.old.pointers ≡ assigned self.old
+            → IfSome result (λ places. AreElsewhere places pointers.old.pointers pointers.new.pointers) }
+    {
+        if pointers.len() == self.last.len() {
+            if are_same(self.last.as_slice(), now.as_slice()) {
+                return Some(follow_fingers(&mut self.last, now, pointers));
+            }
+        }
+        *pointers = Assigned::empty();
+        self.assign_into(now, pointers);
+        None
     }
 
     /// Begins anew, as `new` does.
@@ -201,18 +230,6 @@ fn free_id(taken: Bits32) -> PointerId
     }
 }
 
-/// A finger with its id.
-pub(crate) fn name(contact: &Contact, id: PointerId) -> Named
-    ensures { result ≡ named_contact contact.now id }
-{
-    Named {
-        tracking: contact.tracking,
-        id,
-        x: contact.x,
-        y: contact.y,
-    }
-}
-
 /// Puts the fingers into a list without pointers, in rising id.
 fn put_by_id(named: &[Named], pointers: &mut Assigned)
     requires few { length named.now ≤ 16 }
@@ -268,16 +285,5 @@ fn at_place(named: &[Named], place: u8) -> Option<Named>
         Some(named[i])
     } else {
         None
-    }
-}
-
-/// A finger as a pointer.
-fn pointer(contact: &Named) -> Held
-    ensures { result ≡ held contact.now }
-{
-    Held {
-        id: contact.id,
-        x: contact.x,
-        y: contact.y,
     }
 }

@@ -10,6 +10,7 @@
 #![tactic(auto)]
 
 mod assigned;
+mod follow;
 mod ids;
 mod moved;
 mod named;

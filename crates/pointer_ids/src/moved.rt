@@ -4,8 +4,7 @@ ghost use Rattle.std.specs.Ordering.{int_eq};
 ghost use Rattle.pointer_ids.specs.PointerIds.{named as named_in};
 ghost use Rattle.pointer_ids.specs.Following.{are_same as same_fingers};
 
-use crate::ids::name;
-use crate::named::{Named, NamedList};
+use crate::named::{Named, NamedList, name};
 use slot_accumulator::{Contact, Contacts};
 
 /// Whether each contact of a packet is the finger at its place in the packet before, and none a palm: then the fingers

@@ -1,8 +1,11 @@
 //! Fingers with their pointer ids, in the order of their slots.
 ghost use Rattle.std.specs.Prelude.{◌≡◌, pos};
+ghost use Rattle.pointer_ids.specs.PointerIds.{named_contact, held};
 
+use crate::assigned::Held;
 use input_types::PointerId;
 use short_list::{Blank, ShortList};
+use slot_accumulator::Contact;
 
 /// A finger of a packet: its tracking id, its pointer id, and where it is in the device's units.
 #[derive(Clone, Copy, Debug, PartialEq, Eq)]
@@ -28,3 +31,26 @@ impl Blank for Named {
 
 /// At most 16 named fingers.
 pub type NamedList = ShortList<Named>;
+
+/// A finger with its id.
+pub(crate) fn name(contact: &Contact, id: PointerId) -> Named
+    ensures { result ≡ named_contact contact.now id }
+{
+    Named {
+        tracking: contact.tracking,
+        id,
+        x: contact.x,
+        y: contact.y,
+    }
+}
+
+/// A finger as a pointer.
+pub(crate) fn pointer(contact: &Named) -> Held
+    ensures { result ≡ held contact.now }
+{
+    Held {
+        id: contact.id,
+        x: contact.x,
+        y: contact.y,
+    }
+}

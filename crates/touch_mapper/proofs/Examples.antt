@@ -10,7 +10,8 @@ use Rattle.input_types.specs.declared.motion.Motion.{Motion}
 use Rattle.input_types.specs.declared.motion.MotionAction.{MotionAction}
 use Rattle.input_types.specs.declared.motion.MotionAction.TheVariants.{Down, Up, Move, Cancel, PointerDown, PointerUp}
 use Rattle.touch_mapper.specs.Cooking.{Cooking, pixel, can_cook, natural}
-use Rattle.touch_mapper.specs.Gesture.{gesture}
+use Rattle.touch_mapper.specs.Gesture.{gesture, held_ids, move_of, placed_all}
+use Rattle.pointer_ids.specs.declared.assigned.Held.{Held}
 
 abbrev axis : ℤ → ℤ → Axis
 axis least greatest = record { min = least; max = greatest }
@@ -106,6 +107,25 @@ pub ups_move_downs : gesture 1 none (finger 0 0 ∷ finger 1 10 ∷ finger 3 30 
     ∷ motion PointerDown 2 (finger 1 11 ∷ finger 2 20 ∷ finger 4 40 ∷ [])
     ∷ []
 ups_move_downs = refl
+
+-- ---- packets whose pointers only moved
+
+abbrev raw : ℕ → ℕ → Held
+raw i x = record { id = i; x = pos x; y = pos 1024 }
+
+pub ids_in_order : held_ids (raw 0 0 ∷ raw 3 2048 ∷ []) ≡ 0 ∷ 3 ∷ []
+ids_in_order = refl
+
+pub move_of_two : move_of 1 (finger 0 100 ∷ finger 3 300 ∷ []) ≡ motion Move 0 (finger 0 100 ∷ finger 3 300 ∷ []) ∷ []
+move_of_two = refl
+
+pub move_of_none : move_of 1 [] ≡ []
+move_of_none = refl
+
+-- pointer 3 goes from raw 2048 to 4095, and pointer 0 stays: one Move of both
+pub one_of_two_moves : gesture 1 none (placed_all (phone R0) (raw 0 0 ∷ raw 3 2048 ∷ [])) (placed_all (phone R0) (raw 0 0 ∷ raw 3 4095 ∷ []))
+    ≡ motion Move 0 (record { id = 0; at = at 0 600 } ∷ record { id = 3; at = at 1079 600 } ∷ []) ∷ []
+one_of_two_moves = refl
 
 -- ---- pointers that are cancelled
 

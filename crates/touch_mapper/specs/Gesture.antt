@@ -24,6 +24,10 @@ placed c h = record { id = h.id; at = pixel c h.x h.y }
 abbrev pub placed_all : Cooking → List Held → List Pointer
 placed_all c hs = map (λ h. placed c h) hs
 
+-- the ids of pointers in the device's units, in their order
+abbrev pub held_ids : List Held → List ℕ
+held_ids hs = map (λ h. h.id) hs
+
 -- a pointer with this id is down
 abbrev pub is_down : ℕ → List Pointer → Bool
 is_down i ps = list_any (λ p. nat_eq p.id i) ps
@@ -83,12 +87,16 @@ downs d last below (p ∷ above) =
 abbrev pub moves : ℕ → List Pointer → List Pointer → List Motion
 moves d last now = if is_changed last now then motion d Move 0 0 (kept last now) ∷ [] else []
 
+-- a Move of all pointers that are down, where there are some
+abbrev pub move_of : ℕ → List Pointer → List Motion
+move_of d ps = if nat_eq (length ps) 0 then [] else motion d Move 0 0 ps ∷ []
+
 -- The motions between two packets, where some of the ids that are gone are cancelled. Where the same pointers are down,
 -- it is one Move, also if nothing moved, or nothing where none is down. Else the gone ones go up, at their last places,
 -- while those that stay are at their new places; then comes the Move of those that stay; then the new ones go down.
 abbrev pub gesture : ℕ → (ℕ → Bool) → List Pointer → List Pointer → List Motion
 gesture d cancelled last now =
-    if same_ids (ids_of last) (ids_of now) then (if nat_eq (length now) 0 then [] else motion d Move 0 0 now ∷ [])
+    if same_ids (ids_of last) (ids_of now) then move_of d now
     else ups d cancelled now [] (moved_all last now) ++ moves d last now ++ downs d last [] now
 
 -- the motions that the next packet of a device makes, from its pointers and the ids that are cancelled in it

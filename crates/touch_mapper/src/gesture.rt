@@ -2,7 +2,7 @@
 ghost use Rattle.std.specs.Prelude.{◌≡◌, ℕ, ◌+◌, ◌<◌, ◌≤◌, [], ◌∷◌, ◌++◌, length, map, vec_len, vec_capacity};
 ghost use Rattle.bits32.specs.Set.{is_in};
 ghost use Rattle.touch_mapper.specs.Gesture.{gesture as motions_between, motion as motion_of, up as up_of};
-ghost use Rattle.touch_mapper.specs.Gesture.{down as down_of, ups, downs, moves};
+ghost use Rattle.touch_mapper.specs.Gesture.{down as down_of, ups, downs, moves, move_of};
 
 use crate::lists::{all_moved, append, in_use, is_changed, is_down, joined, joined_kept, same_ids};
 use crate::motions::FromMotion;
@@ -23,9 +23,7 @@ pub fn gesture<T: FromMotion>(
         (λ i. is_in i cancelled) last.now now.now) }
 {
     if same_ids(last.as_slice(), now.as_slice()) {
-        if !now.is_empty() {
-            put(given, motion(device, MotionAction::Move, 0, 0, now));
-        }
+        put_move(given, device, now);
         return;
     }
     push_ups(
@@ -37,6 +35,16 @@ pub fn gesture<T: FromMotion>(
     );
     push_move(given, device, last.as_slice(), now);
     push_downs(given, device, last.as_slice(), now);
+}
+
+/// Puts a move of all pointers that are down behind the others, where there are some.
+pub fn put_move<T: FromMotion>(given: &mut Vec<T>, device: DeviceId, now: &Pointers)
+    requires { vec_len given.old < vec_capacity given.old }
+    ensures { given.new.items ≡ given.old.items ++ map T.of_motion (move_of device now.now) }
+{
+    if !now.is_empty() {
+        put(given, motion(device, MotionAction::Move, 0, 0, now));
+    }
 }
 
 /// The pointers that are gone go up, the lowest id first.

@@ -1,11 +1,15 @@
 //! Gestures of one device.
-ghost use Rattle.std.specs.Prelude.{◌≡◌, ℕ, ◌+◌, ◌≤◌, [], ◌++◌, map, vec_len, vec_capacity, IsOk, IfOk, OnErr, OnOk};
-ghost use Rattle.touch_mapper.specs.Gesture.{after_packet, packet_motions};
+ghost use Rattle.std.specs.Prelude.{◌≡◌, ℕ, ◌+◌, ◌<◌, ◌≤◌, List, [], ◌++◌, map, vec_len, vec_capacity, IsOk, IfOk, OnErr, OnOk};
+ghost use Rattle.pointer_ids.specs.OnlyMoved.{OnlyMoved};
+ghost use Rattle.pointer_ids.specs.declared.assigned.Held.{Held as HeldView};
+ghost use Rattle.touch_mapper.specs.Gesture.{after_packet, packet_motions, placed_all};
 
 use crate::cook::Cook;
-use crate::gesture::gesture;
+use crate::gesture::{gesture, put_move};
 use crate::lists::put_at_pixels;
 use crate::motions::FromMotion;
+use crate::moves::move_some;
+use bits32::Bits32;
 use input_types::{DeviceId, Motion, Pointers};
 use pointer_ids::Assigned;
 use std::alloc::{AllocError, Global};
@@ -84,6 +88,29 @@ impl Gestures {
         given.reserve(self.last.len() + now_at.len() + 1)?;
         gesture(given, self.device, now.cancelled(), &self.last, &now_at);
         self.last = now_at;
+        Ok(())
+    }
+
+    /// Adds the motions of `next`, as `next_into` does, where the packet has the ids of the packet before and only the
+    /// pointers at some places moved. Only those get their pixels anew.
+    pub fn move_into<T: FromMotion>(
+        &mut self,
+        given: &mut Vec<T>,
+        moved: Bits32,
+        now: &Assigned,
+    ) -> Result<(), AllocError>
+        ensures ok { (before : List HeldView) → self.old.last ≡ placed_all self.old.cook before
+            → OnlyMoved moved before now.now.pointers → OnOk result
+            (given.new.items ≡ given.old.items ++ map T.of_motion (packet_motions self.old now.now)) }
+        ensures after { (before : List HeldView) → self.old.last ≡ placed_all self.old.cook before
+            → OnlyMoved moved before now.now.pointers → OnOk result (self.new ≡ after_packet self.old now.now) }
+        ensures err { OnErr result (self.new ≡ self.old) }
+        ensures given { OnErr result (given.new.items ≡ given.old.items) }
+        ensures room { vec_len given.old < vec_capacity given.old → IsOk result }
+    {
+        given.reserve(1)?;
+        move_some(&self.cook, &mut self.last, moved, now);
+        put_move(given, self.device, &self.last);
         Ok(())
     }
 

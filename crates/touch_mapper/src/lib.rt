@@ -13,6 +13,7 @@ mod gesture;
 mod gestures;
 mod lists;
 mod motions;
+mod moves;
 
 pub use cook::{BadRange, Cook};
 pub use gestures::Gestures;

@@ -67,7 +67,7 @@ pub fn put_at_pixels(cook: &Cook, held: &Assigned, pointers: &mut Pointers)
 }
 
 /// A pointer at its pixel.
-fn at_pixel(cook: &Cook, held: &Held) -> Pointer
+pub fn at_pixel(cook: &Cook, held: &Held) -> Pointer
     ensures { result ≡ placed cook.now held.now }
 {
     Pointer {

@@ -1,5 +1,6 @@
 -- Without events no pointer is down.
-use Rattle.std.proofs.Common.{sym, ◌∙◌}
+use Rattle.std.proofs.Common.{sym, ◌∙◌, ap}
+use Rattle.pointer_ids.specs.Assigned.{Assignment}
 use Rattle.pointer_ids.specs.PointerIds.{assigned}
 use Rattle.device_reader.proofs.touch.Touch.new.Goals as goal
 
@@ -10,5 +11,6 @@ returns c = record {
   slots_are = c.new.ensures.slots;
   ids_are = c.new-2.ensures;
   contacts_are = c.empty.ensures ∙ sym c.new.ensures.contacts;
+  pointers_are = ap (λ (a : Assignment). a.pointers) c.empty-2.ensures;
   gestures_are = c.new-3.ensures;
 }

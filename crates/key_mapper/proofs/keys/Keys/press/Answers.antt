@@ -1,4 +1,4 @@
-use Rattle.std.specs.Prelude.{◌≡◌, ◌^◌, true, cond, pos, ◌∷◌, Some, None}
+use Rattle.std.specs.Prelude.{◌≡◌, ◌^◌, true, cond, pos, ◌∷◌, Some, None, if◌then◌else◌}
 use Rattle.std.specs.BTreeMap.{is_at}
 use Rattle.std.specs.Ordering.{nat_cmp}
 use Rattle.std.proofs.Common.{sym, ◌∙◌, ap, subst, arith}
@@ -6,10 +6,10 @@ use Rattle.key_layout.specs.Layout.{found_at}
 use Rattle.key_mapper.specs.declared.modifiers.Modifiers.{Modifiers}
 use Rattle.input_types.specs.declared.key.KeyArgs.{KeyArgs}
 use Rattle.key_mapper.specs.Key.{key_of, meta_of}
-use Rattle.key_mapper.specs.Held.{Held, KeysStandFor, with_key, AreBelow, counts, bits}
+use Rattle.key_mapper.specs.Held.{Held, KeysStandFor, with_key, AreBelow, counts, bits, sets_meta}
 use Rattle.key_mapper.proofs.Counts.{counts_more, counts_below}
 use Rattle.key_mapper.proofs.Down.{none_of, is_up, press_gives, stands_press}
-use Rattle.key_mapper.proofs.Meta.{meta_is}
+use Rattle.key_mapper.proofs.Meta.{meta_is, bits_more}
 use Rattle.key_mapper.proofs.keys.Keys.press.Goals as goal
 
 pub add-requires : goal.add-requires
@@ -25,6 +25,10 @@ invariant_of-self-2 c =
       counted = c.add.ensures ∙ ap (λ (m : Modifiers). with_key m c.code_of-code.result) c.self.invariant.counted
           ∙ counts_more c.self.inside.down.entries c.args.scan c.code_of-code.result c.insert.ensures.was_ordered none
           ∙ ap (λ es. counts es) (sym c.in_ok-insert.ensures.entries);
+      told = c.bits_after-self-inside.ensures
+          ∙ ap (λ (m : Modifiers). if sets_meta c.code_of-code.result then bits m else c.self.inside.meta) c.add.ensures
+          ∙ bits_more c.self.inside.modifiers c.code_of-code.result c.self.inside.meta c.self.invariant.told
+          ∙ ap (λ (m : Modifiers). bits m) (sym c.add.ensures);
     }
 
 pub returns-clause-after : goal.returns-clause-after

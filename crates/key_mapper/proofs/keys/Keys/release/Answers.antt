@@ -1,13 +1,13 @@
-use Rattle.std.specs.Prelude.{◌≡◌, true, false, pos, ◌∷◌, Some}
+use Rattle.std.specs.Prelude.{◌≡◌, true, false, pos, ◌∷◌, Some, if◌then◌else◌}
 use Rattle.std.proofs.Common.{sym, ◌∙◌, ap, subst}
 use Rattle.key_layout.specs.Layout.{code_at}
 use Rattle.input_types.specs.declared.key.KeyArgs.{KeyArgs}
 use Rattle.key_mapper.specs.declared.modifiers.Modifiers.{Modifiers}
 use Rattle.key_mapper.specs.Key.{is_down, key_of, meta_of}
-use Rattle.key_mapper.specs.Held.{Held, KeysStandFor, without_key, counts, bits}
+use Rattle.key_mapper.specs.Held.{Held, KeysStandFor, without_key, counts, bits, sets_meta}
 use Rattle.key_mapper.proofs.Counts.{counts_fewer}
 use Rattle.key_mapper.proofs.Down.{is_held, release_gives, stands_release}
-use Rattle.key_mapper.proofs.Meta.{meta_is}
+use Rattle.key_mapper.proofs.Meta.{meta_is, bits_fewer}
 use Rattle.key_mapper.proofs.keys.Keys.release.Goals as goal
 
 pub invariant_of-self-2 : goal.invariant_of-self-2
@@ -16,6 +16,10 @@ invariant_of-self-2 c = record {
   counted = c.remove-2.ensures ∙ ap (λ (m : Modifiers). without_key m c.in_ok-code.code) c.self.invariant.counted
       ∙ counts_fewer c.self.inside.down.entries c.args.scan c.in_ok-code.code (sym c.remove.ensures.value ∙ c.in_ok-code.was)
       ∙ ap (λ es. counts es) (sym c.remove.ensures.entries);
+  told = c.bits_after-self-inside.ensures
+      ∙ ap (λ (m : Modifiers). if sets_meta c.in_ok-code.code then bits m else c.self.inside.meta) c.remove-2.ensures
+      ∙ bits_fewer c.self.inside.modifiers c.in_ok-code.code c.self.inside.meta c.self.invariant.told
+      ∙ ap (λ (m : Modifiers). bits m) (sym c.remove-2.ensures);
 }
 
 pub returns-clause-after : goal.returns-clause-after
