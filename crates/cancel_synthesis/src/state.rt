@@ -3,7 +3,7 @@ ghost use Rattle.std.specs.Prelude.{◌≡◌, ◌+◌, ◌≤◌, ◌<◌, ℕ,
 ghost use Rattle.bits32.specs.Set.{is_in};
 ghost use Rattle.routing_rules.specs.Told.{listing, plain};
 ghost use Rattle.input_types.specs.declared.motion.MotionAction.TheVariants.{Move};
-ghost use Rattle.input_types.specs.declared.message.Body.TheVariants.{Motion as MotionBody};
+ghost use Rattle.input_types.specs.declared.message.Body.TheVariants.{Motion as MotionBody, Key as KeyBody};
 ghost use Rattle.cancel_synthesis.specs.Cancelling.{still_told};
 ghost use Rattle.cancel_synthesis.specs.Tracked.{Tracks, pointers_of, pointers_in, pointers_then};
 ghost use Rattle.cancel_synthesis.specs.Tracked.{keys_after, with_spare};
@@ -81,6 +81,29 @@ impl InputState {
         Ok(())
     }
 
+    /// For how many messages more there is room.
+    pub fn spare(&self) -> u32
+        ensures { result ≡ self.now.spare }
+    {
+        self.spare
+    }
+
+    /// Makes room like `reserve`, where more room is counted too where there is some. Without memory nothing changes
+    /// but that room.
+    pub fn make_ready(&mut self, n: u32) -> Result<(), AllocError>
+        ensures ok { OnOk result (n ≤ self.new.spare) }
+        ensures same { self.new ≡ record self.old { spare = self.new.spare } }
+        ensures more { self.old.spare ≤ self.new.spare }
+        ensures reserved { n ≤ self.old.spare → IsOk result }
+    {
+        if n > self.spare {
+            self.keys.reserve(n as usize)?;
+            let free = self.keys.capacity() - self.keys.len();
+            self.spare = free.min(u32::MAX as usize) as u32;
+        }
+        Ok(())
+    }
+
     /// The window is told one thing more. Without memory nothing changes.
     pub fn track(&mut self, body: &Body) -> Result<(), AllocError>
         ensures ok { OnOk result (Tracks self.old self.new body.now) }
@@ -112,6 +135,15 @@ impl InputState {
     {
         set_moved(&mut self.pointers, device, pointers, ids);
         self.spare = self.spare.saturating_sub(1);
+    }
+
+    /// The window is told a key message more, for which room was reserved. Takes no memory.
+    pub fn track_key(&mut self, message: &KeyMsg)
+        requires { 1 ≤ self.old.spare }
+        ensures { Tracks self.old self.new (KeyBody message.now) }
+    {
+        set_key_reserved(&mut self.keys, message);
+        self.spare -= 1;
     }
 
     /// What the window is told where pointers of a device with these ids are taken from it, one motion after the
@@ -227,4 +259,17 @@ fn set_key(keys: &mut Vec<KeyMsg>, message: &KeyMsg) -> Result<(), AllocError>
     }
     forget(keys, message);
     Ok(())
+}
+
+/// The same where the list has room for one key more. Takes no memory.
+fn set_key_reserved(keys: &mut Vec<KeyMsg>, message: &KeyMsg)
+    requires { vec_len keys.old < vec_capacity keys.old }
+    ensures items { keys.new.items ≡ keys_after message.now keys.old.items }
+    ensures len { vec_len keys.new ≤ vec_len keys.old + 1 }
+    ensures capacity { vec_capacity keys.old ≤ vec_capacity keys.new }
+{
+    match set_key(keys, message) {
+        Ok(()) => {}
+        Err(AllocError) => unreachable!(),
+    }
 }

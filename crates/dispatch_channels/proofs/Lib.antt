@@ -4,3 +4,4 @@ pub mod Moved
 pub mod Told
 pub mod Noting
 pub mod Lateness
+pub mod Pending

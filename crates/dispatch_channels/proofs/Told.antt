@@ -54,6 +54,23 @@ only_room t c n x s i from is same = ap₂ (λ ss is. let u : Table = record t {
     inputs : (but_for_room (record t { channels = set t.channels (c - 1) s; inputs = set t.inputs (c - 1) i })).inputs ≡ (but_for_room t).inputs
     inputs = map_set (λ y. let z : Tracked = record y { spare = 0 } in z) t.inputs (c - 1) i _ (ap (λ y. let z : Tracked = record y { spare = 0 } in z) same)
 
+-- and so where one has any room
+pub spare_in_channel : (t : Table) (c : ℕ) (x s : ChannelState) → x ≡ channel_of t c → s ≡ record x { spare = s.spare }
+    → but_for_room (record t { channels = set t.channels (c - 1) s }) ≡ but_for_room t
+spare_in_channel t c x s from is =
+    ap (λ ss. let u : Table = record (but_for_room t) { channels = ss } in u)
+    (map_set (λ y. let z : ChannelState = record y { spare = 0 } in z) t.channels (c - 1) s _
+    (ap (λ y. let z : ChannelState = record y { spare = 0 } in z) (is ∙ ap (λ y. let z : ChannelState = record y { spare = s.spare } in z) from)))
+
+pub spare_in_both : (t : Table) (c : ℕ) (x s : ChannelState) (j i : Tracked)
+    → x ≡ channel_of t c → s ≡ record x { spare = s.spare } → j ≡ input_of t c → i ≡ record j { spare = i.spare }
+    → but_for_room (record t { channels = set t.channels (c - 1) s; inputs = set t.inputs (c - 1) i }) ≡ but_for_room t
+spare_in_both t c x s j i from is was same =
+    ap (λ is. let u : Table = record (but_for_room (record t { channels = set t.channels (c - 1) s })) { inputs = is } in u)
+    (map_set (λ y. let z : Tracked = record y { spare = 0 } in z) t.inputs (c - 1) i _
+    (ap (λ y. let z : Tracked = record y { spare = 0 } in z) (same ∙ ap (λ y. let z : Tracked = record y { spare = i.spare } in z) was)))
+    ∙ spare_in_channel t c x s from is
+
 -- no channel has less room where one has as much in its place, or more
 channel_room : (ss : List ChannelState) (i j : ℕ) (s d : ChannelState) → (get_or ss i d).spare ≤ s.spare
     → (get_or ss j d).spare ≤ (get_or (set ss i s) j d).spare

@@ -10,7 +10,10 @@ ghost use Rattle.dispatch_channels.specs.Table.{opened, IsOpened, channel_of, in
 ghost use Rattle.dispatch_channels.specs.Changes.{OpensOrNot, Tells, MayPublish, Publishes, finished_in, named_in, removed_in};
 
 mod asked;
+mod keys;
 mod moves;
+mod pending;
+mod ready;
 
 use crate::due::{clear_all, due_channels, due_in, set_due};
 use crate::heard::{body_from, motion_from};
@@ -223,11 +226,11 @@ impl Channels {
         ensures ok { OnOk result (self.new ≡ finished_in channel seq clock self.old) }
         ensures err { OnErr result (self.new ≡ self.old) }
     {
-        let place = channel as usize - 1;
-        finish_one(&mut self.channels[place], seq, clock)?;
-        let is_late = self.channels[place].has_late(clock);
-        self.able = able_after(self.able, self.live, channel, is_late);
-        let due = due_in(mask_has(self.able, channel), &self.channels[place]);
+        let kept = &mut self.channels[channel as usize - 1];
+        finish_one(kept, seq, clock)?;
+        let able = able_after(self.able, self.live, channel, kept.has_late(clock));
+        let due = due_in(mask_has(able, channel), kept);
+        self.able = able;
         set_due(&mut self.tracker, channel, due);
         Ok(())
     }

@@ -7,3 +7,4 @@ pub mod Reaching
 pub mod Rooms
 pub mod MoveLaws
 pub mod Lightly
+mod Examples

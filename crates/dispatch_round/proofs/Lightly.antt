@@ -13,15 +13,16 @@ use Rattle.window_snapshot.specs.Mask.{mask_has, mask_with}
 use Rattle.window_snapshot.proofs.Masks.{mask_has-zero}
 use Rattle.routing_rules.specs.Scene.{Scene, Step, Moves}
 use Rattle.routing_rules.specs.Given.{changed, mark}
+use Rattle.routing_rules.specs.Taking.{takes, pilfers}
 use Rattle.routing_rules.specs.Told.{after, listing, moves, told, told_motion}
 use Rattle.touch_state.specs.Touches.{Touches}
 use Rattle.touch_state.proofs.Sets.{and_true}
 use Rattle.route_split.specs.declared.mark.Mark.TheVariants.{Rests}
-use Rattle.route_split.specs.Tables.{any_at, holds_at}
-use Rattle.route_split.specs.Marking.{IsChanged, IsWhole, holds_after}
+use Rattle.route_split.specs.Tables.{ChangesAll, any_at, holds_at}
+use Rattle.route_split.specs.Marking.{IsChanged, IsWhole, gives, taking, holds_after}
 use Rattle.route_split.proofs.ToldBy.{after_is}
 use Rattle.dispatch_tables.specs.Masks.{mask_less}
-use Rattle.dispatch_channels.specs.Table.{Table, opened, channel_of, input_of, with_room, NoLessRoom}
+use Rattle.dispatch_channels.specs.Table.{Table, channel_of, input_of, NoLessRoom}
 use Rattle.dispatch_channels.specs.Changes.{Publishes}
 use Rattle.dispatch_channels.proofs.Moved.{reached}
 use Rattle.dispatch_channels.proofs.Picking.{channel_low}
@@ -37,7 +38,6 @@ use Rattle.input_channel.specs.State.{published_at}
 use Rattle.dispatch_round.proofs.Saying.{tells_none, hears_after, heard-spare}
 use Rattle.dispatch_round.proofs.Hearing.{hears_round}
 use Rattle.dispatch_round.proofs.Reaching.{reached_other}
-use Rattle.dispatch_round.proofs.Rooms.{made_here}
 use Rattle.dispatch_round.proofs.MoveLaws.{still_moves, few_moves}
 use Rattle.dispatch_round.proofs.Ruling.{motion_told, none_all}
 
@@ -49,6 +49,13 @@ is_move r m light is = subst (λ o. IfSome o (λ n. n.action ≡ Move)) is light
 
 pub is_whole : (r : Round) → IsLight r → IsWhole r.mark
 is_whole r light = subst IsWhole (sym light.mark_is) tt
+
+-- the tables stay as they are with its mark
+pub still_rests : (ts : List Touches) (r : Round) (place : ℕ) → IsLight r
+    → ((at : ℕ) → ChangesAll ts ts (gives Rests) (takes (taking ts Rests)) at (pilfers (taking ts Rests)))
+    → ChangesAll ts ts (gives r.mark) (takes (taking ts r.mark)) place (pilfers (taking ts r.mark))
+still_rests ts r place light same =
+    subst (λ k. ChangesAll ts ts (gives k) (takes (taking ts k)) place (pilfers (taking ts k))) (sym light.mark_is) (same place)
 
 pub no_change : (lost gained w : ℕ) → lost ≡ 0 → gained ≡ 0 → change_of lost gained w ≡ None
 no_change lost gained w l g =
@@ -247,18 +254,10 @@ more_light r t u c more h =
     let b = (more c).1 in
     (omega (arith, a, h.0), omega (arith, b, h.1))
 
-pub light_next : (r : Round) (mask rest k : ℕ) (t : Table) → mask_has rest k ≡ true → k ≤ opened t → length t.inputs ≡ opened t
-    → NoLessRoom t (with_room k (most_light r k) t)
+pub light_next : (r : Round) (mask rest k : ℕ) (t u : Table) → mask_has rest k ≡ true → NoLessRoom t u → HasLight r u k
     → ((c : ℕ) → reached mask rest c ≡ true → HasLight r t c)
-    → (c : ℕ) → reached mask (mask_less rest (mask_with 0 k)) c ≡ true → HasLight r (with_room k (most_light r k) t) c
-light_next r mask rest k t e high many more before c hear = elim (cases_eq c k) [
-  | inl same ↦ subst (HasLight r (with_room k (most_light r k) t)) (sym same) here
-  | inr ne ↦ more_light r t (with_room k (most_light r k) t) c more (before c (sym (reached_other mask rest k c e ne) ∙ hear))
+    → (c : ℕ) → reached mask (mask_less rest (mask_with 0 k)) c ≡ true → HasLight r u c
+light_next r mask rest k t u e more here before c hear = elim (cases_eq c k) [
+  | inl same ↦ subst (HasLight r u) (sym same) here
+  | inr ne ↦ more_light r t u c more (before c (sym (reached_other mask rest k c e ne) ∙ hear))
 ]
-  where
-    here : HasLight r (with_room k (most_light r k) t) k
-    here =
-        let made = made_here t k (most_light r k) (channel_low rest k e) high many in
-        let spare = ap (λ s. s.spare) made.0 in
-        let track = ap (λ i. i.spare) made.1 in
-        (omega (arith, spare), omega (arith, track))

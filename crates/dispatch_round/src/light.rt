@@ -1,6 +1,6 @@
 //! Light rounds: they give no window a pointer and take none from a window, and leave the focus. So a window is told of
 //! a Move that some of its pointers move, and of keys.
-ghost use Rattle.std.specs.Prelude.{◌≡◌, ◌≤◌, ◌<◌, ◌^◌, ℕ, true, false, None, length, OnOk, OnErr, IfOk, IsOk};
+ghost use Rattle.std.specs.Prelude.{◌≡◌, ◌≤◌, ◌<◌, ◌^◌, ℕ, true, false, None, length, OnOk, IfOk, IsOk};
 ghost use Rattle.std.specs.List.{list_any};
 ghost use Rattle.std.specs.Option.{option_copied};
 ghost use Rattle.bits32.specs.Set.{is_in};
@@ -9,7 +9,7 @@ ghost use Rattle.routing_rules.specs.Scene.{Scene, Step};
 ghost use Rattle.routing_rules.specs.Taking.{takes, pilfers};
 ghost use Rattle.route_split.specs.Tables.{ChangesAll};
 ghost use Rattle.route_split.specs.Marking.{gives, taking};
-ghost use Rattle.dispatch_channels.specs.Table.{opened, IsOpened, channel_of, with_room, but_for_room, NoLessRoom};
+ghost use Rattle.dispatch_channels.specs.Table.{opened, IsOpened, channel_of, but_for_room, NoLessRoom};
 ghost use Rattle.dispatch_round.specs.Rounds.{IsRound, AllHoldPointers, told_in, IsLeft, AreListeners, IsTimely};
 ghost use Rattle.dispatch_round.specs.Saying.{CanHear, TellsOne, HearsRound};
 ghost use Rattle.dispatch_round.specs.Each.{HearsEach};
@@ -76,13 +76,15 @@ fn most_light(round: &Round, window: u32) -> Result<u32, AllocError>
 #[inline(always)]
 fn make_room_in(round: &Round, channels: &mut Channels, window: u32) -> Result<(), AllocError>
     requires { IsOpened channels.old window }
-    ensures ok { OnOk result (channels.new ≡ with_room window (most_light round.now window) channels.old) }
-    ensures err { OnErr result (but_for_room channels.new ≡ but_for_room channels.old) }
+    ensures ok { OnOk result (HasLight round.now channels.new window) }
+    ensures same { but_for_room channels.new ≡ but_for_room channels.old }
     ensures room { NoLessRoom channels.old channels.new }
+    ensures opened { opened channels.new ≡ opened channels.old }
+    ensures inputs { length channels.new.inputs ≡ length channels.old.inputs }
     ensures roomy { length round.now.keys.now < 2 ^ 31 → HasLight round.now channels.old window → IsOk result }
 {
     let count = most_light(round, window)?;
-    channels.reserve(window, count)
+    channels.make_ready(window, count)
 }
 
 /// Makes room for all that a light round tells the windows that are live, so that [`tell_light`] takes no memory, and
@@ -224,7 +226,7 @@ pub fn tell_light(
     ensures gone { (c : ℕ) → 1 ≤ c → (channel_of channels.new c).gone ≡ (channel_of channels.old c).gone }
     ensures namings { channels.new.namings ≡ channels.old.namings }
 {
-    touches.change_plain(&round.mark, place);
+    touches.rest();
     tell_each(told, clock, origins, round, touches, channels);
     channels.publish(told, clock);
 }

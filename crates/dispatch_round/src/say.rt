@@ -91,13 +91,12 @@ pub(crate) fn say_keys(to: &Listener, keys: &[KeyMsg], channels: &mut Channels)
     }
 }
 
-/// Tells one key message. It is not inlined, so that a round without keys makes no room for its body.
-#[inline(never)]
+/// Tells one key message.
 fn say_key(to: &Listener, message: &KeyMsg, channels: &mut Channels)
     requires { CanHear to.now.window 1 channels.old }
     ensures { TellsOne to.now (KeyBody message.now ∷ []) channels.old channels.new }
 {
-    say(to, &Body::Key(*message), channels);
+    channels.tell_key(to.window, message, to.clock);
 }
 
 /// Tells whether the window has the focus now, where that changed.
@@ -111,7 +110,8 @@ pub(crate) fn say_change(to: &Listener, change: Option<bool>, channels: &mut Cha
     }
 }
 
-/// Tells that the window has the focus now, or lost it. It is not inlined, as a key is not.
+/// Tells that the window has the focus now, or lost it. It is not inlined, so that a round without one makes no room
+/// for its body.
 #[inline(never)]
 fn say_focus(to: &Listener, has_focus: bool, channels: &mut Channels)
     requires { CanHear to.now.window 1 channels.old }

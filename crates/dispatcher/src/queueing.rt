@@ -4,11 +4,12 @@ ghost use Rattle.input_types.specs.DeviceRule.{device_of};
 ghost use Rattle.device_down.specs.Down.{PlansAt};
 ghost use Rattle.dispatch_calls.specs.declared.call.Call.{Call};
 ghost use Rattle.dispatch_calls.specs.declared.reply.Reply.{Reply};
+ghost use Rattle.reader_queue.specs.Waiting.{put_behind};
 ghost use Rattle.dispatcher.specs.Queue.{QueueIs, QueueGoes};
 ghost use Rattle.dispatcher.specs.Queueing.{stepped, dispatched, with_args_room, with_pumps};
 
 use device_down::{Change, DevicesDown, Inconsistent};
-use input_types::{Args, Moment};
+use input_types::{Args, KeyArgs, Moment};
 use reader_queue::Inbound;
 use std::alloc::{AllocError, Global};
 use std::marker::Model;
@@ -141,7 +142,7 @@ impl Queueing {
     {
         self.waiting.reserve(1)?;
         self.down.apply(change);
-        self.waiting.put(copy_of(args));
+        put(&mut self.waiting, args);
         self.clock = now.later(self.clock);
         self.place += 1;
         Ok(())
@@ -158,8 +159,19 @@ impl Queueing {
     }
 }
 
-fn copy_of(args: &Args) -> Args
-    ensures { result ≡ args.now }
+/// Puts args behind those that wait. Those of a key are written field by field, so that they are not copied on the way.
+fn put(waiting: &mut Inbound, args: &Args)
+    requires { 1 ≤ waiting.old.spare }
+    ensures { waiting.new ≡ put_behind args.now waiting.old }
 {
-    *args
+    match args {
+        Args::Key(key) => waiting.put(Args::Key(KeyArgs {
+            device: key.device,
+            scan: key.scan,
+            code: key.code,
+            meta: key.meta,
+            down: key.down,
+        })),
+        _ => waiting.put(*args),
+    }
 }

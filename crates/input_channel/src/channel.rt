@@ -1,6 +1,7 @@
 //! The channel.
 ghost use Rattle.std.specs.Prelude.{◌≡◌, ◌+◌, ◌≤◌, ◌<◌, ◌↔◌, IsOk, IfOk, OnErr, OnOk, IsNone, is_ok};
 ghost use Rattle.std.specs.Option.{option_copied};
+ghost use Rattle.input_types.specs.declared.message.Body.TheVariants.{Key as KeyBody};
 ghost use Rattle.input_channel.specs.Order.{NoneAfter};
 ghost use Rattle.input_channel.specs.State.{IsChannel, opened_with, sent, enqueued, with_spare, published_at};
 ghost use Rattle.input_channel.specs.State.{next_of, received_one, received_next, may_finish, finished_with};
@@ -10,7 +11,7 @@ ghost use Rattle.input_channel.specs.State.{let_go_of, all_let_go, oldest_of, ha
 use crate::kept::Kept;
 use crate::unfinished::{MOST, Unfinished, deliver, place_of};
 use arrayvec::ArrayVec;
-use input_types::{Body, DeviceId, Limit, Message, Moment, Pixel, Pointers};
+use input_types::{Body, DeviceId, KeyMsg, Limit, Message, Moment, Pixel, Pointers};
 use std::alloc::{AllocError, Global};
 use std::marker::Model;
 
@@ -109,6 +110,25 @@ impl Channel {
         self.kept.reserve(n)
     }
 
+    /// For how many messages more there is room.
+    pub fn spare(&self) -> u32
+        ensures { result ≡ self.now.spare }
+    {
+        self.kept.spare()
+    }
+
+    /// Makes room like `reserve`, where more room is counted too where there is some. Without memory nothing changes
+    /// but that room.
+    #[inline(always)]
+    pub fn make_ready(&mut self, n: u32) -> Result<(), AllocError>
+        ensures ok { OnOk result (n ≤ self.new.spare) }
+        ensures same { self.new ≡ record self.old { spare = self.new.spare } }
+        ensures more { self.old.spare ≤ self.new.spare }
+        ensures reserved { n ≤ self.old.spare → IsOk result }
+    {
+        self.kept.make_ready(n)
+    }
+
     /// Puts a message behind the others, and answers its number. Without memory nothing changes; a channel whose
     /// numbers stand at the end of their type answers this too.
     pub fn enqueue(&mut self, body: Body, moment: Moment) -> Result<u64, AllocError>
@@ -142,6 +162,14 @@ impl Channel {
         ensures { self.new ≡ enqueued (moves_from origin device pointers.now) moment self.old }
     {
         self.kept.push_moves(device, pointers, origin, moment);
+    }
+
+    /// The same of a key message.
+    pub fn enqueue_key(&mut self, message: &KeyMsg, moment: Moment)
+        requires { 1 ≤ self.old.spare }
+        ensures { self.new ≡ enqueued (KeyBody message.now) moment self.old }
+    {
+        self.kept.push_key(message, moment);
     }
 
     /// Publishes all messages, but so that at most 64 are published and not finished. Takes no memory.

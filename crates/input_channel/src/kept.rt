@@ -1,10 +1,11 @@
 //! The messages of a channel that were not let go.
-ghost use Rattle.std.specs.Prelude.{◌≡◌, ◌+◌, ◌≤◌, [], IsOk, IfOk, OnErr, OnOk, drop, length, vec_len, vec_capacity};
+ghost use Rattle.std.specs.Prelude.{◌≡◌, ◌+◌, ◌≤◌, ◌<◌, ◌^◌, ℕ, [], IsOk, IfOk, OnErr, OnOk, drop, length, vec_len, vec_capacity};
+ghost use Rattle.input_types.specs.declared.message.Body.TheVariants.{Key as KeyBody};
 ghost use Rattle.input_channel.specs.Kept.{sent_in, kept_with, kept_after, kept_none, kept_with_spare};
 ghost use Rattle.input_channel.specs.Moves.{moves_from};
 
 use crate::moves::push_moves;
-use input_types::{Body, DeviceId, Message, Moment, Pixel, Pointers};
+use input_types::{Body, DeviceId, KeyArgs, KeyMsg, Message, Moment, Pixel, Pointers};
 use std::alloc::{AllocError, Global};
 use std::marker::Model;
 
@@ -59,6 +60,13 @@ impl Kept {
         self.gone
     }
 
+    /// For how many messages more there is room.
+    pub(crate) fn spare(&self) -> u32
+        ensures { result ≡ self.now.spare }
+    {
+        self.spare
+    }
+
     /// The messages.
     pub(crate) fn messages(&self) -> &[Message]
         ensures { result.now ≡ self.now.messages }
@@ -82,6 +90,23 @@ impl Kept {
         }
         self.list.reserve(n as usize)?;
         self.spare = n;
+        Ok(())
+    }
+
+    /// Makes room for at least `n` messages more, and counts all the room that there is then.
+    pub(crate) fn make_ready(&mut self, n: u32) -> Result<(), AllocError>
+        ensures ok { OnOk result (n ≤ self.new.spare) }
+        ensures same { self.new ≡ record self.old { spare = self.new.spare } }
+        ensures more { self.old.spare ≤ self.new.spare }
+        ensures reserved { n ≤ self.old.spare → IsOk result }
+    {
+        if n <= self.spare {
+            return Ok(());
+        }
+        self.reserve(n)?;
+        let sent = self.gone + (self.list.len() - self.dropped) as u64;
+        let free = (self.list.capacity() - self.list.len()) as u64;
+        self.spare = least_of(free, u64::MAX - sent);
         Ok(())
     }
 
@@ -111,6 +136,17 @@ impl Kept {
     {
         let seq = self.gone + (self.list.len() - self.dropped) as u64 + 1;
         push_moves(&mut self.list, seq, moment, device, pointers, origin);
+        self.spare -= 1;
+    }
+
+    /// Puts a key message behind the others, with the next number.
+    pub(crate) fn push_key(&mut self, message: &KeyMsg, moment: Moment)
+        requires { 1 ≤ self.old.spare }
+        ensures { self.new ≡ kept_with (KeyBody message.now) moment self.old }
+    {
+        let seq = self.gone + (self.list.len() - self.dropped) as u64 + 1;
+        let body = Body::Key(copy_of(message));
+        self.list.push_reserved(Message { seq, moment, body });
         self.spare -= 1;
     }
 
@@ -148,4 +184,31 @@ fn cut_front(list: &mut Vec<Message>, n: usize)
     let len = list.len();
     list.copy_within(n..len, 0);
     list.truncate(len - n);
+}
+
+/// The lesser of two numbers, and at most the greatest of the type.
+fn least_of(a: u64, b: u64) -> u32
+    ensures within_a { result ≤ a }
+    ensures within_b { result ≤ b }
+    ensures greatest { (n : ℕ) → n < 2 ^ 32 → n ≤ a → n ≤ b → n ≤ result }
+{
+    a.min(b).min(u64::from(u32::MAX)) as u32
+}
+
+/// A key message once more, field by field: so it is written where it goes, and not copied on the way.
+fn copy_of(message: &KeyMsg) -> KeyMsg
+    ensures { result ≡ message.now }
+{
+    let key = KeyArgs {
+        device: message.key.device,
+        scan: message.key.scan,
+        code: message.key.code,
+        meta: message.key.meta,
+        down: message.key.down,
+    };
+    KeyMsg {
+        key,
+        flags: message.flags,
+        repeat: message.repeat,
+    }
 }

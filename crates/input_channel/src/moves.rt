@@ -6,7 +6,7 @@ ghost use Rattle.window_snapshot.specs.Origins.{place_from};
 ghost use Rattle.input_channel.specs.Moves.{counted_from, move_of, moves_from};
 
 use input_types::{
-    Body, DeviceId, Message, Moment, Motion, MotionAction, Pixel, Pointer, Pointers, PushRefused,
+    Body, DeviceId, Message, Moment, Motion, MotionAction, Pixel, Pointer, Pointers,
 };
 
 /// Lists pointers in a list that has none, with their places counted from an origin. It is inlined, so that the list is
@@ -18,7 +18,7 @@ pub fn list_from(listed: &mut Pointers, pointers: &Pointers, origin: Pixel)
 {
     for pointer in pointers.as_slice() {
         let at = place_from(origin, pointer.at);
-        put(listed, Pointer { id: pointer.id, at });
+        listed.put(Pointer { id: pointer.id, at });
     }
 }
 
@@ -29,18 +29,6 @@ fn place_from(origin: Pixel, at: Pixel) -> Pixel
     Pixel {
         x: at.x.saturating_sub(origin.x),
         y: at.y.saturating_sub(origin.y),
-    }
-}
-
-/// Puts a pointer behind a list.
-fn put(list: &mut Pointers, pointer: Pointer)
-    requires room { length list.old < 16 }
-    requires rises { EndsBelow list.old pointer.id }
-    ensures { list.new ≡ list.old ++ pointer ∷ [] }
-{
-    match list.push(pointer) {
-        Ok(()) => {}
-        Err(PushRefused::Full) | Err(PushRefused::NotRising) => unreachable!(),
     }
 }
 

@@ -1,6 +1,7 @@
 -- What a window is told of a motion, by what it holds before and later.
 use Rattle.std.proofs.Common.{ℕ, Bool, true, false, not, ◌&&◌, ◌||◌, ◌==◌, cond, ◌≡◌, if◌then◌else◌, List, [], ◌∷◌, length, Option, Some, None, refl, sym, ap, ◌∙◌, inl, inr, arith}
 use mathlib.Core.Path.{fun_ext}
+use Rattle.std.specs.Prelude.{IfSome}
 use Rattle.std.specs.List.{list_any}
 use Rattle.std.proofs.lemmas.Bool.{cases_eq, ne_eqb, eqb-true, and_parts, and_from, not-true, true≢false}
 use Rattle.std.proofs.lemmas.Nat.Bits.{bit_at-zero}
@@ -157,18 +158,20 @@ not_lost : (b : Bool) → (b && not b) ≡ false
 not_lost true = refl
 not_lost false = refl
 
--- where a window holds still what it held, and some of that is listed by a Move, just that moves
-pub move_told : (s : Scene) (m : Motion) (w : ℕ) (held : ℕ → Bool) → m.action ≡ Move → (length (listing held m.pointers) == 0) ≡ false
+-- where a window holds still what it held, none of it goes up, and some of it is listed, just that moves
+pub move_told : (s : Scene) (m : Motion) (w : ℕ) (held : ℕ → Bool) → IfSome (changed m) (λ p. (is_up m.action && held p.id) ≡ false)
+    → (length (listing held m.pointers) == 0) ≡ false
     → told_motion s m (changed m) w held held ≡ plain m.device Move (listing held m.pointers) ∷ []
-move_told s m w held is some = by_changed (changed m)
+move_told s m w held stays some = by_changed (changed m) stays
   where
     rest : (watched : Option Pointer) → told_rest m watched (s.last m.device) held held ≡ plain m.device Move (listing held m.pointers) ∷ []
     rest watched =
         kept_told m watched (s.last m.device) held held 0 refl (λ i. none_in i ∙ sym (not_lost (held i)))
         ∙ some_move m.device (listing held m.pointers) (outside_of m.device watched) some
 
-    by_changed : (o : Option Pointer) → told_motion s m o w held held ≡ plain m.device Move (listing held m.pointers) ∷ []
-    by_changed None = none_told s m w held held ∙ rest None
-    by_changed (Some p) =
-        rest_told s m p w held held (is_watching s m (Some p) w) (not_lost (held p.id)) (ap (λ a. is_up a && held p.id) is) refl
+    by_changed : (o : Option Pointer) → IfSome o (λ p. (is_up m.action && held p.id) ≡ false)
+        → told_motion s m o w held held ≡ plain m.device Move (listing held m.pointers) ∷ []
+    by_changed None e = none_told s m w held held ∙ rest None
+    by_changed (Some p) e =
+        rest_told s m p w held held (is_watching s m (Some p) w) (not_lost (held p.id)) e refl
         ∙ rest (if is_watching s m (Some p) w then Some p else None)

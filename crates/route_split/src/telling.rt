@@ -1,5 +1,5 @@
 //! What a window is told of a motion.
-ghost use Rattle.std.specs.Prelude.{◌≡◌, ℕ, [], ◌∷◌, List, Bool, true, not, ◌&&◌, IfSome, if◌then◌else◌};
+ghost use Rattle.std.specs.Prelude.{◌≡◌, ℕ, [], ◌∷◌, List, Bool, true, false, not, ◌&&◌, IfSome, if◌then◌else◌};
 ghost use Rattle.std.specs.List.{list_any};
 ghost use Rattle.bits32.specs.Set.{is_in};
 ghost use Rattle.input_types.specs.declared.pointer.Pointer.{Pointer as Listed};
@@ -36,17 +36,18 @@ pub(crate) fn tells_of(motion: &Motion, before: Bits32, later: Bits32, watches: 
     }
 }
 
-/// The ids that move, where the motion is a Move, the set stays, and some of its ids are listed.
+/// The ids that move, where the set stays, none of its ids goes up with the motion, and some of them are listed. So it
+/// is with a Move, and where another window's pointer goes down or up.
 #[inline(always)]
 pub(crate) fn moving_of(motion: &Motion, before: Bits32, later: Bits32) -> Option<Bits32>
     ensures { IfSome result (λ ids. (s : Scene) (w : ℕ)
         → told_motion s motion.now (changed motion.now) w (λ i. is_in i before) (λ i. is_in i later)
         ≡ plain motion.now.device Move (listing (λ i. is_in i ids) motion.now.pointers) ∷ []) }
 {
-    if !is_move(motion.action) {
+    if before.bits() != later.bits() {
         return None;
     }
-    if before.bits() != later.bits() {
+    if is_lifted(motion, later) {
         return None;
     }
     if has_some(&motion.pointers, later) {
@@ -56,13 +57,14 @@ pub(crate) fn moving_of(motion: &Motion, before: Bits32, later: Bits32) -> Optio
     }
 }
 
-/// Whether it is the action with which pointers move.
-fn is_move(action: MotionAction) -> bool
-    ensures { result ≡ true → action ≡ Move }
+/// Whether the changed pointer has an id of the set, and goes up.
+fn is_lifted(motion: &Motion, held: Bits32) -> bool
+    ensures { result ≡ false
+        → IfSome (changed motion.now) (λ p. (is_up motion.now.action && is_in p.id held) ≡ false) }
 {
-    match action {
-        MotionAction::Move => true,
-        _ => false,
+    match changed(motion) {
+        Some(pointer) => goes_up(motion.action, pointer.id, held),
+        None => false,
     }
 }
 

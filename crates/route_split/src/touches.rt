@@ -15,6 +15,7 @@ ghost use Rattle.route_split.specs.Slipping.{rule_slip};
 ghost use Rattle.route_split.specs.Telling.{IsTold, IsListed};
 ghost use Rattle.routing_rules.specs.Watching.{is_watching};
 ghost use Rattle.route_split.specs.Tables.{table_of, any_at, holds_at, pilfering_at, Stands, IsFresh, ChangesAll};
+ghost use Rattle.route_split.specs.declared.mark.Mark.TheVariants.{Rests};
 ghost use Rattle.route_split.specs.Marking.{gives, taking, is_pilfer, IsWhole, IsMark, AreLosses, may_be_told};
 
 use crate::choice::{choice_at, takers};
@@ -232,5 +233,15 @@ impl Touches {
             (pilfers (taking self.old mark.now)) }
     {
         change_plain(&mut self.states, mark, place);
+    }
+
+    /// With a step that gives and takes nothing the tables stay as they are. It does nothing, and its clause says so.
+    #[inline(always)]
+    pub fn rest(&self)
+        ensures { (place : ℕ) → ChangesAll self.now self.now (gives Rests) (takes (taking self.now Rests)) place
+            (pilfers (taking self.now Rests)) }
+    {
+        // Read for its clause alone: what always holds of the tables is not seen before.
+        let _count = self.states.len();
     }
 }

@@ -5,7 +5,7 @@ ghost use Rattle.input_types.specs.Pointers.{EndsBelow, IsRising};
 ghost use Rattle.routing_rules.specs.Told.{listing, index_in, plain};
 
 use bits32::Bits32;
-use input_types::{DeviceId, Motion, MotionAction, Pointer, PointerId, Pointers, PushRefused};
+use input_types::{DeviceId, Motion, MotionAction, PointerId, Pointers};
 
 /// Sets a list to those of the pointers whose ids are in the set, in the same order.
 #[inline(always)]
@@ -15,7 +15,7 @@ pub fn part_into(listed: &mut Pointers, pointers: &Pointers, set: Bits32)
     *listed = Pointers::empty();
     for pointer in pointers.as_slice() {
         if set.has(pointer.id.get()) {
-            put(listed, *pointer);
+            listed.put(*pointer);
         }
     }
 }
@@ -27,7 +27,7 @@ pub fn part(pointers: &Pointers, set: Bits32) -> Pointers
     let mut listed = Pointers::empty();
     for pointer in pointers.as_slice() {
         if set.has(pointer.id.get()) {
-            put(&mut listed, *pointer);
+            listed.put(*pointer);
         }
     }
     listed
@@ -40,22 +40,10 @@ pub fn part_but(pointers: &Pointers, set: Bits32) -> Pointers
     let mut listed = Pointers::empty();
     for pointer in pointers.as_slice() {
         if !set.has(pointer.id.get()) {
-            put(&mut listed, *pointer);
+            listed.put(*pointer);
         }
     }
     listed
-}
-
-/// Puts a pointer behind a list.
-fn put(list: &mut Pointers, pointer: Pointer)
-    requires room { length list.old < 16 }
-    requires rises { EndsBelow list.old pointer.id }
-    ensures { list.new ≡ list.old ++ pointer ∷ [] }
-{
-    match list.push(pointer) {
-        Ok(()) => {}
-        Err(PushRefused::Full) | Err(PushRefused::NotRising) => unreachable!(),
-    }
 }
 
 /// The place of an id in a list, and how many pointers it has where it lists no such one.

@@ -1,13 +1,11 @@
-use Rattle.std.proofs.Common.{◌≤◌, ap, ◌&&◌, sym, subst, ◌∙◌, arith}
-use Rattle.std.proofs.lemmas.List.{length-set}
+use Rattle.std.proofs.Common.{◌≤◌, ap, ◌&&◌, sym, ◌∙◌, arith}
 use Rattle.std.proofs.lemmas.Bool.{and_parts, true≢false}
 use Rattle.window_snapshot.specs.Mask.{mask_has}
-use Rattle.dispatch_channels.specs.Table.{opened, with_room, NoLessRoom}
+use Rattle.dispatch_channels.specs.Table.{Table, opened}
 use Rattle.dispatch_channels.proofs.Picking.{less_without}
 use Rattle.dispatch_channels.proofs.Moved.{reached, all_reached, rest_within}
-use Rattle.dispatch_round.specs.Light.{most_light}
 use Rattle.dispatch_round.specs.Rounds.{is_concerned}
-use Rattle.dispatch_round.proofs.Rooms.{same_but_room, no_less}
+use Rattle.dispatch_round.proofs.Rooms.{no_less}
 use Rattle.dispatch_round.proofs.Lightly.{light_next, more_light}
 use Rattle.dispatch_round.proofs.light.make_light_room.Goals as goal
 
@@ -26,18 +24,15 @@ loop-rest-preserved c =
     let k = c.first_of-window.result in
     let t = c.loop-rest.channels in
     let has = c.first_of-window.ensures.has in
-    let is = c.loop-rest.invariant.0 k has in
-    let was : k ≤ opened c.args.channels.now = c.hearers-told.ensures.opened k is in
-    let high : k ≤ opened t = omega (arith, was, c.loop-rest.invariant.3) in
-    let more : NoLessRoom t (with_room k (most_light c.args.round.now k) t) = subst (NoLessRoom t) c.in_ok-make_room_in.ensures.ok c.in_ok-make_room_in.ensures.room in
-    rw (c.without-rest.ensures, c.in_ok-make_room_in.ensures.ok) (
+    let made = c.in_ok-make_room_in.ensures in
+    rw c.without-rest.ensures (
       rest_within _ c.loop-rest.rest k has c.loop-rest.invariant.0,
-      same_but_room k _ t ∙ c.loop-rest.invariant.1,
-      c.loop-rest.invariant.2,
-      length-set t.channels _ _ ∙ c.loop-rest.invariant.3,
-      length-set t.inputs _ _ ∙ c.loop-rest.invariant.4 ∙ sym (length-set t.channels _ _),
-      no_less c.args.channels.now t (with_room k (most_light c.args.round.now k) t) c.loop-rest.invariant.5 more,
-      light_next c.args.round.now _ c.loop-rest.rest k t has high c.loop-rest.invariant.4 more c.loop-rest.invariant.6,
+      made.same ∙ c.loop-rest.invariant.1,
+      ap (λ (u : Table). u.live) made.same ∙ c.loop-rest.invariant.2,
+      made.opened ∙ c.loop-rest.invariant.3,
+      made.inputs ∙ c.loop-rest.invariant.4 ∙ sym made.opened,
+      no_less c.args.channels.now t c.make_room_in.new.channels c.loop-rest.invariant.5 made.room,
+      light_next c.args.round.now _ c.loop-rest.rest k t c.make_room_in.new.channels has made.room made.ok c.loop-rest.invariant.6,
     )
 
 pub returns-clause-told : goal.returns-clause-told

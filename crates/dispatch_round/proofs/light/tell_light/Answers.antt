@@ -1,14 +1,11 @@
-use Rattle.std.proofs.Common.{None, sym, ap, ◌∙◌}
+use Rattle.std.proofs.Common.{None, sym, ◌∙◌}
 use Rattle.std.proofs.lemmas.Bool.{and_parts}
-use Rattle.route_split.specs.Marking.{IsChanged, is_pilfer}
+use Rattle.route_split.specs.Marking.{IsChanged}
 use Rattle.dispatch_round.specs.Rounds.{is_concerned}
 use Rattle.dispatch_channels.proofs.Picking.{channel_low}
 use Rattle.dispatch_round.proofs.Reaching.{tells_all, published_gone, published_left}
-use Rattle.dispatch_round.proofs.Lightly.{is_whole, published_light}
+use Rattle.dispatch_round.proofs.Lightly.{is_whole, still_rests, published_light}
 use Rattle.dispatch_round.proofs.light.tell_light.Goals as goal
-
-pub change_plain-requires-clause-whole : goal.change_plain-requires-clause-whole
-change_plain-requires-clause-whole c = is_whole c.args.round.now c.requires.light
 
 pub tell_each-requires-clause-opened : goal.tell_each-requires-clause-opened
 tell_each-requires-clause-opened c w has = c.requires.told.opened w has
@@ -16,17 +13,18 @@ tell_each-requires-clause-opened c w has = c.requires.told.opened w has
 pub tell_each-requires-clause-live : goal.tell_each-requires-clause-live
 tell_each-requires-clause-live c w has = (and_parts (is_concerned c.args.touches.now c.args.round.now w) _ (sym (c.requires.told.are w) ∙ has)).1
 
-pub change_plain-requires-clause-plain : goal.change_plain-requires-clause-plain
-change_plain-requires-clause-plain c = ap is_pilfer c.requires.light.mark_is
+pub returns-clause-changes : goal.returns-clause-changes
+returns-clause-changes c = still_rests c.args.touches.now c.args.round.now c.args.place c.requires.light c.rest.ensures
 
 pub returns-clause-told : goal.returns-clause-told
 returns-clause-told c s e h holds =
     let r = c.args.round.now in
-    let by : IsChanged c.args.touches.now c.change_plain.new.self r.mark None = record {
-      holds_are = λ w d i. (c.change_plain.ensures d).hold w i;
+    let ts = c.args.touches.now in
+    let by : IsChanged ts ts r.mark None = record {
+      holds_are = λ w d i. (still_rests ts r c.args.place c.requires.light c.rest.ensures d).hold w i;
       losses_are = tt;
     } in
-    tells_all s e r c.args.touches.now c.change_plain.new.self None c.args.told c.args.origins.now c.args.clock c.args.channels.now c.tell_each.new.channels c.publish.new.self
+    tells_all s e r ts ts None c.args.told c.args.origins.now c.args.clock c.args.channels.now c.tell_each.new.channels c.publish.new.self
     (is_whole r c.requires.light) c.requires.told.are c.tell_each.ensures.each c.publish.ensures by h holds
 
 pub returns-clause-gone : goal.returns-clause-gone

@@ -14,5 +14,5 @@ returns-then-has_some c s w =
     subst
     (λ b. told_motion s m (changed m) w (λ i. is_in i b) (λ i. is_in i later) ≡ plain m.device Move (listing (λ i. is_in i later) m.pointers) ∷ [])
     (sym same)
-    (move_told s m w (λ i. is_in i later) (c.is_move.ensures c.if-not-is_move.false)
+    (move_told s m w (λ i. is_in i later) (c.is_lifted.ensures c.if-is_lifted.false)
     (some_listed (λ i. is_in i later) m.pointers (sym c.has_some.ensures ∙ c.if-has_some.true)))

@@ -1,5 +1,4 @@
-use Rattle.std.proofs.Common.{◌≡◌, ◌<◌, ◌-◌, length, arith, ap₂, ◌∙◌}
-use Rattle.std.proofs.lemmas.List.{get_or-set_same}
+use Rattle.std.proofs.Common.{◌≡◌, length, ap, ◌∙◌}
 use Rattle.window_snapshot.specs.Mask.{mask_has}
 use Rattle.dispatch_tables.specs.Dues.{due_in}
 use Rattle.dispatch_channels.proofs.Wholes.{whole_finished, able_cases}
@@ -8,18 +7,15 @@ use Rattle.dispatch_channels.proofs.channels.Channels.finish.Goals as goal
 pub invariant_of-self-2 : goal.invariant_of-self-2
 invariant_of-self-2 c =
     let opened = rw (← c.self.view_is) at c.requires.opened in
-    let within : c.args.channel - 1 < length c.self.inside.channels.items = omega (arith, opened.0, opened.1) in
-    let due : c.due_in-due.result ≡ due_in (mask_has c.able_after-self-inside.result c.args.channel) c.finish_one.new.channel =
-    c.due_in-due.ensures
-    ∙ ap₂ due_in c.mask_has.ensures
-    (c.index-2.ensures ∙ get_or-set_same c.self.inside.channels.items (c.args.channel - 1) c.finish_one.new.channel c.index-2.result.now within) in
+    let due : c.due_in-due.result ≡ due_in (mask_has c.able_after-able.result c.args.channel) c.finish_one.new.channel =
+    c.due_in-due.ensures ∙ ap (λ b. due_in b c.finish_one.new.channel) c.mask_has.ensures in
     rw (c.set_due.ensures, due)
     (whole_finished c.self.inside.channels.items (length c.self.inside.inputs.items) c.self.inside.live c.self.inside.able c.self.inside.tracker
     c.args.channel
     c.finish_one.new.channel
-    c.able_after-self-inside.result
+    c.able_after-able.result
     c.self.invariant
     opened.0
     opened.1
-    (able_cases c.self.inside.live c.self.inside.able c.args.channel c.able_after-self-inside.result c.has_late-is_late.result
-    c.able_after-self-inside.ensures))
+    (able_cases c.self.inside.live c.self.inside.able c.args.channel c.able_after-able.result c.has_late.result
+    c.able_after-able.ensures))
