@@ -3,6 +3,8 @@ ghost use Rattle.std.specs.Prelude.{◌≡◌, ℕ, ◌-◌, ◌≤◌, false, N
 ghost use Rattle.window_snapshot.specs.Mask.{mask_has};
 ghost use Rattle.anr_tracker.specs.Due.{due_of, IsFirst, NoneBelow, is_at, is_before, sooner_of, further, least_with};
 
+mod pending;
+
 use std::marker::Model;
 use window_snapshot::{mask_first, mask_with, mask_without};
 

@@ -68,6 +68,7 @@ pub fn recording_refusal(error: LineError) -> Refusal
 }
 
 /// Hands some args to a run, at their moment.
+#[inline(always)]
 fn run_args(
     schedule: &mut Schedule,
     plan: &Plan,
@@ -86,6 +87,7 @@ fn run_args(
 }
 
 /// What the devices give for an event, and its moment.
+#[inline(always)]
 pub fn cook_event(
     event: RawEvent,
     args: &mut Vec<Args>,
@@ -103,6 +105,7 @@ pub fn cook_event(
 }
 
 /// Hands to a run what the devices give for an event.
+#[inline(always)]
 pub fn run_event(
     event: RawEvent,
     args: &mut Vec<Args>,

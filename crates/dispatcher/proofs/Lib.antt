@@ -48,3 +48,5 @@ pub mod Cancelling
 pub mod Roomy
 pub mod RoomMade
 pub mod Moved
+pub mod Unfinished
+pub mod NotBefore

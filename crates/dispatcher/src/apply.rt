@@ -192,6 +192,7 @@ fn receive_next(tables: &mut Tables, channel: u32) -> Reply
 }
 
 /// The owner of a channel is done with a message. Takes no memory.
+#[inline(always)]
 pub(crate) fn finish_one(tables: &mut Tables, now: Moment, channel: u32, seq: u64) -> Brief
     requires { MayStep tables.old }
     ensures goes { GoesOn (Finish now channel seq) (reply_of result) tables.old tables.new }

@@ -22,6 +22,7 @@ ghost use Rattle.dispatcher.specs.Queueing.{args_in, is_input, is_pump};
 
 mod asked;
 mod direct;
+mod pending;
 mod room;
 
 use crate::apply::apply;

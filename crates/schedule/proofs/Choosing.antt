@@ -1,24 +1,22 @@
 -- The soonest of all that may be done next, found step by step.
-use Rattle.std.proofs.Common.{◌≡◌, ℕ, suc, ◌+◌, ◌<◌, nat_lt, nat_le, ◌==◌, Bool, true, false, cond, List, [], ◌∷◌, ◌++◌, length, map, drop, get_or, drop-cons, add-one, Option, Some, None, refl, sym, ap, ap₂, ◌∙◌, arith}
+use Rattle.std.proofs.Common.{◌≡◌, ℕ, ◌≤◌, nat_lt, ◌==◌, Bool, true, false, cond, List, [], ◌∷◌, ◌++◌, length, Option, Some, None, refl, sym, ap, ap₂, ◌∙◌, arith}
 use Rattle.std.specs.Prelude.{fold, option_map, slice_get, unwrap_or}
 use Rattle.std.proofs.lemmas.Bool.{true≢false}
 use Rattle.std.proofs.lemmas.Bool.Decides.{nat_tests}
 use Rattle.input_types.specs.declared.message.Args.{Args}
-use Rattle.dispatch_history.specs.History.{moment_of, opened}
+use Rattle.dispatch_history.specs.History.{moment_of}
 use Rattle.dispatch_history.specs.Queue.{inbound}
 use Rattle.dispatch_history.specs.Effect.{Effect, past_of}
 use Rattle.dispatch_history.specs.KeyTold.{repeat_due}
 use Rattle.dispatch_history.specs.Due.{Due, first_due}
 use Rattle.dispatch_history.specs.Plan.{Plan, ScriptStep}
 use Rattle.dispatch_history.specs.Ordered.{Candidate, sooner_of, soonest, all_finishes, due_tick, due_repeat, next_step, scripted}
-use Rattle.dispatcher.specs.Access.{any_waits, is_opened, next_repeat}
+use Rattle.dispatcher.specs.Access.{any_waits, next_repeat}
 use Rattle.dispatch_tables.specs.Lawful.{Lawful}
-use Rattle.schedule.specs.declared.plan.Channel.{Channel}
-use Rattle.schedule.specs.Planned.{channel_of}
 use Rattle.schedule.specs.declared.due.Due.{Due as Found}
 use Rattle.schedule.specs.DueView.{candidate_of, sooner_due}
-use Rattle.schedule.specs.Choosing.{dues_of, is_before, next_finishes, tick_of, repeat_at}
-use Rattle.schedule.specs.Next.{fore, sooner_with, next_finish}
+use Rattle.schedule.specs.Choosing.{dues_of, is_before, is_due_by, next_finishes, tick_of, repeat_at}
+use Rattle.schedule.specs.Next.{fore, sooner_with}
 use Rattle.schedule.specs.State.{Caught}
 use Rattle.schedule.proofs.Finishes.{all_first}
 use Rattle.schedule.proofs.Soonest.{soonest_more}
@@ -48,15 +46,31 @@ with_repeat o (a ∷ waiting) due = let not_none : (length (a ∷ waiting) == 0)
     none None = refl
     none (Some t) = refl
 
+-- what is due at 5 is due by 5, and not by 4
+due_by_five : is_due_by (Some (record { moment = 5; calls = [] })) 5 ≡ true
+due_by_five = refl
+
+not_by_four : is_due_by (Some (record { moment = 5; calls = [] })) 4 ≡ false
+not_by_four = refl
+
+-- a tick that is due no sooner than what is due by then comes later
+pub tick_later : (first : Option Candidate) (due : Option Due) (from : ℕ) → is_due_by first from ≡ true → ((d : Due) → due ≡ Some d → from ≤ d.moment)
+    → first ≡ sooner_with first (option_map tick_of due)
+tick_later None due from y later = absurd (true≢false (sym y))
+tick_later (Some c) None from y later = refl
+tick_later (Some c) (Some d) from y later =
+    let there : from ≤ d.moment = later d refl in
+    let last : nat_lt d.moment c.moment ≡ false = grind (arith, nat_tests) in
+    ap (λ b. Some (cond b (tick_of d) c)) (sym last)
+
 -- what is due next, but for steps and args
-pub dues_first : (ds : List ℕ) (plan : Plan) (es : List Effect) (finish tick repeat : Option Found) → Lawful ds es → Caught es
-    → option_map candidate_of finish ≡ next_finishes es 1 plan.channels None
-    → option_map candidate_of tick ≡ option_map tick_of (first_due es)
+pub dues_first : (ds : List ℕ) (plan : Plan) (es : List Effect) (first repeat : Option Found) → Lawful ds es → Caught es
+    → option_map candidate_of first ≡ sooner_with (next_finishes es 1 plan.channels None) (option_map tick_of (first_due es))
     → option_map candidate_of repeat ≡ option_map repeat_at (next_repeat es)
-    → option_map candidate_of (sooner_due (sooner_due finish tick) repeat) ≡ soonest (dues_of plan es)
-dues_first ds plan es finish tick repeat l h f t r =
-    sym (sooner_found (sooner_due finish tick) repeat)
-    ∙ ap₂ sooner_with (sym (sooner_found finish tick) ∙ ap₂ sooner_with f t) r
+    → option_map candidate_of (sooner_due first repeat) ≡ soonest (dues_of plan es)
+dues_first ds plan es first repeat l h f r =
+    sym (sooner_found first repeat)
+    ∙ ap₂ sooner_with f r
     ∙ ap (λ o. sooner_with (sooner_with o (option_map tick_of (first_due es))) (option_map repeat_at (next_repeat es))) (sym (all_first ds es 1 plan.channels None l h))
     ∙ ap (λ o. sooner_with o (option_map repeat_at (next_repeat es))) (sym (with_tick (soonest (all_finishes (past_of es) 1 plan.channels)) (first_due es)))
     ∙ sym (with_repeat (fold sooner_of (soonest (all_finishes (past_of es) 1 plan.channels)) (due_tick (first_due es))) (inbound (past_of es)) (repeat_due es))
@@ -95,17 +109,3 @@ step_later plan es (Some c) s due at first =
 
 pub no_step : (plan : Plan) (es : List Effect) (o : Option Candidate) → o ≡ soonest (dues_of plan es) → slice_get plan.steps (scripted (past_of es)) ≡ None → soonest (fore plan es) ≡ o
 no_step plan es o due none = fore_first plan es ∙ ap₂ (λ x y. fold sooner_of x (next_step y)) (sym due) none
-
-left_with_next : {X : Type 0} (xs : List X) (i : ℕ) (x : X) → i < length xs → x ≡ get_or xs i x → drop i xs ≡ x ∷ drop (i + 1) xs
-left_with_next xs i x within is = drop-cons xs i x within ∙ ap (λ y. y ∷ drop (suc i) xs) (sym is) ∙ ap (λ n. x ∷ drop n xs) (sym (add-one i))
-
--- one channel more
-pub finishes_next : (es : List Effect) (cs : List Channel) (i : ℕ) (x : Channel) (best : Option Candidate) → i < length cs → x ≡ get_or cs i x
-    → next_finishes es (i + 1) (map channel_of (drop i cs)) best ≡ next_finishes es (i + 1 + 1) (map channel_of (drop (i + 1) cs)) (sooner_with best (next_finish es (i + 1) (channel_of x)))
-finishes_next es cs i x best within is = ap (λ xs. next_finishes es (i + 1) (map channel_of xs) best) (left_with_next cs i x within is)
-
-pub is_opened_within : (es : List Effect) (count i : ℕ) → opened (past_of es) ≡ count → i < count → is_opened es (i + 1) ≡ true
-is_opened_within es count i e lt =
-    let low : nat_le 1 (i + 1) ≡ true = grind (arith, nat_tests) in
-    let high : nat_le (i + 1) (opened (past_of es)) ≡ true = grind (arith, nat_tests) in
-    rw (low, high) refl

@@ -37,6 +37,12 @@ counts_opened es c k e = by_test (is_opened es c) e
     by_test true f = refl
     by_test false f = absurd (cc f)
 
+-- a channel that is live was opened
+pub live_opened : (ds : List ℕ) (es : List Effect) (c : ℕ) → Lawful ds es → live (past_of es) c ≡ true → is_opened es c ≡ true
+live_opened ds es c l y =
+    let r = live_number ds es c l y in
+    and_from (nat_le 1 c) (nat_le c (opened (past_of es))) (le-leb 1 c r.0) (le-leb c (opened (past_of es)) r.1)
+
 -- of one without counts nothing is to be received
 pub counts_none : (ds : List ℕ) (es : List Effect) (c : ℕ) → Lawful ds es → counts es c ≡ None → receives_of es c ≡ []
 counts_none ds es c l e = by_live (live (past_of es) c) refl
@@ -45,9 +51,7 @@ counts_none ds es c l e = by_live (live (past_of es) c) refl
     not_opened o = let f : Some (count_of es c) ≡ None = sym (ap (λ b. cond b (Some (count_of es c)) None) o) ∙ e in cc
 
     by_live : (b : Bool) → live (past_of es) c ≡ b → cond b (replicate (published es c - received (past_of es) c) (Receive c)) [] ≡ []
-    by_live true y =
-        let r = live_number ds es c l y in
-        absurd (not_opened (and_from (nat_le 1 c) (nat_le c (opened (past_of es))) (le-leb 1 c r.0) (le-leb c (opened (past_of es)) r.1)))
+    by_live true y = absurd (not_opened (live_opened ds es c l y))
     by_live false y = refl
 
 -- what is still to be received of a live channel

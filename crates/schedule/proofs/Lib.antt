@@ -12,6 +12,7 @@ pub mod Stepping
 pub mod Taking
 pub mod Choosing
 pub mod Idle
+pub mod Masked
 pub mod Going
 pub mod OneFinish
 pub mod Advancing

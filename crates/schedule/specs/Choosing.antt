@@ -1,5 +1,5 @@
 -- How the next candidate is found.
-use Rattle.std.specs.Prelude.{◌≡◌, ℕ, ◌+◌, ◌==◌, nat_lt, Bool, true, false, List, [], ◌∷◌, ◌++◌, length, Option, Some, None, slice_get, if◌then◌else◌}
+use Rattle.std.specs.Prelude.{◌≡◌, ℕ, ◌+◌, ◌==◌, nat_le, nat_lt, Bool, true, false, List, [], ◌∷◌, ◌++◌, length, Option, Some, None, slice_get, if◌then◌else◌}
 use Rattle.dispatch_calls.specs.declared.call.Call.TheVariants.{Pump, Tick}
 use Rattle.dispatch_history.specs.History.{moment_of}
 use Rattle.dispatch_history.specs.Queue.{inbound}
@@ -22,6 +22,11 @@ dues_of plan es =
 abbrev pub is_before : ℕ → Option Candidate → Bool
 is_before t None = true
 is_before t (Some c) = nat_lt t c.moment
+
+-- something is due at a moment or before it
+abbrev pub is_due_by : Option Candidate → ℕ → Bool
+is_due_by None t = false
+is_due_by (Some c) t = nat_le c.moment t
 
 -- one round of what is due up to a moment was done, or nothing is due and nothing was done
 abbrev pub Advances : Lines → Plan → ℕ → List Effect → ScheduleState → ScheduleState → Bool → Type 0

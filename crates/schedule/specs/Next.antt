@@ -8,6 +8,8 @@ use Rattle.dispatch_history.specs.Delivery.{delivery, oldest}
 use Rattle.dispatch_history.specs.KeyTold.{repeat_due}
 use Rattle.dispatch_history.specs.Due.{first_due}
 use Rattle.dispatch_history.specs.Plan.{Plan, ChannelOf}
+use Rattle.schedule.specs.declared.plan.Channel.{Channel}
+use Rattle.schedule.specs.Planned.{channel_of}
 use Rattle.dispatch_history.specs.Ordered.{Candidate, sooner_of, all_finishes, due_tick, due_repeat, next_step, scripted}
 
 -- the soonest so far against a candidate that may be there
@@ -26,6 +28,11 @@ oldest_pair es c = option_map {U = ℕ × ℕ} (λ m. (m.seq, delivery es c m.se
 -- the next finish of a channel: that of its oldest message, where it is live and finishes messages
 abbrev pub next_finish : List Effect → ℕ → ChannelOf → Option Candidate
 next_finish es c p = if live (past_of es) c && p.finishes then option_map (finish_at c p.finish_after) (oldest_pair es c) else None
+
+-- the next finish of a channel that may be there
+abbrev pub finish_of : List Effect → ℕ → Option Channel → Option Candidate
+finish_of es c None = None
+finish_of es c (Some p) = next_finish es c (channel_of p)
 
 -- all that may be done next but for the next args, in the order that decides where moments agree
 abbrev pub fore : Plan → List Effect → List Candidate

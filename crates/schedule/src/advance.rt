@@ -138,7 +138,8 @@ impl Schedule {
         Ok(true)
     }
 
-    /// One round, where something is due up to a moment, but for args.
+    /// One round, where something is due up to a moment, but for args. It is a part of the loop that calls it.
+    #[inline(always)]
     pub(crate) fn advance(&mut self, plan: &Plan, until: Moment) -> Result<bool, AllocError>
         requires { IsRun plan.now }
         ensures after { (how : Lines) (es : List Effect) → ReadyWith how (plan_of plan.now) es self.old

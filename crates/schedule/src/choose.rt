@@ -1,17 +1,16 @@
 //! What is done next.
-ghost use Rattle.std.specs.Prelude.{IsSome, ◌≡◌, ◌≤◌, ◌<◌, ◌+◌, ◌-◌, ◌^◌, ℕ, true, false, List, [], ◌∷◌, IfOk, OnOk, None, option_map, length, map};
+ghost use Rattle.std.specs.Prelude.{IsSome, ◌≡◌, ◌≤◌, ◌<◌, ◌-◌, true, List, None, option_map, length, map, slice_get};
 ghost use Rattle.std.specs.List.{All};
 ghost use Rattle.dispatch_history.specs.Effect.{Effect, past_of};
-ghost use Rattle.dispatch_history.specs.Delivery.{oldest};
 ghost use Rattle.dispatch_history.specs.Due.{first_due};
-ghost use Rattle.dispatch_history.specs.History.{opened};
+ghost use Rattle.dispatch_history.specs.History.{live};
 ghost use Rattle.dispatch_history.specs.Ordered.{soonest};
 ghost use Rattle.dispatch_history.specs.Plan.{Plan as PlanView};
-ghost use Rattle.dispatcher.specs.Access.{is_opened, next_repeat};
+ghost use Rattle.dispatcher.specs.Access.{next_repeat};
 ghost use Rattle.dispatcher.specs.Dispatching.{StandsFor};
-ghost use Rattle.schedule.specs.Choosing.{first_step, dues_of, is_before, next_finishes, tick_of, repeat_at};
+ghost use Rattle.schedule.specs.Choosing.{first_step, dues_of, is_before, is_due_by, next_finishes, tick_of, repeat_at};
 ghost use Rattle.schedule.specs.DueView.{candidate_of};
-ghost use Rattle.schedule.specs.Next.{next_finish};
+ghost use Rattle.schedule.specs.Next.{finish_of, next_finish, sooner_with};
 ghost use Rattle.schedule.specs.Planned.{IsChannel, channel_of};
 ghost use Rattle.schedule.specs.State.{Caught};
 
@@ -19,6 +18,7 @@ use crate::due::{Due, What, sooner};
 use crate::plan::{Channel, Step};
 use dispatcher::Dispatcher;
 use input_types::Moment;
+use window_snapshot::{mask_first, mask_without};
 
 /// Whether a moment is before what is due, if anything is.
 pub(crate) fn is_before(at: Moment, due: Option<Due>) -> bool
@@ -30,17 +30,16 @@ pub(crate) fn is_before(at: Moment, due: Option<Due>) -> bool
     }
 }
 
-/// The next finish of a channel.
+/// The next finish of a live channel.
 fn next_finish(dispatcher: &Dispatcher, number: u32, channel: &Channel) -> Option<Due>
     requires { IsChannel channel.now }
-    ensures { (es : List Effect) → StandsFor es dispatcher.now → is_opened es number ≡ true
+    ensures { (es : List Effect) → StandsFor es dispatcher.now → live (past_of es) number ≡ true
         → option_map candidate_of result ≡ next_finish es number (channel_of channel.now) }
 {
-    let (seq, delivery) = dispatcher.oldest(number)?;
-    let counts = dispatcher.counts(number)?;
-    if !channel.finishes || !counts.live {
+    if !channel.finishes {
         return None;
     }
+    let (seq, delivery) = dispatcher.oldest(number)?;
     Some(Due {
         moment: delivery.get() + channel.finish_after,
         what: What::Finish {
@@ -50,36 +49,37 @@ fn next_finish(dispatcher: &Dispatcher, number: u32, channel: &Channel) -> Optio
     })
 }
 
-/// Whether each of so many channels is able to take input and none is due to be named. Then no message is left that is
-/// published and not finished. Where all 64 are able this is not told.
-fn is_idle(dispatcher: &Dispatcher, count: usize) -> bool
-    requires few { count ≤ 64 }
-    ensures { (es : List Effect) → StandsFor es dispatcher.now → opened (past_of es) ≡ count → result ≡ true
-        → (c : ℕ) → 1 ≤ c → c ≤ count → oldest es c ≡ None }
+/// The sooner of the best so far and the next finish of a live channel of these.
+fn sooner_finish(
+    best: Option<Due>,
+    dispatcher: &Dispatcher,
+    number: u32,
+    channels: &[Channel],
+) -> Option<Due>
+    requires channels { All IsChannel channels.now }
+    requires number { 1 ≤ number }
+    ensures { (es : List Effect) → StandsFor es dispatcher.now → live (past_of es) number ≡ true
+        → option_map candidate_of result
+        ≡ sooner_with (option_map candidate_of best) (finish_of es number (slice_get channels.now (number - 1))) }
 {
-    if dispatcher.first_due().is_some() {
-        return false;
+    match channels.get(number as usize - 1) {
+        Some(channel) => sooner(best, next_finish(dispatcher, number, channel)),
+        None => best,
     }
-    let able = dispatcher.able();
-    if able == u64::MAX {
-        return false;
-    }
-    count <= able.trailing_ones() as usize
 }
 
-/// The next finish of all channels.
+/// The next finish of all channels. Only those are looked at that may have one.
 fn next_finish_of_all(dispatcher: &Dispatcher, channels: &[Channel]) -> Option<Due>
-    requires channels { All IsChannel channels.now }
-    requires few { length channels.now ≤ 64 }
-    ensures { (es : List Effect) → StandsFor es dispatcher.now → opened (past_of es) ≡ length channels.now
+    requires { All IsChannel channels.now }
+    ensures { (es : List Effect) → StandsFor es dispatcher.now
         → option_map candidate_of result ≡ next_finishes es 1 (map channel_of channels.now) None }
 {
-    if is_idle(dispatcher, channels.len()) {
-        return None;
-    }
     let mut best = None;
-    for (place, channel) in channels.iter().enumerate() {
-        best = sooner(best, next_finish(dispatcher, place as u32 + 1, channel));
+    let mut rest = dispatcher.unfinished();
+    while rest != 0 {
+        let number = mask_first(rest);
+        best = sooner_finish(best, dispatcher, number, channels);
+        rest = mask_without(rest, number);
     }
     best
 }
@@ -96,6 +96,29 @@ fn next_tick(dispatcher: &Dispatcher) -> Option<Due>
     })
 }
 
+/// Whether something is due at a moment or before it.
+fn is_due_by(due: Option<Due>, at: u64) -> bool
+    ensures { result ≡ is_due_by (option_map candidate_of due) at }
+{
+    match due {
+        None => false,
+        Some(due) => due.moment <= at,
+    }
+}
+
+/// The sooner of the next finish and the next tick. Who is due to be named is mostly not looked for, since a finish
+/// comes long before.
+fn finish_or_tick(dispatcher: &Dispatcher, finish: Option<Due>) -> Option<Due>
+    ensures { (es : List Effect) → StandsFor es dispatcher.now
+        → option_map candidate_of result
+        ≡ sooner_with (option_map candidate_of finish) (option_map tick_of (first_due es)) }
+{
+    if is_due_by(finish, dispatcher.due_from()) {
+        return finish;
+    }
+    sooner(finish, next_tick(dispatcher))
+}
+
 /// The next repeat.
 fn next_repeat(dispatcher: &Dispatcher) -> Option<Due>
     ensures { (es : List Effect) → StandsFor es dispatcher.now
@@ -110,17 +133,14 @@ fn next_repeat(dispatcher: &Dispatcher) -> Option<Due>
 
 /// What is due next, but for steps and args.
 pub(crate) fn next_due(dispatcher: &Dispatcher, channels: &[Channel]) -> Option<Due>
-    requires channels { All IsChannel channels.now }
-    requires few { length channels.now ≤ 64 }
+    requires { All IsChannel channels.now }
     ensures { (plan : PlanView) (es : List Effect) → StandsFor es dispatcher.now
-        → dispatcher.now.displays ≡ plan.displays → Caught es
-        → opened (past_of es) ≡ length channels.now → plan.channels ≡ map channel_of channels.now
+        → dispatcher.now.displays ≡ plan.displays → Caught es → plan.channels ≡ map channel_of channels.now
         → option_map candidate_of result ≡ soonest (dues_of plan es) }
 {
     let finish = next_finish_of_all(dispatcher, channels);
-    let tick = next_tick(dispatcher);
-    let repeat = next_repeat(dispatcher);
-    sooner(sooner(finish, tick), repeat)
+    let first = finish_or_tick(dispatcher, finish);
+    sooner(first, next_repeat(dispatcher))
 }
 
 /// The next of some steps, where it comes before what is due.

@@ -139,6 +139,7 @@ impl Schedule {
     }
 
     /// The owner of a channel takes its next message, where there is one.
+    #[inline(always)]
     fn receive_one(&mut self, channel: u32) -> Result<(), AllocError>
         ensures after { (how : Lines) (plan : PlanView) (es : List Effect) → HasWith how plan es self.old
             → OnOk result (HasWith how plan (answered plan.displays (CallView.Receive channel) es) self.new) }
@@ -158,10 +159,12 @@ impl Schedule {
     }
 
     /// The owner of a channel takes its next message, where there is one, and the channel lets it go.
+    #[inline(never)]
     pub fn receive_next(&mut self, channel: u32) -> Result<(), AllocError>
         ensures after { (how : Lines) (plan : PlanView) (es : List Effect) → HasWith how plan es self.old
             → OnOk result (HasWith how plan (answered plan.displays (CallView.Receive channel) es) self.new) }
         ensures messages { self.new.messages ≡ self.old.messages }
+        ensures calls { OnOk result (self.old.calls ≤ self.new.calls) }
         ensures more { (es : List Effect) → ComesTo es self.old.dispatcher → ComesTo es self.new.dispatcher }
         ensures latest { self.new.latest ≡ self.old.latest }
     {
@@ -202,6 +205,24 @@ impl Schedule {
         Ok(())
     }
 
+    /// The owner of a channel takes so many messages, which are mostly one, and the channel lets go of them.
+    #[inline(always)]
+    fn receive_some(&mut self, channel: u32, count: u64) -> Result<(), AllocError>
+        ensures after { (how : Lines) (plan : PlanView) (es : List Effect) → HasWith how plan es self.old
+            → OnOk result
+            (HasWith how plan (extend plan.displays es (replicate count (CallView.Receive channel))) self.new) }
+        ensures messages { self.new.messages ≡ self.old.messages }
+        ensures calls { OnOk result (self.old.calls ≤ self.new.calls) }
+        ensures more { (es : List Effect) → ComesTo es self.old.dispatcher → ComesTo es self.new.dispatcher }
+        ensures latest { self.new.latest ≡ self.old.latest }
+    {
+        if count == 1 {
+            self.receive_next(channel)
+        } else {
+            self.receive_left(channel, count)
+        }
+    }
+
     /// The owner of a channel takes all that is published, and the channel lets it go. The answer is how many messages
     /// the channel has. Mostly there is nothing to take, so it is a part of the loop that calls it.
     #[inline(always)]
@@ -221,7 +242,7 @@ impl Schedule {
         };
         let left = counts.published.saturating_sub(counts.received);
         if 0 < left && counts.live {
-            self.receive_left(channel, left)?;
+            self.receive_some(channel, left)?;
         }
         Ok(counts.sent)
     }

@@ -1,7 +1,6 @@
 -- The step that comes first, or what is due.
-use Rattle.std.proofs.Common.{◌≡◌, ◌∙◌, Option, Some, None, length, map, refl, sym, ap, ap₂, subst}
+use Rattle.std.proofs.Common.{◌≡◌, ◌∙◌, Option, Some, None, map, refl, sym, ap, ap₂, subst}
 use Rattle.std.specs.Prelude.{option_map}
-use Rattle.std.proofs.lemmas.List.{length-map}
 use Rattle.dispatch_history.specs.Effect.{past_of}
 use Rattle.dispatch_history.specs.Ordered.{Candidate, scripted, soonest}
 use Rattle.schedule.specs.Choosing.{dues_of, first_step}
@@ -17,7 +16,6 @@ returns-in-Some-clause-after c = λ how es r.
     let before = subst (ReadyWith how (plan_of c.args.plan.now) es) (sym c.self.view_is) r in
     let due : Option Candidate = option_map candidate_of c.next_due-due.result in
     let found : due ≡ soonest (dues_of (plan_of c.args.plan.now) es) = c.next_due-due.ensures plan es before.has.stands before.has.displays_are before.caught
-    (before.opened_is ∙ length-map c.args.plan.now.channels.items channel_of ∙ ap length (sym c.deref.ensures.value))
     (ap (map channel_of) (sym c.deref.ensures.value)) in
     let e : first_step c.args.plan.now.steps.items (scripted (past_of es)) due ≡ Some c.in-Some.step.now =
     sym (ap₂ (λ xs n. first_step xs n due) c.deref-2.ensures.value before.has.next_is) ∙ sym c.in-Some.ensures.value in
@@ -30,7 +28,6 @@ returns-in-None-clause-after c = λ how es r.
     let before = subst (ReadyWith how (plan_of c.args.plan.now) es) (sym c.self.view_is) r in
     let due : Option Candidate = option_map candidate_of c.next_due-due.result in
     let found : due ≡ soonest (dues_of (plan_of c.args.plan.now) es) = c.next_due-due.ensures plan es before.has.stands before.has.displays_are before.caught
-    (before.opened_is ∙ length-map c.args.plan.now.channels.items channel_of ∙ ap length (sym c.deref.ensures.value))
     (ap (map channel_of) (sym c.deref.ensures.value)) in
     let e : first_step c.args.plan.now.steps.items (scripted (past_of es)) due ≡ None =
     sym (ap₂ (λ xs n. first_step xs n due) c.deref-2.ensures.value before.has.next_is) ∙ sym c.in-None.ensures.value in
