@@ -1,6 +1,5 @@
 pub mod Reading
 pub mod Numbers
-pub mod Newlines
 pub mod Examples
 pub mod Parts
 pub mod Telling

@@ -8,13 +8,12 @@ ghost use Rattle.raw_events.specs.Recording.{line_len};
 
 use crate::line::{Fields, MAX_LINE, path, seconds, sender_of};
 use crate::micros::{MICROS_LEN, micros};
-use crate::piece::line_in_front;
 use crate::same::is_same;
 use crate::text::{past_blanks, past_byte};
 use crate::usual::{USUAL_LEN, usual_fields};
 use input_types::{DeviceId, Moment};
 use memchr::memchr;
-use text_lines::skip_blanks;
+use text_lines::{line_len, skip_blanks};
 
 /// The front of a line, and what it says whatever stands behind it.
 #[derive(Clone, Copy)]
@@ -36,7 +35,7 @@ pub(crate) struct Front<'a> {
 fn is_unended(bytes: &[u8]) -> bool
     ensures { IsTrue result → line_len bytes.now ≡ length bytes.now }
 {
-    line_in_front(bytes) == bytes.len()
+    line_len(bytes) == bytes.len()
 }
 
 /// The seconds between the first bracket and the point.

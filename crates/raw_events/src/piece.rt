@@ -11,19 +11,7 @@ use crate::event::{LineError, RawEvent};
 use crate::front::{Front, quick_fields};
 use crate::line::{Cause, Fields, Line, MAX_LINE, judge, judge_next};
 use input_types::{DeviceId, Moment};
-use memchr::memchr;
-
-/// How many bytes stand before the first newline.
-#[inline(always)]
-pub(crate) fn line_in_front(bytes: &[u8]) -> usize
-    ensures value { result ≡ line_len bytes.now }
-    ensures within { result ≤ length bytes.now }
-{
-    match memchr(b'\n', bytes) {
-        Some(place) => place,
-        None => bytes.len(),
-    }
-}
+use text_lines::line_len;
 
 /// The bytes up to the first newline, and those behind it; None where there is no newline.
 #[inline(always)]
@@ -35,7 +23,7 @@ fn next_line(bytes: &[u8]) -> Option<(&[u8], &[u8])>
         (λ cut. line_len cut.0.now ≡ length cut.0.now) }
     ensures shorter { IfSome result (λ cut. length cut.1.now < length bytes.now) }
 {
-    let (line, rest) = bytes.split_at(line_in_front(bytes));
+    let (line, rest) = bytes.split_at(line_len(bytes));
     match rest {
         [_, after @ ..] => Some((line, after)),
         [] => None,

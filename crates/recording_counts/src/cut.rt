@@ -1,21 +1,8 @@
 //! A piece of a recording as lines.
 ghost use Rattle.std.specs.Prelude.{◌≡◌, ◌<◌, ◌≤◌, ◌∷◌, [], length, IfSome, MatchOption};
-ghost use Rattle.raw_events.specs.Recording.{line_len};
 ghost use Rattle.raw_events.specs.Pieces.{parts};
 
-use memchr::memchr;
-
-/// How many bytes stand before the first newline.
-#[inline(always)]
-fn line_in_front(bytes: &[u8]) -> usize
-    ensures value { result ≡ line_len bytes.now }
-    ensures within { result ≤ length bytes.now }
-{
-    match memchr(b'\n', bytes) {
-        Some(place) => place,
-        None => bytes.len(),
-    }
-}
+use text_lines::line_len;
 
 /// The bytes up to the first newline, and those behind it; None where there is no newline.
 #[inline(always)]
@@ -25,7 +12,7 @@ pub(crate) fn next_line(bytes: &[u8]) -> Option<(&[u8], &[u8])>
         ≡ record { ended = cut.0.now ∷ (parts cut.1.now).ended; begun = (parts cut.1.now).begun }) }
     ensures shorter { IfSome result (λ cut. length cut.1.now < length bytes.now) }
 {
-    let (line, rest) = bytes.split_at(line_in_front(bytes));
+    let (line, rest) = bytes.split_at(line_len(bytes));
     match rest {
         [_, after @ ..] => Some((line, after)),
         [] => None,

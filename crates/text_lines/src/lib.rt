@@ -10,5 +10,5 @@ mod lines;
 mod written;
 
 pub use blanks::{is_blank, skip_blanks, word_len};
-pub use lines::{FirstLine, first_line};
+pub use lines::{FirstLine, first_line, line_len};
 pub use written::{add_labeled, add_number, add_signed, add_word};

@@ -3,20 +3,18 @@ ghost use Rattle.std.specs.Prelude.{◌≡◌, ◌<◌, ◌≤◌, ◌∷◌, �
 ghost use Rattle.std.specs.List.{prefix_len};
 ghost use Rattle.text_lines.specs.Lines.{lines_of};
 
-/// How many bytes stand before the first newline.
+use memchr::memchr;
+
+/// How many bytes stand before the first newline, or in all where there is none.
 #[inline(always)]
-fn line_len(bytes: &[u8]) -> usize
+pub fn line_len(bytes: &[u8]) -> usize
     ensures value { result ≡ prefix_len (λ b. not (b == 10)) bytes.now }
     ensures within { result ≤ length bytes.now }
 {
-    let mut count = 0;
-    for b in bytes {
-        if *b == b'\n' {
-            return count;
-        }
-        count += 1;
+    match memchr(b'\n', bytes) {
+        Some(place) => place,
+        None => bytes.len(),
     }
-    count
 }
 
 /// The first line of a text that is not empty.

@@ -7,18 +7,18 @@ use Rattle.raw_events.proofs.piece.next_line.Goals as goal
 
 pub returns-in-empty-clause-parts : goal.returns-in-empty-clause-parts
 returns-in-empty-clause-parts c =
-    let none : line_len c.args.bytes.now ≡ length c.args.bytes.now = omega (arith, c.line_in_front.ensures.value, c.split_at.ensures.back_len) in
+    let none : line_len c.args.bytes.now ≡ length c.args.bytes.now = omega (arith, c.line_len.ensures.value, c.split_at.ensures.back_len) in
     parts_none c.args.bytes.now none
 
 pub returns-in-empty-clause-unended : goal.returns-in-empty-clause-unended
-returns-in-empty-clause-unended c = omega (arith, c.line_in_front.ensures.value, c.split_at.ensures.back_len)
+returns-in-empty-clause-unended c = omega (arith, c.line_len.ensures.value, c.split_at.ensures.back_len)
 
 pub returns-in-len1-up-clause-parts : goal.returns-in-len1-up-clause-parts
 returns-in-len1-up-clause-parts c =
-    let some : line_len c.args.bytes.now < length c.args.bytes.now = omega (arith, c.line_in_front.ensures.value, c.split_at.ensures.back_len) in
-    let whole : parts c.args.bytes.now ≡ with_line (take c.line_in_front.result c.args.bytes.now) (parts (drop (c.line_in_front.result + 1) c.args.bytes.now)) =
-    rw c.line_in_front.ensures.value (parts_first c.args.bytes.now some) in
-    rw (take_rest c.split_at.result.1.now 1, c.split_at.ensures.front, c.split_at.ensures.back, drop-drop 1 c.line_in_front.result c.args.bytes.now) whole
+    let some : line_len c.args.bytes.now < length c.args.bytes.now = omega (arith, c.line_len.ensures.value, c.split_at.ensures.back_len) in
+    let whole : parts c.args.bytes.now ≡ with_line (take c.line_len.result c.args.bytes.now) (parts (drop (c.line_len.result + 1) c.args.bytes.now)) =
+    rw c.line_len.ensures.value (parts_first c.args.bytes.now some) in
+    rw (take_rest c.split_at.result.1.now 1, c.split_at.ensures.front, c.split_at.ensures.back, drop-drop 1 c.line_len.result c.args.bytes.now) whole
 
 pub returns-in-len1-up-clause-unended : goal.returns-in-len1-up-clause-unended
-returns-in-len1-up-clause-unended c = rw (c.split_at.ensures.front, c.line_in_front.ensures.value) (first_unended c.args.bytes.now)
+returns-in-len1-up-clause-unended c = rw (c.split_at.ensures.front, c.line_len.ensures.value) (first_unended c.args.bytes.now)

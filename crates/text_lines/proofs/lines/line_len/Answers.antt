@@ -1,5 +1,5 @@
-use Rattle.raw_events.proofs.Newlines.{before_newline, no_newline}
-use Rattle.raw_events.proofs.piece.line_in_front.Goals as goal
+use Rattle.text_lines.proofs.Newlines.{before_newline, no_newline}
+use Rattle.text_lines.proofs.lines.line_len.Goals as goal
 
 pub returns-in-Some-clause-value : goal.returns-in-Some-clause-value
 returns-in-Some-clause-value c = before_newline c.args.bytes.now c.in-Some.place c.in-Some.ensures
