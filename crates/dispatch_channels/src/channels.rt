@@ -3,14 +3,15 @@ ghost use Rattle.std.specs.Prelude.{◌≡◌, ℕ, true, [], ◌≤◌, ◌<◌
 ghost use Rattle.input_types.specs.declared.message.Body.TheVariants.{Motion as MotionBody};
 ghost use Rattle.window_snapshot.specs.Mask.{mask_has};
 ghost use Rattle.input_channel.specs.Order.{NoneAfter};
-ghost use Rattle.input_channel.specs.State.{next_of, received_one, received_next, let_go_of, all_let_go, may_finish};
-ghost use Rattle.dispatch_tables.specs.Delivery.{none_noted, noted_gone};
+ghost use Rattle.input_channel.specs.State.{next_of, received_one, received_next, passed, may_finish};
+ghost use Rattle.dispatch_tables.specs.Delivery.{none_noted};
 ghost use Rattle.dispatch_history.specs.Reply.{is_due};
 ghost use Rattle.dispatch_channels.specs.Table.{opened, IsOpened, channel_of, input_of, with_channel, with_room, but_for_room, NoLessRoom, due_moment};
 ghost use Rattle.dispatch_channels.specs.Changes.{OpensOrNot, Tells, MayPublish, Publishes, finished_in, named_in, removed_in};
 
 mod asked;
 mod keys;
+mod letting;
 mod moves;
 mod pending;
 mod ready;
@@ -204,6 +205,15 @@ impl Channels {
         self.channels[channel as usize - 1].mark_received();
     }
 
+    /// The owner of a channel has its next message, where one is published that it did not receive. It may be one that
+    /// was let go.
+    pub fn pass(&mut self, channel: u32)
+        requires { IsOpened self.old channel }
+        ensures { self.new ≡ with_channel channel (passed (channel_of self.old channel)) self.old }
+    {
+        self.channels[channel as usize - 1].pass();
+    }
+
     /// Hands the next message of a channel to its owner; None exactly where all published ones are received. Takes no
     /// memory.
     pub fn receive(&mut self, channel: u32) -> Option<Message>
@@ -269,28 +279,5 @@ impl Channels {
         self.live = without(self.live, channel);
         self.able = without(self.able, channel);
         self.tracker.clear(channel);
-    }
-
-    /// Drops the messages of a channel that were received. Their numbers stay in use.
-    pub fn let_go(&mut self, channel: u32)
-        requires { IsOpened self.old channel }
-        ensures { self.new ≡ with_channel channel (let_go_of (channel_of self.old channel)) self.old }
-    {
-        self.channels[channel as usize - 1].let_go();
-    }
-
-    /// Drops all messages of a channel, and gives back their memory. Their numbers stay in use.
-    pub fn let_all_go(&mut self, channel: u32)
-        requires { IsOpened self.old channel }
-        ensures { self.new ≡ with_channel channel (all_let_go (channel_of self.old channel)) self.old }
-    {
-        self.channels[channel as usize - 1].let_all_go();
-    }
-
-    /// Drops the namings so far, and gives back their memory.
-    pub fn let_namings_go(&mut self)
-        ensures { self.new ≡ record self.old { namings = noted_gone self.old.namings } }
-    {
-        self.namings.let_go();
     }
 }

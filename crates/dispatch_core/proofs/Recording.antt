@@ -15,6 +15,7 @@ use Rattle.dispatch_history.proofs.WholeLaws.{whole_law, well_formed_law, remove
 use Rattle.dispatcher.specs.Access.{gone, namings_gone}
 use Rattle.dispatcher.specs.Dispatching.{Dispatching, StandsFor}
 use Rattle.dispatcher.specs.Memory.{MayCount}
+use Rattle.dispatcher.proofs.Standing.{after_of}
 use Rattle.dispatcher.specs.Queueing.{args_in, is_input}
 use Rattle.dispatch_core.specs.Recorded.{history_of, pumps_left, IsRecorded, IsSound, AnswersGone, HasRoom}
 
@@ -35,8 +36,10 @@ pub recorded_more : (e : Entry) (entries : List Entry) (old new : Dispatching)
     → namings_gone new ≡ namings_gone old
     → IsRecorded (e ∷ entries) new
 recorded_more e entries old new r s same kept noted =
+    let stands = subst (λ ds. StandsFor (effects ds (history_of (e ∷ entries))) new) (sym same) s in
     record {
-      stands = subst (λ ds. StandsFor (effects ds (history_of (e ∷ entries))) new) (sym same) s;
+      stands = stands;
+      after = after_of (effects new.displays (history_of (e ∷ entries))) new stands;
       kept = λ c low. kept c low ∙ r.kept c low;
       noted = noted ∙ r.noted;
     }

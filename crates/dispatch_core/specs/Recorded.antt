@@ -13,7 +13,7 @@ use Rattle.dispatch_history.specs.History.{History, live}
 use Rattle.dispatch_history.specs.Known.{known_state}
 use Rattle.dispatch_history.specs.Legal.{Legal}
 use Rattle.dispatcher.specs.Access.{gone, namings_gone, is_opened}
-use Rattle.dispatcher.specs.Dispatching.{Dispatching, StandsFor}
+use Rattle.dispatcher.specs.Dispatching.{Dispatching, IsAfter, StandsFor}
 use Rattle.dispatcher.specs.Queueing.{is_input}
 
 -- the displays of the devices, the entries, the newest first, and for how many more there is room
@@ -86,9 +86,10 @@ AnswersGone h (Pilfer now c device) answer = live h c ≡ false → answer ≡ G
 AnswersGone h (Remove now c) answer = live h c ≡ false → answer ≡ Gone
 AnswersGone h call answer = Unit {0}
 
--- a dispatcher stands for the history of these entries, and no message of it and no naming was let go
+-- a dispatcher stands for the history of these entries, so that it is as after it, and no message of it and no naming was let go
 pub record IsRecorded (entries : List Entry) (d : Dispatching) : Type 0 where
   pub stands : StandsFor (effects d.displays (history_of entries)) d
+  pub after : IsAfter (effects d.displays (history_of entries)) d
   pub kept : (c : ℕ) → 1 ≤ c → gone d c ≡ 0
   pub noted : namings_gone d ≡ 0
 

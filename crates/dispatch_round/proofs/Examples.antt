@@ -8,14 +8,14 @@ use Rattle.touch_state.specs.Touches.{Touches}
 use Rattle.dispatch_round.specs.Light.{held_by, moved, most_moves}
 
 -- window 1 holds the ids 0 and 2 of device 1, window 2 holds nothing, and window 3 id 1
-touches : List Touches
+abbrev touches : List Touches
 touches =
     record { device = 1; rows = record { ids = 5; since = 4 } ∷ record { ids = 0; since = 0 } ∷ record { ids = 2; since = 6 } ∷ []; pilferers = 0 } ∷ []
 
-at : ℕ → Pointer
+abbrev at : ℕ → Pointer
 at i = record { id = i; at = record { x = pos 10; y = pos 20 } }
 
-move : List Pointer → Motion
+abbrev move : List Pointer → Motion
 move ps = record { device = 1; action = Move; index = 0; flags = 0; pointers = ps }
 
 its_own : moved touches (move (at 0 ∷ at 1 ∷ at 2 ∷ [])) 1 ≡ MotionBody (move (at 0 ∷ at 2 ∷ [])) ∷ []

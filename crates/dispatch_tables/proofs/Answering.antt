@@ -1,8 +1,10 @@
 -- What is kept of a channel gives the answers.
-use Rattle.std.proofs.Common.{◌≡◌, ℕ, zero, suc, ◌+◌, ◌-◌, ◌≤◌, nat_lt, nat_le, Bool, true, false, not, ◌&&◌, ◌||◌, cond, List, [], ◌∷◌, length, reverse, drop, map, Option, Some, None, refl, sym, ap, ◌∙◌, inl, inr, arith}
+use Rattle.std.proofs.Common.{◌≡◌, ℕ, zero, suc, ◌+◌, ◌-◌, ◌≤◌, ◌<◌, nat_lt, nat_le, Bool, true, false, not, ◌&&◌, ◌||◌, cond, List, [], ◌∷◌, length, reverse, drop, map, Option, Some, None, refl, sym, ap, ◌∙◌, subst, inl, inr, arith}
 use Rattle.std.specs.Prelude.{slice_get, option_map, if◌then◌else◌}
 use Rattle.std.specs.List.{list_any}
 use Rattle.std.proofs.lemmas.Bool.{cases_Bool, leb-true, le-leb}
+use Rattle.std.proofs.lemmas.Bool.Decides.{nat_tests}
+use Rattle.std.proofs.lemmas.List.{length-reverse}
 use Rattle.std.proofs.lemmas.Option.{slice_get-map}
 use Rattle.input_types.specs.declared.message.Message.{Message}
 use Rattle.dispatch_calls.specs.declared.reply.Reply.{Reply}
@@ -15,7 +17,7 @@ use Rattle.dispatch_history.specs.Due.{counts}
 use Rattle.input_channel.specs.State.{next_of, may_finish, oldest_of}
 use Rattle.input_channel.specs.State.{has_late as late_at}
 use Rattle.dispatch_tables.specs.Lawful.{Lawful}
-use Rattle.dispatch_tables.specs.Channel.{channel_at, counts_of}
+use Rattle.dispatch_tables.specs.Channel.{Hands, channel_at, counts_of}
 use Rattle.dispatch_tables.proofs.Waiting.{with_delivery}
 use Rattle.dispatch_tables.proofs.Channels.{sound}
 use Rattle.dispatch_tables.proofs.Unfinished.{has_seq_law}
@@ -51,6 +53,28 @@ receive_law ds es c gone spare le =
     next_when b (slice_get (reverse (stream es c)) n)
     ∙ ap (λ o. got_reply (cond b o None)) (sym (slice_get-drop (reverse (stream es c)) gone (n - gone) ∙ ap (slice_get (reverse (stream es c))) rest))
     ∙ ap (λ t. got_reply (cond (t && b) left None)) (sym (le-leb gone n (le lives))))
+
+there : (ms : List Message) (n : ℕ) → n < length ms → (m : Message) × (slice_get ms n ≡ Some m)
+there [] n lt = absurd (omega (arith, lt))
+there (m ∷ ms) zero lt = (m, refl)
+there (m ∷ ms) (suc n) lt = there ms n (omega (arith, lt))
+
+hands : (b : Bool) (o : Option Message) → (b ≡ true → (m : Message) × (o ≡ Some m)) → Hands b (cond b (got_reply o) Empty)
+hands true o f = let x = f refl in (x.0, ap got_reply x.1)
+hands false o f = refl
+
+-- whatever was let go, the next message is handed out where there is one
+pub pass_law : (ds : List ℕ) (es : List Effect) (c : ℕ) → Lawful ds es → live (past_of es) c ≡ true
+    → Hands (nat_lt (received (past_of es) c) (published es c)) (receive_reply es c)
+pass_law ds es c l lives =
+    let n = received (past_of es) c in
+    let b = nat_lt n (published es c) in
+    let o = slice_get (reverse (stream es c)) n in
+    let most : published es c ≤ length (stream es c) = omega arith in
+    let within : b ≡ true → n < length (reverse (stream es c)) = λ lt.
+    let less : n < published es c = grind (arith, nat_tests, lt) in omega (arith, less, most, length-reverse (stream es c)) in
+    subst (λ a. Hands b (cond (not a) Gone (cond b (got_reply o) Empty))) (sym lives)
+    (hands b o (λ lt. there (reverse (stream es c)) n (within lt)))
 
 -- what is received is published
 within : (a x : Bool) (seq r p : ℕ) → r ≤ p → (a && nat_le seq r && x) ≡ (nat_le seq r && (a && nat_le seq p && x))

@@ -16,7 +16,7 @@ use Rattle.dispatch_history.specs.Delivery.{able, has_late}
 use Rattle.dispatch_history.specs.Due.{namings}
 use Rattle.dispatch_history.specs.Reply.{reply_to}
 use Rattle.dispatch_tables.specs.Lawful.{Lawful}
-use Rattle.dispatch_tables.specs.Channel.{Keeps, Opens, Untouched, part_of}
+use Rattle.dispatch_tables.specs.Channel.{Holds, Opens, Untouched, part_of}
 use Rattle.dispatch_tables.specs.Masks.{able_mask_after}
 use Rattle.dispatch_tables.specs.Dues.{due_moment, due_in, namings_in}
 use Rattle.dispatch_tables.specs.Delivery.{Delivery, DeliveryIs, NotedIs, noted_after, noted_with}
@@ -105,20 +105,20 @@ delivery_law ds call answer es changed k later l h g =
     all = g.count_is ∙ ap (opened_after call answer) h.count_is
 
     keeps_by : (c : ℕ) (b : Bool) → changed c ≡ b → 1 ≤ c → c ≤ later.count
-        → Keeps (step ds call answer es) c (later.channel c)
+        → Holds (step ds call answer es) c (later.channel c)
     keeps_by c true e from to =
         let x = g.changes c e from to in
-        subst (Keeps (step ds call answer es) c) (sym x.2) (kept_step ds call answer es c x.0 l x.1)
+        subst (Holds (step ds call answer es) c) (sym x.2) (kept_step ds call answer es c x.0 l x.1)
     keeps_by c false e from to =
         let x = g.stays c e from to in
         elim (there_or_part es c call answer reply_is (subst (λ n. c ≤ n) all to)) [
           | inl le ↦
-              subst (Keeps (step ds call answer es) c) (sym x.0)
+              subst (Holds (step ds call answer es) c) (sym x.0)
               (kept_quiet ds call answer es c (k.channel c) l (h.keeps c from (subst (λ n. c ≤ n) (sym h.count_is) le)) x.1 x.2)
           | inr has ↦ absurd (has x.2)
         ]
 
-    keeps : (c : ℕ) → 1 ≤ c → c ≤ later.count → Keeps (step ds call answer es) c (later.channel c)
+    keeps : (c : ℕ) → 1 ≤ c → c ≤ later.count → Holds (step ds call answer es) c (later.channel c)
     keeps c from to = keeps_by c (changed c) refl from to
 
     late_is : (now c seq : ℕ) → call ≡ Finish now c seq → answer ≡ Done

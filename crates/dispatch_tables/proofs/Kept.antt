@@ -7,7 +7,7 @@ use Rattle.input_types.specs.declared.message.Body.{Body}
 use Rattle.input_types.specs.declared.message.Message.{Message}
 use Rattle.input_channel.specs.declared.unfinished.Unfinished.{Unfinished}
 use Rattle.input_channel.specs.Order.{delivered, without, NoneAfter}
-use Rattle.input_channel.specs.State.{ChannelState, IsChannel, sent, publishable, published_at, let_go_of, all_let_go}
+use Rattle.input_channel.specs.State.{ChannelState, IsChannel, sent, publishable, published_at, let_go_of, each_let_go, all_let_go}
 use Rattle.input_channel.proofs.Delivering.{published_channel, published_is}
 use Rattle.input_channel.proofs.Finishing.{finished_channel}
 use Rattle.dispatch_calls.specs.declared.call.Call.{Call}
@@ -221,6 +221,13 @@ let_go_law es c gone spare =
     λ i. record (channel_at es c (max gone (received (past_of es) c)) spare) {
       messages = (drop-drop (received (past_of es) c - gone) gone (reverse (stream es c)) ∙ ap (λ n. drop n (reverse (stream es c))) rest) i;
     }
+
+pub each_gone_law : (ds : List ℕ) (es : List Effect) (c gone spare : ℕ) → Lawful ds es → gone ≤ length (stream es c)
+    → each_let_go (channel_at es c gone spare) ≡ channel_at es c (length (stream es c)) spare
+each_gone_law ds es c gone spare l le =
+    let none : drop (length (stream es c)) (reverse (stream es c)) ≡ [] =
+    drop_of_length-le (reverse (stream es c)) (omega (arith, length-reverse (stream es c))) in
+    λ i. record (channel_at es c gone spare) { gone = (channel_law ds es c gone spare l le).1 i; messages = sym none i }
 
 pub all_gone_law : (ds : List ℕ) (es : List Effect) (c gone spare : ℕ) → Lawful ds es → gone ≤ length (stream es c)
     → all_let_go (channel_at es c gone spare) ≡ channel_at es c (length (stream es c)) 0

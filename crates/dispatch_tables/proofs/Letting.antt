@@ -59,6 +59,11 @@ stream_grows ds call answer es c l =
     ap length h.stream_is ∙ length-told_on (clock (past_of (step ds call answer es))) told (stream es c) in
     omega (arith, longer)
 
+-- no more are let go than there are after the step
+pub most_on : (ds : List ℕ) (call : Call) (answer : Reply) (es : List Effect) (c gone : ℕ)
+    → Lawful ds (step ds call answer es) → gone ≤ length (stream es c) → gone ≤ length (stream (step ds call answer es) c)
+most_on ds call answer es c gone l most = omega (arith, most, stream_grows ds call answer es c l)
+
 -- what may be let go before a step may be let go after it
 pub may_go_on : (ds : List ℕ) (call : Call) (answer : Reply) (es : List Effect) (c gone : ℕ)
     → Lawful ds (step ds call answer es) → MayGo es c gone → MayGo (step ds call answer es) c gone
@@ -86,6 +91,13 @@ received_may_go ds es c gone l may =
     let few : received (past_of es) c ≤ published es c = (sound ds es c l).received_published in
     let most : published es c ≤ length (stream es c) = omega arith in
     record { of_all = omega (arith, may.of_all, few, most); of_live = λ lives. omega (arith, may.of_live lives) }
+
+pub received_most : (ds : List ℕ) (es : List Effect) (c gone : ℕ) → Lawful ds es → gone ≤ length (stream es c)
+    → max gone (received (past_of es) c) ≤ length (stream es c)
+received_most ds es c gone l le =
+    let few : received (past_of es) c ≤ published es c = (sound ds es c l).received_published in
+    let most : published es c ≤ length (stream es c) = omega arith in
+    omega (arith, le, few, most)
 
 -- all messages of a channel that is not live may be let go
 pub all_may_go : (es : List Effect) (c : ℕ) → live (past_of es) c ≡ false → MayGo es c (length (stream es c))

@@ -1,5 +1,5 @@
 -- What is kept of a channel, and what a step makes of it.
-use Rattle.std.specs.Prelude.{◌≡◌, ℕ, suc, ◌≤◌, Bool, true, ◌==◌, List, [], ◌∷◌, drop, length, map, reverse, if◌then◌else◌}
+use Rattle.std.specs.Prelude.{◌≡◌, ℕ, suc, ◌≤◌, Bool, true, false, ◌==◌, List, [], ◌∷◌, drop, length, map, reverse, if◌then◌else◌}
 use Rattle.input_types.specs.declared.message.Body.{Body}
 use Rattle.input_types.specs.declared.message.Message.{Message}
 use Rattle.input_channel.specs.State.{ChannelState, sent, enqueued, received_one, finished_with}
@@ -7,7 +7,7 @@ use Rattle.dispatch_calls.specs.declared.call.Call.{Call}
 use Rattle.dispatch_calls.specs.declared.counts.Counts.{Counts}
 use Rattle.dispatch_calls.specs.declared.call.Call.TheVariants.{Open, Receive, Finish}
 use Rattle.dispatch_calls.specs.declared.reply.Reply.{Reply}
-use Rattle.dispatch_calls.specs.declared.reply.Reply.TheVariants.{Opened, Done, Got}
+use Rattle.dispatch_calls.specs.declared.reply.Reply.TheVariants.{Opened, Done, Empty, Got}
 use Rattle.dispatch_history.specs.History.{limit_of, live, received, finished}
 use Rattle.dispatch_history.specs.Effect.{Effect, past_of, stream}
 use Rattle.dispatch_history.specs.Delivery.{published, delivery, unfinished}
@@ -63,12 +63,22 @@ abbrev pub counts_of : Bool → ChannelState → Counts
 counts_of is_live s =
     record { sent = sent s; received = s.received; finished = s.finished; published = s.published; live = is_live }
 
+-- its owner is handed a message, or none
+abbrev pub Hands : Bool → Reply → Type 0
+Hands true answer = (m : Message) × (answer ≡ Got m)
+Hands false answer = answer ≡ Empty
+
 -- so many of the first messages of a channel may be let go: those that were received, and all once it is removed
 pub record MayGo (es : List Effect) (c gone : ℕ) : Type 0 where
   pub of_all : gone ≤ length (stream es c)
   pub of_live : live (past_of es) c ≡ true → gone ≤ received (past_of es) c
 
--- a channel is kept as it is after a history with these effects, and only messages that may be let go were
+-- a channel is kept as it is after a history with these effects, but for messages that were let go, received or not
+pub record Holds (es : List Effect) (c : ℕ) (s : ChannelState) : Type 0 where
+  pub is : s ≡ channel_at es c s.gone s.spare
+  pub most : s.gone ≤ length (stream es c)
+
+-- the same, and only messages that may be let go were
 pub record Keeps (es : List Effect) (c : ℕ) (s : ChannelState) : Type 0 where
   pub is : s ≡ channel_at es c s.gone s.spare
   pub may_go : MayGo es c s.gone

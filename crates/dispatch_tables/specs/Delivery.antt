@@ -12,7 +12,7 @@ use Rattle.dispatch_history.specs.History.{opened, opened_after, live}
 use Rattle.dispatch_history.specs.Effect.{Effect, past_of}
 use Rattle.dispatch_history.specs.Delivery.{able}
 use Rattle.dispatch_history.specs.Due.{namings}
-use Rattle.dispatch_tables.specs.Channel.{Keeps, Untouched, part_of, with_part, enqueued_all}
+use Rattle.dispatch_tables.specs.Channel.{Holds, Untouched, part_of, with_part, enqueued_all}
 use Rattle.dispatch_tables.specs.Masks.{live_mask_after, able_mask_after}
 use Rattle.dispatch_tables.specs.Dues.{due_in, namings_in}
 
@@ -54,7 +54,7 @@ due_kept k c = due_in (mask_has k.able c) (k.channel c)
 -- it stands for the effects of a history
 pub record DeliveryIs (es : List Effect) (k : Delivery) : Type 0 where
   pub count_is : k.count ≡ opened (past_of es)
-  pub keeps : (c : ℕ) → 1 ≤ c → c ≤ k.count → Keeps es c (k.channel c)
+  pub keeps : (c : ℕ) → 1 ≤ c → c ≤ k.count → Holds es c (k.channel c)
   pub live_is : mask_has k.live ≡ live (past_of es)
   pub able_is : mask_has k.able ≡ able es
   pub noted_is : NotedIs (namings es) k.noted
@@ -76,7 +76,7 @@ pub record GoesOn
     (k later : Delivery) : Type 0 where
   pub count_is : later.count ≡ opened_after call answer k.count
   pub changes : (c : ℕ) → changed c ≡ true → 1 ≤ c → c ≤ later.count
-      → (s : ChannelState) × Keeps es c s × (later.channel c ≡ channel_after call answer (told c) now c s)
+      → (s : ChannelState) × Holds es c s × (later.channel c ≡ channel_after call answer (told c) now c s)
   pub stays : (c : ℕ) → changed c ≡ false → 1 ≤ c → c ≤ later.count
       → (later.channel c ≡ k.channel c) × (told c ≡ []) × (part_of call answer c ≡ Untouched)
   pub live_is : later.live ≡ live_mask_after call answer k.live

@@ -18,7 +18,7 @@ use Rattle.dispatch_history.specs.Due.{counts, first_due, mask_of, named, naming
 use Rattle.dispatch_history.specs.Legal.{Legal}
 use Rattle.dispatch_history.specs.Reply.{reply_to, receive_reply, finish_reply, got_reply, is_due}
 use Rattle.dispatch_tables.specs.Lawful.{Lawful}
-use Rattle.dispatch_tables.specs.Channel.{Keeps, part_of, Untouched, with_part, enqueued_all, NumberedFrom, counts_of}
+use Rattle.dispatch_tables.specs.Channel.{Holds, Keeps, part_of, Untouched, with_part, enqueued_all, NumberedFrom, counts_of}
 use Rattle.dispatch_tables.specs.Masks.{able_after, live_mask_after, able_mask_after}
 use Rattle.dispatch_tables.specs.Delivery.{Delivery, DeliveryIs, GoesOn, Noted, NotedIs, none_noted, noted_gone, due_kept}
 use Rattle.dispatch_tables.specs.Silent.{is_silent, is_resting}
@@ -46,9 +46,9 @@ abbrev pub KeptStep : Type 0
 KeptStep =
     (displays : List ℕ) (call : Call) (answer : Reply) (es : List Effect) (c : ℕ) (s : ChannelState)
     → Lawful displays (step displays call answer es)
-    → Keeps es c s
+    → Holds es c s
     → let now = clock (past_of (step displays call answer es)) in
-    Keeps (step displays call answer es) c
+    Holds (step displays call answer es) c
     (published_at now (enqueued_all (said_at displays call answer es c) now (with_part (part_of call answer c) s)))
 
 -- Before it is published so, none of its messages was delivered after that clock.
@@ -57,7 +57,7 @@ KeptReady =
     (displays : List ℕ) (call : Call) (answer : Reply) (es : List Effect) (c : ℕ) (s : ChannelState)
     (bodies : List Body)
     → Lawful displays (step displays call answer es)
-    → Keeps es c s
+    → Holds es c s
     → let now = clock (past_of (step displays call answer es)) in
     NoneAfter now (enqueued_all bodies now (with_part (part_of call answer c) s)).unfinished
 
@@ -65,17 +65,17 @@ KeptReady =
 abbrev pub KeptUnopened : Type 0
 KeptUnopened =
     (displays : List ℕ) (es : List Effect) (c : ℕ)
-    → Lawful displays es → opened (past_of es) < c → Keeps es c (opened_with 0)
+    → Lawful displays es → opened (past_of es) < c → Holds es c (opened_with 0)
 
 -- A channel that is told nothing and has no part in a step is kept as it was.
 abbrev pub KeptQuiet : Type 0
 KeptQuiet =
     (displays : List ℕ) (call : Call) (answer : Reply) (es : List Effect) (c : ℕ) (s : ChannelState)
     → Lawful displays (step displays call answer es)
-    → Keeps es c s
+    → Holds es c s
     → said_at displays call answer es c ≡ []
     → part_of call answer c ≡ Untouched
-    → Keeps (step displays call answer es) c s
+    → Holds (step displays call answer es) c s
 
 -- A channel that is not live after a step is told nothing, and has no part in it.
 abbrev pub NotLiveLaw : Type 0
@@ -102,7 +102,7 @@ abbrev pub KeptFacts : Type 0
 KeptFacts =
     (displays : List ℕ) (es : List Effect) (c : ℕ) (s : ChannelState)
     → Lawful displays es
-    → Keeps es c s
+    → Holds es c s
     → IsChannel s
     × (sent s ≡ length (stream es c))
     × ((now : ℕ) → published_at now s ≡ s)
@@ -125,7 +125,7 @@ abbrev pub FinishLaw : Type 0
 FinishLaw =
     (displays : List ℕ) (es : List Effect) (c seq : ℕ) (s : ChannelState)
     → Lawful displays es
-    → Keeps es c s
+    → Holds es c s
     → finish_reply es c seq
     ≡ (if not (live (past_of es) c) then Gone else if may_finish seq s then Done else UnknownSeq)
 
@@ -133,18 +133,18 @@ FinishLaw =
 abbrev pub OldestLaw : Type 0
 OldestLaw =
     (es : List Effect) (c : ℕ) (s : ChannelState)
-    → Keeps es c s → oldest_of s ≡ option_map (λ m. (m.seq, delivery es c m.seq)) (oldest es c)
+    → Holds es c s → oldest_of s ≡ option_map (λ m. (m.seq, delivery es c m.seq)) (oldest es c)
 
 -- At the clock of a history some message is late by what is kept where one is by the history.
 abbrev pub LateLaw : Type 0
-LateLaw = (es : List Effect) (c : ℕ) (s : ChannelState) → Keeps es c s → late_at (clock (past_of es)) s ≡ has_late es c
+LateLaw = (es : List Effect) (c : ℕ) (s : ChannelState) → Holds es c s → late_at (clock (past_of es)) s ≡ has_late es c
 
 -- The counts of a channel that was opened are those of what is kept.
 abbrev pub CountsLaw : Type 0
 CountsLaw =
     (displays : List ℕ) (es : List Effect) (c : ℕ) (s : ChannelState)
     → Lawful displays es
-    → Keeps es c s
+    → Holds es c s
     → counts es c
     ≡ (if nat_le 1 c && nat_le c (opened (past_of es)) then Some (counts_of (live (past_of es) c) s) else None)
 
@@ -179,7 +179,7 @@ AbleMaskLaw =
 
 -- When a channel is due, by what is kept of it.
 abbrev pub DueLaw : Type 0
-DueLaw = (es : List Effect) (c : ℕ) (s : ChannelState) → Keeps es c s → due_moment es c ≡ due_in (able es c) s
+DueLaw = (es : List Effect) (c : ℕ) (s : ChannelState) → Holds es c s → due_moment es c ≡ due_in (able es c) s
 
 -- A channel that is told nothing, has no part in a step, and is able after it as before, is due as before.
 abbrev pub QuietDueLaw : Type 0
@@ -208,7 +208,7 @@ DuesLaw =
     → (said_at displays call answer es c ≡ [])
     × (part_of call answer c ≡ Untouched)
     × (able (step displays call answer es) c ≡ able es c))
-    → ((c : ℕ) → changed c ≡ true → Keeps (step displays call answer es) c (kept c))
+    → ((c : ℕ) → changed c ≡ true → Holds (step displays call answer es) c (kept c))
     → ((c : ℕ) → later c ≡ (if changed c then due_in (able (step displays call answer es) c) (kept c) else before c))
     → later ≡ due_moment (step displays call answer es)
 
@@ -237,7 +237,7 @@ NamedLaw =
 abbrev pub NamingsLaw : Type 0
 NamingsLaw =
     (displays : List ℕ) (call : Call) (mask : ℕ) (es : List Effect) (kept : ℕ → ChannelState)
-    → ((c : ℕ) → 1 ≤ c → c ≤ opened (past_of es) → Keeps es c (kept c))
+    → ((c : ℕ) → 1 ≤ c → c ≤ opened (past_of es) → Holds es c (kept c))
     → let now = clock (past_of (step displays call (Named mask) es)) in
     namings (step displays call (Named mask) es) ≡ namings es ++ namings_in now mask kept (opened (past_of es))
 

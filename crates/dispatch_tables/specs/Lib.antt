@@ -5,3 +5,4 @@ pub mod Dues
 pub mod Silent
 pub mod Delivery
 pub mod Laws
+pub mod Holding

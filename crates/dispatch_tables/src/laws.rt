@@ -1,5 +1,6 @@
 //! What is proved of what is kept. Each function has the laws as its clauses, and does nothing.
 ghost use Rattle.dispatch_tables.specs.Laws.{LawfulEffects, LawfulStep, LawfulLast, KeptStep, KeptReady, KeptUnopened, KeptQuiet, NotLiveLaw, KeptLess, KeptFacts, NumberedLaw, ReceiveLaw, FinishLaw, OldestLaw, LateLaw, CountsLaw, OpenedFew, AbleLaw, LiveMaskLaw, AbleMaskLaw, DueLaw, QuietDueLaw, NotLiveDueLaw, DuesLaw, FirstDueLaw, NamedLaw, NamingsLaw, NamingsKeptLaw, NamingsGoLaw, SilentCalls, DeliveryStart, DeliveryLaw, DeliveryDue, DeliveryRests};
+ghost use Rattle.dispatch_tables.specs.Holding.{HeldLess, MayGoLaw, PassLaw};
 
 /// Effects of legal histories: a step that is answered as it is to be keeps them so, and each step was.
 pub fn lawful()
@@ -24,12 +25,15 @@ pub fn quiet_channels()
     ensures quiet { KeptQuiet }
     ensures not_live { NotLiveLaw }
     ensures less { KeptLess }
+    ensures held_less { HeldLess }
+    ensures may_go { MayGoLaw }
     ensures silent { SilentCalls }
 {}
 
 /// What owners are answered, and what is told of a channel, by what is kept of it.
 pub fn answers()
     ensures receive { ReceiveLaw }
+    ensures pass { PassLaw }
     ensures finish { FinishLaw }
     ensures oldest { OldestLaw }
     ensures late { LateLaw }

@@ -1,19 +1,24 @@
 -- A dispatcher after a call.
 use Rattle.std.proofs.Common.{◌≡◌, ◌+◌, ◌≤◌, ℕ, List, Result, Ok, Err, IfOk, OnOk, OnErr, sym, ap, subst, arith}
 use Rattle.dispatch_calls.specs.declared.call.Call.{Call}
+use Rattle.dispatch_calls.specs.declared.call.Call.TheVariants.{Open, Windows, FocusOn, Notify, Pump, Tick, Receive, Finish, Pilfer, Remove}
 use Rattle.dispatch_calls.specs.declared.reply.Reply.{Reply}
 use Rattle.dispatch_channels.specs.Table.{but_for_room}
-use Rattle.dispatch_history.specs.Effect.{Effect}
+use Rattle.dispatch_history.specs.Effect.{Effect, past_of}
+use Rattle.dispatch_history.specs.History.{received}
+use Rattle.dispatch_tables.proofs.Ables.{live_number}
 use Rattle.dispatch_history.specs.Effects.{step}
 use Rattle.dispatcher.specs.declared.tables.Tables.{Tables}
 use Rattle.dispatcher.specs.Dispatching.{Dispatching, IsOfHistory}
-use Rattle.dispatcher.specs.Dispatching.{StandsFor, with_room, with_args_room}
+use Rattle.dispatcher.specs.Dispatching.{IsAfter, StandsFor, with_room, with_args_room}
 use Rattle.dispatcher.specs.Queueing.{args_in}
 use Rattle.dispatcher.specs.Queueing.{with_room as queue_with_room, with_args_room as queue_with_args_room}
 use Rattle.dispatcher.specs.Queue.{Queue}
 use Rattle.dispatcher.specs.Roomy.{KeepsPromise}
-use Rattle.dispatcher.specs.Tables.{TablesStandFor, GoesOn, GoesOnSomehow, SameAll, SameButRoom}
-use Rattle.dispatcher.proofs.Rooms.{stands_raw, stands_bare}
+use Rattle.dispatcher.specs.Tables.{TablesStandFor, GoesOnSomehow, Answers, SameAll, SameButRoom, kept}
+use Rattle.dispatcher.specs.Replying.{MayHand}
+use Rattle.dispatcher.proofs.Rooms.{stands_raw, stands_bare, channel_bare}
+use Rattle.dispatcher.proofs.Standing.{after_of}
 
 -- what contracts see of the tables
 abbrev pub seen : Tables → Dispatching
@@ -28,11 +33,11 @@ seen t =
       repeat = t.routing.repeat;
     }
 
-pub raw : (es : List Effect) (t : Tables) → StandsFor es (seen t) → TablesStandFor es t
+pub raw : (es : List Effect) (t : Tables) → IsAfter es (seen t) → TablesStandFor es t
 raw es t s =
     stands_raw t.routing.displays es t.queueing t.routing.shown t.routing.touches t.routing.channels t.routing.focus t.routing.repeat s
 
-pub bare : (es : List Effect) (t : Tables) → TablesStandFor es t → StandsFor es (seen t)
+pub bare : (es : List Effect) (t : Tables) → TablesStandFor es t → IsAfter es (seen t)
 bare es t s =
     stands_bare t.routing.displays es t.queueing t.routing.shown t.routing.touches t.routing.channels t.routing.focus t.routing.repeat s
 
@@ -49,49 +54,70 @@ seen_same old new h =
       repeat = (h.routing_is.0 i).repeat;
     }
 
--- with some answer, where there is one
-pub somehow : {E : Type 0} (call : Call) (r : Result Reply E) (old new : Tables)
-    → IfOk r (λ answer. GoesOn call answer old new) → OnOk r (GoesOnSomehow call old new)
-somehow call (Ok answer) old new ok = (answer, ok)
-somehow call (Err e) old new ok = ok
+-- whatever the answer is
+pub answers_somehow : {E : Type 0} (call : Call) (r : Result Reply E) (old new : Tables)
+    → IfOk r (λ answer. Answers call answer old new) → OnOk r (GoesOnSomehow call old new)
+answers_somehow call (Ok answer) old new ok = ok.somehow
+answers_somehow call (Err e) old new ok = tt
 
--- it stands for some history
+-- it is as after some history
 pub history_after : {A E : Type 0} (call : Call) (r : Result A E) (old new : Tables)
     → OnOk r (GoesOnSomehow call old new) → OnErr r (SameAll old new) → IsOfHistory (seen old) → IsOfHistory (seen new)
 history_after call (Ok a) old new ok err h =
-    (step old.routing.displays call ok.0 h.0, bare (step old.routing.displays call ok.0 h.0) new (ok.1.after h.0 (raw h.0 old h.1)))
+    let on = ok.after h.0 (raw h.0 old h.1) in
+    (step old.routing.displays call on.0 h.0, bare (step old.routing.displays call on.0 h.0) new on.1)
 history_after call (Err e) old new ok err h = subst IsOfHistory (sym (seen_same old new err)) h
 
--- whatever it stood for, it stands for that with one step more
-stands_then : (call : Call) (answer : Reply) (old new : Tables) (now : Dispatching) → seen old ≡ now → GoesOn call answer old new
-    → (es : List Effect) → StandsFor es now → StandsFor (step now.displays call answer es) (seen new)
-stands_then call answer old new now is goes es s =
-    subst (λ d. StandsFor (step d.displays call answer es) (seen new)) is
-    (bare (step old.routing.displays call answer es) new (goes.after es (raw es old (subst (StandsFor es) (sym is) s))))
+-- no display changes
+pub answered_displays : {A E : Type 0} (call : Call) (r : Result A E) (old new : Tables)
+    → OnOk r (GoesOnSomehow call old new) → OnErr r (SameAll old new) → (seen new).displays ≡ (seen old).displays
+answered_displays call (Ok a) old new ok err = ok.displays_are
+answered_displays call (Err e) old new ok err = ap (λ d. d.displays) (seen_same old new err)
 
--- the same of a result
-pub stands_after : {E : Type 0} (call : Call) (r : Result Reply E) (old new : Tables) (now : Dispatching) → seen old ≡ now
-    → IfOk r (λ answer. GoesOn call answer old new) → (es : List Effect) → StandsFor es now
-    → IfOk r (λ answer. StandsFor (step now.displays call answer es) (seen new))
-stands_after call (Err e) old new now is ok es s = tt
-stands_after call (Ok answer) old new now is ok es s = stands_then call answer old new now is ok es s
-
--- the same where the answer is not read
+-- whatever it was after, it is after that with one step more
 pub stands_somehow : {A E : Type 0} (call : Call) (r : Result A E) (old new : Tables) (now : Dispatching) → seen old ≡ now
-    → OnOk r (GoesOnSomehow call old new) → (es : List Effect) → StandsFor es now
-    → OnOk r ((answer : Reply) × StandsFor (step now.displays call answer es) (seen new))
+    → OnOk r (GoesOnSomehow call old new) → (es : List Effect) → IsAfter es now
+    → OnOk r ((answer : Reply) × IsAfter (step now.displays call answer es) (seen new))
 stands_somehow call (Err e) old new now is ok es s = tt
-stands_somehow call (Ok a) old new now is ok es s = (ok.0, stands_then call ok.0 old new now is ok.1 es s)
+stands_somehow call (Ok a) old new now is ok es s =
+    let on = ok.after es (raw es old (subst (IsAfter es) (sym is) s)) in
+    (on.0, subst (λ d. IsAfter (step d.displays call on.0 es) (seen new)) is (bare (step old.routing.displays call on.0 es) new on.1))
+
+-- of what stands for a history no message was let go that is to be handed out
+pub may_hand : (es : List Effect) (t : Tables) (call : Call) → StandsFor es (seen t) → MayHand es (kept t.queueing t.routing) call
+may_hand es t (Receive c) s = λ lives.
+    let number = live_number t.routing.displays es c s.lawful lives in
+    subst (λ n. n ≤ received (past_of es) c) (ap (λ x. x.gone) (channel_bare t.routing.channels c)) ((s.may_go c number.0).of_live lives)
+may_hand es t (Open limit) s = tt
+may_hand es t (Windows now shown) s = tt
+may_hand es t (FocusOn now display channel) s = tt
+may_hand es t (Notify now args) s = tt
+may_hand es t (Pump now) s = tt
+may_hand es t (Tick now) s = tt
+may_hand es t (Finish now c seq) s = tt
+may_hand es t (Pilfer now c d) s = tt
+may_hand es t (Remove now c) s = tt
+
+-- with the answer, where it stood for a history
+pub answered_after : {E : Type 0} (call : Call) (r : Result Reply E) (old new : Tables) (now : Dispatching) → seen old ≡ now
+    → IfOk r (λ answer. Answers call answer old new) → (es : List Effect) → StandsFor es now
+    → IfOk r (λ answer. IsAfter (step now.displays call answer es) (seen new))
+answered_after call (Err e) old new now is ok es s = tt
+answered_after call (Ok answer) old new now is ok es s =
+    let stands : StandsFor es (seen old) = subst (StandsFor es) (sym is) s in
+    subst (λ d. IsAfter (step d.displays call answer es) (seen new)) is
+    (bare (step old.routing.displays call answer es) new
+    (ok.after es (raw es old (after_of es (seen old) stands)) (may_hand es old call stands)))
 
 -- only args that are handed in take of the room for args
 pub room_left : {A E : Type 0} (call : Call) (r : Result A E) (old new : Tables) (now : Dispatching) → seen old ≡ now
     → OnOk r (GoesOnSomehow call old new) → OnErr r (SameAll old new) → now.queue.spare ≤ (seen new).queue.spare + args_in call
-room_left call (Ok a) old new now is ok err = subst (λ d. d.queue.spare ≤ new.queueing.spare + args_in call) is ok.1.room_is
+room_left call (Ok a) old new now is ok err = subst (λ d. d.queue.spare ≤ new.queueing.spare + args_in call) is ok.room_is
 room_left call (Err e) old new now is ok err =
     omega (arith, ap (λ q. q.spare) err.queueing_is, ap (λ d. d.queue.spare) is)
 
 -- what stands for a history stands for it with more room for args
-pub roomier : (es : List Effect) (d : Dispatching) (n : ℕ) → StandsFor es d → StandsFor es (with_room n d)
+pub roomier : (es : List Effect) (d : Dispatching) (n : ℕ) → IsAfter es d → IsAfter es (with_room n d)
 roomier es d n s =
     let q = s.knows.queue in
     record {
@@ -110,13 +136,13 @@ roomier es d n s =
 
 -- whether there was memory for it or not
 pub roomier_or_not : {A E : Type 0} (r : Result A E) (old new : Dispatching) (n : ℕ) → OnOk r (new ≡ with_room n old) → OnErr r (new ≡ old)
-    → (es : List Effect) → StandsFor es old → StandsFor es new
-roomier_or_not (Ok a) old new n ok err es s = subst (StandsFor es) (sym ok) (roomier es old n s)
-roomier_or_not (Err e) old new n ok err es s = subst (StandsFor es) (sym err) s
+    → (es : List Effect) → IsAfter es old → IsAfter es new
+roomier_or_not (Ok a) old new n ok err es s = subst (IsAfter es) (sym ok) (roomier es old n s)
+roomier_or_not (Err e) old new n ok err es s = subst (IsAfter es) (sym err) s
 
 -- where room was reserved, or was not to be had
 pub reserved_stands : {A E : Type 0} (r : Result A E) (old new : Tables) (n : ℕ) → OnOk r (new.queueing ≡ queue_with_room n old.queueing)
-    → OnErr r (new.queueing ≡ old.queueing) → SameButRoom old.routing new.routing → (es : List Effect) → StandsFor es (seen old) → StandsFor es (seen new)
+    → OnErr r (new.queueing ≡ old.queueing) → SameButRoom old.routing new.routing → (es : List Effect) → IsAfter es (seen old) → IsAfter es (seen new)
 reserved_stands (Ok a) old new n ok err same es s =
     let is : seen new ≡ with_room n (seen old) =
     λ i.
@@ -129,11 +155,11 @@ reserved_stands (Ok a) old new n ok err same es s =
       focus = (same.0 i).focus;
       repeat = (same.0 i).repeat;
     } in
-    subst (StandsFor es) (sym is) (roomier es (seen old) n s)
-reserved_stands (Err e) old new n ok err same es s = subst (StandsFor es) (sym (seen_same old new (record { queueing_is = err; routing_is = same }))) s
+    subst (IsAfter es) (sym is) (roomier es (seen old) n s)
+reserved_stands (Err e) old new n ok err same es s = subst (IsAfter es) (sym (seen_same old new (record { queueing_is = err; routing_is = same }))) s
 
 -- the same of room for args
-pub args_roomier : (es : List Effect) (d : Dispatching) (n : ℕ) → StandsFor es d → StandsFor es (with_args_room n d)
+pub args_roomier : (es : List Effect) (d : Dispatching) (n : ℕ) → IsAfter es d → IsAfter es (with_args_room n d)
 args_roomier es d n s =
     let q = s.knows.queue in
     record {
@@ -151,10 +177,10 @@ args_roomier es d n s =
     }
 
 pub args_stand : {A E : Type 0} (r : Result A E) (old : Tables) (later : Queue) (n : ℕ) → OnOk r (later ≡ queue_with_args_room n old.queueing)
-    → OnErr r (later ≡ old.queueing) → (es : List Effect) → StandsFor es (seen old) → StandsFor es (seen (record old { queueing = later }))
+    → OnErr r (later ≡ old.queueing) → (es : List Effect) → IsAfter es (seen old) → IsAfter es (seen (record old { queueing = later }))
 args_stand (Ok a) old later n ok err es s =
-    subst (λ q. StandsFor es (seen (record old { queueing = q }))) (sym ok) (args_roomier es (seen old) n s)
-args_stand (Err e) old later n ok err es s = subst (λ q. StandsFor es (seen (record old { queueing = q }))) (sym err) s
+    subst (λ q. IsAfter es (seen (record old { queueing = q }))) (sym ok) (args_roomier es (seen old) n s)
+args_stand (Err e) old later n ok err es s = subst (λ q. IsAfter es (seen (record old { queueing = q }))) (sym err) s
 
 -- and the room for pumps stays
 pub args_promise : {A E : Type 0} (r : Result A E) (old : Tables) (later : Queue) (n : ℕ) → OnOk r (later ≡ queue_with_args_room n old.queueing)

@@ -1,13 +1,16 @@
 -- Brief answers, made replies or dropped.
-use Rattle.std.proofs.Common.{◌≡◌, Result, Ok, Err, OnOk, OnErr, IfOk, IsOk, refl, sym, subst}
+use Rattle.std.proofs.Common.{◌≡◌, ℕ, true, Result, Ok, Err, OnOk, OnErr, IfOk, IsOk, refl, sym, subst}
 use Rattle.std.specs.Prelude.{is_ok}
 use Rattle.std.specs.declared.alloc.AllocError.{AllocError}
 use Rattle.std.proofs.lemmas.Bool.{true≢false}
+use Rattle.input_types.specs.declared.message.Args.{Args}
 use Rattle.dispatch_calls.specs.declared.call.Call.{Call}
+use Rattle.dispatch_calls.specs.declared.call.Call.TheVariants.{Notify, Pump}
 use Rattle.dispatch_calls.specs.declared.reply.Reply.{Reply}
 use Rattle.dispatcher.specs.declared.brief.Brief.{Brief}
 use Rattle.dispatcher.specs.declared.tables.Tables.{Tables}
 use Rattle.dispatcher.specs.Briefs.{reply_of, told_of}
+use Rattle.dispatcher.specs.Queueing.{is_input}
 use Rattle.dispatcher.specs.Tables.{GoesOn}
 
 -- what holds of an answer holds of the reply
@@ -40,3 +43,9 @@ pub told_as : (call same : Call) (answer reply : Reply) (old new : Tables) → c
     → GoesOn call reply old new
 told_as call same answer reply old new is told goes =
     subst (λ k. GoesOn k reply old new) (sym is) (subst (λ a. GoesOn same a old new) (sym told) goes)
+
+-- a call that hands in no args and dispatches none is no input
+pub no_input : (call : Call) → ((now : ℕ) (args : Args) → call ≡ Notify now args → ⊥) → ((now : ℕ) → call ≡ Pump now → ⊥) → is_input call ≡ true → ⊥
+no_input (Notify now args) notified pumped e = notified now args refl
+no_input (Pump now) notified pumped e = pumped now refl
+no_input call notified pumped e = true≢false (sym e)

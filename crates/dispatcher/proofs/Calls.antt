@@ -117,7 +117,7 @@ pumped es now a queue later place clock old first at clk stands goes =
       stands = stands;
       goes = goes;
       reply_is =
-          dispatches queue.waiting a (due_of old.repeat) (max now queue.clock) first ∙ sym (reply_law old.displays es (kept queue old) (Pump now) stands tt);
+          dispatches queue.waiting a (due_of old.repeat) (max now queue.clock) first ∙ sym (reply_law old.displays es (kept queue old) (Pump now) stands tt tt);
       rises = tt;
       telling = refl;
     }

@@ -1,6 +1,6 @@
 -- No message is let go, and no naming.
-use Rattle.std.proofs.Common.{◌≡◌, ◌-◌, ℕ, zero, suc, List, [], ◌∷◌, ◌++◌, get_or, set, Result, Ok, Err, OnOk, OnErr, refl, sym, ap, ◌∙◌}
-use Rattle.input_channel.specs.State.{ChannelState, opened_with, received_one}
+use Rattle.std.proofs.Common.{◌≡◌, ◌-◌, ℕ, zero, suc, nat_lt, Bool, true, false, cond, List, [], ◌∷◌, ◌++◌, get_or, set, Result, Ok, Err, OnOk, OnErr, refl, sym, ap, ◌∙◌}
+use Rattle.input_channel.specs.State.{ChannelState, opened_with, received_one, passed}
 use Rattle.dispatch_calls.specs.declared.call.Call.{Call}
 use Rattle.dispatch_channels.specs.Table.{Table, channel_of, with_channel, but_for_room}
 use Rattle.dispatch_channels.specs.Changes.{Opens, new_channel, finished_at, finished_in, named_in}
@@ -32,11 +32,17 @@ set_gone (x ∷ xs) zero (suc j) s d h = refl
 set_gone (x ∷ xs) (suc i) zero s d h = refl
 set_gone (x ∷ xs) (suc i) (suc j) s d h = set_gone xs i j s d h
 
-pub received_gone : (t u : Table) (k : ℕ) → u ≡ with_channel k (received_one (channel_of t k)) t → LetsNoneGo t u
-received_gone t u k is =
+passed_keeps : (b : Bool) (s : ChannelState) → (cond b (received_one s) s).gone ≡ s.gone
+passed_keeps true s = refl
+passed_keeps false s = refl
+
+pub passed_gone : (t u : Table) (k : ℕ) → u ≡ with_channel k (passed (channel_of t k)) t → LetsNoneGo t u
+passed_gone t u k is =
+    let s = channel_of t k in
     record {
       of_channels = λ c low.
-          ap (λ x. (channel_of x c).gone) is ∙ set_gone t.channels (k - 1) (c - 1) (received_one (channel_of t k)) (opened_with 0) refl;
+          ap (λ x. (channel_of x c).gone) is
+          ∙ set_gone t.channels (k - 1) (c - 1) (passed s) (opened_with 0) (passed_keeps (nat_lt s.received s.published) s);
       of_namings = ap (λ x. x.namings.gone) is;
     }
 
@@ -80,9 +86,9 @@ answered_gone call (Ok a) old new ok err =
     record {
       of_channels = λ c low.
           ap (λ s. s.gone) (channel_bare new.routing.channels c)
-          ∙ ok.1.gone_are.of_channels c low
+          ∙ ok.gone_are.of_channels c low
           ∙ sym (ap (λ s. s.gone) (channel_bare old.routing.channels c));
-      of_namings = ok.1.gone_are.of_namings;
+      of_namings = ok.gone_are.of_namings;
     }
 answered_gone call (Err e) old new ok err =
     record { of_channels = λ c low. ap (λ r. (channel_of r.channels c).gone) err.routing_is.0; of_namings = ap (λ r. r.channels.namings.gone) err.routing_is.0 }

@@ -175,7 +175,7 @@ idle_reply es now queue clock old b none clk stands due =
     ap (λ x. cond x Repeated Idle) (sym due)
     ∙ ap (λ n. cond (is_due (due_of old.repeat) n) Repeated Idle) (sym clk)
     ∙ sym (waits_none queue.waiting (due_of old.repeat) (max now queue.clock) none)
-    ∙ sym (reply_law old.displays es (kept queue old) (Pump now) stands tt)
+    ∙ sym (reply_law old.displays es (kept queue old) (Pump now) stands tt tt)
 
 -- no repeat is due
 pub idle_pump : (place clock : ℕ) (old : Routing) → is_due (due_of old.repeat) clock ≡ false → Pumps None Idle place clock old old

@@ -1,16 +1,17 @@
 -- Messages and namings that are let go.
-use Rattle.std.proofs.Common.{◌≡◌, ◌≤◌, ◌-◌, ◌==◌, nat_le, ℕ, max, true, false, List, length, refl, sym, ap, ◌∙◌, arith}
+use Rattle.std.proofs.Common.{◌≡◌, ◌≤◌, ◌-◌, ◌==◌, nat_le, ℕ, max, true, false, List, length, refl, sym, ap, ◌∙◌, subst, arith}
 use Rattle.std.proofs.lemmas.List.{get_or-set_same, get_or-set_other}
 use Rattle.std.proofs.lemmas.Bool.{true≢false, eq-eqb, and_parts, leb-true}
 use Rattle.window_snapshot.specs.Mask.{mask_has}
-use Rattle.input_channel.specs.State.{ChannelState, opened_with, let_go_of, all_let_go}
+use Rattle.input_channel.specs.State.{ChannelState, opened_with, let_go_of, each_let_go, all_let_go}
 use Rattle.dispatch_channels.specs.Table.{Table, opened, channel_of, input_of, with_channel, but_for_room}
 use Rattle.dispatch_history.specs.Effect.{Effect, past_of, stream}
 use Rattle.dispatch_history.specs.Due.{namings}
+use Rattle.dispatch_history.specs.History as history
 use Rattle.dispatch_history.specs.History.{live, received}
-use Rattle.dispatch_tables.specs.Channel.{MayGo, Keeps}
+use Rattle.dispatch_tables.specs.Channel.{MayGo, Holds}
 use Rattle.dispatch_tables.specs.Delivery.{noted_gone}
-use Rattle.dispatch_tables.proofs.Keeping.{kept_less, kept_facts}
+use Rattle.dispatch_tables.proofs.Keeping.{held_less, kept_facts}
 use Rattle.dispatcher.proofs.RoomLaws.{let_go_law, namings_go_law}
 use Rattle.dispatcher.specs.Access.{is_opened, gone}
 use Rattle.dispatcher.specs.Dispatching.{Dispatching, StandsFor}
@@ -21,7 +22,7 @@ use Rattle.dispatcher.proofs.Rooms.{channel_bare}
 
 -- the tables stand for what they stood for, where a channel keeps what it kept but for messages that may be let go
 lets_go : (es : List Effect) (old : Tables) (u : Table) (c : ℕ) (s : ChannelState) → TablesStandFor es old → 1 ≤ c → c ≤ opened old.routing.channels
-    → Keeps es c s → u ≡ with_channel c s old.routing.channels
+    → Holds es c s → u ≡ with_channel c s old.routing.channels
     → TablesStandFor es (record old { routing = record old.routing { channels = u } })
 lets_go es old u c s stands low high keeps is =
     let r = old.routing in
@@ -42,19 +43,24 @@ pub let_go_stands : (es : List Effect) (old : Tables) (u : Table) (c : ℕ) → 
     → TablesStandFor es (record old { routing = record old.routing { channels = u } })
 let_go_stands es old u c stands low high is =
     lets_go es old u c (let_go_of (channel_of old.routing.channels c)) stands low high
-    (kept_less old.routing.displays es c (channel_of old.routing.channels c) stands.lawful (stands.knows.delivery.keeps c low high)).0
+    (held_less old.routing.displays es c (channel_of old.routing.channels c) stands.lawful (stands.knows.delivery.keeps c low high)).0
     is
 
--- all, where the channel is not live
+-- all, with the room for more, and without it
+pub each_go_stands : (es : List Effect) (old : Tables) (u : Table) (c : ℕ) → TablesStandFor es old → 1 ≤ c → c ≤ opened old.routing.channels
+    → u ≡ with_channel c (each_let_go (channel_of old.routing.channels c)) old.routing.channels
+    → TablesStandFor es (record old { routing = record old.routing { channels = u } })
+each_go_stands es old u c stands low high is =
+    lets_go es old u c (each_let_go (channel_of old.routing.channels c)) stands low high
+    (held_less old.routing.displays es c (channel_of old.routing.channels c) stands.lawful (stands.knows.delivery.keeps c low high)).2
+    is
+
 pub all_go_stands : (es : List Effect) (old : Tables) (u : Table) (c : ℕ) → TablesStandFor es old → 1 ≤ c → c ≤ opened old.routing.channels
-    → mask_has old.routing.channels.live c ≡ false
     → u ≡ with_channel c (all_let_go (channel_of old.routing.channels c)) old.routing.channels
     → TablesStandFor es (record old { routing = record old.routing { channels = u } })
-all_go_stands es old u c stands low high dead is =
-    let delivery = stands.knows.delivery in
+all_go_stands es old u c stands low high is =
     lets_go es old u c (all_let_go (channel_of old.routing.channels c)) stands low high
-    ((kept_less old.routing.displays es c (channel_of old.routing.channels c) stands.lawful (delivery.keeps c low high)).2
-    (sym (ap (λ f. f c) delivery.live_is) ∙ dead))
+    (held_less old.routing.displays es c (channel_of old.routing.channels c) stands.lawful (stands.knows.delivery.keeps c low high)).3
     is
 
 -- how many are gone
@@ -71,20 +77,19 @@ pub received_gone : (es : List Effect) (old : Tables) (u : Table) (c : ℕ) → 
     → (channel_of (but_for_room u) c).gone ≡ max (channel_of (but_for_room old.routing.channels) c).gone (received (past_of es) c)
 received_gone es old u c stands low high is =
     let t = old.routing.channels in
-    let keeps : Keeps es c (channel_of t c) = stands.knows.delivery.keeps c low high in
+    let keeps : Holds es c (channel_of t c) = stands.knows.delivery.keeps c low high in
     gone_there t u c (let_go_of (channel_of t c)) is low high
     ∙ ap (λ n. max (channel_of t c).gone n) (ap (λ x. x.received) keeps.is)
     ∙ ap (λ n. max n (received (past_of es) c)) (sym (ap (λ x. x.gone) (channel_bare t c)))
 
 -- of a live channel only those that were received were let go
 pub live_gone : (es : List Effect) (old : Tables) (u : Table) (c : ℕ) → TablesStandFor es old → 1 ≤ c → c ≤ opened old.routing.channels
-    → live (past_of es) c ≡ true
+    → (channel_of old.routing.channels c).gone ≤ received (past_of es) c
     → u ≡ with_channel c (let_go_of (channel_of old.routing.channels c)) old.routing.channels
     → (channel_of (but_for_room u) c).gone ≡ received (past_of es) c
-live_gone es old u c stands low high lives is =
+live_gone es old u c stands low high most is =
     let t = old.routing.channels in
-    let keeps : Keeps es c (channel_of t c) = stands.knows.delivery.keeps c low high in
-    let most : (channel_of t c).gone ≤ received (past_of es) c = keeps.may_go.of_live lives in
+    let keeps : Holds es c (channel_of t c) = stands.knows.delivery.keeps c low high in
     gone_there t u c (let_go_of (channel_of t c)) is low high
     ∙ ap (λ n. max (channel_of t c).gone n) (ap (λ x. x.received) keeps.is)
     ∙ omega (arith, most)
@@ -96,6 +101,14 @@ pub stream_gone : (es : List Effect) (old : Tables) (u : Table) (c : ℕ) → Ta
 stream_gone es old u c stands low high is =
     let t = old.routing.channels in
     gone_there t u c (all_let_go (channel_of t c)) is low high
+    ∙ (kept_facts old.routing.displays es c (channel_of t c) stands.lawful (stands.knows.delivery.keeps c low high)).1
+
+pub each_gone : (es : List Effect) (old : Tables) (u : Table) (c : ℕ) → TablesStandFor es old → 1 ≤ c → c ≤ opened old.routing.channels
+    → u ≡ with_channel c (each_let_go (channel_of old.routing.channels c)) old.routing.channels
+    → (channel_of (but_for_room u) c).gone ≡ length (stream es c)
+each_gone es old u c stands low high is =
+    let t = old.routing.channels in
+    gone_there t u c (each_let_go (channel_of t c)) is low high
     ∙ (kept_facts old.routing.displays es c (channel_of t c) stands.lawful (stands.knows.delivery.keeps c low high)).1
 
 -- of no other channel
@@ -133,7 +146,12 @@ namings_go es old u stands is =
 
 -- so many messages of a channel may have been let go
 pub most_gone : (es : List Effect) (d : Dispatching) (c : ℕ) → StandsFor es d → is_opened es c ≡ true → MayGo es c (gone d c)
-most_gone es d c stands there =
-    let both = and_parts (nat_le 1 c) _ there in
-    let count = stands.knows.delivery.count_is in
-    (stands.knows.delivery.keeps c (leb-true 1 c both.0) (omega (arith, count, leb-true c _ both.1))).may_go
+most_gone es d c stands there = stands.may_go c (leb-true 1 c (and_parts (nat_le 1 c) _ there).0)
+
+-- a channel that was opened has one of the numbers up to how many are kept
+pub opened_at : (es : List Effect) (old : Tables) (c : ℕ) → TablesStandFor es old → is_opened es c ≡ true → (1 ≤ c) × (c ≤ opened old.routing.channels)
+opened_at es old c stands there =
+    let at = and_parts (nat_le 1 c) (nat_le c (history.opened (past_of es))) there in (
+      leb-true 1 c at.0,
+      subst (λ n. c ≤ n) (sym stands.knows.delivery.count_is) (leb-true c (history.opened (past_of es)) at.1),
+    )

@@ -24,6 +24,7 @@ pub mod ReadLaws
 pub mod Removing
 pub mod OpenFocus
 pub mod Examples
+pub mod Standing
 pub mod Staying
 pub mod Showing
 pub mod Rooms

@@ -7,7 +7,7 @@ use Rattle.dispatch_calls.specs.declared.call.Call.TheVariants.{Open}
 use Rattle.dispatch_calls.specs.declared.reply.Reply.TheVariants.{Opened}
 use Rattle.dispatch_history.specs.History.{live}
 use Rattle.dispatch_history.specs.Effect.{Effect, past_of}
-use Rattle.dispatch_tables.specs.Channel.{Opens, Untouched, Keeps, part_of, with_part}
+use Rattle.dispatch_tables.specs.Channel.{Opens, Untouched, Holds, part_of, with_part}
 use Rattle.dispatch_tables.specs.Delivery.{DeliveryIs}
 use Rattle.dispatch_tables.proofs.Ables.{live_number}
 use Rattle.dispatch_tables.proofs.Keeping.{kept_unopened}
@@ -71,7 +71,7 @@ open_law ds limit number es k later r t p u changed stands e f reply o goes is t
         le_but c number m next ne le = omega (arith, next, ne, le)
 
     by_number : (c : ℕ) (b : Bool) → (c == number) ≡ b → (c == number || live (past_of es) c) ≡ true
-        → (s : ChannelState) × Keeps es c s × (channel_of p c ≡ with_part (part_of (Open limit) (Opened number) c) s)
+        → (s : ChannelState) × Holds es c s × (channel_of p c ≡ with_part (part_of (Open limit) (Opened number) c) s)
     by_number c true q y =
         let same : c ≡ number = eqb-true c number q in
         let was : DeliveryIs es (delivery_of t) = subst (DeliveryIs es) e stands.knows.delivery in

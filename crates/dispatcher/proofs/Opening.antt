@@ -188,7 +188,7 @@ opens_goes limit number place clock old new p h w =
             repeats = w.carries.repeat_is;
           } in
           open_law old.displays limit number es k (kept later new) r old.channels p new.channels w.carries.channels.changed stands refl refl
-          (reply_open (opened old.channels) number h.few h.number_is ∙ sym (reply_law old.displays es k (Open limit) stands tt))
+          (reply_open (opened old.channels) number h.few h.number_is ∙ sym (reply_law old.displays es k (Open limit) stands tt tt))
           (opens_law limit number old.channels p h)
           (still_round (Open limit) (Opened number) queue later place clock old new r Rests None [] 0 (bit_and w.gained (mask_with 0 number)) p.live is)
           (still_step old.displays (Open limit) (Opened number) es old r Rests None (target_number old.focus) [] 0 (bit_and w.gained (mask_with 0 number)) w.is
@@ -214,7 +214,7 @@ pub opens_none : (limit place clock : ℕ) (old : Routing) → opened old.channe
 opens_none limit place clock old full =
     rests_at (λ now. Open limit) Full place clock old (λ now. refl) (λ now. tt)
     (λ es now queue clk stands.
-    sym (reply_law old.displays es (kept queue old) (Open limit) stands tt ∙ ap open_reply full))
+    sym (reply_law old.displays es (kept queue old) (Open limit) stands tt tt ∙ ap open_reply full))
 
 -- the window of a new channel is welcome by a round that is carried out
 pub welcomes_by : (number place clock : ℕ) (old new : Routing) (r : Round) (gained : ℕ) (g : FocusState)

@@ -39,7 +39,7 @@ replies old c d now lives spy holds es queue l s h stands =
     let is = list_any (λ v. v.channel == c && is_spy v) old.shown.windows in
     let any = any_at old.touches c d in
     sym
-    (reply_law old.displays es (kept queue old) (Pilfer now c d) stands tt
+    (reply_law old.displays es (kept queue old) (Pilfer now c d) stands tt tt
     ∙ ap (λ b. answer_by b is any) l
     ∙ ap (λ b. answer_by lives b any) s
     ∙ ap (λ b. answer_by lives spy b) h)

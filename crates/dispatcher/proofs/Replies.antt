@@ -9,7 +9,7 @@ use Rattle.input_channel.specs.State.{next_of, may_finish}
 use Rattle.key_repeat.specs.Due.{due_of}
 use Rattle.dispatch_calls.specs.declared.call.Call.TheVariants.{Open, Windows, FocusOn, Notify, Pump, Tick, Receive, Finish, Pilfer, Remove}
 use Rattle.dispatch_calls.specs.declared.reply.Reply.TheVariants.{Done, Named, Gone, UnknownSeq, NotSpy, NothingHeld}
-use Rattle.dispatch_history.specs.History.{clock, live, opened, snapshot}
+use Rattle.dispatch_history.specs.History.{clock, live, opened, received, snapshot}
 use Rattle.dispatch_history.specs.Queue.{accepted}
 use Rattle.dispatch_history.specs.Effect.{Effect, past_of}
 use Rattle.dispatch_history.specs.Effects.{channels}
@@ -17,7 +17,7 @@ use Rattle.dispatch_history.specs.KeyTold.{repeat_due}
 use Rattle.dispatch_history.specs.Due.{mask_of}
 use Rattle.dispatch_history.specs.Reply.{open_reply, notify_reply, pump_reply, got_reply, receive_reply, finish_reply, is_due}
 use Rattle.dispatch_tables.specs.Lawful.{Lawful}
-use Rattle.dispatch_tables.specs.Channel.{Keeps}
+use Rattle.dispatch_tables.specs.Channel.{Holds}
 use Rattle.dispatch_tables.specs.Dues.{due_moment}
 use Rattle.dispatch_tables.specs.Delivery.{Delivery, DeliveryIs, due_kept}
 use Rattle.dispatch_tables.proofs.Ables.{live_number}
@@ -32,7 +32,7 @@ use Rattle.dispatcher.specs.Laws.{ReplyLaw, TickReplyLaw}
 
 -- a live channel is kept
 pub kept_live : (ds : List ℕ) (es : List Effect) (d : Delivery) (c : ℕ) → Lawful ds es → DeliveryIs es d → live (past_of es) c ≡ true
-    → Keeps es c (d.channel c)
+    → Holds es c (d.channel c)
 kept_live ds es d c l is y =
     let number = live_number ds es c l y in
     is.keeps c number.0 (subst (λ n. c ≤ n) (sym is.count_is) number.1)
@@ -41,11 +41,18 @@ kept_live ds es d c l is y =
 pub live_by : (es : List Effect) (d : Delivery) (c : ℕ) → DeliveryIs es d → mask_has d.live c ≡ live (past_of es) c
 live_by es d c is = ap (λ f. f c) is.live_is
 
+-- the owner of a channel that is not live is handed nothing
+pub gone_reply : (es : List Effect) (c : ℕ) → live (past_of es) c ≡ false → receive_reply es c ≡ Gone
+gone_reply es c dead = rw dead refl
+
 receive_by : (ds : List ℕ) (es : List Effect) (d : Delivery) (c : ℕ) (b : Bool) → Lawful ds es → DeliveryIs es d → live (past_of es) c ≡ b
+    → (live (past_of es) c ≡ true → (d.channel c).gone ≤ received (past_of es) c)
     → receive_reply es c ≡ cond (not b) Gone (got_reply (next_of (d.channel c)))
-receive_by ds es d c true l is e =
-    kept_receive ds es c (d.channel c) l (kept_live ds es d c l is e) ∙ ap (λ b. cond (not b) Gone (got_reply (next_of (d.channel c)))) e
-receive_by ds es d c false l is e = rw e refl
+receive_by ds es d c true l is e may =
+    let h = kept_live ds es d c l is e in
+    kept_receive ds es c (d.channel c) l (record { is = h.is; may_go = record { of_all = h.most; of_live = may } })
+    ∙ ap (λ b. cond (not b) Gone (got_reply (next_of (d.channel c)))) e
+receive_by ds es d c false l is e may = gone_reply es c e
 
 finish_by : (ds : List ℕ) (es : List Effect) (d : Delivery) (c seq : ℕ) (b : Bool) → Lawful ds es → DeliveryIs es d → live (past_of es) c ≡ b
     → finish_reply es c seq ≡ cond (not b) Gone (cond (may_finish seq (d.channel c)) Done UnknownSeq)
@@ -64,30 +71,30 @@ late_is ds es k now s =
     ∙ ap (λ x. late_by k.delivery (max now x)) (sym s.knows.queue.clock_is)
 
 pub reply_law : ReplyLaw
-reply_law ds es k (Open limit) s o = ap open_reply (sym s.knows.delivery.count_is)
-reply_law ds es k (Windows now shown) s o = refl
-reply_law ds es k (FocusOn now display channel) s o = refl
-reply_law ds es k (Notify now a) s o =
+reply_law ds es k (Open limit) s o may = ap open_reply (sym s.knows.delivery.count_is)
+reply_law ds es k (Windows now shown) s o may = refl
+reply_law ds es k (FocusOn now display channel) s o may = refl
+reply_law ds es k (Notify now a) s o may =
     ap (λ x. notify_reply x a) (says_down (accepted (past_of es)) k.queue.down (device_of a) s.knows.queue.down_is o.0 o.1)
-reply_law ds es k (Pump now) s o =
+reply_law ds es k (Pump now) s o may =
     ap (λ ws. pump_reply ws (repeat_due es) (max now (clock (past_of es)))) (sym s.knows.queue.waiting_is)
     ∙ ap (λ due. pump_reply k.queue.waiting due (max now (clock (past_of es)))) (sym (repeat_read ds es k.repeat s.lawful s.knows.keying.repeat_is).0)
     ∙ ap (λ x. pump_reply k.queue.waiting (due_of k.repeat) (max now x)) (sym s.knows.queue.clock_is)
-reply_law ds es k (Tick now) s o = ap (λ cs. Named (mask_of cs)) ((named_law ds es now s.lawful).0 ∙ late_is ds es k now s)
-reply_law ds es k (Receive c) s o =
-    receive_by ds es k.delivery c (live (past_of es) c) s.lawful s.knows.delivery refl
+reply_law ds es k (Tick now) s o may = ap (λ cs. Named (mask_of cs)) ((named_law ds es now s.lawful).0 ∙ late_is ds es k now s)
+reply_law ds es k (Receive c) s o may =
+    receive_by ds es k.delivery c (live (past_of es) c) s.lawful s.knows.delivery refl may
     ∙ ap (λ b. cond (not b) Gone (got_reply (next_of (k.delivery.channel c)))) (sym (live_by es k.delivery c s.knows.delivery))
-reply_law ds es k (Finish now c seq) s o =
+reply_law ds es k (Finish now c seq) s o may =
     finish_by ds es k.delivery c seq (live (past_of es) c) s.lawful s.knows.delivery refl
     ∙ ap (λ b. cond (not b) Gone (cond (may_finish seq (k.delivery.channel c)) Done UnknownSeq)) (sym (live_by es k.delivery c s.knows.delivery))
-reply_law ds es k (Pilfer now c d) s o =
+reply_law ds es k (Pilfer now c d) s o may =
     ap (λ b. cond (not (live (past_of es) c)) Gone (cond (not (list_any (λ v. v.channel == c && is_spy v) (snapshot (past_of es)))) NotSpy (cond b Done NothingHeld)))
     (s.knows.touches.any_are c d)
     ∙ ap (λ ws. cond (not (live (past_of es) c)) Gone (cond (not (list_any (λ v. v.channel == c && is_spy v) ws)) NotSpy (cond (any_at k.touches c d) Done NothingHeld)))
     (sym s.knows.shown.windows_are)
     ∙ ap (λ b. cond (not b) Gone (cond (not (list_any (λ v. v.channel == c && is_spy v) k.shown.windows)) NotSpy (cond (any_at k.touches c d) Done NothingHeld)))
     (sym (live_by es k.delivery c s.knows.delivery))
-reply_law ds es k (Remove now c) s o = ap (λ b. cond b Done Gone) (sym (live_by es k.delivery c s.knows.delivery))
+reply_law ds es k (Remove now c) s o may = ap (λ b. cond b Done Gone) (sym (live_by es k.delivery c s.knows.delivery))
 
 pub tick_reply : TickReplyLaw
 tick_reply ds es k now mask s small has =

@@ -1,19 +1,21 @@
 -- Calls that tell nobody anything.
 use Rattle.std.proofs.Common.{◌≡◌, ◌<◌, ℕ, max, Bool, true, false, not, nat_le, nat_lt, cond, List, slice_get, ◌-◌, Some, None, refl, sym, ap, ◌∙◌, subst, lit<, if◌then◌else◌}
-use Rattle.std.proofs.lemmas.Bool.{and_parts, ltb-true}
+use Rattle.std.proofs.lemmas.List.{set-get_or}
 use Rattle.window_snapshot.specs.Mask.{mask_has}
 use Rattle.input_types.specs.declared.message.Message.{Message}
-use Rattle.input_channel.specs.State.{ChannelState, has_next, next_of, may_finish, received_one}
+use Rattle.input_channel.specs.State.{ChannelState, opened_with, may_finish, received_one, passed}
 use Rattle.dispatch_calls.specs.declared.call.Call.{Call}
 use Rattle.dispatch_calls.specs.declared.call.Call.TheVariants.{Receive, Finish, Remove, Tick}
 use Rattle.dispatch_calls.specs.declared.reply.Reply.{Reply}
 use Rattle.dispatch_calls.specs.declared.reply.Reply.TheVariants.{Got, Empty, Gone, Done, UnknownSeq, Named}
-use Rattle.dispatch_history.specs.Effect.{Effect}
+use Rattle.dispatch_history.specs.Effect.{Effect, past_of}
 use Rattle.dispatch_history.specs.Effects.{step}
-use Rattle.dispatch_history.specs.History.{moment_of}
+use Rattle.dispatch_history.specs.History.{live, moment_of}
 use Rattle.dispatch_history.specs.PointerOf.{RisesIn}
-use Rattle.dispatch_history.specs.Reply.{reply_to, got_reply, is_due}
+use Rattle.dispatch_history.specs.Reply.{reply_to, receive_reply, is_due}
+use Rattle.dispatch_tables.specs.Channel.{Hands}
 use Rattle.dispatch_tables.specs.Silent.{is_resting}
+use Rattle.dispatch_tables.proofs.Keeping.{kept_pass}
 use Rattle.window_snapshot.proofs.Masks.{mask_has-zero}
 use Rattle.focus_resolver.specs.Resolver.{target_of, is_at}
 use Rattle.dispatch_channels.specs.Table.{Table, channel_of, input_of, with_channel, due_moment}
@@ -22,14 +24,14 @@ use Rattle.dispatcher.specs.Queue.{Queue, QueueGoes}
 use Rattle.dispatcher.specs.Knows.{KeptStandsFor}
 use Rattle.dispatcher.specs.Staying.{StaysBut, delivery_of}
 use Rattle.dispatcher.specs.Telling.{Refocuses}
-use Rattle.dispatcher.proofs.Replies.{reply_law, tick_reply}
+use Rattle.dispatcher.proofs.Replies.{reply_law, tick_reply, gone_reply, live_by, kept_live}
 use Rattle.dispatcher.proofs.RestLaws.{rests_law, tick_idle}
 use Rattle.dispatcher.proofs.OwnerLaws.{got_law, done_law}
 use Rattle.dispatcher.proofs.Removing.{remove_law}
 use Rattle.dispatcher.specs.declared.tables.Routing.{Routing}
 use Rattle.dispatcher.specs.Carrying.{TakesMark}
-use Rattle.dispatcher.specs.Tables.{kept, Goes}
-use Rattle.dispatcher.proofs.Gone.{received_gone, finished_gone, none_gone}
+use Rattle.dispatcher.specs.Tables.{kept, Goes, HandsOn}
+use Rattle.dispatcher.proofs.Gone.{passed_gone, finished_gone, none_gone}
 use Rattle.route_split.specs.declared.mark.Mark.TheVariants.{Forget}
 
 -- all but the channels stays, and what their windows were told
@@ -64,58 +66,56 @@ rests_at call answer place clock old rests rises replies =
     }
 
 -- the owner of a channel that is not live
-pub receive_gone : (c place clock : ℕ) (old : Routing) → mask_has old.channels.live c ≡ false
-    → Goes (λ now. Receive c) Gone place clock old old
-receive_gone c place clock old gone =
-    rests_at (λ now. Receive c) Gone place clock old (λ now. refl) (λ now. tt)
-    (λ es now queue clk stands.
-    let k = kept queue old in
-    sym
-    (reply_law old.displays es k (Receive c) stands tt
-    ∙ ap (λ b. if not b then Gone else got_reply (next_of (channel_of old.channels c))) gone))
-
--- that of a channel that has nothing for it
-pub receive_none : (c place clock : ℕ) (old : Routing) → mask_has old.channels.live c ≡ true → next_of (channel_of old.channels c) ≡ None
-    → Goes (λ now. Receive c) Empty place clock old old
-receive_none c place clock old lives none =
-    rests_at (λ now. Receive c) Empty place clock old (λ now. refl) (λ now. tt)
-    (λ es now queue clk stands.
-    let k = kept queue old in
-    sym
-    (reply_law old.displays es k (Receive c) stands tt
-    ∙ ap (λ b. if not b then Gone else got_reply (next_of (channel_of old.channels c))) lives
-    ∙ ap got_reply none))
-
--- that of a channel that has a message for it
-pub receive_one : (c place clock : ℕ) (m : Message) (old : Routing) (u : Table) → mask_has old.channels.live c ≡ true
-    → next_of (channel_of old.channels c) ≡ Some m
-    → u ≡ with_channel c (received_one (channel_of old.channels c)) old.channels
-    → Goes (λ now. Receive c) (Got m) place clock old (record old { channels = u })
-receive_one c place clock m old u lives one is =
+pub hands_gone : (c : ℕ) (old : Routing) → mask_has old.channels.live c ≡ false → HandsOn c old old
+hands_gone c old gone =
     record {
-      after = λ es now queue later at clk stands goes.
-          got_law old.displays c m es (kept queue old) (kept later (record old { channels = u })) old.channels u stands
-          (sym
-          (reply_law old.displays es (kept queue old) (Receive c) stands tt
-          ∙ ap (λ b. if not b then Gone else got_reply (next_of (channel_of old.channels c))) lives
-          ∙ ap got_reply one))
-          (stays_but (Receive c) (Got m) queue later old u goes (ap input_of is))
-          refl
-          refl
-          is;
+      after = λ es answer queue later stands r goes.
+          let dead : live (past_of es) c ≡ false = sym (live_by es (kept queue old).delivery c stands.knows.delivery) ∙ gone in
+          rested (Receive c) answer es queue later old stands goes r tt
+          (subst (λ a. is_resting (Receive c) a ≡ true) (sym (r ∙ gone_reply es c dead)) refl);
       displays_are = refl;
-      gone_are = received_gone old.channels u c is;
+      gone_are = none_gone old.channels;
     }
 
--- the next message is published and not received
-pub next_published : (s : ChannelState) (m : Message) → next_of s ≡ Some m → s.received < s.published
-next_published s m e = by_test (has_next s) refl
+-- that of a live channel has one more, where one is published that it did not receive
+pub hands_live : (c : ℕ) (old : Routing) (u : Table) → mask_has old.channels.live c ≡ true
+    → u ≡ with_channel c (passed (channel_of old.channels c)) old.channels
+    → HandsOn c old (record old { channels = u })
+hands_live c old u lives is =
+    record {
+      after = λ es answer queue later stands r goes.
+          let alive : live (past_of es) c ≡ true = sym (live_by es (kept queue old).delivery c stands.knows.delivery) ∙ lives in
+          by_test es answer queue later stands r goes (nat_lt s.received s.published) refl
+          (kept_pass old.displays es c s stands.lawful (kept_live old.displays es (kept queue old).delivery c stands.lawful stands.knows.delivery alive) alive);
+      displays_are = refl;
+      gone_are = passed_gone old.channels u c is;
+    }
   where
-    by_test : (b : Bool) → has_next s ≡ b → s.received < s.published
-    by_test true h = ltb-true s.received s.published (and_parts (nat_le s.gone s.received) (nat_lt s.received s.published) h).1
-    by_test false h =
-        let none : None ≡ Some m = sym (ap (λ b. cond b (slice_get s.messages (s.received - s.gone)) None) h) ∙ e in
-        absurd (cc none)
+    s : ChannelState
+    s = channel_of old.channels c
+
+    by_test : (es : List Effect) (answer : Reply) (queue later : Queue) → KeptStandsFor old.displays es (kept queue old)
+        → answer ≡ reply_to es (Receive c) → QueueGoes (Receive c) answer queue later
+        → (b : Bool) → nat_lt s.received s.published ≡ b → Hands b (receive_reply es c)
+        → KeptStandsFor old.displays (step old.displays (Receive c) answer es) (kept later (record old { channels = u }))
+    by_test es answer queue later stands r goes true e h =
+        let got : answer ≡ Got h.0 = r ∙ h.1 in
+        let one : u ≡ with_channel c (received_one s) old.channels =
+        is ∙ ap (λ b. with_channel c (cond b (received_one s) s) old.channels) e in
+        subst (λ a. KeptStandsFor old.displays (step old.displays (Receive c) a es) (kept later (record old { channels = u }))) (sym got)
+        (got_law old.displays c h.0 es (kept queue old) (kept later (record old { channels = u })) old.channels u stands (sym h.1)
+        (stays_but (Receive c) (Got h.0) queue later old u (subst (λ a. QueueGoes (Receive c) a queue later) got goes) (ap input_of one))
+        refl
+        refl
+        one)
+    by_test es answer queue later stands r goes false e h =
+        let same : u ≡ old.channels =
+        is
+        ∙ ap (λ b. with_channel c (cond b (received_one s) s) old.channels) e
+        ∙ (λ i. record old.channels { channels = set-get_or old.channels.channels (c - 1) (opened_with 0) i }) in
+        subst (λ x. KeptStandsFor old.displays (step old.displays (Receive c) answer es) (kept later (record old { channels = x }))) (sym same)
+        (rested (Receive c) answer es queue later old stands goes r tt
+        (subst (λ a. is_resting (Receive c) a ≡ true) (sym (r ∙ h)) refl))
 
 -- the owner of a channel that is not live has nothing to finish
 pub finish_gone : (c seq place clock : ℕ) (old : Routing) → mask_has old.channels.live c ≡ false
@@ -124,7 +124,7 @@ finish_gone c seq place clock old gone =
     rests_at (λ now. Finish now c seq) Gone place clock old (λ now. refl) (λ now. tt)
     (λ es now queue clk stands.
     sym
-    (reply_law old.displays es (kept queue old) (Finish now c seq) stands tt
+    (reply_law old.displays es (kept queue old) (Finish now c seq) stands tt tt
     ∙ ap (λ b. if not b then Gone else if may_finish seq (channel_of old.channels c) then Done else UnknownSeq) gone))
 
 -- a message that was not received, or is finished
@@ -134,7 +134,7 @@ finish_none c seq place clock old lives none =
     rests_at (λ now. Finish now c seq) UnknownSeq place clock old (λ now. refl) (λ now. tt)
     (λ es now queue clk stands.
     sym
-    (reply_law old.displays es (kept queue old) (Finish now c seq) stands tt
+    (reply_law old.displays es (kept queue old) (Finish now c seq) stands tt tt
     ∙ ap (λ b. if not b then Gone else if may_finish seq (channel_of old.channels c) then Done else UnknownSeq) lives
     ∙ ap (λ b. if b then Done else UnknownSeq) none))
 
@@ -147,7 +147,7 @@ finish_one c seq place clock old u lives may is =
       after = λ es now queue later at clk stands goes.
           done_law old.displays now c seq es (kept queue old) (kept later (record old { channels = u })) old.channels u stands
           (sym
-          (reply_law old.displays es (kept queue old) (Finish now c seq) stands tt
+          (reply_law old.displays es (kept queue old) (Finish now c seq) stands tt tt
           ∙ ap (λ b. if not b then Gone else if may_finish seq (channel_of old.channels c) then Done else UnknownSeq) lives
           ∙ ap (λ b. if b then Done else UnknownSeq) may))
           (stays_but (Finish now c seq) Done queue later old u goes (ap input_of is))
@@ -164,7 +164,7 @@ pub remove_gone : (c place clock : ℕ) (old : Routing) → mask_has old.channel
 remove_gone c place clock old gone =
     rests_at (λ now. Remove now c) Gone place clock old (λ now. refl) (λ now. tt)
     (λ es now queue clk stands.
-    sym (reply_law old.displays es (kept queue old) (Remove now c) stands tt ∙ ap (λ b. if b then Done else Gone) gone))
+    sym (reply_law old.displays es (kept queue old) (Remove now c) stands tt tt ∙ ap (λ b. if b then Done else Gone) gone))
 
 -- one that is live is removed
 pub removes : (c place clock : ℕ) (old new : Routing) → mask_has old.channels.live c ≡ true
@@ -178,7 +178,7 @@ removes c place clock old new lives touches displays shown channels focus repeat
       after = λ es now queue later at clk stands goes.
           let k = kept queue old in
           remove_law old.displays now c es k (kept later new) old.channels stands refl refl
-          (sym (reply_law old.displays es k (Remove now c) stands tt ∙ ap (λ b. if b then Done else Gone) lives))
+          (sym (reply_law old.displays es k (Remove now c) stands tt tt ∙ ap (λ b. if b then Done else Gone) lives))
           (record {
             queue = goes;
             shown_is = shown;

@@ -8,7 +8,7 @@ use Rattle.cancel_synthesis.specs.Tracked.{Tracked, pointers_in}
 use Rattle.dispatch_history.specs.History.{live}
 use Rattle.dispatch_history.specs.Effect.{Effect, past_of}
 use Rattle.dispatch_history.specs.Due.{namings}
-use Rattle.dispatch_tables.specs.Channel.{Keeps}
+use Rattle.dispatch_tables.specs.Channel.{Holds}
 use Rattle.dispatch_tables.specs.Delivery.{DeliveryIs, NotedIs, noted_gone}
 use Rattle.dispatch_tables.proofs.Noting.{namings_go_law as noted_go}
 use Rattle.dispatch_channels.specs.Table.{Table, opened, channel_of, input_of, untold, with_channel, but_for_room}
@@ -23,8 +23,8 @@ use Rattle.dispatcher.specs.ReadLaws.{SameBut, RoomLaw, LetGoLaw, NamingsGoLaw}
 use Rattle.dispatcher.proofs.Slices.{channel_set, set_as_many, index-map}
 
 -- what is kept of a channel does not depend on its room
-pub keeps_room : (es : List Effect) (c n : ℕ) (s : ChannelState) → Keeps es c s → Keeps es c (record s { spare = n })
-keeps_room es c n s k = record { is = ap {A = ChannelState} (λ t. record t { spare = n }) k.is; may_go = k.may_go }
+pub keeps_room : (es : List Effect) (c n : ℕ) (s : ChannelState) → Holds es c s → Holds es c (record s { spare = n })
+keeps_room es c n s k = record { is = ap {A = ChannelState} (λ t. record t { spare = n }) k.is; most = k.most }
 
 -- a channel, but for its room
 abbrev pub bare_channel : ChannelState → ChannelState
@@ -50,9 +50,9 @@ same_input t u w e =
 same_count : (t u : Table) → but_for_room u ≡ but_for_room t → opened u ≡ opened t
 same_count t u e = sym (length-map u.channels bare_channel) ∙ ap (λ x. length x.channels) e ∙ length-map t.channels bare_channel
 
-keeps_bare : (es : List Effect) (c : ℕ) (s r : ChannelState) → bare_channel r ≡ bare_channel s → Keeps es c s → Keeps es c r
+keeps_bare : (es : List Effect) (c : ℕ) (s r : ChannelState) → bare_channel r ≡ bare_channel s → Holds es c s → Holds es c r
 keeps_bare es c s r e k =
-    subst (Keeps es c) (sym (ap {A = ChannelState} (λ x. record x { spare = r.spare }) e)) (keeps_room es c r.spare s k)
+    subst (Holds es c) (sym (ap {A = ChannelState} (λ x. record x { spare = r.spare }) e)) (keeps_room es c r.spare s k)
 
 delivery_bare : (es : List Effect) (t u : Table) → but_for_room u ≡ but_for_room t → DeliveryIs es (delivery_of t) → DeliveryIs es (delivery_of u)
 delivery_bare es t u e is =
@@ -105,8 +105,8 @@ let_go_law ds es k later t u c gone s same e g h from to keeps becomes =
     let v = with_channel c gone t in
     let set : (b : ℕ) → 1 ≤ b → channel_of v b ≡ cond (b == c) gone (channel_of t b) = λ b low. channel_set t b c gone low from to in
     let own : channel_of v c ≡ gone = set c from ∙ ap (λ b. cond b gone (channel_of t c)) (eq-eqb c c refl) in
-    let each : (b : ℕ) → 1 ≤ b → b ≤ opened v → Keeps es b (channel_of v b) = λ b low high.
-    subst (Keeps es b) (sym (set b low)) (by_number es t c gone b is keeps low (subst (λ n. b ≤ n) (set_as_many t c gone) high) (b == c) refl) in
+    let each : (b : ℕ) → 1 ≤ b → b ≤ opened v → Holds es b (channel_of v b) = λ b low high.
+    subst (Holds es b) (sym (set b low)) (by_number es t c gone b is keeps low (subst (λ n. b ≤ n) (set_as_many t c gone) high) (b == c) refl) in
     let delivery : DeliveryIs es (delivery_of v) =
     record { count_is = set_as_many t c gone ∙ is.count_is; keeps = each; live_is = is.live_is; able_is = is.able_is; noted_is = is.noted_is } in (
       same_knows ds es k later s same (subst (DeliveryIs es) (sym (g ∙ ap delivery_of becomes)) delivery)
@@ -114,9 +114,9 @@ let_go_law ds es k later t u c gone s same e g h from to keeps becomes =
       ap (λ x. (channel_of x c).messages) becomes ∙ ap (λ x. x.messages) own ∙ ap (λ x. x.messages) keeps.is,
     )
   where
-    by_number : (es : List Effect) (t : Table) (c : ℕ) (gone : ChannelState) (b : ℕ) → DeliveryIs es (delivery_of t) → Keeps es c gone → 1 ≤ b → b ≤ opened t
-        → (x : Bool) → (b == c) ≡ x → Keeps es b (cond x gone (channel_of t b))
-    by_number es t c gone b is keeps low high true q = subst (λ v. Keeps es v gone) (sym (eqb-true b c q)) keeps
+    by_number : (es : List Effect) (t : Table) (c : ℕ) (gone : ChannelState) (b : ℕ) → DeliveryIs es (delivery_of t) → Holds es c gone → 1 ≤ b → b ≤ opened t
+        → (x : Bool) → (b == c) ≡ x → Holds es b (cond x gone (channel_of t b))
+    by_number es t c gone b is keeps low high true q = subst (λ v. Holds es v gone) (sym (eqb-true b c q)) keeps
     by_number es t c gone b is keeps low high false q = is.keeps b low high
 
 pub namings_go_law : NamingsGoLaw

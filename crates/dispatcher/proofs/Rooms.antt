@@ -7,7 +7,7 @@ use Rattle.key_repeat.specs.Due.{Sent}
 use Rattle.input_channel.specs.State.{ChannelState, opened_with}
 use Rattle.cancel_synthesis.specs.Tracked.{Tracked}
 use Rattle.dispatch_history.specs.Effect.{Effect}
-use Rattle.dispatch_tables.specs.Channel.{Keeps}
+use Rattle.dispatch_tables.specs.Channel.{Holds}
 use Rattle.dispatch_tables.specs.Delivery.{DeliveryIs}
 use Rattle.dispatch_channels.specs.Table.{Table, opened, channel_of, input_of, untold, but_for_room}
 use Rattle.dispatcher.specs.Queue.{Queue}
@@ -39,18 +39,18 @@ input_bare t w = map_or bare_input t.inputs (w - 1) untold untold refl
 pub opened_bare : (t : Table) → opened (but_for_room t) ≡ opened t
 opened_bare t = length-map t.channels bare
 
-keeps_raw : (es : List Effect) (c : ℕ) (s : ChannelState) → Keeps es c (bare s) → Keeps es c s
-keeps_raw es c s h = record { is = ap (λ x. let y : ChannelState = record x { spare = s.spare } in y) h.is; may_go = h.may_go }
+keeps_raw : (es : List Effect) (c : ℕ) (s : ChannelState) → Holds es c (bare s) → Holds es c s
+keeps_raw es c s h = record { is = ap (λ x. let y : ChannelState = record x { spare = s.spare } in y) h.is; most = h.most }
 
-keeps_bare : (es : List Effect) (c : ℕ) (s : ChannelState) → Keeps es c s → Keeps es c (bare s)
-keeps_bare es c s h = record { is = ap bare h.is; may_go = h.may_go }
+keeps_bare : (es : List Effect) (c : ℕ) (s : ChannelState) → Holds es c s → Holds es c (bare s)
+keeps_bare es c s h = record { is = ap bare h.is; most = h.most }
 
 delivery_raw : (es : List Effect) (t : Table) → DeliveryIs es (delivery_of (but_for_room t)) → DeliveryIs es (delivery_of t)
 delivery_raw es t h =
     record {
       count_is = sym (opened_bare t) ∙ h.count_is;
       keeps = λ c low high.
-          keeps_raw es c (channel_of t c) (subst (Keeps es c) (channel_bare t c) (h.keeps c low (subst (λ n. c ≤ n) (sym (opened_bare t)) high)));
+          keeps_raw es c (channel_of t c) (subst (Holds es c) (channel_bare t c) (h.keeps c low (subst (λ n. c ≤ n) (sym (opened_bare t)) high)));
       live_is = h.live_is;
       able_is = h.able_is;
       noted_is = h.noted_is;
@@ -61,7 +61,7 @@ delivery_bare es t h =
     record {
       count_is = opened_bare t ∙ h.count_is;
       keeps = λ c low high.
-          subst (Keeps es c) (sym (channel_bare t c))
+          subst (Holds es c) (sym (channel_bare t c))
           (keeps_bare es c (channel_of t c) (h.keeps c low (subst (λ n. c ≤ n) (opened_bare t) high)));
       live_is = h.live_is;
       able_is = h.able_is;

@@ -1,5 +1,5 @@
 -- All tables go one step on.
-use Rattle.std.proofs.Common.{◌≡◌, ℕ, max, Bool, true, false, cond, List, slice_get, slice_set, Option, Some, None, refl, sym, ap, ◌∙◌, subst, arith}
+use Rattle.std.proofs.Common.{◌≡◌, ℕ, max, Bool, true, false, cond, List, slice_get, slice_set, Option, Some, None, Result, Ok, Err, IfOk, OnOk, refl, sym, ap, ◌∙◌, subst, arith}
 use Rattle.std.proofs.lemmas.Bool.{true≢false}
 use Rattle.window_snapshot.specs.Mask.{mask_has}
 use Rattle.window_snapshot.proofs.Masks.{mask_has-zero}
@@ -15,7 +15,7 @@ use Rattle.dispatch_history.specs.Due.{mask_of}
 use Rattle.dispatch_history.specs.Effect.{Effect, past_of}
 use Rattle.dispatch_history.specs.Effects.{step}
 use Rattle.dispatch_history.specs.History.{moment_of, clock}
-use Rattle.dispatch_history.specs.Reply.{is_due}
+use Rattle.dispatch_history.specs.Reply.{reply_to, is_due}
 use Rattle.dispatch_tables.proofs.Duties.{named_law}
 use Rattle.dispatch_tables.proofs.Going.{delivery_due}
 use Rattle.dispatch_channels.specs.Table.{due_moment}
@@ -26,8 +26,10 @@ use Rattle.dispatcher.specs.declared.tables.Tables.{Tables}
 use Rattle.dispatcher.specs.Memory.{IsCalm}
 use Rattle.dispatcher.specs.Needing.{NeedsNone}
 use Rattle.dispatcher.specs.Queueing.{stepped, dispatched, with_pumps}
-use Rattle.dispatcher.specs.Tables.{kept, Goes, GoesAs, Pumps, GoesOn, is_routed, is_owned}
+use Rattle.dispatcher.specs.Tables.{TablesStandFor, kept, Goes, GoesAs, Pumps, GoesOn, GoesOnSomehow, HandsOn, Answers, is_routed, is_owned}
+use Rattle.dispatcher.specs.Replying.{reply_by}
 use Rattle.dispatcher.proofs.KeySteps.{idle_reply}
+use Rattle.dispatcher.proofs.Replies.{reply_law}
 
 -- a call with its moment
 pub as_at : (call : ℕ → Call) (this : Call) (now : ℕ) (answer : Reply) (place clk : ℕ) (old new : Routing) → this ≡ call now
@@ -155,6 +157,23 @@ needs_none es q r (Pilfer n c d) now clk s m time routed calm = calm
 needs_none es q r (Remove n c) now clk s m time routed calm = tt
 
 -- for how many pumps there is room says nothing of a history
+pumps_free : (es : List Effect) (q : Queue) (r : Routing) (n : ℕ) → KeptStandsFor r.displays es (kept q r) → KeptStandsFor r.displays es (kept (with_pumps n q) r)
+pumps_free es q r n s =
+    let i = s.knows.queue in
+    record {
+      lawful = s.lawful;
+      rise = s.rise;
+      knows =
+          record {
+            queue = record { clock_is = i.clock_is; place_is = i.place_is; waiting_is = i.waiting_is; down_is = i.down_is };
+            shown = s.knows.shown;
+            touches = s.knows.touches;
+            delivery = s.knows.delivery;
+            inputs = s.knows.inputs;
+            keying = s.knows.keying;
+          };
+    }
+
 pub other_pumps : (call : Call) (answer : Reply) (old : Tables) (q : Queue) (r : Routing) (n : ℕ)
     → GoesOn call answer old (record { queueing = q; routing = r }) → GoesOn call answer old (record { queueing = with_pumps n q; routing = r })
 other_pumps call answer old q r n h =
@@ -164,20 +183,59 @@ other_pumps call answer old q r n h =
       gone_are = h.gone_are;
       room_is = h.room_is;
     }
-  where
-    pumps_free : (es : List Effect) (q : Queue) (r : Routing) (n : ℕ) → KeptStandsFor r.displays es (kept q r) → KeptStandsFor r.displays es (kept (with_pumps n q) r)
-    pumps_free es q r n s =
-        let i = s.knows.queue in
-        record {
-          lawful = s.lawful;
-          rise = s.rise;
-          knows =
-              record {
-                queue = record { clock_is = i.clock_is; place_is = i.place_is; waiting_is = i.waiting_is; down_is = i.down_is };
-                shown = s.knows.shown;
-                touches = s.knows.touches;
-                delivery = s.knows.delivery;
-                inputs = s.knows.inputs;
-                keying = s.knows.keying;
-              };
-        }
+
+-- the owner of a channel has its next message, whether it was let go or not
+pub handed_after : (old : Tables) (mid later : Queue) (new : Routing) (c n : ℕ) → n ≡ 0 → mid ≡ stepped n old.queueing → later ≡ with_pumps 0 mid
+    → HandsOn c old.routing new
+    → (es : List Effect) → TablesStandFor es old → (answer : Reply) → answer ≡ reply_to es (Receive c)
+    → TablesStandFor (step old.routing.displays (Receive c) answer es) (record { queueing = later; routing = new })
+handed_after old mid later new c n zero_is mid_is is g es s answer r =
+    let made : later ≡ with_pumps 0 (stepped 0 old.queueing) = is ∙ ap (with_pumps 0) (mid_is ∙ ap (λ m. stepped m old.queueing) zero_is) in
+    subst (λ d. KeptStandsFor d (step old.routing.displays (Receive c) answer es) (kept later new)) (sym g.displays_are)
+    (g.after es answer old.queueing later s r
+    (subst (λ q. QueueGoes (Receive c) answer old.queueing q) (sym made)
+    (record { clock_is = refl; place_is = refl; waiting_is = refl; down_is = refl })))
+
+pub handed_on : (old : Tables) (mid later : Queue) (new : Routing) (c n : ℕ) → n ≡ 0 → mid ≡ stepped n old.queueing → later ≡ with_pumps 0 mid
+    → HandsOn c old.routing new
+    → GoesOnSomehow (Receive c) old (record { queueing = later; routing = new })
+handed_on old mid later new c n zero_is mid_is is g =
+    record {
+      after = λ es s. (reply_to es (Receive c), handed_after old mid later new c n zero_is mid_is is g es s (reply_to es (Receive c)) refl);
+      displays_are = g.displays_are;
+      gone_are = g.gone_are;
+      room_is = omega (arith, ap (λ q. q.spare) is, ap (λ q. q.spare) mid_is);
+    }
+
+-- and with the answer that what is kept gives, where the message was not let go
+pub handed_out : (old : Tables) (mid later : Queue) (new : Routing) (c n : ℕ) (answer : Reply) → n ≡ 0 → mid ≡ stepped n old.queueing
+    → later ≡ with_pumps 0 mid
+    → HandsOn c old.routing new
+    → answer ≡ reply_by (kept old.queueing old.routing) (Receive c)
+    → Answers (Receive c) answer old (record { queueing = later; routing = new })
+handed_out old mid later new c n answer zero_is mid_is is g given =
+    record {
+      somehow = handed_on old mid later new c n zero_is mid_is is g;
+      after = λ es s may.
+          handed_after old mid later new c n zero_is mid_is is g es s answer
+          (given ∙ sym (reply_law old.routing.displays es (kept old.queueing old.routing) (Receive c) s tt may));
+    }
+
+-- whatever the answer is
+pub somehow_on : (call : Call) (answer : Reply) (old new : Tables) → GoesOn call answer old new → GoesOnSomehow call old new
+somehow_on call answer old new g =
+    record { after = λ es s. (answer, g.after es s); displays_are = g.displays_are; gone_are = g.gone_are; room_is = g.room_is }
+
+pub answers_on : (call : Call) (answer : Reply) (old new : Tables) → GoesOn call answer old new → Answers call answer old new
+answers_on call answer old new g = record { somehow = somehow_on call answer old new g; after = λ es s may. g.after es s }
+
+-- the same of results
+pub somehow_if : {A E : Type 0} (call : Call) (r : Result A E) (old new : Tables)
+    → OnOk r ((answer : Reply) × GoesOn call answer old new) → OnOk r (GoesOnSomehow call old new)
+somehow_if call (Ok a) old new h = somehow_on call h.0 old new h.1
+somehow_if call (Err e) old new h = tt
+
+pub answers_if : {E : Type 0} (call : Call) (r : Result Reply E) (old new : Tables)
+    → IfOk r (λ answer. GoesOn call answer old new) → IfOk r (λ answer. Answers call answer old new)
+answers_if call (Ok answer) old new h = answers_on call answer old new h
+answers_if call (Err e) old new h = tt

@@ -14,7 +14,7 @@ use Rattle.dispatch_history.specs.Effects.{step, said_at}
 use Rattle.dispatch_history.specs.PointerOf.{RisesIn}
 use Rattle.dispatch_history.specs.Reply.{reply_to}
 use Rattle.dispatch_tables.specs.Lawful.{Lawful}
-use Rattle.dispatch_tables.specs.Channel.{Untouched, Keeps, part_of, with_part, enqueued_all}
+use Rattle.dispatch_tables.specs.Channel.{Untouched, Holds, part_of, with_part, enqueued_all}
 use Rattle.dispatch_tables.specs.Masks.{live_mask_after, able_mask_after}
 use Rattle.dispatch_tables.specs.Delivery.{DeliveryIs, channel_after, noted_after}
 use Rattle.dispatch_tables.proofs.Lawfuls.{lawful_step}
@@ -46,7 +46,7 @@ pub record Parts (ds : List ℕ) (call : Call) (answer : Reply) (es : List Effec
   pub as_many : opened p ≡ opened_after call answer (opened t)
   pub kept :
       (c : ℕ) → live (past_of (step ds call answer es)) c ≡ true
-      → (s : ChannelState) × Keeps es c s × (channel_of p c ≡ with_part (part_of call answer c) s)
+      → (s : ChannelState) × Holds es c s × (channel_of p c ≡ with_part (part_of call answer c) s)
   pub same :
       (c : ℕ) → new c ≡ false → 1 ≤ c → c ≤ opened p → (channel_of p c ≡ channel_of t c) × (part_of call answer c ≡ Untouched)
   pub fresh :
@@ -126,7 +126,7 @@ tells_goes ds call answer es k later told t p u changed new o x =
 
     -- a channel that is told its bodies, or has a part in the step
     changes : (c : ℕ) → (mask_has changed c || new c) ≡ true → 1 ≤ c → c ≤ opened u
-        → (s : ChannelState) × Keeps es c s × (channel_of u c ≡ channel_after call answer (said_at ds call answer es c) now c s)
+        → (s : ChannelState) × Holds es c s × (channel_of u c ≡ channel_after call answer (said_at ds call answer es c) now c s)
     changes c y from to =
         elim (cases_Bool (mask_has changed c)) [
           | inl m ↦

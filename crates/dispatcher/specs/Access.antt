@@ -1,5 +1,5 @@
 -- What can be read of a dispatcher.
-use Rattle.std.specs.Prelude.{◌≡◌, ◌≤◌, ℕ, Bool, true, false, ◌&&◌, nat_le, List, [], ◌∷◌, drop, reverse, Option, Some, None, if◌then◌else◌}
+use Rattle.std.specs.Prelude.{◌≡◌, ◌≤◌, ℕ, Bool, true, false, ◌&&◌, nat_le, nat_lt, List, [], ◌∷◌, length, drop, reverse, Option, Some, None, if◌then◌else◌}
 use Rattle.input_types.specs.declared.message.Args.{Args}
 use Rattle.input_types.specs.declared.message.Message.{Message}
 use Rattle.cancel_synthesis.specs.Tracked.{Tracked, pointers_of}
@@ -33,6 +33,10 @@ namings_gone d = d.channels.namings.gone
 -- the messages of a channel that was opened, but for those that were let go
 abbrev pub messages_of : List Effect → Dispatching → ℕ → Option (List Message)
 messages_of es d c = if is_opened es c then Some (drop (gone d c) (reverse (stream es c))) else None
+
+-- a channel was opened with this number, and has messages that were not let go
+abbrev pub has_messages : List Effect → Dispatching → ℕ → Bool
+has_messages es d c = is_opened es c && nat_lt (gone d c) (length (stream es c))
 
 -- the message that a reply hands out
 abbrev pub got : Reply → Option Message

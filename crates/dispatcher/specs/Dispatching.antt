@@ -1,15 +1,18 @@
 -- A dispatcher as contracts see it.
-use Rattle.std.specs.Prelude.{ℕ, List, Option}
+use Rattle.std.specs.Prelude.{ℕ, ◌≤◌, List, Option}
 use Rattle.touch_state.specs.Touches.{Touches}
 use Rattle.focus_resolver.specs.Resolver.{FocusState}
 use Rattle.key_repeat.specs.Due.{Sent}
-use Rattle.dispatch_channels.specs.Table.{Table, but_for_room}
-use Rattle.dispatch_history.specs.Effect.{Effect}
+use Rattle.dispatch_channels.specs.Table.{Table, channel_of, but_for_room}
+use Rattle.dispatch_history.specs.Effect.{Effect, past_of}
+use Rattle.dispatch_history.specs.PointerOf.{AllRise}
+use Rattle.dispatch_tables.specs.Channel.{MayGo}
+use Rattle.dispatch_tables.specs.Lawful.{Lawful}
 use Rattle.dispatcher.specs.Queue.{Queue}
 use Rattle.dispatcher.specs.Queueing.{with_room as queue_with_room, with_args_room as queue_with_args_room}
 use Rattle.dispatcher.specs.Shown.{Shown}
 use Rattle.dispatcher.specs.Knows.{Kept}
-use Rattle.dispatcher.specs.Knows.{KeptStandsFor}
+use Rattle.dispatcher.specs.Knows.{Knows, KeptStandsFor}
 use Rattle.dispatcher.specs.Seen.{kept_of}
 
 -- the displays of the devices, and all tables; of the channels but for the room that they have
@@ -47,10 +50,17 @@ with_room n d = record d { queue = queue_with_room n d.queue }
 abbrev pub kept : Dispatching → Kept
 kept d = kept_of d.queue d.shown d.touches d.channels d.focus d.repeat
 
--- it stands for a legal history with these effects
-abbrev pub StandsFor : List Effect → Dispatching → Type 0
-StandsFor es d = KeptStandsFor d.displays es (kept d)
+-- it is as after a legal history with these effects, but for messages that were let go, received or not
+abbrev pub IsAfter : List Effect → Dispatching → Type 0
+IsAfter es d = KeptStandsFor d.displays es (kept d)
 
--- it stands for some history
+-- it stands for a legal history with these effects: the same, and of a live channel only messages that were received were let go
+pub record StandsFor (es : List Effect) (d : Dispatching) : Type 0 where
+  pub lawful : Lawful d.displays es
+  pub rise : AllRise (past_of es)
+  pub knows : Knows d.displays es (kept d)
+  pub may_go : (c : ℕ) → 1 ≤ c → MayGo es c (channel_of d.channels c).gone
+
+-- it is as after some history
 abbrev pub IsOfHistory : Dispatching → Type 0
-IsOfHistory d = (es : List Effect) × StandsFor es d
+IsOfHistory d = (es : List Effect) × IsAfter es d

@@ -32,7 +32,7 @@ use Rattle.dispatcher.specs.Input.{InputIs, InputGoes}
 use Rattle.dispatcher.specs.Knows.{Kept, KeyingIs, KeptStandsFor, Goes}
 use Rattle.dispatcher.specs.Pointing.{TouchesAre, TouchesGo, PointersAre, PointersGo}
 use Rattle.dispatcher.specs.First.{IsFirst}
-use Rattle.dispatcher.specs.Replying.{reply_by, IsOfDevice}
+use Rattle.dispatcher.specs.Replying.{reply_by, IsOfDevice, MayHand}
 use Rattle.dispatcher.specs.Staying.{Stays}
 use Rattle.dispatch_round.specs.Bodies.{TracksAll}
 use Rattle.dispatcher.specs.Tracking.{bodies_at}
@@ -150,7 +150,7 @@ ListedLaw = (displays : List ℕ) (es : List Effect) (d : ℕ) → Lawful displa
 
 -- Each call is answered by what is kept.
 abbrev pub ReplyLaw : Type 0
-ReplyLaw = (displays : List ℕ) (es : List Effect) (k : Kept) (call : Call) → KeptStandsFor displays es k → IsOfDevice call → reply_to es call ≡ reply_by k call
+ReplyLaw = (displays : List ℕ) (es : List Effect) (k : Kept) (call : Call) → KeptStandsFor displays es k → IsOfDevice call → MayHand es k call → reply_to es call ≡ reply_by k call
 
 -- A tick is answered with the mask of the channels that are due at the clock that it makes.
 abbrev pub TickReplyLaw : Type 0

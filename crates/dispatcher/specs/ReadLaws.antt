@@ -19,7 +19,7 @@ use Rattle.dispatch_history.specs.Delivery.{able, delivery, oldest}
 use Rattle.dispatch_history.specs.Due.{counts, first_due, namings}
 use Rattle.dispatch_history.specs.KeyTold.{repeat_due}
 use Rattle.dispatch_history.specs.Step.{marks}
-use Rattle.dispatch_tables.specs.Channel.{Keeps}
+use Rattle.dispatch_tables.specs.Channel.{Holds}
 use Rattle.dispatch_tables.specs.Delivery.{noted_gone}
 use Rattle.dispatch_tables.specs.Dues.{due_moment, due_pair}
 use Rattle.dispatch_channels.specs.Table.{Table, opened, channel_of, input_of, with_channel, but_for_room, due_moment as due_in_table}
@@ -59,7 +59,7 @@ LetGoLaw =
     → later.inputs ≡ k.inputs
     → 1 ≤ c
     → c ≤ opened t
-    → Keeps es c s
+    → Holds es c s
     → u ≡ with_channel c s t
     → KeptStandsFor displays es later × ((channel_of u c).messages ≡ drop s.gone (reverse (stream es c)))
 

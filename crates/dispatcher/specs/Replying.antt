@@ -1,5 +1,5 @@
 -- What each call is answered, by what is kept.
-use Rattle.std.specs.Prelude.{◌≤◌, ℕ, max, not, ◌==◌, ◌&&◌, List, filter, if◌then◌else◌}
+use Rattle.std.specs.Prelude.{◌≡◌, ◌≤◌, ℕ, max, true, not, ◌==◌, ◌&&◌, List, filter, if◌then◌else◌}
 use Rattle.std.specs.List.{list_any}
 use Rattle.input_types.specs.DeviceRule.{device_of}
 use Rattle.window_snapshot.specs.Mask.{mask_has}
@@ -13,6 +13,8 @@ use Rattle.dispatch_calls.specs.declared.call.Call.TheVariants.{Open, Windows, F
 use Rattle.dispatch_calls.specs.declared.reply.Reply.{Reply}
 use Rattle.dispatch_calls.specs.declared.reply.Reply.TheVariants.{Done, Named, Gone, UnknownSeq, NotSpy, NothingHeld}
 use Rattle.dispatch_history.specs.Due.{mask_of}
+use Rattle.dispatch_history.specs.History.{live, received}
+use Rattle.dispatch_history.specs.Effect.{Effect, past_of}
 use Rattle.dispatch_history.specs.Effects.{channels}
 use Rattle.dispatch_history.specs.Reply.{open_reply, notify_reply, pump_reply, got_reply, is_due}
 use Rattle.dispatch_tables.specs.Delivery.{Delivery, due_kept}
@@ -21,6 +23,11 @@ use Rattle.dispatcher.specs.Knows.{Kept}
 -- the channels that are due at a moment, in rising order
 abbrev pub late_by : Delivery → ℕ → List ℕ
 late_by k at = filter (λ c. is_due (due_kept k c) at) (channels k.count)
+
+-- where the owner of a live channel is to be handed its next message, that one was not let go; of any other call nothing is asked
+abbrev pub MayHand : List Effect → Kept → Call → Type 0
+MayHand es k (Receive c) = live (past_of es) c ≡ true → (k.delivery.channel c).gone ≤ received (past_of es) c
+MayHand es k call = Unit {0}
 
 -- the reply to each call
 abbrev pub reply_by : Kept → Call → Reply

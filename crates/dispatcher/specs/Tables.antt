@@ -8,10 +8,12 @@ use Rattle.dispatch_channels.specs.Table.{Table, channel_of, but_for_room, NoLes
 use Rattle.dispatch_history.specs.Effect.{Effect}
 use Rattle.dispatch_history.specs.Effects.{step}
 use Rattle.dispatch_history.specs.History.{moment_of}
+use Rattle.dispatch_history.specs.Reply.{reply_to}
 use Rattle.dispatcher.specs.Knows.{Kept}
 use Rattle.dispatcher.specs.Knows.{KeptStandsFor}
 use Rattle.dispatcher.specs.Queue.{Queue, QueueGoes}
 use Rattle.dispatcher.specs.Queueing.{args_in}
+use Rattle.dispatcher.specs.Replying.{MayHand}
 use Rattle.dispatcher.specs.declared.tables.Routing.{Routing}
 use Rattle.dispatcher.specs.declared.tables.Tables.{Tables}
 use Rattle.dispatcher.specs.Seen.{kept_of}
@@ -60,6 +62,17 @@ pub record Pumps (first : Option Args) (answer : Reply) (place clock : ℕ) (old
   pub displays_are : new.displays ≡ old.displays
   pub gone_are : LetsNoneGo old.channels new.channels
 
+-- The owner of a channel has its next message, where there is one: the tables of routing went one step on with what is to be
+-- answered, whether that message was let go or not.
+pub record HandsOn (channel : ℕ) (old new : Routing) : Type 0 where
+  pub after :
+      (es : List Effect) (answer : Reply) (queue later : Queue)
+      → KeptStandsFor old.displays es (kept queue old) → answer ≡ reply_to es (Receive channel)
+      → QueueGoes (Receive channel) answer queue later
+      → KeptStandsFor old.displays (step old.displays (Receive channel) answer es) (kept later new)
+  pub displays_are : new.displays ≡ old.displays
+  pub gone_are : LetsNoneGo old.channels new.channels
+
 -- They are the same, but for the room that the channels have, and that for keys that are cancelled. There is no less of it.
 abbrev pub SameButRoom : (old new : Routing) → Type 0
 SameButRoom old new =
@@ -94,8 +107,19 @@ pub record GoesOn (call : Call) (answer : Reply) (old new : Tables) : Type 0 whe
   pub room_is : old.queueing.spare ≤ new.queueing.spare + args_in call
 
 -- all tables went one step on with this call, whatever its answer is
-abbrev pub GoesOnSomehow : Call → (old new : Tables) → Type 0
-GoesOnSomehow call old new = (answer : Reply) × GoesOn call answer old new
+pub record GoesOnSomehow (call : Call) (old new : Tables) : Type 0 where
+  pub after :
+      (es : List Effect) → TablesStandFor es old → (answer : Reply) × TablesStandFor (step old.routing.displays call answer es) new
+  pub displays_are : new.routing.displays ≡ old.routing.displays
+  pub gone_are : LetsNoneGo old.routing.channels new.routing.channels
+  pub room_is : old.queueing.spare ≤ new.queueing.spare + args_in call
+
+-- The same, and where no message was let go that is to be handed out, with this answer.
+pub record Answers (call : Call) (answer : Reply) (old new : Tables) : Type 0 where
+  pub somehow : GoesOnSomehow call old new
+  pub after :
+      (es : List Effect) → TablesStandFor es old → MayHand es (kept old.queueing old.routing) call
+      → TablesStandFor (step old.routing.displays call answer es) new
 
 -- all are the same, but for that room
 pub record SameAll (old new : Tables) : Type 0 where

@@ -11,7 +11,7 @@ ghost use Rattle.dispatcher.specs.Memory.{IsCalm, MayCount};
 ghost use Rattle.dispatcher.specs.Needing.{NeedsNone};
 ghost use Rattle.dispatcher.specs.Queueing.{args_in, is_input, is_pump};
 ghost use Rattle.dispatcher.specs.Roomy.{HasPumpRoom, KeepsPromise};
-ghost use Rattle.dispatcher.specs.Tables.{TablesStandFor, MayStep, GoesAs, Pumps, GoesOn, is_routed, is_owned};
+ghost use Rattle.dispatcher.specs.Tables.{TablesStandFor, MayStep, GoesAs, Pumps, GoesOn, Answers, is_routed, is_owned};
 ghost use Rattle.dispatcher.specs.Tables.{SameButRoom, SameAll};
 
 use crate::brief::{Brief, reply_of, told};
@@ -32,7 +32,7 @@ use std::alloc::AllocError;
 #[inline(never)]
 pub(crate) fn apply(tables: &mut Tables, call: &Call) -> Result<Reply, AllocError>
     requires { (es : List Effect) × TablesStandFor es tables.old }
-    ensures ok { IfOk result (λ answer. GoesOn call.now answer tables.old tables.new) }
+    ensures ok { IfOk result (λ answer. Answers call.now answer tables.old tables.new) }
     ensures err { OnErr result (SameAll tables.old tables.new) }
     ensures calm { (es : List Effect) → TablesStandFor es tables.old → MayCount es → IsCalm es call.now → IsOk result }
     ensures reserved { (es : List Effect) → TablesStandFor es tables.old → MayCount es
@@ -183,7 +183,7 @@ fn idle_reply(is_due: bool) -> Brief
 /// The owner of a channel takes its next message. Takes no memory.
 fn receive_next(tables: &mut Tables, channel: u32) -> Reply
     requires { MayStep tables.old }
-    ensures goes { GoesOn (Receive channel) result tables.old tables.new }
+    ensures goes { Answers (Receive channel) result tables.old tables.new }
     ensures promise { KeepsPromise tables.old → KeepsPromise tables.new }
 {
     tables.queueing.step(Moment::zero());

@@ -1,27 +1,27 @@
 //! The dispatcher.
-ghost use Rattle.std.specs.Prelude.{◌≡◌, ◌≤◌, ◌+◌, ◌==◌, ℕ, true, false, [], List, None, drop, is_some, length, max, option_map};
+ghost use Rattle.std.specs.Prelude.{◌≡◌, ◌≤◌, ◌+◌, ℕ, true, false, [], List, None, drop, is_some, option_map};
 ghost use Rattle.std.specs.Prelude.{IfOk, IfSome, OnErr, OnOk, IsOk};
 ghost use Rattle.std.specs.Option.{option_copied};
 ghost use Rattle.dispatch_calls.specs.declared.call.Call.{Call as CallView};
 ghost use Rattle.dispatch_calls.specs.declared.reply.Reply.{Reply as Answer};
 ghost use Rattle.dispatch_history.specs.Due.{counts, first_due, namings};
-ghost use Rattle.dispatch_history.specs.Effect.{Effect, past_of, stream};
+ghost use Rattle.dispatch_history.specs.Effect.{Effect, past_of};
 ghost use Rattle.dispatch_history.specs.Effects.{step};
 ghost use Rattle.dispatch_history.specs.History.{live, opened, received};
-ghost use Rattle.dispatch_history.specs.PointerOf.{RisesIn};
 ghost use Rattle.dispatch_history.specs.Reply.{reply_to};
 ghost use Rattle.dispatch_tables.specs.Channel.{MayGo};
 ghost use Rattle.dispatch_tables.specs.Dues.{due_moment, due_pair};
 ghost use Rattle.dispatcher.specs.ReadLaws.{ReadsTouches};
 ghost use Rattle.window_snapshot.specs.Mask.{is_channel};
-ghost use Rattle.dispatcher.specs.Access.{is_opened, gone, namings_gone, messages_of, got, oldest_delivery};
+ghost use Rattle.dispatcher.specs.Access.{is_opened, gone, namings_gone, messages_of, has_messages, got, oldest_delivery};
 ghost use Rattle.dispatcher.specs.Access.{is_waiting, next_repeat, HoldsInput};
-ghost use Rattle.dispatcher.specs.Dispatching.{StandsFor};
+ghost use Rattle.dispatcher.specs.Dispatching.{IsAfter, StandsFor};
 ghost use Rattle.dispatcher.specs.Memory.{IsCalm, MayCount};
 ghost use Rattle.dispatcher.specs.Queueing.{args_in, is_input, is_pump};
 
 mod asked;
 mod direct;
+mod letting;
 mod pending;
 mod room;
 
@@ -40,7 +40,8 @@ use window_snapshot::mask_has;
 /// not its history.
 ///
 /// Contracts see the displays of the devices, and what is kept, table by table. What is kept stands for a history:
-/// each call that is answered makes it stand for the same history with one step more.
+/// each call that is answered makes it stand for the same history with one step more. Whoever reads what is told ahead
+/// of the owners may let it go; then what is kept is only as after that history, and no message is handed out by it.
 #[derive(Drop)]
 pub struct Dispatcher {
     tables: Tables,
@@ -79,15 +80,17 @@ impl Dispatcher {
     pub fn apply(&mut self, call: &Call) -> Result<Reply, AllocError>
         ensures after { (es : List Effect) → StandsFor es self.old
             → IfOk result (λ answer. StandsFor (step self.old.displays call.now answer es) self.new) }
+        ensures known { (es : List Effect) → IsAfter es self.old
+            → OnOk result ((answer : Answer) × IsAfter (step self.old.displays call.now answer es) self.new) }
         ensures displays { self.new.displays ≡ self.old.displays }
         ensures gone { (c : ℕ) → 1 ≤ c → gone self.new c ≡ gone self.old c }
         ensures namings { namings_gone self.new ≡ namings_gone self.old }
         ensures err { OnErr result (self.new ≡ self.old) }
-        ensures calm { (es : List Effect) → StandsFor es self.old → MayCount es → IsCalm es call.now → IsOk result }
-        ensures reserved { (es : List Effect) → StandsFor es self.old → MayCount es
+        ensures calm { (es : List Effect) → IsAfter es self.old → MayCount es → IsCalm es call.now → IsOk result }
+        ensures reserved { (es : List Effect) → IsAfter es self.old → MayCount es
             → args_in call.now ≡ 1 → 1 ≤ self.old.queue.spare → IsOk result }
         ensures room { self.old.queue.spare ≤ self.new.queue.spare + args_in call.now }
-        ensures pumped { (es : List Effect) → StandsFor es self.old → MayCount es
+        ensures pumped { (es : List Effect) → IsAfter es self.old → MayCount es
             → is_pump call.now ≡ true → 1 ≤ self.old.queue.pumps → IsOk result }
         ensures pumps { is_input call.now ≡ true → self.old.queue.pumps ≤ self.new.queue.pumps + 1 }
     {
@@ -99,75 +102,26 @@ impl Dispatcher {
     pub fn apply_unread(&mut self, call: &Call) -> Result<(), AllocError>
         ensures after { (es : List Effect) → StandsFor es self.old
             → OnOk result ((answer : Answer) × StandsFor (step self.old.displays call.now answer es) self.new) }
+        ensures known { (es : List Effect) → IsAfter es self.old
+            → OnOk result ((answer : Answer) × IsAfter (step self.old.displays call.now answer es) self.new) }
         ensures displays { self.new.displays ≡ self.old.displays }
         ensures gone { (c : ℕ) → 1 ≤ c → gone self.new c ≡ gone self.old c }
         ensures namings { namings_gone self.new ≡ namings_gone self.old }
         ensures err { OnErr result (self.new ≡ self.old) }
-        ensures calm { (es : List Effect) → StandsFor es self.old → MayCount es → IsCalm es call.now → IsOk result }
-        ensures reserved { (es : List Effect) → StandsFor es self.old → MayCount es
+        ensures calm { (es : List Effect) → IsAfter es self.old → MayCount es → IsCalm es call.now → IsOk result }
+        ensures reserved { (es : List Effect) → IsAfter es self.old → MayCount es
             → args_in call.now ≡ 1 → 1 ≤ self.old.queue.spare → IsOk result }
         ensures room { self.old.queue.spare ≤ self.new.queue.spare + args_in call.now }
-        ensures pumped { (es : List Effect) → StandsFor es self.old → MayCount es
+        ensures pumped { (es : List Effect) → IsAfter es self.old → MayCount es
             → is_pump call.now ≡ true → 1 ≤ self.old.queue.pumps → IsOk result }
         ensures pumps { is_input call.now ≡ true → self.old.queue.pumps ≤ self.new.queue.pumps + 1 }
     {
         apply_unread(&mut self.tables, call)
     }
 
-    /// Drops the messages of a channel that its owner received. They are not needed any more. Their numbers stay in
-    /// use.
-    pub fn let_go(&mut self, channel: u32)
-        ensures stays { (es : List Effect) → StandsFor es self.old → StandsFor es self.new }
-        ensures displays { self.new.displays ≡ self.old.displays }
-        ensures gone { (es : List Effect) → StandsFor es self.old → is_opened es channel ≡ true
-            → gone self.new channel ≡ max (gone self.old channel) (received (past_of es) channel) }
-        ensures live { (es : List Effect) → StandsFor es self.old → is_opened es channel ≡ true
-            → live (past_of es) channel ≡ true → gone self.new channel ≡ received (past_of es) channel }
-        ensures others { (c : ℕ) → 1 ≤ c → (c == channel) ≡ false → gone self.new c ≡ gone self.old c }
-        ensures namings { namings_gone self.new ≡ namings_gone self.old }
-        ensures room { self.new.queue ≡ self.old.queue }
-    {
-        if 0 < channel && channel <= self.tables.routing.channels.opened() {
-            self.tables.routing.channels.let_go(channel);
-        }
-    }
-
-    /// Drops all messages of a channel that was removed, and gives back their memory: nothing of it is kept any more
-    /// but its counts. Of a live channel nothing is dropped. What its owner did not receive is read by
-    /// [`messages`](Dispatcher::messages) before.
-    pub fn let_all_go(&mut self, channel: u32)
-        ensures stays { (es : List Effect) → StandsFor es self.old → StandsFor es self.new }
-        ensures displays { self.new.displays ≡ self.old.displays }
-        ensures gone { (es : List Effect) → StandsFor es self.old → is_opened es channel ≡ true
-            → live (past_of es) channel ≡ false → gone self.new channel ≡ length (stream es channel) }
-        ensures live { (es : List Effect) → StandsFor es self.old → live (past_of es) channel ≡ true
-            → gone self.new channel ≡ gone self.old channel }
-        ensures others { (c : ℕ) → 1 ≤ c → (c == channel) ≡ false → gone self.new c ≡ gone self.old c }
-        ensures namings { namings_gone self.new ≡ namings_gone self.old }
-        ensures room { self.new.queue ≡ self.old.queue }
-    {
-        if mask_has(self.tables.routing.channels.live(), channel) {
-            return;
-        }
-        if 0 < channel && channel <= self.tables.routing.channels.opened() {
-            self.tables.routing.channels.let_all_go(channel);
-        }
-    }
-
-    /// Drops the namings so far, and gives back their memory.
-    pub fn let_namings_go(&mut self)
-        ensures stays { (es : List Effect) → StandsFor es self.old → StandsFor es self.new }
-        ensures displays { self.new.displays ≡ self.old.displays }
-        ensures gone { (es : List Effect) → StandsFor es self.old → namings_gone self.new ≡ length (namings es) }
-        ensures messages { (c : ℕ) → 1 ≤ c → gone self.new c ≡ gone self.old c }
-        ensures room { self.new.queue ≡ self.old.queue }
-    {
-        self.tables.routing.channels.let_namings_go();
-    }
-
     /// How many channels were opened. They have the numbers from 1 to this.
     pub fn opened(&self) -> u32
-        ensures value { (es : List Effect) → StandsFor es self.now → result ≡ opened (past_of es) }
+        ensures value { (es : List Effect) → IsAfter es self.now → result ≡ opened (past_of es) }
         ensures few { result ≤ 64 }
     {
         self.tables.routing.channels.opened()
@@ -175,7 +129,7 @@ impl Dispatcher {
 
     /// How far a channel has come; None exactly where none was opened with this number.
     pub fn counts(&self, channel: u32) -> Option<Counts>
-        ensures { (es : List Effect) → StandsFor es self.now → result ≡ counts es channel }
+        ensures { (es : List Effect) → IsAfter es self.now → result ≡ counts es channel }
     {
         self.tables.routing.channels.counts(channel)
     }
@@ -184,7 +138,7 @@ impl Dispatcher {
     /// number. Of a live channel only messages that were received were let go.
     #[tactic(auto, using(crate::proofs::LettingGo::most_gone))]
     pub fn messages(&self, channel: u32) -> Option<&[Message]>
-        ensures value { (es : List Effect) → StandsFor es self.now
+        ensures value { (es : List Effect) → IsAfter es self.now
             → option_map (λ ms. ms.now) result ≡ messages_of es self.now channel }
         ensures most { (es : List Effect) → StandsFor es self.now → is_opened es channel ≡ true
             → MayGo es channel (gone self.now channel) }
@@ -193,6 +147,16 @@ impl Dispatcher {
             Some(self.tables.routing.channels.messages(channel))
         } else {
             None
+        }
+    }
+
+    /// Whether a channel has messages that were not let go.
+    pub fn has_messages(&self, channel: u32) -> bool
+        ensures { (es : List Effect) → IsAfter es self.now → result ≡ has_messages es self.now channel }
+    {
+        match self.messages(channel) {
+            Some(messages) => !messages.is_empty(),
+            None => false,
         }
     }
 
@@ -211,9 +175,9 @@ impl Dispatcher {
     /// The number and the delivery of the oldest message of a channel that is published and not finished. None where
     /// there is none, and where no channel was opened with this number.
     pub fn oldest(&self, channel: u32) -> Option<(u64, Moment)>
-        ensures value { (es : List Effect) → StandsFor es self.now → is_opened es channel ≡ true
+        ensures value { (es : List Effect) → IsAfter es self.now → is_opened es channel ≡ true
             → result ≡ oldest_delivery es channel }
-        ensures none { (es : List Effect) → StandsFor es self.now → is_opened es channel ≡ false → result ≡ None }
+        ensures none { (es : List Effect) → IsAfter es self.now → is_opened es channel ≡ false → result ≡ None }
     {
         if 0 < channel && channel <= self.tables.routing.channels.opened() {
             self.tables.routing.channels.oldest(channel)
@@ -226,28 +190,28 @@ impl Dispatcher {
     /// finished; None exactly where it is not able, or has no such message. So this is the tracker of due moments.
     pub fn due(&self, channel: u32) -> Option<u64>
         requires { is_channel channel ≡ true }
-        ensures { (es : List Effect) → StandsFor es self.now → result ≡ due_moment es channel }
+        ensures { (es : List Effect) → IsAfter es self.now → result ≡ due_moment es channel }
     {
         self.tables.routing.channels.due(channel)
     }
 
     /// The first moment at which a channel is due to be named unresponsive, and the least channel that is due at it.
     pub fn first_due(&self) -> Option<(u64, u32)>
-        ensures { (es : List Effect) → StandsFor es self.now → option_map due_pair result ≡ first_due es }
+        ensures { (es : List Effect) → IsAfter es self.now → option_map due_pair result ≡ first_due es }
     {
         self.tables.routing.channels.first_due()
     }
 
     /// Whether args wait to be dispatched.
     pub fn is_waiting(&self) -> bool
-        ensures { (es : List Effect) → StandsFor es self.now → result ≡ is_waiting es }
+        ensures { (es : List Effect) → IsAfter es self.now → result ≡ is_waiting es }
     {
         self.tables.queueing.first().is_some()
     }
 
     /// When the next repeat of a key is due; None where there is none, and while args wait.
     pub fn repeat_due(&self) -> Option<u64>
-        ensures { (es : List Effect) → StandsFor es self.now → result ≡ next_repeat es }
+        ensures { (es : List Effect) → IsAfter es self.now → result ≡ next_repeat es }
     {
         if self.is_waiting() {
             None
@@ -258,7 +222,7 @@ impl Dispatcher {
 
     /// The namings so far but for those that were let go, the first one first.
     pub fn namings(&self) -> &[Naming]
-        ensures { (es : List Effect) → StandsFor es self.now
+        ensures { (es : List Effect) → IsAfter es self.now
             → result.now ≡ drop (namings_gone self.now) (namings es) }
     {
         self.tables.routing.channels.namings()
@@ -268,7 +232,7 @@ impl Dispatcher {
     /// input, and shown on the display of the device.
     pub fn touches(&self) -> &Touches
         ensures value { result.now ≡ self.now.touches }
-        ensures reads { (es : List Effect) → StandsFor es self.now
+        ensures reads { (es : List Effect) → IsAfter es self.now
             → ReadsTouches self.now.displays es self.now.touches }
     {
         &self.tables.routing.touches
@@ -277,8 +241,8 @@ impl Dispatcher {
     /// What the window of a channel was told and is not told the end of; None exactly where no channel was opened
     /// with this number.
     pub fn input(&self, channel: u32) -> Option<&InputState>
-        ensures some { (es : List Effect) → StandsFor es self.now → is_some result ≡ is_opened es channel }
-        ensures value { (es : List Effect) → StandsFor es self.now → live (past_of es) channel ≡ true
+        ensures some { (es : List Effect) → IsAfter es self.now → is_some result ≡ is_opened es channel }
+        ensures value { (es : List Effect) → IsAfter es self.now → live (past_of es) channel ≡ true
             → IfSome result (λ input. HoldsInput es channel input.now) }
     {
         if 0 < channel && channel <= self.tables.routing.channels.opened() {

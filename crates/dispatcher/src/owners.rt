@@ -1,11 +1,15 @@
 //! What the owners of channels ask.
-ghost use Rattle.std.specs.Prelude.{◌≡◌, ℕ, None, if◌then◌else◌};
+ghost use Rattle.std.specs.Prelude.{◌≡◌, ℕ, None, not, if◌then◌else◌};
 ghost use Rattle.focus_resolver.specs.Resolver.{is_at};
 ghost use Rattle.dispatch_calls.specs.declared.call.Call.{Call};
-ghost use Rattle.dispatch_calls.specs.declared.reply.Reply.{Reply as Answer};
+ghost use Rattle.dispatch_calls.specs.declared.reply.Reply.TheVariants.{Gone};
+ghost use Rattle.window_snapshot.specs.Mask.{mask_has};
+ghost use Rattle.input_channel.specs.State.{next_of};
+ghost use Rattle.dispatch_history.specs.Reply.{got_reply};
+ghost use Rattle.dispatch_channels.specs.Table.{channel_of};
 ghost use Rattle.dispatch_round.specs.Rounds.{IsTimely};
 ghost use Rattle.dispatcher.specs.Briefs.{reply_of};
-ghost use Rattle.dispatcher.specs.Tables.{Goes};
+ghost use Rattle.dispatcher.specs.Tables.{Goes, HandsOn};
 
 use crate::brief::Brief;
 use crate::tables::Routing;
@@ -16,33 +20,32 @@ use key_tables::focusable;
 use route_split::Mark;
 use window_snapshot::mask_has;
 
-/// The owner of a channel takes its next message.
+/// The owner of a channel takes its next message. One that was let go is passed over.
 pub(crate) fn receive(routing: &mut Routing, channel: u32) -> Reply
-    ensures { (place clock : ℕ) → Goes (λ now. Call.Receive channel) result place clock routing.old routing.new }
+    ensures goes { HandsOn channel routing.old routing.new }
+    ensures answer { result ≡ (if not (mask_has routing.old.channels.live channel) then Gone
+        else got_reply (next_of (channel_of routing.old.channels channel))) }
 {
     if !mask_has(routing.channels.live(), channel) {
         return Reply::Gone;
     }
     let Some(next) = routing.channels.next(channel) else {
+        routing.channels.pass(channel);
         return Reply::Empty;
     };
     let reply = Reply::Got(*next);
-    routing.channels.mark_received(channel);
+    routing.channels.pass(channel);
     reply
 }
 
 /// The owner of a channel has its next message, where there is one, and it is not handed out.
 pub(crate) fn pass(routing: &mut Routing, channel: u32)
-    ensures { (answer : Answer)
-        × ((place clock : ℕ) → Goes (λ now. Call.Receive channel) answer place clock routing.old routing.new) }
+    ensures { HandsOn channel routing.old routing.new }
 {
     if !mask_has(routing.channels.live(), channel) {
         return;
     }
-    let Some(_next) = routing.channels.next(channel) else {
-        return;
-    };
-    routing.channels.mark_received(channel);
+    routing.channels.pass(channel);
 }
 
 /// The owner of a channel is done with a message.

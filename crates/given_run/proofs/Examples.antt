@@ -1,4 +1,4 @@
--- Worked examples: the calls of small orders, and what an owner received.
+-- Worked examples: the calls of small orders, and the lines of what a window was told.
 use Rattle.std.specs.Prelude.{◌≡◌, ℕ, true, codes, List, [], ◌∷◌, map, Result, Ok, Err, refl, Some}
 use Rattle.std.specs.Fmt.{digits}
 use Rattle.stream_text.specs.Spelling.{labeled, pointer, motion as motion_text, numbered}
@@ -11,7 +11,7 @@ use Rattle.dispatch_history.specs.Given.{given_calls}
 use Rattle.dispatch_history.specs.Ordered.{extend}
 use Rattle.dispatch_history.specs.Plan.{Plan, Cooked}
 use Rattle.dispatch_history.proofs.Worked.{one_display, window, at, motion}
-use Rattle.schedule.specs.Lines.{lines_received}
+use Rattle.schedule.specs.Lines.{lines_first}
 use Rattle.stream_text.specs.declared.order_line.OrderLine.TheVariants.{Reader, Script, Pump, Tick, Receive, Finish}
 use Rattle.stream_text.specs.OrderAsks.{line_of}
 
@@ -73,11 +73,16 @@ effects (Ok cs) = extend one_display [] cs
 effects (Err n) = []
 
 what_its_owner_received :
-    lines_received (effects (given_calls one_window (map line_of (Script 1 ∷ Reader ∷ Pump ∷ Receive 1 ∷ Receive 1 ∷ Finish 1 1 ∷ [])))) 1
+    lines_first (effects (given_calls one_window (map line_of (Script 1 ∷ Reader ∷ Pump ∷ Receive 1 ∷ Receive 1 ∷ Finish 1 1 ∷ [])))) 1 1
     ≡ codes "1 1000000 motion 1 DOWN 0@100,200\n"
 unfolding labeled pointer motion_text numbered digits
 what_its_owner_received = refl
 
--- what is not received is no line of its owner
-what_it_did_not_receive : lines_received (effects (given_calls one_window (map line_of (Script 1 ∷ Reader ∷ Pump ∷ [])))) 1 ≡ []
+-- what is not received is a line as soon as it is told
+what_it_did_not_receive : lines_first (effects (given_calls one_window (map line_of (Script 1 ∷ Reader ∷ Pump ∷ [])))) 1 1 ≡ codes "1 1000000 motion 1 DOWN 0@100,200\n"
+unfolding labeled pointer motion_text numbered digits
 what_it_did_not_receive = refl
+
+-- and no line before
+what_it_was_not_told : lines_first (effects (given_calls one_window (map line_of (Script 1 ∷ Reader ∷ [])))) 1 1 ≡ []
+what_it_was_not_told = refl

@@ -3,7 +3,7 @@ use Rattle.std.specs.Prelude.{◌≡◌, pos, true, false, [], ◌∷◌, None, 
 use Rattle.std.proofs.Common.{refl}
 use Rattle.input_types.specs.declared.message.Body.TheVariants.{Motion as MotionBody, Focus}
 use Rattle.input_channel.specs.Moves.{move_of, moves_from}
-use Rattle.input_channel.specs.State.{ChannelState, opened_with, sent, enqueued, published_at, next_of, received_next, may_finish, finished_with, let_go_of, all_let_go, oldest_of, has_late}
+use Rattle.input_channel.specs.State.{ChannelState, opened_with, sent, enqueued, published_at, next_of, received_next, passed, may_finish, finished_with, let_go_of, each_let_go, all_let_go, oldest_of, has_late}
 
 -- Two messages with the clock at 0 and at 1000000, both received
 abbrev pub told : ChannelState
@@ -78,6 +78,16 @@ none_is_next = refl
 
 pub it_was_next : next_of (published_at 9 (let_go_of untaken)) ≡ Some (record { seq = 2; moment = 9; body = Focus false })
 it_was_next = refl
+
+-- whoever has read it may let it go before its owner has it, and then it is passed without being handed out
+pub each_is_gone : next_of (published_at 9 (each_let_go untaken)) ≡ None
+each_is_gone = refl
+
+pub it_is_passed : (passed (published_at 9 (each_let_go untaken))).received ≡ 2
+it_is_passed = refl
+
+pub nothing_more_is_passed : passed (passed (published_at 9 (each_let_go untaken))) ≡ passed (published_at 9 (each_let_go untaken))
+nothing_more_is_passed = refl
 
 -- what was let go already stays so
 pub gone_stays : (let_go_of (all_let_go untaken)).gone ≡ 2

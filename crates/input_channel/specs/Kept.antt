@@ -26,6 +26,10 @@ kept_with body moment k =
 abbrev pub kept_after : ℕ → KeptState → KeptState
 kept_after count k = record { gone = k.gone + count; messages = drop count k.messages; spare = k.spare }
 
+-- all are let go, and the room for more stays
+abbrev pub kept_empty : KeptState → KeptState
+kept_empty k = record { gone = sent_in k; messages = []; spare = k.spare }
+
 -- all are let go, and the room for more too
 abbrev pub kept_none : KeptState → KeptState
 kept_none k = record { gone = sent_in k; messages = []; spare = 0 }

@@ -83,6 +83,10 @@ received_one s = record s { received = s.received + 1 }
 abbrev pub received_next : ChannelState → ChannelState
 received_next s = if has_next s then received_one s else s
 
+-- the first published message that was not received is received, where there is one, whether it was let go or not
+abbrev pub passed : ChannelState → ChannelState
+passed s = if nat_lt s.received s.published then received_one s else s
+
 -- a message that the owner may finish: it is received and not finished
 abbrev pub may_finish : ℕ → ChannelState → Bool
 may_finish seq s = nat_le seq s.received && has_seq seq s.unfinished
@@ -94,6 +98,10 @@ finished_with seq s = record s { finished = s.finished + 1; unfinished = without
 -- the messages that were received are let go
 abbrev pub let_go_of : ChannelState → ChannelState
 let_go_of s = record s { gone = max s.gone s.received; messages = drop (s.received - s.gone) s.messages }
+
+-- all messages are let go, and the room for more stays
+abbrev pub each_let_go : ChannelState → ChannelState
+each_let_go s = record s { gone = sent s; messages = [] }
 
 -- all messages are let go, and the room for more too
 abbrev pub all_let_go : ChannelState → ChannelState

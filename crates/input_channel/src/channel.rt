@@ -4,9 +4,9 @@ ghost use Rattle.std.specs.Option.{option_copied};
 ghost use Rattle.input_types.specs.declared.message.Body.TheVariants.{Key as KeyBody};
 ghost use Rattle.input_channel.specs.Order.{NoneAfter};
 ghost use Rattle.input_channel.specs.State.{IsChannel, opened_with, sent, enqueued, with_spare, published_at};
-ghost use Rattle.input_channel.specs.State.{next_of, received_one, received_next, may_finish, finished_with};
+ghost use Rattle.input_channel.specs.State.{next_of, received_one, received_next, passed, may_finish, finished_with};
 ghost use Rattle.input_channel.specs.Moves.{moves_from};
-ghost use Rattle.input_channel.specs.State.{let_go_of, all_let_go, oldest_of, has_late};
+ghost use Rattle.input_channel.specs.State.{let_go_of, each_let_go, all_let_go, oldest_of, has_late};
 
 use crate::kept::Kept;
 use crate::unfinished::{MOST, Unfinished, deliver, place_of};
@@ -210,6 +210,15 @@ impl Channel {
         self.received += 1;
     }
 
+    /// The owner has the next message, where one is published that it did not receive. It may be one that was let go.
+    pub fn pass(&mut self)
+        ensures { self.new ≡ passed self.old }
+    {
+        if self.received < self.published {
+            self.received += 1;
+        }
+    }
+
     /// Hands the next message to the owner; None exactly where all published messages are received, and where one that
     /// was not received was let go. Takes no memory.
     pub fn receive(&mut self) -> Option<Message>
@@ -268,6 +277,14 @@ impl Channel {
     {
         let count = self.received.saturating_sub(self.kept.gone());
         self.kept.let_go(count as usize);
+    }
+
+    /// Drops all messages, those too that were not received, as one does who has read them. Their numbers stay in use,
+    /// and the room for more stays. Their owner is handed none of them any more, but `pass` goes on.
+    pub fn let_each_go(&mut self)
+        ensures { self.new ≡ each_let_go self.old }
+    {
+        self.kept.let_each_go();
     }
 
     /// Drops all messages, those too that were not received, and gives back their memory. Their numbers stay in use,

@@ -1,7 +1,7 @@
 //! The messages of a channel that were not let go.
 ghost use Rattle.std.specs.Prelude.{◌≡◌, ◌+◌, ◌≤◌, ◌<◌, ◌^◌, ℕ, [], IsOk, IfOk, OnErr, OnOk, drop, length, vec_len, vec_capacity};
 ghost use Rattle.input_types.specs.declared.message.Body.TheVariants.{Key as KeyBody};
-ghost use Rattle.input_channel.specs.Kept.{sent_in, kept_with, kept_after, kept_none, kept_with_spare};
+ghost use Rattle.input_channel.specs.Kept.{sent_in, kept_with, kept_after, kept_empty, kept_none, kept_with_spare};
 ghost use Rattle.input_channel.specs.Moves.{moves_from};
 
 use crate::moves::push_moves;
@@ -161,6 +161,15 @@ impl Kept {
             cut_front(&mut self.list, self.dropped);
             self.dropped = 0;
         }
+    }
+
+    /// Lets all messages go, and keeps the room for more.
+    pub(crate) fn let_each_go(&mut self)
+        ensures { self.new ≡ kept_empty self.old }
+    {
+        self.gone += (self.list.len() - self.dropped) as u64;
+        self.list.clear();
+        self.dropped = 0;
     }
 
     /// Lets all messages go, and gives back the memory of their list.

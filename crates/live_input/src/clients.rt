@@ -5,7 +5,7 @@ ghost use Rattle.dispatch_history.specs.Effect.{Effect, past_of, stream};
 ghost use Rattle.dispatch_history.specs.History.{opened};
 ghost use Rattle.dispatcher.specs.Access.{is_opened};
 ghost use Rattle.focus_resolver.specs.Resolver.{is_at};
-ghost use Rattle.dispatcher.specs.Dispatching.{StandsFor};
+ghost use Rattle.dispatcher.specs.Dispatching.{IsAfter};
 ghost use Rattle.window_snapshot.specs.Mask.{is_channel};
 ghost use Rattle.window_snapshot.specs.Named.{is_named};
 ghost use Rattle.live_input.specs.Seats.{IsHeld, is_open, is_held, is_full, client_at, first_vacant};
@@ -158,7 +158,7 @@ fn place_vacant(seats: &[Seat]) -> Option<usize>
 
 /// How many messages a channel has.
 fn sent(dispatcher: &Dispatcher, channel: u32) -> u64
-    ensures { (es : List Effect) → StandsFor es dispatcher.now → is_opened es channel ≡ true
+    ensures { (es : List Effect) → IsAfter es dispatcher.now → is_opened es channel ≡ true
         → result ≡ length (stream es channel) }
 {
     match dispatcher.counts(channel) {

@@ -8,7 +8,7 @@ ghost use Rattle.dispatch_history.specs.Effect.{Effect, past_of};
 ghost use Rattle.dispatch_history.specs.Focus.{requested};
 ghost use Rattle.dispatch_history.specs.Delivery.{oldest};
 ghost use Rattle.dispatcher.specs.Access.{is_opened};
-ghost use Rattle.dispatcher.specs.Dispatching.{StandsFor};
+ghost use Rattle.dispatcher.specs.Dispatching.{IsAfter};
 ghost use Rattle.live_input.specs.Answers.{SameClients};
 ghost use Rattle.live_input.specs.Closing.{without, hidden, forgotten_on, forgotten};
 ghost use Rattle.live_input.specs.Seats.{IsHeld};
@@ -109,7 +109,7 @@ impl Live {
 
 /// What is left to do on a channel, until all of its messages are received and finished.
 fn next_left(dispatcher: &Dispatcher, now: Moment, channel: u32) -> Option<Call>
-    ensures { (es : List Effect) → StandsFor es dispatcher.now → is_opened es channel ≡ true
+    ensures { (es : List Effect) → IsAfter es dispatcher.now → is_opened es channel ≡ true
         → result ≡ next_left now channel es }
 {
     match dispatcher.counts(channel) {
@@ -126,7 +126,7 @@ fn next_left(dispatcher: &Dispatcher, now: Moment, channel: u32) -> Option<Call>
 
 /// The number of the oldest message of a channel that is published and not finished.
 pub(crate) fn oldest(dispatcher: &Dispatcher, channel: u32) -> Option<u64>
-    ensures { (es : List Effect) → StandsFor es dispatcher.now → is_opened es channel ≡ true
+    ensures { (es : List Effect) → IsAfter es dispatcher.now → is_opened es channel ≡ true
         → result ≡ option_map (λ m. m.seq) (oldest es channel) }
 {
     match dispatcher.oldest(channel) {

@@ -1,7 +1,7 @@
 //! What is done next, as long as there is something.
 ghost use Rattle.std.specs.Prelude.{◌≡◌, ◌≤◌, List, Some, None, option_map};
 ghost use Rattle.dispatch_history.specs.Effect.{Effect};
-ghost use Rattle.dispatcher.specs.Dispatching.{StandsFor};
+ghost use Rattle.dispatcher.specs.Dispatching.{IsAfter};
 ghost use Rattle.live_input.specs.Settling.{next_due, next_waiting, left_call, sooner, sooner_call, tick_by, repeat_by, timeout};
 
 use dispatch_calls::Call;
@@ -10,7 +10,7 @@ use input_types::Moment;
 
 /// The pump by which the first args that wait are dispatched, where some wait.
 pub(crate) fn next_waiting(dispatcher: &Dispatcher, now: Moment) -> Option<Call>
-    ensures { (es : List Effect) → StandsFor es dispatcher.now → result ≡ next_waiting now es }
+    ensures { (es : List Effect) → IsAfter es dispatcher.now → result ≡ next_waiting now es }
 {
     if dispatcher.is_waiting() {
         Some(Call::Pump { now })
@@ -22,7 +22,7 @@ pub(crate) fn next_waiting(dispatcher: &Dispatcher, now: Moment) -> Option<Call>
 /// What is done next of what is due up to now: args that wait are dispatched; else the sooner of the first timeout and
 /// the next repeat.
 pub(crate) fn next_due(dispatcher: &Dispatcher, now: Moment) -> Option<Call>
-    ensures { (es : List Effect) → StandsFor es dispatcher.now → result ≡ next_due now es }
+    ensures { (es : List Effect) → IsAfter es dispatcher.now → result ≡ next_due now es }
 {
     if dispatcher.is_waiting() {
         Some(Call::Pump { now })
@@ -33,7 +33,7 @@ pub(crate) fn next_due(dispatcher: &Dispatcher, now: Moment) -> Option<Call>
 
 /// When the first channel is due to be named unresponsive.
 pub(crate) fn timeout(dispatcher: &Dispatcher) -> Option<u64>
-    ensures { (es : List Effect) → StandsFor es dispatcher.now → result ≡ timeout es }
+    ensures { (es : List Effect) → IsAfter es dispatcher.now → result ≡ timeout es }
 {
     match dispatcher.first_due() {
         Some((moment, _)) => Some(moment),

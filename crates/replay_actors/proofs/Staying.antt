@@ -82,7 +82,7 @@ pub published_stays : (ds : List ℕ) (call : Call) (answer : Reply) (h : Histor
 published_stays ds call answer h c l silent part =
     let es : List Effect = effects ds h in
     let s = channel_at es c 0 0 in
-    let kept = kept_quiet ds call answer es c s (lawful_effects ds ((call, answer) ∷ h) l) (record { is = refl; may_go = record { of_all = omega arith; of_live = λ lives. omega arith } }) (silent_calls ds call answer es c silent) part in
+    let kept = kept_quiet ds call answer es c s (lawful_effects ds ((call, answer) ∷ h) l) (record { is = refl; most = omega arith }) (silent_calls ds call answer es c silent) part in
     let same : received (past_of es) c ≡ received ((call, answer) ∷ past_of es) c = ap (λ x. x.received) kept.is in
     (sym (ap (λ x. x.published) kept.is), sym (subst (λ g. received g c ≡ received ((call, answer) ∷ g) c) (effects_law ds h) same))
 
@@ -90,7 +90,7 @@ published_stays ds call answer h c l silent part =
 pub received_published : (ds : List ℕ) (h : History) (c : ℕ) → Legal ds h
     → (received h c ≤ published (effects ds h) c) × (published (effects ds h) c ≤ length (stream (effects ds h) c))
 received_published ds h c l =
-    let f = kept_facts ds (effects ds h) c (channel_at (effects ds h) c 0 0) (lawful_effects ds h l) (record { is = refl; may_go = record { of_all = omega arith; of_live = λ lives. omega arith } }) in
+    let f = kept_facts ds (effects ds h) c (channel_at (effects ds h) c 0 0) (lawful_effects ds h l) (record { is = refl; most = omega arith }) in
     let same : received (past_of (effects ds h)) c ≡ received h c = ap (λ g. received g c) (effects_law ds h) in
     (omega (arith, same, f.0.received_published), omega (arith, f.1, f.0.published_sent))
 

@@ -11,8 +11,8 @@ use Rattle.why_text.specs.Text.{why_text}
 use Rattle.why_text.proofs.RestLaws.{silent_law}
 use Rattle.schedule.specs.declared.keeping.Lines.{Lines}
 use Rattle.schedule.specs.declared.keeping.Lines.TheVariants.{Kept, Counted, Causes}
-use Rattle.dispatcher.specs.Dispatching.{Dispatching, StandsFor}
-use Rattle.why_lines.specs.Telling.{Tells}
+use Rattle.dispatcher.specs.Dispatching.{Dispatching, IsAfter}
+use Rattle.why_lines.specs.Telling.{TellsAfter}
 use Rattle.schedule.specs.Causes.{Applies, and_more, causes_of, told_of}
 
 -- those of the step come behind those before
@@ -34,16 +34,16 @@ causes_stay Causes ds c answer es =
     ap Some (sym (append-nil (why_text ds es)) ∙ ap (λ more. why_text ds es ++ more) (sym (silent_law ds x es (Receive c) answer refl refl)))
 
 -- a call that was told
-pub applies_told : (call : Call) (es : List Effect) (ds old new : List ℕ) (d : Dispatching) → Tells call es ds old new d → Applies call es ds (Some old) (Some new) d
+pub applies_told : (call : Call) (es : List Effect) (ds old new : List ℕ) (d : Dispatching) → TellsAfter call es ds old new d → Applies call es ds (Some old) (Some new) d
 applies_told call es ds old new d t = record { answer = t.answer; stands = t.stands; causes = ap (λ text. Some text) t.text_is }
 
 -- a call of a run that tells no causes
-pub applies_alone : (call : Call) (es : List Effect) (ds : List ℕ) (d : Dispatching) → (answer : Reply) × StandsFor (step ds call answer es) d
+pub applies_alone : (call : Call) (es : List Effect) (ds : List ℕ) (d : Dispatching) → (answer : Reply) × IsAfter (step ds call answer es) d
     → Applies call es ds None None d
 applies_alone call es ds d there = record { answer = there.0; stands = there.1; causes = refl }
 
 -- the same, where there is no text
 pub applies_silent : {X : Type 0} (call : Call) (es : List Effect) (ds : List ℕ) (o : Option X) (f : X → List ℕ) (d : Dispatching) → is_some o ≡ false
-    → (answer : Reply) × StandsFor (step ds call answer es) d → Applies call es ds (option_map f o) (option_map f o) d
+    → (answer : Reply) × IsAfter (step ds call answer es) d → Applies call es ds (option_map f o) (option_map f o) d
 applies_silent call es ds None f d none there = applies_alone call es ds d there
 applies_silent call es ds (Some x) f d none there = absurd (cc none)

@@ -7,7 +7,7 @@ use Rattle.dispatch_history.specs.Effect.{Effect}
 use Rattle.dispatch_history.specs.Effects.{step}
 use Rattle.dispatch_history.specs.Legal.{answered}
 use Rattle.dispatch_history.specs.Ordered.{extend}
-use Rattle.dispatcher.specs.Dispatching.{Dispatching, StandsFor}
+use Rattle.dispatcher.specs.Dispatching.{Dispatching, IsAfter}
 use Rattle.dispatch_tables.specs.Lawful.{Lawful}
 use Rattle.dispatch_tables.proofs.Lawfuls.{lawful_last}
 use Rattle.why_lines.specs.Telling.{MayMake}
@@ -15,7 +15,7 @@ use Rattle.schedule.specs.More.{ComesTo}
 use Rattle.schedule.proofs.Receiving.{extend_append}
 
 pub one_more : (es : List Effect) (d later : Dispatching) (call : Call) → later.displays ≡ d.displays
-    → ((fs : List Effect) → StandsFor fs d → (answer : Reply) × StandsFor (step d.displays call answer fs) later) → ComesTo es d → ComesTo es later
+    → ((fs : List Effect) → IsAfter fs d → (answer : Reply) × IsAfter (step d.displays call answer fs) later) → ComesTo es d → ComesTo es later
 one_more es d later call same goes k =
     let there = goes (extend d.displays es k.calls) k.stands in
     let answer = there.0 in
@@ -25,7 +25,7 @@ one_more es d later call same goes k =
     record {
       calls = k.calls ++ call ∷ [];
       stands =
-          subst (λ gs. StandsFor gs later)
+          subst (λ gs. IsAfter gs later)
           (ap (λ a. step d.displays call a (extend d.displays es k.calls)) (lawful_last d.displays call answer (extend d.displays es k.calls) l).0
           ∙ sym (extend_append d.displays es k.calls (call ∷ []))
           ∙ ap (λ ds. extend ds es (k.calls ++ call ∷ [])) (sym same))
@@ -33,33 +33,33 @@ one_more es d later call same goes k =
     }
 
 pub same_more : (es : List Effect) (d later : Dispatching) → later.displays ≡ d.displays
-    → ((fs : List Effect) → StandsFor fs d → StandsFor fs later) → ComesTo es d → ComesTo es later
+    → ((fs : List Effect) → IsAfter fs d → IsAfter fs later) → ComesTo es d → ComesTo es later
 same_more es d later same goes k =
     record {
       calls = k.calls;
-      stands = subst (λ ds. StandsFor (extend ds es k.calls) later) (sym same) (goes (extend d.displays es k.calls) k.stands);
+      stands = subst (λ ds. IsAfter (extend ds es k.calls) later) (sym same) (goes (extend d.displays es k.calls) k.stands);
     }
 
 -- a call that was made, or was not
 pub made_more : (es : List Effect) (d later : Dispatching) (call : Call) → MayMake call d later → ComesTo es d → ComesTo es later
 made_more es d later call made k =
-    let there = made.stands (extend d.displays es k.calls) k.stands in
+    let there = made.known (extend d.displays es k.calls) k.stands in
     by_made there.0 there.1
   where
-    by_made : (b : Bool) → StandsFor (cond b (answered d.displays call (extend d.displays es k.calls)) (extend d.displays es k.calls)) later → ComesTo es later
+    by_made : (b : Bool) → IsAfter (cond b (answered d.displays call (extend d.displays es k.calls)) (extend d.displays es k.calls)) later → ComesTo es later
     by_made true stands =
         record {
           calls = k.calls ++ call ∷ [];
           stands =
-              subst (λ gs. StandsFor gs later)
+              subst (λ gs. IsAfter gs later)
               (sym (extend_append d.displays es k.calls (call ∷ [])) ∙ ap (λ ds. extend ds es (k.calls ++ call ∷ [])) (sym made.displays_are))
               stands;
         }
-    by_made false stands = record { calls = k.calls; stands = subst (λ ds. StandsFor (extend ds es k.calls) later) (sym made.displays_are) stands }
+    by_made false stands = record { calls = k.calls; stands = subst (λ ds. IsAfter (extend ds es k.calls) later) (sym made.displays_are) stands }
 
 -- a call whose answer is not read
 pub unread_more : {A E : Type 0} (r : Result A E) (es : List Effect) (d later : Dispatching) (call : Call) → later.displays ≡ d.displays
-    → ((fs : List Effect) → StandsFor fs d → OnOk r ((answer : Reply) × StandsFor (step d.displays call answer fs) later)) → OnErr r (later ≡ d)
+    → ((fs : List Effect) → IsAfter fs d → OnOk r ((answer : Reply) × IsAfter (step d.displays call answer fs) later)) → OnErr r (later ≡ d)
     → ComesTo es d → ComesTo es later
 unread_more (Ok a) es d later call same goes stays k = one_more es d later call same goes k
 unread_more (Err e) es d later call same goes stays k = subst (ComesTo es) (sym stays) k

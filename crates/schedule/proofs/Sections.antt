@@ -4,14 +4,14 @@ use Rattle.std.proofs.Math.Seq.{take-append_seam}
 use Rattle.dispatcher.specs.Access.{gone, is_opened}
 use Rattle.dispatch_history.specs.Effect.{Effect}
 use Rattle.dispatch_history.specs.Plan.{Plan}
-use Rattle.schedule.specs.Lines.{lines_at, lines_had}
+use Rattle.schedule.specs.Lines.{lines_at, lines_first}
 use Rattle.schedule.specs.Printing.{Prints, WithFront}
 use Rattle.schedule.specs.State.{ScheduleState}
 use Rattle.schedule.proofs.Counting.{opened_bounds}
 
--- the lines that are taken out are those of what the channel's owner received and of what was let go
+-- the lines that are taken out are those of what was let go
 pub lines_taken : {plan : Plan} {es : List Effect} {s : ScheduleState} (c : ℕ) (lines : List ℕ) → Prints plan es c s
-    → is_opened es c ≡ true → c ≤ length plan.channels → (1 ≤ c → lines ≡ lines_at s.lines c) → lines ≡ lines_had es (gone s.dispatcher c) c
+    → is_opened es c ≡ true → c ≤ length plan.channels → (1 ≤ c → lines ≡ lines_at s.lines c) → lines ≡ lines_first es c (gone s.dispatcher c)
 lines_taken {es = es} c lines r there_is within taken =
     let at = opened_bounds es c there_is in
     taken at.0 ∙ r.heard c at.0 (omega arith) (omega (arith, within, r.as_many))

@@ -5,7 +5,7 @@ use Rattle.dispatch_calls.specs.declared.reply.Reply.{Reply}
 use Rattle.dispatch_history.specs.Effect.{Effect, past_of}
 use Rattle.dispatch_history.specs.Effects.{effect_of, step}
 use Rattle.dispatch_history.specs.Queue.{args_of, inbound}
-use Rattle.dispatcher.specs.Dispatching.{Dispatching, StandsFor}
+use Rattle.dispatcher.specs.Dispatching.{Dispatching, IsAfter}
 use Rattle.why_text.specs.Text.{step_text, why_text}
 use Rattle.schedule.specs.declared.keeping.Lines.{Lines}
 use Rattle.schedule.specs.declared.keeping.Lines.TheVariants.{Kept, Counted, Causes}
@@ -24,8 +24,8 @@ and_more more text = option_map (λ t. t ++ more) text
 abbrev pub told_of : (displays : List ℕ) → Call → Reply → List Effect → List ℕ
 told_of displays call answer es = step_text displays (effect_of displays call answer (args_of call answer (inbound (past_of es))) es) es
 
--- A call is answered: the dispatcher stands for one step more, and where there is a text of causes, just that of the step is put behind it.
+-- A call is answered: the dispatcher is as after one step more, and where there is a text of causes, just that of the step is put behind it.
 pub record Applies (call : Call) (es : List Effect) (displays : List ℕ) (old new : Option (List ℕ)) (d : Dispatching) : Type 0 where
   pub answer : Reply
-  pub stands : StandsFor (step displays call answer es) d
+  pub stands : IsAfter (step displays call answer es) d
   pub causes : new ≡ and_more (told_of displays call answer es) old

@@ -1,17 +1,6 @@
 -- What is added to the lines.
 use Rattle.std.specs.Prelude.{◌≡◌, ℕ, ◌≤◌, ◌==◌, if◌then◌else◌, List, ◌++◌, length}
-use Rattle.dispatch_calls.specs.declared.reply.Reply.{Reply}
-use Rattle.dispatch_calls.specs.declared.reply.Reply.TheVariants.{Got}
-use Rattle.stream_text.specs.Spelling.{message_line}
 use Rattle.schedule.specs.Lines.{lines_at}
-
--- the lines after a receive of a channel: where its owner got a message, with the line of that
-abbrev pub Hears : Reply → ℕ → List (List ℕ) → List (List ℕ) → Type 0
-Hears (Got m) channel old new =
-    (length new ≡ length old)
-    × ((c : ℕ) → 1 ≤ c → c ≤ length old
-    → lines_at new c ≡ (if c == channel then lines_at old c ++ message_line m else lines_at old c))
-Hears answer channel old new = new ≡ old
 
 -- the lines after some more were put behind those of a channel
 abbrev pub WithMore : (more : List ℕ) → ℕ → List (List ℕ) → List (List ℕ) → Type 0

@@ -1,7 +1,6 @@
 -- The lines of what each channel was told, as far as they are kept.
-use Rattle.std.specs.Prelude.{◌≡◌, ℕ, ◌-◌, ◌≤◌, max, List, [], length, reverse, take, slice_index_or}
-use Rattle.dispatch_history.specs.History.{received}
-use Rattle.dispatch_history.specs.Effect.{Effect, past_of, stream}
+use Rattle.std.specs.Prelude.{◌≡◌, ℕ, ◌-◌, ◌≤◌, List, [], length, reverse, take, slice_index_or}
+use Rattle.dispatch_history.specs.Effect.{Effect, stream}
 use Rattle.dispatcher.specs.Access.{gone}
 use Rattle.dispatcher.specs.Dispatching.{Dispatching}
 use Rattle.stream_text.specs.Spelling.{message_lines}
@@ -22,14 +21,6 @@ lines_at lines c = slice_index_or lines (c - 1) []
 abbrev pub lines_first : List Effect → (channel count : ℕ) → List ℕ
 lines_first es c n = message_lines (take n (reverse (stream es c)))
 
--- the lines of the messages that the owner of a channel received
-abbrev pub lines_received : List Effect → ℕ → List ℕ
-lines_received es c = lines_first es c (received (past_of es) c)
-
--- the lines of those, and of all that was let go, of which there were so many
-abbrev pub lines_had : List Effect → (gone channel : ℕ) → List ℕ
-lines_had es n c = lines_first es c (max n (received (past_of es) c))
-
--- of each channel the lines of what its owner received and of what the dispatcher let go
+-- of each channel the lines of what the dispatcher let go, whether its owner received that or not
 abbrev pub Heard : List Effect → Dispatching → List (List ℕ) → Type 0
-Heard es d lines = (c : ℕ) → 1 ≤ c → c ≤ length lines → lines_at lines c ≡ lines_had es (gone d c) c
+Heard es d lines = (c : ℕ) → 1 ≤ c → c ≤ length lines → lines_at lines c ≡ lines_first es c (gone d c)

@@ -3,9 +3,9 @@ use Rattle.std.specs.Prelude.{List}
 use Rattle.dispatch_calls.specs.declared.call.Call.{Call}
 use Rattle.dispatch_history.specs.Effect.{Effect}
 use Rattle.dispatch_history.specs.Ordered.{extend}
-use Rattle.dispatcher.specs.Dispatching.{Dispatching, StandsFor}
+use Rattle.dispatcher.specs.Dispatching.{Dispatching, IsAfter}
 
--- It stands for these effects with those of some calls more: nothing that was done is lost.
+-- It is as after these effects with those of some calls more: nothing that was done is lost.
 pub record ComesTo (es : List Effect) (d : Dispatching) : Type 0 where
   pub calls : List Call
-  pub stands : StandsFor (extend d.displays es calls) d
+  pub stands : IsAfter (extend d.displays es calls) d

@@ -5,18 +5,18 @@ use Rattle.dispatch_history.specs.Plan.{Plan}
 use Rattle.dispatch_calls.specs.declared.counts.Counts.{Counts}
 use Rattle.stream_text.specs.Spelling.{end_line}
 use Rattle.dispatcher.specs.Access.{gone}
-use Rattle.dispatcher.specs.Dispatching.{StandsFor}
-use Rattle.schedule.specs.Lines.{lines_at, lines_had}
+use Rattle.dispatcher.specs.Dispatching.{IsAfter}
+use Rattle.schedule.specs.Lines.{lines_at, lines_first}
 use Rattle.schedule.specs.State.{ScheduleState}
 
 -- the last line of a channel's section, with how far the channel has come
 abbrev pub end_of : ℕ → Counts → List ℕ
 end_of c k = end_line c k.sent k.received k.finished
 
--- It stands for these effects, but for the lines of the channels below channel k, which were taken out.
+-- It is as after these effects, but for the lines of the channels below channel k, which were taken out.
 pub record Prints (plan : Plan) (es : List Effect) (k : ℕ) (s : ScheduleState) : Type 0 where
-  pub stands : StandsFor es s.dispatcher
-  pub heard : (c : ℕ) → 1 ≤ c → k ≤ c → c ≤ length s.lines → lines_at s.lines c ≡ lines_had es (gone s.dispatcher c) c
+  pub stands : IsAfter es s.dispatcher
+  pub heard : (c : ℕ) → 1 ≤ c → k ≤ c → c ≤ length s.lines → lines_at s.lines c ≡ lines_first es c (gone s.dispatcher c)
   pub as_many : length s.lines ≡ length plan.channels
 
 -- a text with a front part of a section more

@@ -6,14 +6,14 @@ use Rattle.dispatch_history.specs.Delivery.{published, delivery}
 use Rattle.dispatch_history.specs.Plan.{Plan, Cooked}
 use Rattle.dispatch_history.specs.Ordered.{Rounds, Ordered, received_at, scripted, notified}
 use Rattle.dispatcher.specs.Access.{namings_gone}
-use Rattle.dispatcher.specs.Dispatching.{Dispatching, StandsFor}
+use Rattle.dispatcher.specs.Dispatching.{Dispatching, IsAfter}
 use Rattle.schedule.specs.declared.keeping.Lines.{Lines}
 use Rattle.schedule.specs.declared.keeping.Lines.TheVariants.{Kept}
 use Rattle.schedule.specs.Causes.{causes_of}
 use Rattle.schedule.specs.Lines.{Heard, texts}
 use Rattle.schedule.specs.Run.{with_cooked, messages_in, IsWithin}
 
--- a run: the dispatcher, the lines of what each channel's owner received, the causes of the calls where they are told, how many steps were
+-- a run: the dispatcher, the lines of what each channel was told and let go, the causes of the calls where they are told, how many steps were
 -- made, how many calls, how many messages there are, and the latest moment of args
 pub record ScheduleState : Type 0 where
   pub dispatcher : Dispatching
@@ -32,10 +32,10 @@ counted n = min n (2 ^ 64 - 1)
 abbrev pub is_over : ScheduleState → Bool
 is_over s = nat_lt 4000000 s.calls || nat_lt 4000000 s.messages
 
--- it stands for these effects, no naming was let go, and of what each channel's owner received and of what was let go it has the lines, or none
--- where they are not kept; where it tells causes it has their text
+-- it is as after these effects, no naming was let go, and of what was let go of each channel it has the lines, or none where they are not kept;
+-- where it tells causes it has their text
 pub record HasWith (how : Lines) (plan : Plan) (es : List Effect) (s : ScheduleState) : Type 0 where
-  pub stands : StandsFor es s.dispatcher
+  pub stands : IsAfter es s.dispatcher
   pub displays_are : s.dispatcher.displays ≡ plan.displays
   pub noted : namings_gone s.dispatcher ≡ 0
   pub heard : Heard es s.dispatcher s.lines

@@ -39,7 +39,7 @@ impl Schedule {
         ensures more { (es : List Effect) → ComesTo es self.old.dispatcher → ComesTo es self.new.dispatcher }
         ensures latest { self.new.latest ≡ self.old.latest }
     {
-        self.step(call, next)?;
+        self.make(call, next)?;
         self.receive_all()
     }
 

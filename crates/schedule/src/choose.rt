@@ -7,7 +7,7 @@ ghost use Rattle.dispatch_history.specs.History.{live};
 ghost use Rattle.dispatch_history.specs.Ordered.{soonest};
 ghost use Rattle.dispatch_history.specs.Plan.{Plan as PlanView};
 ghost use Rattle.dispatcher.specs.Access.{next_repeat};
-ghost use Rattle.dispatcher.specs.Dispatching.{StandsFor};
+ghost use Rattle.dispatcher.specs.Dispatching.{IsAfter};
 ghost use Rattle.schedule.specs.Choosing.{first_step, dues_of, is_before, is_due_by, next_finishes, tick_of, repeat_at};
 ghost use Rattle.schedule.specs.DueView.{candidate_of};
 ghost use Rattle.schedule.specs.Next.{finish_of, next_finish, sooner_with};
@@ -33,7 +33,7 @@ pub(crate) fn is_before(at: Moment, due: Option<Due>) -> bool
 /// The next finish of a live channel.
 fn next_finish(dispatcher: &Dispatcher, number: u32, channel: &Channel) -> Option<Due>
     requires { IsChannel channel.now }
-    ensures { (es : List Effect) → StandsFor es dispatcher.now → live (past_of es) number ≡ true
+    ensures { (es : List Effect) → IsAfter es dispatcher.now → live (past_of es) number ≡ true
         → option_map candidate_of result ≡ next_finish es number (channel_of channel.now) }
 {
     if !channel.finishes {
@@ -58,7 +58,7 @@ fn sooner_finish(
 ) -> Option<Due>
     requires channels { All IsChannel channels.now }
     requires number { 1 ≤ number }
-    ensures { (es : List Effect) → StandsFor es dispatcher.now → live (past_of es) number ≡ true
+    ensures { (es : List Effect) → IsAfter es dispatcher.now → live (past_of es) number ≡ true
         → option_map candidate_of result
         ≡ sooner_with (option_map candidate_of best) (finish_of es number (slice_get channels.now (number - 1))) }
 {
@@ -71,7 +71,7 @@ fn sooner_finish(
 /// The next finish of all channels. Only those are looked at that may have one.
 fn next_finish_of_all(dispatcher: &Dispatcher, channels: &[Channel]) -> Option<Due>
     requires { All IsChannel channels.now }
-    ensures { (es : List Effect) → StandsFor es dispatcher.now
+    ensures { (es : List Effect) → IsAfter es dispatcher.now
         → option_map candidate_of result ≡ next_finishes es 1 (map channel_of channels.now) None }
 {
     let mut best = None;
@@ -86,7 +86,7 @@ fn next_finish_of_all(dispatcher: &Dispatcher, channels: &[Channel]) -> Option<D
 
 /// The next tick.
 fn next_tick(dispatcher: &Dispatcher) -> Option<Due>
-    ensures { (es : List Effect) → StandsFor es dispatcher.now
+    ensures { (es : List Effect) → IsAfter es dispatcher.now
         → option_map candidate_of result ≡ option_map tick_of (first_due es) }
 {
     let (moment, _) = dispatcher.first_due()?;
@@ -109,7 +109,7 @@ fn is_due_by(due: Option<Due>, at: u64) -> bool
 /// The sooner of the next finish and the next tick. Who is due to be named is mostly not looked for, since a finish
 /// comes long before.
 fn finish_or_tick(dispatcher: &Dispatcher, finish: Option<Due>) -> Option<Due>
-    ensures { (es : List Effect) → StandsFor es dispatcher.now
+    ensures { (es : List Effect) → IsAfter es dispatcher.now
         → option_map candidate_of result
         ≡ sooner_with (option_map candidate_of finish) (option_map tick_of (first_due es)) }
 {
@@ -121,7 +121,7 @@ fn finish_or_tick(dispatcher: &Dispatcher, finish: Option<Due>) -> Option<Due>
 
 /// The next repeat.
 fn next_repeat(dispatcher: &Dispatcher) -> Option<Due>
-    ensures { (es : List Effect) → StandsFor es dispatcher.now
+    ensures { (es : List Effect) → IsAfter es dispatcher.now
         → option_map candidate_of result ≡ option_map repeat_at (next_repeat es) }
 {
     let moment = dispatcher.repeat_due()?;
@@ -134,7 +134,7 @@ fn next_repeat(dispatcher: &Dispatcher) -> Option<Due>
 /// What is due next, but for steps and args.
 pub(crate) fn next_due(dispatcher: &Dispatcher, channels: &[Channel]) -> Option<Due>
     requires { All IsChannel channels.now }
-    ensures { (plan : PlanView) (es : List Effect) → StandsFor es dispatcher.now
+    ensures { (plan : PlanView) (es : List Effect) → IsAfter es dispatcher.now
         → dispatcher.now.displays ≡ plan.displays → Caught es → plan.channels ≡ map channel_of channels.now
         → option_map candidate_of result ≡ soonest (dues_of plan es) }
 {

@@ -25,7 +25,7 @@ impl Schedule {
     {
         if self.causes.is_some() {
             let next = self.next;
-            return self.step(&Call::Notify { now, args: *args }, next);
+            return self.make(&Call::Notify { now, args: *args }, next);
         }
         match self.dispatcher.notify(now, args) {
             Ok(()) => {
@@ -47,7 +47,7 @@ impl Schedule {
     {
         if self.causes.is_some() {
             let next = self.next;
-            return self.step(&Call::Pump { now }, next);
+            return self.make(&Call::Pump { now }, next);
         }
         match self.dispatcher.pump(now) {
             Ok(()) => {
@@ -74,7 +74,7 @@ impl Schedule {
     {
         if self.causes.is_some() {
             let next = self.next;
-            return self.step(&Call::Finish { now, channel, seq }, next);
+            return self.make(&Call::Finish { now, channel, seq }, next);
         }
         match self.dispatcher.finish(now, channel, seq) {
             Ok(()) => {

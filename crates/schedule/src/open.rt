@@ -69,6 +69,6 @@ impl Schedule {
         ensures messages { self.new.messages ≡ self.old.messages }
         ensures latest { self.new.latest ≡ self.old.latest }
     {
-        self.step(&Call::Open { limit }, 0)
+        self.make(&Call::Open { limit }, 0)
     }
 }

@@ -1,8 +1,8 @@
-//! The streams text of a run in pieces: the lines of what was received are moved out of the run, and not copied.
+//! The streams text of a run in pieces: the lines of what channels were told are moved out of the run, and not copied.
 ghost use Rattle.std.specs.Prelude.{◌≡◌, ◌≢◌, ◌≤◌, ◌+◌, ◌++◌, ℕ, true, List, drop, IfOk, OnErr, OnOk, reverse, length};
 ghost use Rattle.std.specs.Option.{unwrap_or};
 ghost use Rattle.dispatcher.specs.Access.{gone, is_opened};
-ghost use Rattle.dispatcher.specs.Dispatching.{StandsFor};
+ghost use Rattle.dispatcher.specs.Dispatching.{IsAfter};
 ghost use Rattle.dispatch_history.specs.Due.{counts};
 ghost use Rattle.dispatch_history.specs.Effect.{Effect, stream};
 ghost use Rattle.dispatch_history.specs.Plan.{Plan as PlanView};
@@ -46,7 +46,7 @@ fn head_text(alloc: Global, channel: u32, name: &str) -> Result<Vec<u8>, AllocEr
 
 /// The lines of the messages of a channel that were not let go, and the last line of its section.
 fn rest_text(alloc: Global, dispatcher: &Dispatcher, channel: u32) -> Result<Vec<u8>, AllocError>
-    ensures { (es : List Effect) → StandsFor es dispatcher.now → is_opened es channel ≡ true
+    ensures { (es : List Effect) → IsAfter es dispatcher.now → is_opened es channel ≡ true
         → IfOk result (λ v. v.items
         ≡ message_lines (drop (gone dispatcher.now channel) (reverse (stream es channel)))
         ++ end_of channel (unwrap_or (counts es channel) unopened)) }
@@ -59,7 +59,7 @@ fn rest_text(alloc: Global, dispatcher: &Dispatcher, channel: u32) -> Result<Vec
 
 /// Appends the last line of a channel's section.
 fn add_end(dispatcher: &Dispatcher, channel: u32, text: &mut Vec<u8>) -> Result<(), AllocError>
-    ensures ok { (es : List Effect) → StandsFor es dispatcher.now
+    ensures ok { (es : List Effect) → IsAfter es dispatcher.now
         → OnOk result (text.new.items ≡ text.old.items ++ end_of channel (unwrap_or (counts es channel) unopened)) }
     ensures err { OnErr result (text.new.items ≡ text.old.items) }
 {
@@ -89,7 +89,6 @@ impl Schedule {
             → OnErr result (WithFront text.old text.new (channel_section channel name.now
             (reverse (stream es channel)) (unwrap_or (counts es channel) unopened))) }
     {
-        self.dispatcher.let_go(channel);
         text.push(head_text(alloc, channel, name)?)?;
         text.push(take_lines(alloc, &mut self.streams, channel))?;
         text.push(rest_text(alloc, &self.dispatcher, channel)?)

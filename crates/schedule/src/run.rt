@@ -50,7 +50,7 @@ impl Schedule {
     }
 
     /// Does all that is due before these args, and hands them in. A run that has become too long does nothing more.
-    /// After want of memory the dispatcher stands for what was done up to then, and nothing else is said of the run.
+    /// After want of memory the dispatcher is as after what was done up to then, and nothing else is said of the run.
     pub fn take(&mut self, plan: &Plan, moment: Moment, args: &Args) -> Result<(), AllocError>
         requires { IsRun plan.now }
         ensures ran { (how : Lines) (given : List Cooked) → RanWith how (plan_of plan.now) given self.old
@@ -67,7 +67,7 @@ impl Schedule {
         Ok(())
     }
 
-    /// Does all that is due up to the end, once all args came. After want of memory the dispatcher stands for what was
+    /// Does all that is due up to the end, once all args came. After want of memory the dispatcher is as after what was
     /// done up to then, and nothing else is said of the run.
     pub fn finish(&mut self, plan: &Plan) -> Result<(), AllocError>
         requires { IsRun plan.now }

@@ -1,12 +1,12 @@
 //! The run itself.
-ghost use Rattle.std.specs.Prelude.{◌≡◌, ◌≤◌, ◌<◌, ◌+◌, ◌-◌, ◌^◌, ℕ, true, false, List, [], ◌∷◌, IfOk, OnOk, replicate, length, option_map};
+ghost use Rattle.std.specs.Prelude.{◌≡◌, ◌≤◌, ◌<◌, ◌+◌, ◌-◌, ℕ, true, false, List, IfOk, OnOk, replicate, length, option_map};
 ghost use Rattle.dispatch_calls.specs.declared.call.Call.{Call as CallView};
 ghost use Rattle.dispatch_history.specs.Effect.{Effect, past_of, stream};
 ghost use Rattle.dispatch_history.specs.Legal.{answered};
 ghost use Rattle.dispatch_history.specs.Ordered.{extend, is_scripted, scripted, received_all};
 ghost use Rattle.dispatch_history.specs.Plan.{Plan as PlanView};
 ghost use Rattle.dispatcher.specs.Access.{gone, is_opened, namings_gone};
-ghost use Rattle.dispatcher.specs.Dispatching.{StandsFor};
+ghost use Rattle.dispatcher.specs.Dispatching.{IsAfter};
 ghost use Rattle.schedule.specs.declared.keeping.Lines.{Lines};
 ghost use Rattle.schedule.specs.declared.keeping.Lines.TheVariants.{Causes};
 ghost use Rattle.why_text.specs.Text.{why_text};
@@ -17,7 +17,7 @@ ghost use Rattle.schedule.specs.Run.{messages_in};
 ghost use Rattle.schedule.specs.More.{ComesTo};
 ghost use Rattle.schedule.specs.State.{HasWith, counted};
 
-use crate::stream::{Stream, hear_left, hear_next};
+use crate::stream::Stream;
 use dispatch_calls::Call;
 use dispatcher::Dispatcher;
 use input_types::Moment;
@@ -76,9 +76,25 @@ impl Schedule {
         }
     }
 
+    /// One call that is no receive, after which so many steps were made. What it tells comes to the lines, and is let
+    /// go.
+    pub fn step(&mut self, call: &Call, next: usize) -> Result<(), AllocError>
+        ensures after { (how : Lines) (plan : PlanView) (es : List Effect) → HasWith how plan es self.old
+            → is_receiving call.now ≡ false
+            → next ≡ is_scripted call.now + scripted (past_of es)
+            → OnOk result (HasWith how plan (answered plan.displays call.now es) self.new) }
+        ensures calls { OnOk result (self.new.calls ≡ counted (self.old.calls + 1)) }
+        ensures messages { self.new.messages ≡ self.old.messages }
+        ensures more { (es : List Effect) → ComesTo es self.old.dispatcher → ComesTo es self.new.dispatcher }
+        ensures latest { self.new.latest ≡ self.old.latest }
+    {
+        self.make(call, next)?;
+        self.hear_told()
+    }
+
     /// One call that is no receive, after which so many steps were made. Of a channel that it removes nothing is kept
     /// but lines.
-    pub fn step(&mut self, call: &Call, next: usize) -> Result<(), AllocError>
+    pub(crate) fn make(&mut self, call: &Call, next: usize) -> Result<(), AllocError>
         ensures after { (how : Lines) (plan : PlanView) (es : List Effect) → HasWith how plan es self.old
             → is_receiving call.now ≡ false
             → next ≡ is_scripted call.now + scripted (past_of es)
@@ -116,31 +132,9 @@ impl Schedule {
         }
     }
 
-    /// The lines of what the owner of a removed channel did not receive come behind those of what it did, and the
-    /// channel lets all go. Of a live channel nothing changes.
-    fn hear_removed(&mut self, channel: u32) -> Result<(), AllocError>
-        ensures after { (how : Lines) (plan : PlanView) (es : List Effect) → HasWith how plan es self.old
-            → OnOk result (HasWith how plan es self.new) }
-        ensures calls { self.new.calls ≡ self.old.calls }
-        ensures messages { self.new.messages ≡ self.old.messages }
-        ensures more { (es : List Effect) → ComesTo es self.old.dispatcher → ComesTo es self.new.dispatcher }
-        ensures latest { self.new.latest ≡ self.old.latest }
-    {
-        let Some(counts) = self.dispatcher.counts(channel) else {
-            return Ok(());
-        };
-        if counts.live {
-            return Ok(());
-        }
-        self.dispatcher.let_go(channel);
-        hear_left(&mut self.streams, &self.dispatcher, channel)?;
-        self.dispatcher.let_all_go(channel);
-        Ok(())
-    }
-
     /// The owner of a channel takes its next message, where there is one.
     #[inline(always)]
-    fn receive_one(&mut self, channel: u32) -> Result<(), AllocError>
+    pub fn receive_next(&mut self, channel: u32) -> Result<(), AllocError>
         ensures after { (how : Lines) (plan : PlanView) (es : List Effect) → HasWith how plan es self.old
             → OnOk result (HasWith how plan (answered plan.displays (CallView.Receive channel) es) self.new) }
         ensures messages { self.new.messages ≡ self.old.messages }
@@ -148,7 +142,6 @@ impl Schedule {
         ensures more { (es : List Effect) → ComesTo es self.old.dispatcher → ComesTo es self.new.dispatcher }
         ensures latest { self.new.latest ≡ self.old.latest }
     {
-        hear_next(&mut self.streams, &self.dispatcher, channel)?;
         match self.dispatcher.pass(channel) {
             Ok(()) => {
                 self.calls = self.calls.saturating_add(1);
@@ -158,22 +151,8 @@ impl Schedule {
         }
     }
 
-    /// The owner of a channel takes its next message, where there is one, and the channel lets it go.
-    #[inline(never)]
-    pub fn receive_next(&mut self, channel: u32) -> Result<(), AllocError>
-        ensures after { (how : Lines) (plan : PlanView) (es : List Effect) → HasWith how plan es self.old
-            → OnOk result (HasWith how plan (answered plan.displays (CallView.Receive channel) es) self.new) }
-        ensures messages { self.new.messages ≡ self.old.messages }
-        ensures calls { OnOk result (self.old.calls ≤ self.new.calls) }
-        ensures more { (es : List Effect) → ComesTo es self.old.dispatcher → ComesTo es self.new.dispatcher }
-        ensures latest { self.new.latest ≡ self.old.latest }
-    {
-        self.receive_one(channel)?;
-        self.dispatcher.let_go(channel);
-        Ok(())
-    }
-
     /// The owner of a channel takes so many messages.
+    #[inline(always)]
     fn receive_many(&mut self, channel: u32, count: u64) -> Result<(), AllocError>
         ensures after { (how : Lines) (plan : PlanView) (es : List Effect) → HasWith how plan es self.old
             → OnOk result
@@ -184,47 +163,13 @@ impl Schedule {
         ensures latest { self.new.latest ≡ self.old.latest }
     {
         for _ in 0..count {
-            self.receive_one(channel)?;
+            self.receive_next(channel)?;
         }
         Ok(())
     }
 
-    /// The owner of a channel takes so many messages, and the channel lets go of them.
-    #[inline(never)]
-    fn receive_left(&mut self, channel: u32, count: u64) -> Result<(), AllocError>
-        ensures after { (how : Lines) (plan : PlanView) (es : List Effect) → HasWith how plan es self.old
-            → OnOk result
-            (HasWith how plan (extend plan.displays es (replicate count (CallView.Receive channel))) self.new) }
-        ensures messages { self.new.messages ≡ self.old.messages }
-        ensures calls { OnOk result (self.old.calls ≤ self.new.calls) }
-        ensures more { (es : List Effect) → ComesTo es self.old.dispatcher → ComesTo es self.new.dispatcher }
-        ensures latest { self.new.latest ≡ self.old.latest }
-    {
-        self.receive_many(channel, count)?;
-        self.dispatcher.let_go(channel);
-        Ok(())
-    }
-
-    /// The owner of a channel takes so many messages, which are mostly one, and the channel lets go of them.
-    #[inline(always)]
-    fn receive_some(&mut self, channel: u32, count: u64) -> Result<(), AllocError>
-        ensures after { (how : Lines) (plan : PlanView) (es : List Effect) → HasWith how plan es self.old
-            → OnOk result
-            (HasWith how plan (extend plan.displays es (replicate count (CallView.Receive channel))) self.new) }
-        ensures messages { self.new.messages ≡ self.old.messages }
-        ensures calls { OnOk result (self.old.calls ≤ self.new.calls) }
-        ensures more { (es : List Effect) → ComesTo es self.old.dispatcher → ComesTo es self.new.dispatcher }
-        ensures latest { self.new.latest ≡ self.old.latest }
-    {
-        if count == 1 {
-            self.receive_next(channel)
-        } else {
-            self.receive_left(channel, count)
-        }
-    }
-
-    /// The owner of a channel takes all that is published, and the channel lets it go. The answer is how many messages
-    /// the channel has. Mostly there is nothing to take, so it is a part of the loop that calls it.
+    /// The owner of a channel takes all that is published. The answer is how many messages the channel has. Mostly
+    /// there is nothing to take, so it is a part of the loop that calls it.
     #[inline(always)]
     pub(crate) fn receive(&mut self, channel: u32) -> Result<u64, AllocError>
         ensures after { (how : Lines) (plan : PlanView) (es : List Effect) → HasWith how plan es self.old
@@ -242,12 +187,31 @@ impl Schedule {
         };
         let left = counts.published.saturating_sub(counts.received);
         if 0 < left && counts.live {
-            self.receive_some(channel, left)?;
+            self.receive_many(channel, left)?;
         }
         Ok(counts.sent)
     }
 
-    /// The owners of all live channels take all that is published.
+    /// The same, and what the channel was told comes to the lines, and is let go.
+    #[inline(always)]
+    fn take_told(&mut self, channel: u32) -> Result<u64, AllocError>
+        ensures after { (how : Lines) (plan : PlanView) (es : List Effect) → HasWith how plan es self.old
+            → OnOk result (HasWith how plan (extend plan.displays es (receives_of es channel)) self.new) }
+        ensures sent { (how : Lines) (plan : PlanView) (es : List Effect) → HasWith how plan es self.old
+            → is_opened es channel ≡ true
+            → IfOk result (λ n. n ≡ length (stream es channel)) }
+        ensures messages { self.new.messages ≡ self.old.messages }
+        ensures calls { OnOk result (self.old.calls ≤ self.new.calls) }
+        ensures more { (es : List Effect) → ComesTo es self.old.dispatcher → ComesTo es self.new.dispatcher }
+        ensures latest { self.new.latest ≡ self.old.latest }
+    {
+        let sent = self.receive(channel)?;
+        self.hear_some(channel)?;
+        Ok(sent)
+    }
+
+    /// The owners of all live channels take all that is published. What all channels were told comes to the lines, and
+    /// is let go.
     pub(crate) fn receive_all(&mut self) -> Result<(), AllocError>
         ensures after { (how : Lines) (plan : PlanView) (es : List Effect) → HasWith how plan es self.old
             → OnOk result (HasWith how plan (received_all plan.displays es) self.new) }
@@ -259,7 +223,7 @@ impl Schedule {
     {
         let mut messages: u64 = 0;
         for place in 0..self.dispatcher.opened() {
-            messages = messages.saturating_add(self.receive(place + 1)?);
+            messages = messages.saturating_add(self.take_told(place + 1)?);
         }
         self.messages = messages;
         Ok(())
@@ -272,7 +236,7 @@ fn apply_call(
     dispatcher: &mut Dispatcher,
     call: &Call,
 ) -> Result<(), AllocError>
-    ensures after { (es : List Effect) → StandsFor es dispatcher.old
+    ensures after { (es : List Effect) → IsAfter es dispatcher.old
         → OnOk result (Applies call.now es dispatcher.old.displays
         (option_map (λ text. text.items) causes.old) (option_map (λ text. text.items) causes.new) dispatcher.new) }
     ensures displays { dispatcher.new.displays ≡ dispatcher.old.displays }

@@ -1,13 +1,10 @@
 //! The lines of what a channel was told.
 ghost use Rattle.std.specs.Prelude.{◌≡◌, [], ◌++◌, ℕ, ◌≤◌, true, List, OnOk, OnErr, IfOk, vec_len, drop, reverse, if◌then◌else◌, ◌==◌};
-ghost use Rattle.dispatch_calls.specs.declared.call.Call.{Call as CallView};
-ghost use Rattle.dispatch_calls.specs.declared.reply.Reply.TheVariants.{Got};
 ghost use Rattle.dispatch_history.specs.Effect.{Effect, stream};
-ghost use Rattle.dispatch_history.specs.Reply.{reply_to};
 ghost use Rattle.dispatcher.specs.Access.{gone, is_opened};
-ghost use Rattle.dispatcher.specs.Dispatching.{StandsFor};
+ghost use Rattle.dispatcher.specs.Dispatching.{IsAfter};
 ghost use Rattle.stream_text.specs.Spelling.{message_line, message_lines};
-ghost use Rattle.schedule.specs.Hearing.{Hears, WithMore};
+ghost use Rattle.schedule.specs.Hearing.{WithMore};
 ghost use Rattle.schedule.specs.Lines.{lines_at};
 
 use dispatcher::Dispatcher;
@@ -17,8 +14,7 @@ use std::marker::Model;
 use std::mem;
 use stream_text::LineWriter;
 
-/// The messages that the owner of a channel received, and those that were left as it was removed. Their lines alone are
-/// kept, which are far shorter than they are.
+/// The messages that a channel was told and let go. Their lines alone are kept, which are far shorter than they are.
 #[derive(Drop)]
 pub(crate) struct Stream {
     lines: Vec<u8>,
@@ -83,18 +79,7 @@ pub(crate) fn empty_streams(alloc: Global, count: usize) -> Result<Vec<Stream>, 
     Ok(streams)
 }
 
-/// The owner of a channel received one message more.
-fn hear(streams: &mut Vec<Stream>, channel: u32, message: &Message) -> Result<(), AllocError>
-    ensures { OnOk result (Hears (Got message.now) channel streams.old.items streams.new.items) }
-{
-    let place = channel as usize;
-    if 1 <= place && place <= streams.len() {
-        streams[place - 1].hear(message)?;
-    }
-    Ok(())
-}
-
-/// A channel that was removed was told these messages more than its owner received.
+/// A channel was told these messages more.
 fn hear_all(streams: &mut Vec<Stream>, channel: u32, messages: &[Message]) -> Result<(), AllocError>
     ensures { OnOk result (WithMore (message_lines messages.now) channel streams.old.items streams.new.items) }
 {
@@ -105,28 +90,13 @@ fn hear_all(streams: &mut Vec<Stream>, channel: u32, messages: &[Message]) -> Re
     Ok(())
 }
 
-/// Puts the message that the owner of a channel is handed next to its lines, where there is one.
-pub(crate) fn hear_next(
-    streams: &mut Vec<Stream>,
-    dispatcher: &Dispatcher,
-    channel: u32,
-) -> Result<(), AllocError>
-    ensures { (es : List Effect) → StandsFor es dispatcher.now
-        → OnOk result (Hears (reply_to es (CallView.Receive channel)) channel streams.old.items streams.new.items) }
-{
-    match dispatcher.next(channel) {
-        Some(message) => hear(streams, channel, message),
-        None => Ok(()),
-    }
-}
-
 /// Puts the messages of a channel that were not let go to its lines.
 pub(crate) fn hear_left(
     streams: &mut Vec<Stream>,
     dispatcher: &Dispatcher,
     channel: u32,
 ) -> Result<(), AllocError>
-    ensures { (es : List Effect) → StandsFor es dispatcher.now → is_opened es channel ≡ true
+    ensures { (es : List Effect) → IsAfter es dispatcher.now → is_opened es channel ≡ true
         → OnOk result (WithMore (message_lines (drop (gone dispatcher.now channel) (reverse (stream es channel))))
         channel streams.old.items streams.new.items) }
 {

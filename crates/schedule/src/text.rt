@@ -2,7 +2,7 @@
 ghost use Rattle.std.specs.Prelude.{◌≡◌, ◌++◌, ℕ, true, List, OnOk, OnErr, drop, reverse, length, take};
 ghost use Rattle.std.specs.Option.{unwrap_or};
 ghost use Rattle.dispatcher.specs.Access.{gone, is_opened};
-ghost use Rattle.dispatcher.specs.Dispatching.{StandsFor};
+ghost use Rattle.dispatcher.specs.Dispatching.{IsAfter};
 ghost use Rattle.dispatch_history.specs.Due.{counts, namings};
 ghost use Rattle.dispatch_history.specs.Effect.{Effect, stream};
 ghost use Rattle.dispatch_history.specs.Plan.{Plan as PlanView};
@@ -34,7 +34,7 @@ pub(crate) fn add_left(
     channel: u32,
     text: &mut Vec<u8>,
 ) -> Result<(), AllocError>
-    ensures { (es : List Effect) → StandsFor es dispatcher.now → is_opened es channel ≡ true
+    ensures { (es : List Effect) → IsAfter es dispatcher.now → is_opened es channel ≡ true
         → OnOk result (text.new.items
         ≡ text.old.items ++ message_lines (drop (gone dispatcher.now channel) (reverse (stream es channel)))) }
 {
@@ -46,7 +46,7 @@ pub(crate) fn add_left(
 
 /// How far a channel has come; of one that was never opened nothing.
 pub(crate) fn counts_of(dispatcher: &Dispatcher, channel: u32) -> Counts
-    ensures { (es : List Effect) → StandsFor es dispatcher.now → result ≡ unwrap_or (counts es channel) unopened }
+    ensures { (es : List Effect) → IsAfter es dispatcher.now → result ≡ unwrap_or (counts es channel) unopened }
 {
     match dispatcher.counts(channel) {
         Some(counts) => counts,

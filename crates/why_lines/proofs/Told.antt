@@ -10,13 +10,13 @@ use Rattle.dispatch_history.specs.Queue.{args_of, inbound}
 use Rattle.dispatch_history.specs.Reply.{reply_to}
 use Rattle.dispatch_tables.specs.Lawful.{Lawful}
 use Rattle.dispatch_tables.proofs.Lawfuls.{lawful_last}
-use Rattle.dispatcher.specs.Dispatching.{Dispatching, StandsFor}
+use Rattle.dispatcher.specs.Dispatching.{Dispatching, IsAfter}
 use Rattle.why_text.specs.Laws.{is_silent, may_move_focus}
 use Rattle.why_text.specs.Lines.{call_words}
 use Rattle.why_text.specs.Text.{focus_words, line}
 use Rattle.why_text.proofs.RestLaws.{silent_law}
 use Rattle.why_lines.specs.Growing.{with_lines}
-use Rattle.why_lines.specs.Telling.{Tells}
+use Rattle.why_lines.specs.Telling.{TellsAfter}
 use Rattle.why_lines.proofs.Growing.{more_lines}
 use Rattle.why_lines.proofs.Still.{moved_law, still_law}
 
@@ -34,18 +34,18 @@ abbrev pub answered_words : List ℕ → Call → List Effect → Reply → List
 answered_words ds call es answer = call_words ds call answer (effect_of ds call answer (args_of call answer (inbound (past_of es))) es) es
 
 -- a step is lawful where what is kept stands for it
-pub stands_lawful : (ds : List ℕ) (es : List Effect) (d : Dispatching) → StandsFor es d → d.displays ≡ ds → Lawful ds es
+pub stands_lawful : (ds : List ℕ) (es : List Effect) (d : Dispatching) → IsAfter es d → d.displays ≡ ds → Lawful ds es
 stands_lawful ds es d stands same = subst (λ x. Lawful x es) same stands.lawful
 
 -- a step that moves no focus is told where its lines are
 pub tells : (ds : List ℕ) (call : Call) (es : List Effect) (answer : Reply) (d : Dispatching) (t : ℕ) (words : List (List ℕ)) (old new : List ℕ)
-    → StandsFor (step ds call answer es) d
+    → IsAfter (step ds call answer es) d
     → d.displays ≡ ds
     → t ≡ max (moment_of call) (clock (past_of es))
     → may_move_focus call answer ≡ false
     → new ≡ with_lines t words old
     → (answer ≡ reply_to es call → words ≡ answered_words ds call es answer)
-    → Tells call es ds old new d
+    → TellsAfter call es ds old new d
 tells ds call es answer d t words old new stands same at still grown are =
     let l : Lawful ds (step ds call answer es) = stands_lawful ds (step ds call answer es) d stands same in
     let x = effect_of ds call answer (args_of call answer (inbound (past_of es))) es in
@@ -59,12 +59,12 @@ tells ds call es answer d t words old new stands same at still grown are =
 
 -- a step that may move the focus is told where its lines are, and behind them the changes
 pub tells_moved : (ds : List ℕ) (call : Call) (es : List Effect) (answer : Reply) (d : Dispatching) (t : ℕ) (words : List (List ℕ)) (old new : List ℕ)
-    → StandsFor (step ds call answer es) d
+    → IsAfter (step ds call answer es) d
     → d.displays ≡ ds
     → t ≡ max (moment_of call) (clock (past_of es))
     → new ≡ with_lines t (focus_words (past_of es) ((call, answer) ∷ past_of es)) (with_lines t words old)
     → (answer ≡ reply_to es call → words ≡ answered_words ds call es answer)
-    → Tells call es ds old new d
+    → TellsAfter call es ds old new d
 tells_moved ds call es answer d t words old new stands same at grown are =
     let l : Lawful ds (step ds call answer es) = stands_lawful ds (step ds call answer es) d stands same in
     let x = effect_of ds call answer (args_of call answer (inbound (past_of es))) es in
@@ -79,8 +79,8 @@ tells_moved ds call es answer d t words old new stands same at grown are =
     }
 
 -- a silent step tells nothing
-pub untold : (ds : List ℕ) (call : Call) (es : List Effect) (text : List ℕ) (answer : Reply) (d : Dispatching) → StandsFor (step ds call answer es) d
-    → is_silent call answer ≡ true → Tells call es ds text text d
+pub untold : (ds : List ℕ) (call : Call) (es : List Effect) (text : List ℕ) (answer : Reply) (d : Dispatching) → IsAfter (step ds call answer es) d
+    → is_silent call answer ≡ true → TellsAfter call es ds text text d
 untold ds call es text answer d stands silent =
     let x = effect_of ds call answer (args_of call answer (inbound (past_of es))) es in
     record {

@@ -2,9 +2,9 @@
 ghost use Rattle.std.specs.Prelude.{◌≡◌, ℕ, List, true, OnOk};
 ghost use Rattle.dispatch_calls.specs.declared.reply.Reply.{Reply as Answer};
 ghost use Rattle.dispatch_history.specs.Effect.{Effect};
-ghost use Rattle.dispatcher.specs.Dispatching.{StandsFor};
+ghost use Rattle.dispatcher.specs.Dispatching.{IsAfter, StandsFor};
 ghost use Rattle.why_text.specs.Laws.{is_silent};
-ghost use Rattle.why_lines.specs.Telling.{MayMake, Tells};
+ghost use Rattle.why_lines.specs.Telling.{MayMake, Tells, TellsAfter};
 
 use crate::requests::focus_on;
 use crate::snapshots::windows;
@@ -18,6 +18,8 @@ fn make(dispatcher: &mut Dispatcher, call: &Call) -> Result<(), AllocError>
     requires { (answer : Answer) → is_silent call.now answer ≡ true }
     ensures told { (es : List Effect) (text : List ℕ) → StandsFor es dispatcher.old
         → OnOk result (Tells call.now es dispatcher.old.displays text text dispatcher.new) }
+    ensures known { (es : List Effect) (text : List ℕ) → IsAfter es dispatcher.old
+        → OnOk result (TellsAfter call.now es dispatcher.old.displays text text dispatcher.new) }
     ensures made { MayMake call.now dispatcher.old dispatcher.new }
 {
     dispatcher.apply_unread(call)
@@ -30,6 +32,9 @@ pub fn apply(text: &mut Vec<u8>, dispatcher: &mut Dispatcher, call: &Call) -> Re
     ensures told { (es : List Effect) → StandsFor es dispatcher.old
         → OnOk result
         (Tells call.now es dispatcher.old.displays text.old.items text.new.items dispatcher.new) }
+    ensures known { (es : List Effect) → IsAfter es dispatcher.old
+        → OnOk result
+        (TellsAfter call.now es dispatcher.old.displays text.old.items text.new.items dispatcher.new) }
     ensures made { MayMake call.now dispatcher.old dispatcher.new }
 {
     match call {

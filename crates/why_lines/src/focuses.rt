@@ -3,7 +3,7 @@ ghost use Rattle.std.specs.Prelude.{◌≡◌, ◌≤◌, ◌++◌, List, codes,
 ghost use Rattle.dispatch_history.specs.Effect.{Effect, past_of};
 ghost use Rattle.dispatch_history.specs.Focus.{focus, key_target};
 ghost use Rattle.dispatch_history.specs.History.{History};
-ghost use Rattle.dispatcher.specs.Dispatching.{StandsFor};
+ghost use Rattle.dispatcher.specs.Dispatching.{IsAfter};
 ghost use Rattle.why_text.specs.Text.{change_words, focus_words};
 ghost use Rattle.why_lines.specs.Focusing.{AreFocuses};
 ghost use Rattle.why_lines.specs.Growing.{with_lines};
@@ -25,7 +25,7 @@ pub struct Focuses {
 /// The window that has the focus of a display.
 fn focused(dispatcher: &Dispatcher, display: u8) -> Option<u32>
     requires { display ≤ 3 }
-    ensures { (es : List Effect) → StandsFor es dispatcher.now → result ≡ focus (past_of es) display }
+    ensures { (es : List Effect) → IsAfter es dispatcher.now → result ≡ focus (past_of es) display }
 {
     let Some(display) = DisplayId::new(display) else {
         return None;
@@ -35,7 +35,7 @@ fn focused(dispatcher: &Dispatcher, display: u8) -> Option<u32>
 
 /// Which windows have the focus.
 pub fn all_focused(dispatcher: &Dispatcher) -> Focuses
-    ensures { (es : List Effect) → StandsFor es dispatcher.now → AreFocuses (past_of es) result }
+    ensures { (es : List Effect) → IsAfter es dispatcher.now → AreFocuses (past_of es) result }
 {
     Focuses {
         first: focused(dispatcher, 0),

@@ -2,7 +2,7 @@
 ghost use Rattle.std.specs.Prelude.{◌≡◌, List, IfOk};
 ghost use Rattle.focus_resolver.specs.Resolver.{is_at};
 ghost use Rattle.dispatch_history.specs.Effect.{Effect};
-ghost use Rattle.dispatcher.specs.Dispatching.{StandsFor};
+ghost use Rattle.dispatcher.specs.Dispatching.{IsAfter};
 ghost use Rattle.why_writer.specs.Lost.{items_of};
 ghost use Rattle.why_lines.specs.Gone.{gone_line, keys_gone, target_keys};
 ghost use Rattle.why_lines.specs.Growing.{with_lines};
@@ -53,7 +53,7 @@ pub(crate) fn target_keys(
     dispatcher: &Dispatcher,
     target: Option<u32>,
 ) -> Result<Vec<KeyArgs>, AllocError>
-    ensures { (es : List Effect) → StandsFor es dispatcher.now
+    ensures { (es : List Effect) → IsAfter es dispatcher.now
         → IfOk result (λ v. v.items ≡ target_keys es target) }
 {
     match target {

@@ -6,7 +6,7 @@ ghost use Rattle.dispatch_history.specs.Delivery.{able};
 ghost use Rattle.dispatch_history.specs.Effect.{Effect, past_of};
 ghost use Rattle.dispatch_history.specs.Focus.{key_target};
 ghost use Rattle.dispatch_history.specs.Keys.{same_key};
-ghost use Rattle.dispatcher.specs.Dispatching.{StandsFor};
+ghost use Rattle.dispatcher.specs.Dispatching.{IsAfter};
 ghost use Rattle.why_text.specs.Lines.{first_of, key_holders};
 ghost use Rattle.why_lines.specs.Holding.{HoldKeys, if_able};
 
@@ -23,7 +23,7 @@ pub(crate) struct KeyHolder<'a> {
 
 /// The window that keys go to, with the keys that it holds.
 fn held_by(dispatcher: &Dispatcher, window: u32) -> Option<KeyHolder<'_>>
-    ensures { (es : List Effect) → StandsFor es dispatcher.now → key_target (past_of es) ≡ Some window
+    ensures { (es : List Effect) → IsAfter es dispatcher.now → key_target (past_of es) ≡ Some window
         → HoldKeys es result }
 {
     match dispatcher.input(window) {
@@ -37,7 +37,7 @@ fn held_by(dispatcher: &Dispatcher, window: u32) -> Option<KeyHolder<'_>>
 
 /// The only window that may hold keys, with those that it holds; None where there is none.
 pub(crate) fn key_holder(dispatcher: &Dispatcher) -> Option<KeyHolder<'_>>
-    ensures { (es : List Effect) → StandsFor es dispatcher.now → HoldKeys es result }
+    ensures { (es : List Effect) → IsAfter es dispatcher.now → HoldKeys es result }
 {
     match dispatcher.target() {
         Some(window) => held_by(dispatcher, window),
@@ -73,7 +73,7 @@ fn window_of(holder: &KeyHolder, key: &KeyArgs) -> Option<u32>
 
 /// The window that holds a key, where there is one.
 pub(crate) fn holder_of(dispatcher: &Dispatcher, key: &KeyArgs) -> Option<u32>
-    ensures { (es : List Effect) → StandsFor es dispatcher.now → result ≡ first_of (key_holders es key.now) }
+    ensures { (es : List Effect) → IsAfter es dispatcher.now → result ≡ first_of (key_holders es key.now) }
 {
     match key_holder(dispatcher) {
         Some(holder) => window_of(&holder, key),
@@ -99,7 +99,7 @@ fn if_able(mask: u64, channel: Option<u32>) -> Option<u32>
 
 /// The window that is given a key that goes down: the one that keys go to, where it is able to take input.
 pub(crate) fn given_key(dispatcher: &Dispatcher) -> Option<u32>
-    ensures { (es : List Effect) → StandsFor es dispatcher.now
+    ensures { (es : List Effect) → IsAfter es dispatcher.now
         → result ≡ if_able (able es) (key_target (past_of es)) }
 {
     if_able(dispatcher.able(), dispatcher.target())

@@ -9,7 +9,7 @@ ghost use Rattle.dispatch_history.specs.KeyTold.{last_key, repeat_due};
 ghost use Rattle.dispatch_history.specs.Reply.{is_due};
 ghost use Rattle.dispatch_history.specs.Step.{scene};
 ghost use Rattle.dispatcher.specs.Access.{is_waiting};
-ghost use Rattle.dispatcher.specs.Dispatching.{StandsFor};
+ghost use Rattle.dispatcher.specs.Dispatching.{IsAfter};
 ghost use Rattle.why_text.specs.Lines.{key_line, repeat_words, reset_words};
 ghost use Rattle.why_text.specs.Text.{line};
 ghost use Rattle.why_lines.specs.Growing.{with_lines};
@@ -28,7 +28,7 @@ pub(crate) fn add_key(
     dispatcher: &Dispatcher,
     key: &KeyArgs,
 ) -> Result<(), AllocError>
-    ensures { (es : List Effect) (x : Effect) → StandsFor es dispatcher.now
+    ensures { (es : List Effect) (x : Effect) → IsAfter es dispatcher.now
         → x.args ≡ Some (KeyOfDevice key.now)
         → IfOk result (λ _. text.new.items ≡ text.old.items ++ line clock (key_line key.now x es)) }
 {
@@ -64,7 +64,7 @@ fn with_keys(mask: u64, holder: &KeyHolder, device: DeviceId) -> u64
 
 /// The mask of the windows that hold a pointer or a key of a device.
 fn held_of(dispatcher: &Dispatcher, device: DeviceId) -> u64
-    ensures { (es : List Effect) → StandsFor es dispatcher.now → (w : ℕ) → is_channel w ≡ true
+    ensures { (es : List Effect) → IsAfter es dispatcher.now → (w : ℕ) → is_channel w ≡ true
         → mask_has result w
         ≡ ((scene dispatcher.now.displays es).any w device || list_any (λ k. k.device == device) (keys es w)) }
 {
@@ -82,7 +82,7 @@ pub(crate) fn add_reset(
     dispatcher: &Dispatcher,
     device: DeviceId,
 ) -> Result<(), AllocError>
-    ensures { (es : List Effect) → StandsFor es dispatcher.now
+    ensures { (es : List Effect) → IsAfter es dispatcher.now
         → IfOk result (λ _. text.new.items
         ≡ text.old.items ++ line clock (reset_words device (scene dispatcher.now.displays es) es)) }
 {
@@ -92,7 +92,7 @@ pub(crate) fn add_reset(
 
 /// Adds the line of a repeat that is due.
 fn add_due(text: &mut Vec<u8>, clock: Moment, dispatcher: &Dispatcher) -> Result<(), AllocError>
-    ensures { (es : List Effect) → StandsFor es dispatcher.now → is_some (repeat_due es) ≡ true
+    ensures { (es : List Effect) → IsAfter es dispatcher.now → is_some (repeat_due es) ≡ true
         → IfOk result (λ _. text.new.items ≡ with_lines clock (repeat_words (last_key es)) text.old.items) }
 {
     let next = dispatcher.repeat();
@@ -118,7 +118,7 @@ pub(crate) fn add_repeat(
     clock: Moment,
     dispatcher: &Dispatcher,
 ) -> Result<(), AllocError>
-    ensures { (es : List Effect) → StandsFor es dispatcher.now → is_waiting es ≡ false
+    ensures { (es : List Effect) → IsAfter es dispatcher.now → is_waiting es ≡ false
         → IfOk result (λ _. text.new.items
         ≡ with_lines clock (if is_due (repeat_due es) clock then repeat_words (last_key es) else [])
         text.old.items) }

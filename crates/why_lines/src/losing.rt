@@ -6,7 +6,7 @@ ghost use Rattle.dispatch_calls.specs.declared.reply.Reply.TheVariants.{Done, Go
 ghost use Rattle.dispatch_history.specs.Effect.{Effect, past_of};
 ghost use Rattle.dispatch_history.specs.History.{live};
 ghost use Rattle.dispatch_history.specs.Keys.{keys};
-ghost use Rattle.dispatcher.specs.Dispatching.{StandsFor};
+ghost use Rattle.dispatcher.specs.Dispatching.{IsAfter};
 ghost use Rattle.why_text.specs.Lines.{removed_word, removed_words};
 ghost use Rattle.why_text.specs.Lost.{holds, ids_item, lost_word};
 ghost use Rattle.why_text.specs.Text.{line};
@@ -27,7 +27,7 @@ use window_snapshot::is_channel;
 /// The ids of the pointers that a window holds, of each device.
 pub(crate) fn ids_of(dispatcher: &Dispatcher, window: u32) -> [Bits32; 8]
     requires { is_channel window ≡ true }
-    ensures { (es : List Effect) → StandsFor es dispatcher.now
+    ensures { (es : List Effect) → IsAfter es dispatcher.now
         → ids_from 1 result ≡ flat_map (λ d. ids_item d (ids_that (holds es window d))) devices }
 {
     row_of(dispatcher.touches(), window)
@@ -58,7 +58,7 @@ pub(crate) fn keys_held(
     dispatcher: &Dispatcher,
     window: u32,
 ) -> Result<Vec<KeyArgs>, AllocError>
-    ensures { (es : List Effect) → StandsFor es dispatcher.now
+    ensures { (es : List Effect) → IsAfter es dispatcher.now
         → IfOk result (λ v. v.items ≡ keys es window) }
 {
     match key_holder(dispatcher) {
@@ -75,7 +75,7 @@ fn add_removed(
     channel: u32,
 ) -> Result<(), AllocError>
     requires { is_channel channel ≡ true }
-    ensures { (es : List Effect) (x : Effect) → StandsFor es dispatcher.now → LosesAll x es channel
+    ensures { (es : List Effect) (x : Effect) → IsAfter es dispatcher.now → LosesAll x es channel
         → IfOk result (λ _. text.new.items
         ≡ text.old.items ++ line clock (removed_word channel (lost_word x es channel))) }
 {
@@ -90,7 +90,7 @@ fn add_removed(
 
 /// Whether a channel is live.
 fn is_there(dispatcher: &Dispatcher, channel: u32) -> bool
-    ensures value { (es : List Effect) → StandsFor es dispatcher.now → result ≡ live (past_of es) channel }
+    ensures value { (es : List Effect) → IsAfter es dispatcher.now → result ≡ live (past_of es) channel }
     ensures number { result ≡ true → is_channel channel ≡ true }
 {
     if is_channel(channel) {
@@ -107,7 +107,7 @@ pub(crate) fn add_removal(
     dispatcher: &Dispatcher,
     channel: u32,
 ) -> Result<(), AllocError>
-    ensures { (es : List Effect) (x : Effect) → StandsFor es dispatcher.now
+    ensures { (es : List Effect) (x : Effect) → IsAfter es dispatcher.now
         → (live (past_of es) channel ≡ true → LosesAll x es channel)
         → IfOk result (λ _. text.new.items
         ≡ text.old.items

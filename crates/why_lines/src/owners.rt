@@ -9,7 +9,7 @@ ghost use Rattle.dispatch_history.specs.Effect.{Effect, past_of};
 ghost use Rattle.dispatch_history.specs.History.{live};
 ghost use Rattle.dispatch_history.specs.Reply.{pilfer_reply};
 ghost use Rattle.dispatch_history.specs.Step.{scene};
-ghost use Rattle.dispatcher.specs.Dispatching.{StandsFor};
+ghost use Rattle.dispatcher.specs.Dispatching.{IsAfter};
 ghost use Rattle.why_text.specs.Lines.{pilfer_done, pilfer_word, pilfer_words};
 ghost use Rattle.why_text.specs.Text.{line};
 ghost use Rattle.why_writer.specs.Lost.{ids_in};
@@ -46,7 +46,7 @@ pub fn add_finish(
 
 /// Whether a channel is live.
 pub(crate) fn is_live(dispatcher: &Dispatcher, channel: u32) -> bool
-    ensures { (es : List Effect) → StandsFor es dispatcher.now → result ≡ live (past_of es) channel }
+    ensures { (es : List Effect) → IsAfter es dispatcher.now → result ≡ live (past_of es) channel }
 {
     match dispatcher.counts(channel) {
         Some(counts) => counts.live,
@@ -100,7 +100,7 @@ fn holders_of(touches: &Touches, device: DeviceId, ids: Bits32) -> u64
 
 /// Why a pilfer is refused, where it is.
 fn refusal(dispatcher: &Dispatcher, channel: u32, device: DeviceId) -> Option<PilferRefused>
-    ensures value { (es : List Effect) → StandsFor es dispatcher.now
+    ensures value { (es : List Effect) → IsAfter es dispatcher.now
         → answered result ≡ pilfer_reply es channel device }
     ensures channel { result ≡ None → is_channel channel ≡ true }
 {
@@ -125,7 +125,7 @@ fn add_done(
     device: DeviceId,
 ) -> Result<(), AllocError>
     requires { is_channel channel ≡ true }
-    ensures { (es : List Effect) → StandsFor es dispatcher.now
+    ensures { (es : List Effect) → IsAfter es dispatcher.now
         → IfOk result (λ _. text.new.items
         ≡ text.old.items
         ++ line clock
@@ -145,7 +145,7 @@ pub fn add_pilfer(
     channel: u32,
     device: DeviceId,
 ) -> Result<(), AllocError>
-    ensures { (es : List Effect) → StandsFor es dispatcher.now
+    ensures { (es : List Effect) → IsAfter es dispatcher.now
         → IfOk result (λ _. text.new.items
         ≡ text.old.items
         ++ line clock

@@ -3,7 +3,7 @@ ghost use Rattle.std.specs.Prelude.{◌≡◌, ℕ, List, Some, max, slice_get, 
 ghost use Rattle.dispatch_history.specs.Effect.{Effect, past_of};
 ghost use Rattle.dispatch_history.specs.History.{clock as clock_of};
 ghost use Rattle.dispatch_history.specs.Queue.{inbound};
-ghost use Rattle.dispatcher.specs.Dispatching.{StandsFor};
+ghost use Rattle.dispatcher.specs.Dispatching.{IsAfter};
 ghost use Rattle.why_text.specs.Lines.{args_words};
 ghost use Rattle.why_lines.specs.Growing.{with_lines};
 ghost use Rattle.why_lines.specs.Pumping.{pump_words};
@@ -22,7 +22,7 @@ fn add_args(
     dispatcher: &Dispatcher,
     args: &Args,
 ) -> Result<(), AllocError>
-    ensures { (es : List Effect) (x : Effect) → StandsFor es dispatcher.now
+    ensures { (es : List Effect) (x : Effect) → IsAfter es dispatcher.now
         → slice_get (inbound (past_of es)) 0 ≡ Some args.now → x.args ≡ Some args.now
         → IfOk result (λ _. text.new.items
         ≡ with_lines clock (args_words dispatcher.now.displays (Some args.now) x es) text.old.items) }
@@ -44,7 +44,7 @@ pub fn add_pump(
     clock: Moment,
     dispatcher: &Dispatcher,
 ) -> Result<(), AllocError>
-    ensures { (es : List Effect) (now : ℕ) → StandsFor es dispatcher.now
+    ensures { (es : List Effect) (now : ℕ) → IsAfter es dispatcher.now
         → clock ≡ max now (clock_of (past_of es))
         → IfOk result (λ _. text.new.items
         ≡ with_lines clock (pump_words dispatcher.now.displays now es) text.old.items) }

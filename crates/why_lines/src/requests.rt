@@ -2,10 +2,10 @@
 ghost use Rattle.std.specs.Prelude.{◌≡◌, List, IfOk, OnOk};
 ghost use Rattle.dispatch_calls.specs.declared.call.Call.TheVariants.{FocusOn};
 ghost use Rattle.dispatch_history.specs.Effect.{Effect};
-ghost use Rattle.dispatcher.specs.Dispatching.{StandsFor};
+ghost use Rattle.dispatcher.specs.Dispatching.{IsAfter, StandsFor};
 ghost use Rattle.why_lines.specs.Gone.{target_line};
 ghost use Rattle.why_lines.specs.Growing.{with_lines};
-ghost use Rattle.why_lines.specs.Telling.{MayMake, Tells};
+ghost use Rattle.why_lines.specs.Telling.{MayMake, Tells, TellsAfter};
 
 use crate::focuses::{add_changes, all_focused};
 use crate::gone::{add_gone, keys_gone, target_keys};
@@ -48,6 +48,10 @@ pub fn focus_on(
     ensures told { (es : List Effect) → StandsFor es dispatcher.old
         → OnOk result
         (Tells (FocusOn now display channel) es dispatcher.old.displays text.old.items text.new.items dispatcher.new) }
+    ensures known { (es : List Effect) → IsAfter es dispatcher.old
+        → OnOk result
+        (TellsAfter (FocusOn now display channel) es dispatcher.old.displays
+        text.old.items text.new.items dispatcher.new) }
     ensures made { MayMake (FocusOn now display channel) dispatcher.old dispatcher.new }
 {
     let clock = now.later(dispatcher.clock());

@@ -2,7 +2,7 @@
 ghost use Rattle.std.specs.Prelude.{List};
 ghost use Rattle.dispatch_history.specs.Effect.{Effect};
 ghost use Rattle.dispatch_history.specs.Step.{scene};
-ghost use Rattle.dispatcher.specs.Dispatching.{StandsFor};
+ghost use Rattle.dispatcher.specs.Dispatching.{IsAfter};
 ghost use Rattle.why_causes.specs.Causes.{IsSeen};
 
 use dispatcher::Dispatcher;
@@ -11,7 +11,7 @@ use why_causes::Sight;
 
 /// What the rules see before a motion of a device.
 pub(crate) fn sight(dispatcher: &Dispatcher, device: DeviceId) -> Sight<'_>
-    ensures { (es : List Effect) → StandsFor es dispatcher.now
+    ensures { (es : List Effect) → IsAfter es dispatcher.now
         → IsSeen (scene dispatcher.now.displays es) device result }
 {
     Sight {

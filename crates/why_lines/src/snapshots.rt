@@ -2,13 +2,13 @@
 ghost use Rattle.std.specs.Prelude.{◌≡◌, ◌<◌, ◌+◌, ◌∷◌, List, IfOk, OnOk};
 ghost use Rattle.dispatch_calls.specs.declared.call.Call.TheVariants.{Windows};
 ghost use Rattle.dispatch_history.specs.Effect.{Effect};
-ghost use Rattle.dispatcher.specs.Dispatching.{StandsFor};
+ghost use Rattle.dispatcher.specs.Dispatching.{IsAfter, StandsFor};
 ghost use Rattle.why_text.specs.Lines.{gone_words};
 ghost use Rattle.why_text.specs.Lost.{lost_items};
 ghost use Rattle.why_lines.specs.Gone.{gone_line};
 ghost use Rattle.why_lines.specs.Growing.{with_lines};
 ghost use Rattle.why_lines.specs.Held.{HoldThis, IsQuiet, held_keys};
-ghost use Rattle.why_lines.specs.Telling.{MayMake, Tells};
+ghost use Rattle.why_lines.specs.Telling.{MayMake, Tells, TellsAfter};
 
 use crate::focuses::{add_changes, all_focused};
 use crate::gone::{add_gone, is_at, keys_gone, target_keys};
@@ -50,7 +50,7 @@ fn add_lost(
     place: usize,
 ) -> Result<(), AllocError>
     requires { place < 64 }
-    ensures { (es : List Effect) (x : Effect) → StandsFor (x ∷ es) dispatcher.now → HoldThis es held.now → IsQuiet x
+    ensures { (es : List Effect) (x : Effect) → IsAfter (x ∷ es) dispatcher.now → HoldThis es held.now → IsQuiet x
         → IfOk result (λ _. text.new.items
         ≡ with_lines clock (gone_line (place + 1) (lost_items x es (place + 1))) text.old.items) }
 {
@@ -68,7 +68,7 @@ fn add_all_lost(
     held: &Held,
     dispatcher: &Dispatcher,
 ) -> Result<(), AllocError>
-    ensures { (es : List Effect) (x : Effect) → StandsFor (x ∷ es) dispatcher.now → HoldThis es held.now → IsQuiet x
+    ensures { (es : List Effect) (x : Effect) → IsAfter (x ∷ es) dispatcher.now → HoldThis es held.now → IsQuiet x
         → IfOk result (λ _. text.new.items ≡ with_lines clock (gone_words x es) text.old.items) }
 {
     for place in 0..64 {
@@ -90,6 +90,10 @@ pub fn windows(
     ensures told { (es : List Effect) → StandsFor es dispatcher.old
         → OnOk result
         (Tells (Windows now snapshot.now) es dispatcher.old.displays text.old.items text.new.items dispatcher.new) }
+    ensures known { (es : List Effect) → IsAfter es dispatcher.old
+        → OnOk result
+        (TellsAfter (Windows now snapshot.now) es dispatcher.old.displays
+        text.old.items text.new.items dispatcher.new) }
     ensures made { MayMake (Windows now snapshot.now) dispatcher.old dispatcher.new }
 {
     let clock = now.later(dispatcher.clock());

@@ -3,8 +3,8 @@
 ghost use Rattle.std.specs.Prelude.{List, OnOk};
 ghost use Rattle.dispatch_calls.specs.declared.call.Call.TheVariants.{Finish, Open, Pilfer, Pump, Remove, Tick};
 ghost use Rattle.dispatch_history.specs.Effect.{Effect};
-ghost use Rattle.dispatcher.specs.Dispatching.{StandsFor};
-ghost use Rattle.why_lines.specs.Telling.{MayMake, Tells};
+ghost use Rattle.dispatcher.specs.Dispatching.{IsAfter, StandsFor};
+ghost use Rattle.why_lines.specs.Telling.{MayMake, Tells, TellsAfter};
 
 use crate::focuses::{add_changes, all_focused};
 use crate::losing::add_removal;
@@ -21,6 +21,9 @@ pub fn pump(text: &mut Vec<u8>, dispatcher: &mut Dispatcher, now: Moment) -> Res
     ensures told { (es : List Effect) → StandsFor es dispatcher.old
         → OnOk result
         (Tells (Pump now) es dispatcher.old.displays text.old.items text.new.items dispatcher.new) }
+    ensures known { (es : List Effect) → IsAfter es dispatcher.old
+        → OnOk result
+        (TellsAfter (Pump now) es dispatcher.old.displays text.old.items text.new.items dispatcher.new) }
     ensures made { MayMake (Pump now) dispatcher.old dispatcher.new }
 {
     let clock = now.later(dispatcher.clock());
@@ -33,6 +36,9 @@ pub fn tick(text: &mut Vec<u8>, dispatcher: &mut Dispatcher, now: Moment) -> Res
     ensures told { (es : List Effect) → StandsFor es dispatcher.old
         → OnOk result
         (Tells (Tick now) es dispatcher.old.displays text.old.items text.new.items dispatcher.new) }
+    ensures known { (es : List Effect) → IsAfter es dispatcher.old
+        → OnOk result
+        (TellsAfter (Tick now) es dispatcher.old.displays text.old.items text.new.items dispatcher.new) }
     ensures made { MayMake (Tick now) dispatcher.old dispatcher.new }
 {
     let clock = now.later(dispatcher.clock());
@@ -51,6 +57,10 @@ pub fn pilfer(
     ensures told { (es : List Effect) → StandsFor es dispatcher.old
         → OnOk result
         (Tells (Pilfer now channel device) es dispatcher.old.displays text.old.items text.new.items dispatcher.new) }
+    ensures known { (es : List Effect) → IsAfter es dispatcher.old
+        → OnOk result
+        (TellsAfter (Pilfer now channel device) es dispatcher.old.displays
+        text.old.items text.new.items dispatcher.new) }
     ensures made { MayMake (Pilfer now channel device) dispatcher.old dispatcher.new }
 {
     let clock = now.later(dispatcher.clock());
@@ -73,6 +83,9 @@ pub fn finish(
     ensures told { (es : List Effect) → StandsFor es dispatcher.old
         → OnOk result
         (Tells (Finish now channel seq) es dispatcher.old.displays text.old.items text.new.items dispatcher.new) }
+    ensures known { (es : List Effect) → IsAfter es dispatcher.old
+        → OnOk result
+        (TellsAfter (Finish now channel seq) es dispatcher.old.displays text.old.items text.new.items dispatcher.new) }
     ensures made { MayMake (Finish now channel seq) dispatcher.old dispatcher.new }
 {
     let clock = now.later(dispatcher.clock());
@@ -92,6 +105,9 @@ pub fn remove(
     ensures told { (es : List Effect) → StandsFor es dispatcher.old
         → OnOk result
         (Tells (Remove now channel) es dispatcher.old.displays text.old.items text.new.items dispatcher.new) }
+    ensures known { (es : List Effect) → IsAfter es dispatcher.old
+        → OnOk result
+        (TellsAfter (Remove now channel) es dispatcher.old.displays text.old.items text.new.items dispatcher.new) }
     ensures made { MayMake (Remove now channel) dispatcher.old dispatcher.new }
 {
     let clock = now.later(dispatcher.clock());
@@ -107,6 +123,9 @@ pub fn open(text: &mut Vec<u8>, dispatcher: &mut Dispatcher, limit: Limit) -> Re
     ensures told { (es : List Effect) → StandsFor es dispatcher.old
         → OnOk result
         (Tells (Open limit) es dispatcher.old.displays text.old.items text.new.items dispatcher.new) }
+    ensures known { (es : List Effect) → IsAfter es dispatcher.old
+        → OnOk result
+        (TellsAfter (Open limit) es dispatcher.old.displays text.old.items text.new.items dispatcher.new) }
     ensures made { MayMake (Open limit) dispatcher.old dispatcher.new }
 {
     let clock = Moment::zero().later(dispatcher.clock());

@@ -4,7 +4,7 @@ ghost use Rattle.window_snapshot.specs.Mask.{is_channel};
 ghost use Rattle.dispatch_history.specs.Effect.{Effect};
 ghost use Rattle.dispatch_history.specs.Reply.{is_due};
 ghost use Rattle.dispatch_tables.specs.Dues.{due_moment};
-ghost use Rattle.dispatcher.specs.Dispatching.{StandsFor};
+ghost use Rattle.dispatcher.specs.Dispatching.{IsAfter};
 ghost use Rattle.why_text.specs.Lines.{timeout_word, timeout_words};
 ghost use Rattle.why_text.specs.Lost.{lost_word};
 ghost use Rattle.why_text.specs.Text.{line};
@@ -28,7 +28,7 @@ fn add_timeout(
     seq: u64,
 ) -> Result<(), AllocError>
     requires { is_channel channel ≡ true }
-    ensures { (es : List Effect) (x : Effect) → StandsFor es dispatcher.now → LosesAll x es channel
+    ensures { (es : List Effect) (x : Effect) → IsAfter es dispatcher.now → LosesAll x es channel
         → IfOk result (λ _. text.new.items
         ≡ text.old.items ++ line clock (timeout_word channel (decimal seq) (lost_word x es channel))) }
 {
@@ -49,7 +49,7 @@ fn add_late(
     channel: u32,
 ) -> Result<(), AllocError>
     requires { is_channel channel ≡ true }
-    ensures { (es : List Effect) (x : Effect) → StandsFor es dispatcher.now
+    ensures { (es : List Effect) (x : Effect) → IsAfter es dispatcher.now
         → (is_due (due_moment es channel) clock ≡ true → LosesAll x es channel)
         → IfOk result (λ _. text.new.items
         ≡ with_lines clock
@@ -71,7 +71,7 @@ pub(crate) fn add_tick(
     clock: Moment,
     dispatcher: &Dispatcher,
 ) -> Result<(), AllocError>
-    ensures { (es : List Effect) (x : Effect) → StandsFor es dispatcher.now
+    ensures { (es : List Effect) (x : Effect) → IsAfter es dispatcher.now
         → ((w : ℕ) → is_due (due_moment es w) clock ≡ true → LosesAll x es w)
         → IfOk result (λ _. text.new.items
         ≡ with_lines clock

@@ -11,7 +11,7 @@ ghost use Rattle.dispatch_history.specs.History.{clock, snapshot};
 ghost use Rattle.dispatch_history.specs.KeyTold.{last_key, while_held};
 ghost use Rattle.dispatch_history.specs.Queue.{inbound};
 ghost use Rattle.dispatch_history.specs.Step.{reach};
-ghost use Rattle.dispatcher.specs.Dispatching.{StandsFor};
+ghost use Rattle.dispatcher.specs.Dispatching.{IsAfter};
 
 use crate::dispatcher::Dispatcher;
 use input_types::{Args, DeviceId, DisplayId, Displays, KeyMsg, Moment};
@@ -20,7 +20,7 @@ use window_snapshot::Snapshot;
 impl Dispatcher {
     /// The args that are dispatched next; None exactly where none wait.
     pub fn first(&self) -> Option<&Args>
-        ensures { (es : List Effect) → StandsFor es self.now
+        ensures { (es : List Effect) → IsAfter es self.now
             → option_copied result ≡ slice_get (inbound (past_of es)) 0 }
     {
         self.tables.queueing.first()
@@ -28,7 +28,7 @@ impl Dispatcher {
 
     /// The windows of the last snapshot; none before the first one.
     pub fn windows(&self) -> &Snapshot
-        ensures { (es : List Effect) → StandsFor es self.now → result.now ≡ snapshot (past_of es) }
+        ensures { (es : List Effect) → IsAfter es self.now → result.now ≡ snapshot (past_of es) }
     {
         self.tables.routing.shown.windows()
     }
@@ -36,7 +36,7 @@ impl Dispatcher {
     /// The mask of the channels that a motion of a device can reach: those that are live, and have a window on its
     /// display.
     pub fn reach(&self, device: DeviceId) -> u64
-        ensures { (es : List Effect) → StandsFor es self.now → (c : ℕ)
+        ensures { (es : List Effect) → IsAfter es self.now → (c : ℕ)
             → mask_has result c ≡ reach self.now.displays es device c }
     {
         let routing = &self.tables.routing;
@@ -46,14 +46,14 @@ impl Dispatcher {
 
     /// The mask of the channels that are able to take input: live, and not unresponsive.
     pub fn able(&self) -> u64
-        ensures { (es : List Effect) → StandsFor es self.now → (c : ℕ) → mask_has result c ≡ able es c }
+        ensures { (es : List Effect) → IsAfter es self.now → (c : ℕ) → mask_has result c ≡ able es c }
     {
         self.tables.routing.channels.able()
     }
 
     /// The channel whose window has the focus of a display, where there is one.
     pub fn focused(&self, display: DisplayId) -> Option<u32>
-        ensures { (es : List Effect) → StandsFor es self.now → result ≡ focus (past_of es) display }
+        ensures { (es : List Effect) → IsAfter es self.now → result ≡ focus (past_of es) display }
     {
         // Read for its clause alone: a display has one of the numbers 0 to 3.
         let _number = display.get();
@@ -62,7 +62,7 @@ impl Dispatcher {
 
     /// The channel whose window keys go to, where there is one.
     pub fn target(&self) -> Option<u32>
-        ensures { (es : List Effect) → StandsFor es self.now → result ≡ key_target (past_of es) }
+        ensures { (es : List Effect) → IsAfter es self.now → result ≡ key_target (past_of es) }
     {
         self.tables.routing.focus.target()
     }
@@ -70,7 +70,7 @@ impl Dispatcher {
     /// The channel that the key message that was told last is repeated for, and the repeat; None exactly where its
     /// window does not hold the key any more, or it is not repeated.
     pub fn repeat(&self) -> Option<(u32, KeyMsg)>
-        ensures { (es : List Effect) → StandsFor es self.now
+        ensures { (es : List Effect) → IsAfter es self.now
             → option_map (λ n. (n.0, n.1)) result ≡ next_of (while_held es (last_key es)) }
     {
         self.tables.routing.repeat.next()
@@ -78,7 +78,7 @@ impl Dispatcher {
 
     /// The greatest moment that was handed in.
     pub fn clock(&self) -> Moment
-        ensures { (es : List Effect) → StandsFor es self.now → result ≡ clock (past_of es) }
+        ensures { (es : List Effect) → IsAfter es self.now → result ≡ clock (past_of es) }
     {
         self.tables.queueing.clock()
     }

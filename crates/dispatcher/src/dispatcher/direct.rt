@@ -6,7 +6,7 @@ ghost use Rattle.dispatch_calls.specs.declared.reply.Reply.{Reply as Answer};
 ghost use Rattle.dispatch_history.specs.Effect.{Effect};
 ghost use Rattle.dispatch_history.specs.Effects.{step};
 ghost use Rattle.dispatcher.specs.Access.{gone, namings_gone};
-ghost use Rattle.dispatcher.specs.Dispatching.{StandsFor};
+ghost use Rattle.dispatcher.specs.Dispatching.{IsAfter, StandsFor};
 
 use super::Dispatcher;
 use crate::direct::{finish_on, hand_in, pass_on, pump_on};
@@ -19,6 +19,9 @@ impl Dispatcher {
         ensures after { (es : List Effect) → StandsFor es self.old
             → OnOk result
             ((answer : Answer) × StandsFor (step self.old.displays (Call.Notify now args.now) answer es) self.new) }
+        ensures known { (es : List Effect) → IsAfter es self.old
+            → OnOk result
+            ((answer : Answer) × IsAfter (step self.old.displays (Call.Notify now args.now) answer es) self.new) }
         ensures displays { self.new.displays ≡ self.old.displays }
         ensures gone { (c : ℕ) → 1 ≤ c → gone self.new c ≡ gone self.old c }
         ensures namings { namings_gone self.new ≡ namings_gone self.old }
@@ -32,6 +35,9 @@ impl Dispatcher {
         ensures after { (es : List Effect) → StandsFor es self.old
             → OnOk result
             ((answer : Answer) × StandsFor (step self.old.displays (Call.Pump now) answer es) self.new) }
+        ensures known { (es : List Effect) → IsAfter es self.old
+            → OnOk result
+            ((answer : Answer) × IsAfter (step self.old.displays (Call.Pump now) answer es) self.new) }
         ensures displays { self.new.displays ≡ self.old.displays }
         ensures gone { (c : ℕ) → 1 ≤ c → gone self.new c ≡ gone self.old c }
         ensures namings { namings_gone self.new ≡ namings_gone self.old }
@@ -45,6 +51,9 @@ impl Dispatcher {
         ensures after { (es : List Effect) → StandsFor es self.old
             → OnOk result
             ((answer : Answer) × StandsFor (step self.old.displays (Call.Finish now channel seq) answer es) self.new) }
+        ensures known { (es : List Effect) → IsAfter es self.old
+            → OnOk result
+            ((answer : Answer) × IsAfter (step self.old.displays (Call.Finish now channel seq) answer es) self.new) }
         ensures displays { self.new.displays ≡ self.old.displays }
         ensures gone { (c : ℕ) → 1 ≤ c → gone self.new c ≡ gone self.old c }
         ensures namings { namings_gone self.new ≡ namings_gone self.old }
@@ -53,12 +62,15 @@ impl Dispatcher {
         finish_on(&mut self.tables, now, channel, seq)
     }
 
-    /// The owner of a channel has the message that [`next`](Dispatcher::next) lends, as by a `Receive`. Want of memory
-    /// changes nothing.
+    /// The owner of a channel has the message that [`next`](Dispatcher::next) lends, or would lend had it not been let
+    /// go, as by a `Receive`. Want of memory changes nothing.
     pub fn pass(&mut self, channel: u32) -> Result<(), AllocError>
         ensures after { (es : List Effect) → StandsFor es self.old
             → OnOk result
             ((answer : Answer) × StandsFor (step self.old.displays (Call.Receive channel) answer es) self.new) }
+        ensures known { (es : List Effect) → IsAfter es self.old
+            → OnOk result
+            ((answer : Answer) × IsAfter (step self.old.displays (Call.Receive channel) answer es) self.new) }
         ensures displays { self.new.displays ≡ self.old.displays }
         ensures gone { (c : ℕ) → 1 ≤ c → gone self.new c ≡ gone self.old c }
         ensures namings { namings_gone self.new ≡ namings_gone self.old }

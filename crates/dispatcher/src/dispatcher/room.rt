@@ -1,7 +1,7 @@
 //! Room for args.
 ghost use Rattle.std.specs.Prelude.{◌≡◌, ◌≤◌, List, OnErr, OnOk, IsOk};
 ghost use Rattle.dispatch_history.specs.Effect.{Effect};
-ghost use Rattle.dispatcher.specs.Dispatching.{StandsFor, with_room, with_args_room};
+ghost use Rattle.dispatcher.specs.Dispatching.{IsAfter, StandsFor, with_room, with_args_room};
 
 use super::Dispatcher;
 use crate::reserving::reserve;
@@ -19,6 +19,7 @@ impl Dispatcher {
         ensures err { OnErr result (self.new ≡ self.old) }
         ensures reserved { n ≤ self.old.queue.spare → n ≤ self.old.queue.pumps → IsOk result }
         ensures stays { (es : List Effect) → StandsFor es self.old → StandsFor es self.new }
+        ensures known { (es : List Effect) → IsAfter es self.old → IsAfter es self.new }
     {
         reserve(&mut self.tables, n)
     }
@@ -29,6 +30,7 @@ impl Dispatcher {
         ensures err { OnErr result (self.new ≡ self.old) }
         ensures reserved { n ≤ self.old.queue.spare → IsOk result }
         ensures stays { (es : List Effect) → StandsFor es self.old → StandsFor es self.new }
+        ensures known { (es : List Effect) → IsAfter es self.old → IsAfter es self.new }
     {
         self.tables.queueing.reserve(n)
     }

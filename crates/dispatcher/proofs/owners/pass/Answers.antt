@@ -1,32 +1,15 @@
-use Rattle.std.proofs.Common.{sym, ap, ◌∙◌, option_copied}
+use Rattle.std.proofs.Common.{sym, ap, ◌∙◌}
 use Rattle.window_snapshot.specs.Mask.{mask_has}
-use Rattle.dispatch_calls.specs.declared.reply.Reply.TheVariants.{Gone, Empty, Got}
-use Rattle.dispatcher.proofs.Resting.{receive_gone, receive_none, receive_one}
+use Rattle.dispatcher.proofs.Resting.{hands_gone, hands_live}
 use Rattle.dispatcher.proofs.owners.pass.Goals as goal
 
 pub returns-then-not-mask_has : goal.returns-then-not-mask_has
-returns-then-not-mask_has c = (
-  Gone,
-  λ place clock.
-      receive_gone c.args.channel place clock c.args.routing.now
-      (ap (λ m. mask_has m c.args.channel) (sym c.live.ensures.value) ∙ sym c.mask_has.ensures ∙ c.if-not-mask_has.true),
-)
-
-pub returns-in_default : goal.returns-in_default
-returns-in_default c = (
-  Empty,
-  λ place clock.
-      receive_none c.args.channel place clock c.args.routing.now
-      (ap (λ m. mask_has m c.args.channel) (sym c.live.ensures.value) ∙ sym c.mask_has.ensures ∙ c.if-not-mask_has.false)
-      (sym c.next.ensures ∙ ap option_copied c.in_default.is),
-)
+returns-then-not-mask_has c =
+    hands_gone c.args.channel c.args.routing.now
+    (ap (λ m. mask_has m c.args.channel) (sym c.live.ensures.value) ∙ sym c.mask_has.ensures ∙ c.if-not-mask_has.true)
 
 pub returns : goal.returns
-returns c = (
-  Got c.in-Some._next.now,
-  λ place clock.
-      receive_one c.args.channel place clock c.in-Some._next.now c.args.routing.now c.mark_received.new.self
-      (ap (λ m. mask_has m c.args.channel) (sym c.live.ensures.value) ∙ sym c.mask_has.ensures ∙ c.if-not-mask_has.false)
-      (sym c.next.ensures ∙ ap option_copied c.in-Some.is)
-      c.mark_received.ensures,
-)
+returns c =
+    hands_live c.args.channel c.args.routing.now c.pass.new.self
+    (ap (λ m. mask_has m c.args.channel) (sym c.live.ensures.value) ∙ sym c.mask_has.ensures ∙ c.if-not-mask_has.false)
+    c.pass.ensures

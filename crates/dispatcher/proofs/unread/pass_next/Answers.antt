@@ -1,19 +1,6 @@
-use Rattle.dispatcher.specs.Tables.{GoesOn}
-use Rattle.std.proofs.Common.{sym, subst, max, refl}
-use Rattle.dispatch_calls.specs.declared.call.Call.TheVariants.{Receive}
-use Rattle.dispatcher.proofs.Stepped.{as_at, routed_on, other_pumps}
+use Rattle.dispatcher.proofs.Stepped.{handed_on}
 use Rattle.dispatcher.proofs.unread.pass_next.Goals as goal
 
 pub returns-clause-goes : goal.returns-clause-goes
 returns-clause-goes c =
-    let channel = c.args.channel in
-    let answer = c.pass.ensures.0 in
-    let old = c.args.tables.now in
-    let place = old.queueing.place in
-    let clock = max c.zero.result old.queueing.clock in (
-      answer,
-      subst (λ q. GoesOn (Receive channel) answer old (record { queueing = q; routing = c.pass.new.routing })) (sym c.set_pumps.ensures)
-          (other_pumps (Receive channel) answer old c.step.new.self c.pass.new.routing _
-          (routed_on old c.step.new.self c.pass.new.routing (Receive channel) answer c.zero.result place clock refl c.zero.ensures refl refl c.step.ensures
-          (as_at (λ now. Receive channel) (Receive channel) 0 answer place clock old.routing c.pass.new.routing refl (c.pass.ensures.1 place clock)))),
-    )
+    handed_on c.args.tables.now c.step.new.self c.set_pumps.new.self c.pass.new.routing c.args.channel c.zero.result c.zero.ensures c.step.ensures c.set_pumps.ensures c.pass.ensures

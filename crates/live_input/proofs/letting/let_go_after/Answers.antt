@@ -1,5 +1,6 @@
 -- What is let go is that of the call.
 use Rattle.std.proofs.Common.{◌≡◌, Some, sym, ◌∙◌, subst}
+use Rattle.dispatcher.proofs.Standing.{after_of}
 use Rattle.live_input.specs.Letting.{IsLiveChannel, receives_from}
 use Rattle.live_input.proofs.LettingGo.{let_go_all, namings_go, no_tick, received_go}
 use Rattle.live_input.proofs.letting.let_go_after.Goals as goal
@@ -14,7 +15,7 @@ returns-in-Some-clause-all c = λ es stands from but.
 pub returns-then-is_tick-clause-all : goal.returns-then-is_tick-clause-all
 returns-then-is_tick-clause-all c = λ es stands from but.
     namings_go _ _ es c.args.dispatcher.now c.let_namings_go.new.self (sym c.receives_from.ensures ∙ c.in_default.is) c.let_namings_go.ensures.messages
-    (c.let_namings_go.ensures.gone es stands) but
+    (c.let_namings_go.ensures.gone es (after_of es c.args.dispatcher.now stands)) but
 
 pub returns-else-is_tick-clause-all : goal.returns-else-is_tick-clause-all
 returns-else-is_tick-clause-all c = λ es stands from but.

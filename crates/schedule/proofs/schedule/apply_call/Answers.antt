@@ -6,15 +6,15 @@ use Rattle.schedule.proofs.schedule.apply_call.Goals as goal
 
 pub returns-in-Some-clause-after : goal.returns-in-Some-clause-after
 returns-in-Some-clause-after c = λ es stands.
-    on_ok_weaker c.apply.result (λ told. rw c.in-Some.is (applies_told c.args.call.now es _ _ _ _ told)) (c.apply.ensures.told es stands)
+    on_ok_weaker c.apply.result (λ told. rw c.in-Some.is (applies_told c.args.call.now es _ _ _ _ told)) (c.apply.ensures.known es stands)
 
 pub returns-in-Some-clause-more : goal.returns-in-Some-clause-more
 returns-in-Some-clause-more c = λ es k. made_more es _ _ c.args.call.now c.apply.ensures.made k
 
 pub returns-in-None-clause-after : goal.returns-in-None-clause-after
 returns-in-None-clause-after c = λ es stands.
-    on_ok_weaker c.apply_unread.result (λ there. rw c.in-None.is (applies_alone c.args.call.now es _ _ there)) (c.apply_unread.ensures.after es stands)
+    on_ok_weaker c.apply_unread.result (λ there. rw c.in-None.is (applies_alone c.args.call.now es _ _ there)) (c.apply_unread.ensures.known es stands)
 
 pub returns-in-None-clause-more : goal.returns-in-None-clause-more
 returns-in-None-clause-more c = λ es k.
-    unread_more c.apply_unread.result es _ _ c.args.call.now c.apply_unread.ensures.displays c.apply_unread.ensures.after c.apply_unread.ensures.err k
+    unread_more c.apply_unread.result es _ _ c.args.call.now c.apply_unread.ensures.displays c.apply_unread.ensures.known c.apply_unread.ensures.err k

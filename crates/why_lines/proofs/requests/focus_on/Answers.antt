@@ -6,16 +6,17 @@ use Rattle.dispatch_history.specs.Focus.{key_target}
 use Rattle.dispatch_history.specs.History.{clock}
 use Rattle.why_text.specs.Lines.{request_word}
 use Rattle.why_text.specs.Text.{focus_words}
+use Rattle.dispatcher.proofs.Standing.{after_of}
 use Rattle.why_lines.specs.Gone.{target_keys, target_line}
 use Rattle.why_lines.specs.Growing.{with_lines}
 use Rattle.why_lines.proofs.Growing.{more_lines, one_line}
-use Rattle.why_lines.proofs.Making.{made_now}
+use Rattle.why_lines.proofs.Making.{made_now, tells_of}
 use Rattle.why_lines.proofs.Refocused.{refocused}
 use Rattle.why_lines.proofs.Told.{from_if, stands_lawful, tells_moved}
 use Rattle.why_lines.proofs.requests.focus_on.Goals as goal
 
-pub returns-clause-told : goal.returns-clause-told
-returns-clause-told c es st =
+pub returns-clause-known : goal.returns-clause-known
+returns-clause-known c es st =
     let ds = c.args.dispatcher.now.displays in
     let now = c.args.now in
     let y = c.args.display in
@@ -25,7 +26,7 @@ returns-clause-told c es st =
     let t = c.later-clock.result in
     let later = c.apply_unread.new.self in
     let at : t ≡ max now (clock (past_of es)) = c.later-clock.ensures ∙ ap (max now) (c.clock.ensures es st) in
-    let p = c.in_ok-apply_unread.ensures.after es st in
+    let p = c.in_ok-apply_unread.ensures.known es st in
     let fs = step ds call p.0 es in
     let lawful = stands_lawful ds fs later p.1 c.in_ok-apply_unread.ensures.displays in
     let old = c.target-target.result in
@@ -50,4 +51,9 @@ returns-clause-made c =
     made_now (FocusOn c.args.now c.args.display c.args.channel) c.args.dispatcher.now c.apply_unread.new.self c.in_ok-apply_unread.ensures.displays
     c.in_ok-apply_unread.ensures.gone
     c.in_ok-apply_unread.ensures.namings
-    c.in_ok-apply_unread.ensures.after
+    c.in_ok-apply_unread.ensures.known
+
+pub returns-clause-told : goal.returns-clause-told
+returns-clause-told c es st =
+    tells_of (FocusOn c.args.now c.args.display c.args.channel) c.add_changes.result es _ _ c.args.dispatcher.now c.apply_unread.new.self st (returns-clause-made c)
+    (returns-clause-known c es (after_of es c.args.dispatcher.now st))

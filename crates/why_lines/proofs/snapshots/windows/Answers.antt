@@ -5,20 +5,21 @@ use Rattle.dispatch_history.specs.Effect.{past_of}
 use Rattle.dispatch_history.specs.Effects.{effect_of, step}
 use Rattle.dispatch_history.specs.History.{clock}
 use Rattle.dispatch_history.specs.Queue.{args_of, inbound}
-use Rattle.dispatcher.specs.Dispatching.{StandsFor}
+use Rattle.dispatcher.specs.Dispatching.{IsAfter}
 use Rattle.route_split.specs.Tables.{holds_at}
 use Rattle.why_text.specs.Lines.{gone_words, snapshot_words}
 use Rattle.why_text.specs.Text.{focus_words, line}
+use Rattle.dispatcher.proofs.Standing.{after_of}
 use Rattle.why_lines.specs.Growing.{with_lines}
 use Rattle.why_lines.specs.Telling.{MayMake}
 use Rattle.why_lines.proofs.Growing.{more_lines, one_line}
 use Rattle.why_lines.proofs.Held.{keys_there}
-use Rattle.why_lines.proofs.Making.{made_now}
+use Rattle.why_lines.proofs.Making.{made_now, tells_of}
 use Rattle.why_lines.proofs.Told.{from_if, tells_moved}
 use Rattle.why_lines.proofs.snapshots.windows.Goals as goal
 
-pub returns-clause-told : goal.returns-clause-told
-returns-clause-told c es st =
+pub returns-clause-known : goal.returns-clause-known
+returns-clause-known c es st =
     let ds = c.args.dispatcher.now.displays in
     let now = c.args.now in
     let ws = c.args.snapshot.now in
@@ -27,10 +28,10 @@ returns-clause-told c es st =
     let t = c.later-clock.result in
     let later = c.apply_unread.new.self in
     let at : t ≡ max now (clock (past_of es)) = c.later-clock.ensures ∙ ap (max now) (c.clock.ensures es st) in
-    let p = c.in_ok-apply_unread.ensures.after es st in
+    let p = c.in_ok-apply_unread.ensures.known es st in
     let fs = step ds call p.0 es in
     let x = effect_of ds call p.0 (args_of call p.0 (inbound (past_of es))) es in
-    let stands : StandsFor fs later = subst (λ k. StandsFor (step ds k p.0 es) later) c.requires p.1 in
+    let stands : IsAfter fs later = subst (λ k. IsAfter (step ds k p.0 es) later) c.requires p.1 in
     let o = c.target-target.result in
     let shown = snapshot_words ws in
     let gone = gone_words x es in
@@ -63,11 +64,16 @@ returns-clause-made c =
     subst (λ k. MayMake k c.args.dispatcher.now c.apply_unread.new.self) c.requires
     (made_now c.args.call.now c.args.dispatcher.now c.apply_unread.new.self c.in_ok-apply_unread.ensures.displays c.in_ok-apply_unread.ensures.gone
     c.in_ok-apply_unread.ensures.namings
-    c.in_ok-apply_unread.ensures.after)
+    c.in_ok-apply_unread.ensures.known)
 
 pub returns-in_err-add_all_lost-clause-made : goal.returns-in_err-add_all_lost-clause-made
 returns-in_err-add_all_lost-clause-made c =
     subst (λ k. MayMake k c.args.dispatcher.now c.apply_unread.new.self) c.requires
     (made_now c.args.call.now c.args.dispatcher.now c.apply_unread.new.self c.in_ok-apply_unread.ensures.displays c.in_ok-apply_unread.ensures.gone
     c.in_ok-apply_unread.ensures.namings
-    c.in_ok-apply_unread.ensures.after)
+    c.in_ok-apply_unread.ensures.known)
+
+pub returns-clause-told : goal.returns-clause-told
+returns-clause-told c es st =
+    tells_of (Windows c.args.now c.args.snapshot.now) c.add_changes.result es _ _ c.args.dispatcher.now c.apply_unread.new.self st (returns-clause-made c)
+    (returns-clause-known c es (after_of es c.args.dispatcher.now st))

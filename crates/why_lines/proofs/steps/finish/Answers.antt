@@ -4,14 +4,15 @@ use Rattle.dispatch_calls.specs.declared.call.Call.TheVariants.{Finish}
 use Rattle.dispatch_history.specs.Effect.{past_of}
 use Rattle.dispatch_history.specs.Effects.{step}
 use Rattle.dispatch_history.specs.History.{clock}
+use Rattle.dispatcher.proofs.Standing.{after_of}
 use Rattle.why_lines.specs.Owners.{again_words}
 use Rattle.why_lines.proofs.Finishing.{finish_law}
-use Rattle.why_lines.proofs.Making.{made_now}
+use Rattle.why_lines.proofs.Making.{made_now, tells_of}
 use Rattle.why_lines.proofs.Told.{from_if, stands_lawful, tells}
 use Rattle.why_lines.proofs.steps.finish.Goals as goal
 
-pub returns-clause-told : goal.returns-clause-told
-returns-clause-told c es st =
+pub returns-clause-known : goal.returns-clause-known
+returns-clause-known c es st =
     let ds = c.args.dispatcher.now.displays in
     let now = c.args.now in
     let w = c.args.channel in
@@ -19,7 +20,7 @@ returns-clause-told c es st =
     let call = Finish now w seq in
     let later = c.apply_unread.new.self in
     let at : c.later-clock.result ≡ max now (clock (past_of es)) = c.later-clock.ensures ∙ ap (max now) (c.clock.ensures es st) in
-    let p = c.in_ok-apply_unread.ensures.after es st in
+    let p = c.in_ok-apply_unread.ensures.known es st in
     let lawful = stands_lawful ds (step ds call p.0 es) later p.1 c.in_ok-apply_unread.ensures.displays in
     from_if c.add_finish.result _ _ c.add_finish.ensures
     (λ grown.
@@ -41,4 +42,9 @@ pub returns-clause-made : goal.returns-clause-made
 returns-clause-made c =
     made_now (Finish c.args.now c.args.channel c.args.seq) c.args.dispatcher.now c.apply_unread.new.self c.in_ok-apply_unread.ensures.displays c.in_ok-apply_unread.ensures.gone
     c.in_ok-apply_unread.ensures.namings
-    c.in_ok-apply_unread.ensures.after
+    c.in_ok-apply_unread.ensures.known
+
+pub returns-clause-told : goal.returns-clause-told
+returns-clause-told c es st =
+    tells_of (Finish c.args.now c.args.channel c.args.seq) c.add_finish.result es _ _ c.args.dispatcher.now c.apply_unread.new.self st (returns-clause-made c)
+    (returns-clause-known c es (after_of es c.args.dispatcher.now st))

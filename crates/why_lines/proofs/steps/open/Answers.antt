@@ -4,21 +4,22 @@ use Rattle.dispatch_history.specs.Effect.{past_of}
 use Rattle.dispatch_history.specs.Effects.{step}
 use Rattle.dispatch_history.specs.History.{clock}
 use Rattle.why_text.specs.Text.{focus_words}
+use Rattle.dispatcher.proofs.Standing.{after_of}
 use Rattle.why_lines.specs.Growing.{with_lines}
 use Rattle.why_lines.proofs.Growing.{no_line}
-use Rattle.why_lines.proofs.Making.{made_now}
+use Rattle.why_lines.proofs.Making.{made_now, tells_of}
 use Rattle.why_lines.proofs.Told.{from_if, tells_moved}
 use Rattle.why_lines.proofs.steps.open.Goals as goal
 
-pub returns-clause-told : goal.returns-clause-told
-returns-clause-told c es st =
+pub returns-clause-known : goal.returns-clause-known
+returns-clause-known c es st =
     let ds = c.args.dispatcher.now.displays in
     let call = Open c.args.limit in
     let text = c.args.text.now.items in
     let t = c.later-clock.result in
     let later = c.apply_unread.new.self in
     let at : t ≡ max 0 (clock (past_of es)) = c.later-clock.ensures ∙ ap₂ max c.zero.ensures (c.clock.ensures es st) in
-    let p = c.in_ok-apply_unread.ensures.after es st in
+    let p = c.in_ok-apply_unread.ensures.known es st in
     let fs = step ds call p.0 es in
     from_if c.add_changes.result _ _
     (c.add_changes.ensures (past_of es) (past_of fs) (c.all_focused-before.ensures es st) (c.all_focused-after.ensures fs p.1))
@@ -31,4 +32,9 @@ pub returns-clause-made : goal.returns-clause-made
 returns-clause-made c =
     made_now (Open c.args.limit) c.args.dispatcher.now c.apply_unread.new.self c.in_ok-apply_unread.ensures.displays c.in_ok-apply_unread.ensures.gone
     c.in_ok-apply_unread.ensures.namings
-    c.in_ok-apply_unread.ensures.after
+    c.in_ok-apply_unread.ensures.known
+
+pub returns-clause-told : goal.returns-clause-told
+returns-clause-told c es st =
+    tells_of (Open c.args.limit) c.add_changes.result es _ _ c.args.dispatcher.now c.apply_unread.new.self st (returns-clause-made c)
+    (returns-clause-known c es (after_of es c.args.dispatcher.now st))

@@ -5,20 +5,21 @@ use Rattle.dispatch_history.specs.History.{clock}
 use Rattle.dispatch_history.specs.Reply.{pilfer_reply}
 use Rattle.dispatch_history.specs.Step.{scene}
 use Rattle.why_text.specs.Lines.{pilfer_words}
+use Rattle.dispatcher.proofs.Standing.{after_of}
 use Rattle.why_lines.proofs.Growing.{one_line}
-use Rattle.why_lines.proofs.Making.{made_by}
+use Rattle.why_lines.proofs.Making.{made_by, tells_of}
 use Rattle.why_lines.proofs.Told.{on_ok, tells}
 use Rattle.why_lines.proofs.steps.pilfer.Goals as goal
 
-pub returns-clause-told : goal.returns-clause-told
-returns-clause-told c es st =
+pub returns-clause-known : goal.returns-clause-known
+returns-clause-known c es st =
     let ds = c.args.dispatcher.now.displays in
     let now = c.args.now in
     let w = c.args.channel in
     let d = c.args.device in
     let words = pilfer_words (pilfer_reply es w d) (scene ds es) w d in
     let at : c.later-clock.result ≡ max now (clock (past_of es)) = c.later-clock.ensures ∙ ap (max now) (c.clock.ensures es st) in
-    on_ok c.apply_unread.result _ _ (c.apply_unread.ensures.after es st)
+    on_ok c.apply_unread.result _ _ (c.apply_unread.ensures.known es st)
     (λ p.
     tells ds (Pilfer now w d) es p.0 c.apply_unread.new.self c.later-clock.result (words ∷ []) c.args.text.now.items c.add_pilfer.new.text.items p.1
     c.apply_unread.ensures.displays
@@ -31,5 +32,10 @@ pub returns-clause-made : goal.returns-clause-made
 returns-clause-made c =
     made_by (Pilfer c.args.now c.args.channel c.args.device) c.args.dispatcher.now c.apply_unread.new.self c.apply_unread.result c.apply_unread.ensures.displays c.apply_unread.ensures.gone
     c.apply_unread.ensures.namings
-    c.apply_unread.ensures.after
+    c.apply_unread.ensures.known
     c.apply_unread.ensures.err
+
+pub returns-clause-told : goal.returns-clause-told
+returns-clause-told c es st =
+    tells_of (Pilfer c.args.now c.args.channel c.args.device) c.apply_unread.result es _ _ c.args.dispatcher.now c.apply_unread.new.self st (returns-clause-made c)
+    (returns-clause-known c es (after_of es c.args.dispatcher.now st))

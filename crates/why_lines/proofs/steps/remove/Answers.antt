@@ -7,15 +7,16 @@ use Rattle.dispatch_history.specs.Queue.{args_of, inbound}
 use Rattle.dispatch_history.specs.Reply.{reply_to}
 use Rattle.why_text.specs.Lines.{removed_words}
 use Rattle.why_text.specs.Text.{focus_words}
+use Rattle.dispatcher.proofs.Standing.{after_of}
 use Rattle.why_lines.specs.Growing.{with_lines}
 use Rattle.why_lines.proofs.AllLost.{remove_loses}
 use Rattle.why_lines.proofs.Growing.{one_line}
-use Rattle.why_lines.proofs.Making.{made_now}
+use Rattle.why_lines.proofs.Making.{made_now, tells_of}
 use Rattle.why_lines.proofs.Told.{from_if, stands_lawful, tells_moved}
 use Rattle.why_lines.proofs.steps.remove.Goals as goal
 
-pub returns-clause-told : goal.returns-clause-told
-returns-clause-told c es st =
+pub returns-clause-known : goal.returns-clause-known
+returns-clause-known c es st =
     let ds = c.args.dispatcher.now.displays in
     let now = c.args.now in
     let w = c.args.channel in
@@ -24,7 +25,7 @@ returns-clause-told c es st =
     let t = c.later-clock.result in
     let later = c.apply_unread.new.self in
     let at : t ≡ max now (clock (past_of es)) = c.later-clock.ensures ∙ ap (max now) (c.clock.ensures es st) in
-    let p = c.in_ok-apply_unread.ensures.after es st in
+    let p = c.in_ok-apply_unread.ensures.known es st in
     let fs = step ds call p.0 es in
     let x = effect_of ds call p.0 (args_of call p.0 (inbound (past_of es))) es in
     let lawful = stands_lawful ds fs later p.1 c.in_ok-apply_unread.ensures.displays in
@@ -42,4 +43,9 @@ pub returns-clause-made : goal.returns-clause-made
 returns-clause-made c =
     made_now (Remove c.args.now c.args.channel) c.args.dispatcher.now c.apply_unread.new.self c.in_ok-apply_unread.ensures.displays c.in_ok-apply_unread.ensures.gone
     c.in_ok-apply_unread.ensures.namings
-    c.in_ok-apply_unread.ensures.after
+    c.in_ok-apply_unread.ensures.known
+
+pub returns-clause-told : goal.returns-clause-told
+returns-clause-told c es st =
+    tells_of (Remove c.args.now c.args.channel) c.add_changes.result es _ _ c.args.dispatcher.now c.apply_unread.new.self st (returns-clause-made c)
+    (returns-clause-known c es (after_of es c.args.dispatcher.now st))

@@ -8,20 +8,21 @@ use Rattle.dispatch_history.specs.Reply.{is_due}
 use Rattle.dispatch_tables.specs.Dues.{due_moment}
 use Rattle.why_text.specs.Lines.{timeout_words}
 use Rattle.why_text.specs.Words.{channels_that}
-use Rattle.why_lines.proofs.Making.{made_by}
+use Rattle.dispatcher.proofs.Standing.{after_of}
+use Rattle.why_lines.proofs.Making.{made_by, tells_of}
 use Rattle.why_lines.proofs.Ticking.{named_loses, named_words}
 use Rattle.why_lines.proofs.Told.{on_ok, stands_lawful, tells}
 use Rattle.why_lines.proofs.steps.tick.Goals as goal
 
-pub returns-clause-told : goal.returns-clause-told
-returns-clause-told c es st =
+pub returns-clause-known : goal.returns-clause-known
+returns-clause-known c es st =
     let ds = c.args.dispatcher.now.displays in
     let now = c.args.now in
     let call = Tick now in
     let t = c.later-clock.result in
     let later = c.apply_unread.new.self in
     let at : t ≡ max now (clock (past_of es)) = c.later-clock.ensures ∙ ap (max now) (c.clock.ensures es st) in
-    on_ok c.apply_unread.result _ _ (c.apply_unread.ensures.after es st)
+    on_ok c.apply_unread.result _ _ (c.apply_unread.ensures.known es st)
     (λ p.
     let x = effect_of ds call p.0 (args_of call p.0 (inbound (past_of es))) es in
     let lawful = stands_lawful ds (step ds call p.0 es) later p.1 c.apply_unread.ensures.displays in
@@ -38,5 +39,10 @@ pub returns-clause-made : goal.returns-clause-made
 returns-clause-made c =
     made_by (Tick c.args.now) c.args.dispatcher.now c.apply_unread.new.self c.apply_unread.result c.apply_unread.ensures.displays c.apply_unread.ensures.gone
     c.apply_unread.ensures.namings
-    c.apply_unread.ensures.after
+    c.apply_unread.ensures.known
     c.apply_unread.ensures.err
+
+pub returns-clause-told : goal.returns-clause-told
+returns-clause-told c es st =
+    tells_of (Tick c.args.now) c.apply_unread.result es _ _ c.args.dispatcher.now c.apply_unread.new.self st (returns-clause-made c)
+    (returns-clause-known c es (after_of es c.args.dispatcher.now st))

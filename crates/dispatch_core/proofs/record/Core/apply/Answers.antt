@@ -44,7 +44,7 @@ returns-in-Ok-clause-gone c =
 pub returns-in-Err-clause-calm : goal.returns-in-Err-clause-calm
 returns-in-Err-clause-calm c =
     λ some calm.
-    c.in-Err.ensures.calm _ c.self.invariant.0.stands
+    c.in-Err.ensures.calm _ c.self.invariant.0.after
     (may_count c.self.inside.dispatcher.displays c.self.inside.entries.items _ _ c.self.inside.spare (sym c.self.inside.entries.ok.0) c.self.invariant.1 (subst (λ r. 1 ≤ r.spare) (sym c.self.view_is) some))
     (subst (λ r. IsCalm (effects_of r) c.args.call) (sym c.self.view_is) calm)
 
@@ -64,7 +64,7 @@ pub returns-in-Err-clause-reserved : goal.returns-in-Err-clause-reserved
 returns-in-Err-clause-reserved c =
     λ some one.
     let held : 1 ≤ c.self.inside.spare = subst (λ r. 1 ≤ r.spare) (sym c.self.view_is) some in
-    c.in-Err.ensures.reserved _ c.self.invariant.0.stands
+    c.in-Err.ensures.reserved _ c.self.invariant.0.after
     (may_count c.self.inside.dispatcher.displays c.self.inside.entries.items _ _ c.self.inside.spare (sym c.self.inside.entries.ok.0) c.self.invariant.1 held)
     one
     (omega (arith, held, c.self.invariant.2))
@@ -74,7 +74,7 @@ returns-in-Err-clause-pumped c =
     λ some is_pump one.
     let held : 1 ≤ c.self.inside.spare = subst (λ r. 1 ≤ r.spare) (sym c.self.view_is) some in
     let left : 1 ≤ c.self.inside.pumps = subst (λ r. 1 ≤ r.pumps) (sym c.self.view_is) one in
-    c.in-Err.ensures.pumped _ c.self.invariant.0.stands
+    c.in-Err.ensures.pumped _ c.self.invariant.0.after
     (may_count c.self.inside.dispatcher.displays c.self.inside.entries.items _ _ c.self.inside.spare (sym c.self.inside.entries.ok.0) c.self.invariant.1 held)
     is_pump
     (omega (arith, left, c.self.invariant.3))

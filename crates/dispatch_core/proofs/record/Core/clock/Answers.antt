@@ -6,6 +6,6 @@ use Rattle.dispatch_core.proofs.record.Core.clock.Goals as goal
 
 pub returns : goal.returns
 returns c =
-    c.clock.ensures _ c.self.invariant.0.stands
+    c.clock.ensures _ c.self.invariant.0.after
     ∙ ap clock (effects_law _ _)
     ∙ ap (λ r. clock (history_of r.entries)) c.self.view_is

@@ -7,6 +7,6 @@ use Rattle.dispatch_core.proofs.record.Core.namings.Goals as goal
 
 pub returns : goal.returns
 returns c =
-    c.namings.ensures _ c.self.invariant.0.stands
+    c.namings.ensures _ c.self.invariant.0.after
     ∙ ap (λ n. drop n (namings (effects c.self.inside.dispatcher.displays (history_of (reverse c.self.inside.entries.items))))) c.self.invariant.0.noted
     ∙ ap (λ r. namings (effects_of r)) c.self.view_is

@@ -11,4 +11,4 @@ returns c =
     let es = effects d.displays (history_of (reverse c.self.inside.entries.items)) in
     subst (λ (r : Recorded). ReadsTouches r.displays (effects_of r) c.touches.result.now) c.self.view_is
     (subst (λ (ts : List Touches). ReadsTouches d.displays es ts) (sym c.touches.ensures.value)
-    (c.touches.ensures.reads es c.self.invariant.0.stands))
+    (c.touches.ensures.reads es c.self.invariant.0.after))

@@ -1,8 +1,9 @@
 use Rattle.std.proofs.Common.{◌≤◌, ◌+◌, sym, ap, ◌∙◌, subst}
 use Rattle.dispatcher.specs.Access.{gone, namings_gone}
-use Rattle.dispatcher.specs.Dispatching.{StandsFor}
+use Rattle.dispatcher.specs.Dispatching.{IsAfter}
 use Rattle.dispatcher.proofs.Gone.{answered_gone}
-use Rattle.dispatcher.proofs.Applying.{raw, history_after, stands_somehow, room_left}
+use Rattle.dispatcher.proofs.Standing.{after_of, stands_if}
+use Rattle.dispatcher.proofs.Applying.{seen, answered_displays, raw, history_after, stands_somehow, room_left}
 use Rattle.dispatcher.proofs.dispatcher.Dispatcher.apply_unread.Goals as goal
 
 pub apply_unread-requires : goal.apply_unread-requires
@@ -14,14 +15,24 @@ invariant_of-self c = (
   c.apply_unread.ensures.promise c.self.invariant.1,
 )
 
-pub returns-clause-after : goal.returns-clause-after
-returns-clause-after c =
+pub returns-clause-known : goal.returns-clause-known
+returns-clause-known c =
     λ es s.
     stands_somehow c.args.call.now c.apply_unread.result c.self.inside.tables c.apply_unread.new.tables c.args.self.now c.self.view_is c.apply_unread.ensures.ok es s
 
+pub returns-clause-after : goal.returns-clause-after
+returns-clause-after c =
+    λ es s.
+    stands_if c.args.call.now c.apply_unread.result es c.args.self.now (seen c.apply_unread.new.tables) s
+    ((answered_displays c.args.call.now c.apply_unread.result c.self.inside.tables c.apply_unread.new.tables c.apply_unread.ensures.ok c.apply_unread.ensures.err) ∙ ap (λ d. d.displays) c.self.view_is)
+    (λ k low.
+    (answered_gone c.args.call.now c.apply_unread.result c.self.inside.tables c.apply_unread.new.tables c.apply_unread.ensures.ok c.apply_unread.ensures.err).of_channels k low
+    ∙ ap (λ d. gone d k) c.self.view_is)
+    (stands_somehow c.args.call.now c.apply_unread.result c.self.inside.tables c.apply_unread.new.tables c.args.self.now c.self.view_is c.apply_unread.ensures.ok es (after_of es c.args.self.now s))
+
 pub returns-clause-calm : goal.returns-clause-calm
 returns-clause-calm c =
-    λ es s. c.apply_unread.ensures.calm es (raw es c.self.inside.tables (subst (StandsFor es) (sym c.self.view_is) s))
+    λ es s. c.apply_unread.ensures.calm es (raw es c.self.inside.tables (subst (IsAfter es) (sym c.self.view_is) s))
 
 pub returns-clause-gone : goal.returns-clause-gone
 returns-clause-gone c =
@@ -37,7 +48,7 @@ returns-clause-namings c =
 pub returns-clause-reserved : goal.returns-clause-reserved
 returns-clause-reserved c =
     λ es s few one room.
-    c.apply_unread.ensures.reserved es (raw es c.self.inside.tables (subst (StandsFor es) (sym c.self.view_is) s)) few one
+    c.apply_unread.ensures.reserved es (raw es c.self.inside.tables (subst (IsAfter es) (sym c.self.view_is) s)) few one
     (subst (λ d. 1 ≤ d.queue.spare) (sym c.self.view_is) room)
 
 pub returns-clause-room : goal.returns-clause-room
@@ -49,7 +60,7 @@ returns-clause-room c =
 pub returns-clause-pumped : goal.returns-clause-pumped
 returns-clause-pumped c =
     λ es s few pump some.
-    c.apply_unread.ensures.pumped es (raw es c.self.inside.tables (subst (StandsFor es) (sym c.self.view_is) s)) few pump
+    c.apply_unread.ensures.pumped es (raw es c.self.inside.tables (subst (IsAfter es) (sym c.self.view_is) s)) few pump
     (subst (λ d. 1 ≤ d.queue.pumps) (sym c.self.view_is) some)
     c.self.invariant.1
 

@@ -1,5 +1,5 @@
 use Rattle.std.proofs.Common.{refl, sym, subst, ap, ◌∙◌}
-use Rattle.dispatcher.specs.Dispatching.{StandsFor}
+use Rattle.dispatcher.specs.Dispatching.{IsAfter}
 use Rattle.dispatcher.proofs.ReadLaws.{reads_channels}
 use Rattle.dispatcher.proofs.Rooms.{stands_raw}
 use Rattle.dispatcher.proofs.dispatcher.Dispatcher.due.Goals as goal
@@ -12,5 +12,5 @@ returns c =
     ∙ ap (λ due. due c.args.channel)
     ((reads_channels r.displays es _ r.channels
     (stands_raw r.displays es c.self.inside.tables.queueing r.shown r.touches r.channels r.focus r.repeat
-    (subst (StandsFor es) (sym c.self.view_is) s))
+    (subst (IsAfter es) (sym c.self.view_is) s))
     refl).dues_are)

@@ -1,6 +1,6 @@
 use Rattle.std.proofs.Common.{refl, sym, subst}
 use Rattle.anr_tracker.specs.Due.{NoneBelow}
-use Rattle.dispatcher.specs.Dispatching.{StandsFor}
+use Rattle.dispatcher.specs.Dispatching.{IsAfter}
 use Rattle.dispatcher.proofs.NotBefore.{not_before}
 use Rattle.dispatcher.proofs.ReadLaws.{reads_channels}
 use Rattle.dispatcher.proofs.Rooms.{stands_raw}
@@ -13,7 +13,7 @@ returns c =
     let reads =
     reads_channels r.displays es _ r.channels
     (stands_raw r.displays es c.self.inside.tables.queueing r.shown r.touches r.channels r.focus r.repeat
-    (subst (StandsFor es) (sym c.self.view_is) s))
+    (subst (IsAfter es) (sym c.self.view_is) s))
     refl
     in
     not_before es c.due_from.result (subst (λ f. NoneBelow f c.due_from.result) reads.dues_are c.due_from.ensures) due first

@@ -2,7 +2,8 @@ use Rattle.std.proofs.Common.{ap, ◌∙◌}
 use Rattle.dispatch_calls.specs.declared.call.Call.TheVariants.{Finish}
 use Rattle.dispatcher.specs.Access.{gone, namings_gone}
 use Rattle.dispatcher.proofs.Gone.{answered_gone}
-use Rattle.dispatcher.proofs.Applying.{raw, history_after, stands_somehow}
+use Rattle.dispatcher.proofs.Standing.{after_of, stands_if}
+use Rattle.dispatcher.proofs.Applying.{seen, answered_displays, raw, history_after, stands_somehow}
 use Rattle.dispatcher.proofs.dispatcher.Dispatcher.finish.Goals as goal
 
 pub finish_on-requires : goal.finish_on-requires
@@ -14,10 +15,20 @@ invariant_of-self c = (
   c.finish_on.ensures.promise c.self.invariant.1,
 )
 
+pub returns-clause-known : goal.returns-clause-known
+returns-clause-known c =
+    λ es s.
+    stands_somehow (Finish c.args.now c.args.channel c.args.seq) c.finish_on.result c.self.inside.tables c.finish_on.new.tables c.args.self.now c.self.view_is c.finish_on.ensures.ok es s
+
 pub returns-clause-after : goal.returns-clause-after
 returns-clause-after c =
     λ es s.
-    stands_somehow (Finish c.args.now c.args.channel c.args.seq) c.finish_on.result c.self.inside.tables c.finish_on.new.tables c.args.self.now c.self.view_is c.finish_on.ensures.ok es s
+    stands_if (Finish c.args.now c.args.channel c.args.seq) c.finish_on.result es c.args.self.now (seen c.finish_on.new.tables) s
+    ((answered_displays (Finish c.args.now c.args.channel c.args.seq) c.finish_on.result c.self.inside.tables c.finish_on.new.tables c.finish_on.ensures.ok c.finish_on.ensures.err) ∙ ap (λ d. d.displays) c.self.view_is)
+    (λ k low.
+    (answered_gone (Finish c.args.now c.args.channel c.args.seq) c.finish_on.result c.self.inside.tables c.finish_on.new.tables c.finish_on.ensures.ok c.finish_on.ensures.err).of_channels k low
+    ∙ ap (λ d. gone d k) c.self.view_is)
+    (stands_somehow (Finish c.args.now c.args.channel c.args.seq) c.finish_on.result c.self.inside.tables c.finish_on.new.tables c.args.self.now c.self.view_is c.finish_on.ensures.ok es (after_of es c.args.self.now s))
 
 pub returns-clause-gone : goal.returns-clause-gone
 returns-clause-gone c =

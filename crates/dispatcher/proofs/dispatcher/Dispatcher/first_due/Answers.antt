@@ -1,5 +1,5 @@
 use Rattle.std.proofs.Common.{refl, sym, subst}
-use Rattle.dispatcher.specs.Dispatching.{StandsFor}
+use Rattle.dispatcher.specs.Dispatching.{IsAfter}
 use Rattle.dispatcher.proofs.ReadLaws.{reads_channels}
 use Rattle.dispatcher.proofs.Rooms.{stands_raw}
 use Rattle.dispatcher.proofs.dispatcher.Dispatcher.first_due.Goals as goal
@@ -11,7 +11,7 @@ returns c =
     sym
     ((reads_channels r.displays es _ r.channels
     (stands_raw r.displays es c.self.inside.tables.queueing r.shown r.touches r.channels r.focus r.repeat
-    (subst (StandsFor es) (sym c.self.view_is) s))
+    (subst (IsAfter es) (sym c.self.view_is) s))
     refl).first_is
     c.first_due.result
     c.first_due.ensures)

@@ -1,12 +1,12 @@
 use Rattle.std.proofs.Common.{sym, ap, ◌∙◌, subst}
 use Rattle.dispatcher.specs.Access.{any_waits}
-use Rattle.dispatcher.specs.Dispatching.{StandsFor}
+use Rattle.dispatcher.specs.Dispatching.{IsAfter}
 use Rattle.dispatcher.proofs.Reading.{waits, some_copied}
 use Rattle.dispatcher.proofs.dispatcher.Dispatcher.is_waiting.Goals as goal
 
 pub returns : goal.returns
 returns c =
     λ es s.
-    let stands = subst (StandsFor es) (sym c.self.view_is) s in
+    let stands = subst (IsAfter es) (sym c.self.view_is) s in
     waits c.self.inside.tables.queueing.waiting _ c.is_some.result c.first.ensures (c.is_some.ensures ∙ some_copied c.first.result)
     ∙ ap any_waits stands.knows.queue.waiting_is

@@ -1,12 +1,15 @@
-use Rattle.std.proofs.Common.{◌≡◌, false, sym, ap, ◌∙◌, subst, arith}
+use Rattle.std.proofs.Common.{◌≡◌, ◌≤◌, false, sym, ap, ◌∙◌, subst, arith}
 use Rattle.window_snapshot.specs.Mask.{mask_has}
 use Rattle.input_channel.specs.State.{all_let_go}
-use Rattle.dispatch_channels.specs.Table.{channel_of}
+use Rattle.dispatch_channels.specs.Table.{channel_of, opened}
+use Rattle.dispatch_history.specs.Effect.{past_of}
+use Rattle.dispatch_history.specs.History.{live}
 use Rattle.dispatcher.specs.Access.{gone, namings_gone}
-use Rattle.dispatcher.specs.Dispatching.{StandsFor}
+use Rattle.dispatcher.specs.Dispatching.{IsAfter, StandsFor}
 use Rattle.std.proofs.lemmas.Bool.{true≢false}
 use Rattle.dispatcher.proofs.RoomMade.{let_go_room}
-use Rattle.dispatcher.proofs.Applying.{raw, bare}
+use Rattle.dispatcher.proofs.Applying.{seen, raw, bare}
+use Rattle.dispatcher.proofs.Standing.{after_of, stands_but, may_of_all}
 use Rattle.dispatcher.proofs.LettingGo.{all_go_stands, stream_gone, others_gone, not_live, is_live}
 use Rattle.dispatcher.proofs.dispatcher.Dispatcher.let_all_go.Goals as goal
 
@@ -22,7 +25,6 @@ invariant_of-self c =
             (all_go_stands s.0 c.self.inside.tables c.let_all_go.new.self c.args.channel (raw s.0 c.self.inside.tables s.1)
             (omega (arith, c.if-channel-gt0.true))
             (omega (arith, c.if-channel-opened.true, c.opened.ensures.value))
-            removed
             c.let_all_go.ensures),
       ),
       λ some.
@@ -33,20 +35,19 @@ invariant_of-self c =
           (c.self.invariant.1 some),
     )
 
-pub returns-then-channel-opened-clause-stays : goal.returns-then-channel-opened-clause-stays
-returns-then-channel-opened-clause-stays c =
+pub returns-then-channel-opened-clause-known : goal.returns-then-channel-opened-clause-known
+returns-then-channel-opened-clause-known c =
     λ es s.
     bare es (record c.self.inside.tables { routing = record c.self.inside.tables.routing { channels = c.let_all_go.new.self } })
-    (all_go_stands es c.self.inside.tables c.let_all_go.new.self c.args.channel (raw es c.self.inside.tables (subst (StandsFor es) (sym c.self.view_is) s))
+    (all_go_stands es c.self.inside.tables c.let_all_go.new.self c.args.channel (raw es c.self.inside.tables (subst (IsAfter es) (sym c.self.view_is) s))
     (omega (arith, c.if-channel-gt0.true))
     (omega (arith, c.if-channel-opened.true, c.opened.ensures.value))
-    (ap (λ m. mask_has m c.args.channel) (sym c.live.ensures.value) ∙ sym c.mask_has.ensures ∙ c.if-mask_has.false)
     c.let_all_go.ensures)
 
 pub returns-then-channel-opened-clause-gone : goal.returns-then-channel-opened-clause-gone
 returns-then-channel-opened-clause-gone c =
     λ es s _ _.
-    stream_gone es c.self.inside.tables c.let_all_go.new.self c.args.channel (raw es c.self.inside.tables (subst (StandsFor es) (sym c.self.view_is) s))
+    stream_gone es c.self.inside.tables c.let_all_go.new.self c.args.channel (raw es c.self.inside.tables (subst (IsAfter es) (sym c.self.view_is) s))
     (omega (arith, c.if-channel-gt0.true))
     (omega (arith, c.if-channel-opened.true, c.opened.ensures.value))
     c.let_all_go.ensures
@@ -55,7 +56,7 @@ pub returns-then-channel-opened-clause-live : goal.returns-then-channel-opened-c
 returns-then-channel-opened-clause-live c =
     λ es s lives.
     absurd
-    (not_live es c.self.inside.tables c.args.channel (raw es c.self.inside.tables (subst (StandsFor es) (sym c.self.view_is) s)) lives
+    (not_live es c.self.inside.tables c.args.channel (raw es c.self.inside.tables (subst (IsAfter es) (sym c.self.view_is) s)) lives
     (ap (λ m. mask_has m c.args.channel) (sym c.live.ensures.value) ∙ sym c.mask_has.ensures ∙ c.if-mask_has.false))
 
 pub returns-then-channel-opened-clause-others : goal.returns-then-channel-opened-clause-others
@@ -72,5 +73,26 @@ pub returns-then-mask_has-clause-gone : goal.returns-then-mask_has-clause-gone
 returns-then-mask_has-clause-gone c =
     λ es s _ dead.
     absurd
-    (is_live es c.self.inside.tables c.args.channel (raw es c.self.inside.tables (subst (StandsFor es) (sym c.self.view_is) s)) dead
+    (is_live es c.self.inside.tables c.args.channel (raw es c.self.inside.tables (subst (IsAfter es) (sym c.self.view_is) s)) dead
     (ap (λ m. mask_has m c.args.channel) (sym c.live.ensures.value) ∙ sym c.mask_has.ensures ∙ c.if-mask_has.true))
+
+pub returns-then-channel-opened-clause-stays : goal.returns-then-channel-opened-clause-stays
+returns-then-channel-opened-clause-stays c =
+    λ es s.
+    let low : 1 ≤ c.args.channel = omega (arith, c.if-channel-gt0.true) in
+    let high : c.args.channel ≤ opened c.self.inside.tables.routing.channels = omega (arith, c.if-channel-opened.true, c.opened.ensures.value) in
+    let old = c.self.inside.tables in
+    let new = record old { routing = record old.routing { channels = c.let_all_go.new.self } } in
+    let stands : StandsFor es (seen old) = subst (StandsFor es) (sym c.self.view_is) s in
+    let tables = raw es old (after_of es (seen old) stands) in
+    let dead : live (past_of es) c.args.channel ≡ false =
+    sym (ap (λ f. f c.args.channel) tables.knows.delivery.live_is)
+    ∙ ap (λ m. mask_has m c.args.channel) (sym c.live.ensures.value)
+    ∙ sym c.mask_has.ensures
+    ∙ c.if-mask_has.false in
+    stands_but es (seen old) (seen new) c.args.channel stands
+    (may_of_all es c.args.channel (gone (seen new) c.args.channel) dead
+    (stream_gone es old c.let_all_go.new.self c.args.channel tables low high c.let_all_go.ensures))
+    (λ k from other.
+    others_gone old.routing.channels c.let_all_go.new.self c.args.channel k (all_let_go (channel_of old.routing.channels c.args.channel)) c.let_all_go.ensures low from other)
+    (bare es new (all_go_stands es old c.let_all_go.new.self c.args.channel tables low high c.let_all_go.ensures))

@@ -1,14 +1,17 @@
-use Rattle.std.proofs.Common.{max, refl, sym, ap, ◌∙◌, subst, arith}
+use Rattle.std.proofs.Common.{◌≤◌, max, refl, sym, ap, ◌∙◌, subst, arith}
 use Rattle.input_channel.specs.State.{let_go_of}
-use Rattle.dispatch_channels.specs.Table.{channel_of}
+use Rattle.dispatch_channels.specs.Table.{channel_of, opened}
 use Rattle.dispatch_history.specs.Effect.{past_of}
 use Rattle.dispatch_history.specs.History.{received}
 use Rattle.dispatcher.specs.Access.{gone, namings_gone}
-use Rattle.dispatcher.specs.Dispatching.{StandsFor}
+use Rattle.dispatcher.specs.Dispatching.{IsAfter, StandsFor}
 use Rattle.dispatcher.proofs.RoomMade.{let_go_room}
-use Rattle.dispatcher.proofs.Applying.{raw, bare}
-use Rattle.dispatcher.proofs.LettingGo.{let_go_stands, received_gone, live_gone, others_gone}
+use Rattle.dispatcher.proofs.Applying.{seen, raw, bare}
+use Rattle.dispatcher.proofs.Standing.{after_of, stands_but, may_of_received}
+use Rattle.dispatcher.proofs.Rooms.{channel_bare}
+use Rattle.dispatcher.proofs.LettingGo.{opened_at, let_go_stands, received_gone, live_gone, others_gone}
 use Rattle.dispatcher.proofs.dispatcher.Dispatcher.let_go.Goals as goal
+use Rattle.dispatcher.proofs.dispatcher.Dispatcher.let_go.Goals.{else-channel-gt0-via-then-channel-gt0+else-channel-opened, else-channel-gt0-via-else-channel-gt0}
 
 pub invariant_of-self : goal.invariant_of-self
 invariant_of-self c =
@@ -30,11 +33,11 @@ invariant_of-self c =
           (c.self.invariant.1 some),
     )
 
-pub returns-then-channel-opened-clause-stays : goal.returns-then-channel-opened-clause-stays
-returns-then-channel-opened-clause-stays c =
+pub returns-then-channel-opened-clause-known : goal.returns-then-channel-opened-clause-known
+returns-then-channel-opened-clause-known c =
     λ es s.
     bare es (record c.self.inside.tables { routing = record c.self.inside.tables.routing { channels = c.let_go.new.self } })
-    (let_go_stands es c.self.inside.tables c.let_go.new.self c.args.channel (raw es c.self.inside.tables (subst (StandsFor es) (sym c.self.view_is) s))
+    (let_go_stands es c.self.inside.tables c.let_go.new.self c.args.channel (raw es c.self.inside.tables (subst (IsAfter es) (sym c.self.view_is) s))
     (omega (arith, c.if-channel-gt0.true))
     (omega (arith, c.if-channel-opened.true, c.opened.ensures.value))
     c.let_go.ensures)
@@ -42,7 +45,7 @@ returns-then-channel-opened-clause-stays c =
 pub returns-then-channel-opened-clause-gone : goal.returns-then-channel-opened-clause-gone
 returns-then-channel-opened-clause-gone c =
     λ es s _.
-    received_gone es c.self.inside.tables c.let_go.new.self c.args.channel (raw es c.self.inside.tables (subst (StandsFor es) (sym c.self.view_is) s))
+    received_gone es c.self.inside.tables c.let_go.new.self c.args.channel (raw es c.self.inside.tables (subst (IsAfter es) (sym c.self.view_is) s))
     (omega (arith, c.if-channel-gt0.true))
     (omega (arith, c.if-channel-opened.true, c.opened.ensures.value))
     c.let_go.ensures
@@ -51,11 +54,30 @@ returns-then-channel-opened-clause-gone c =
 pub returns-then-channel-opened-clause-live : goal.returns-then-channel-opened-clause-live
 returns-then-channel-opened-clause-live c =
     λ es s _ lives.
-    live_gone es c.self.inside.tables c.let_go.new.self c.args.channel (raw es c.self.inside.tables (subst (StandsFor es) (sym c.self.view_is) s))
-    (omega (arith, c.if-channel-gt0.true))
+    let low : 1 ≤ c.args.channel = omega (arith, c.if-channel-gt0.true) in
+    let stands : StandsFor es (seen c.self.inside.tables) = subst (StandsFor es) (sym c.self.view_is) s in
+    live_gone es c.self.inside.tables c.let_go.new.self c.args.channel (raw es c.self.inside.tables (after_of es (seen c.self.inside.tables) stands))
+    low
     (omega (arith, c.if-channel-opened.true, c.opened.ensures.value))
-    lives
+    (subst (λ n. n ≤ received (past_of es) c.args.channel) (ap (λ x. x.gone) (channel_bare c.self.inside.tables.routing.channels c.args.channel))
+    ((stands.may_go c.args.channel low).of_live lives))
     c.let_go.ensures
+
+pub returns-then-channel-opened-clause-stays : goal.returns-then-channel-opened-clause-stays
+returns-then-channel-opened-clause-stays c =
+    λ es s.
+    let low : 1 ≤ c.args.channel = omega (arith, c.if-channel-gt0.true) in
+    let high : c.args.channel ≤ opened c.self.inside.tables.routing.channels = omega (arith, c.if-channel-opened.true, c.opened.ensures.value) in
+    let old = c.self.inside.tables in
+    let new = record old { routing = record old.routing { channels = c.let_go.new.self } } in
+    let stands : StandsFor es (seen old) = subst (StandsFor es) (sym c.self.view_is) s in
+    let tables = raw es old (after_of es (seen old) stands) in
+    stands_but es (seen old) (seen new) c.args.channel stands
+    (may_of_received es (seen old) c.args.channel (gone (seen new) c.args.channel) low stands
+    (received_gone es old c.let_go.new.self c.args.channel tables low high c.let_go.ensures))
+    (λ k from other.
+    others_gone old.routing.channels c.let_go.new.self c.args.channel k (let_go_of (channel_of old.routing.channels c.args.channel)) c.let_go.ensures low from other)
+    (bare es new (let_go_stands es old c.let_go.new.self c.args.channel tables low high c.let_go.ensures))
 
 pub returns-then-channel-opened-clause-others : goal.returns-then-channel-opened-clause-others
 returns-then-channel-opened-clause-others c =
@@ -66,3 +88,16 @@ returns-then-channel-opened-clause-others c =
 
 pub returns-then-channel-opened-clause-namings : goal.returns-then-channel-opened-clause-namings
 returns-then-channel-opened-clause-namings c = ap (λ t. t.namings.gone) c.let_go.ensures ∙ ap namings_gone c.self.view_is
+
+-- a channel that was not opened is not asked of
+pub returns-else-channel-gt0-clause-live : goal.returns-else-channel-gt0-clause-live
+returns-else-channel-gt0-clause-live c =
+    λ es s there lives.
+    let old = c.self.inside.tables in
+    let tables = raw es old (after_of es (seen old) (subst (StandsFor es) (sym c.self.view_is) s)) in
+    let at = opened_at es old c.args.channel tables there in
+    absurd
+    (elim c.else-channel-gt0.branch [
+      | else-channel-gt0-via-then-channel-gt0+else-channel-opened w ↦ omega (arith, w.if-channel-opened.false, w.opened.ensures.value, at.1)
+      | else-channel-gt0-via-else-channel-gt0 w ↦ omega (arith, w.if-channel-gt0.false, at.0)
+    ])

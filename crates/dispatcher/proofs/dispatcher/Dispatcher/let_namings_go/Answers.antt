@@ -1,9 +1,10 @@
 use Rattle.std.proofs.Common.{sym, ap, ◌∙◌, subst}
 use Rattle.dispatch_channels.specs.Table.{Table, channel_of, but_for_room}
 use Rattle.dispatcher.specs.Access.{gone}
-use Rattle.dispatcher.specs.Dispatching.{StandsFor}
+use Rattle.dispatcher.specs.Dispatching.{IsAfter, StandsFor}
 use Rattle.dispatcher.specs.Roomy.{IsRoomy}
-use Rattle.dispatcher.proofs.Applying.{raw, bare}
+use Rattle.dispatcher.proofs.Applying.{seen, raw, bare}
+use Rattle.dispatcher.proofs.Standing.{after_of, stands_same}
 use Rattle.dispatcher.proofs.LettingGo.{namings_go}
 use Rattle.dispatcher.proofs.dispatcher.Dispatcher.let_namings_go.Goals as goal
 
@@ -19,14 +20,23 @@ invariant_of-self c =
       λ some. subst (λ (t : Table). IsRoomy c.self.inside.tables.queueing.pumps r.cancelled t) (sym c.let_namings_go.ensures) (c.self.invariant.1 some),
     )
 
-pub returns-clause-stays : goal.returns-clause-stays
-returns-clause-stays c =
-    λ es s. bare es (record c.self.inside.tables { routing = record c.self.inside.tables.routing { channels = c.let_namings_go.new.self } }) (namings_go es c.self.inside.tables c.let_namings_go.new.self (raw es c.self.inside.tables (subst (StandsFor es) (sym c.self.view_is) s)) c.let_namings_go.ensures).0
+pub returns-clause-known : goal.returns-clause-known
+returns-clause-known c =
+    λ es s. bare es (record c.self.inside.tables { routing = record c.self.inside.tables.routing { channels = c.let_namings_go.new.self } }) (namings_go es c.self.inside.tables c.let_namings_go.new.self (raw es c.self.inside.tables (subst (IsAfter es) (sym c.self.view_is) s)) c.let_namings_go.ensures).0
 
 pub returns-clause-gone : goal.returns-clause-gone
 returns-clause-gone c =
-    λ es s. (namings_go es c.self.inside.tables c.let_namings_go.new.self (raw es c.self.inside.tables (subst (StandsFor es) (sym c.self.view_is) s)) c.let_namings_go.ensures).1
+    λ es s. (namings_go es c.self.inside.tables c.let_namings_go.new.self (raw es c.self.inside.tables (subst (IsAfter es) (sym c.self.view_is) s)) c.let_namings_go.ensures).1
 
 pub returns-clause-messages : goal.returns-clause-messages
 returns-clause-messages c =
     λ k low. ap (λ t. (channel_of (but_for_room t) k).gone) c.let_namings_go.ensures ∙ ap (λ d. gone d k) c.self.view_is
+
+pub returns-clause-stays : goal.returns-clause-stays
+returns-clause-stays c =
+    λ es s.
+    let old = c.self.inside.tables in
+    let new = record old { routing = record old.routing { channels = c.let_namings_go.new.self } } in
+    let stands : StandsFor es (seen old) = subst (StandsFor es) (sym c.self.view_is) s in
+    stands_same es (seen old) (seen new) stands (λ k low. ap (λ t. (channel_of (but_for_room t) k).gone) c.let_namings_go.ensures)
+    (bare es new (namings_go es old c.let_namings_go.new.self (raw es old (after_of es (seen old) stands)) c.let_namings_go.ensures).0)

@@ -3,7 +3,7 @@ use Rattle.input_types.specs.Displays.{device_display}
 use Rattle.window_snapshot.specs.Mask.{mask_has}
 use Rattle.window_snapshot.specs.Named.{is_shown_on}
 use Rattle.dispatch_history.specs.Step.{reach}
-use Rattle.dispatcher.specs.Dispatching.{Dispatching, StandsFor}
+use Rattle.dispatcher.specs.Dispatching.{Dispatching, IsAfter}
 use Rattle.dispatcher.proofs.Motioning.{reaches}
 use Rattle.dispatcher.proofs.Rooms.{stands_raw}
 use Rattle.dispatcher.proofs.Stepping.{sees_law}
@@ -19,7 +19,7 @@ returns c =
     let mask = bit_and live shown in
     let stands =
     stands_raw r.displays es c.self.inside.tables.queueing r.shown r.touches r.channels r.focus r.repeat
-    (subst (StandsFor es) (sym c.self.view_is) s) in
+    (subst (IsAfter es) (sym c.self.view_is) s) in
     let has : (j : ℕ) → mask_has mask j ≡ (mask_has r.channels.live j && is_shown_on r.shown.windows (device_display r.displays d) j) =
     λ j.
     reaches live shown c.windows.result.now c.of.result j (c.on-shown.ensures j)

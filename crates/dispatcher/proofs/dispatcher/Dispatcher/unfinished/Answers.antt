@@ -1,6 +1,6 @@
 use Rattle.std.proofs.Common.{refl, sym, ◌∙◌, subst, arith}
 use Rattle.dispatch_tables.proofs.Ables.{live_number}
-use Rattle.dispatcher.specs.Dispatching.{StandsFor}
+use Rattle.dispatcher.specs.Dispatching.{IsAfter}
 use Rattle.dispatcher.proofs.ReadLaws.{reads_channels}
 use Rattle.dispatcher.proofs.Rooms.{stands_raw}
 use Rattle.dispatcher.proofs.Unfinished.{none_of}
@@ -13,7 +13,7 @@ returns-clause-live c =
     let reads =
     reads_channels r.displays es _ r.channels
     (stands_raw r.displays es c.self.inside.tables.queueing r.shown r.touches r.channels r.focus r.repeat
-    (subst (StandsFor es) (sym c.self.view_is) s))
+    (subst (IsAfter es) (sym c.self.view_is) s))
     refl
     in
     λ k has. sym (reads.live_is k) ∙ c.unfinished.ensures.live k has
@@ -24,7 +24,7 @@ returns-clause-none c =
     let r = c.self.inside.tables.routing in
     let stands =
     stands_raw r.displays es c.self.inside.tables.queueing r.shown r.touches r.channels r.focus r.repeat
-    (subst (StandsFor es) (sym c.self.view_is) s)
+    (subst (IsAfter es) (sym c.self.view_is) s)
     in
     let reads = reads_channels r.displays es _ r.channels stands refl in
     λ k y out.

@@ -1,6 +1,7 @@
 -- What is due is done, one call after another.
 use Rattle.std.proofs.Common.{refl, sym, ap, ◌∙◌, subst}
 use Rattle.dispatch_history.specs.Ordered.{extend}
+use Rattle.dispatcher.proofs.Standing.{after_of}
 use Rattle.live_input.specs.Standing.{LiveIs}
 use Rattle.live_input.specs.State.{LiveState}
 use Rattle.live_input.proofs.Following.{advances_more, advanced, live_noted, plain_due}
@@ -12,7 +13,7 @@ loop-preserved c =
       advances = λ ds es h.
           let a = c.loop.invariant.advances ds es h in
           let there = subst (LiveIs ds (extend ds es a.calls)) (sym c.self.view_is) a.is in
-          let next = sym (c.next_due.ensures (extend ds es a.calls) there.stands) ∙ c.in-Some.is in
+          let next = sym (c.next_due.ensures (extend ds es a.calls) (after_of (extend ds es a.calls) _ there.stands)) ∙ c.in-Some.is in
           let plain = plain_due c.loop.self.seats c.args.now (extend ds es a.calls) c.in-Some.call next in
           advances_more ds c.args.now es _ _ c.note.new.self c.in-Some.call a next
           (c.in_ok-note.ensures.after ds (extend ds es a.calls) a.is plain.0 plain.1)
@@ -25,7 +26,7 @@ returns-in_default-clause-ok c = λ ds es h.
     let a = c.loop.invariant.advances ds es h in
     let there = subst (LiveIs ds (extend ds es a.calls)) (sym c.self.view_is) a.is in
     advanced ds c.args.now es _ _ _ _ a
-    (sym (c.next_due.ensures (extend ds es a.calls) there.stands) ∙ c.in_default.is)
+    (sym (c.next_due.ensures (extend ds es a.calls) (after_of (extend ds es a.calls) _ there.stands)) ∙ c.in_default.is)
     (ap (λ (s : LiveState). s.named) c.self.view_is)
     (live_noted ds (extend ds es a.calls) _ 0 there)
     refl

@@ -1,6 +1,7 @@
 -- What is left is done, one call after another.
 use Rattle.std.proofs.Common.{sym, ap, ◌∙◌, subst}
 use Rattle.dispatch_history.specs.Ordered.{extend}
+use Rattle.dispatcher.proofs.Standing.{after_of}
 use Rattle.live_input.specs.Seats.{IsHeld, is_held, seat_of}
 use Rattle.live_input.specs.Settling.{next_left}
 use Rattle.live_input.specs.Standing.{LiveIs}
@@ -15,7 +16,7 @@ loop-preserved c =
           let r = c.loop.invariant.reaches ds es h held in
           let there = subst (LiveIs ds (extend ds es r.calls)) (sym c.self.view_is) r.is in
           let opened = held_opened (extend ds es r.calls) _ _ c.args.channel r.is.seats_are c.loop.invariant.clients.seats_are held.0 held.1 held.2 in
-          let next = sym (c.next_left.ensures (extend ds es r.calls) there.stands opened) ∙ c.in-Some.is in
+          let next = sym (c.next_left.ensures (extend ds es r.calls) (after_of (extend ds es r.calls) _ there.stands) opened) ∙ c.in-Some.is in
           let still : IsHeld c.args.channel c.loop.self.seats = (held.0, held.1, ap (λ ss. is_held (seat_of ss c.args.channel)) c.loop.invariant.clients.seats_are ∙ held.2) in
           let plain = plain_left c.loop.self.seats c.args.now c.args.channel (extend ds es r.calls) c.in-Some.call still next in
           reaches_more ds (next_left c.args.now c.args.channel) es _ c.make.new.self c.in-Some.call r next
@@ -34,4 +35,4 @@ returns-in_default-clause-done c = λ ds es h held.
     let r = c.loop.invariant.reaches ds es h held in
     let there = subst (LiveIs ds (extend ds es r.calls)) (sym c.self.view_is) r.is in
     let opened = held_opened (extend ds es r.calls) _ _ c.args.channel r.is.seats_are c.loop.invariant.clients.seats_are held.0 held.1 held.2 in
-    record { reached = r; done = sym (c.next_left.ensures (extend ds es r.calls) there.stands opened) ∙ c.in_default.is }
+    record { reached = r; done = sym (c.next_left.ensures (extend ds es r.calls) (after_of (extend ds es r.calls) _ there.stands) opened) ∙ c.in_default.is }

@@ -3,6 +3,7 @@ use Rattle.std.proofs.Common.{sym, ap, ◌∙◌, subst}
 use Rattle.std.proofs.lemmas.Bool.{and_parts}
 use Rattle.window_snapshot.specs.Mask.{is_channel}
 use Rattle.route_split.specs.Tables.{holds_at}
+use Rattle.dispatcher.proofs.Standing.{after_of}
 use Rattle.live_input.specs.Seats.{is_of, seat_of}
 use Rattle.live_input.specs.Standing.{LiveIs}
 use Rattle.live_input.proofs.live.Live.holds.Goals as goal
@@ -17,4 +18,4 @@ returns-clause-open c = λ ds es h is i.
     let there = subst (LiveIs ds es) (sym c.self.view_is) h in
     c.held.ensures i
     ∙ ap (λ ts. holds_at ts c.args.client.channel c.args.device i) c.touches.ensures.value
-    ∙ (c.touches.ensures.reads es there.stands).holds_are c.args.client.channel c.args.device i
+    ∙ (c.touches.ensures.reads es (after_of es c.self.inside.dispatcher there.stands)).holds_are c.args.client.channel c.args.device i

@@ -2,6 +2,7 @@
 use Rattle.std.proofs.Common.{refl, sym, ◌∙◌, subst}
 use Rattle.std.proofs.lemmas.Bool.{and_parts}
 use Rattle.window_snapshot.specs.Mask.{is_channel}
+use Rattle.dispatcher.proofs.Standing.{after_of}
 use Rattle.live_input.specs.Seats.{is_of, seat_of}
 use Rattle.live_input.specs.Standing.{LiveIs}
 use Rattle.live_input.proofs.Asked.{responds_by}
@@ -16,8 +17,9 @@ due-due-requires c =
 pub returns-clause-open : goal.returns-clause-open
 returns-clause-open c = λ ds es h is.
     let there = subst (LiveIs ds es) (sym c.self.view_is) h in
+    let after = after_of es c.self.inside.dispatcher there.stands in
     let held = open_held c.args.self.now.seats c.args.client is in
     let opened = held_opened es c.args.self.now.seats c.args.self.now.seats c.args.client.channel h.seats_are refl held.0 held.1 held.2 in
     c.responds.ensures
-    ∙ responds_by es c.args.client.channel c.oldest-first.result c.due-due.result (c.oldest-first.ensures es there.stands opened)
-    (c.due-due.ensures es there.stands)
+    ∙ responds_by es c.args.client.channel c.oldest-first.result c.due-due.result (c.oldest-first.ensures es after opened)
+    (c.due-due.ensures es after)

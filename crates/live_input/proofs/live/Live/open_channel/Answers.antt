@@ -4,6 +4,7 @@ use Rattle.dispatch_history.specs.Effect.{past_of, stream}
 use Rattle.dispatch_calls.specs.declared.call.Call.TheVariants.{Open}
 use Rattle.dispatch_history.specs.History.{opened}
 use Rattle.dispatch_history.specs.Legal.{answered}
+use Rattle.dispatcher.proofs.Standing.{after_of}
 use Rattle.live_input.specs.Opening.{opening}
 use Rattle.live_input.specs.Standing.{LiveIs}
 use Rattle.live_input.specs.State.{LiveState}
@@ -15,7 +16,7 @@ use Rattle.live_input.proofs.live.Live.open_channel.Goals as goal
 pub returns-in-Ok-clause-after : goal.returns-in-Ok-clause-after
 returns-in-Ok-clause-after c = λ ds es h next.
     let before = subst (LiveIs ds es) (sym c.self.view_is) h in
-    let count = c.opened.ensures.value es before.stands in
+    let count = c.opened.ensures.value es (after_of es c.self.inside.dispatcher before.stands) in
     let lt : opened (past_of es) < c.args.channel = omega (arith, c.if-opened-channel.true, count) in
     let to = next.to in
     let few : opened (past_of es) < 64 = omega (arith, lt, to) in
@@ -26,7 +27,7 @@ returns-in-Ok-clause-after c = λ ds es h next.
 pub returns-in-Ok-clause-sent : goal.returns-in-Ok-clause-sent
 returns-in-Ok-clause-sent c = λ ds es h next.
     let before = subst (LiveIs ds es) (sym c.self.view_is) h in
-    let count = c.opened.ensures.value es before.stands in
+    let count = c.opened.ensures.value es (after_of es c.self.inside.dispatcher before.stands) in
     let lt : opened (past_of es) < c.args.channel = omega (arith, c.if-opened-channel.true, count) in
     let to = next.to in
     let few : opened (past_of es) < 64 = omega (arith, lt, to) in
@@ -36,14 +37,14 @@ returns-in-Ok-clause-sent c = λ ds es h next.
     let grown = x.0 in
     let fs = answered ds (Open c.self.inside.limit) es in
     let high : c.args.channel ≤ opened (past_of fs) = omega (arith, more, grown) in
-    c.sent.ensures fs (x.1).stands (opened_at fs c.args.channel next.from high)
+    c.sent.ensures fs (after_of fs c.apply.new.self (x.1).stands) (opened_at fs c.args.channel next.from high)
     ∙ ap (λ gs. length (stream gs c.args.channel))
     (opening_new ds c.self.inside.limit c.args.channel es lt ∙ ap (λ (s : LiveState). opening ds s.limit c.args.channel es) c.self.view_is)
 
 pub returns-in-Ok-clause-opened : goal.returns-in-Ok-clause-opened
 returns-in-Ok-clause-opened c = λ ds es h next.
     let before = subst (LiveIs ds es) (sym c.self.view_is) h in
-    let count = c.opened.ensures.value es before.stands in
+    let count = c.opened.ensures.value es (after_of es c.self.inside.dispatcher before.stands) in
     let lt : opened (past_of es) < c.args.channel = omega (arith, c.if-opened-channel.true, count) in
     let to = next.to in
     let few : opened (past_of es) < 64 = omega (arith, lt, to) in
@@ -59,6 +60,6 @@ returns-in-Ok-clause-opened c = λ ds es h next.
 pub returns-clause-opened : goal.returns-clause-opened
 returns-clause-opened c = λ ds es h next.
     let before = subst (LiveIs ds es) (sym c.self.view_is) h in
-    let count = c.opened.ensures.value es before.stands in
+    let count = c.opened.ensures.value es (after_of es c.self.inside.dispatcher before.stands) in
     let le : c.args.channel ≤ opened (past_of es) = omega (arith, c.if-opened-channel.false, count) in
     subst (λ fs. c.args.channel ≤ opened (past_of fs)) (opening_old ds c.args.self.now.limit c.args.channel es le) le

@@ -13,12 +13,12 @@ use Rattle.schedule.proofs.schedule.Schedule.finish_one.Goals as goal
 pub returns-then-is_some-clause-after : goal.returns-then-is_some-clause-after
 returns-then-is_some-clause-after c = λ how plan es h.
     let before = subst (HasWith how plan es) (sym c.self.view_is) h in
-    c.step.ensures.after how plan es h refl (let n : c.self.inside.next ≡ 0 + scripted (past_of es) = omega (arith, before.next_is) in n)
+    c.make.ensures.after how plan es h refl (let n : c.self.inside.next ≡ 0 + scripted (past_of es) = omega (arith, before.next_is) in n)
 
 pub returns-in-Ok-clause-after : goal.returns-in-Ok-clause-after
 returns-in-Ok-clause-after c = λ how plan es h.
     let before = subst (HasWith how plan es) (sym c.self.view_is) h in
-    let there = (rw c.in-Ok.is at c.finish.ensures.after) es before.stands in
+    let there = (rw c.in-Ok.is at c.finish.ensures.known) es before.stands in
     has_step how plan es _ _ before c.finish.ensures.displays c.finish.ensures.gone c.finish.ensures.namings (Finish c.args.now c.args.channel c.args.seq)
     (applies_silent (Finish c.args.now c.args.channel c.args.seq) es _ c.self.inside.causes (λ text. text.items) _ (sym c.is_some.ensures ∙ c.if-is_some.false) there) refl
     refl (let n : c.self.inside.next ≡ 0 + scripted (past_of es) = omega (arith, before.next_is) in n)
@@ -26,7 +26,7 @@ returns-in-Ok-clause-after c = λ how plan es h.
 
 pub returns-in-Ok-clause-more : goal.returns-in-Ok-clause-more
 returns-in-Ok-clause-more c = λ es k.
-    one_more es _ _ (Finish c.args.now c.args.channel c.args.seq) c.finish.ensures.displays (rw c.in-Ok.is at c.finish.ensures.after)
+    one_more es _ _ (Finish c.args.now c.args.channel c.args.seq) c.finish.ensures.displays (rw c.in-Ok.is at c.finish.ensures.known)
     (subst (λ (s : ScheduleState). ComesTo es s.dispatcher) (sym c.self.view_is) k)
 
 pub returns-in-Err-clause-more : goal.returns-in-Err-clause-more

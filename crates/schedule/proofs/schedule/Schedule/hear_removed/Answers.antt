@@ -1,11 +1,10 @@
--- What a removed channel has left comes to its lines, and is let go.
-use Rattle.std.proofs.Common.{◌≡◌, ◌≤◌, ◌∙◌, false, ap, sym, subst, arith}
+-- What a removed channel was told and did not let go comes to its lines, and is let go.
+use Rattle.std.proofs.Common.{◌≡◌, ◌∙◌, false, ap, sym, subst}
 use Rattle.dispatch_history.specs.Effect.{past_of}
-use Rattle.dispatch_history.specs.History.{live, received}
-use Rattle.dispatcher.specs.Access.{gone}
+use Rattle.dispatch_history.specs.History.{live}
 use Rattle.schedule.specs.State.{HasWith}
 use Rattle.schedule.proofs.Counting.{count_of, counts_are, counts_opened}
-use Rattle.schedule.proofs.Removing.{lets_go, ends}
+use Rattle.schedule.proofs.Removing.{hears}
 use Rattle.schedule.proofs.schedule.Schedule.hear_removed.Goals as goal
 
 pub returns-clause-after : goal.returns-clause-after
@@ -15,12 +14,6 @@ returns-clause-after c = λ how plan es h.
     let there_is = counts_opened es c.args.channel c.in-Some.counts told in
     let are : c.in-Some.counts ≡ count_of es c.args.channel = counts_are es c.args.channel c.in-Some.counts there_is told in
     let dead : live (past_of es) c.args.channel ≡ false = sym (ap (λ k. k.live) are) ∙ c.if-counts.false in
-    let all = c.let_go.ensures.gone es before.stands there_is in
-    let few : received (past_of es) c.args.channel ≤ gone c.let_go.new.self c.args.channel = omega (arith, all) in
-    let rest =
-    lets_go how plan es _ c.let_go.new.self c.args.channel before (c.let_go.ensures.stays es before.stands) c.let_go.ensures.displays
-    (c.let_go.ensures.gone es before.stands) c.let_go.ensures.others c.let_go.ensures.namings
-    in
-    ends how plan es _ c.let_all_go.new.self c.hear_left.new.streams.items c.args.channel rest few (c.in_ok-hear_left.ensures es rest.stands there_is)
-    (c.let_all_go.ensures.stays es rest.stands) c.let_all_go.ensures.displays
-    (c.let_all_go.ensures.gone es rest.stands there_is dead) c.let_all_go.ensures.others c.let_all_go.ensures.namings
+    hears how plan es _ c.let_all_go.new.self c.hear_left.new.streams.items c.args.channel before (c.in_ok-hear_left.ensures es before.stands there_is)
+    (c.let_all_go.ensures.known es before.stands) c.let_all_go.ensures.displays
+    (c.let_all_go.ensures.gone es before.stands there_is dead) c.let_all_go.ensures.others c.let_all_go.ensures.namings

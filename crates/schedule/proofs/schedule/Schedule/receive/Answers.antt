@@ -8,15 +8,15 @@ use Rattle.schedule.specs.Receives.{receives_of}
 use Rattle.schedule.proofs.schedule.Schedule.receive.Goals as goal
 use Rattle.schedule.proofs.schedule.Schedule.receive.Goals.{else-left-gt0-via-then-left-gt0+else-counts, else-left-gt0-via-else-left-gt0}
 
-pub returns-in_ok-receive_some-clause-after : goal.returns-in_ok-receive_some-clause-after
-returns-in_ok-receive_some-clause-after c = λ how plan es h.
+pub returns-in_ok-receive_many-clause-after : goal.returns-in_ok-receive_many-clause-after
+returns-in_ok-receive_many-clause-after c = λ how plan es h.
     let before = subst (HasWith how plan es) (sym c.self.view_is) h in
     let told = sym (c.counts.ensures es before.stands) ∙ c.in-Some.is in
     let are : c.in-Some.counts ≡ count_of es c.args.channel =
     counts_are es c.args.channel c.in-Some.counts (counts_opened es c.args.channel c.in-Some.counts told) told in
-    subst (λ calls. HasWith how plan (extend plan.displays es calls) c.receive_some.new.self)
+    subst (λ calls. HasWith how plan (extend plan.displays es calls) c.receive_many.new.self)
     (receives_are es c.args.channel c.saturating_sub-left.result c.in-Some.counts are c.if-counts.true c.saturating_sub-left.ensures)
-    (c.in_ok-receive_some.ensures.after how plan es h)
+    (c.in_ok-receive_many.ensures.after how plan es h)
 
 pub returns-in_default-clause-after : goal.returns-in_default-clause-after
 returns-in_default-clause-after c = λ how plan es h.

@@ -10,12 +10,12 @@ pub loop-preserved : goal.loop-preserved
 loop-preserved c =
     record {
       has = λ how plan es h.
-          subst (λ fs. HasWith how plan fs c.receive_one.new.self) (one_receive_more plan.displays es c.args.channel c.loop.counter)
-          (c.in_ok-receive_one.ensures.after how plan _ (c.loop.invariant.has how plan es h));
-      messages = c.receive_one.ensures.messages ∙ c.loop.invariant.messages;
-      calls = omega (arith, c.loop.invariant.calls, c.in_ok-receive_one.ensures.calls);
-      more = λ es k. c.receive_one.ensures.more es (c.loop.invariant.more es k);
-      latest = c.receive_one.ensures.latest ∙ c.loop.invariant.latest;
+          subst (λ fs. HasWith how plan fs c.receive_next.new.self) (one_receive_more plan.displays es c.args.channel c.loop.counter)
+          (c.in_ok-receive_next.ensures.after how plan _ (c.loop.invariant.has how plan es h));
+      messages = c.receive_next.ensures.messages ∙ c.loop.invariant.messages;
+      calls = omega (arith, c.loop.invariant.calls, c.in_ok-receive_next.ensures.calls);
+      more = λ es k. c.receive_next.ensures.more es (c.loop.invariant.more es k);
+      latest = c.receive_next.ensures.latest ∙ c.loop.invariant.latest;
     }
 
 pub returns-clause-after : goal.returns-clause-after

@@ -1,12 +1,24 @@
--- One receive more, and what was received is let go.
-use Rattle.std.proofs.Common.{sym, subst}
-use Rattle.schedule.specs.State.{HasWith}
-use Rattle.schedule.proofs.Removing.{lets_go}
+-- One receive more.
+use Rattle.std.proofs.Common.{refl, sym, subst}
+use Rattle.schedule.specs.State.{HasWith, ScheduleState}
+use Rattle.schedule.proofs.Stepping.{has_received}
+use Rattle.dispatch_calls.specs.declared.call.Call.TheVariants.{Receive}
+use Rattle.schedule.specs.More.{ComesTo}
+use Rattle.schedule.proofs.More.{one_more}
 use Rattle.schedule.proofs.schedule.Schedule.receive_next.Goals as goal
 
-pub returns-clause-after : goal.returns-clause-after
-returns-clause-after c = λ how plan es h.
-    let took = c.in_ok-receive_one.ensures.after how plan es h in
-    let there = subst (HasWith how plan _) (sym c.self.view_is) took in
-    lets_go how plan _ _ c.let_go.new.self c.args.channel there (c.let_go.ensures.stays _ there.stands) c.let_go.ensures.displays
-    (c.let_go.ensures.gone _ there.stands) c.let_go.ensures.others c.let_go.ensures.namings
+pub returns-in-Ok-clause-after : goal.returns-in-Ok-clause-after
+returns-in-Ok-clause-after c = λ how plan es h.
+    let before = subst (HasWith how plan es) (sym c.self.view_is) h in
+    let there = (rw c.in-Ok.is at c.pass.ensures.known) es before.stands in
+    has_received how plan es _ _ before c.pass.ensures.displays c.pass.ensures.gone c.pass.ensures.namings there.0 c.args.channel there.1 refl refl refl
+    c.saturating_add-self-inside.ensures
+
+pub returns-in-Ok-clause-more : goal.returns-in-Ok-clause-more
+returns-in-Ok-clause-more c = λ es k.
+    one_more es _ _ (Receive c.args.channel) c.pass.ensures.displays (rw c.in-Ok.is at c.pass.ensures.known)
+    (subst (λ (s : ScheduleState). ComesTo es s.dispatcher) (sym c.self.view_is) k)
+
+pub returns-in-Err-clause-more : goal.returns-in-Err-clause-more
+returns-in-Err-clause-more c = λ es k.
+    subst (ComesTo es) (sym c.in-Err.ensures.err) (subst (λ (s : ScheduleState). ComesTo es s.dispatcher) (sym c.self.view_is) k)

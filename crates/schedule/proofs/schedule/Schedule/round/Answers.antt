@@ -6,7 +6,7 @@ use Rattle.schedule.proofs.schedule.Schedule.round.Goals as goal
 
 pub returns-clause-after : goal.returns-clause-after
 returns-clause-after c = λ how plan es r receiving opening next.
-    let has = c.in_ok-step.ensures.after how plan es r.has receiving next in
+    let has = c.in_ok-make.ensures.after how plan es r.has receiving next in
     let mid = answered plan.displays c.args.call.now es in
     on_ok_both c.receive_all.result _ _ _ (c.receive_all.ensures.after how plan mid has) (c.receive_all.ensures.messages how plan mid has)
     (λ all messages.

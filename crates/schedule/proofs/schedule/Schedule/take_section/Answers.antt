@@ -1,15 +1,13 @@
--- The head, the lines, what was not received, and the end; the other channels keep theirs.
-use Rattle.std.proofs.Common.{◌≡◌, ◌∙◌, ◌++◌, max, drop, reverse, refl, sym, ap, subst, arith, append_assoc}
+-- The head, the lines, what was not let go, and the end; the other channels keep theirs.
+use Rattle.std.proofs.Common.{◌≡◌, ◌∙◌, ◌++◌, drop, reverse, refl, sym, ap, subst, arith, append_assoc}
 use Rattle.std.specs.Option.{unwrap_or}
 use Rattle.std.proofs.lemmas.Result.{on_ok_weaker, on_err_weaker}
-use Rattle.std.proofs.lemmas.Bool.{ne_eqb}
 use Rattle.dispatcher.specs.Access.{gone}
 use Rattle.dispatch_history.specs.Due.{counts}
-use Rattle.dispatch_history.specs.Effect.{past_of, stream}
-use Rattle.dispatch_history.specs.History.{received}
+use Rattle.dispatch_history.specs.Effect.{stream}
 use Rattle.stream_text.specs.Spelling.{channel_line, message_lines}
 use Rattle.stream_text.specs.StreamsHistory.{unopened}
-use Rattle.schedule.specs.Lines.{lines_first, lines_had}
+use Rattle.schedule.specs.Lines.{lines_first}
 use Rattle.schedule.specs.Printing.{Prints, end_of}
 use Rattle.schedule.proofs.Sections.{first_part, head_and_lines, lines_taken}
 use Rattle.schedule.proofs.Stepping.{on_err_any}
@@ -19,14 +17,12 @@ use Rattle.schedule.proofs.schedule.Schedule.take_section.Goals as goal
 pub returns-clause-section : goal.returns-clause-section
 returns-clause-section c = λ plan es r there_is within.
     let before = subst (Prints plan es c.args.channel) (sym c.self.view_is) r in
-    let stands = c.let_go.ensures.stays es before.stands in
     let told = reverse (stream es c.args.channel) in
-    let n = max (gone c.self.inside.dispatcher c.args.channel) (received (past_of es) c.args.channel) in
+    let n = gone c.self.inside.dispatcher c.args.channel in
     let left = message_lines (drop n told) in
     let heard = lines_taken c.args.channel c.take_lines.result.items before there_is within c.take_lines.ensures.value in
     let end = end_of c.args.channel (unwrap_or (counts es c.args.channel) unopened) in
-    let rest : c.in_ok-rest_text.field-0.items ≡ left ++ end =
-    c.in_ok-rest_text.ensures es stands there_is ∙ ap (λ n. message_lines (drop n told) ++ end) (c.let_go.ensures.gone es before.stands there_is) in
+    let rest : c.in_ok-rest_text.field-0.items ≡ left ++ end = c.in_ok-rest_text.ensures es before.stands there_is in
     on_ok_weaker c.push-3.result
     (λ e.
     section_is c.args.text.now c.push.new.self c.push-2.new.self (c.push-2.new.self ++ left) c.push-3.new.self
@@ -42,11 +38,9 @@ pub returns-clause-after : goal.returns-clause-after
 returns-clause-after c = λ plan es r.
     let before = subst (Prints plan es c.args.channel) (sym c.self.view_is) r in
     record {
-      stands = c.let_go.ensures.stays es before.stands;
+      stands = before.stands;
       heard = λ d one le high.
-          c.take_lines.ensures.others d one (λ same. omega (arith, le, same))
-          ∙ before.heard d one (omega (arith, le)) (rw (← c.take_lines.ensures.len) high)
-          ∙ ap (λ n. lines_had es n d) (sym (c.let_go.ensures.others d one (ne_eqb d c.args.channel (λ same. omega (arith, le, same)))));
+          c.take_lines.ensures.others d one (λ same. omega (arith, le, same)) ∙ before.heard d one (omega (arith, le)) (rw (← c.take_lines.ensures.len) high);
       as_many = c.take_lines.ensures.len ∙ before.as_many;
     }
 
@@ -66,7 +60,7 @@ pub returns-in_err-rest_text-clause-err : goal.returns-in_err-rest_text-clause-e
 returns-in_err-rest_text-clause-err c = λ plan es r there_is within.
     let before = subst (Prints plan es c.args.channel) (sym c.self.view_is) r in
     let told = reverse (stream es c.args.channel) in
-    let n = max (gone c.self.inside.dispatcher c.args.channel) (received (past_of es) c.args.channel) in
+    let n = gone c.self.inside.dispatcher c.args.channel in
     let heard = lines_taken c.args.channel c.take_lines.result.items before there_is within c.take_lines.ensures.value in
     on_err_any c.from_residual-in_err-rest_text.result _
     (head_and_lines c.args.text.now c.push.new.self c.push-2.new.self (channel_line c.args.channel c.args.name.now)
@@ -80,7 +74,7 @@ pub returns-clause-err : goal.returns-clause-err
 returns-clause-err c = λ plan es r there_is within.
     let before = subst (Prints plan es c.args.channel) (sym c.self.view_is) r in
     let told = reverse (stream es c.args.channel) in
-    let n = max (gone c.self.inside.dispatcher c.args.channel) (received (past_of es) c.args.channel) in
+    let n = gone c.self.inside.dispatcher c.args.channel in
     let heard = lines_taken c.args.channel c.take_lines.result.items before there_is within c.take_lines.ensures.value in
     on_err_weaker c.push-3.result
     (λ e.

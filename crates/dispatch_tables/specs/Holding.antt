@@ -1,0 +1,35 @@
+-- What is proved of a channel where it is not asked what may be let go.
+use Rattle.std.specs.Prelude.{◌≡◌, ℕ, true, List, nat_lt}
+use Rattle.dispatch_calls.specs.declared.call.Call.{Call}
+use Rattle.dispatch_calls.specs.declared.reply.Reply.{Reply}
+use Rattle.input_channel.specs.State.{ChannelState, let_go_of, each_let_go, all_let_go, with_spare}
+use Rattle.dispatch_history.specs.Effect.{Effect, past_of}
+use Rattle.dispatch_history.specs.Effects.{step}
+use Rattle.dispatch_history.specs.History.{live}
+use Rattle.dispatch_history.specs.Reply.{receive_reply}
+use Rattle.dispatch_tables.specs.Lawful.{Lawful}
+use Rattle.dispatch_tables.specs.Channel.{MayGo, Holds, Hands}
+
+-- A channel is held all the same once any of its messages are let go, and where it has more room.
+abbrev pub HeldLess : Type 0
+HeldLess =
+    (displays : List ℕ) (es : List Effect) (c : ℕ) (s : ChannelState)
+    → Lawful displays es
+    → Holds es c s
+    → Holds es c (let_go_of s)
+    × ((n : ℕ) → Holds es c (with_spare n s))
+    × Holds es c (each_let_go s)
+    × Holds es c (all_let_go s)
+
+-- What may be let go before a step may be let go after it.
+abbrev pub MayGoLaw : Type 0
+MayGoLaw =
+    (displays : List ℕ) (call : Call) (answer : Reply) (es : List Effect) (c gone : ℕ)
+    → Lawful displays (step displays call answer es) → MayGo es c gone → MayGo (step displays call answer es) c gone
+
+-- The owner of a live channel gets a message exactly where more is published than it received.
+abbrev pub PassLaw : Type 0
+PassLaw =
+    (displays : List ℕ) (es : List Effect) (c : ℕ) (s : ChannelState)
+    → Lawful displays es → Holds es c s → live (past_of es) c ≡ true
+    → Hands (nat_lt s.received s.published) (receive_reply es c)

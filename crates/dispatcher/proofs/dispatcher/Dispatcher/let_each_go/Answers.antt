@@ -1,0 +1,56 @@
+use Rattle.std.proofs.Common.{sym, ap, ◌∙◌, subst, refl, arith}
+use Rattle.input_channel.specs.State.{each_let_go}
+use Rattle.dispatch_channels.specs.Table.{channel_of}
+use Rattle.dispatcher.specs.Access.{gone, namings_gone}
+use Rattle.dispatcher.specs.Dispatching.{IsAfter}
+use Rattle.dispatcher.proofs.RoomMade.{let_go_room}
+use Rattle.dispatcher.proofs.Applying.{raw, bare}
+use Rattle.dispatcher.proofs.LettingGo.{each_go_stands, each_gone, others_gone}
+use Rattle.dispatcher.proofs.dispatcher.Dispatcher.let_each_go.Goals as goal
+
+pub invariant_of-self : goal.invariant_of-self
+invariant_of-self c =
+    let s = c.self.invariant.0 in
+    let r = c.self.inside.tables.routing in (
+      (
+        s.0,
+        bare s.0 (record c.self.inside.tables { routing = record r { channels = c.let_each_go.new.self } })
+            (each_go_stands s.0 c.self.inside.tables c.let_each_go.new.self c.args.channel (raw s.0 c.self.inside.tables s.1)
+            (omega (arith, c.if-channel-gt0.true))
+            (omega (arith, c.if-channel-opened.true, c.opened.ensures.value))
+            c.let_each_go.ensures),
+      ),
+      λ some.
+          let_go_room _ c.args.channel r c.let_each_go.new.self (each_let_go (channel_of r.channels c.args.channel)) c.let_each_go.ensures
+          (omega (arith, c.if-channel-gt0.true))
+          (omega (arith, c.if-channel-opened.true, c.opened.ensures.value))
+          (λ _. refl)
+          (c.self.invariant.1 some),
+    )
+
+pub returns-then-channel-opened-clause-known : goal.returns-then-channel-opened-clause-known
+returns-then-channel-opened-clause-known c =
+    λ es s.
+    bare es (record c.self.inside.tables { routing = record c.self.inside.tables.routing { channels = c.let_each_go.new.self } })
+    (each_go_stands es c.self.inside.tables c.let_each_go.new.self c.args.channel (raw es c.self.inside.tables (subst (IsAfter es) (sym c.self.view_is) s))
+    (omega (arith, c.if-channel-gt0.true))
+    (omega (arith, c.if-channel-opened.true, c.opened.ensures.value))
+    c.let_each_go.ensures)
+
+pub returns-then-channel-opened-clause-gone : goal.returns-then-channel-opened-clause-gone
+returns-then-channel-opened-clause-gone c =
+    λ es s _.
+    each_gone es c.self.inside.tables c.let_each_go.new.self c.args.channel (raw es c.self.inside.tables (subst (IsAfter es) (sym c.self.view_is) s))
+    (omega (arith, c.if-channel-gt0.true))
+    (omega (arith, c.if-channel-opened.true, c.opened.ensures.value))
+    c.let_each_go.ensures
+
+pub returns-then-channel-opened-clause-others : goal.returns-then-channel-opened-clause-others
+returns-then-channel-opened-clause-others c =
+    λ k from other.
+    others_gone c.self.inside.tables.routing.channels c.let_each_go.new.self c.args.channel k
+    (each_let_go (channel_of c.self.inside.tables.routing.channels c.args.channel)) c.let_each_go.ensures (omega (arith, c.if-channel-gt0.true)) from other
+    ∙ ap (λ d. gone d k) c.self.view_is
+
+pub returns-then-channel-opened-clause-namings : goal.returns-then-channel-opened-clause-namings
+returns-then-channel-opened-clause-namings c = ap (λ t. t.namings.gone) c.let_each_go.ensures ∙ ap namings_gone c.self.view_is
