@@ -10,7 +10,7 @@ use Rattle.stream_text.specs.declared.stream_lines.Place.TheVariants.{Between, S
 use Rattle.stream_text.specs.Number.{◌>>=◌}
 use Rattle.text_lines.specs.Lines.{Line, lines_of}
 use Rattle.stream_text.specs.StreamLine.{line_of}
-use Rattle.stream_text.specs.StreamFile.{Event, follow, may_end, told, with_event, numbered_line, events_from, events_behind, events_of, messages_of, streams_of, streams_in, Unread, Goes}
+use Rattle.stream_text.specs.StreamFile.{Event, follow, may_end, told, with_event, numbered_line, events_from, events_behind, events_of, messages_of, streams_of, streams_in, next_line, Unread, Goes}
 use Rattle.stream_text.specs.OrderText.{order_passed}
 use Rattle.command_answers.specs.Verify.{messages_in, judged, verdict}
 use Rattle.stream_judge.specs.Breaks.{break_from, first_break}
@@ -178,9 +178,10 @@ after_line past n line old new (Ok es) h =
     in let m : old.messages + (messages_at line + messages_left es) ≡ new.messages + messages_left es = omega (arith, h.messages)
     in rw (b, c, m) refl
 
--- the line that a reader answered, and one byte at least for it
-pub one_read : (old new : Unread) (o : Option Event) (e : Event) → o ≡ Some e → Goes old (Ok o) new → (old.events ≡ with_event e new.events) × (new.left < old.left)
-one_read old new o e is goes = rw is at goes
+-- the line whose number a reader answered, and one byte at least for it
+pub one_read : (old new : Unread) (o : Option ℕ) (n : ℕ) (line : StreamLine) → o ≡ Some n → Goes old (next_line (Ok o) line) new
+    → (old.events ≡ with_event (n, line) new.events) × (new.left < old.left)
+one_read old new o n line is goes = rw is at goes
 
 -- a line is of one channel at most, and is one message at most
 pub one_channel : (line : StreamLine) → channels_at line ≤ 1

@@ -10,7 +10,7 @@ ghost use Rattle.command_files.specs.Refusing.{RefusesSo};
 ghost use Rattle.command_answers.specs.Verify.{said, verdict};
 
 use command_files::{Refusal, StreamError, read_stream};
-use gesture_verifier::{StepError, Verifier};
+use gesture_verifier::Verifier;
 use input_types::Message;
 use outside_io::Files;
 use std::alloc::{AllocError, Global};
@@ -89,14 +89,10 @@ impl Judge {
         if self.broken.is_some() {
             return Ok(());
         }
-        match self.verifier.step(message) {
-            Ok(()) => Ok(()),
-            Err(StepError::Fault(_)) => {
-                self.broken = Some(number);
-                Ok(())
-            }
-            Err(StepError::Memory) => Err(Refusal::NoMemory),
+        if !self.verifier.accept(message)? {
+            self.broken = Some(number);
         }
+        Ok(())
     }
 
     /// What is said at the end of the file.
@@ -130,9 +126,10 @@ fn verdict_text(alloc: Global, bytes: &[u8]) -> Result<Vec<u8>, Refusal>
         Err(line) => return Err(Refusal::Stream(StreamError::BadLine { line })),
     };
     let mut judge = Judge::new(alloc);
+    let mut line = StreamLine::Channel { id: 0 };
     'lines: loop {
-        match lines.next() {
-            Ok(Some((number, line))) => judge.judge_line(alloc, number, &line)?,
+        match lines.next_into(&mut line) {
+            Ok(Some(number)) => judge.judge_line(alloc, number, &line)?,
             Ok(None) => return judge.verdict(alloc),
             Err(line) => return Err(Refusal::Stream(StreamError::BadLine { line })),
         }

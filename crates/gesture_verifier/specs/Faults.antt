@@ -8,7 +8,7 @@ use Rattle.input_types.specs.StreamRule.{StreamState, after_body}
 use Rattle.bits32.specs.Set.{members}
 use Rattle.gesture_verifier.specs.declared.fault.Fault.{Fault}
 use Rattle.gesture_verifier.specs.Reasons.{reason_of, is_spelled}
-use Rattle.gesture_verifier.specs.Told.{Told, state_of}
+use Rattle.gesture_verifier.specs.Told.{Told, one_more, state_of}
 
 -- the ids that are down on the device of a motion; none for what is no motion
 abbrev pub ids_of_body : StreamState → Body → List ℕ
@@ -44,3 +44,9 @@ abbrev pub Takes : Result Bool AllocError → Told → Told → Body → Type 0
 Takes (Ok true) old new body = (after_body (state_of old) body ≡ Some (state_of new)) × (new.accepted ≡ old.accepted)
 Takes (Ok false) old new body = (after_body (state_of old) body ≡ None) × (new ≡ old)
 Takes (Err e) old new body = (new ≡ old) × (is_key body ≡ true)
+
+-- what a message does to what a window knows: accepted and counted, or as for its body
+abbrev pub Accepts : Result Bool AllocError → Told → Told → Message → Type 0
+Accepts (Ok true) old new m = (after_body (state_of old) m.body ≡ Some (state_of new)) × (new.accepted ≡ one_more old.accepted)
+Accepts (Ok false) old new m = (after_body (state_of old) m.body ≡ None) × (new ≡ old)
+Accepts (Err e) old new m = (new ≡ old) × (is_key m.body ≡ true)

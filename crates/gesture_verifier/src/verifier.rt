@@ -40,7 +40,7 @@ impl Verifier {
     ghost use Rattle.input_types.specs.StreamRule.{untold, after_body, is_well_formed};
     ghost use Rattle.bits32.specs.Set.{members};
     ghost use Rattle.gesture_verifier.specs.Told.{state_of, one_more, VerifierStandsFor};
-    ghost use Rattle.gesture_verifier.specs.Faults.{IsFault, Takes, is_key, ids_of_body, due_of_body};
+    ghost use Rattle.gesture_verifier.specs.Faults.{Accepts, IsFault, Takes, is_key, ids_of_body, due_of_body};
     ghost use Rattle.gesture_verifier.specs.Held.{are_rising, is_held};
     ghost use Rattle.gesture_verifier.specs.Reasons.{reason_of, is_spelled};
 
@@ -72,11 +72,29 @@ impl Verifier {
         ensures memory { result ≡ Err StepError.Memory → is_key message.now.body ≡ true }
         ensures err { OnErr result (self.new ≡ self.old) }
     {
+        if self.accept(message)? {
+            Ok(())
+        } else {
+            Err(StepError::Fault(self.fault(message)))
+        }
+    }
+
+    /// Accepts the next message of the stream as `step` does, and answers whether it may come, without a reason.
+    ///
+    /// Memory is wanted only at a key message. A message that may not come and want of memory leave the verifier as it
+    /// was.
+    pub fn accept(&mut self, message: &Message) -> Result<bool, AllocError>
+        ensures accepts { Accepts result self.old self.new message.now }
+        ensures stands { (past : List Message) → VerifierStandsFor past self.old → result ≡ Ok true
+            → VerifierStandsFor (message.now ∷ past) self.new }
+        ensures well_formed { (past : List Message) → VerifierStandsFor past self.old
+            → IfOk result (λ may. is_well_formed (message.now ∷ past) ≡ may) }
+    {
         if !self.take(&message.body)? {
-            return Err(StepError::Fault(self.fault(message)));
+            return Ok(false);
         }
         self.accepted = self.accepted.saturating_add(1);
-        Ok(())
+        Ok(true)
     }
 
     /// Why a message may not come now; None where it may. A message that no line of a stream file says, as one with

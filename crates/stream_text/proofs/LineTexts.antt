@@ -1,5 +1,5 @@
 -- The lines of a stream file: what is spelled is read again, and nothing else is read.
-use Rattle.std.proofs.Common.{◌≡◌, ℕ, ◌-◌, ◌^◌, ◌<◌, ◌≤◌, List, [], ◌∷◌, ◌++◌, length, Some, None, true, false, refl, sym, ap, ◌∙◌, subst, arith, inl, inr}
+use Rattle.std.proofs.Common.{◌≡◌, ℕ, ◌-◌, ◌^◌, ◌<◌, ◌≤◌, Bool, cond, List, [], ◌∷◌, ◌++◌, length, Option, Some, None, IfSome, true, false, refl, sym, ap, ◌∙◌, subst, arith, inl, inr}
 use Rattle.std.specs.Prelude.{codes}
 use Rattle.std.specs.Fmt.{decimal}
 use Rattle.std.proofs.Math.Dec.{eqb}
@@ -205,3 +205,12 @@ can_say bs (Channel id) h = h.2
 can_say bs (Message m) h = h.1
 can_say bs (End id sent received finished) h = tt
 can_say bs (Naming clock id seq) h = tt
+
+-- the same of a line that was read into a place
+pub can_say_where : (bs : List ℕ) (line : StreamLine) (read : Bool) → read ≡ true → cond read (Some line) None ≡ line_of bs → CanSay line
+can_say_where bs line read is h = can_say bs line (line_only bs line (sym (rw is at h)))
+
+-- what holds anyway holds where there is something
+pub if_there : {A : Type 0} {P : Type 0} (o : Option A) → P → IfSome o (λ _. P)
+if_there None p = tt
+if_there (Some x) p = p

@@ -1,6 +1,5 @@
 -- Pointers that were read, in front of those that are left.
-use Rattle.std.proofs.Common.{◌≡◌, ℕ, zero, suc, ◌+◌, ◌-◌, ◌<◌, List, [], ◌∷◌, ◌++◌, length, Option, Some, None, Result, Ok, Err, false, refl, sym, ap, ◌∙◌, arith}
-use Rattle.std.specs.Result.{OnOk, is_err}
+use Rattle.std.proofs.Common.{◌≡◌, ℕ, zero, suc, ◌+◌, ◌-◌, ◌<◌, List, [], ◌∷◌, ◌++◌, length, Option, Some, None, refl, sym, ap, ◌∙◌, arith}
 use Rattle.std.proofs.lemmas.List.{append_assoc}
 use Rattle.input_types.specs.declared.pointer.Pointer.{Pointer}
 use Rattle.input_types.specs.declared.axis.Pixel.{Pixel}
@@ -52,8 +51,3 @@ pushed list room least rest id at behind r l e =
     ap (in_front list) (pointers_step room least rest r l)
     ∙ ap (λ read. in_front list (read >>= λ p. with_pointer p.0 (pointers_at (room - 1) (p.0.id + 1) p.1))) (sym e)
     ∙ in_front_more list (record { id = id; at = at }) (pointers_at (room - 1) (id + 1) behind)
-
--- what an answer that is no error ensures
-pub when_ok : {T E : Type 0} (r : Result T E) (P : Type 0) → OnOk r P → false ≡ is_err r → P
-when_ok (Ok x) P h e = h
-when_ok (Err x) P h e = absurd (cc e)

@@ -59,6 +59,12 @@ events_behind (Err bad) = Err bad
 unfoldable pub events_of : List ℕ → Result (List Event) ℕ
 events_of bytes = events_behind (order_passed (lines_of bytes))
 
+-- the next line that a reader answers, from its number and what it says
+abbrev pub next_line : Result (Option ℕ) ℕ → StreamLine → Result (Option Event) ℕ
+next_line (Ok None) says = Ok None
+next_line (Ok (Some n)) says = Ok (Some (n, says))
+next_line (Err bad) says = Err bad
+
 -- what is left of a file to a reader: how many bytes, and their lines
 pub record Unread : Type 0 where
   pub left : ℕ

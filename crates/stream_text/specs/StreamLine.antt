@@ -2,6 +2,10 @@
 use Rattle.std.specs.Prelude.{codes, ◌≡◌, ◌<◌, ◌≤◌, true, ℕ, ◌-◌, ◌^◌, ◌==◌, ◌&&◌, nat_le, nat_lt, Bool, if◌then◌else◌, List, ◌++◌, length, Option, Some, None}
 use Rattle.std.specs.List.{list_all}
 use Rattle.std.specs.Fmt.{decimal}
+use Rattle.input_types.specs.declared.motion.Motion.{Motion}
+use Rattle.input_types.specs.declared.message.Body.{Body}
+use Rattle.input_types.specs.declared.message.Body.TheVariants.{Motion as MotionBody}
+use Rattle.input_types.specs.declared.message.Message.{Message as Told}
 use Rattle.stream_text.specs.declared.stream_line.StreamLine.{StreamLine}
 use Rattle.stream_text.specs.declared.stream_line.StreamLine.TheVariants.{Channel, Message, End, Naming}
 use Rattle.stream_text.specs.Number.{◌>>=◌, after, number_at, whole}
@@ -53,6 +57,18 @@ line_of bs =
     chosen_by (after (codes "channel ") bs) channel_of
     (chosen_by (after (codes "end ") bs) end_of
     (chosen_by (after (codes "anr ") bs) naming_of (message_of bs >>= λ m. Some (Message m))))
+
+-- the line of a message, where there is one
+abbrev pub line_that_tells : Option Told → Option StreamLine
+line_that_tells told = told >>= λ m. Some (Message m)
+
+-- the line of a message of this number and moment, where it says something
+abbrev pub line_that_says : ℕ → ℕ → Option Body → Option StreamLine
+line_that_says seq moment says = line_that_tells (says >>= λ body. Some (record { seq = seq; moment = moment; body = body }))
+
+-- the line of a motion of this number and moment, where there is one
+abbrev pub line_that_moves : ℕ → ℕ → Option Motion → Option StreamLine
+line_that_moves seq moment motion = line_that_says seq moment (motion >>= λ m. Some (MotionBody m))
 
 -- lines without their newline: the first and the last one of a section, and a naming
 unfoldable pub channel_words : ℕ → List ℕ → List ℕ

@@ -1,8 +1,11 @@
 //! Reading the line of a message.
-ghost use Rattle.std.specs.Prelude.{◌≡◌, ◌≤◌, ℕ, option_map, IfSome};
+ghost use Rattle.std.specs.Prelude.{◌≡◌, ◌≤◌, ℕ, codes, cond, Some, None, option_map, IfSome};
+ghost use Rattle.stream_text.specs.Number.{after};
 ghost use Rattle.stream_text.specs.MessageLine.{action_at, body_of, codes_at, device_at, flags_at, focus_of, indexed_at, key_of, labeled_at, message_of, motion_of, pointer_at, pointers_at, way_at};
+ghost use Rattle.stream_text.specs.StreamLine.{line_that_moves, line_that_says, line_that_tells};
 
 use crate::number::{integer, number, past};
+use crate::stream_line::StreamLine;
 use input_types::{
     Body, DeviceId, FLAG_CANCELED, KeyArgs, KeyMsg, Message, Moment, Motion, MotionAction, Pixel,
     Pointer, PointerId, Pointers,
@@ -77,6 +80,7 @@ fn flags(bytes: &[u8]) -> (u32, &[u8])
     }
 }
 
+#[inline(always)]
 #[tactic(auto, unfolding(crate::specs::MessageLine::pointer_at))]
 fn pointer(least: u8, bytes: &[u8]) -> Option<(u8, Pixel, &[u8])>
     ensures value { option_map (λ read. (record { id = read.0; at = read.1 }, read.2.now)) result
@@ -94,55 +98,67 @@ fn pointer(least: u8, bytes: &[u8]) -> Option<(u8, Pixel, &[u8])>
     Some((id as u8, Pixel { x, y }, rest))
 }
 
+/// Reads the pointers up to the end of the line into a list, and answers whether nothing else stands there.
+#[inline(always)]
 #[tactic(auto, unfolding(crate::specs::MessageLine::pointers_at))]
-fn pointers(bytes: &[u8]) -> Option<Pointers>
-    ensures { result ≡ pointers_at 16 0 bytes.now }
+fn pointers(list: &mut Pointers, bytes: &[u8]) -> bool
+    ensures { cond result (Some list.new) None ≡ pointers_at 16 0 bytes.now }
 {
-    let mut list = Pointers::empty();
+    *list = Pointers::empty();
     let mut room: u8 = 16;
     let mut least = 0;
     let mut rest = bytes;
     'pointers: while !rest.is_empty() {
         if room == 0 {
-            return None;
+            return false;
         }
-        let (id, at, behind) = pointer(least, rest)?;
-        let pointer = Pointer {
-            id: PointerId::new(id)?,
-            at,
+        let Some((id, at, behind)) = pointer(least, rest) else {
+            return false;
         };
-        if list.push(pointer).is_err() {
-            return None;
-        }
+        let Some(new) = PointerId::new(id) else {
+            return false;
+        };
+        list.put(Pointer { id: new, at });
         room -= 1;
         least = id + 1;
         rest = behind;
     }
-    Some(list)
+    true
 }
 
+/// Reads the line of a message of this number and moment behind `motion `, and answers whether it is one.
+#[inline(always)]
 #[tactic(auto, unfolding(crate::specs::MessageLine::motion_of))]
-fn motion(bytes: &[u8]) -> Option<Motion>
-    ensures { result ≡ motion_of bytes.now }
+fn motion(seq: u64, moment: Moment, bytes: &[u8], says: &mut StreamLine) -> bool
+    ensures { cond result (Some says.new) None ≡ line_that_moves seq moment (motion_of bytes.now) }
 {
     let Some((device, rest)) = device(bytes) else {
-        return None;
+        return false;
     };
-    let rest = past(" ", rest)?;
-    let (action, index, rest) = action(rest)?;
+    let Some(rest) = past(" ", rest) else {
+        return false;
+    };
+    let Some((action, index, rest)) = action(rest) else {
+        return false;
+    };
     let (flags, rest) = flags(rest);
-    let pointers = pointers(rest)?;
-    if usize::from(index) < pointers.len() {
-        Some(Motion {
-            device,
-            action,
-            index,
-            flags,
-            pointers,
-        })
-    } else {
-        None
+    let mut list = Pointers::empty();
+    if !pointers(&mut list, rest) || usize::from(index) >= list.len() {
+        return false;
     }
+    let motion = Motion {
+        device,
+        action,
+        index,
+        flags,
+        pointers: list,
+    };
+    *says = StreamLine::Message(Message {
+        seq,
+        moment,
+        body: Body::Motion(motion),
+    });
+    true
 }
 
 #[tactic(auto, unfolding(crate::specs::MessageLine::way_at))]
@@ -206,32 +222,60 @@ fn focus(bytes: &[u8]) -> Option<bool>
     Some(n == 1)
 }
 
+/// Reads what a message of this number and moment says that is no motion, and answers whether it says something.
+#[inline(never)]
 #[tactic(auto, unfolding(crate::specs::MessageLine::body_of))]
-fn body(bytes: &[u8]) -> Option<Body>
-    ensures { result ≡ body_of bytes.now }
+fn other_body(seq: u64, moment: Moment, bytes: &[u8], says: &mut StreamLine) -> bool
+    ensures { after (codes "motion ") bytes.now ≡ None
+        → cond result (Some says.new) None ≡ line_that_says seq moment (body_of bytes.now) }
 {
-    if let Some(rest) = past("motion ", bytes) {
-        let motion = motion(rest)?;
-        return Some(Body::Motion(motion));
-    }
-    if let Some(rest) = past("key ", bytes) {
-        let key = key(rest)?;
-        return Some(Body::Key(key));
-    }
-    let rest = past("focus ", bytes)?;
-    let focus = focus(rest)?;
-    Some(Body::Focus(focus))
+    let body = if let Some(rest) = past("key ", bytes) {
+        let Some(key) = key(rest) else {
+            return false;
+        };
+        Body::Key(key)
+    } else {
+        let Some(rest) = past("focus ", bytes) else {
+            return false;
+        };
+        let Some(focus) = focus(rest) else {
+            return false;
+        };
+        Body::Focus(focus)
+    };
+    *says = StreamLine::Message(Message { seq, moment, body });
+    true
 }
 
-/// The message that a line without its newline spells.
-#[tactic(auto, unfolding(crate::specs::MessageLine::message_of))]
-pub(crate) fn message(bytes: &[u8]) -> Option<Message>
-    ensures { result ≡ message_of bytes.now }
+/// Reads what a message of this number and moment says, and answers whether it says something.
+#[inline(always)]
+#[tactic(auto, unfolding(crate::specs::MessageLine::body_of))]
+fn body(seq: u64, moment: Moment, bytes: &[u8], says: &mut StreamLine) -> bool
+    ensures { cond result (Some says.new) None ≡ line_that_says seq moment (body_of bytes.now) }
 {
-    let (seq, rest) = number(u64::MAX, bytes)?;
-    let (moment, rest) = labeled(" ", Moment::MAX_US, rest)?;
-    let rest = past(" ", rest)?;
-    let body = body(rest)?;
-    let moment = Moment::new(moment)?;
-    Some(Message { seq, moment, body })
+    match past("motion ", bytes) {
+        Some(rest) => motion(seq, moment, rest, says),
+        None => other_body(seq, moment, bytes, says),
+    }
+}
+
+/// Reads the message that a line without its newline spells, and answers whether it spells one.
+#[inline(always)]
+#[tactic(auto, unfolding(crate::specs::MessageLine::message_of))]
+pub(crate) fn message(bytes: &[u8], says: &mut StreamLine) -> bool
+    ensures { cond result (Some says.new) None ≡ line_that_tells (message_of bytes.now) }
+{
+    let Some((seq, rest)) = number(u64::MAX, bytes) else {
+        return false;
+    };
+    let Some((moment, rest)) = labeled(" ", Moment::MAX_US, rest) else {
+        return false;
+    };
+    let Some(rest) = past(" ", rest) else {
+        return false;
+    };
+    let Some(moment) = Moment::new(moment) else {
+        return false;
+    };
+    body(seq, moment, rest, says)
 }

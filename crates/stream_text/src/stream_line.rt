@@ -1,5 +1,5 @@
 //! The lines of a stream file.
-ghost use Rattle.std.specs.Prelude.{◌≡◌, ℕ, option_map, IfSome, ◌≤◌};
+ghost use Rattle.std.specs.Prelude.{◌≡◌, ℕ, cond, Some, None, option_map, IfSome, ◌≤◌};
 ghost use Rattle.stream_text.specs.StreamLine.{channel_at, channel_of, end_of, is_name, is_name_byte, line_of, naming_of, SpellsLine};
 ghost use Rattle.stream_text.specs.declared.stream_line.StreamLine.{StreamLine};
 ghost use Rattle.std.specs.List.{list_all};
@@ -118,23 +118,42 @@ impl StreamLine {
         ensures again { (said : StreamLine) → SpellsLine line.now said → result ≡ Some said }
         ensures only { IfSome result (λ said. SpellsLine line.now said) }
     {
-        read_line(line)
+        let mut says = StreamLine::Channel { id: 0 };
+        if read_line(line, &mut says) {
+            Some(says)
+        } else {
+            None
+        }
     }
 }
 
+/// Puts what was read into a place, and answers whether something was.
+#[inline(always)]
+fn put(read: Option<StreamLine>, says: &mut StreamLine) -> bool
+    ensures { cond result (Some says.new) None ≡ read }
+{
+    match read {
+        Some(read) => {
+            *says = read;
+            true
+        }
+        None => false,
+    }
+}
+
+/// Reads a line as `StreamLine::read` does into a place, and answers whether it has one of the four forms.
 #[tactic(auto, unfolding(crate::specs::StreamLine::line_of))]
-fn read_line(line: &[u8]) -> Option<StreamLine>
-    ensures { result ≡ line_of line.now }
+pub(crate) fn read_line(line: &[u8], says: &mut StreamLine) -> bool
+    ensures { cond result (Some says.new) None ≡ line_of line.now }
 {
     if let Some(rest) = past("channel ", line) {
-        return channel(rest);
+        return put(channel(rest), says);
     }
     if let Some(rest) = past("end ", line) {
-        return end(rest);
+        return put(end(rest), says);
     }
     if let Some(rest) = past("anr ", line) {
-        return naming(rest);
+        return put(naming(rest), says);
     }
-    let message = message(line)?;
-    Some(StreamLine::Message(message))
+    message(line, says)
 }

@@ -1,10 +1,10 @@
 //! A stream file, line by line.
 ghost use Rattle.std.specs.Prelude.{◌≡◌, ℕ, ◌+◌, ◌^◌, ◌<◌, ◌≤◌, option_map, IfOk, IfSome, Ok, Err, length};
 ghost use Rattle.stream_text.specs.StreamLine.{CanSay};
-ghost use Rattle.stream_text.specs.StreamFile.{Goes, Unread, events_from, events_of, follow, may_end, told};
+ghost use Rattle.stream_text.specs.StreamFile.{Goes, Unread, events_from, events_of, follow, may_end, next_line, told};
 
 use crate::order_front::pass_order;
-use crate::stream_line::StreamLine;
+use crate::stream_line::{StreamLine, read_line};
 use std::marker::Model;
 use text_lines::{FirstLine, first_line};
 
@@ -69,18 +69,15 @@ impl Place {
     }
 }
 
-/// What a line says that may stand at this place, and the place behind it.
-#[tactic(auto, using(crate::proofs::LineTexts::can_say))]
-fn tell(place: Place, line: FirstLine<'_>) -> Option<(StreamLine, Place)>
-    ensures value { result ≡ told place (line.entry.text.now, line.entry.ended) }
-    ensures says { IfSome result (λ read. CanSay read.0) }
+/// Reads what a line says that may stand at this place, and answers the place behind it.
+fn tell(place: Place, line: FirstLine<'_>, says: &mut StreamLine) -> Option<Place>
+    ensures value { option_map (λ next. (says.new, next)) result ≡ told place (line.entry.text.now, line.entry.ended) }
+    ensures says { IfSome result (λ _. CanSay says.new) }
 {
-    if !line.ended {
+    if !line.ended || !read_line(line.text, says) {
         return None;
     }
-    let says = StreamLine::read(line.text)?;
-    let next = place.follow(&says)?;
-    Some((says, next))
+    place.follow(says)
 }
 
 /// Reads a stream file line by line, and takes no memory. Contracts see the lines that are left, or which of them is
@@ -142,6 +139,20 @@ impl<'a> StreamLines<'a> {
         ensures says { IfOk result (λ line. IfSome line (λ event. CanSay event.1)) }
         ensures range { IfOk result (λ line. IfSome line (λ event. event.0 + 1 < 2 ^ 64)) }
     {
+        let mut says = StreamLine::Channel { id: 0 };
+        match self.next_into(&mut says)? {
+            Some(number) => Ok(Some((number, says))),
+            None => Ok(None),
+        }
+    }
+
+    /// The same, with what the line says put into `says`, and its number alone answered. Where no line is answered,
+    /// anything may stand there.
+    pub fn next_into(&mut self, says: &mut StreamLine) -> Result<Option<u64>, u64>
+        ensures lines { Goes self.old (next_line result says.new) self.new }
+        ensures says { IfOk result (λ line. IfSome line (λ _. CanSay says.new)) }
+        ensures range { IfOk result (λ line. IfSome line (λ number. number + 1 < 2 ^ 64)) }
+    {
         if self.rest.is_empty() {
             return if self.place.may_end() {
                 Ok(None)
@@ -151,12 +162,12 @@ impl<'a> StreamLines<'a> {
         }
         let number = self.number;
         let line = first_line(self.rest);
-        let Some((says, next)) = tell(self.place, line) else {
+        let Some(next) = tell(self.place, line, says) else {
             return Err(number);
         };
         self.place = next;
         self.number += 1;
         self.rest = line.rest;
-        Ok(Some((number, says)))
+        Ok(Some(number))
     }
 }

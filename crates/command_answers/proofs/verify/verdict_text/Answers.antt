@@ -17,15 +17,15 @@ lines-init c =
 pub lines-preserved : goal.lines-preserved
 lines-preserved c =
     let past = c.lines.invariant.known.0
-    in let line = c.in-Ok-Some.line
+    in let line = c.next_into.new.says
     in let judges = c.in_ok-judge_line-in-Ok-Some.ensures.ok past c.lines.invariant.known.1
-    in let is : c.in-Ok-Some.field-0 ≡ Some (c.in-Ok-Some.number, line) = c.in-Ok-Some.field-0-is
-    in let read = one_read c.lines.lines c.next.new.self c.in-Ok-Some.field-0 (c.in-Ok-Some.number, line) is c.in-Ok-Some.ensures.lines
+    in let is : c.in-Ok-Some.field-0 ≡ Some c.in-Ok-Some.number = c.in-Ok-Some.field-0-is
+    in let read = one_read c.lines.lines c.next_into.new.self c.in-Ok-Some.field-0 c.in-Ok-Some.number line is c.in-Ok-Some.ensures.lines
     in record {
       known = (
         told_after past line,
         judges.knows,
-        sym (after_line past c.in-Ok-Some.number line c.lines.judge c.judge_line.new.self c.next.new.self.events judges)
+        sym (after_line past c.in-Ok-Some.number line c.lines.judge c.judge_line.new.self c.next_into.new.self.events judges)
             ∙ ap (judged_on c.lines.judge past) (sym read.0)
             ∙ c.lines.invariant.known.2,
       );
