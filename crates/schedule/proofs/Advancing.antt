@@ -67,7 +67,7 @@ advances how plan es s t until call r p first le again = (
   again,
 )
 
-all_get : (P : Step → Type 0) (xs : List Step) (i : ℕ) (x : Step) → All P xs → slice_get xs i ≡ Some x → P x
+pub all_get : (P : Step → Type 0) (xs : List Step) (i : ℕ) (x : Step) → All P xs → slice_get xs i ≡ Some x → P x
 all_get P xs i x a e = subst P (get_or_from_slice_get xs i x x e) (a i x (slice_get_within xs i x e))
 
 -- the next step comes first

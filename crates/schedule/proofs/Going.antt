@@ -26,7 +26,7 @@ use Rattle.schedule.proofs.Behind.{behind_step}
 use Rattle.schedule.proofs.Receiving.{TookTo, took_to, caught_after}
 
 -- who is live after a step that opens nothing was live before
-live_back : (call : Call) (answer : Reply) (h : History) (c : ℕ) → is_opening call ≡ false → live ((call, answer) ∷ h) c ≡ true → live h c ≡ true
+pub live_back : (call : Call) (answer : Reply) (h : History) (c : ℕ) → is_opening call ≡ false → live ((call, answer) ∷ h) c ≡ true → live h c ≡ true
 live_back (Open limit) answer h c e y = absurd (true≢false e)
 live_back (Remove now k) answer h c e y = removed_live now k c answer (live h c) y
 live_back (Windows now shown) answer h c e y = y

@@ -16,6 +16,9 @@ pub mod Masked
 pub mod Going
 pub mod OneFinish
 pub mod Advancing
+pub mod Timely
+pub mod Fitting
+pub mod Overdue
 pub mod Running
 pub mod Beginning
 pub mod Written

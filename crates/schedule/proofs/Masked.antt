@@ -1,7 +1,8 @@
 -- The next finish of all channels, found among those of a mask.
-use Rattle.std.proofs.Common.{◌≡◌, ℕ, zero, suc, ◌+◌, ◌<◌, ◌≤◌, ◌==◌, ◌&&◌, not, Bool, true, false, cond, List, [], ◌∷◌, map, Option, None, refl, sym, ap, ◌∙◌, inl, inr, arith}
-use Rattle.std.specs.Prelude.{slice_get}
+use Rattle.std.proofs.Common.{◌≡◌, ◌⊎◌, ℕ, zero, suc, ◌+◌, ◌-◌, ◌<◌, ◌≤◌, nat_lt, nat_le, ◌==◌, ◌&&◌, not, Bool, true, false, cond, List, [], ◌∷◌, map, Option, Some, None, refl, sym, ap, ◌∙◌, subst, inl, inr, arith}
+use Rattle.std.specs.Prelude.{option_map, slice_get}
 use Rattle.std.proofs.lemmas.Bool.{cases_eq, eq-eqb, ne_eqb, true≢false}
+use Rattle.std.proofs.lemmas.Bool.Decides.{nat_tests}
 use Rattle.std.proofs.lemmas.Nat.{and_le_l}
 use Rattle.std.specs.Int.{bit_not, w64}
 use Rattle.window_snapshot.specs.Mask.{mask_has, mask_less}
@@ -11,9 +12,12 @@ use Rattle.dispatch_history.specs.History.{live}
 use Rattle.dispatch_history.specs.Ordered.{Candidate}
 use Rattle.dispatch_history.specs.Plan.{ChannelOf}
 use Rattle.schedule.specs.declared.plan.Channel.{Channel}
-use Rattle.schedule.specs.Choosing.{next_finishes}
+use Rattle.schedule.specs.Choosing.{NotBefore, is_due_by, next_finishes}
+use Rattle.schedule.specs.declared.due.Due.{Due}
+use Rattle.schedule.specs.DueView.{candidate_of, sooner_due}
 use Rattle.schedule.specs.Next.{finish_of, next_finish, sooner_with}
 use Rattle.schedule.specs.Planned.{channel_of}
+use Rattle.schedule.proofs.Choosing.{sooner_found}
 use Rattle.schedule.proofs.Idle.{no_finish}
 
 -- the next finish of those channels of a mask, the first of which has number c, against the soonest so far
@@ -85,6 +89,44 @@ none_left es c [] best none = refl
 none_left es c (p ∷ ps) best none =
     ap (λ b. finishes_in es 0 (c + 1) ps (cond b (sooner_with best (next_finish es c p)) best)) (none c) ∙ none_left es (c + 1) ps best none
 
+-- the soonest is still the same, or one that is due before it
+abbrev Ends : Candidate → Option Candidate → Type 0
+Ends b o = (o ≡ Some b) ⊎ ((x : Candidate) × (o ≡ Some x) × (x.moment < b.moment))
+
+-- so it is after more channels
+sooner_in : (es : List Effect) (mask c : ℕ) (ps : List ChannelOf) (b : Candidate) → Ends b (finishes_in es mask c ps (Some b))
+sooner_in es mask c [] b = inl refl
+sooner_in es mask c (p ∷ ps) b = by_mask (λ d. sooner_in es mask (c + 1) ps d) (mask_has mask c) (next_finish es c p)
+  where
+    by_test : ((d : Candidate) → Ends d (finishes_in es mask (c + 1) ps (Some d))) → (d : Candidate) (v : Bool) → nat_lt d.moment b.moment ≡ v
+        → Ends b (finishes_in es mask (c + 1) ps (Some (cond v d b)))
+    by_test later d true e =
+        let less : d.moment < b.moment = grind (arith, nat_tests) in
+        elim (later d) [
+          | inl same ↦ inr (d, same, less)
+          | inr x ↦ inr (x.0, x.1, omega (arith, x.2, less))
+        ]
+    by_test later d false e = later b
+
+    by_mask : ((d : Candidate) → Ends d (finishes_in es mask (c + 1) ps (Some d))) → (v : Bool) (o : Option Candidate)
+        → Ends b (finishes_in es mask (c + 1) ps (cond v (sooner_with (Some b) o) (Some b)))
+    by_mask later true None = later b
+    by_mask later true (Some d) = by_test later d (nat_lt d.moment b.moment) refl
+    by_mask later false o = later b
+
+-- where none is due before a moment, what is due by then is the soonest of all
+pub due_by_now : (es : List Effect) (mask c : ℕ) (ps : List ChannelOf) (best : Option Candidate) (t : ℕ) → is_due_by best t ≡ true
+    → NotBefore t (finishes_in es mask c ps best) → finishes_in es mask c ps best ≡ best
+due_by_now es mask c ps None t due late = absurd (true≢false (sym due))
+due_by_now es mask c ps (Some b) t due late =
+    elim (sooner_in es mask c ps b) [
+      | inl same ↦ same
+      | inr x ↦
+          let low : t ≤ x.0.moment = subst (NotBefore t) x.1 late in
+          let by : b.moment ≤ t = grind (arith, nat_tests) in
+          absurd (omega (arith, low, by, x.2))
+    ]
+
 -- below the first channel of a mask there is none
 pub none_below : (mask n : ℕ) → ((c : ℕ) → mask_has mask c ≡ true → n ≤ c) → (d : ℕ) → d < n → mask_has mask d ≡ false
 none_below mask n first d lt = by_bit (mask_has mask d) refl
@@ -104,3 +146,31 @@ fewer mask other later n has is out =
           absurd (true≢false (sym has ∙ ap (λ m. mask_has m n) (sym same) ∙ gone))
       | inr ne ↦ omega (arith, le, is, ne)
     ]
+
+-- the first channel of a mask is looked at, and what is found for it is compared with the best so far
+pub one_looked_at : (es : List Effect) (rest later : ℕ) (cs : List Channel) (n : ℕ) (best found : Option Due) → 1 ≤ n
+    → mask_has rest n ≡ true
+    → ((c : ℕ) → mask_has rest c ≡ true → n ≤ c)
+    → ((d : ℕ) → mask_has later d ≡ (not (d == n) && mask_has rest d))
+    → option_map candidate_of found ≡ finish_of es n (slice_get cs (n - 1))
+    → (sooner : Option Due) → sooner ≡ sooner_due best found
+    → finishes_in es later 1 (map channel_of cs) (option_map candidate_of sooner) ≡ finishes_in es rest 1 (map channel_of cs) (option_map candidate_of best)
+one_looked_at es rest later cs n best found low has first out is sooner e =
+    let place : n ≡ 1 + (n - 1) = omega (arith, low) in
+    ap (λ o. finishes_in es later 1 (map channel_of cs) (option_map candidate_of o)) e
+    ∙ ap (finishes_in es later 1 (map channel_of cs)) (sym (sooner_found best found) ∙ ap (sooner_with (option_map candidate_of best)) is)
+    ∙ sym (one_less es rest later cs (n - 1) 1 n (option_map candidate_of best) place has (none_below rest n first) out)
+
+-- the sooner of two is due by a moment by which the second one is
+pub found_due_by : (best found sooner : Option Due) (t : ℕ) → sooner ≡ sooner_due best found → is_due_by (option_map candidate_of found) t ≡ true
+    → is_due_by (option_map candidate_of sooner) t ≡ true
+found_due_by best found sooner t e due = subst (λ o. is_due_by (option_map candidate_of o) t ≡ true) (sym e) (by_best best found due)
+  where
+    by_test : (b d : Due) (v : Bool) → nat_lt d.moment b.moment ≡ v → nat_le d.moment t ≡ true → is_due_by (option_map candidate_of (cond v (Some d) (Some b))) t ≡ true
+    by_test b d true e y = y
+    by_test b d false e y = grind (arith, nat_tests)
+
+    by_best : (a f : Option Due) → is_due_by (option_map candidate_of f) t ≡ true → is_due_by (option_map candidate_of (sooner_due a f)) t ≡ true
+    by_best a None y = absurd (true≢false (sym y))
+    by_best None (Some d) y = y
+    by_best (Some b) (Some d) y = by_test b d (nat_lt d.moment b.moment) refl y

@@ -1,7 +1,7 @@
 -- How the next candidate is found.
-use Rattle.std.specs.Prelude.{◌≡◌, ℕ, ◌+◌, ◌==◌, nat_le, nat_lt, Bool, true, false, List, [], ◌∷◌, ◌++◌, length, Option, Some, None, slice_get, if◌then◌else◌}
+use Rattle.std.specs.Prelude.{◌≡◌, ℕ, ◌+◌, ◌≤◌, ◌==◌, nat_le, nat_lt, Bool, true, false, List, [], ◌∷◌, ◌++◌, length, Option, Some, None, slice_get, if◌then◌else◌}
 use Rattle.dispatch_calls.specs.declared.call.Call.TheVariants.{Pump, Tick}
-use Rattle.dispatch_history.specs.History.{moment_of}
+use Rattle.dispatch_history.specs.History.{clock, moment_of}
 use Rattle.dispatch_history.specs.Queue.{inbound}
 use Rattle.dispatch_history.specs.Effect.{Effect, past_of}
 use Rattle.dispatch_history.specs.KeyTold.{repeat_due}
@@ -39,6 +39,15 @@ Advances how plan until es old new true =
 abbrev pub next_finishes : List Effect → ℕ → List ChannelOf → Option Candidate → Option Candidate
 next_finishes es c [] best = best
 next_finishes es c (p ∷ ps) best = next_finishes es (c + 1) ps (sooner_with best (next_finish es c p))
+
+-- what is due, if anything is, is not due before a moment
+abbrev pub NotBefore : ℕ → Option Candidate → Type 0
+NotBefore t None = Unit {0}
+NotBefore t (Some c) = t ≤ c.moment
+
+-- no finish of these channels that is to come is due before the clock
+abbrev pub NoneOverdue : List ChannelOf → List Effect → Type 0
+NoneOverdue ps es = NotBefore (clock (past_of es)) (next_finishes es 1 ps None)
 
 -- the tick at a due
 abbrev pub tick_of : Due → Candidate

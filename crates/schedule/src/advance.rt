@@ -7,7 +7,7 @@ ghost use Rattle.dispatch_history.specs.Ordered.{soonest, is_scripted, is_notifi
 ghost use Rattle.dispatch_tables.specs.Lawful.{Lawful};
 ghost use Rattle.dispatch_history.specs.Plan.{Plan as PlanView, Cooked};
 ghost use Rattle.schedule.specs.declared.keeping.Lines.{Lines};
-ghost use Rattle.schedule.specs.Choosing.{Advances};
+ghost use Rattle.schedule.specs.Choosing.{Advances, NoneOverdue};
 ghost use Rattle.schedule.specs.DueView.{call_of, candidate_of};
 ghost use Rattle.schedule.specs.Next.{fore};
 ghost use Rattle.schedule.specs.Kinds.{is_receiving, is_opening};
@@ -138,11 +138,11 @@ impl Schedule {
         Ok(true)
     }
 
-    /// One round, where something is due up to a moment, but for args. It is a part of the loop that calls it.
-    #[inline(always)]
+    /// One round, where something is due up to a moment, but for args.
     pub(crate) fn advance(&mut self, plan: &Plan, until: Moment) -> Result<bool, AllocError>
         requires { IsRun plan.now }
         ensures after { (how : Lines) (es : List Effect) → ReadyWith how (plan_of plan.now) es self.old
+            → NoneOverdue (plan_of plan.now).channels es
             → IfOk result (λ b. Advances how (plan_of plan.now) until es self.old self.new b) }
         ensures calls { IfOk result (λ b. b ≡ true → self.old.calls < 2 ^ 64 - 1 → self.old.calls < self.new.calls) }
         ensures more { (es : List Effect) → ComesTo es self.old.dispatcher → ComesTo es self.new.dispatcher }

@@ -3,12 +3,13 @@ ghost use Rattle.std.specs.Prelude.{IsSome, ◌≡◌, ◌≤◌, ◌<◌, ◌-�
 ghost use Rattle.std.specs.List.{All};
 ghost use Rattle.dispatch_history.specs.Effect.{Effect, past_of};
 ghost use Rattle.dispatch_history.specs.Due.{first_due};
-ghost use Rattle.dispatch_history.specs.History.{live};
+ghost use Rattle.dispatch_history.specs.History.{clock, live};
 ghost use Rattle.dispatch_history.specs.Ordered.{soonest};
 ghost use Rattle.dispatch_history.specs.Plan.{Plan as PlanView};
 ghost use Rattle.dispatcher.specs.Access.{next_repeat};
 ghost use Rattle.dispatcher.specs.Dispatching.{IsAfter};
-ghost use Rattle.schedule.specs.Choosing.{first_step, dues_of, is_before, is_due_by, next_finishes, tick_of, repeat_at};
+ghost use Rattle.schedule.specs.Choosing.{NoneOverdue, first_step, dues_of, is_before, is_due_by};
+ghost use Rattle.schedule.specs.Choosing.{next_finishes, tick_of, repeat_at};
 ghost use Rattle.schedule.specs.DueView.{candidate_of};
 ghost use Rattle.schedule.specs.Next.{finish_of, next_finish, sooner_with};
 ghost use Rattle.schedule.specs.Planned.{IsChannel, channel_of};
@@ -49,37 +50,42 @@ fn next_finish(dispatcher: &Dispatcher, number: u32, channel: &Channel) -> Optio
     })
 }
 
-/// The sooner of the best so far and the next finish of a live channel of these.
-fn sooner_finish(
-    best: Option<Due>,
-    dispatcher: &Dispatcher,
-    number: u32,
-    channels: &[Channel],
-) -> Option<Due>
+/// The next finish of a live channel of these, and whether it is one of an owner who finishes at once: such a finish is
+/// due by the clock.
+fn finish_among(dispatcher: &Dispatcher, number: u32, channels: &[Channel]) -> (Option<Due>, bool)
     requires channels { All IsChannel channels.now }
     requires number { 1 ≤ number }
-    ensures { (es : List Effect) → IsAfter es dispatcher.now → live (past_of es) number ≡ true
-        → option_map candidate_of result
-        ≡ sooner_with (option_map candidate_of best) (finish_of es number (slice_get channels.now (number - 1))) }
+    ensures finish { (es : List Effect) → IsAfter es dispatcher.now → live (past_of es) number ≡ true
+        → option_map candidate_of result.0 ≡ finish_of es number (slice_get channels.now (number - 1)) }
+    ensures at_once { (es : List Effect) → IsAfter es dispatcher.now → live (past_of es) number ≡ true
+        → result.1 ≡ true → is_due_by (option_map candidate_of result.0) (clock (past_of es)) ≡ true }
 {
     match channels.get(number as usize - 1) {
-        Some(channel) => sooner(best, next_finish(dispatcher, number, channel)),
-        None => best,
+        Some(channel) => {
+            let finish = next_finish(dispatcher, number, channel);
+            (finish, finish.is_some() && channel.finish_after == 0)
+        }
+        None => (None, false),
     }
 }
 
-/// The next finish of all channels. Only those are looked at that may have one.
+/// The next finish of all channels, where none is due before the clock. Only those are looked at that may have one, up
+/// to the first whose owner finishes at once: nothing is due sooner.
 fn next_finish_of_all(dispatcher: &Dispatcher, channels: &[Channel]) -> Option<Due>
     requires { All IsChannel channels.now }
-    ensures { (es : List Effect) → IsAfter es dispatcher.now
+    ensures { (es : List Effect) → IsAfter es dispatcher.now → NoneOverdue (map channel_of channels.now) es
         → option_map candidate_of result ≡ next_finishes es 1 (map channel_of channels.now) None }
 {
     let mut best = None;
     let mut rest = dispatcher.unfinished();
     while rest != 0 {
         let number = mask_first(rest);
-        best = sooner_finish(best, dispatcher, number, channels);
+        let (finish, at_once) = finish_among(dispatcher, number, channels);
+        best = sooner(best, finish);
         rest = mask_without(rest, number);
+        if at_once {
+            return best;
+        }
     }
     best
 }
@@ -136,6 +142,7 @@ pub(crate) fn next_due(dispatcher: &Dispatcher, channels: &[Channel]) -> Option<
     requires { All IsChannel channels.now }
     ensures { (plan : PlanView) (es : List Effect) → IsAfter es dispatcher.now
         → dispatcher.now.displays ≡ plan.displays → Caught es → plan.channels ≡ map channel_of channels.now
+        → NoneOverdue plan.channels es
         → option_map candidate_of result ≡ soonest (dues_of plan es) }
 {
     let finish = next_finish_of_all(dispatcher, channels);

@@ -34,7 +34,6 @@ impl Schedule {
     }
 
     /// The lines of what a channel was told and did not let go come behind those before, and the channel lets it go.
-    #[inline(never)]
     pub(crate) fn hear(&mut self, channel: u32) -> Result<(), AllocError>
         ensures after { (how : Lines) (plan : PlanView) (es : List Effect) → HasWith how plan es self.old
             → is_opened es channel ≡ true → OnOk result (HasWith how plan es self.new) }
@@ -48,9 +47,7 @@ impl Schedule {
         Ok(())
     }
 
-    /// The same where the channel was told anything that it did not let go. Mostly it was not, so this is a part of the
-    /// loop that calls it.
-    #[inline(always)]
+    /// The same where the channel was told anything that it did not let go.
     pub(crate) fn hear_some(&mut self, channel: u32) -> Result<(), AllocError>
         ensures after { (how : Lines) (plan : PlanView) (es : List Effect) → HasWith how plan es self.old
             → OnOk result (HasWith how plan es self.new) }

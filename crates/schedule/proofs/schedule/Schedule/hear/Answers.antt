@@ -1,7 +1,6 @@
 -- What a channel was told and did not let go comes to its lines, and is let go.
 use Rattle.std.proofs.Common.{sym, subst}
 use Rattle.schedule.specs.State.{HasWith}
-use Rattle.schedule.specs.More.{ComesTo}
 use Rattle.schedule.proofs.Removing.{hears}
 use Rattle.schedule.proofs.schedule.Schedule.hear.Goals as goal
 

@@ -1,11 +1,12 @@
 -- A round before the args, their own round, or none where the run is over.
-use Rattle.std.proofs.Common.{◌≡◌, ◌∙◌, false, sym, ap, subst}
+use Rattle.std.proofs.Common.{◌≡◌, ◌∙◌, ◌++◌, [], ◌∷◌, false, sym, ap, subst}
 use Rattle.std.specs.Prelude.{option_map}
 use Rattle.dispatch_history.specs.Plan.{Cooked}
-use Rattle.schedule.specs.Choosing.{Advances}
+use Rattle.schedule.specs.Choosing.{Advances, NoneOverdue}
 use Rattle.schedule.specs.Planned.{plan_of}
 use Rattle.schedule.specs.More.{ComesTo}
 use Rattle.schedule.specs.State.{ScheduleState, ReadyWith, RanWith, is_over}
+use Rattle.schedule.proofs.Overdue.{run_overdue}
 use Rattle.schedule.proofs.Running.{coming, coming_next, coming_done, coming_over}
 use Rattle.schedule.proofs.Stepping.{on_ok}
 use Rattle.schedule.proofs.schedule.Schedule.take.Goals as goal
@@ -15,8 +16,9 @@ returns-then-not-branch-clause-ran c = λ how given r.
     let plan = plan_of c.args.plan.now in
     let a : Cooked = record { moment = c.args.moment; args = c.args.args.now } in
     let h = c.rounds.invariant.coming how given r in
+    let overdue : NoneOverdue (plan_of c.args.plan.now).channels h.es = run_overdue c.args.plan.now ((given ++ a ∷ []) ++ []) h.es c.requires (h.rounds []) in
     let over : is_over c.rounds.self ≡ false = sym c.is_too_long.ensures.over ∙ c.rounds-test.true in
-    let none = subst (Advances how plan c.args.moment h.es c.rounds.self c.advance.new.self) c.if-not-branch.true (c.in_ok-advance.ensures.after how h.es h.ready) in
+    let none = subst (Advances how plan c.args.moment h.es c.rounds.self c.advance.new.self) c.if-not-branch.true (c.in_ok-advance.ensures.after how h.es h.ready overdue) in
     on_ok c.hand_in.result _ _ (c.hand_in.ensures.after how plan h.es (subst (ReadyWith how plan h.es) (sym none.1) h.ready))
     (λ ready. coming_done how plan given a c.rounds.self c.advance.new.self c.hand_in.new.self h over none ready (c.hand_in.ensures.latest ∙ c.advance.ensures.latest))
 
@@ -49,9 +51,10 @@ rounds-preserved c =
           let plan = plan_of c.args.plan.now in
           let a : Cooked = record { moment = c.args.moment; args = c.args.args.now } in
           let h = c.rounds.invariant.coming how given r in
+          let overdue : NoneOverdue (plan_of c.args.plan.now).channels h.es = run_overdue c.args.plan.now ((given ++ a ∷ []) ++ []) h.es c.requires (h.rounds []) in
           let over : is_over c.rounds.self ≡ false = sym c.is_too_long.ensures.over ∙ c.rounds-test.true in
           coming_next how plan given a c.rounds.self c.advance.new.self h over
-          (subst (Advances how plan c.args.moment h.es c.rounds.self c.advance.new.self) c.if-not-branch.false (c.in_ok-advance.ensures.after how h.es h.ready)) c.advance.ensures.latest;
+          (subst (Advances how plan c.args.moment h.es c.rounds.self c.advance.new.self) c.if-not-branch.false (c.in_ok-advance.ensures.after how h.es h.ready overdue)) c.advance.ensures.latest;
       more = λ es k. c.advance.ensures.more es (c.rounds.invariant.more es k);
     }
 
