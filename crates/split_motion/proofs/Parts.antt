@@ -5,11 +5,11 @@ use Rattle.input_types.specs.Pointers.{IsRising, EndsBelow}
 use Rattle.routing_rules.specs.Told.{listing}
 
 -- each id of a list is below a number
-abbrev AllBelow : List Pointer → ℕ → Type 0
+abbrev pub AllBelow : List Pointer → ℕ → Type 0
 AllBelow [] n = Unit {0}
 AllBelow (p ∷ ps) n = (p.id < n) × AllBelow ps n
 
-ends_below : (ps : List Pointer) (n : ℕ) → AllBelow ps n → EndsBelow ps n
+pub ends_below : (ps : List Pointer) (n : ℕ) → AllBelow ps n → EndsBelow ps n
 ends_below [] n a = tt
 ends_below (p ∷ []) n a = a.0
 ends_below (p ∷ q ∷ ps) n a = ends_below (q ∷ ps) n a.1
@@ -28,7 +28,7 @@ first_below p [] k d r lt = absurd (omega (arith, lt))
 first_below p (q ∷ ps) zero d r lt = r.0
 first_below p (q ∷ ps) (suc k) d r lt = omega (arith, r.0, first_below q ps k d r.1 (omega (arith, lt)))
 
-rest_rises : (p : Pointer) (ps : List Pointer) → IsRising (p ∷ ps) → IsRising ps
+pub rest_rises : (p : Pointer) (ps : List Pointer) → IsRising (p ∷ ps) → IsRising ps
 rest_rises p [] r = tt
 rest_rises p (q ∷ ps) r = r.1
 

@@ -15,9 +15,11 @@
 //! rules of routing tell a window of the motion ([`laws`]).
 #![tactic(auto)]
 
+mod by_id;
 pub mod laws;
 mod listed;
 mod window;
 
-pub use listed::{about, part, part_but, part_into, plain};
+pub use by_id::PointersById;
+pub use listed::{about, part, part_but, plain};
 pub use window::split;

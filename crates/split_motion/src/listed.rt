@@ -1,24 +1,10 @@
 //! Some of the pointers of a motion, and motions that list them.
-ghost use Rattle.std.specs.Prelude.{◌≡◌, ℕ, not, ◌<◌, ◌++◌, [], ◌∷◌, length};
+ghost use Rattle.std.specs.Prelude.{◌≡◌, not};
 ghost use Rattle.bits32.specs.Set.{is_in};
-ghost use Rattle.input_types.specs.Pointers.{EndsBelow, IsRising};
 ghost use Rattle.routing_rules.specs.Told.{listing, index_in, plain};
 
 use bits32::Bits32;
 use input_types::{DeviceId, Motion, MotionAction, PointerId, Pointers};
-
-/// Sets a list to those of the pointers whose ids are in the set, in the same order.
-#[inline(always)]
-pub fn part_into(listed: &mut Pointers, pointers: &Pointers, set: Bits32)
-    ensures { listed.new ≡ listing (λ i. is_in i set) pointers.now }
-{
-    *listed = Pointers::empty();
-    for pointer in pointers.as_slice() {
-        if set.has(pointer.id.get()) {
-            listed.put(*pointer);
-        }
-    }
-}
 
 /// The pointers whose ids are in the set, in the same order.
 pub fn part(pointers: &Pointers, set: Bits32) -> Pointers

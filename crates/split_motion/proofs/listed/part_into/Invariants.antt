@@ -1,7 +1,0 @@
-use Rattle.std.proofs.Common.{◌≡◌, take}
-use Rattle.bits32.specs.Set.{is_in}
-use Rattle.routing_rules.specs.Told.{listing}
-use Rattle.split_motion.proofs.listed.part_into.Given as goal
-
-abbrev pub invariant-loop-pointer : goal.invariant-loop-pointer
-invariant-loop-pointer l = l.listed ≡ listing (λ i. is_in i l.set) (take l.pointer-index l.pointers)
