@@ -1,4 +1,5 @@
-use Rattle.std.proofs.Common.{refl, ap, ◌∙◌, unwrap_or}
+use Rattle.std.proofs.Common.{[], ◌∷◌, refl, sym, ap, subst, ◌∙◌, unwrap_or}
+use Rattle.dispatcher.specs.Roomy.{AreModest}
 use Rattle.dispatcher.proofs.Oks.{on_ok}
 use Rattle.dispatcher.proofs.carry.tell_key.Goals as goal
 
@@ -28,3 +29,8 @@ returns-clause-ok c =
           };
       carries = from;
     })
+
+pub returns-clause-roomy : goal.returns-clause-roomy
+returns-clause-roomy c n list roomy modest =
+    c.tell_lightly.ensures.roomy n list roomy
+    (subst (λ t. AreModest t (c.args.message ∷ []) c.args.routing.now.channels) (sym (c.unwrap_or.ensures ∙ ap (λ o. unwrap_or o 0) c.target.ensures)) modest)

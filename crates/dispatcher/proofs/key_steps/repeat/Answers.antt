@@ -1,7 +1,8 @@
 use Rattle.std.proofs.Common.{option_map, refl, sym, ap, ◌∙◌}
 use Rattle.dispatch_history.specs.Reply.{is_due}
 use Rattle.std.proofs.lemmas.Bool.{true≢false}
-use Rattle.dispatcher.proofs.Roomy.{modest_one, still_list}
+use Rattle.dispatcher.proofs.Oks.{on_err}
+use Rattle.dispatcher.proofs.Roomy.{modest_one, still_list, fewer}
 use Rattle.dispatcher.proofs.KeySteps.{idle_pump, repeat_pump, due_next}
 use Rattle.dispatcher.proofs.key_steps.repeat.Goals as goal
 
@@ -34,3 +35,13 @@ pub returns-clause-roomy : goal.returns-clause-roomy
 returns-clause-roomy c n roomy =
     let told = c.in_ok-tell_key.ensures.roomy n _ roomy (modest_one _ c.in-Some.message c.args.routing.now.channels) in
     (refl, still_list n c.args.routing.now c.tell_key.new.routing c.in_ok-tell_key.ensures.list told.1)
+
+pub returns-then-not-is_due-clause-roomy : goal.returns-then-not-is_due-clause-roomy
+returns-then-not-is_due-clause-roomy c n roomy = (refl, fewer n c.args.routing.now.cancelled c.args.routing.now.channels roomy)
+
+pub returns-in_default-clause-roomy : goal.returns-in_default-clause-roomy
+returns-in_default-clause-roomy c n roomy = (refl, fewer n c.args.routing.now.cancelled c.args.routing.now.channels roomy)
+
+pub returns-in_err-tell_key-clause-calm : goal.returns-in_err-tell_key-clause-calm
+returns-in_err-tell_key-clause-calm c =
+    on_err _ c.from_residual.result (ap (λ o. is_due o c.args.clock) (sym c.due.ensures) ∙ sym c.is_due.ensures ∙ c.if-not-is_due.false)

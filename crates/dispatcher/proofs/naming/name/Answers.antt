@@ -1,15 +1,12 @@
-use Rattle.std.proofs.Common.{None, Result, Ok, Err, OnErr, refl, sym, ap, subst, ◌∙◌, unwrap_or, le_refl}
+use Rattle.std.proofs.Common.{None, refl, sym, ap, subst, ◌∙◌, unwrap_or, le_refl}
 use Rattle.route_split.specs.declared.mark.Mark.TheVariants.{Mute}
 use Rattle.dispatch_round.specs.declared.round.Round.{Round}
 use Rattle.dispatch_round.specs.Rounds.{AreListeners, IsReady}
 use Rattle.dispatcher.specs.Carrying.{CarriesOut}
 use Rattle.dispatcher.specs.Tables.{SameButRoom}
+use Rattle.dispatcher.proofs.Oks.{on_err}
 use Rattle.dispatcher.proofs.Timely.{timely_room, timely_named}
 use Rattle.dispatcher.proofs.naming.name.Goals as goal
-
-on_err : {A E : Type 0} (P : Type 0) (r : Result A E) → P → OnErr r P
-on_err P (Ok x) h = tt
-on_err P (Err e) h = h
 
 pub carry_out-requires-clause-timely : goal.carry_out-requires-clause-timely
 carry_out-requires-clause-timely c =
