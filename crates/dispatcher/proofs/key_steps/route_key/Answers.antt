@@ -4,7 +4,7 @@ use Rattle.window_snapshot.specs.Mask.{mask_has}
 use Rattle.focus_resolver.specs.Resolver.{target_of}
 use Rattle.key_tables.specs.Held.{key_heard, one_told}
 use Rattle.route_split.specs.declared.mark.Mark.TheVariants.{Rests}
-use Rattle.dispatcher.proofs.Roomy.{modest_one, still_list}
+use Rattle.dispatcher.proofs.Roomy.{modest_one, still_list, fewer}
 use Rattle.dispatcher.proofs.Stepping.{other_steps}
 use Rattle.dispatcher.specs.Tables.{kept}
 use Rattle.dispatcher.proofs.Oks.{on_ok}
@@ -51,3 +51,9 @@ pub returns-in-Some-key_heard-clause-roomy : goal.returns-in-Some-key_heard-clau
 returns-in-Some-key_heard-clause-roomy c n roomy =
     let told = c.tell_key.ensures.roomy n _ roomy (modest_one _ c.in-Some-key_heard.message c.args.routing.now.channels) in
     (told.0, still_list n c.args.routing.now c.tell_key.new.routing c.tell_key.ensures.list told.1)
+
+pub returns-in_default-clause-roomy : goal.returns-in_default-clause-roomy
+returns-in_default-clause-roomy c n roomy = (refl, fewer n c.args.routing.now.cancelled c.args.routing.now.channels roomy)
+
+pub returns-in-None-clause-roomy : goal.returns-in-None-clause-roomy
+returns-in-None-clause-roomy c n roomy = (refl, fewer n c.args.routing.now.cancelled c.args.routing.now.channels roomy)
