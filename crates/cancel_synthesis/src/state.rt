@@ -14,7 +14,7 @@ use crate::held_keys::{cancel_device_keys_into, cancel_each_key, cancel_keys_int
 use crate::pointers::{cancel_devices, pointers_after};
 use bits32::Bits32;
 use input_types::{Body, DeviceId, KeyMsg, Motion, MotionAction, Pointers};
-use split_motion::{part, part_but, part_into};
+use split_motion::{PointersById, part, part_but};
 use std::alloc::{AllocError, Global};
 use std::marker::Model;
 
@@ -130,7 +130,7 @@ impl InputState {
     }
 
     /// The window is told that pointers of a device move: those of a list that have these ids. Takes no memory.
-    pub fn track_moves(&mut self, device: DeviceId, pointers: &Pointers, ids: Bits32)
+    pub fn track_moves(&mut self, device: DeviceId, pointers: &PointersById, ids: Bits32)
         ensures { Tracks self.old self.new (MotionBody (plain device Move (listing (λ i. is_in i ids) pointers.now))) }
     {
         set_moved(&mut self.pointers, device, pointers, ids);
@@ -237,12 +237,12 @@ fn set_pointers(pointers: &mut [Pointers; 8], motion: &Motion)
 }
 
 /// Sets the pointers of a device to those of a list that have these ids.
-fn set_moved(pointers: &mut [Pointers; 8], device: DeviceId, listed: &Pointers, ids: Bits32)
+fn set_moved(pointers: &mut [Pointers; 8], device: DeviceId, listed: &PointersById, ids: Bits32)
     ensures { (d : ℕ) → pointers_in pointers.new d
         ≡ pointers_then (MotionBody (plain device Move (listing (λ i. is_in i ids) listed.now))) d
         (pointers_in pointers.old d) }
 {
-    part_into(&mut pointers[usize::from(device.get()) - 1], listed, ids);
+    listed.part_into(ids, &mut pointers[usize::from(device.get()) - 1]);
 }
 
 /// Keeps the message of a key that is down, and forgets that of one that is up.
