@@ -10,27 +10,30 @@ ghost use Rattle.dispatch_channels.specs.Changes.{Tells};
 
 use super::Channels;
 use bits32::Bits32;
-use input_types::{Moment, Motion, Pixel};
+use input_types::{DeviceId, Moment, Pixel};
+use split_motion::PointersById;
 
 impl Channels {
-    /// A live channel is told that the pointers of a motion with these ids move, as `tell` would tell it. The places go
-    /// from the motion into what the window was told, and from there straight into the message. Takes no memory.
+    /// A live channel is told that pointers of a device move, those of a motion that have these ids, as `tell` would
+    /// tell it. The places go from the motion into what the window was told, and from there straight into the message.
+    /// Takes no memory.
     pub fn tell_moves(
         &mut self,
         channel: u32,
-        motion: &Motion,
+        device: DeviceId,
+        pointers: &PointersById,
         ids: Bits32,
         origin: Pixel,
         clock: Moment,
     )
         requires live { mask_has self.old.live channel ≡ true }
         requires room { 1 ≤ (channel_of self.old channel).spare }
-        ensures { let moving = listing (λ i. is_in i ids) motion.now.pointers in
-            Tells channel (MotionBody (plain motion.now.device Move moving)) origin clock self.old self.new }
+        ensures { let moving = listing (λ i. is_in i ids) pointers.now in
+            Tells channel (MotionBody (plain device Move moving)) origin clock self.old self.new }
     {
         let place = channel as usize - 1;
-        self.inputs[place].track_moves(motion.device, &motion.pointers, ids);
-        let moving = self.inputs[place].pointers(motion.device);
-        self.channels[place].enqueue_moves(motion.device, moving, origin, clock);
+        self.inputs[place].track_moves(device, pointers, ids);
+        let moving = self.inputs[place].pointers(device);
+        self.channels[place].enqueue_moves(device, moving, origin, clock);
     }
 }

@@ -38,8 +38,8 @@ returns c =
     let there : c.args.channel - 1 < length c.self.inside.channels.items = omega (arith, low, high) in
     let within : c.args.channel - 1 < length c.self.inside.inputs.items =
     omega (arith, low, high, c.self.invariant.as_many) in
-    let device = c.args.motion.now.device in
-    let moving = listing (λ i. is_in i c.args.ids) c.args.motion.now.pointers in
+    let device = c.args.device in
+    let moving = listing (λ i. is_in i c.args.ids) c.args.pointers.now in
     let again : c.index.result.now ≡ c.track_moves.new.self =
     c.index.ensures ∙ get_or-set_same c.self.inside.inputs.items (c.args.channel - 1) c.track_moves.new.self _ within in
     rw (← c.self.view_is)
