@@ -1,9 +1,10 @@
--- The text of the pointers stays as words are put in front of it.
-use Rattle.std.specs.Prelude.{◌≡◌, ℕ, ◌≤◌, List, ◌++◌, length, drop}
-use Rattle.std.proofs.Common.{sym, ◌∙◌, arith, append_assoc}
+-- The text of the pointers, and of the Move with them, stays as words are put in front of it.
+use Rattle.std.specs.Prelude.{◌≡◌, ℕ, ◌≤◌, List, [], ◌∷◌, ◌++◌, codes, length, drop, decimal}
+use Rattle.std.proofs.Common.{refl, sym, ap, ◌∙◌, arith, append_assoc}
 use Rattle.input_types.specs.declared.pointer.Pointer.{Pointer}
 use Rattle.input_types.specs.declared.motion.Motion.{Motion}
-use Rattle.stream_text.specs.KeptText.{Holds}
+use Rattle.input_types.specs.declared.motion.MotionAction.TheVariants.{Move}
+use Rattle.stream_text.specs.KeptText.{move_of, Holds, Moves}
 use Rattle.stream_text.specs.Spelling.{head, motion, pointers}
 use Rattle.stream_text.proofs.Places.{stays}
 
@@ -12,6 +13,41 @@ pub still_held : (r e at : ℕ) (new old text : List ℕ) (list : List Pointer) 
 still_held r e at new old text list long before front inside written held =
     (held.0, held.1, held.2, stays r e at new old text (omega arith) inside (omega arith) front written ∙ held.3)
 
+pub still_moves : (least r e at front device : ℕ) (new old text : List ℕ) (list : List Pointer) → length new ≡ 1280 → length old ≡ 1280 → least ≤ e → r ≤ e
+    → at ≤ 1279 → drop r new ≡ text ++ drop e old → Moves e old device list at front → Moves least new device list at front
+still_moves least r e at front device new old text list long before first behind inside written moves =
+    λ some. let (later, within, told) = moves some in (omega arith, within, stays r e front new old text (omega arith) later (omega arith) behind written ∙ told)
+
 pub motion_told : (m : Motion) (rest : List ℕ) → head m ++ (pointers m.pointers ++ rest) ≡ motion m ++ rest
 unfolding motion
 motion_told m rest = sym (append_assoc (head m) (pointers m.pointers) rest)
+
+-- no Move is kept for device 0
+pub none_moves : (least device at front : ℕ) (line : List ℕ) (list : List Pointer) → device ≡ 0 → Moves least line device list at front
+none_moves least device at front line list none = λ some. absurd (omega arith)
+
+six : (a b c d e rest : List ℕ) → a ++ b ++ c ++ (d ++ (e ++ rest)) ≡ a ++ b ++ c ++ d ++ [] ++ e ++ rest
+six a b c d e rest = simp append_assoc
+
+move_front : (device : ℕ) (list : List Pointer) (rest : List ℕ)
+    → codes "motion " ++ decimal device ++ codes " " ++ (codes "MOVE" ++ (pointers list ++ rest)) ≡ motion (move_of device list) ++ rest
+unfolding motion
+move_front device list rest = six (codes "motion ") (decimal device) (codes " ") (codes "MOVE") (pointers list) rest
+
+-- a Move that was put in front of its pointers
+pub move_put : (device at r w e : ℕ) (newest new old : List ℕ) (list : List Pointer) → drop r newest ≡ codes "motion " ++ decimal device ++ codes " " ++ drop w new
+    → drop w new ≡ codes "MOVE" ++ drop e old → e ≡ at → Holds old list at → drop r newest ≡ motion (move_of device list) ++ 10 ∷ []
+move_put device at r w e newest new old list front word place held =
+    front
+    ∙ ap (λ t. codes "motion " ++ decimal device ++ codes " " ++ t) (word ∙ ap (λ t. codes "MOVE" ++ t) (ap (λ i. drop i old) place ∙ held.3))
+    ∙ move_front device list (10 ∷ [])
+
+plain_move : (m : Motion) → m.action ≡ Move → m.flags ≡ 0 → motion (move_of m.device m.pointers) ≡ motion m
+unfolding motion
+plain_move m is plain = rw (is, plain) refl
+
+-- the Move of a motion's device and pointers is spelled as the motion, where that is a Move with flags 0
+pub move_told : (m : Motion) (device : ℕ) (list : List Pointer) (rest : List ℕ) → device ≡ m.device → list ≡ m.pointers → m.action ≡ Move → m.flags ≡ 0
+    → motion (move_of device list) ++ rest ≡ motion m ++ rest
+move_told m device list rest same pointed is plain =
+    ap (λ d. motion (move_of d list) ++ rest) same ∙ ap (λ ps. motion (move_of m.device ps) ++ rest) pointed ∙ ap (λ t. t ++ rest) (plain_move m is plain)

@@ -12,6 +12,10 @@ pub(crate) struct KeptPointers {
     pub(crate) list: Pointers,
     /// Where their text begins.
     pub(crate) at: usize,
+    /// The device whose Move with flags 0 stands there with them, or 0 where no such Move does.
+    pub(crate) moves: u8,
+    /// Where the text of that Move begins.
+    pub(crate) front: usize,
 }
 
 #[inline(always)]
@@ -68,10 +72,13 @@ impl KeptPointers {
     pub(crate) fn none() -> KeptPointers
         ensures list { result.list ≡ [] }
         ensures at { result.at ≡ 1279 }
+        ensures moves { result.moves ≡ 0 }
     {
         KeptPointers {
             list: Pointers::empty(),
             at: ROOM - 1,
+            moves: 0,
+            front: 0,
         }
     }
 
@@ -79,27 +86,50 @@ impl KeptPointers {
     pub(crate) fn put_none(&mut self, line: &mut Room) -> usize
         ensures at { result ≡ 1279 }
         ensures kept { self.new.at ≡ 1279 }
+        ensures moves { self.new.moves ≡ 0 }
         ensures holds { Holds line.new self.new.list self.new.at }
     {
         *self = KeptPointers::none();
         prepend_word(line, ROOM, "\n")
     }
 
+    /// Whether these pointers are kept.
+    #[inline(always)]
+    pub(crate) fn has(&self, list: &Pointers) -> bool
+        ensures { IsTrue result → self.now.list ≡ list.now }
+    {
+        are_same(self.list.as_slice(), list.as_slice())
+    }
+
     /// Puts pointers and the newline at the end of the place, and answers where they begin.
     #[inline(always)]
-    pub(crate) fn put(&mut self, line: &mut Room, list: &Pointers) -> usize
-        requires { Holds line.old self.old.list self.old.at }
+    pub(crate) fn put_anew(&mut self, line: &mut Room, list: &Pointers) -> usize
         ensures at { result ≡ self.new.at }
         ensures list { self.new.list ≡ list.now }
+        ensures moves { self.new.moves ≡ self.old.moves }
         ensures holds { Holds line.new self.new.list self.new.at }
     {
-        if are_same(self.list.as_slice(), list.as_slice()) {
-            return self.at;
-        }
         let at = prepend_word(line, ROOM, "\n");
         let at = prepend_pointers(line, at, list.as_slice());
         self.list = *list;
         self.at = at;
         at
+    }
+
+    /// Puts pointers and the newline at the end of the place where others stand there, and answers where they begin. No
+    /// Move is kept any more.
+    #[inline(always)]
+    pub(crate) fn put(&mut self, line: &mut Room, list: &Pointers) -> usize
+        requires { Holds line.old self.old.list self.old.at }
+        ensures at { result ≡ self.new.at }
+        ensures list { self.new.list ≡ list.now }
+        ensures moves { self.new.moves ≡ 0 }
+        ensures holds { Holds line.new self.new.list self.new.at }
+    {
+        self.moves = 0;
+        if self.has(list) {
+            return self.at;
+        }
+        self.put_anew(line, list)
     }
 }

@@ -1,7 +1,8 @@
 //! Messages as lines.
 ghost use Rattle.std.specs.Prelude.{◌≡◌, ◌+◌, ◌*◌, ◌≤◌, [], ◌∷◌, ◌++◌, codes, cond, length, drop, IfOk, OnOk, OnErr, decimal};
+ghost use Rattle.input_types.specs.declared.motion.MotionAction.TheVariants.{Move};
 ghost use Rattle.stream_text.specs.Spelling.{action, body, canceled, head, indexed, key, key_end, message_line, message_lines, motion, numbered};
-ghost use Rattle.stream_text.specs.KeptText.{Holds};
+ghost use Rattle.stream_text.specs.KeptText.{Holds, Moves};
 
 use crate::kept_digits::{Counted, Timed};
 use crate::kept_pointers::KeptPointers;
@@ -33,8 +34,7 @@ fn prepend_indexed(line: &mut Room, end: usize, name: &str, index: u8) -> usize
     prepend_word(line, at, name)
 }
 
-#[inline(never)]
-fn prepend_seldom(line: &mut Room, end: usize, motion: &Motion) -> usize
+fn prepend_action(line: &mut Room, end: usize, motion: &Motion) -> usize
     requires { (60 ≤ end) × (end ≤ 1280) }
     ensures within { (result ≤ end) × (end ≤ result + 42) }
     ensures written { drop result line.new
@@ -52,17 +52,16 @@ fn prepend_seldom(line: &mut Room, end: usize, motion: &Motion) -> usize
     }
 }
 
+/// Puts the word `motion` and the number of a device in front of an action, and answers where they begin.
 #[inline(always)]
-fn prepend_action(line: &mut Room, end: usize, motion: &Motion) -> usize
-    requires { (60 ≤ end) × (end ≤ 1280) }
-    ensures within { (result ≤ end) × (end ≤ result + 42) }
-    ensures written { drop result line.new
-        ≡ action motion.now.action motion.now.index ++ canceled motion.now.flags ++ drop end line.old }
+fn prepend_device(line: &mut Room, end: usize, device: u8) -> usize
+    requires { (38 ≤ end) × (end ≤ 1280) }
+    ensures within { (result ≤ end) × (end ≤ result + 28) }
+    ensures written { drop result line.new ≡ codes "motion " ++ decimal device ++ codes " " ++ drop end line.old }
 {
-    if motion.action == MotionAction::Move && motion.flags != FLAG_CANCELED {
-        return prepend_word(line, end, "MOVE");
-    }
-    prepend_seldom(line, end, motion)
+    let at = prepend_word(line, end, " ");
+    let at = prepend_number(line, at, u64::from(device));
+    prepend_word(line, at, "motion ")
 }
 
 /// Puts what stands in front of the pointers of a motion in front of `end`, and answers where it begins.
@@ -73,15 +72,14 @@ fn prepend_head(line: &mut Room, end: usize, told: &Motion) -> usize
     ensures written { drop result line.new ≡ head told.now ++ drop end line.old }
 {
     let at = prepend_action(line, end, told);
-    let at = prepend_word(line, at, " ");
-    let at = prepend_number(line, at, u64::from(told.device.get()));
-    prepend_word(line, at, "motion ")
+    prepend_device(line, at, told.device.get())
 }
 
 #[inline(always)]
 fn prepend_motion(line: &mut Room, kept: &mut KeptPointers, told: &Motion) -> usize
     requires { Holds line.old kept.old.list kept.old.at }
     ensures within { (150 ≤ result) × (result ≤ kept.new.at) }
+    ensures moves { kept.new.moves ≡ 0 }
     ensures holds { Holds line.new kept.new.list kept.new.at }
     ensures written { drop result line.new ≡ motion told.now ++ 10 ∷ [] }
 {
@@ -141,10 +139,12 @@ fn prepend_key_message(line: &mut Room, end: usize, told: &KeyMsg) -> usize
     )
 }
 
-#[inline(always)]
+/// Puts what a message says at the end of the place, and answers where it begins.
+#[inline(never)]
 fn prepend_body(line: &mut Room, kept: &mut KeptPointers, told: &Body) -> usize
     requires { Holds line.old kept.old.list kept.old.at }
     ensures within { (150 ≤ result) × (result ≤ kept.new.at) }
+    ensures moves { kept.new.moves ≡ 0 }
     ensures holds { Holds line.new kept.new.list kept.new.at }
     ensures written { drop result line.new ≡ body told.now ++ 10 ∷ [] }
     ensures long { length line.new ≡ 1280 }
@@ -160,6 +160,48 @@ fn prepend_body(line: &mut Room, kept: &mut KeptPointers, told: &Body) -> usize
             prepend_word(line, at, if *has { "focus 1" } else { "focus 0" })
         }
     }
+}
+
+/// Puts a Move with flags 0 at the end of the place where it does not stand there yet, and answers where it begins.
+#[inline(always)]
+fn prepend_move(line: &mut Room, kept: &mut KeptPointers, told: &Motion) -> usize
+    requires plain { (told.now.action ≡ Move) × (told.now.flags ≡ 0) }
+    requires holds { Holds line.old kept.old.list kept.old.at }
+    requires moves { Moves 150 line.old kept.old.moves kept.old.list kept.old.at kept.old.front }
+    ensures within { (150 ≤ result) × (result ≤ kept.new.at) }
+    ensures holds { Holds line.new kept.new.list kept.new.at }
+    ensures moves { Moves result line.new kept.new.moves kept.new.list kept.new.at kept.new.front }
+    ensures written { drop result line.new ≡ motion told.now ++ 10 ∷ [] }
+{
+    let device = told.device.get();
+    if kept.moves == device && kept.has(&told.pointers) {
+        return kept.front;
+    }
+    let at = kept.put_anew(line, &told.pointers);
+    let at = prepend_word(line, at, "MOVE");
+    let at = prepend_device(line, at, device);
+    kept.moves = device;
+    kept.front = at;
+    at
+}
+
+/// Puts what a message says at the end of the place, as far as it does not stand there yet, and answers where it begins.
+#[inline(always)]
+fn prepend_end(line: &mut Room, kept: &mut KeptPointers, told: &Body) -> usize
+    requires holds { Holds line.old kept.old.list kept.old.at }
+    requires moves { Moves 150 line.old kept.old.moves kept.old.list kept.old.at kept.old.front }
+    ensures within { (150 ≤ result) × (result ≤ kept.new.at) }
+    ensures holds { Holds line.new kept.new.list kept.new.at }
+    ensures moves { Moves result line.new kept.new.moves kept.new.list kept.new.at kept.new.front }
+    ensures written { drop result line.new ≡ body told.now ++ 10 ∷ [] }
+    ensures long { length line.new ≡ 1280 }
+{
+    if let Body::Motion(motion) = told {
+        if motion.action == MotionAction::Move && motion.flags == 0 {
+            return prepend_move(line, kept, motion);
+        }
+    }
+    prepend_body(line, kept, told)
 }
 
 /// Puts the number and the moment of a message in front of `end`, and answers where they begin.
@@ -204,13 +246,14 @@ pub struct LineWriter {
 }
 
 impl Model for LineWriter {
-    ghost use Rattle.stream_text.specs.KeptText.{Holds};
+    ghost use Rattle.stream_text.specs.KeptText.{Holds, Moves};
 
     ghost Value = { Unit {0} };
 
     ghost view = { λ _. tt };
 
-    ghost invariant = { λ w. Holds w.line w.pointers.list w.pointers.at };
+    ghost invariant = { λ w. Holds w.line w.pointers.list w.pointers.at
+        × Moves 150 w.line w.pointers.moves w.pointers.list w.pointers.at w.pointers.front };
 }
 
 impl LineWriter {
@@ -232,7 +275,7 @@ impl LineWriter {
         ensures ok { OnOk result (out.new.items ≡ out.old.items ++ message_line message.now) }
         ensures err { OnErr result (out.new.items ≡ out.old.items) }
     {
-        let at = prepend_body(&mut self.line, &mut self.pointers, &message.body);
+        let at = prepend_end(&mut self.line, &mut self.pointers, &message.body);
         let at = prepend_numbered(
             &mut self.line,
             &mut self.moments,

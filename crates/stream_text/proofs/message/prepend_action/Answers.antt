@@ -1,7 +1,7 @@
 use Rattle.std.specs.Prelude.{codes}
 use Rattle.std.proofs.Common.{sym, drop, append_assoc}
 use Rattle.stream_text.specs.Spelling.{canceled, indexed}
-use Rattle.stream_text.proofs.message.prepend_seldom.Goals as goal
+use Rattle.stream_text.proofs.message.prepend_action.Goals as goal
 
 pub returns-in-PointerDown-clause-written : goal.returns-in-PointerDown-clause-written
 returns-in-PointerDown-clause-written c =
