@@ -1,9 +1,7 @@
 //! Light rounds: they give no window a pointer and take none from a window, and leave the focus. So a window is told of
 //! a Move that some of its pointers move, and of keys.
 ghost use Rattle.std.specs.Prelude.{◌≡◌, ◌≤◌, ◌<◌, ◌^◌, ℕ, true, false, None, length, OnOk, IfOk, IsOk};
-ghost use Rattle.std.specs.List.{list_any};
 ghost use Rattle.std.specs.Option.{option_copied};
-ghost use Rattle.bits32.specs.Set.{is_in};
 ghost use Rattle.window_snapshot.specs.Mask.{mask_has};
 ghost use Rattle.routing_rules.specs.Scene.{Scene, Step};
 ghost use Rattle.routing_rules.specs.Taking.{takes, pilfers};
@@ -21,11 +19,12 @@ use crate::listener::Listener;
 use crate::room::keys_to;
 use crate::round::Round;
 use crate::say::say_keys;
-use bits32::Bits32;
 use dispatch_channels::{Channels, first_of, without};
-use input_types::{Moment, Motion, Pixel, Pointers};
+use input_types::{Moment, Motion, Pixel};
 use route_split::Touches;
+use split_motion::PointersById;
 use std::alloc::AllocError;
+use std::marker::Model;
 
 /// The mask of the windows that hold something of the device of a motion.
 #[inline(always)]
@@ -116,40 +115,83 @@ pub fn make_light_room(
     Ok(told)
 }
 
-/// Whether some of the pointers have ids in the set.
-fn has_some(pointers: &Pointers, set: Bits32) -> bool
-    ensures { result ≡ list_any (λ p. is_in p.id set) pointers.now }
+/// A motion whose pointers are found by their ids.
+#[derive(Drop)]
+struct MotionById<'a> {
+    motion: &'a Motion,
+    pointers: PointersById<'a>,
+}
+
+impl<'a> Model for MotionById<'a> {
+    ghost use Rattle.std.specs.Prelude.{◌≡◌};
+    ghost use Rattle.input_types.specs.declared.motion.Motion.{Motion as Element};
+
+    ghost Value = { Element };
+
+    ghost view = { λ m. m.motion.now };
+
+    ghost invariant = { λ m. m.pointers ≡ m.motion.now.pointers };
+}
+
+/// The motion of a round so, where it has one.
+#[inline(always)]
+fn by_id<'a>(motion: Option<&'a Motion>) -> Option<MotionById<'a>>
+    ensures { result ≡ option_copied motion.entry }
 {
-    pointers
-        .as_slice()
-        .iter()
-        .any(|pointer| set.has(pointer.id.get()))
+    match motion {
+        Some(motion) => Some(MotionById {
+            motion,
+            pointers: PointersById::new(&motion.pointers),
+        }),
+        None => None,
+    }
 }
 
 /// One window is told that the pointers move that it holds, where the motion lists some of them.
 #[inline(always)]
-fn move_held(to: &Listener, motion: &Motion, touches: &Touches, channels: &mut Channels)
-    requires { CanHear to.now.window 1 channels.old }
+fn move_held(
+    to: &Listener,
+    motion: &Motion,
+    pointers: &PointersById,
+    touches: &Touches,
+    channels: &mut Channels,
+)
+    requires pointers { pointers.now ≡ motion.now.pointers }
+    requires room { CanHear to.now.window 1 channels.old }
     ensures { TellsOne to.now (moved touches.now motion.now to.now.window) channels.old channels.new }
 {
     let held = touches.held(to.window, motion.device);
-    if has_some(&motion.pointers, held) {
-        channels.tell_moves(to.window, motion, held, to.origin, to.clock);
+    if pointers.has_some(held) {
+        channels.tell_moves(
+            to.window,
+            motion.device,
+            pointers,
+            held,
+            to.origin,
+            to.clock,
+        );
     }
 }
 
 /// One window is told of the motion of a light round, where it has one.
 #[inline(always)]
-fn say_light(to: &Listener, round: &Round, touches: &Touches, channels: &mut Channels)
+fn say_light(
+    to: &Listener,
+    round: &Round,
+    motion: Option<&MotionById>,
+    touches: &Touches,
+    channels: &mut Channels,
+)
     requires light { IsLight round.now }
+    requires motion { option_copied motion ≡ option_copied round.now.motion }
     requires room { CanHear to.now.window (most_moves (option_copied round.now.motion)) channels.old }
     ensures { HearsMoves round.now touches.now to.now channels.old channels.new }
 {
-    match round.motion {
-        Some(motion) => {
+    match motion {
+        Some(found) => {
             // Read for its clause alone: devices have the numbers 1 to 8, which contracts do not see of the type.
-            let _number = motion.device.get();
-            move_held(to, motion, touches, channels);
+            let _number = found.motion.device.get();
+            move_held(to, found.motion, &found.pointers, touches, channels);
         }
         None => {}
     }
@@ -157,13 +199,20 @@ fn say_light(to: &Listener, round: &Round, touches: &Touches, channels: &mut Cha
 
 /// One window is told all of a light round: of its motion, and then of keys.
 #[inline(always)]
-fn tell_one(to: &Listener, round: &Round, touches: &Touches, channels: &mut Channels)
+fn tell_one(
+    to: &Listener,
+    round: &Round,
+    motion: Option<&MotionById>,
+    touches: &Touches,
+    channels: &mut Channels,
+)
     requires light { IsLight round.now }
+    requires motion { option_copied motion ≡ option_copied round.now.motion }
     requires room { CanHear to.now.window (most_light round.now to.now.window) channels.old }
     ensures hears { HearsRound round.now touches.now None to.now channels.old channels.new }
     ensures spends { SpendsLight round.now channels.old channels.new to.now.window }
 {
-    say_light(to, round, touches, channels);
+    say_light(to, round, motion, touches, channels);
     say_keys(to, keys_to(round.keys, round.target, to.window), channels);
 }
 
@@ -184,6 +233,7 @@ fn tell_each(
     ensures each { HearsEach round.now touches.now None (mask_has told) origins.now clock channels.old channels.new }
     ensures spends { (w : ℕ) → mask_has told w ≡ true → SpendsLight round.now channels.old channels.new w }
 {
+    let motion = by_id(round.motion);
     let mut rest = told;
     while rest != 0 {
         let window = first_of(rest);
@@ -192,7 +242,7 @@ fn tell_each(
             origin: origins[window as usize - 1],
             clock,
         };
-        tell_one(&to, round, touches, channels);
+        tell_one(&to, round, motion.as_ref(), touches, channels);
         rest = without(rest, window);
     }
 }

@@ -17,6 +17,7 @@ use cancel_synthesis::Cancels;
 use dispatch_channels::Channels;
 use input_types::{Body, DeviceId, KeyMsg, Motion};
 use route_split::Tells;
+use split_motion::PointersById;
 
 /// Tells one body.
 fn say(to: &Listener, body: &Body, channels: &mut Channels)
@@ -41,7 +42,15 @@ pub(crate) fn say_moves(to: &Listener, motion: &Motion, ids: Bits32, channels: &
         (MotionBody (plain motion.now.device Move (listing (λ i. is_in i ids) motion.now.pointers)) ∷ [])
         channels.old channels.new }
 {
-    channels.tell_moves(to.window, motion, ids, to.origin, to.clock);
+    let pointers = PointersById::new(&motion.pointers);
+    channels.tell_moves(
+        to.window,
+        motion.device,
+        &pointers,
+        ids,
+        to.origin,
+        to.clock,
+    );
 }
 
 /// Tells the cancels of pointers that are taken from the window, one after the other.

@@ -1,4 +1,4 @@
-use Rattle.std.proofs.Common.{ℕ, Bool, ◌≡◌, [], ◌∷◌, map, sym, ap, ◌∙◌, subst}
+use Rattle.std.proofs.Common.{ℕ, Bool, ◌≡◌, [], ◌∷◌, map, sym, ap₂, ◌∙◌, subst}
 use mathlib.Core.Path.{fun_ext}
 use Rattle.bits32.specs.Set.{is_in}
 use Rattle.input_types.specs.declared.message.Body.TheVariants.{Motion as MotionBody}
@@ -13,18 +13,20 @@ use Rattle.dispatch_round.proofs.light.move_held.Goals as goal
 pub returns-then-has_some : goal.returns-then-has_some
 returns-then-has_some c =
     let m = c.args.motion.now in
+    let ps = c.args.pointers.now in
     let held : ℕ → Bool = λ i. is_in i c.held-held.result in
     let same : held ≡ holds_at c.args.touches.now c.args.to.now.window m.device = fun_ext c.held-held.ensures in
-    let says : plain m.device Move (listing held m.pointers) ∷ [] ≡ moves m.device (listing (holds_at c.args.touches.now c.args.to.now.window m.device) m.pointers) =
-    sym (some_moves held m.device m.pointers (sym c.has_some.ensures ∙ c.if-has_some.true)) ∙ ap (λ f. moves m.device (listing f m.pointers)) same in
+    let says : plain m.device Move (listing held ps) ∷ [] ≡ moves m.device (listing (holds_at c.args.touches.now c.args.to.now.window m.device) m.pointers) =
+    sym (some_moves held m.device ps (sym c.has_some.ensures ∙ c.if-has_some.true)) ∙ ap₂ (λ f xs. moves m.device (listing f xs)) same c.requires.pointers in
     subst (λ ms. TellsOne c.args.to.now (map MotionBody ms) c.args.channels.now c.tell_moves.new.self) says
-    (tells_one c.args.to.now (MotionBody (plain m.device Move (listing held m.pointers))) _ _ c.tell_moves.ensures c.requires.opened)
+    (tells_one c.args.to.now (MotionBody (plain m.device Move (listing held ps))) _ _ c.tell_moves.ensures c.requires.room.opened)
 
 pub returns-else-has_some : goal.returns-else-has_some
 returns-else-has_some c =
     let m = c.args.motion.now in
+    let ps = c.args.pointers.now in
     let held : ℕ → Bool = λ i. is_in i c.held-held.result in
     let same : held ≡ holds_at c.args.touches.now c.args.to.now.window m.device = fun_ext c.held-held.ensures in
     subst (λ ms. TellsOne c.args.to.now (map MotionBody ms) c.args.channels.now c.args.channels.now)
-    (sym (none_moves held m.device m.pointers (sym c.has_some.ensures ∙ c.if-has_some.false)) ∙ ap (λ f. moves m.device (listing f m.pointers)) same)
+    (sym (none_moves held m.device ps (sym c.has_some.ensures ∙ c.if-has_some.false)) ∙ ap₂ (λ f xs. moves m.device (listing f xs)) same c.requires.pointers)
     (tells_none c.args.to.now c.args.channels.now)

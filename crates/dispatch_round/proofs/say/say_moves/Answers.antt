@@ -7,5 +7,6 @@ use Rattle.dispatch_round.proofs.say.say_moves.Goals as goal
 
 pub returns : goal.returns
 returns c =
-    let m = c.args.motion.now in
-    tells_one c.args.to.now (MotionBody (plain m.device Move (listing (λ i. is_in i c.args.ids) m.pointers))) _ _ c.tell_moves.ensures c.requires.opened
+    let moving = listing (λ i. is_in i c.args.ids) c.new-pointers.result in
+    rw (← c.new-pointers.ensures)
+    (tells_one c.args.to.now (MotionBody (plain c.args.motion.now.device Move moving)) _ _ c.tell_moves.ensures c.requires.opened)
