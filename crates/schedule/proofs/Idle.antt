@@ -4,6 +4,7 @@ use Rattle.std.specs.Prelude.{is_some, option_map, slice_get}
 use Rattle.std.proofs.lemmas.Bool.Decides.{nat_tests}
 use Rattle.input_types.specs.declared.message.Message.{Message}
 use Rattle.input_channel.specs.Order.{NoneAfter}
+use Rattle.dispatch_calls.specs.declared.call.Call.TheVariants.{Finish}
 use Rattle.dispatch_history.specs.Delivery.{delivery, oldest, unfinished}
 use Rattle.dispatch_history.specs.Effect.{Effect, past_of}
 use Rattle.dispatch_history.specs.History.{clock, live}
@@ -15,6 +16,7 @@ use Rattle.dispatch_tables.proofs.Kept.{none_after_clock}
 use Rattle.schedule.specs.declared.due.Due.{Due}
 use Rattle.schedule.specs.Choosing.{is_due_by}
 use Rattle.schedule.specs.DueView.{candidate_of}
+use Rattle.schedule.specs.Handing.{single}
 use Rattle.schedule.specs.Next.{finish_at, next_finish, oldest_pair}
 
 -- a channel without a pair of a number and a delivery has no such message
@@ -64,3 +66,22 @@ at_once_due ds es c p (Some d) l is some none =
         delivered_by es c (clock (past_of es)) p.finish_after (unfinished es c) (candidate_of d) none
         (none_after_clock ds es c 0 0 (clock (past_of es)) l (omega arith)) e
     by_live false e = absurd (cc e)
+
+-- no time later is the same moment
+plus_zero : (t : ℕ) → t + 0 ≡ t
+plus_zero t = omega arith
+
+-- the next finish of a channel whose owner finishes at once is at the delivery of its oldest message
+pub at_once_is : (es : List Effect) (c : ℕ) (p : ChannelOf) (seq t : ℕ) → live (past_of es) c ≡ true → p.finishes ≡ true → p.finish_after ≡ 0
+    → oldest_delivery es c ≡ Some (seq, t) → next_finish es c p ≡ Some (single (Finish t c seq))
+at_once_is es c p seq t y f none e = by_oldest (oldest es c) refl
+  where
+    by_oldest : (o : Option Message) → oldest es c ≡ o → next_finish es c p ≡ Some (single (Finish t c seq))
+    by_oldest None q =
+        let here : oldest_delivery es c ≡ None = rw q refl in
+        let not_there : None ≡ Some (seq, t) = sym here ∙ e in
+        absurd (cc not_there)
+    by_oldest (Some m) q =
+        let here : oldest_delivery es c ≡ Some (m.seq, delivery es c m.seq) = rw q refl in
+        let pair : Some (m.seq, delivery es c m.seq) ≡ Some (seq, t) = sym here ∙ e in
+        rw (y, f, none, q) (ap (option_map {U = Candidate} (finish_at c 0)) pair ∙ ap (λ u. Some (single (Finish u c seq))) (plus_zero t))

@@ -127,6 +127,27 @@ due_by_now es mask c ps (Some b) t due late =
           absurd (omega (arith, low, by, x.2))
     ]
 
+-- so where the first channel of a mask has a finish that is due by then, it is the next of all
+pub first_now : (es : List Effect) (mask : ℕ) (cs : List Channel) (i c n : ℕ) (b : Candidate) (t : ℕ) → n ≡ c + i
+    → mask_has mask n ≡ true
+    → ((d : ℕ) → d < n → mask_has mask d ≡ false)
+    → finish_of es n (slice_get cs i) ≡ Some b → is_due_by (Some b) t ≡ true
+    → NotBefore t (finishes_in es mask c (map channel_of cs) None) → finishes_in es mask c (map channel_of cs) None ≡ Some b
+first_now es mask [] i c n b t e has below is due late = absurd (cc is)
+first_now es mask (x ∷ cs) zero c n b t e has below is due late =
+    let here : n ≡ c = omega (arith, e) in
+    let one : mask_has mask c ≡ true = ap (mask_has mask) (sym here) ∙ has in
+    let found : next_finish es c (channel_of x) ≡ Some b = ap (λ k. next_finish es k (channel_of x)) (sym here) ∙ is in
+    let same : finishes_in es mask c (map channel_of (x ∷ cs)) None ≡ finishes_in es mask (c + 1) (map channel_of cs) (Some b) =
+    ap (λ v. finishes_in es mask (c + 1) (map channel_of cs) (cond v (sooner_with None (next_finish es c (channel_of x))) None)) one
+    ∙ ap (λ o. finishes_in es mask (c + 1) (map channel_of cs) (sooner_with None o)) found in
+    same ∙ due_by_now es mask (c + 1) (map channel_of cs) (Some b) t due (subst (NotBefore t) same late)
+first_now es mask (x ∷ cs) (suc i) c n b t e has below is due late =
+    let none : mask_has mask c ≡ false = below c (omega (arith, e)) in
+    let same : finishes_in es mask c (map channel_of (x ∷ cs)) None ≡ finishes_in es mask (c + 1) (map channel_of cs) None =
+    ap (λ v. finishes_in es mask (c + 1) (map channel_of cs) (cond v (sooner_with None (next_finish es c (channel_of x))) None)) none in
+    same ∙ first_now es mask cs i (c + 1) n b t (omega (arith, e)) has below is due (subst (NotBefore t) same late)
+
 -- below the first channel of a mask there is none
 pub none_below : (mask n : ℕ) → ((c : ℕ) → mask_has mask c ≡ true → n ≤ c) → (d : ℕ) → d < n → mask_has mask d ≡ false
 none_below mask n first d lt = by_bit (mask_has mask d) refl

@@ -1,5 +1,5 @@
 //! The rounds of a run.
-ghost use Rattle.std.specs.Prelude.{Some, option_map, ◌≡◌, ◌≤◌, ◌<◌, ◌+◌, ◌-◌, ◌^◌, ◌++◌, ℕ, true, false, List, [], ◌∷◌, IfOk, OnOk, None, map, max};
+ghost use Rattle.std.specs.Prelude.{Some, IfSome, option_map, ◌≡◌, ◌≤◌, ◌<◌, ◌+◌, ◌-◌, ◌^◌, ◌++◌, ℕ, true, false, List, [], ◌∷◌, IfOk, OnOk, None, map, max};
 ghost use Rattle.dispatch_calls.specs.declared.call.Call.{Call as CallView};
 ghost use Rattle.dispatch_history.specs.Effect.{Effect, past_of};
 ghost use Rattle.dispatch_history.specs.Legal.{answered};
@@ -18,7 +18,7 @@ ghost use Rattle.schedule.specs.Receives.{receives_of};
 ghost use Rattle.schedule.specs.Run.{messages_in};
 ghost use Rattle.schedule.specs.State.{Caught, HasWith, ReadyWith, counted};
 
-use crate::choose::{first_step, next_due};
+use crate::choose::{first_step, next_at_once, next_due};
 use crate::due::{Due, What};
 use crate::plan::Plan;
 use crate::schedule::Schedule;
@@ -44,6 +44,7 @@ impl Schedule {
     }
 
     /// The round of a finish. After it only the owner of its channel may have more to take.
+    #[inline(always)]
     fn finish_round(&mut self, now: Moment, channel: u32, seq: u64) -> Result<(), AllocError>
         ensures after { (how : Lines) (plan : PlanView) (es : List Effect) → ReadyWith how plan es self.old
             → OnOk result (ReadyWith how plan (round plan es (single (CallView.Finish now channel seq))) self.new) }
@@ -153,5 +154,51 @@ impl Schedule {
             Some(step) => self.advance_step(&step.call, until),
             None => self.advance_due(due, until),
         }
+    }
+
+    /// The channel, the message and the moment of the next finish, where its owner finishes at once and it is due up to
+    /// a moment and before all else.
+    #[inline(always)]
+    fn due_at_once(&self, plan: &Plan, until: Moment) -> Option<(u32, u64, Moment)>
+        ensures { (how : Lines) (es : List Effect) → ReadyWith how (plan_of plan.now) es self.now
+            → NoneOverdue (plan_of plan.now).channels es
+            → IfSome result (λ found. (found.2 ≤ until)
+            × (soonest (fore (plan_of plan.now) es) ≡ Some (single (CallView.Finish found.2 found.0 found.1)))) }
+    {
+        let found = next_at_once(&self.dispatcher, &plan.channels)?;
+        let at = found.2.get();
+        if until.get() < at
+            || self.dispatcher.due_from() < at
+            || self.dispatcher.repeat_due().is_some()
+        {
+            return None;
+        }
+        let Some(step) = plan.steps.get(self.next) else {
+            return Some(found);
+        };
+        if step.call.moment().get() < at {
+            None
+        } else {
+            Some(found)
+        }
+    }
+
+    /// One round, where what is due up to a moment is the finish of an owner who finishes at once. Most rounds are such
+    /// ones. Where it is not done, another round may be due.
+    #[inline(always)]
+    pub(crate) fn finish_at_once(&mut self, plan: &Plan, until: Moment) -> Result<bool, AllocError>
+        ensures after { (how : Lines) (es : List Effect) → ReadyWith how (plan_of plan.now) es self.old
+            → NoneOverdue (plan_of plan.now).channels es
+            → IfOk result (λ b. b ≡ true → Advances how (plan_of plan.now) until es self.old self.new true) }
+        ensures stays { IfOk result (λ b. b ≡ false → self.new ≡ self.old) }
+        ensures calls { IfOk result (λ b. b ≡ true → self.old.calls < 2 ^ 64 - 1 → self.old.calls < self.new.calls) }
+        ensures more { (es : List Effect) → ComesTo es self.old.dispatcher → ComesTo es self.new.dispatcher }
+        ensures latest { self.new.latest ≡ self.old.latest }
+    {
+        let Some(found) = self.due_at_once(plan, until) else {
+            return Ok(false);
+        };
+        self.finish_round(found.2, found.0, found.1)?;
+        Ok(true)
     }
 }

@@ -1,6 +1,7 @@
 //! What is done next.
-ghost use Rattle.std.specs.Prelude.{IsSome, ◌≡◌, ◌≤◌, ◌<◌, ◌-◌, true, List, None, option_map, length, map, slice_get};
+ghost use Rattle.std.specs.Prelude.{IsSome, IfSome, Some, ◌≡◌, ◌≤◌, ◌<◌, ◌-◌, true, List, None, option_map, length, map, slice_get};
 ghost use Rattle.std.specs.List.{All};
+ghost use Rattle.dispatch_calls.specs.declared.call.Call.TheVariants.{Finish};
 ghost use Rattle.dispatch_history.specs.Effect.{Effect, past_of};
 ghost use Rattle.dispatch_history.specs.Due.{first_due};
 ghost use Rattle.dispatch_history.specs.History.{clock, live};
@@ -11,6 +12,7 @@ ghost use Rattle.dispatcher.specs.Dispatching.{IsAfter};
 ghost use Rattle.schedule.specs.Choosing.{NoneOverdue, first_step, dues_of, is_before, is_due_by};
 ghost use Rattle.schedule.specs.Choosing.{next_finishes, tick_of, repeat_at};
 ghost use Rattle.schedule.specs.DueView.{candidate_of};
+ghost use Rattle.schedule.specs.Handing.{single};
 ghost use Rattle.schedule.specs.Next.{finish_of, next_finish, sooner_with};
 ghost use Rattle.schedule.specs.Planned.{IsChannel, channel_of};
 ghost use Rattle.schedule.specs.State.{Caught};
@@ -88,6 +90,30 @@ fn next_finish_of_all(dispatcher: &Dispatcher, channels: &[Channel]) -> Option<D
         }
     }
     best
+}
+
+/// The channel, the message and the moment of the next finish of all channels, where none is due before the clock and
+/// the owner of the first channel that may have one finishes at once: nothing is due sooner.
+#[inline(always)]
+pub(crate) fn next_at_once(
+    dispatcher: &Dispatcher,
+    channels: &[Channel],
+) -> Option<(u32, u64, Moment)>
+    ensures { (es : List Effect) → IsAfter es dispatcher.now → NoneOverdue (map channel_of channels.now) es
+        → IfSome result (λ found. next_finishes es 1 (map channel_of channels.now) None
+        ≡ Some (single (Finish found.2 found.0 found.1))) }
+{
+    let rest = dispatcher.unfinished();
+    if rest == 0 {
+        return None;
+    }
+    let number = mask_first(rest);
+    let channel = channels.get(number as usize - 1)?;
+    if !channel.finishes || channel.finish_after != 0 {
+        return None;
+    }
+    let (seq, delivery) = dispatcher.oldest(number)?;
+    Some((number, seq, delivery))
 }
 
 /// The next tick.

@@ -51,6 +51,8 @@ impl Schedule {
 
     /// Does all that is due before these args, and hands them in. A run that has become too long does nothing more.
     /// After want of memory the dispatcher is as after what was done up to then, and nothing else is said of the run.
+    /// Mostly what is due is finishes of owners who finish at once: a loop of its own does those that come first.
+    #[inline(never)]
     pub fn take(&mut self, plan: &Plan, moment: Moment, args: &Args) -> Result<(), AllocError>
         requires { IsRun plan.now }
         ensures ran { (how : Lines) (given : List Cooked) → RanWith how (plan_of plan.now) given self.old
@@ -59,6 +61,11 @@ impl Schedule {
         ensures more { (es : List Effect) → ComesTo es self.old.dispatcher → ComesTo es self.new.dispatcher }
     {
         self.latest = self.latest.later(moment);
+        'quick: while !self.is_too_long() {
+            if !self.finish_at_once(plan, moment)? {
+                break;
+            }
+        }
         'rounds: while !self.is_too_long() {
             if !self.advance(plan, moment)? {
                 return self.hand_in(moment, args);
