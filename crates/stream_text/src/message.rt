@@ -139,7 +139,7 @@ fn prepend_key_message(line: &mut Room, end: usize, told: &KeyMsg) -> usize
     )
 }
 
-/// Puts what a message says at the end of the place, and answers where it begins.
+/// Puts what a message says at the end of the place, and answers where it begins. No Move is kept then.
 #[inline(never)]
 fn prepend_body(line: &mut Room, kept: &mut KeptPointers, told: &Body) -> usize
     requires { Holds line.old kept.old.list kept.old.at }
@@ -185,7 +185,7 @@ fn prepend_move(line: &mut Room, kept: &mut KeptPointers, told: &Motion) -> usiz
     at
 }
 
-/// Puts what a message says at the end of the place, as far as it does not stand there yet, and answers where it begins.
+/// Puts what a message says at the end of the place where it does not stand there yet, and answers where it begins.
 #[inline(always)]
 fn prepend_end(line: &mut Room, kept: &mut KeptPointers, told: &Body) -> usize
     requires holds { Holds line.old kept.old.list kept.old.at }
