@@ -1,6 +1,6 @@
 -- A round of what is due.
 use Rattle.std.proofs.Common.{◌≡◌, ℕ, ◌≤◌, nat_lt, Bool, true, false, cond, List, [], ◌∷◌, map, Option, Some, None, refl, sym, ap, ◌∙◌, subst, arith}
-use Rattle.std.specs.Prelude.{IfSome, is_some, option_map, slice_get}
+use Rattle.std.specs.Prelude.{IfSome, option_map, slice_get, unwrap_or}
 use Rattle.std.proofs.lemmas.Bool.Decides.{nat_tests}
 use Rattle.dispatch_calls.specs.declared.call.Call.{Call}
 use Rattle.dispatch_calls.specs.declared.call.Call.TheVariants.{Open, Windows, FocusOn, Notify, Pump, Tick, Receive, Finish, Pilfer, Remove}
@@ -10,6 +10,7 @@ use Rattle.dispatch_history.specs.Due.{Due, first_due}
 use Rattle.dispatch_history.specs.Plan.{Plan}
 use Rattle.dispatch_history.specs.Ordered.{Candidate, soonest, round, is_scripted, is_notified, scripted}
 use Rattle.schedule.specs.declared.keeping.Lines.{Lines}
+use Rattle.schedule.specs.declared.due.Due.{Due as Found}
 use Rattle.schedule.specs.declared.due.What.{What}
 use Rattle.schedule.specs.declared.due.What.TheVariants as whats
 use Rattle.std.specs.List.{All}
@@ -20,7 +21,7 @@ use Rattle.dispatcher.specs.Access.{next_repeat}
 use Rattle.dispatch_tables.specs.Lawful.{Lawful}
 use Rattle.schedule.specs.Choosing.{Advances, dues_of, is_before, is_due_by, kept_first, first_step, next_finishes, repeat_at, tick_of}
 use Rattle.schedule.proofs.Choosing.{dues_first, tick_later, step_soonest, step_later, no_step}
-use Rattle.schedule.specs.DueView.{call_of}
+use Rattle.schedule.specs.DueView.{call_of, candidate_of, sooner_due}
 use Rattle.schedule.specs.Handing.{single}
 use Rattle.schedule.specs.Kinds.{is_receiving, is_opening}
 use Rattle.schedule.specs.Next.{fore, sooner_with, up_to}
@@ -106,15 +107,31 @@ due_first plan es due steps d are e = by_step (slice_get steps (scripted (past_o
         by_test false f k =
             step_later plan es due (step_of x) d (ap (λ xs. slice_get xs (scripted (past_of es))) are ∙ slice_get-map step_of steps (scripted (past_of es)) ∙ ap (option_map step_of) at) f
 
--- what is not some is none
-pub none_of : (o : Option ℕ) → is_some o ≡ false → o ≡ None
-none_of None e = refl
-none_of (Some t) e = absurd (cc e)
+-- what stands for a repeat
+abbrev repeat_found : ℕ → Found
+repeat_found r = record { moment = r; what = whats.Repeat }
+
+-- its candidate is the repeat
+repeat_is : (o : Option ℕ) → option_map candidate_of (option_map repeat_found o) ≡ option_map repeat_at o
+repeat_is None = refl
+repeat_is (Some r) = refl
+
+-- what may be there is not below a number
+pub repeat_late : (t n : ℕ) (o : Option ℕ) → t ≤ unwrap_or o n → IfSome o (λ r. t ≤ r)
+repeat_late t n None le = tt
+repeat_late t n (Some r) le = le
+
+-- a repeat that is not due before something leaves it the first
+stays_first : (d : Found) (o : Option ℕ) → IfSome o (λ r. d.moment ≤ r) → sooner_due (Some d) (option_map repeat_found o) ≡ Some d
+stays_first d None late = refl
+stays_first d (Some r) late =
+    let not_sooner : nat_lt r d.moment ≡ false = grind (arith, nat_tests) in
+    ap (λ v. cond v (Some (repeat_found r)) (Some d)) not_sooner
 
 -- a finish before which no tick, no repeat and no step is due is the soonest of all
 pub finish_first : (ds : List ℕ) (plan : Plan) (es : List Effect) (t channel seq from : ℕ) (steps : List Step) → Lawful ds es → Caught es
     → next_finishes es 1 plan.channels None ≡ Some (single (Finish t channel seq)) → t ≤ from → ((d : Due) → first_due es ≡ Some d → from ≤ d.moment)
-    → next_repeat es ≡ None → plan.steps ≡ map step_of steps → (o : Option Step) → slice_get steps (scripted (past_of es)) ≡ o → IfSome o (λ s. t ≤ moment_of s.call)
+    → IfSome (next_repeat es) (λ r. t ≤ r) → plan.steps ≡ map step_of steps → (o : Option Step) → slice_get steps (scripted (past_of es)) ≡ o → IfSome o (λ s. t ≤ moment_of s.call)
     → soonest (fore plan es) ≡ Some (single (Finish t channel seq))
 finish_first ds plan es t channel seq from steps l h finish le ticks repeats are o at later =
     due_first plan es (Some (single (Finish t channel seq))) steps dues are (ap (kept_first (Some (single (Finish t channel seq)))) at ∙ no_step_before o later)
@@ -122,9 +139,11 @@ finish_first ds plan es t channel seq from steps l h finish le ticks repeats are
     dues : Some (single (Finish t channel seq)) ≡ soonest (dues_of plan es)
     dues =
         let by : is_due_by (Some (single (Finish t channel seq))) from ≡ true = grind (arith, nat_tests) in
-        dues_first ds plan es (Some (record { moment = t; what = whats.Finish channel seq })) None l h
+        let found : Found = record { moment = t; what = whats.Finish channel seq } in
+        ap (option_map candidate_of) (sym (stays_first found (next_repeat es) repeats))
+        ∙ dues_first ds plan es (Some found) (option_map repeat_found (next_repeat es)) l h
         (tick_later (Some (single (Finish t channel seq))) (first_due es) from by ticks ∙ ap (λ o. sooner_with o (option_map tick_of (first_due es))) (sym finish))
-        (ap (option_map repeat_at) (sym repeats))
+        (repeat_is (next_repeat es))
 
     no_step_before : (p : Option Step) → IfSome p (λ s. t ≤ moment_of s.call) → kept_first (Some (single (Finish t channel seq))) p ≡ None
     no_step_before None ge = refl

@@ -169,7 +169,7 @@ impl Schedule {
         let at = found.2.get();
         if until.get() < at
             || self.dispatcher.due_from() < at
-            || self.dispatcher.repeat_due().is_some()
+            || self.dispatcher.repeat_due().unwrap_or(at) < at
         {
             return None;
         }
