@@ -1,5 +1,5 @@
 //! Which windows a step may tell something.
-ghost use Rattle.std.specs.Prelude.{◌≡◌, ℕ, ◌||◌};
+ghost use Rattle.std.specs.Prelude.{◌≡◌, ℕ};
 ghost use Rattle.std.specs.List.{list_any};
 ghost use Rattle.std.specs.Option.{option_copied};
 ghost use Rattle.window_snapshot.specs.Mask.{mask_has, mask_with};

@@ -1,5 +1,5 @@
 //! One window is told the motions of a step.
-ghost use Rattle.std.specs.Prelude.{◌≡◌, ◌≤◌, ℕ, true, ◌==◌, List, Option, Some, length, map, flat_map};
+ghost use Rattle.std.specs.Prelude.{◌≡◌, ℕ, true, ◌==◌, List, Option, Some, length, map, flat_map};
 ghost use Rattle.std.specs.List.{list_any};
 ghost use Rattle.std.specs.Option.{option_copied};
 ghost use Rattle.bits32.specs.Set.{is_in};
@@ -16,9 +16,10 @@ use crate::round::Round;
 use crate::say::{say_cancels, say_found, say_moves};
 use bits32::Bits32;
 use dispatch_channels::Channels;
-use input_types::{DeviceId, Motion, Pointers};
+use input_types::{DeviceId, Motion};
 use pilfer_monitor::Losses;
 use route_split::{Mark, Touches};
+use split_motion::ids_of;
 use window_snapshot::mask_has;
 
 /// Whether a step with this mark that is no motion may take pointers from windows of channels that stay.
@@ -29,17 +30,6 @@ pub(crate) fn may_take(mark: &Mark) -> bool
         Mark::Rests | Mark::Forget { window: _ } => false,
         _ => true,
     }
-}
-
-/// The ids of these pointers.
-fn ids_of(pointers: &Pointers) -> Bits32
-    ensures { (i : ℕ) → is_in i result ≡ list_any (λ p. p.id == i) pointers.now }
-{
-    let mut ids = Bits32::empty();
-    for pointer in pointers.as_slice() {
-        ids.mark(pointer.id.get());
-    }
-    ids
 }
 
 /// Cancels what the window was told that it holds of a device, and holds no more.

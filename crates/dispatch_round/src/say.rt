@@ -1,5 +1,5 @@
 //! One window is told motions of a device, keys, or a change of its focus. None of this takes memory.
-ghost use Rattle.std.specs.Prelude.{◌≡◌, max, [], ◌∷◌, map, length};
+ghost use Rattle.std.specs.Prelude.{max, [], ◌∷◌, map, length};
 ghost use Rattle.input_types.specs.declared.message.Body.TheVariants.{Motion as MotionBody, Key as KeyBody, Focus as FocusBody};
 ghost use Rattle.input_types.specs.declared.motion.MotionAction.TheVariants.{Move};
 ghost use Rattle.routing_rules.specs.Told.{listing, plain};

@@ -30,7 +30,7 @@ impl<'a> Model for PointersById<'a> {
 }
 
 /// The ids of these pointers.
-fn ids_of(pointers: &Pointers) -> Bits32
+pub fn ids_of(pointers: &Pointers) -> Bits32
     ensures { (i : ℕ) → is_in i result ≡ list_any (λ p. p.id == i) pointers.now }
 {
     let mut ids = Bits32::empty();

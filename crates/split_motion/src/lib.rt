@@ -20,6 +20,6 @@ pub mod laws;
 mod listed;
 mod window;
 
-pub use by_id::PointersById;
+pub use by_id::{PointersById, ids_of};
 pub use listed::{about, part, part_but, plain};
 pub use window::split;

@@ -1,5 +1,5 @@
 //! What a window is told of a motion of its device.
-ghost use Rattle.std.specs.Prelude.{◌≡◌, ℕ};
+ghost use Rattle.std.specs.Prelude.{◌≡◌};
 ghost use Rattle.bits32.specs.Set.{is_in};
 ghost use Rattle.routing_rules.specs.Given.{changed};
 ghost use Rattle.routing_rules.specs.Told.{opening, closing, is_up, is_down, is_cancelled};
