@@ -1,11 +1,9 @@
 //! The rounds of a run.
-ghost use Rattle.std.specs.Prelude.{Some, IfSome, option_map, ◌≡◌, ◌≤◌, ◌<◌, ◌+◌, ◌-◌, ◌^◌, ◌++◌, ℕ, true, false, List, [], ◌∷◌, IfOk, OnOk, None, map, max};
+ghost use Rattle.std.specs.Prelude.{Some, IfSome, option_map, ◌≡◌, ◌≤◌, ◌<◌, ◌+◌, ◌-◌, ◌^◌, true, false, List, IfOk, OnOk, None};
 ghost use Rattle.dispatch_calls.specs.declared.call.Call.{Call as CallView};
 ghost use Rattle.dispatch_history.specs.Effect.{Effect, past_of};
-ghost use Rattle.dispatch_history.specs.Legal.{answered};
-ghost use Rattle.dispatch_history.specs.Ordered.{soonest, is_scripted, is_notified, round, scripted, extend, received_all};
-ghost use Rattle.dispatch_tables.specs.Lawful.{Lawful};
-ghost use Rattle.dispatch_history.specs.Plan.{Plan as PlanView, Cooked};
+ghost use Rattle.dispatch_history.specs.Ordered.{soonest, is_scripted, round, scripted, extend};
+ghost use Rattle.dispatch_history.specs.Plan.{Plan as PlanView};
 ghost use Rattle.schedule.specs.declared.keeping.Lines.{Lines};
 ghost use Rattle.schedule.specs.Choosing.{Advances, NoneOverdue};
 ghost use Rattle.schedule.specs.DueView.{call_of, candidate_of};
@@ -15,11 +13,10 @@ ghost use Rattle.schedule.specs.Handing.{handing, single};
 ghost use Rattle.schedule.specs.Planned.{IsRun, plan_of};
 ghost use Rattle.schedule.specs.More.{ComesTo};
 ghost use Rattle.schedule.specs.Receives.{receives_of};
-ghost use Rattle.schedule.specs.Run.{messages_in};
-ghost use Rattle.schedule.specs.State.{Caught, HasWith, ReadyWith, counted};
+ghost use Rattle.schedule.specs.State.{HasWith, ReadyWith};
 
 use crate::choose::{first_step, next_at_once, next_due};
-use crate::due::{Due, What};
+use crate::due::{AtOnce, Due, What};
 use crate::plan::Plan;
 use crate::schedule::Schedule;
 use dispatch_calls::Call;
@@ -159,14 +156,15 @@ impl Schedule {
     /// The channel, the message and the moment of the next finish, where its owner finishes at once and it is due up to
     /// a moment and before all else.
     #[inline(always)]
-    fn due_at_once(&self, plan: &Plan, until: Moment) -> Option<(u32, u64, Moment)>
+    fn due_at_once(&self, plan: &Plan, until: Moment) -> Option<AtOnce>
         ensures { (how : Lines) (es : List Effect) → ReadyWith how (plan_of plan.now) es self.now
             → NoneOverdue (plan_of plan.now).channels es
-            → IfSome result (λ found. (found.2 ≤ until)
-            × (soonest (fore (plan_of plan.now) es) ≡ Some (single (CallView.Finish found.2 found.0 found.1)))) }
+            → IfSome result (λ found. (found.moment ≤ until)
+            × (soonest (fore (plan_of plan.now) es)
+            ≡ Some (single (CallView.Finish found.moment found.channel found.seq)))) }
     {
         let found = next_at_once(&self.dispatcher, &plan.channels)?;
-        let at = found.2.get();
+        let at = found.moment.get();
         if until.get() < at
             || self.dispatcher.due_from() < at
             || self.dispatcher.repeat_due().unwrap_or(at) < at
@@ -198,7 +196,7 @@ impl Schedule {
         let Some(found) = self.due_at_once(plan, until) else {
             return Ok(false);
         };
-        self.finish_round(found.2, found.0, found.1)?;
+        self.finish_round(found.moment, found.channel, found.seq)?;
         Ok(true)
     }
 }

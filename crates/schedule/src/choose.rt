@@ -17,7 +17,7 @@ ghost use Rattle.schedule.specs.Next.{finish_of, next_finish, sooner_with};
 ghost use Rattle.schedule.specs.Planned.{IsChannel, channel_of};
 ghost use Rattle.schedule.specs.State.{Caught};
 
-use crate::due::{Due, What, sooner};
+use crate::due::{AtOnce, Due, What, sooner};
 use crate::plan::{Channel, Step};
 use dispatcher::Dispatcher;
 use input_types::Moment;
@@ -92,16 +92,13 @@ fn next_finish_of_all(dispatcher: &Dispatcher, channels: &[Channel]) -> Option<D
     best
 }
 
-/// The channel, the message and the moment of the next finish of all channels, where none is due before the clock and
-/// the owner of the first channel that may have one finishes at once: nothing is due sooner.
+/// The next finish of all channels, where none is due before the clock and the owner of the first channel that may have
+/// one finishes at once: nothing is due sooner.
 #[inline(always)]
-pub(crate) fn next_at_once(
-    dispatcher: &Dispatcher,
-    channels: &[Channel],
-) -> Option<(u32, u64, Moment)>
+pub(crate) fn next_at_once(dispatcher: &Dispatcher, channels: &[Channel]) -> Option<AtOnce>
     ensures { (es : List Effect) → IsAfter es dispatcher.now → NoneOverdue (map channel_of channels.now) es
         → IfSome result (λ found. next_finishes es 1 (map channel_of channels.now) None
-        ≡ Some (single (Finish found.2 found.0 found.1))) }
+        ≡ Some (single (Finish found.moment found.channel found.seq))) }
 {
     let rest = dispatcher.unfinished();
     if rest == 0 {
@@ -113,7 +110,11 @@ pub(crate) fn next_at_once(
         return None;
     }
     let (seq, delivery) = dispatcher.oldest(number)?;
-    Some((number, seq, delivery))
+    Some(AtOnce {
+        channel: number,
+        seq,
+        moment: delivery,
+    })
 }
 
 /// The next tick.

@@ -1,6 +1,6 @@
 //! What may be done next.
-ghost use Rattle.std.specs.Prelude.{◌≡◌, option_map};
-ghost use Rattle.schedule.specs.DueView.{candidate_of, sooner_due};
+ghost use Rattle.std.specs.Prelude.{◌≡◌};
+ghost use Rattle.schedule.specs.DueView.{sooner_due};
 
 use dispatch_calls::Call;
 use input_types::Moment;
@@ -23,6 +23,14 @@ pub(crate) struct Due {
     pub(crate) what: What,
 }
 
+/// The finish of a message by an owner who finishes at once, which is due when the message was delivered.
+#[derive(Clone, Copy)]
+pub(crate) struct AtOnce {
+    pub(crate) channel: u32,
+    pub(crate) seq: u64,
+    pub(crate) moment: Moment,
+}
+
 /// The sooner of two; of one moment the first one stays.
 pub(crate) fn sooner(best: Option<Due>, due: Option<Due>) -> Option<Due>
     ensures { result ≡ sooner_due best due }
@@ -41,7 +49,7 @@ pub(crate) fn sooner(best: Option<Due>, due: Option<Due>) -> Option<Due>
 }
 
 impl Due {
-    ghost use Rattle.std.specs.Prelude.{◌≡◌, ◌≤◌};
+    ghost use Rattle.std.specs.Prelude.{◌≡◌};
     ghost use Rattle.schedule.specs.DueView.{call_of};
 
     /// The call at this moment.

@@ -20,14 +20,14 @@ returns-in_default c = λ how es r overdue.
     let stands = before.has.stands in
     let channels = ap (map channel_of) (sym c.deref.ensures.value) in
     let finish = ap (λ cs. next_finishes es 1 cs None) channels ∙ c.in_ok-found.ensures es stands (subst (λ cs. NoneOverdue cs es) channels overdue) in
-    let le : c.in_ok-found.found.2 ≤ c.due_from.result = omega (arith, c.if-due_from-at.false, c.get-at.ensures.value) in
-    let repeat : IfSome (next_repeat es) (λ r. c.in_ok-found.found.2 ≤ r) =
-    subst (λ o. IfSome o (λ r. c.in_ok-found.found.2 ≤ r)) (c.repeat_due.ensures es stands)
-    (repeat_late c.in_ok-found.found.2 c.get-at.result c.repeat_due.result (omega (arith, c.if-unwrap_or-at.false, c.unwrap_or.ensures, c.get-at.ensures.value))) in
+    let le : c.in_ok-found.found.moment ≤ c.due_from.result = omega (arith, c.if-due_from-at.false, c.get-at.ensures.value) in
+    let repeat : IfSome (next_repeat es) (λ r. c.in_ok-found.found.moment ≤ r) =
+    subst (λ o. IfSome o (λ r. c.in_ok-found.found.moment ≤ r)) (c.repeat_due.ensures es stands)
+    (repeat_late c.in_ok-found.found.moment c.get-at.result c.repeat_due.result (omega (arith, c.if-unwrap_or-at.false, c.unwrap_or.ensures, c.get-at.ensures.value))) in
     let past : slice_get c.args.plan.now.steps.items (scripted (past_of es)) ≡ None =
     sym (ap₂ slice_get c.deref-2.ensures.value before.has.next_is) ∙ slice_get_past c.deref-2.result.now c.self.inside.next c.in_default.ensures.lookup.3 in (
       omega (arith, c.if-get-at.false, c.get-at.ensures.value, c.get.ensures.value),
-      finish_first c.self.inside.dispatcher.displays plan es c.in_ok-found.found.2 c.in_ok-found.found.0 c.in_ok-found.found.1 c.due_from.result steps
+      finish_first c.self.inside.dispatcher.displays plan es c.in_ok-found.found.moment c.in_ok-found.found.channel c.in_ok-found.found.seq c.due_from.result steps
           stands.lawful before.caught finish le (c.due_from.ensures es stands) repeat refl None past tt,
     )
 
@@ -39,16 +39,16 @@ returns-else-get-at-2 c = λ how es r overdue.
     let stands = before.has.stands in
     let channels = ap (map channel_of) (sym c.deref.ensures.value) in
     let finish = ap (λ cs. next_finishes es 1 cs None) channels ∙ c.in_ok-found.ensures es stands (subst (λ cs. NoneOverdue cs es) channels overdue) in
-    let le : c.in_ok-found.found.2 ≤ c.due_from.result = omega (arith, c.if-due_from-at.false, c.get-at.ensures.value) in
-    let repeat : IfSome (next_repeat es) (λ r. c.in_ok-found.found.2 ≤ r) =
-    subst (λ o. IfSome o (λ r. c.in_ok-found.found.2 ≤ r)) (c.repeat_due.ensures es stands)
-    (repeat_late c.in_ok-found.found.2 c.get-at.result c.repeat_due.result (omega (arith, c.if-unwrap_or-at.false, c.unwrap_or.ensures, c.get-at.ensures.value))) in
+    let le : c.in_ok-found.found.moment ≤ c.due_from.result = omega (arith, c.if-due_from-at.false, c.get-at.ensures.value) in
+    let repeat : IfSome (next_repeat es) (λ r. c.in_ok-found.found.moment ≤ r) =
+    subst (λ o. IfSome o (λ r. c.in_ok-found.found.moment ≤ r)) (c.repeat_due.ensures es stands)
+    (repeat_late c.in_ok-found.found.moment c.get-at.result c.repeat_due.result (omega (arith, c.if-unwrap_or-at.false, c.unwrap_or.ensures, c.get-at.ensures.value))) in
     let next : slice_get c.args.plan.now.steps.items (scripted (past_of es)) ≡ Some c.in-Some.step.now =
     sym (ap₂ slice_get c.deref-2.ensures.value before.has.next_is)
     ∙ slice_get_read c.deref-2.result.now (length c.deref-2.result.now) c.self.inside.next c.in-Some.step.now refl c.in-Some.ensures.lookup.3.0 c.in-Some.ensures.lookup.1 in
-    let later : c.in_ok-found.found.2 ≤ moment_of c.in-Some.step.now.call =
+    let later : c.in_ok-found.found.moment ≤ moment_of c.in-Some.step.now.call =
     omega (arith, c.if-get-at-2.false, c.get-at.ensures.value, c.get-3.ensures.value, c.moment.ensures) in (
       omega (arith, c.if-get-at.false, c.get-at.ensures.value, c.get.ensures.value),
-      finish_first c.self.inside.dispatcher.displays plan es c.in_ok-found.found.2 c.in_ok-found.found.0 c.in_ok-found.found.1 c.due_from.result steps
+      finish_first c.self.inside.dispatcher.displays plan es c.in_ok-found.found.moment c.in_ok-found.found.channel c.in_ok-found.found.seq c.due_from.result steps
           stands.lawful before.caught finish le (c.due_from.ensures es stands) repeat refl (Some c.in-Some.step.now) next later,
     )

@@ -9,5 +9,5 @@ pub returns-clause-after : goal.returns-clause-after
 returns-clause-after c = λ how es r overdue yes'.
     let found = c.in-Some.found in
     let first = c.in-Some.ensures how es r overdue in
-    advances how (plan_of c.args.plan.now) es c.args.self.now c.finish_round.new.self c.args.until (Finish found.2 found.0 found.1) r
-    (due_plain found.2 (whats.Finish found.0 found.1)) first.1 first.0 (c.in_ok-finish_round.ensures.after how (plan_of c.args.plan.now) es r)
+    advances how (plan_of c.args.plan.now) es c.args.self.now c.finish_round.new.self c.args.until (Finish found.moment found.channel found.seq) r
+    (due_plain found.moment (whats.Finish found.channel found.seq)) first.1 first.0 (c.in_ok-finish_round.ensures.after how (plan_of c.args.plan.now) es r)
