@@ -7,7 +7,7 @@ ghost use Rattle.dispatch_calls.specs.declared.reply.Reply.{Reply as Answer};
 ghost use Rattle.dispatch_history.specs.Due.{counts, first_due, namings};
 ghost use Rattle.dispatch_history.specs.Effect.{Effect, past_of};
 ghost use Rattle.dispatch_history.specs.Effects.{step};
-ghost use Rattle.dispatch_history.specs.History.{live, opened, received};
+ghost use Rattle.dispatch_history.specs.History.{live, opened};
 ghost use Rattle.dispatch_history.specs.Reply.{reply_to};
 ghost use Rattle.dispatch_tables.specs.Channel.{MayGo};
 ghost use Rattle.dispatch_tables.specs.Dues.{due_moment, due_pair};

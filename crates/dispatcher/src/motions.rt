@@ -1,7 +1,6 @@
 //! Motions of touch devices, and pilfering.
 ghost use Rattle.std.specs.Prelude.{◌≡◌, ℕ, suc, Some, true, false, IfOk, OnOk, OnErr, IsOk, ◌==◌, ◌&&◌};
 ghost use Rattle.std.specs.List.{list_any};
-ghost use Rattle.window_snapshot.specs.Mask.{is_channel};
 ghost use Rattle.window_snapshot.specs.Window.{is_spy, is_slippery};
 ghost use Rattle.input_types.specs.declared.message.Args.TheVariants.{Motion as MotionArgs};
 ghost use Rattle.input_types.specs.declared.motion.MotionAction.TheVariants.{Move};

@@ -1,5 +1,5 @@
 //! The clock, how many steps there were, the args that wait, and what is down on each device.
-ghost use Rattle.std.specs.Prelude.{◌≡◌, ◌<◌, ◌≤◌, ◌+◌, ◌-◌, ◌^◌, [], slice_get, Ok, Err, IfOk, OnErr, OnOk, IsOk, option_copied};
+ghost use Rattle.std.specs.Prelude.{◌≡◌, ◌<◌, ◌≤◌, ◌+◌, ◌-◌, ◌^◌, [], slice_get, Ok, IfOk, OnErr, OnOk, IsOk, option_copied};
 ghost use Rattle.input_types.specs.DeviceRule.{device_of};
 ghost use Rattle.device_down.specs.Down.{PlansAt};
 ghost use Rattle.dispatch_calls.specs.declared.call.Call.{Call};

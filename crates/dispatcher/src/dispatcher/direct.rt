@@ -1,12 +1,13 @@
 //! The calls of a run, each by itself: [`apply_unread`](Dispatcher::apply_unread) without a call that is put together
 //! and told from the others.
-ghost use Rattle.std.specs.Prelude.{◌≡◌, ◌≤◌, ℕ, List, OnErr, OnOk};
+ghost use Rattle.std.specs.Prelude.{◌≡◌, ◌≤◌, ◌+◌, ℕ, List, OnErr, OnOk, IsOk};
 ghost use Rattle.dispatch_calls.specs.declared.call.Call.{Call};
 ghost use Rattle.dispatch_calls.specs.declared.reply.Reply.{Reply as Answer};
 ghost use Rattle.dispatch_history.specs.Effect.{Effect};
 ghost use Rattle.dispatch_history.specs.Effects.{step};
 ghost use Rattle.dispatcher.specs.Access.{gone, namings_gone};
 ghost use Rattle.dispatcher.specs.Dispatching.{IsAfter, StandsFor};
+ghost use Rattle.dispatcher.specs.Memory.{IsCalm, MayCount};
 
 use super::Dispatcher;
 use crate::direct::{finish_on, hand_in, pass_on, pump_on};
@@ -26,6 +27,10 @@ impl Dispatcher {
         ensures gone { (c : ℕ) → 1 ≤ c → gone self.new c ≡ gone self.old c }
         ensures namings { namings_gone self.new ≡ namings_gone self.old }
         ensures err { OnErr result (self.new ≡ self.old) }
+        ensures reserved { (es : List Effect) → IsAfter es self.old → MayCount es
+            → 1 ≤ self.old.queue.spare → IsOk result }
+        ensures room { self.old.queue.spare ≤ self.new.queue.spare + 1 }
+        ensures pumps { self.new.queue.pumps ≡ self.old.queue.pumps }
     {
         hand_in(&mut self.tables, now, args)
     }
@@ -42,6 +47,12 @@ impl Dispatcher {
         ensures gone { (c : ℕ) → 1 ≤ c → gone self.new c ≡ gone self.old c }
         ensures namings { namings_gone self.new ≡ namings_gone self.old }
         ensures err { OnErr result (self.new ≡ self.old) }
+        ensures calm { (es : List Effect) → IsAfter es self.old → MayCount es
+            → IsCalm es (Call.Pump now) → IsOk result }
+        ensures room { self.old.queue.spare ≤ self.new.queue.spare }
+        ensures pumped { (es : List Effect) → IsAfter es self.old → MayCount es
+            → 1 ≤ self.old.queue.pumps → IsOk result }
+        ensures pumps { self.old.queue.pumps ≤ self.new.queue.pumps + 1 }
     {
         pump_on(&mut self.tables, now)
     }
@@ -58,6 +69,8 @@ impl Dispatcher {
         ensures gone { (c : ℕ) → 1 ≤ c → gone self.new c ≡ gone self.old c }
         ensures namings { namings_gone self.new ≡ namings_gone self.old }
         ensures err { OnErr result (self.new ≡ self.old) }
+        ensures calm { (es : List Effect) → IsAfter es self.old → MayCount es → IsOk result }
+        ensures room { self.old.queue.spare ≤ self.new.queue.spare }
     {
         finish_on(&mut self.tables, now, channel, seq)
     }
@@ -75,6 +88,8 @@ impl Dispatcher {
         ensures gone { (c : ℕ) → 1 ≤ c → gone self.new c ≡ gone self.old c }
         ensures namings { namings_gone self.new ≡ namings_gone self.old }
         ensures err { OnErr result (self.new ≡ self.old) }
+        ensures calm { (es : List Effect) → IsAfter es self.old → MayCount es → IsOk result }
+        ensures room { self.old.queue.spare ≤ self.new.queue.spare }
     {
         pass_on(&mut self.tables, channel)
     }

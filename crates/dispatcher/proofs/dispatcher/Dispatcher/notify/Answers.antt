@@ -1,9 +1,10 @@
-use Rattle.std.proofs.Common.{ap, ◌∙◌}
+use Rattle.std.proofs.Common.{◌≤◌, sym, ap, ◌∙◌, subst}
 use Rattle.dispatch_calls.specs.declared.call.Call.TheVariants.{Notify}
 use Rattle.dispatcher.specs.Access.{gone, namings_gone}
+use Rattle.dispatcher.specs.Dispatching.{IsAfter}
 use Rattle.dispatcher.proofs.Gone.{answered_gone}
 use Rattle.dispatcher.proofs.Standing.{after_of, stands_if}
-use Rattle.dispatcher.proofs.Applying.{seen, answered_displays, raw, history_after, stands_somehow}
+use Rattle.dispatcher.proofs.Applying.{seen, answered_displays, raw, history_after, stands_somehow, room_left}
 use Rattle.dispatcher.proofs.dispatcher.Dispatcher.notify.Goals as goal
 
 pub hand_in-requires : goal.hand_in-requires
@@ -40,3 +41,18 @@ pub returns-clause-namings : goal.returns-clause-namings
 returns-clause-namings c =
     (answered_gone (Notify c.args.now c.args.args.now) c.hand_in.result c.self.inside.tables c.hand_in.new.tables c.hand_in.ensures.ok c.hand_in.ensures.err).of_namings
     ∙ ap namings_gone c.self.view_is
+
+pub returns-clause-reserved : goal.returns-clause-reserved
+returns-clause-reserved c =
+    λ es s few room.
+    c.hand_in.ensures.reserved es (raw es c.self.inside.tables (subst (IsAfter es) (sym c.self.view_is) s)) few
+    (subst (λ d. 1 ≤ d.queue.spare) (sym c.self.view_is) room)
+
+pub returns-clause-room : goal.returns-clause-room
+returns-clause-room c =
+    room_left (Notify c.args.now c.args.args.now) c.hand_in.result c.self.inside.tables c.hand_in.new.tables c.args.self.now c.self.view_is
+    c.hand_in.ensures.ok
+    c.hand_in.ensures.err
+
+pub returns-clause-pumps : goal.returns-clause-pumps
+returns-clause-pumps c = c.hand_in.ensures.pumps ∙ ap (λ d. d.queue.pumps) c.self.view_is

@@ -1,9 +1,10 @@
-use Rattle.std.proofs.Common.{ap, ◌∙◌}
+use Rattle.std.proofs.Common.{◌≤◌, ◌+◌, sym, ap, ◌∙◌, subst, arith}
 use Rattle.dispatch_calls.specs.declared.call.Call.TheVariants.{Receive}
 use Rattle.dispatcher.specs.Access.{gone, namings_gone}
+use Rattle.dispatcher.specs.Dispatching.{IsAfter}
 use Rattle.dispatcher.proofs.Gone.{answered_gone}
 use Rattle.dispatcher.proofs.Standing.{after_of, stands_if}
-use Rattle.dispatcher.proofs.Applying.{seen, answered_displays, raw, history_after, stands_somehow}
+use Rattle.dispatcher.proofs.Applying.{seen, answered_displays, raw, history_after, stands_somehow, room_left}
 use Rattle.dispatcher.proofs.dispatcher.Dispatcher.pass.Goals as goal
 
 pub pass_on-requires : goal.pass_on-requires
@@ -40,3 +41,15 @@ pub returns-clause-namings : goal.returns-clause-namings
 returns-clause-namings c =
     (answered_gone (Receive c.args.channel) c.pass_on.result c.self.inside.tables c.pass_on.new.tables c.pass_on.ensures.ok c.pass_on.ensures.err).of_namings
     ∙ ap namings_gone c.self.view_is
+
+pub returns-clause-calm : goal.returns-clause-calm
+returns-clause-calm c =
+    λ es s. c.pass_on.ensures.calm es (raw es c.self.inside.tables (subst (IsAfter es) (sym c.self.view_is) s))
+
+pub returns-clause-room : goal.returns-clause-room
+returns-clause-room c =
+    let left : c.args.self.now.queue.spare ≤ (seen c.pass_on.new.tables).queue.spare + 0 =
+    room_left (Receive c.args.channel) c.pass_on.result c.self.inside.tables c.pass_on.new.tables c.args.self.now c.self.view_is
+    c.pass_on.ensures.ok
+    c.pass_on.ensures.err in
+    omega (arith, left)

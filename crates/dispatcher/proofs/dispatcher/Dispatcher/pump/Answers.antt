@@ -1,9 +1,10 @@
-use Rattle.std.proofs.Common.{ap, ◌∙◌}
+use Rattle.std.proofs.Common.{◌≤◌, ◌+◌, sym, ap, ◌∙◌, subst, arith}
 use Rattle.dispatch_calls.specs.declared.call.Call.TheVariants.{Pump}
 use Rattle.dispatcher.specs.Access.{gone, namings_gone}
+use Rattle.dispatcher.specs.Dispatching.{IsAfter}
 use Rattle.dispatcher.proofs.Gone.{answered_gone}
 use Rattle.dispatcher.proofs.Standing.{after_of, stands_if}
-use Rattle.dispatcher.proofs.Applying.{seen, answered_displays, raw, history_after, stands_somehow}
+use Rattle.dispatcher.proofs.Applying.{seen, answered_displays, raw, history_after, stands_somehow, room_left}
 use Rattle.dispatcher.proofs.dispatcher.Dispatcher.pump.Goals as goal
 
 pub pump_on-requires : goal.pump_on-requires
@@ -40,3 +41,25 @@ pub returns-clause-namings : goal.returns-clause-namings
 returns-clause-namings c =
     (answered_gone (Pump c.args.now) c.pump_on.result c.self.inside.tables c.pump_on.new.tables c.pump_on.ensures.ok c.pump_on.ensures.err).of_namings
     ∙ ap namings_gone c.self.view_is
+
+pub returns-clause-calm : goal.returns-clause-calm
+returns-clause-calm c =
+    λ es s. c.pump_on.ensures.calm es (raw es c.self.inside.tables (subst (IsAfter es) (sym c.self.view_is) s))
+
+pub returns-clause-room : goal.returns-clause-room
+returns-clause-room c =
+    let left : c.args.self.now.queue.spare ≤ (seen c.pump_on.new.tables).queue.spare + 0 =
+    room_left (Pump c.args.now) c.pump_on.result c.self.inside.tables c.pump_on.new.tables c.args.self.now c.self.view_is
+    c.pump_on.ensures.ok
+    c.pump_on.ensures.err in
+    omega (arith, left)
+
+pub returns-clause-pumped : goal.returns-clause-pumped
+returns-clause-pumped c =
+    λ es s few some.
+    c.pump_on.ensures.pumped es (raw es c.self.inside.tables (subst (IsAfter es) (sym c.self.view_is) s)) few
+    (subst (λ d. 1 ≤ d.queue.pumps) (sym c.self.view_is) some)
+    c.self.invariant.1
+
+pub returns-clause-pumps : goal.returns-clause-pumps
+returns-clause-pumps c = subst (λ d. d.queue.pumps ≤ c.pump_on.new.tables.queueing.pumps + 1) c.self.view_is c.pump_on.ensures.pumps
