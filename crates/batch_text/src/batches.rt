@@ -1,9 +1,8 @@
 //! The items of one section, written as they are given out.
-ghost use Rattle.std.specs.Prelude.{◌≡◌, ◌≤◌, ◌<◌, ◌+◌, ◌^◌, ◌++◌, ℕ, List, [], ◌∷◌, length, IfOk, OnOk};
-ghost use Rattle.input_types.specs.declared.message.Message.{Message as Told};
+ghost use Rattle.std.specs.Prelude.{◌≡◌, ◌≤◌, ◌<◌, ◌+◌, ◌++◌, ℕ, List, [], ◌∷◌, OnOk};
 ghost use Rattle.motion_batch.specs.Calls.{Call, flushed, framed, items, taken};
 ghost use Rattle.batch_text.specs.Frames.{at_moment, frame_at, with_frame, with_message};
-ghost use Rattle.batch_text.specs.Lines.{items_text, item_lines};
+ghost use Rattle.batch_text.specs.Lines.{items_text};
 ghost use Rattle.batch_text.specs.Writing.{Writes, Written};
 
 use crate::item::{add_count, add_items};

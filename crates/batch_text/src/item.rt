@@ -1,5 +1,5 @@
 //! Items as lines.
-ghost use Rattle.std.specs.Prelude.{◌≡◌, ◌++◌, ◌≤◌, ◌<◌, ◌+◌, length, IfOk};
+ghost use Rattle.std.specs.Prelude.{◌≡◌, ◌++◌, ◌<◌, ◌+◌, IfOk};
 ghost use Rattle.batch_text.specs.Lines.{batch_line, channel_line, count_line, first_seq, item_line, item_lines, last_seq, one_line};
 
 use motion_batch::{Batch, Item, Sample};

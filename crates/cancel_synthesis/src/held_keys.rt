@@ -1,6 +1,6 @@
 //! The keys that are down in a window.
 ghost use Rattle.std.specs.Prelude.{◌≡◌, true, length, ◌+◌, ◌≤◌, ◌<◌, ◌==◌, ◌++◌};
-ghost use Rattle.std.specs.Prelude.{List, map, filter, OnOk, OnErr, IsOk, vec_len, vec_capacity};
+ghost use Rattle.std.specs.Prelude.{OnOk, OnErr, IsOk, vec_len, vec_capacity};
 ghost use Rattle.input_types.specs.declared.key.KeyMsg.{KeyMsg as Kept};
 ghost use Rattle.cancel_synthesis.specs.Tracked.{same_key, is_before, is_at, with_key, without_key, place_of};
 ghost use Rattle.cancel_synthesis.specs.Ends.{key_cancelled, keys_cancelled, of_device, keys_told};

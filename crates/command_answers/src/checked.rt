@@ -1,18 +1,16 @@
 //! `check`: the run of an order that a file gives.
-ghost use Rattle.std.specs.Prelude.{◌≡◌, ℕ, ◌+◌, ◌<◌, ◌≤◌, List, None, Ok, Err, length, map, IsTrue, IfOk, IfErr};
+ghost use Rattle.std.specs.Prelude.{◌≡◌, ◌+◌, ◌<◌, ◌≤◌, List, None, Ok, Err, length, map, IsTrue, IfOk, IfErr};
 ghost use Rattle.raw_events.specs.declared.event.RawEvent.{RawEvent as Event};
-ghost use Rattle.device_reader.specs.CookedList.{ReadersStandFor};
 ghost use Rattle.given_run.specs.Planned.{cooked_of};
-ghost use Rattle.schedule.specs.Planned.{IsRun, plan_of};
+ghost use Rattle.schedule.specs.Planned.{IsRun};
 ghost use Rattle.session_plan.specs.Plan.{PlanData};
 ghost use Rattle.session_plan.specs.Valid.{IsPlan};
 ghost use Rattle.command_words.specs.Command.{check};
 ghost use Rattle.command_words.specs.CommandView.{recorded_view};
 ghost use Rattle.command_files.specs.Inputs.{AreAccepted, IsAccepted};
 ghost use Rattle.command_answers.specs.Program.{Answers, RefusesCommand};
-ghost use Rattle.session_plan.specs.View.{channel_view, plan_view};
+ghost use Rattle.session_plan.specs.View.{plan_view};
 ghost use Rattle.command_answers.specs.Plan.{IsPlanned};
-ghost use Rattle.command_files.specs.Cooked.{plans_of};
 ghost use Rattle.command_answers.specs.Checked.{IsFollowed, OrderAnswers};
 ghost use Rattle.command_files.specs.Planned.{given};
 ghost use Rattle.command_files.specs.Refusing.{RefusesSo};

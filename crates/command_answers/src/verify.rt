@@ -1,5 +1,5 @@
 //! `verify`: how many channels and messages a stream file has, where it is well-formed.
-ghost use Rattle.std.specs.Prelude.{◌≡◌, ℕ, ◌+◌, ◌^◌, ◌<◌, ◌≤◌, List, ◌∷◌, Ok, Err, None, IsTrue, IfOk, IfErr, OnOk};
+ghost use Rattle.std.specs.Prelude.{◌≡◌, ◌+◌, ◌^◌, ◌<◌, ◌≤◌, List, ◌∷◌, Ok, Err, None, IsTrue, IfOk, IfErr, OnOk};
 ghost use Rattle.command_words.specs.Command.{verify};
 ghost use Rattle.command_answers.specs.Program.{Answers, RefusesCommand};
 ghost use Rattle.command_answers.specs.Verify.{StreamAnswers};

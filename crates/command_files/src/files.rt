@@ -8,7 +8,7 @@ ghost use Rattle.command_files.specs.ReadErrors.{StopsReading, WithFile, read_er
 
 use crate::taker::Taker;
 use outside_io::{Failed, Files, Source, SourceRefused};
-use std::alloc::{AllocError, AllocFailed, Global};
+use std::alloc::{AllocError, Global};
 
 /// The most bytes that one read asks for.
 const PIECE: usize = 65536;

@@ -1,6 +1,5 @@
 //! A recording that is read piece by piece, and the run of what it gives.
-ghost use Rattle.std.specs.Prelude.{◌≡◌, ℕ, ◌+◌, false, List, [], ◌∷◌, ◌++◌, length, map, reverse, OnOk, IfOk, IfErr};
-ghost use Rattle.input_types.specs.declared.message.Args.{Args as ArgsView};
+ghost use Rattle.std.specs.Prelude.{◌≡◌, ℕ, ◌+◌, false, List, ◌∷◌, ◌++◌, length, map, reverse, OnOk, IfOk, IfErr};
 ghost use Rattle.raw_events.specs.declared.event.RawEvent.{RawEvent as Event};
 ghost use Rattle.dispatch_history.specs.Plan.{Cooked};
 ghost use Rattle.session_plan.specs.Plan.{PlanData};
@@ -9,7 +8,6 @@ ghost use Rattle.schedule.specs.declared.keeping.Lines.{Lines};
 ghost use Rattle.schedule.specs.Planned.{IsRun, plan_of};
 ghost use Rattle.schedule.specs.State.{RanWith};
 ghost use Rattle.command_files.specs.Cooked.{plans_of};
-ghost use Rattle.command_files.specs.Devices.{devices_of};
 ghost use Rattle.command_files.specs.Planned.{given, script_of};
 ghost use Rattle.command_files.specs.Recorded.{HasRead, HasEnded, RefusesEvents, Feeds, is_memory, refusal_of};
 

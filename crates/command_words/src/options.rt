@@ -1,6 +1,5 @@
 //! The options that words spell.
-ghost use Rattle.std.specs.Prelude.{◌≡◌, ◌<◌, ◌⊎◌, ◌==◌, ◌∷◌, [], true, false, IsSome, IfSome, IfNone, map, option_map, string_bytes, length, bytes_eq};
-ghost use Rattle.std.specs.List.{list_any, filter};
+ghost use Rattle.std.specs.Prelude.{◌≡◌, ◌<◌, ◌⊎◌, ◌==◌, ◌∷◌, [], true, false, IsSome, IfSome, IfNone, map, option_map, string_bytes, length};
 ghost use Rattle.command_words.specs.CommandView.{given_view};
 ghost use Rattle.command_words.specs.Forms.{value_of};
 ghost use Rattle.command_words.specs.Options.{given_in, has_equals, joined, options_of, values_of};

@@ -1,5 +1,5 @@
 //! The comparing of two files.
-ghost use Rattle.std.specs.Prelude.{◌≡◌, ◌<◌, ℕ, true, length, map, Ok, Err, IfOk, IfErr, IfSome};
+ghost use Rattle.std.specs.Prelude.{◌≡◌, ◌<◌, true, length, map, Ok, Err, IfOk, IfErr, IfSome};
 ghost use Rattle.std.specs.Option.{option_map};
 ghost use Rattle.compare_text.specs.Compared.{Refuses, compared, fault_of, first_difference, first_new, same_line};
 ghost use Rattle.compare_text.specs.Indexed.{are_opened, is_good, points_at, seen};

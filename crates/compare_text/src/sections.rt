@@ -1,5 +1,5 @@
 //! The sections of a file.
-ghost use Rattle.std.specs.Prelude.{◌≡◌, ℕ, ◌+◌, ◌^◌, ◌<◌, ◌≤◌, true, length, map, Ok, Err, IfOk, IfErr};
+ghost use Rattle.std.specs.Prelude.{◌≡◌, ◌+◌, ◌<◌, ◌≤◌, true, map, Ok, Err, IfOk, IfErr};
 ghost use Rattle.compare_text.specs.Compared.{points_in};
 ghost use Rattle.compare_text.specs.Indexed.{Reads, are_opened, file_sections, point_at, seen};
 ghost use Rattle.stream_text.specs.StreamAnswer.{channel_told};

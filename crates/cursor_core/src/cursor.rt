@@ -1,9 +1,8 @@
 //! The cursor.
-ghost use Rattle.std.specs.Prelude.{◌≡◌, ◌≤◌, ◌^◌, ◌-◌, ◌+ℤ◌, ℕ, false, not, ◌&&◌, ◌==◌, List, [], ◌∷◌, drop, length};
+ghost use Rattle.std.specs.Prelude.{◌≡◌, ◌≤◌, ◌^◌, ◌-◌, ◌+ℤ◌, ℕ, false, ◌==◌, List, [], ◌∷◌, drop, length};
 ghost use Rattle.std.specs.Prelude.{IfOk, OnOk, OnErr, option_map};
 ghost use Rattle.std.specs.Int.{int_max, int_min};
 ghost use Rattle.std.specs.Prelude.{pos};
-ghost use Rattle.input_types.specs.declared.axis.Pixel.{Pixel as Place};
 ghost use Rattle.window_snapshot.specs.Hits.{touched};
 ghost use Rattle.window_snapshot.specs.Mask.{mask_has};
 ghost use Rattle.cursor_core.specs.declared.call.CursorCall.{CursorCall as Call};

@@ -1,5 +1,5 @@
 //! The motions of a mouse, from its raw events.
-ghost use Rattle.std.specs.Prelude.{◌≡◌, List, [], ◌∷◌, ◌&&◌, nat_eq, Some, None, if◌then◌else◌};
+ghost use Rattle.std.specs.Prelude.{◌≡◌, List, [], ◌∷◌, ◌&&◌, Some, None, if◌then◌else◌};
 ghost use Rattle.raw_events.specs.declared.event.RawEvent.{RawEvent as Event};
 ghost use Rattle.cursor_core.specs.declared.call.CursorCall.TheVariants.{Moved};
 ghost use Rattle.cursor_core.specs.Packets.{is_rel, motion_of, summed};

@@ -2,7 +2,6 @@
 ghost use Rattle.std.specs.Prelude.{◌≡◌, length, IfOk};
 ghost use Rattle.std.specs.Option.{option_map};
 ghost use Rattle.bits32.specs.Set.{members};
-ghost use Rattle.input_types.specs.Gestures.{after_motion};
 ghost use Rattle.input_types.specs.DeviceRule.{is_of_device, nothing_down};
 ghost use Rattle.device_down.specs.Down.{state_of, changed, Plans, own_after};
 

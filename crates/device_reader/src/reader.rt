@@ -1,7 +1,6 @@
 //! One device's reader.
-ghost use Rattle.std.specs.Prelude.{◌≡◌, ℕ, ◌≤◌, List, [], ◌∷◌, ◌++◌, IfOk, OnOk, OnErr};
+ghost use Rattle.std.specs.Prelude.{◌≡◌, ◌≤◌, List, [], ◌∷◌, ◌++◌, IfOk, OnOk, OnErr};
 ghost use Rattle.raw_events.specs.declared.event.RawEvent.{RawEvent as Event};
-ghost use Rattle.key_mapper.specs.Held.{Held};
 ghost use Rattle.device_reader.specs.Cooked.{DevicePlan, HeldStandsFor, Keys as KeysDevice, KeysPlan, KindStandsFor};
 ghost use Rattle.device_reader.specs.Cooked.{DeviceStandsFor, Touches, args_of, key_args, kind_args};
 ghost use Rattle.device_reader.specs.Rule.{KeepsRule};

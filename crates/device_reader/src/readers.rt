@@ -1,5 +1,5 @@
 //! The readers of all devices of a recording.
-ghost use Rattle.std.specs.Prelude.{◌≡◌, ℕ, max, nat_eq, length, List, [], ◌∷◌, ◌++◌, map, reverse, IfOk, OnOk, OnErr};
+ghost use Rattle.std.specs.Prelude.{◌≡◌, max, List, [], ◌∷◌, ◌++◌, map, reverse, IfOk, OnOk, OnErr};
 ghost use Rattle.std.specs.Prelude.{if◌then◌else◌};
 ghost use Rattle.raw_events.specs.declared.event.RawEvent.{RawEvent as Event};
 ghost use Rattle.device_reader.specs.All.{AreNumbered};

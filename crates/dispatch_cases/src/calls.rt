@@ -1,10 +1,10 @@
 //! Calls as they are spelled.
 use dispatch_calls::Call;
 use input_types::{Args, Body, DeviceId, DisplayId, Limit, Message, Moment};
-use std::alloc::{AllocError, Global};
+use std::alloc::Global;
 use stream_text::StreamLine;
 use touch_region::{Rect, Region};
-use window_snapshot::{Snapshot, Window, WindowFlags};
+use window_snapshot::{Snapshot, Window};
 
 /// A device with this number.
 pub(crate) fn device(n: u64) -> Option<DeviceId> {

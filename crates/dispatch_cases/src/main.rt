@@ -28,7 +28,7 @@ mod numbers;
 mod rounds;
 
 use crate::numbers::number;
-use std::alloc::{AllocError, Global};
+use std::alloc::Global;
 use std::io::{Read, Write};
 use std::{env, io};
 

@@ -1,5 +1,5 @@
 //! The channels of a mask, one by one.
-ghost use Rattle.std.specs.Prelude.{◌≡◌, ℕ, true, ◌≤◌, ◌<◌, IfSome, IfNone};
+ghost use Rattle.std.specs.Prelude.{◌≡◌, true, ◌≤◌, ◌<◌};
 ghost use Rattle.window_snapshot.specs.Mask.{mask_has, mask_with};
 ghost use Rattle.dispatch_tables.specs.Masks.{mask_less};
 

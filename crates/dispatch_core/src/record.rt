@@ -1,5 +1,5 @@
 //! The dispatcher with its history.
-ghost use Rattle.std.specs.Prelude.{◌≡◌, ℕ, ◌+◌, ◌++◌, ◌≤◌, ◌<◌, ◌^◌, true, [], ◌∷◌, max, reverse, option_map};
+ghost use Rattle.std.specs.Prelude.{◌≡◌, ◌+◌, ◌++◌, ◌≤◌, ◌<◌, ◌^◌, true, [], ◌∷◌, max, reverse, option_map};
 ghost use Rattle.std.specs.Prelude.{IfOk, IfSome, OnOk, OnErr, IsOk, is_some, vec_len, vec_capacity};
 ghost use Rattle.dispatch_history.specs.Due.{counts, first_due, namings};
 ghost use Rattle.dispatch_history.specs.Effect.{past_of};

@@ -1,8 +1,7 @@
 //! The first section of a channel, as its packets.
-ghost use Rattle.std.specs.Prelude.{◌≡◌, ◌==◌, ℕ, List, [], IfOk, IfErr, OnOk, Ok, Err};
-ghost use Rattle.std.specs.Prelude.{Bool, true, false};
+ghost use Rattle.std.specs.Prelude.{◌≡◌, ◌==◌, List, [], IfOk, IfErr, OnOk, Ok, Err};
+ghost use Rattle.std.specs.Prelude.{false};
 ghost use Rattle.raw_events.specs.declared.event.RawEvent.{RawEvent};
-ghost use Rattle.stream_text.specs.declared.stream_line.StreamLine.{StreamLine as Says};
 ghost use Rattle.touch_writer_cooks.specs.Cooking.{first};
 ghost use Rattle.emit_text.specs.Reading.{Adds, Leads, RefusesMessage, Rest, begins};
 ghost use Rattle.emit_text.specs.Written.{Wrote};

@@ -1,5 +1,5 @@
 //! The lines of a stream file, judged one by one.
-ghost use Rattle.std.specs.Prelude.{◌≡◌, ◌+◌, ◌≤◌, IfOk, OnOk, Some, None, length, if◌then◌else◌};
+ghost use Rattle.std.specs.Prelude.{◌≡◌, ◌+◌, ◌≤◌, IfOk, Some, None, length, if◌then◌else◌};
 ghost use Rattle.gesture_verifier.specs.Told.{state_of};
 ghost use Rattle.emit_text.specs.JudgedLines.{Judges, after_line, file_lines};
 

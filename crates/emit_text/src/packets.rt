@@ -1,5 +1,5 @@
 //! The packets of a section's motions, as lines.
-ghost use Rattle.std.specs.Prelude.{◌≡◌, ◌<◌, ◌≤◌, ◌++◌, List, Bool, [], IfOk, OnOk, OnErr, IfErr, length};
+ghost use Rattle.std.specs.Prelude.{◌≡◌, ◌<◌, ◌++◌, List, [], IfOk, OnOk, IfErr};
 ghost use Rattle.raw_events.specs.declared.event.RawEvent.{RawEvent};
 ghost use Rattle.touch_writer.specs.Places.{IsRising};
 ghost use Rattle.touch_writer_cooks.specs.Cooking.{first};

@@ -1,5 +1,5 @@
 //! The recording of a whole file.
-ghost use Rattle.std.specs.Prelude.{◌≡◌, ◌≤◌, Ok, IfOk, IfErr, length};
+ghost use Rattle.std.specs.Prelude.{◌≤◌, Ok, IfOk, IfErr, length};
 ghost use Rattle.emit_text.specs.Emitted.{IsEmitted, IsNotSpent, Refuses};
 
 use crate::emission::Emission;

@@ -38,7 +38,7 @@ pub struct Focus {
 }
 
 impl Model for Focus {
-    ghost use Rattle.std.specs.Prelude.{◌≡◌, length};
+    ghost use Rattle.std.specs.Prelude.{◌≡◌};
     ghost use Rattle.focus_resolver.specs.Resolver.{FocusState};
 
     ghost Value = { FocusState };

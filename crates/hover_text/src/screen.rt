@@ -1,5 +1,5 @@
 //! Where the cursor is used.
-ghost use Rattle.std.specs.Prelude.{◌≡◌, ◌≤◌, length};
+ghost use Rattle.std.specs.Prelude.{◌≡◌, ◌≤◌};
 ghost use Rattle.session_plan.specs.Valid.{IsDisplay};
 ghost use Rattle.hover_text.specs.Screen.{height_of, is_upright, width_of};
 

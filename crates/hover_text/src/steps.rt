@@ -1,5 +1,5 @@
 //! The steps of a session, for a cursor.
-ghost use Rattle.std.specs.Prelude.{◌≡◌, ◌≤◌, ◌<◌, ◌+◌, ◌-◌, ◌^◌, ℕ, List, ◌++◌, drop, length, option_map, slice_get, IsSome, None, OnErr, OnOk};
+ghost use Rattle.std.specs.Prelude.{◌≡◌, ◌≤◌, ◌<◌, ◌+◌, ◌-◌, ◌^◌, ℕ, List, ◌++◌, length, option_map, slice_get, IsSome, None, OnErr, OnOk};
 ghost use Rattle.std.specs.List.Sorted.{IsNonDecreasingBy};
 ghost use Rattle.cursor_core.specs.declared.call.CursorCall.{CursorCall as Call};
 ghost use Rattle.cursor_core.specs.Calls.{Screen, moment_of};

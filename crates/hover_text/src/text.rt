@@ -1,5 +1,5 @@
 //! The sections of a text.
-ghost use Rattle.std.specs.Prelude.{◌≡◌, ◌++◌, ◌≤◌, ◌<◌, ℕ, List, [], length, map, IfOk, string_bytes};
+ghost use Rattle.std.specs.Prelude.{◌≡◌, ◌++◌, ◌≤◌, ◌<◌, List, [], length, map, IfOk};
 ghost use Rattle.cursor_core.specs.declared.call.CursorCall.{CursorCall as Call};
 ghost use Rattle.cursor_core.specs.Calls.{Screen};
 ghost use Rattle.cursor_core.specs.Cursor.{CursorStandsFor};

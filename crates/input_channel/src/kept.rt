@@ -1,5 +1,5 @@
 //! The messages of a channel that were not let go.
-ghost use Rattle.std.specs.Prelude.{◌≡◌, ◌+◌, ◌≤◌, ◌<◌, ◌^◌, ℕ, [], IsOk, IfOk, OnErr, OnOk, drop, length, vec_len, vec_capacity};
+ghost use Rattle.std.specs.Prelude.{◌≡◌, ◌+◌, ◌≤◌, ◌<◌, ◌^◌, ℕ, [], IsOk, OnErr, OnOk, drop, length, vec_len, vec_capacity};
 ghost use Rattle.input_types.specs.declared.message.Body.TheVariants.{Key as KeyBody};
 ghost use Rattle.input_channel.specs.Kept.{sent_in, kept_with, kept_after, kept_empty, kept_none, kept_with_spare};
 ghost use Rattle.input_channel.specs.Moves.{moves_from};

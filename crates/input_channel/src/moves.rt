@@ -1,7 +1,6 @@
 //! Pointers that move, as the owner of a channel reads them.
-ghost use Rattle.std.specs.Prelude.{◌≡◌, ◌+◌, ◌<◌, [], ◌∷◌, ◌++◌, length, vec_len, vec_capacity};
+ghost use Rattle.std.specs.Prelude.{◌≡◌, ◌+◌, ◌<◌, [], ◌∷◌, ◌++◌, vec_len, vec_capacity};
 ghost use Rattle.input_types.specs.declared.message.Body.TheVariants.{Motion as MotionBody};
-ghost use Rattle.input_types.specs.Pointers.{EndsBelow};
 ghost use Rattle.window_snapshot.specs.Origins.{place_from};
 ghost use Rattle.input_channel.specs.Moves.{counted_from, move_of, moves_from};
 

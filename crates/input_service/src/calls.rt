@@ -1,5 +1,5 @@
 //! The calls of a service.
-ghost use Rattle.std.specs.Prelude.{◌≡◌, ◌+◌, ◌<◌, [], Some, IfOk, IsOk};
+ghost use Rattle.std.specs.Prelude.{◌≡◌, ◌<◌, [], Some, IfOk, IsOk};
 ghost use Rattle.dispatch_core.specs.Machine.{IsLegal, called};
 ghost use Rattle.turnstile.specs.Answers.{TryAnswers, Answers, LookAnswers, Closes};
 ghost use Rattle.turnstile.specs.Seats.{view};

@@ -1,5 +1,5 @@
 //! Pointers, and lists of them.
-ghost use Rattle.std.specs.Prelude.{◌≡◌, ℕ, ◌+◌, ◌<◌, ◌≤◌, ◌==◌, ◌↔◌, IsTrue, List, [], ◌∷◌, ◌++◌, length, slice_get, slice_set, get_or, OnOk, OnErr};
+ghost use Rattle.std.specs.Prelude.{◌≡◌, ◌+◌, ◌<◌, ◌≤◌, ◌==◌, ◌↔◌, IsTrue, List, [], ◌∷◌, ◌++◌, length, slice_get, slice_set, get_or, OnOk, OnErr};
 ghost use Rattle.input_types.specs.Pointers.{IsRising, EndsBelow, unused};
 
 use crate::axis::Pixel;

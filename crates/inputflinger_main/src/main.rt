@@ -3,7 +3,7 @@
 
 use outside_io::{HostFiles, HostSink};
 use replay_engine::NoGate;
-use std::alloc::{AllocError, Global};
+use std::alloc::Global;
 use std::process::ExitCode;
 use std::{env, io};
 

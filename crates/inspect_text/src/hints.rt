@@ -12,7 +12,7 @@ use event_counts::{DeviceTally, TallyKind};
 use pointer_ids::Held;
 use recording_counts::{EventCounts, KeyCounts, KeysTally, TouchCounts, TouchTally};
 use std::alloc::AllocError;
-use text_lines::{add_labeled, add_number, add_word};
+use text_lines::{add_labeled, add_word};
 
 /// What is hinted of the events of a touch device.
 fn touch_word(events: &EventCounts, touches: &TouchCounts) -> Option<&'static str>

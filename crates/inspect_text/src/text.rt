@@ -8,7 +8,7 @@ ghost use Rattle.recording_counts.specs.Tally.{LineCountsStandFor, SortsLines};
 ghost use Rattle.event_counts.specs.Devices.{AllCounted};
 ghost use Rattle.event_counts.specs.Moments.{span_of};
 ghost use Rattle.event_counts.specs.Tally.{EventTallyStandsFor};
-ghost use Rattle.inspect_text.specs.Inspected.{device_text, each_device, hint_text, inspected, late_steps_hint, lines_text, no_device_hint, paths_text, steps_text};
+ghost use Rattle.inspect_text.specs.Inspected.{device_text, each_device, hint_text, inspected, late_steps_hint, lines_text, no_device_hint, paths_text};
 ghost use Rattle.inspect_text.specs.Lines.{moments_line};
 
 use crate::devices::add_devices;

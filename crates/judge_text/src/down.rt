@@ -1,6 +1,5 @@
 //! What a section leaves down.
-ghost use Rattle.std.specs.Prelude.{◌≡◌, List, map, Some, None, IfOk, OnOk, if◌then◌else◌};
-ghost use Rattle.std.specs.Option.{option_map};
+ghost use Rattle.std.specs.Prelude.{◌≡◌, List, map, Some, None, IfOk, if◌then◌else◌};
 ghost use Rattle.bits32.specs.Set.{members};
 ghost use Rattle.gesture_verifier.specs.Told.{VerifierStandsFor, state_of};
 ghost use Rattle.input_types.specs.declared.message.Message.{Message as Told};

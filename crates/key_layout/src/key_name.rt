@@ -1,6 +1,5 @@
 //! The names of key codes.
 ghost use Rattle.std.specs.Prelude.{◌≡◌, map};
-ghost use Rattle.std.specs.List.{list_all};
 ghost use Rattle.key_layout.specs.KeyNames.{code_in, code_of_name, is_name, is_name_byte};
 
 use crate::NAMES;

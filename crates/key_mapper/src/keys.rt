@@ -1,9 +1,5 @@
 //! The keys of a device.
 ghost use Rattle.std.specs.Prelude.{◌≡◌, List, [], ◌∷◌, IfOk, OnOk, OnErr, pos};
-ghost use Rattle.std.specs.List.Sorted.{IsStrictlySortedBy};
-ghost use Rattle.std.specs.Map.{keys_of};
-ghost use Rattle.std.specs.Ordering.{nat_cmp};
-ghost use Rattle.key_layout.specs.Layout.{code_at};
 ghost use Rattle.key_mapper.specs.Key.{KeyEvent, key_of};
 ghost use Rattle.key_mapper.specs.Held.{KeysStandFor, bits, counts};
 

@@ -1,5 +1,5 @@
 //! How many keys are down of each code that sets meta bits.
-ghost use Rattle.std.specs.Prelude.{◌≡◌, ◌<◌, ◌≤◌, ◌^◌, ◌∷◌, [], nat_lt, if◌then◌else◌};
+ghost use Rattle.std.specs.Prelude.{◌≡◌, ◌<◌, ◌≤◌, ◌^◌, nat_lt, if◌then◌else◌};
 ghost use Rattle.std.specs.List.{list_any};
 ghost use Rattle.key_mapper.specs.Held.{AreBelow, bits as bits_of, sets_meta as sets_bits, with_key, without_key};
 

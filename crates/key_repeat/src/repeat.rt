@@ -1,6 +1,6 @@
 //! The last key message, and when it is to be repeated.
 ghost use Rattle.std.specs.Prelude.{◌≡◌, None, Some, option_map};
-ghost use Rattle.key_repeat.specs.Due.{Sent as SentView, delay_after, due_of, is_repeated, next_of, repeated};
+ghost use Rattle.key_repeat.specs.Due.{Sent as SentView, delay_after, due_of, is_repeated, next_of};
 
 use input_types::{KeyMsg, Moment};
 use std::marker::Model;

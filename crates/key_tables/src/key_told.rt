@@ -1,5 +1,5 @@
 //! What the key target is told of a key that is dispatched, and what is kept for its repeats.
-ghost use Rattle.std.specs.Prelude.{◌≡◌, drop};
+ghost use Rattle.std.specs.Prelude.{◌≡◌};
 ghost use Rattle.std.specs.List.{list_any};
 ghost use Rattle.dispatch_history.specs.Keys.{same_key};
 ghost use Rattle.key_tables.specs.Held.{key_heard};

@@ -1,5 +1,5 @@
 //! Clients, and the seats that they have.
-ghost use Rattle.std.specs.Prelude.{◌≡◌, ◌+◌, true, None, Some, is_some};
+ghost use Rattle.std.specs.Prelude.{◌≡◌, true, None, Some};
 ghost use Rattle.dispatcher.specs.Access.{got};
 ghost use Rattle.window_snapshot.specs.Mask.{is_channel};
 ghost use Rattle.live_input.specs.Answers.{for_client, handed};

@@ -2,7 +2,6 @@
 ghost use Rattle.std.specs.Prelude.{◌≡◌, ◌==◌, ℕ, ◌≤◌, true, false, List, Option, None, Some, option_map, IfOk, OnOk, OnErr};
 ghost use Rattle.std.specs.List.{list_any};
 ghost use Rattle.focus_resolver.specs.Resolver.{is_at};
-ghost use Rattle.window_snapshot.specs.Mask.{is_channel};
 ghost use Rattle.window_snapshot.specs.Named.{is_named};
 ghost use Rattle.dispatch_history.specs.Effect.{Effect, past_of};
 ghost use Rattle.dispatch_history.specs.Focus.{requested};

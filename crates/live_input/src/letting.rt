@@ -1,5 +1,5 @@
 //! What is let go, so that nothing grows for weeks.
-ghost use Rattle.std.specs.Prelude.{◌≡◌, ℕ, List, Option};
+ghost use Rattle.std.specs.Prelude.{◌≡◌, List, Option};
 ghost use Rattle.dispatch_history.specs.Effect.{Effect};
 ghost use Rattle.dispatcher.specs.Dispatching.{StandsFor};
 ghost use Rattle.live_input.specs.Letting.{AreLetGoBut, IsLiveChannel, is_tick, receives_from};

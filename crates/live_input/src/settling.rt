@@ -1,5 +1,5 @@
 //! What is done next, as long as there is something.
-ghost use Rattle.std.specs.Prelude.{◌≡◌, ◌≤◌, List, Some, None, option_map};
+ghost use Rattle.std.specs.Prelude.{◌≡◌, ◌≤◌, List, Some, None};
 ghost use Rattle.dispatch_history.specs.Effect.{Effect};
 ghost use Rattle.dispatcher.specs.Dispatching.{IsAfter};
 ghost use Rattle.live_input.specs.Settling.{next_due, next_waiting, left_call, sooner, sooner_call, tick_by, repeat_by, timeout};

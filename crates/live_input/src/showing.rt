@@ -1,5 +1,5 @@
 //! Windows, and the focus.
-ghost use Rattle.std.specs.Prelude.{◌≡◌, ℕ, ◌-◌, true, false, List, Option, None, Some, Ok, Err, IfOk, OnOk, OnErr, slice_set};
+ghost use Rattle.std.specs.Prelude.{◌≡◌, ℕ, ◌-◌, true, false, List, Option, None, Some, Ok, Err, OnOk, OnErr, slice_set};
 ghost use Rattle.dispatch_calls.specs.declared.call.Call.TheVariants.{Windows, FocusOn};
 ghost use Rattle.dispatch_history.specs.Effect.{Effect};
 ghost use Rattle.dispatch_history.specs.Legal.{answered};

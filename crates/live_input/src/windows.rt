@@ -1,6 +1,5 @@
 //! The windows of clients.
-ghost use Rattle.std.specs.Prelude.{◌≡◌, ℕ, not, List, Option, map, IfOk};
-ghost use Rattle.std.specs.List.{position};
+ghost use Rattle.std.specs.Prelude.{◌≡◌, ℕ, List, Option, map, IfOk};
 ghost use Rattle.dispatch_history.specs.Effect.{Effect};
 ghost use Rattle.live_input.specs.Answers.{SameClients};
 ghost use Rattle.live_input.specs.Seats.{is_open};

@@ -1,5 +1,5 @@
 //! The moves of one device that are not given out yet.
-ghost use Rattle.std.specs.Prelude.{◌≡◌, ◌≤◌, ◌+◌, ◌++◌, [], ◌∷◌, drop, length, OnOk, OnErr, IfOk};
+ghost use Rattle.std.specs.Prelude.{◌≡◌, ◌≤◌, ◌+◌, ◌++◌, [], ◌∷◌, length, OnOk, OnErr, IfOk};
 ghost use Rattle.std.specs.Option.{option_to_list};
 ghost use Rattle.input_types.specs.declared.message.Body.TheVariants.{Motion as MotionBody};
 ghost use Rattle.motion_batch.specs.declared.item.Item.TheVariants.{One};

@@ -1,5 +1,5 @@
 //! The pointers of a packet in the device's units.
-ghost use Rattle.std.specs.Prelude.{◌≡◌, ℕ, ◌+◌, ◌<◌, ◌≤◌, List, [], ◌∷◌, ◌++◌, length, slice_get, slice_set, get_or};
+ghost use Rattle.std.specs.Prelude.{◌≡◌, ◌+◌, ◌<◌, ◌≤◌, [], ◌∷◌, ◌++◌, length, slice_get, slice_set, get_or};
 ghost use Rattle.pointer_ids.specs.Assigned.{IsRising, EndsBelow, unused};
 
 use bits32::Bits32;

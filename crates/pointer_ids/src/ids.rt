@@ -1,10 +1,10 @@
 //! Pointer ids from packet to packet.
-ghost use Rattle.std.specs.Prelude.{◌≡◌, ℕ, ◌+◌, ◌<◌, ◌≤◌, List, [], ◌∷◌, length, option_map, find, nat_eq, ◌&&◌, is_some, IfSome};
+ghost use Rattle.std.specs.Prelude.{◌≡◌, ℕ, ◌+◌, ◌<◌, ◌≤◌, List, [], ◌∷◌, length, find, nat_eq, ◌&&◌, is_some, IfSome};
 ghost use Rattle.bits32.specs.Set.{is_in, members};
 ghost use Rattle.slot_accumulator.specs.declared.contacts.Contact.{Contact as Touch};
-ghost use Rattle.pointer_ids.specs.PointerIds.{id_in, id_of, taken_after, least_free, has_id, named_contact};
-ghost use Rattle.pointer_ids.specs.PointerIds.{named_from, named as named_in, named_after, has_palm, is_cancelled};
-ghost use Rattle.pointer_ids.specs.PointerIds.{some_palm, held, by_id, assigned, finger_at, ArePlaces};
+ghost use Rattle.pointer_ids.specs.PointerIds.{id_in, id_of, taken_after, least_free, has_id};
+ghost use Rattle.pointer_ids.specs.PointerIds.{named as named_in, named_after, has_palm, is_cancelled};
+ghost use Rattle.pointer_ids.specs.PointerIds.{some_palm, assigned, finger_at, ArePlaces};
 ghost use Rattle.pointer_ids.specs.Following.{are_same as same_fingers};
 ghost use Rattle.pointer_ids.specs.OnlyMoved.{OnlyMoved, AreElsewhere};
 

@@ -1,8 +1,8 @@
 //! What one line of a recording says.
-ghost use Rattle.std.specs.Prelude.{◌≡◌, ℕ, ◌<◌, ◌≤◌, ◌^◌, length, option_map, IfSome, Some};
+ghost use Rattle.std.specs.Prelude.{◌≡◌, ◌<◌, ◌^◌, option_map, IfSome, Some};
 ghost use Rattle.std.specs.Int.{cast_signed, w32};
 ghost use Rattle.raw_events.specs.Front.{FrontSays};
-ghost use Rattle.raw_events.specs.Line.{known, seconds_at, moment_at, path_at, fields_of, sender, sent, formed, judged_text, without_return, judged, device_at};
+ghost use Rattle.raw_events.specs.Line.{known, seconds_at, moment_at, path_at, fields_of, sender, formed, judged_text, without_return, judged, device_at};
 
 use crate::event::RawEvent;
 use crate::front::{Front, front_of};

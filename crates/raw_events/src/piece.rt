@@ -1,8 +1,8 @@
 //! What a piece of a recording tells.
-ghost use Rattle.std.specs.Prelude.{◌≡◌, ◌<◌, ◌≤◌, length, ◌∷◌, ◌++◌, [], IfOk, IfSome, MatchOption, vec_capacity};
+ghost use Rattle.std.specs.Prelude.{◌≡◌, ◌<◌, length, ◌∷◌, ◌++◌, [], IfOk, IfSome, MatchOption, vec_capacity};
 ghost use Rattle.std.specs.Result.{result_map_both};
 ghost use Rattle.raw_events.specs.Front.{FrontSays};
-ghost use Rattle.raw_events.specs.Line.{known, judged, sent};
+ghost use Rattle.raw_events.specs.Line.{known, sent};
 ghost use Rattle.raw_events.specs.Recording.{line_len, refusal};
 ghost use Rattle.raw_events.specs.Pieces.{parts, last_line, tell, from_parts};
 ghost use Rattle.raw_events.specs.Kept.{IsKept, TakesLine, TellsFront, TellsLine, TellsLines, ReadsPiece, Keeps};

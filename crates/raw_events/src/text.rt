@@ -1,9 +1,9 @@
 //! Blanks, words and numbers in the bytes of a line.
-ghost use Rattle.std.specs.Prelude.{◌≡◌, ℕ, ◌<◌, ◌≤◌, ◌^◌, length, option_map, take, drop, IfSome, Some, ◌==◌};
+ghost use Rattle.std.specs.Prelude.{◌≡◌, ◌<◌, ◌≤◌, ◌^◌, length, option_map, IfSome, Some, ◌==◌};
 ghost use Rattle.std.specs.Char.{is_digit};
 ghost use Rattle.std.specs.List.{prefix_len};
 ghost use Rattle.raw_events.specs.Text.{after_blanks, after_byte, number, number_at};
-ghost use Rattle.text_lines.specs.Blanks.{is_blank, skip_blanks, word_len};
+ghost use Rattle.text_lines.specs.Blanks.{is_blank, skip_blanks};
 
 use crate::digits::value_of;
 use text_lines::{is_blank, skip_blanks};

@@ -8,7 +8,7 @@ ghost use Rattle.recording_counts.specs.Tally.{LineCountsStandFor, LineTallyStan
 use crate::cut::next_line;
 use crate::lines::{LineCounts, count_line, count_lines};
 use input_types::DeviceId;
-use std::alloc::{AllocError, Global};
+use std::alloc::AllocError;
 use std::marker::Model;
 
 /// Counts the lines of a recording that comes in pieces of any length, for the devices of a session with their paths.

@@ -1,5 +1,5 @@
 //! What is counted of a touch device.
-ghost use Rattle.std.specs.Prelude.{◌≡◌, ◌≤◌, ◌∷◌, [], ℕ, Bool, List, length, true};
+ghost use Rattle.std.specs.Prelude.{◌≡◌, ◌≤◌, ◌∷◌, [], ℕ, List, length, true};
 ghost use Rattle.raw_events.specs.declared.event.RawEvent.{RawEvent as Event};
 ghost use Rattle.raw_events.specs.Packets.{is_void};
 ghost use Rattle.slot_accumulator.specs.declared.contacts.Contact.{Contact as ContactView};
@@ -7,7 +7,7 @@ ghost use Rattle.slot_accumulator.specs.SlotContacts.{SlotsStandFor, contacts_at
 ghost use Rattle.pointer_ids.specs.PointerIds.{assigned, fingers as fingers_of, named_after};
 ghost use Rattle.device_reader.specs.Cooked.{TouchPlan};
 ghost use Rattle.recording_counts.specs.Touch.{TouchTallyStandsFor, TouchesAfter, ends_contact, held_at, is_astray, is_beyond};
-ghost use Rattle.recording_counts.specs.Touch.{is_outside, is_position, is_single, packet_at, palms as palms_of};
+ghost use Rattle.recording_counts.specs.Touch.{is_outside, packet_at, palms as palms_of};
 ghost use Rattle.recording_counts.specs.Touch.{ranges_of, touch_counts};
 ghost use Rattle.recording_counts.specs.Events.{event_counts, is_touch_used as touch_used};
 

@@ -1,5 +1,5 @@
 //! A lane of a race, and its calls.
-ghost use Rattle.std.specs.Prelude.{◌≡◌, IfOk, OnErr};
+ghost use Rattle.std.specs.Prelude.{IfOk, OnErr};
 ghost use Rattle.turnstile.specs.Seats.{view};
 ghost use Rattle.input_service.specs.Services.{IsOf};
 ghost use Rattle.replay_actors.specs.Seats.{Stays, Adds, Refuses};

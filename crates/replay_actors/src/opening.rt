@@ -1,5 +1,5 @@
 //! The channels of a race, which its caller opens before it begins.
-ghost use Rattle.std.specs.Prelude.{◌≡◌, ◌+◌, ◌<◌, ◌≤◌, [], ◌∷◌, OnErr, OnOk, length, map, reverse};
+ghost use Rattle.std.specs.Prelude.{◌≡◌, ◌<◌, ◌≤◌, [], OnErr, OnOk, length, map, reverse};
 ghost use Rattle.turnstile.specs.Seats.{view};
 ghost use Rattle.dispatch_history.specs.Given.{opens};
 ghost use Rattle.session_plan.specs.View.{channel_view};

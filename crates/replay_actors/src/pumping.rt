@@ -1,7 +1,7 @@
 //! Pumps until nothing waits.
 ghost use Rattle.std.specs.Prelude.{◌≡◌, ◌<◌, ℕ, Bool, true, IfOk, OnOk, OnErr, if◌then◌else◌};
 ghost use Rattle.dispatch_core.specs.Recorded.{Recorded, history_of, IsSound};
-ghost use Rattle.replay_actors.specs.Settling.{Settling, pumps_out, looks, receives_from};
+ghost use Rattle.replay_actors.specs.Settling.{pumps_out, looks, receives_from};
 ghost use Rattle.replay_actors.specs.Came.{Came, pumps_left};
 
 use dispatch_calls::{Call, Reply};

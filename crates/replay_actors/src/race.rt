@@ -1,5 +1,5 @@
 //! Lanes beside each other, and the seats that they need.
-ghost use Rattle.std.specs.Prelude.{◌≡◌, ◌+◌, ◌<◌, [], ◌∷◌, IfOk, length};
+ghost use Rattle.std.specs.Prelude.{◌≡◌, ◌+◌, ◌<◌, ◌∷◌, IfOk, length};
 ghost use Rattle.std.specs.Thread.{IsSync};
 ghost use Rattle.turnstile.specs.Seats.{view};
 ghost use Rattle.input_service.specs.Services.{IsOf};

@@ -12,7 +12,7 @@
 //! ```
 //!
 //! All are the caller's, who has the number 0, and hand in moment 0, so the clock stands still.
-ghost use Rattle.std.specs.Prelude.{◌≡◌, ◌≤◌, ◌+◌, OnOk, OnErr};
+ghost use Rattle.std.specs.Prelude.{◌≤◌, ◌+◌, OnOk, OnErr};
 ghost use Rattle.dispatch_history.specs.History.{opened};
 ghost use Rattle.dispatch_history.specs.Settled.{Settled};
 ghost use Rattle.dispatch_core.specs.Recorded.{IsSound, history_of};

@@ -1,5 +1,5 @@
 //! The streams text of a core.
-ghost use Rattle.std.specs.Prelude.{◌≡◌, ◌≤◌, ◌++◌, List, ℕ, length, reverse, OnOk, OnErr, IfOk};
+ghost use Rattle.std.specs.Prelude.{◌≡◌, ◌≤◌, ◌++◌, List, ℕ, length, reverse, OnOk, OnErr};
 ghost use Rattle.std.specs.Option.{unwrap_or};
 ghost use Rattle.dispatch_core.specs.Recorded.{effects_of, history_of};
 ghost use Rattle.dispatch_history.specs.Due.{counts};

@@ -1,5 +1,5 @@
 //! What a turn gives and takes.
-ghost use Rattle.std.specs.Prelude.{◌≡◌, ℕ, [], ◌∷◌, ◌&&◌, ◌||◌, not, map, filter, option_map, IfOk, unwrap_or};
+ghost use Rattle.std.specs.Prelude.{◌≡◌, ℕ, ◌&&◌, ◌||◌, not, map, filter, option_map, IfOk};
 ghost use Rattle.window_snapshot.specs.Mask.{mask_has};
 ghost use Rattle.window_snapshot.specs.Hits.{is_spy_at};
 ghost use Rattle.routing_rules.specs.Scene.{Moves};

@@ -1,5 +1,5 @@
 //! Who gets a pointer that goes down.
-ghost use Rattle.std.specs.Prelude.{◌≡◌, ◌&&◌, ◌||◌, not, ℕ, map, filter, IfOk};
+ghost use Rattle.std.specs.Prelude.{◌≡◌, ◌&&◌, ◌||◌, not};
 ghost use Rattle.std.specs.List.{list_any};
 ghost use Rattle.routing_rules.specs.Choice.{is_holder, sooner, earliest, is_alone, choose, choice_at, is_candidate_of};
 ghost use Rattle.routing_rules.specs.Scene.{shows, which};

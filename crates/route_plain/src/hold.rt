@@ -3,7 +3,7 @@ ghost use Rattle.std.specs.Prelude.{◌≡◌, ◌==◌, ◌&&◌};
 ghost use Rattle.std.specs.List.{list_any};
 ghost use Rattle.bits32.specs.Set.{is_in, marked};
 ghost use Rattle.routing_rules.specs.Pairs.{has, has_any};
-ghost use Rattle.route_plain.specs.Holds.{pairs_of, is_of, began, is_below, is_earlier, is_pilfering, ids_with, channels_with};
+ghost use Rattle.route_plain.specs.Holds.{pairs_of, is_of, began, is_earlier, is_pilfering, ids_with, channels_with};
 
 use bits32::Bits32;
 use input_types::{DeviceId, PointerId};

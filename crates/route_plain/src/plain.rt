@@ -1,14 +1,14 @@
 //! The router and its turns.
-ghost use Rattle.std.specs.Prelude.{◌≡◌, ℕ, ◌+◌, ◌≤◌, ◌++◌, [], ◌∷◌, not, filter, length, IfOk, OnOk, OnErr, List, vec_len, vec_capacity};
+ghost use Rattle.std.specs.Prelude.{◌≡◌, ℕ, ◌+◌, ◌≤◌, ◌++◌, filter, length, IfOk, OnOk, OnErr, List, vec_len, vec_capacity};
 ghost use Rattle.bits32.specs.Set.{is_in};
 ghost use Rattle.routing_rules.specs.Pairs.{has, has_any};
 ghost use Rattle.window_snapshot.specs.declared.window.Window.{Window};
 ghost use Rattle.route_plain.specs.Holds.{pairs_of, is_pilfering};
 ghost use Rattle.route_plain.specs.Loss.{taking_of};
 ghost use Rattle.route_plain.specs.State.{scene_before, fresh};
-ghost use Rattle.route_plain.specs.Route.{step_of, said_at, state_after, holds_left, with_pilferer, pilferers_after, last_after, next_turn};
+ghost use Rattle.route_plain.specs.Route.{step_of, said_at, state_after, holds_left, with_pilferer, last_after, next_turn};
 
-use crate::change::{Change, change_of};
+use crate::change::change_of;
 use crate::hold::{Hold, Pilferer, holds_any, ids_with, is_pilfering};
 use crate::loss::{Loss, is_taken};
 use crate::said::said_at;

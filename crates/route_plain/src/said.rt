@@ -1,5 +1,5 @@
 //! What all channels are told.
-ghost use Rattle.std.specs.Prelude.{◌≡◌, ◌++◌, ◌≤◌, ◌&&◌, not, ℕ, [], length, IfOk, OnOk};
+ghost use Rattle.std.specs.Prelude.{◌≡◌, ◌++◌, ◌≤◌, ◌&&◌, not, ℕ, length, IfOk, OnOk};
 ghost use Rattle.bits32.specs.Set.{is_in};
 ghost use Rattle.window_snapshot.specs.Hits.{is_watcher_at};
 ghost use Rattle.window_snapshot.specs.Mask.{mask_has};

@@ -1,5 +1,5 @@
 //! A pointer that slips from one window to another.
-ghost use Rattle.std.specs.Prelude.{◌≡◌, ◌&&◌, ◌↔◌, true, not, fold, map, filter, option_map, IfSome};
+ghost use Rattle.std.specs.Prelude.{◌≡◌, ◌&&◌, true, not, fold, map, filter, option_map, IfSome};
 ghost use Rattle.window_snapshot.specs.Mask.{is_channel};
 ghost use Rattle.window_snapshot.specs.Hits.{touched};
 ghost use Rattle.window_snapshot.specs.Window.{is_spy, is_slippery};

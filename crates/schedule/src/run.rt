@@ -1,11 +1,10 @@
 //! The run from its beginning to its end.
-ghost use Rattle.std.specs.Prelude.{◌≡◌, ◌≤◌, ◌++◌, ℕ, true, false, List, [], ◌∷◌, IfOk, OnOk, IsTrue, IsFalse, length, fold};
+ghost use Rattle.std.specs.Prelude.{◌≡◌, ◌++◌, true, false, List, [], ◌∷◌, OnOk};
 ghost use Rattle.dispatch_history.specs.Effect.{Effect};
-ghost use Rattle.dispatch_history.specs.Ordered.{end_of};
 ghost use Rattle.dispatch_history.specs.Plan.{Plan as PlanView, Cooked};
 ghost use Rattle.schedule.specs.declared.keeping.Lines.{Lines};
 ghost use Rattle.schedule.specs.Planned.{IsRun, plan_of};
-ghost use Rattle.schedule.specs.Run.{IsWithin, IsTooLong, with_cooked};
+ghost use Rattle.schedule.specs.Run.{IsWithin, IsTooLong};
 ghost use Rattle.schedule.specs.More.{ComesTo};
 ghost use Rattle.schedule.specs.State.{RanWith, CompletedWith, ReadyWith, is_over};
 ghost use Rattle.schedule.specs.Ends.{last_step};

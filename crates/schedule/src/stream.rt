@@ -1,5 +1,5 @@
 //! The lines of what a channel was told.
-ghost use Rattle.std.specs.Prelude.{◌≡◌, [], ◌++◌, ℕ, ◌≤◌, true, List, OnOk, OnErr, IfOk, vec_len, drop, reverse, if◌then◌else◌, ◌==◌};
+ghost use Rattle.std.specs.Prelude.{◌≡◌, [], ◌++◌, ℕ, true, List, OnOk, OnErr, IfOk, vec_len, drop, reverse};
 ghost use Rattle.dispatch_history.specs.Effect.{Effect, stream};
 ghost use Rattle.dispatcher.specs.Access.{gone, is_opened};
 ghost use Rattle.dispatcher.specs.Dispatching.{IsAfter};

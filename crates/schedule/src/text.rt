@@ -1,5 +1,5 @@
 //! The streams text of a run.
-ghost use Rattle.std.specs.Prelude.{◌≡◌, ◌++◌, ℕ, true, List, OnOk, OnErr, drop, reverse, length, take};
+ghost use Rattle.std.specs.Prelude.{◌≡◌, ◌++◌, true, List, OnOk, OnErr, drop, reverse, length, take};
 ghost use Rattle.std.specs.Option.{unwrap_or};
 ghost use Rattle.dispatcher.specs.Access.{gone, is_opened};
 ghost use Rattle.dispatcher.specs.Dispatching.{IsAfter};

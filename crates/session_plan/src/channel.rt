@@ -1,5 +1,5 @@
 //! The channels of a session.
-ghost use Rattle.std.specs.Prelude.{[], ◌≡◌, ◌≤◌, ◌&&◌, nat_le, map, length, string_bytes, IfOk, IfSome};
+ghost use Rattle.std.specs.Prelude.{[], ◌≡◌, ◌≤◌, ◌&&◌, nat_le, map, length, IfOk};
 ghost use Rattle.std.specs.List.{All, list_all};
 ghost use Rattle.toml.specs.View.{view};
 ghost use Rattle.session_plan.specs.Channels.{channel_named, channel_of, channels_of, finishes_at, is_name, is_new, named_from};

@@ -1,10 +1,9 @@
 //! The devices of a session.
-ghost use Rattle.std.specs.Prelude.{[], ◌≡◌, ◌≤◌, ◌==◌, ◌||◌, not, ℕ, ℤ, map, option_map, bytes_eq, length, IfOk, IfSome, ◌≤ℤ◌};
-ghost use Rattle.std.specs.List.{All, list_all, list_any};
+ghost use Rattle.std.specs.Prelude.{[], ◌≡◌, ◌≤◌, ◌==◌, ◌||◌, not, ℕ, ℤ, map, length, IfOk, IfSome, ◌≤ℤ◌};
+ghost use Rattle.std.specs.List.{All, list_all};
 ghost use Rattle.toml.specs.View.{view};
 ghost use Rattle.session_plan.specs.Devices.{axis_at, both, device_of, devices_of, is_new, is_path, keys_of, layout_text, ordered, span_in, span_of, touch_of};
 ghost use Rattle.session_plan.specs.Gives.{Gives};
-ghost use Rattle.session_plan.specs.Keys.{key_of};
 ghost use Rattle.session_plan.specs.Reading.{as_list, each};
 ghost use Rattle.session_plan.specs.Valid.{IsAxis, IsDevice, IsKind};
 ghost use Rattle.session_plan.specs.View.{device_view};

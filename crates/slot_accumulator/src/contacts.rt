@@ -1,5 +1,5 @@
 //! Contacts, and lists of them.
-ghost use Rattle.std.specs.Prelude.{◌≡◌, ℕ, ◌+◌, ◌<◌, ◌≤◌, List, [], ◌∷◌, ◌++◌, length, slice_get, map, get_or, nat_eq};
+ghost use Rattle.std.specs.Prelude.{◌≡◌, ◌+◌, ◌<◌, ◌≤◌, List, [], ◌∷◌, ◌++◌, length, slice_get, map, get_or, nat_eq};
 ghost use Rattle.std.specs.Prelude.{MatchOption, false};
 ghost use Rattle.std.specs.List.{list_any};
 ghost use Rattle.slot_accumulator.specs.Contacts.{AreContacts, Joins, has_tracking, put_at, unused};

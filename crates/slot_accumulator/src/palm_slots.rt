@@ -1,5 +1,5 @@
 //! Which slots of a device hold palms.
-ghost use Rattle.std.specs.Prelude.{◌≡◌, ℕ, ◌≤◌, ◌<◌, [], ◌∷◌, ◌++◌, ℤ, pos, true, false, not, ◌&&◌, ◌||◌, int_le, length, nat_eq, if◌then◌else◌};
+ghost use Rattle.std.specs.Prelude.{◌≡◌, ◌≤◌, ◌<◌, [], ◌∷◌, ◌++◌, ℤ, pos, true, false, not, ◌&&◌, ◌||◌, int_le, length, nat_eq, if◌then◌else◌};
 ghost use Rattle.std.specs.List.{list_any};
 ghost use Rattle.std.specs.Ordering.{int_eq};
 ghost use Rattle.slot_accumulator.specs.Table.{is_kept};

@@ -1,8 +1,7 @@
 //! The slots of a device.
-ghost use Rattle.std.specs.Prelude.{◌≡◌, ℕ, ◌+◌, ◌<◌, ◌≤◌, List, [], ◌∷◌, ◌++◌, MatchOption, ℤ, Bool, pos, true, false, not, ◌&&◌};
-ghost use Rattle.std.specs.Prelude.{◌||◌, int_le, length, nat_eq, if◌then◌else◌};
+ghost use Rattle.std.specs.Prelude.{◌≡◌, ℕ, ◌<◌, ◌≤◌, List, [], ◌∷◌, MatchOption, pos, true, false, not, ◌&&◌};
+ghost use Rattle.std.specs.Prelude.{◌||◌, int_le};
 ghost use Rattle.std.specs.List.{list_any};
-ghost use Rattle.std.specs.Ordering.{int_eq};
 ghost use Rattle.raw_events.specs.declared.event.RawEvent.{RawEvent as Event};
 ghost use Rattle.slot_accumulator.specs.SlotValues.{row_after, is_slot};
 ghost use Rattle.slot_accumulator.specs.Contacts.{has_tracking};
@@ -10,7 +9,7 @@ ghost use Rattle.slot_accumulator.specs.Table.{is_kept};
 ghost use Rattle.raw_events.specs.Packets.{is_report as ends_packet};
 ghost use Rattle.slot_accumulator.specs.SlotContacts.{contact as contact_of, contacts_at, contacts_in, contacts_of};
 ghost use Rattle.slot_accumulator.specs.SlotContacts.{has_palm_tool};
-ghost use Rattle.slot_accumulator.specs.SlotContacts.{palm_below, row_in, SlotsStandFor};
+ghost use Rattle.slot_accumulator.specs.SlotContacts.{row_in, SlotsStandFor};
 
 use crate::contacts::{Contact, Contacts, tracked};
 use crate::palm_slots::{no_palm, note_palms, tool_after};

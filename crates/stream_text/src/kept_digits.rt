@@ -2,7 +2,7 @@
 //!
 //! The messages of a channel are counted and their moments rise: all digits but the last few are mostly those of the
 //! line before. They are kept, and are written by one copy.
-ghost use Rattle.std.specs.Prelude.{◌≡◌, ◌+◌, ◌-◌, ◌*◌, ◌<◌, ◌≤◌, ◌++◌, length, drop, take, decimal};
+ghost use Rattle.std.specs.Prelude.{◌≡◌, ◌+◌, ◌-◌, ◌<◌, ◌≤◌, ◌++◌, length, drop, take, decimal};
 
 use crate::prepend::{Room, prepend_number, put_triple};
 use std::marker::Model;

@@ -1,5 +1,5 @@
 //! The pointers of a motion, which are often those of the motion before.
-ghost use Rattle.std.specs.Prelude.{◌≡◌, ◌+◌, ◌*◌, ◌≤◌, ◌++◌, [], ◌∷◌, IsTrue, length, drop};
+ghost use Rattle.std.specs.Prelude.{◌≡◌, ◌+◌, ◌*◌, ◌≤◌, ◌++◌, [], IsTrue, length, drop};
 ghost use Rattle.stream_text.specs.KeptText.{Holds};
 ghost use Rattle.stream_text.specs.Spelling.{pointer, pointers};
 

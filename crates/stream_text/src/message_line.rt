@@ -1,5 +1,5 @@
 //! Reading the line of a message.
-ghost use Rattle.std.specs.Prelude.{◌≡◌, ◌≤◌, ℕ, codes, cond, Some, None, option_map, IfSome};
+ghost use Rattle.std.specs.Prelude.{◌≡◌, ◌≤◌, codes, cond, Some, None, option_map, IfSome};
 ghost use Rattle.stream_text.specs.Number.{after};
 ghost use Rattle.stream_text.specs.MessageLine.{action_at, body_of, codes_at, device_at, flags_at, focus_of, indexed_at, key_of, labeled_at, message_of, motion_of, pointer_at, pointers_at, way_at};
 ghost use Rattle.stream_text.specs.StreamLine.{line_that_moves, line_that_says, line_that_tells};

@@ -1,5 +1,5 @@
 //! Words and numbers at the front of a text.
-ghost use Rattle.std.specs.Prelude.{◌≡◌, ◌≤◌, ◌<◌, ℕ, option_map, IfSome, pos, negsuc};
+ghost use Rattle.std.specs.Prelude.{◌≡◌, ◌≤◌, ◌<◌, option_map, IfSome};
 ghost use Rattle.stream_text.specs.Number.{after, integer_at, number_at, at_most, digits_from, negative_at, positive_at};
 
 /// The bytes behind a word.

@@ -1,7 +1,6 @@
 //! One line of an order.
-ghost use Rattle.std.specs.Prelude.{◌≡◌, ◌++◌, IfOk, IfSome, ◌≤◌, ◌-◌, ◌^◌};
-ghost use Rattle.stream_text.specs.Number.{number_at};
-ghost use Rattle.stream_text.specs.Order.{HasLane, finish_line, letter_line, number_alone, numbers_line, line_spelling, order_line_of, receive_line, script_line};
+ghost use Rattle.std.specs.Prelude.{◌≡◌, ◌++◌, IfOk, IfSome, ◌≤◌, ◌-◌};
+ghost use Rattle.stream_text.specs.Order.{HasLane, finish_line, number_alone, line_spelling, order_line_of, receive_line, script_line};
 ghost use Rattle.stream_text.specs.OrderText.{head_of};
 
 use crate::number::{number, past};

@@ -2,7 +2,7 @@
 //!
 //! A line is made from its end to its front. So the digits of a number are put down as dividing gives them, and nothing
 //! asks beforehand how many there are.
-ghost use Rattle.std.specs.Prelude.{◌≡◌, ◌+◌, ◌-◌, ◌*◌, ◌<◌, ◌≤◌, ◌++◌, length, drop, decimal};
+ghost use Rattle.std.specs.Prelude.{◌≡◌, ◌+◌, ◌-◌, ◌<◌, ◌≤◌, ◌++◌, length, drop, decimal};
 ghost use Rattle.std.specs.Fmt.{signed_decimal};
 ghost use Rattle.stream_text.specs.Spelling.{labeled};
 ghost use Rattle.stream_text.specs.Triple.{triple_digits};

@@ -1,5 +1,5 @@
 //! The streams of a stream file.
-ghost use Rattle.std.specs.Prelude.{◌≡◌, ℕ, ◌+◌, ◌^◌, ◌<◌, ◌≤◌, IfOk, IfSome, OnOk, Ok, Err};
+ghost use Rattle.std.specs.Prelude.{◌≡◌, ◌+◌, ◌^◌, ◌<◌, ◌≤◌, IfOk, IfSome, OnOk, Ok, Err};
 ghost use Rattle.stream_text.specs.StreamFile.{events_of, streams_in};
 ghost use Rattle.stream_text.specs.StreamAnswer.{Answers, Begins, Finds, channel_told, message_told, pending};
 ghost use Rattle.std.specs.Prelude.{List, Option};

@@ -1,5 +1,5 @@
 //! The lines of a stream file.
-ghost use Rattle.std.specs.Prelude.{◌≡◌, ℕ, cond, Some, None, option_map, IfSome, ◌≤◌};
+ghost use Rattle.std.specs.Prelude.{◌≡◌, cond, Some, None, option_map, IfSome};
 ghost use Rattle.stream_text.specs.StreamLine.{channel_at, channel_of, end_of, is_name, is_name_byte, line_of, naming_of, SpellsLine};
 ghost use Rattle.stream_text.specs.declared.stream_line.StreamLine.{StreamLine};
 ghost use Rattle.std.specs.List.{list_all};

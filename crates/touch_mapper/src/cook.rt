@@ -1,5 +1,5 @@
 //! Raw positions as display pixels.
-ghost use Rattle.std.specs.Prelude.{◌≡◌, ℕ, ◌<◌, ◌≤◌, ◌↔◌, ◌≤ℤ◌, IsTrue, IfOk, IsOk, ◌&&◌, int_le, nat_le, pos};
+ghost use Rattle.std.specs.Prelude.{◌≡◌, ◌<◌, ◌≤◌, ◌↔◌, ◌≤ℤ◌, IsTrue, IfOk, IsOk, ◌&&◌, int_le, nat_le, pos};
 ghost use Rattle.touch_mapper.specs.Cooking.{can_cook, natural};
 
 use input_types::{Axis, Pixel, Rotation};

@@ -1,5 +1,5 @@
 //! The motions between two packets.
-ghost use Rattle.std.specs.Prelude.{◌≡◌, ℕ, ◌+◌, ◌<◌, ◌≤◌, [], ◌∷◌, ◌++◌, length, map, vec_len, vec_capacity};
+ghost use Rattle.std.specs.Prelude.{◌≡◌, ◌+◌, ◌<◌, ◌≤◌, [], ◌∷◌, ◌++◌, length, map, vec_len, vec_capacity};
 ghost use Rattle.bits32.specs.Set.{is_in};
 ghost use Rattle.touch_mapper.specs.Gesture.{gesture as motions_between, motion as motion_of, up as up_of};
 ghost use Rattle.touch_mapper.specs.Gesture.{down as down_of, ups, downs, moves, move_of};

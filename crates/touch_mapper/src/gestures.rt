@@ -1,5 +1,5 @@
 //! Gestures of one device.
-ghost use Rattle.std.specs.Prelude.{◌≡◌, ℕ, ◌+◌, ◌<◌, ◌≤◌, List, [], ◌++◌, map, vec_len, vec_capacity, IsOk, IfOk, OnErr, OnOk};
+ghost use Rattle.std.specs.Prelude.{◌≡◌, ◌+◌, ◌<◌, ◌≤◌, List, [], ◌++◌, map, vec_len, vec_capacity, IsOk, IfOk, OnErr, OnOk};
 ghost use Rattle.pointer_ids.specs.OnlyMoved.{OnlyMoved};
 ghost use Rattle.pointer_ids.specs.declared.assigned.Held.{Held as HeldView};
 ghost use Rattle.touch_mapper.specs.Gesture.{after_packet, packet_motions, placed_all};

@@ -1,9 +1,8 @@
 //! Lists of pointers, put together.
-ghost use Rattle.std.specs.Prelude.{◌≡◌, ℕ, ◌+◌, ◌<◌, ◌≤◌, List, [], ◌∷◌, ◌++◌, length, nat_eq, ◌&&◌, not};
+ghost use Rattle.std.specs.Prelude.{◌≡◌, ◌+◌, ◌<◌, ◌≤◌, [], ◌∷◌, ◌++◌, length, ◌&&◌};
 ghost use Rattle.std.specs.Ordering.{int_eq};
 ghost use Rattle.input_types.specs.Gestures.{ids_of, same_ids as ids_agree};
 ghost use Rattle.input_types.specs.Pointers.{EndsBelow};
-ghost use Rattle.touch_mapper.specs.Cooking.{Cooking};
 ghost use Rattle.touch_mapper.specs.Rising.{Rises};
 ghost use Rattle.touch_mapper.specs.Gesture.{is_down as is_in, moved as moved_in, moved_all, kept};
 ghost use Rattle.touch_mapper.specs.Gesture.{is_moved as has_moved, is_changed as have_changed, placed, placed_all};

@@ -1,5 +1,5 @@
 //! The touch state of one device.
-ghost use Rattle.std.specs.Prelude.{◌≡◌, ℕ, [], Bool, true, false, ◌==◌, IsTrue, ◌↔◌};
+ghost use Rattle.std.specs.Prelude.{◌≡◌, ℕ, [], true, false, ◌==◌, IsTrue, ◌↔◌};
 ghost use Rattle.window_snapshot.specs.Mask.{is_channel, mask_has};
 ghost use Rattle.touch_state.specs.Laws.{Agrees};
 ghost use Rattle.touch_state.specs.Touches.{held, since, pilfering, holds, any, Changes, none};

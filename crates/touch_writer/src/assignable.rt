@@ -1,5 +1,5 @@
 //! Which contacts are new, and which ids they may have.
-ghost use Rattle.std.specs.Prelude.{◌≡◌, ℕ, ◌+◌, ◌<◌, ◌≤◌, ◌||◌, length, List, [], ◌∷◌, ◌++◌};
+ghost use Rattle.std.specs.Prelude.{◌≡◌, ℕ, ◌+◌, ◌<◌, ◌≤◌, length, List, [], ◌∷◌, ◌++◌};
 ghost use Rattle.bits32.specs.Set.{is_in};
 ghost use Rattle.touch_writer.specs.Places.{is_held, news as news_of};
 ghost use Rattle.touch_writer.specs.Refusal.{is_assignable, unassignable as unassignable_of};

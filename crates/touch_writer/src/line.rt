@@ -1,6 +1,6 @@
 //! Events as lines.
-ghost use Rattle.std.specs.Prelude.{◌≡◌, ℕ, ◌+◌, ◌-◌, ◌*◌, ◌/◌, ◌%◌, ◌<◌, ◌≤◌, ◌++◌, IfOk, OnOk, OnErr, codes};
-ghost use Rattle.std.specs.Prelude.{decimal, length, replicate};
+ghost use Rattle.std.specs.Prelude.{◌≡◌, ◌+◌, ◌-◌, ◌*◌, ◌/◌, ◌%◌, ◌<◌, ◌≤◌, ◌++◌, IfOk, OnOk, OnErr};
+ghost use Rattle.std.specs.Prelude.{decimal, replicate};
 ghost use Rattle.touch_writer.specs.EventText.{digit as digit_of, digits, in_eight, stamp, fields, event_line};
 
 use itoa::Buffer;

@@ -1,8 +1,7 @@
 //! The events of one packet.
-ghost use Rattle.std.specs.Prelude.{◌≡◌, ℕ, ◌+◌, ◌*◌, ◌<◌, ◌≤◌, List, [], ◌∷◌, ◌++◌, length, map, not, ◌&&◌, nat_eq};
-ghost use Rattle.touch_writer.specs.Places.{place_at};
-ghost use Rattle.touch_writer.specs.Packet.{said, changes as changes_of, in_slot as in_slot_of, others as others_of};
-ghost use Rattle.touch_writer.specs.Packet.{packet as packet_of, abs, is_empty, last_slot};
+ghost use Rattle.std.specs.Prelude.{◌≡◌, ◌+◌, ◌*◌, ◌<◌, ◌≤◌, [], ◌∷◌, length, not, ◌&&◌, nat_eq};
+ghost use Rattle.touch_writer.specs.Packet.{said, changes as changes_of, others as others_of};
+ghost use Rattle.touch_writer.specs.Packet.{packet as packet_of, is_empty, last_slot};
 ghost use Rattle.touch_writer.specs.Draft.{with_changes, with_report};
 
 use crate::place::{Place, tracking};

@@ -1,7 +1,7 @@
 //! What a slot holds.
-ghost use Rattle.std.specs.Prelude.{◌≡◌, ℕ, ◌≤◌};
+ghost use Rattle.std.specs.Prelude.{◌≡◌, ◌≤◌};
 ghost use Rattle.touch_writer.specs.Places.{vacant, tracking as tracking_id, kept as kept_by};
-ghost use Rattle.touch_writer.specs.Choice.{stays, remains as remains_in, arrives as arrives_as};
+ghost use Rattle.touch_writer.specs.Choice.{remains as remains_in, arrives as arrives_as};
 
 use crate::want::{Want, wanted};
 use input_types::PointerId;

@@ -1,8 +1,8 @@
 //! The slots that give a packet the fewest events.
-ghost use Rattle.std.specs.Prelude.{◌≡◌, ℕ, ◌+◌, ◌-◌, ◌*◌, ◌<◌, ◌≤◌, List, [], ◌∷◌, length, take, drop, get_or};
+ghost use Rattle.std.specs.Prelude.{◌≡◌, ℕ, ◌+◌, ◌-◌, ◌<◌, ◌≤◌, List, ◌∷◌, length, take, drop, get_or};
 ghost use Rattle.std.specs.Prelude.{Bool, nat_lt, nat_le, ◌||◌};
 ghost use Rattle.touch_writer.specs.Packet.{said, changes};
-ghost use Rattle.touch_writer.specs.Choice.{placed as placed_by, remains as remains_in, arrives as arrives_as};
+ghost use Rattle.touch_writer.specs.Choice.{placed as placed_by};
 ghost use Rattle.touch_writer.specs.Search.{cost as cost_of, free as free_of, best, chosen, IsBest, IsRow, blank};
 ghost use Rattle.bits32.specs.Set.{is_in};
 ghost use Rattle.touch_writer.specs.declared.place.Place.{Place as Held};

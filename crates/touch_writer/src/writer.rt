@@ -1,5 +1,5 @@
 //! A writer of packets.
-ghost use Rattle.std.specs.Prelude.{◌≡◌, ℕ, ◌+◌, ◌<◌, ◌≤◌, List, Bool, [], ◌∷◌, ◌++◌, length, replicate, OnOk, OnErr};
+ghost use Rattle.std.specs.Prelude.{◌≡◌, ◌+◌, ◌<◌, ◌≤◌, List, Bool, ◌++◌, replicate, OnOk, OnErr};
 ghost use Rattle.touch_writer.specs.Places.{IsRising, vacant};
 ghost use Rattle.touch_writer.specs.State.{IsBestChoice, packet_of, after};
 ghost use Rattle.touch_writer.specs.Refusal.{Answers, refusal};

@@ -9,7 +9,7 @@ ghost use Rattle.turnstile.specs.Taken.{Holding, Taken, Waited, Served};
 use crate::machine::{Machine, Placed, TryRefused};
 use crate::rule::{Commit, Draw, Free, HandOut, Look, Take, TakeIn};
 use crate::turnstile::{Seat, Token, Turnstile};
-use atomic_table::{Refused, Table};
+use atomic_table::Table;
 use std::alloc::{AllocError, Global};
 use std::snapshot::Snapshot;
 use std::sync::Wait;

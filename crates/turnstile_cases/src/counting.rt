@@ -1,6 +1,5 @@
 //! Machines that count: calls of one thread, calls beside a step that is held open, and calls of two threads at once.
 ghost use Rattle.std.specs.Prelude.{◌≡◌, ◌+◌, ◌<◌, ◌≤◌, IfOk};
-ghost use Rattle.std.specs.Thread.{IsSync};
 ghost use Rattle.turnstile.specs.Seats.{IsOf, view};
 ghost use Rattle.turnstile_cases.specs.Counting.{SameNumbers};
 
@@ -11,7 +10,7 @@ use std::alloc::{AllocError, Global};
 use std::io;
 use std::sync::Wait;
 use std::thread::{Threads, join_mut};
-use turnstile::{Machine, Placed, Seat, TryRefused, Turnstile};
+use turnstile::{Machine, Seat, TryRefused, Turnstile};
 
 /// How many calls each of two threads makes.
 const CALLS: u64 = 100_000;

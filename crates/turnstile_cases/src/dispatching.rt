@@ -1,6 +1,5 @@
 //! A dispatcher that threads share: calls beside a call that is held open, and a service with two seats.
-ghost use Rattle.std.specs.Prelude.{◌≡◌, ◌+◌, ◌<◌, IfOk};
-ghost use Rattle.std.specs.Thread.{IsSync};
+ghost use Rattle.std.specs.Prelude.{◌≡◌, ◌+◌, ◌<◌};
 ghost use Rattle.turnstile.specs.Seats.{IsOf as OfTurnstile, view};
 ghost use Rattle.input_service.specs.Services.{IsOf};
 

@@ -1,5 +1,5 @@
 //! A counter whose step is held open by a flag.
-ghost use Rattle.std.specs.Prelude.{◌≡◌, reverse, []};
+ghost use Rattle.std.specs.Prelude.{◌≡◌, reverse};
 ghost use Rattle.turnstile_cases.specs.Counting.{IsCounted};
 
 use crate::counter::Counter;

@@ -5,7 +5,7 @@ use input_types::{
     Args, DeviceId, DisplayId, Limit, Moment, Motion, MotionAction, Pixel, Pointer, PointerId,
     Pointers,
 };
-use std::alloc::{AllocError, Global};
+use std::alloc::Global;
 use std::io;
 use std::io::ErrorKind;
 use stream_text::message_text;

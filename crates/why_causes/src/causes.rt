@@ -1,5 +1,5 @@
 //! The causes of a pointer that goes down.
-ghost use Rattle.std.specs.Prelude.{◌≡◌, ◌&&◌, true, ℕ};
+ghost use Rattle.std.specs.Prelude.{◌≡◌, ◌&&◌, ℕ};
 ghost use Rattle.window_snapshot.specs.Hits.{is_spy_at, touched};
 ghost use Rattle.window_snapshot.specs.Mask.{mask_has};
 ghost use Rattle.routing_rules.specs.Choice.{is_candidate_of};

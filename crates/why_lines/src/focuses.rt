@@ -1,7 +1,7 @@
 //! Changes of the focus.
 ghost use Rattle.std.specs.Prelude.{◌≡◌, ◌≤◌, ◌++◌, List, codes, decimal, IfOk};
 ghost use Rattle.dispatch_history.specs.Effect.{Effect, past_of};
-ghost use Rattle.dispatch_history.specs.Focus.{focus, key_target};
+ghost use Rattle.dispatch_history.specs.Focus.{focus};
 ghost use Rattle.dispatch_history.specs.History.{History};
 ghost use Rattle.dispatcher.specs.Dispatching.{IsAfter};
 ghost use Rattle.why_text.specs.Text.{change_words, focus_words};

@@ -3,7 +3,7 @@ ghost use Rattle.std.specs.Prelude.{◌≡◌, ◌++◌, ◌==◌, ◌&&◌, ◌
 ghost use Rattle.std.specs.List.{list_any};
 ghost use Rattle.input_types.specs.declared.message.Args.TheVariants.{Key as KeyOfDevice};
 ghost use Rattle.window_snapshot.specs.Mask.{is_channel, mask_has};
-ghost use Rattle.dispatch_history.specs.Effect.{Effect, past_of};
+ghost use Rattle.dispatch_history.specs.Effect.{Effect};
 ghost use Rattle.dispatch_history.specs.Keys.{keys};
 ghost use Rattle.dispatch_history.specs.KeyTold.{last_key, repeat_due};
 ghost use Rattle.dispatch_history.specs.Reply.{is_due};

@@ -1,8 +1,7 @@
 //! Keys that go down or up, or are repeated.
-ghost use Rattle.std.specs.Prelude.{◌≡◌, ◌++◌, codes, decimal, IfOk};
+ghost use Rattle.std.specs.Prelude.{◌≡◌, ◌++◌, IfOk};
 ghost use Rattle.why_text.specs.Lines.{key_down_word, key_up_word, key_words, repeat_word};
 ghost use Rattle.why_text.specs.Text.{line};
-ghost use Rattle.why_text.specs.Words.{channel_word};
 
 use crate::line::{add_clock, add_device};
 use crate::sets::add_channel;

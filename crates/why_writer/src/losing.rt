@@ -1,5 +1,5 @@
 //! What a window loses.
-ghost use Rattle.std.specs.Prelude.{◌≡◌, ◌++◌, ◌==◌, codes, decimal, not, map, length, IfOk};
+ghost use Rattle.std.specs.Prelude.{◌≡◌, ◌++◌, ◌==◌, codes, not, map, length, IfOk};
 ghost use Rattle.std.specs.List.{list_all};
 ghost use Rattle.bits32.specs.Set.{members};
 ghost use Rattle.why_text.specs.Lines.{gone_word};
@@ -10,9 +10,9 @@ ghost use Rattle.why_writer.specs.Lost.{behind_spaces, ids_from, ids_in, items_o
 use crate::line::add_clock;
 use crate::sets::add_ids;
 use bits32::Bits32;
-use input_types::{DeviceId, KeyArgs, Moment};
+use input_types::{KeyArgs, Moment};
 use std::alloc::AllocError;
-use text_lines::{add_labeled, add_number, add_word};
+use text_lines::{add_labeled, add_word};
 
 /// What a window held and loses: of each device, that of device 1 first, the ids of its pointers, and the keys, by
 /// rising device and scan code.

@@ -1,5 +1,5 @@
 //! What a window asks of the dispatcher, as a set of named bits.
-ghost use Rattle.std.specs.Prelude.{⊤, [], ◌∷◌, codes};
+ghost use Rattle.std.specs.Prelude.{⊤};
 
 use bitflags::{Flag, Flags};
 

@@ -1,6 +1,6 @@
 //! Whom a touch at a point concerns.
 ghost use Rattle.std.specs.Prelude.{◌≡◌, ℕ, filter};
-ghost use Rattle.std.specs.List.{find, position};
+ghost use Rattle.std.specs.List.{position};
 ghost use Rattle.std.specs.Option.{option_copied};
 ghost use Rattle.window_snapshot.specs.Hits.{touched, touched_window, is_spy_at, is_watcher_at, takes_touch, spies_touch, watches};
 ghost use Rattle.window_snapshot.specs.Mask.{mask_has};

@@ -1,6 +1,5 @@
 //! The list of the windows on the display, and what it says of a channel.
-ghost use Rattle.std.specs.Prelude.{◌≡◌, ℕ, ◌&&◌, ◌==◌, [], IfOk, Bool, filter, fold};
-ghost use Rattle.std.specs.List.{position};
+ghost use Rattle.std.specs.Prelude.{◌≡◌, ℕ, ◌&&◌, ◌==◌, [], IfOk, filter};
 
 use crate::flags::WindowFlags;
 use crate::mask::mask_with;

@@ -1,5 +1,5 @@
 //! The session of a workload.
-ghost use Rattle.std.specs.Prelude.{◌≡◌, [], ◌∷◌, IfOk, pos};
+ghost use Rattle.std.specs.Prelude.{◌≡◌, [], ◌∷◌, IfOk};
 ghost use Rattle.touch_region.specs.Rectangle.{is_ordered};
 ghost use Rattle.std.specs.Prelude.{true, map, length};
 ghost use Rattle.session_plan.specs.Channels.{is_name};
