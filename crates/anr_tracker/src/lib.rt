@@ -13,7 +13,7 @@
 //!
 //! Of one moment the least channel comes first. The map is a fixed table, with a mask of the channels that are due and
 //! a moment before which none is. What comes first is looked for where it is asked for, among those channels alone, and
-//! mostly is the first one of them: channels that were told at one step are due at one moment.
+//! mostly is the first one of them: channels that were sent at one step are due at one moment.
 #![tactic(auto)]
 
 mod tracker;

@@ -145,7 +145,7 @@ fn is_at(due: Option<u64>, moment: u64) -> bool
 /// The pair that comes first, looked for in a mask outside of which no channel is due.
 ///
 /// No channel is due before the moment `least`, so that the first one that is due at it ends the search: channels that
-/// were told at one step are mostly due at one moment.
+/// were sent at one step are mostly due at one moment.
 fn first_of(dues: &[Option<u64>; 64], pending: u64, least: u64) -> Option<(u64, u32)>
     requires out { (c : ℕ) → mask_has pending c ≡ false → due_of dues.now c ≡ None }
     requires least { NoneBelow (due_of dues.now) least }

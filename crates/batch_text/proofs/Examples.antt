@@ -40,7 +40,7 @@ pub move_at_a_frame
 unfolding channel_line one_line batch_line count_line digits
 move_at_a_frame = refl
 
--- a channel that was told nothing, and one that was told of its focus
+-- a channel that was sent nothing, and one that was told of its focus
 pub two_sections
     : sections_text 8000 (record { id = 1; first_line = 2; messages = [] } ∷ record { id = 2; first_line = 4; messages = record { seq = 1; moment = 0; body = Focus true } ∷ [] } ∷ [])
     ≡ codes "channel 1\nitems 0\nchannel 2\none 1\nitems 1\n"

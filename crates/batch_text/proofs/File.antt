@@ -4,7 +4,7 @@ use Rattle.std.proofs.lemmas.List.{append_assoc, append-nil}
 use Rattle.motion_batch.specs.Calls.{items}
 use Rattle.stream_text.specs.declared.stream_line.StreamLine.{StreamLine}
 use Rattle.stream_text.specs.StreamFile.{Event, Stream, streams_in}
-use Rattle.stream_text.specs.StreamAnswer.{behind, channel_told, opened, with_stream}
+use Rattle.stream_text.specs.StreamAnswer.{behind, channel_sent, opened, with_stream}
 use Rattle.stream_text.proofs.Streams.{channel_opens, others_add_none}
 use Rattle.stream_judge.specs.declared.error.FileError.{FileError}
 use Rattle.stream_judge.specs.declared.error.FileError.TheVariants.{BadLine, NotWellFormed, Memory}
@@ -52,7 +52,7 @@ start_bad f all (NotWellFormed line) e = absurd e
 start_bad f all Memory e = absurd e
 
 pub file_other : (frame : ℕ) (front : List Stream) (all : Result (List Stream) ℕ) (n : ℕ) (says : StreamLine) (line : Option Event) (left new : Result (List Event) ℕ) (text : List ℕ)
-    → FileSoFar frame front all (Some (n, says)) left text → channel_told says ≡ None → left ≡ behind line new → FileSoFar frame front all line new text
+    → FileSoFar frame front all (Some (n, says)) left text → channel_sent says ≡ None → left ≡ behind line new → FileSoFar frame front all line new text
 file_other frame front all n says line left new text f none e =
     record {
       read = ap (before front) (ap streams_in (sym e) ∙ sym (others_add_none n says left none)) ∙ f.read;
@@ -62,7 +62,7 @@ file_other frame front all n says line left new text f none e =
     }
 
 pub other_bad : (frame : ℕ) (front : List Stream) (all : Result (List Stream) ℕ) (n : ℕ) (says : StreamLine) (left : Result (List Event) ℕ) (text : List ℕ) (error : FileError)
-    → FileSoFar frame front all (Some (n, says)) left text → channel_told says ≡ None → IsBad left error → Refuses (judged (sections_text frame) all) error
+    → FileSoFar frame front all (Some (n, says)) left text → channel_sent says ≡ None → IsBad left error → Refuses (judged (sections_text frame) all) error
 other_bad frame front all n says left text (BadLine bad) f none e =
     subst (λ r. Refuses (judged (sections_text frame) r) (BadLine bad)) f.read
     (bad_behind (sections_text frame) front (streams_in (behind (Some (n, says)) left)) bad (others_add_none n says left none ∙ ap streams_in e))
@@ -80,7 +80,7 @@ section_numbers frame front all n says left text f = first_numbers f.numbers.0 n
 
 -- a section in front of those that are left
 pub file_section : (frame : ℕ) (front : List Stream) (all : Result (List Stream) ℕ) (n id : ℕ) (says : StreamLine) (line : Option Event) (left new : Result (List Event) ℕ)
-    (text text' : List ℕ) → FileSoFar frame front all (Some (n, says)) left text → channel_told says ≡ Some id
+    (text text' : List ℕ) → FileSoFar frame front all (Some (n, says)) left text → channel_sent says ≡ Some id
     → (r : ReadsSection frame left new (text ++ channel_line id) text' line)
     → FileSoFar frame (front ++ record { id = id; first_line = n + 1; messages = r.messages } ∷ []) all line new text'
 file_section frame front all n id says line left new text text' f is r =
@@ -97,7 +97,7 @@ file_section frame front all n id says line left new text text' f is r =
     }
 
 pub file_refused : (frame : ℕ) (front : List Stream) (all : Result (List Stream) ℕ) (n id : ℕ) (says : StreamLine) (left : Result (List Event) ℕ) (text : List ℕ) (error : FileError)
-    → FileSoFar frame front all (Some (n, says)) left text → channel_told says ≡ Some id → RefusesSection (n + 1) left error
+    → FileSoFar frame front all (Some (n, says)) left text → channel_sent says ≡ Some id → RefusesSection (n + 1) left error
     → Refuses (judged (sections_text frame) all) error
 file_refused frame front all n id says left text error f is h =
     subst (λ r. Refuses (judged (sections_text frame) r) error) (ap (before front) (sym (channel_opens id n says left is)) ∙ f.read)

@@ -5,7 +5,7 @@ use Rattle.motion_batch.specs.Calls.{Call, flushed, items}
 use Rattle.gesture_verifier.specs.Told.{Told as Tables}
 use Rattle.stream_text.specs.declared.stream_line.StreamLine.TheVariants.{Message}
 use Rattle.stream_text.specs.StreamFile.{Event, Stream}
-use Rattle.stream_text.specs.StreamAnswer.{behind, message_told, opened}
+use Rattle.stream_text.specs.StreamAnswer.{behind, message_sent, opened}
 use Rattle.stream_text.proofs.Streams.{opened_end, opened_more}
 use Rattle.stream_judge.specs.declared.error.FileError.{FileError}
 use Rattle.stream_judge.specs.declared.error.FileError.TheVariants.{BadLine, NotWellFormed, Memory}
@@ -16,7 +16,7 @@ use Rattle.batch_text.specs.Frames.{calls_from, with_message}
 use Rattle.batch_text.specs.Lines.{items_text}
 use Rattle.batch_text.specs.Sections.{IsBad, ReadsSection, RefusesSection, before, message_at}
 use Rattle.batch_text.specs.Writing.{Written}
-use Rattle.batch_text.proofs.Reading.{bad_behind, numbers_next, refused_behind, told_at, told_none}
+use Rattle.batch_text.proofs.Reading.{bad_behind, numbers_next, refused_behind, sent_at, sent_none}
 
 -- these messages of a section were read, and what is left is that of all of them
 pub record SoFar (frame : ℕ) (messages : List Told) (old now : Result (List Event) ℕ) (judge : Tables) (front text : List ℕ) (b : Batches) : Type 0 where
@@ -48,10 +48,10 @@ pub one_more : (frame : ℕ) (messages : List Told) (old now new : Result (List 
     → SoFar frame messages old now judge front text b → now ≡ behind line new → message_at line ≡ Some (k, m) → HasPassed (messages ++ m ∷ []) judge'
     → Written (with_message frame (calls_from frame [] messages) m) front b' text' → SoFar frame (messages ++ m ∷ []) old new judge' front text' b'
 one_more frame messages old now new judge judge' front text text' b b' line k m s e is passed written =
-    let line_is : line ≡ Some (k, Message m) = told_at line k m is in
+    let line_is : line ≡ Some (k, Message m) = sent_at line k m is in
     record {
       read = λ id first.
-          sym (opened_more id first messages m line new (ap message_told line_is)) ∙ ap (opened id first messages) (sym e) ∙ s.read id first;
+          sym (opened_more id first messages m line new (ap message_sent line_is)) ∙ ap (opened id first messages) (sym e) ∙ s.read id first;
       passed = passed;
       written = subst (λ calls. Written calls front b' text') (sym (calls_more frame [] messages m)) written;
       numbers = λ first h.
@@ -65,7 +65,7 @@ pub section_end : (frame : ℕ) (messages : List Told) (old now new : Result (Li
 section_end frame messages old now new judge front text text' b line s e none written =
     record {
       messages = messages;
-      read = λ id first. sym (s.read id first) ∙ ap (opened id first messages) e ∙ opened_end id first messages line new (told_none line none);
+      read = λ id first. sym (s.read id first) ∙ ap (opened id first messages) e ∙ opened_end id first messages line new (sent_none line none);
       unbroken = s.passed.unbroken;
       numbers = λ first h. (first + length messages, subst (λ r. Numbers (first + length messages) r) e (s.numbers first h));
       items_are = written;
@@ -84,7 +84,7 @@ pub section_broken : (frame : ℕ) (messages : List Told) (old now new : Result 
     → ((n : ℕ) (rest : List Told) → break_from n [] (messages ++ m ∷ rest) ≡ Some (n + length messages)) → error ≡ refused_at k new
     → (first : ℕ) → Numbers first old → RefusesSection first old error
 section_broken frame messages old now new judge front text b line k m error s e is breaks refused first h =
-    let there : now ≡ behind (Some (k, Message m)) new = e ∙ ap (λ l. behind l new) (told_at line k m is) in
+    let there : now ≡ behind (Some (k, Message m)) new = e ∙ ap (λ l. behind l new) (sent_at line k m is) in
     let numbers = subst (λ r. Numbers (first + length messages) r) there (s.numbers first h) in
     λ f id streams none.
     let path : opened id first messages (behind (Some (k, Message m)) new) ≡ opened id first [] old =

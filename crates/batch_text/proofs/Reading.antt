@@ -4,9 +4,9 @@ use Rattle.std.proofs.lemmas.List.{append_assoc}
 use Rattle.std.specs.Option.{option_or}
 use Rattle.input_types.specs.declared.message.Message.{Message as Told}
 use Rattle.stream_text.specs.declared.stream_line.StreamLine.{StreamLine}
-use Rattle.stream_text.specs.declared.stream_line.StreamLine.TheVariants.{Channel, Message, End, Naming}
+use Rattle.stream_text.specs.declared.stream_line.StreamLine.TheVariants.{Channel, Message, End, Anr}
 use Rattle.stream_text.specs.StreamFile.{Event, Goes, Stream, Unread, messages_of, streams_in, streams_of, with_event}
-use Rattle.stream_text.specs.StreamAnswer.{behind, channel_told, message_told, opened, pending, with_stream}
+use Rattle.stream_text.specs.StreamAnswer.{behind, channel_sent, message_sent, opened, pending, with_stream}
 use Rattle.stream_text.proofs.Streams.{goes_behind}
 use Rattle.stream_judge.specs.declared.error.FileError.{FileError}
 use Rattle.stream_judge.specs.declared.error.FileError.TheVariants.{BadLine, NotWellFormed, Memory}
@@ -19,21 +19,21 @@ pub line_behind : (old : Unread) (line : Option Event) (new : Unread) → Goes o
 line_behind old line new h = goes_behind old line new h
 
 -- a message that a line is
-pub told_at : (line : Option Event) (n : ℕ) (m : Told) → message_at line ≡ Some (n, m) → line ≡ Some (n, Message m)
-told_at None n m e = cc e
-told_at (Some (k, Message x)) n m e =
+pub sent_at : (line : Option Event) (n : ℕ) (m : Told) → message_at line ≡ Some (n, m) → line ≡ Some (n, Message m)
+sent_at None n m e = cc e
+sent_at (Some (k, Message x)) n m e =
     let same : ◌≡◌ {A = ℕ × Told} (k, x) (n, m) = cc in
     ap (λ (p : ℕ × Told). Some (p.0, Message p.1)) same
-told_at (Some (k, Channel c)) n m e = cc e
-told_at (Some (k, End c s r f)) n m e = cc e
-told_at (Some (k, Naming c i s)) n m e = cc e
+sent_at (Some (k, Channel c)) n m e = cc e
+sent_at (Some (k, End c s r f)) n m e = cc e
+sent_at (Some (k, Anr c i s)) n m e = cc e
 
-pub told_none : (line : Option Event) → message_at line ≡ None → message_told line ≡ None
-told_none None e = refl
-told_none (Some (k, Message x)) e = cc e
-told_none (Some (k, Channel c)) e = refl
-told_none (Some (k, End c s r f)) e = refl
-told_none (Some (k, Naming c i s)) e = refl
+pub sent_none : (line : Option Event) → message_at line ≡ None → message_sent line ≡ None
+sent_none None e = refl
+sent_none (Some (k, Message x)) e = cc e
+sent_none (Some (k, Channel c)) e = refl
+sent_none (Some (k, End c s r f)) e = refl
+sent_none (Some (k, Anr c i s)) e = refl
 
 -- the number of a line that was read, where none of those behind it is bad
 pub numbers_line : (n k : ℕ) (says : StreamLine) (left : Result (List Event) ℕ) → Numbers n (behind (Some (k, says)) left)

@@ -1,6 +1,6 @@
 //! The text of a whole file.
 ghost use Rattle.std.specs.Prelude.{◌≡◌, ◌≤◌, Ok, IfOk, IfErr};
-ghost use Rattle.stream_text.specs.StreamAnswer.{channel_told};
+ghost use Rattle.stream_text.specs.StreamAnswer.{channel_sent};
 ghost use Rattle.stream_judge.specs.Judged.{Refuses};
 ghost use Rattle.batch_text.specs.Text.{batched};
 
@@ -12,7 +12,7 @@ use stream_text::{StreamLine, StreamLines};
 
 /// The channel whose section a line begins.
 fn channel_of(says: &StreamLine) -> Option<u32>
-    ensures { result ≡ channel_told says.now }
+    ensures { result ≡ channel_sent says.now }
 {
     match says {
         StreamLine::Channel { id } => Some(*id),

@@ -1,4 +1,4 @@
--- Cancels are told one by one.
+-- Cancels are sent one by one.
 use Rattle.std.proofs.Common.{ℕ, ◌+◌, ◌<◌, ◌≡◌, ◌==◌, not, Bool, true, false, List, [], ◌∷◌, length, drop, get_or, slice_get, filter, Some, None, add-one, suc, refl, sym, ap, ap₂, ◌∙◌, arith}
 use Rattle.std.proofs.Math.Seq.{drop-cons}
 use Rattle.std.proofs.lemmas.Bool.{ne_eqb}
@@ -6,11 +6,11 @@ use Rattle.input_types.specs.declared.motion.Motion.{Motion}
 use Rattle.input_types.specs.declared.motion.MotionAction.TheVariants.{PointerUp}
 use Rattle.input_types.specs.declared.pointer.Pointer.{Pointer}
 use Rattle.input_types.specs.Gestures.{flag_canceled}
-use Rattle.routing_rules.specs.Told.{listing, index_in, cancelled_ups, cancels_of}
+use Rattle.routing_rules.specs.Outgoing.{listing, index_in, cancelled_ups, cancels_of}
 use Rattle.routing_rules.proofs.Listings.{listing_same}
-use Rattle.cancel_synthesis.specs.Cancelling.{told_from}
+use Rattle.cancel_synthesis.specs.Cancelling.{sent_from}
 use Rattle.cancel_synthesis.specs.Ends.{pointers_cancelled}
-use Rattle.cancel_synthesis.proofs.PointerEnds.{as_cases, told_whole}
+use Rattle.cancel_synthesis.proofs.PointerEnds.{as_cases, sent_whole}
 
 -- the first of some, and the others
 pub first_of : {A : Type 0} (xs : List A) (x : A) → Some x ≡ slice_get xs 0 → xs ≡ x ∷ drop 1 xs
@@ -26,31 +26,31 @@ here : (ps : List Pointer) (n : ℕ) (p : Pointer) → n < length ps → p ≡ g
 here ps n p lt is = drop-cons ps n p lt ∙ ap₂ (λ y k. y ∷ drop k ps) (sym is) (sym (add-one n))
 
 -- a cancelled up
-ups : (d : ℕ) (left gone : List Pointer) → told_from d false left gone ≡ cancelled_ups d left gone
+ups : (d : ℕ) (left gone : List Pointer) → sent_from d false left gone ≡ cancelled_ups d left gone
 ups d left [] = refl
 ups d left (p ∷ gone) = refl
 
 pub up_left : (d : ℕ) (ends : Bool) (left gone : List Pointer) (n : ℕ) (p : Pointer) → ends ≡ false → n < length gone → p ≡ get_or gone n p
-    → told_from d ends left (drop n gone)
+    → sent_from d ends left (drop n gone)
     ≡ record { device = d; action = PointerUp; index = index_in p.id left; flags = flag_canceled; pointers = left }
-    ∷ told_from d ends (filter (λ q. not (q.id == p.id)) left) (drop (n + 1) gone)
+    ∷ sent_from d ends (filter (λ q. not (q.id == p.id)) left) (drop (n + 1) gone)
 up_left d ends left gone n p e lt is =
-    ap₂ (λ b ps. told_from d b left ps) e (here gone n p lt is)
+    ap₂ (λ b ps. sent_from d b left ps) e (here gone n p lt is)
     ∙ ap (λ (ms : List Motion). record { device = d; action = PointerUp; index = index_in p.id left; flags = flag_canceled; pointers = left } ∷ ms)
     (sym (ups d (filter (λ q. not (q.id == p.id)) left) (drop (n + 1) gone))
-    ∙ ap (λ b. told_from d b (filter (λ q. not (q.id == p.id)) left) (drop (n + 1) gone)) (sym e))
+    ∙ ap (λ b. sent_from d b (filter (λ q. not (q.id == p.id)) left) (drop (n + 1) gone)) (sym e))
 
 no_zero : (n : ℕ) → (suc n == 0) ≡ false
 no_zero n = ne_eqb (suc n) 0 (λ e. absurd (omega (arith, e)))
 
--- where a Cancel is told of all that a window has, it is told nothing else
-pub whole_told : (d : ℕ) (had none : List Pointer) (m : Motion) → none ≡ [] → Some m ≡ slice_get (cancels_of d had none had) 0
+-- where a Cancel is told of all that a window has, it is sent nothing else
+pub whole_sent : (d : ℕ) (had none : List Pointer) (m : Motion) → none ≡ [] → Some m ≡ slice_get (cancels_of d had none had) 0
     → pointers_cancelled d (λ i. true) had ≡ m ∷ []
-whole_told d had none m e first = at had (first ∙ ap (λ ps. slice_get (cancels_of d had ps had) 0) e)
+whole_sent d had none m e first = at had (first ∙ ap (λ ps. slice_get (cancels_of d had ps had) 0) e)
   where
     at : (ps : List Pointer) → Some m ≡ slice_get (cancels_of d ps [] ps) 0 → pointers_cancelled d (λ i. true) ps ≡ m ∷ []
     at [] f = cc
-    at (p ∷ ps) f = told_whole d (p ∷ ps) (no_zero (length ps)) ∙ cc
+    at (p ∷ ps) f = sent_whole d (p ∷ ps) (no_zero (length ps)) ∙ cc
 
 -- the cancels of those that are not in a set
 double_not : (b : Bool) → not (not b) ≡ b

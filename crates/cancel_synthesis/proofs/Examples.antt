@@ -1,4 +1,4 @@
--- Worked cancels, of what a window was told.
+-- Worked cancels, of what a window was sent.
 use Rattle.std.specs.Prelude.{ℕ, pos, ◌==◌, ◌||◌, ◌≡◌, Bool, true, false, List, [], ◌∷◌, replicate, refl}
 use Rattle.input_types.specs.declared.key.KeyMsg.{KeyMsg}
 use Rattle.input_types.specs.declared.message.Body.TheVariants.{Motion as MotionBody, Key}

@@ -5,7 +5,7 @@ use Rattle.std.proofs.lemmas.Bool.{cases_Bool, eq-eqb, ne_eqb, both_ways, or_lef
 use Rattle.input_types.specs.declared.key.KeyMsg.{KeyMsg}
 use Rattle.cancel_synthesis.specs.Tracked.{same_key}
 use Rattle.cancel_synthesis.specs.Ends.{keys_cancelled, of_device}
-use Rattle.cancel_synthesis.specs.Laws.{keys_told, KeysEnd, DeviceKeysEnd}
+use Rattle.cancel_synthesis.specs.Laws.{keys_sent, KeysEnd, DeviceKeysEnd}
 
 -- a message of the list
 abbrev Among : KeyMsg → List KeyMsg → Type 0
@@ -37,7 +37,7 @@ filter_twice f g (x ∷ xs) = by_test (f x) (filter_twice f g xs)
     by_test false e = e
 
 -- tracking cancels takes their keys away
-cancels_leave : (rs ls : List KeyMsg) → keys_told (keys_cancelled rs) ls ≡ filter (λ l. not (some_key rs l)) ls
+cancels_leave : (rs ls : List KeyMsg) → keys_sent (keys_cancelled rs) ls ≡ filter (λ l. not (some_key rs l)) ls
 cancels_leave [] ls = all ls
   where
     all : (ls : List KeyMsg) → ls ≡ filter (λ l. true) ls

@@ -6,11 +6,11 @@ use Rattle.bits32.specs.Set.{is_in, marked}
 use Rattle.bits32.proofs.Members.{is_in_marked}
 use Rattle.input_types.specs.declared.motion.MotionAction.TheVariants.{Cancel}
 use Rattle.input_types.specs.declared.pointer.Pointer.{Pointer}
-use Rattle.routing_rules.specs.Told.{listing, index_in, plain, cancelled_ups, cancels_of}
+use Rattle.routing_rules.specs.Outgoing.{listing, index_in, plain, cancelled_ups, cancels_of}
 use Rattle.routing_rules.proofs.Listings.{has_id, has_id-listing, listing_same}
 use Rattle.cancel_synthesis.specs.Tracked.{without, pointers_in, is_device}
 use Rattle.cancel_synthesis.specs.Ends.{pointers_cancelled}
-use Rattle.cancel_synthesis.specs.Laws.{pointers_told, PointersEnd, CancelsLaw}
+use Rattle.cancel_synthesis.specs.Laws.{pointers_sent, PointersEnd, CancelsLaw}
 
 -- a listing of everything, and a listing of a listing
 pub listing_all : (ps : List Pointer) → listing (λ i. true) ps ≡ ps
@@ -56,23 +56,23 @@ positive : (n : ℕ) → (n == 0) ≡ false → 0 < n
 positive zero e = absurd (true≢false e)
 positive (suc n) e = omega arith
 
-pub told_none : (d : ℕ) (lost : ℕ → Bool) (had gone : List Pointer) → gone ≡ listing lost had → (length gone == 0) ≡ true
+pub sent_none : (d : ℕ) (lost : ℕ → Bool) (had gone : List Pointer) → gone ≡ listing lost had → (length gone == 0) ≡ true
     → pointers_cancelled d lost had ≡ []
-told_none d lost had gone g e =
+sent_none d lost had gone g e =
     as_cases d lost had
     ∙ ap (cancels_of d had (listing (λ i. not (lost i)) had)) (sym g)
     ∙ none_cancelled d had (listing (λ i. not (lost i)) had) gone (eqb-true (length gone) 0 e)
 
-pub told_all : (d : ℕ) (lost : ℕ → Bool) (had gone kept : List Pointer) → gone ≡ listing lost had → kept ≡ listing (λ i. not (lost i)) had
+pub sent_all : (d : ℕ) (lost : ℕ → Bool) (had gone kept : List Pointer) → gone ≡ listing lost had → kept ≡ listing (λ i. not (lost i)) had
     → (length gone == 0) ≡ false → (length kept == 0) ≡ true → pointers_cancelled d lost had ≡ plain d Cancel had ∷ []
-told_all d lost had gone kept g k e f =
+sent_all d lost had gone kept g k e f =
     as_cases d lost had
     ∙ ap₂ (cancels_of d had) (sym k) (sym g)
     ∙ all_cancelled d had kept gone (positive (length gone) e) (eqb-true (length kept) 0 f)
 
-pub told_some : (d : ℕ) (lost : ℕ → Bool) (had gone kept : List Pointer) → gone ≡ listing lost had → kept ≡ listing (λ i. not (lost i)) had
+pub sent_some : (d : ℕ) (lost : ℕ → Bool) (had gone kept : List Pointer) → gone ≡ listing lost had → kept ≡ listing (λ i. not (lost i)) had
     → (length gone == 0) ≡ false → (length kept == 0) ≡ false → pointers_cancelled d lost had ≡ cancelled_ups d had gone
-told_some d lost had gone kept g k e f =
+sent_some d lost had gone kept g k e f =
     as_cases d lost had
     ∙ ap₂ (cancels_of d had) (sym k) (sym g)
     ∙ some_cancelled d had kept gone (positive (length gone) e) (positive (length kept) f)
@@ -81,8 +81,8 @@ none_listed : (ps : List Pointer) → [] ≡ listing (λ i. not true) ps
 none_listed [] = refl
 none_listed (p ∷ ps) = none_listed ps
 
-pub told_whole : (d : ℕ) (ps : List Pointer) → (length ps == 0) ≡ false → pointers_cancelled d (λ i. true) ps ≡ plain d Cancel ps ∷ []
-told_whole d ps e = told_all d (λ i. true) ps ps [] (sym (listing_all ps)) (none_listed ps) e refl
+pub sent_whole : (d : ℕ) (ps : List Pointer) → (length ps == 0) ≡ false → pointers_cancelled d (λ i. true) ps ≡ plain d Cancel ps ∷ []
+sent_whole d ps e = sent_all d (λ i. true) ps ps [] (sym (listing_all ps)) (none_listed ps) e refl
 
 -- without an id that it has not, a list is as it is
 none_without : (i : ℕ) (ps : List Pointer) → has_id i ps ≡ false → filter (λ q. not (q.id == i)) ps ≡ ps
@@ -127,10 +127,10 @@ left_of [] ps = ps
 left_of (p ∷ lost) ps = left_of lost (filter (λ q. not (q.id == p.id)) ps)
 
 -- cancelled ups leave that
-ups_leave : (d : ℕ) (lost ps : List Pointer) → pointers_told (cancelled_ups d ps lost) ps ≡ left_of lost ps
+ups_leave : (d : ℕ) (lost ps : List Pointer) → pointers_sent (cancelled_ups d ps lost) ps ≡ left_of lost ps
 ups_leave d [] ps = refl
 ups_leave d (p ∷ lost) ps =
-    ap (pointers_told (cancelled_ups d (filter (λ q. not (q.id == p.id)) ps) lost)) (less_at p.id ps) ∙ ups_leave d lost (filter (λ q. not (q.id == p.id)) ps)
+    ap (pointers_sent (cancelled_ups d (filter (λ q. not (q.id == p.id)) ps) lost)) (less_at p.id ps) ∙ ups_leave d lost (filter (λ q. not (q.id == p.id)) ps)
 
 left_is : (lost ps : List Pointer) → left_of lost ps ≡ listing (λ i. not (has_id i lost)) ps
 left_is [] ps = sym (listing_all ps)
@@ -160,7 +160,7 @@ all_kept lost (p ∷ ps) e = by_test (lost p.id) e (all_kept lost ps)
 
 pub pointers_end : PointersEnd
 pointers_end d lost ps =
-    ap (λ ms. pointers_told ms ps) (as_cases d lost ps) ∙ by_lists (listing (λ i. not (lost i)) ps) (listing lost ps) refl refl
+    ap (λ ms. pointers_sent ms ps) (as_cases d lost ps) ∙ by_lists (listing (λ i. not (lost i)) ps) (listing lost ps) refl refl
   where
     left : left_of (listing lost ps) ps ≡ listing (λ i. not (lost i)) ps
     left =
@@ -173,7 +173,7 @@ pointers_end d lost ps =
         and_true false = refl
 
     by_lists : (kept gone : List Pointer) → listing (λ i. not (lost i)) ps ≡ kept → listing lost ps ≡ gone
-        → pointers_told (cancels_of d ps kept gone) ps ≡ listing (λ i. not (lost i)) ps
+        → pointers_sent (cancels_of d ps kept gone) ps ≡ listing (λ i. not (lost i)) ps
     by_lists kept [] k g = all_kept lost ps g
     by_lists [] (p ∷ gone) k g = sym k
     by_lists (q ∷ kept) (p ∷ gone) k g = ups_leave d (p ∷ gone) ps ∙ ap (λ xs. left_of xs ps) (sym g) ∙ left
@@ -199,7 +199,7 @@ one_less i ps = listing_same (λ j. not (is_in j (marked i 0))) (λ j. not (j ==
     or_false true = refl
     or_false false = refl
 
--- the table of a window that was told nothing
+-- the table of a window that was sent nothing
 pub nothing_in : (n : List Pointer) → n ≡ [] → (k d : ℕ) → pointers_in (replicate k n) d ≡ []
 nothing_in n e k d = by_device (is_device d) refl
   where

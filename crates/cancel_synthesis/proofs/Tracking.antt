@@ -1,4 +1,4 @@
--- What a window is told at a step, tracked, leaves what it holds after it.
+-- What a window is sent at a step, tracked, leaves what it holds after it.
 use Rattle.std.proofs.Common.{ℕ, Bool, true, false, not, cond, ◌&&◌, ◌||◌, ◌==◌, ◌≡◌, List, [], ◌∷◌, length, filter, Option, Some, None, if◌then◌else◌, refl, sym, ap, ap₂, ◌∙◌, subst, inl, inr}
 use Rattle.std.proofs.lemmas.Bool.{cases_Bool, eqb-true, and_parts, and_right, true≢false}
 use Rattle.std.proofs.lemmas.List.Elements.{filter_agree}
@@ -12,17 +12,17 @@ use Rattle.input_types.specs.Gestures.{ids_of, after_motion}
 use Rattle.window_snapshot.specs.Hits.{is_watcher_at}
 use Rattle.routing_rules.specs.Pairs.{has}
 use Rattle.routing_rules.specs.Taking.{takes}
-use Rattle.routing_rules.specs.Scene.{Scene, Moves, Resets, Pilfers, Shows, Mutes, Removes, Rests}
+use Rattle.routing_rules.specs.Scene.{Scene, Moves, Resets, Pilfers, Shows, Mutes, Removes, NoOp}
 use Rattle.routing_rules.specs.Slip.{only, slip_of}
 use Rattle.routing_rules.specs.Given.{changed, mark, given_by, taken_by, slips_out}
-use Rattle.routing_rules.specs.Told.{listing, opening, closing, cancels, or_else, moves as moved, outside, is_up, is_cancelled, is_first, plain, told_motion, after}
+use Rattle.routing_rules.specs.Outgoing.{listing, opening, closing, cancels, or_else, moves as moved, outside, is_up, is_cancelled, is_first, plain, sent_motion, after}
 use Rattle.routing_rules.specs.Fits.{Fits}
 use Rattle.routing_rules.proofs.Listings.{has_id, Apart, apart_rising, ids_of-listing, filter-filter_sub, has_id-listing, listing_same}
 use Rattle.routing_rules.proofs.MotionKind.{Kind, opens, moves, closes, kind_at}
-use Rattle.routing_rules.proofs.ToldMotion.{Shape, held_before}
+use Rattle.routing_rules.proofs.SentMotion.{Shape, held_before}
 use Rattle.routing_rules.proofs.Changes.{after_none}
-use Rattle.routing_rules.proofs.ToldLaws.{shape_of, other_motion, quiet_cancels, and_not}
-use Rattle.cancel_synthesis.specs.Laws.{pointers_told, TracksLaw}
+use Rattle.routing_rules.proofs.SentLaws.{shape_of, other_motion, quiet_cancels, and_not}
+use Rattle.cancel_synthesis.specs.Laws.{pointers_sent, TracksLaw}
 use Rattle.cancel_synthesis.proofs.PointerEnds.{listing_twice, less_at, pointers_end, cancels_law}
 
 and_true : (b : Bool) → (b && true) ≡ b
@@ -42,21 +42,21 @@ lost_takes false false false e h = absurd (true≢false (sym h))
 
 -- what is taken, tracked
 taken_tracked : (d : ℕ) (last : List Pointer) (b l lost : ℕ → Bool) → ((i : ℕ) → l i ≡ (b i && not (lost i)))
-    → pointers_told (cancels d last b l) (listing b last) ≡ listing l last
+    → pointers_sent (cancels d last b l) (listing b last) ≡ listing l last
 taken_tracked d last b l lost same =
-    ap (λ ms. pointers_told ms (listing b last)) (sym (cancels_law d last b l lost same))
+    ap (λ ms. pointers_sent ms (listing b last)) (sym (cancels_law d last b l lost same))
     ∙ pointers_end d lost (listing b last)
     ∙ listing_twice b (λ i. not (lost i)) last
     ∙ listing_same (λ i. b i && not (lost i)) l last (λ i h. sym (same i))
 
 -- a pointer that goes down or up, tracked
-opening_tracked : (d i : ℕ) (qs before : List Pointer) → pointers_told (opening d i qs ∷ []) before ≡ qs
+opening_tracked : (d i : ℕ) (qs before : List Pointer) → pointers_sent (opening d i qs ∷ []) before ≡ qs
 opening_tracked d i [] before = refl
 opening_tracked d i (q ∷ []) before = refl
 opening_tracked d i (q ∷ r ∷ qs) before = refl
 
 closing_tracked : (d i : ℕ) (c : Bool) (qs before : List Pointer) → has_id i qs ≡ true
-    → pointers_told (closing d i c qs ∷ []) before ≡ filter (λ q. not (q.id == i)) qs
+    → pointers_sent (closing d i c qs ∷ []) before ≡ filter (λ q. not (q.id == i)) qs
 closing_tracked d i c [] before h = absurd (true≢false (sym h))
 closing_tracked d i true (q ∷ []) before h = last_one (q.id == i) h
   where
@@ -77,13 +77,13 @@ no_ids (q ∷ qs) e = cc
 
 -- a touch outside changes nothing
 outside_tracked : (d : ℕ) (p : Pointer) (c : Bool) (before : List Pointer)
-    → pointers_told (if c then plain d Outside (p ∷ []) ∷ [] else []) before ≡ before
+    → pointers_sent (if c then plain d Outside (p ∷ []) ∷ [] else []) before ≡ before
 outside_tracked d p true before = refl
 outside_tracked d p false before = refl
 
 -- what moves, tracked, where the ids of what was tracked are those that move
-moves_tracked : (d : ℕ) (qs before : List Pointer) (rest : List Motion) → pointers_told rest before ≡ before → ids_of before ≡ ids_of qs
-    → pointers_told (or_else (moved d qs) rest) before ≡ qs
+moves_tracked : (d : ℕ) (qs before : List Pointer) (rest : List Motion) → pointers_sent rest before ≡ before → ids_of before ≡ ids_of qs
+    → pointers_sent (or_else (moved d qs) rest) before ≡ qs
 moves_tracked d [] before rest e same = e ∙ no_ids before same
 moves_tracked d (q ∷ qs) before rest e same = refl
 
@@ -108,7 +108,7 @@ slipped_alone s m Move p w u t e = by_only m.pointers refl (ap (λ a. takes (sli
 otherwise_tracked : (s : Scene) (m : Motion) (p : Pointer) (w : ℕ) (down next : List ℕ) → changed m ≡ Some p
     → Shape s m p (s.holds w m.device) (after s (mark s (Moves m)) w m.device) down next
     → (after s (mark s (Moves m)) w m.device p.id && not (s.holds w m.device p.id)) ≡ false → (is_up m.action && s.holds w m.device p.id) ≡ false
-    → pointers_told
+    → pointers_sent
     (or_else (cancels m.device (s.last m.device) (s.holds w m.device) (after s (mark s (Moves m)) w m.device))
     (or_else (moved m.device (listing (after s (mark s (Moves m)) w m.device) m.pointers)) (outside s m p w)))
     (listing (s.holds w m.device) (s.last m.device))
@@ -130,7 +130,7 @@ otherwise_tracked s m p w down next c x given upped = by_cancels (cancels d last
     sub : (j : ℕ) → l j ≡ true → b j ≡ true
     sub = held_before b l p.id given x.others
 
-    left : pointers_told (cancels d last b l) (listing b last) ≡ listing l last
+    left : pointers_sent (cancels d last b l) (listing b last) ≡ listing l last
     left = taken_tracked d last b l (λ i. not (l i)) (λ i. within (b i) (l i) (sub i))
       where
         within : (y z : Bool) → (z ≡ true → y ≡ true) → z ≡ (y && not (not z))
@@ -147,25 +147,25 @@ otherwise_tracked s m p w down next c x given upped = by_cancels (cancels d last
         ∙ x.later_is
 
     by_cancels : (ms : List Motion) → cancels d last b l ≡ ms
-        → pointers_told (or_else ms (or_else (moved d (listing l m.pointers)) (outside s m p w))) (listing b last) ≡ listing l m.pointers
+        → pointers_sent (or_else ms (or_else (moved d (listing l m.pointers)) (outside s m p w))) (listing b last) ≡ listing l m.pointers
     by_cancels [] e =
-        let stays : listing b last ≡ listing l last = sym (ap (λ ms. pointers_told ms (listing b last)) e) ∙ left in
+        let stays : listing b last ≡ listing l last = sym (ap (λ ms. pointers_sent ms (listing b last)) e) ∙ left in
         moves_tracked d (listing l m.pointers) (listing b last) (outside s m p w)
         (outside_tracked m.device p (is_first m.action && s.able w && is_watcher_at s.windows (s.reach m.device) p.at.x p.at.y w) (listing b last))
         (ap ids_of stays ∙ same_ids)
     by_cancels (y ∷ ys) e =
         let none : listing l m.pointers ≡ [] = nothing_left (l p.id) (b p.id) refl refl in
-        sym (ap (λ ms. pointers_told ms (listing b last)) e) ∙ left ∙ no_ids (listing l last) (same_ids ∙ ap ids_of none) ∙ sym none
+        sym (ap (λ ms. pointers_sent ms (listing b last)) e) ∙ left ∙ no_ids (listing l last) (same_ids ∙ ap ids_of none) ∙ sym none
       where
         not_quiet : l p.id ≡ b p.id → ⊥
-        not_quiet q = told_something (sym e ∙ quiet_cancels d last b l (agree q))
+        not_quiet q = sent_something (sym e ∙ quiet_cancels d last b l (agree q))
           where
             agree : l p.id ≡ b p.id → (j : ℕ) → l j ≡ b j
             agree q j =
                 elim (cases_Bool (j == p.id)) [ inl t ↦ subst (λ i. l i ≡ b i) (sym (eqb-true j p.id t)) q | inr n ↦ x.others j n ]
 
-            told_something : y ∷ ys ≡ [] → ⊥
-            told_something z = cc
+            sent_something : y ∷ ys ≡ [] → ⊥
+            sent_something z = cc
 
         nothing_left : (u v : Bool) → l p.id ≡ u → b p.id ≡ v → listing l m.pointers ≡ []
         nothing_left true v lp bp = absurd (not_quiet (lp ∙ sym (sub p.id lp)))
@@ -188,7 +188,7 @@ rows_tracked : (s : Scene) (m : Motion) (p : Pointer) (w : ℕ) (down next : Lis
     → Shape s m p (s.holds w m.device) (after s (mark s (Moves m)) w m.device) down next
     → (gained upped : Bool) → (after s (mark s (Moves m)) w m.device p.id && not (s.holds w m.device p.id)) ≡ gained
     → (is_up m.action && s.holds w m.device p.id) ≡ upped
-    → pointers_told
+    → pointers_sent
     (cond gained (opening m.device p.id (listing (after s (mark s (Moves m)) w m.device) m.pointers) ∷ [])
     (cond upped (closing m.device p.id (is_cancelled m.action m.flags) (listing (s.holds w m.device) m.pointers) ∷ [])
     (or_else (cancels m.device (s.last m.device) (s.holds w m.device) (after s (mark s (Moves m)) w m.device))
@@ -212,13 +212,13 @@ rows_tracked s m p w down next c x false true g u =
     ])
 rows_tracked s m p w down next c x false false g u = otherwise_tracked s m p w down next c x g u
 
-moved_alone : (d : ℕ) (qs before : List Pointer) → ids_of before ≡ ids_of qs → pointers_told (moved d qs) before ≡ qs
+moved_alone : (d : ℕ) (qs before : List Pointer) → ids_of before ≡ ids_of qs → pointers_sent (moved d qs) before ≡ qs
 moved_alone d [] before same = no_ids before same
 moved_alone d (q ∷ qs) before same = refl
 
 -- a motion about no pointer
 none_tracked : (s : Scene) (m : Motion) (w : ℕ) (down next : List ℕ) → Fits s m.device down → changed m ≡ None → Kind m down next
-    → pointers_told
+    → pointers_sent
     (or_else (cancels m.device (s.last m.device) (s.holds w m.device) (after s (mark s (Moves m)) w m.device))
     (moved m.device (listing (after s (mark s (Moves m)) w m.device) m.pointers)))
     (listing (s.holds w m.device) (s.last m.device))
@@ -230,7 +230,7 @@ none_tracked s m w down next f c (moves e g u v) =
     let l : ℕ → Bool = after s (mark s (Moves m)) w m.device in
     let last : List Pointer = s.last m.device in
     let same : (i : ℕ) → l i ≡ b i = after_none s m c w m.device in
-    ap (λ ms. pointers_told (or_else ms (moved m.device (listing l m.pointers))) (listing b last)) (quiet_cancels m.device last b l same)
+    ap (λ ms. pointers_sent (or_else ms (moved m.device (listing l m.pointers))) (listing b last)) (quiet_cancels m.device last b l same)
     ∙ moved_alone m.device (listing l m.pointers) (listing b last)
     (sym (ids_of-listing b last)
     ∙ f.held_is_listed w
@@ -240,7 +240,7 @@ none_tracked s m w down next f c (moves e g u v) =
 
 own_tracked : (s : Scene) (m : Motion) (w : ℕ) (down next : List ℕ) → Fits s m.device down → Apart m.pointers → Kind m down next
     → (o : Option Pointer) → changed m ≡ o
-    → pointers_told (told_motion s m o w (s.holds w m.device) (after s (mark s (Moves m)) w m.device)) (listing (s.holds w m.device) (s.last m.device))
+    → pointers_sent (sent_motion s m o w (s.holds w m.device) (after s (mark s (Moves m)) w m.device)) (listing (s.holds w m.device) (s.last m.device))
     ≡ listing (after s (mark s (Moves m)) w m.device) m.pointers
 own_tracked s m w down next f a kind None c = none_tracked s m w down next f c kind
 own_tracked s m w down next f a kind (Some p) c =
@@ -249,7 +249,7 @@ own_tracked s m w down next f a kind (Some p) c =
 
 motion_tracked : (s : Scene) (m : Motion) (w d : ℕ) (down next : List ℕ) → Fits s d down → IsRising m.pointers → (c : Bool) → (m.device == d) ≡ c
     → (if c then (if is_of_device m.action (length m.pointers) then after_motion down m else None) else Some down) ≡ Some next
-    → pointers_told (if c then told_motion s m (changed m) w (s.holds w d) (after s (mark s (Moves m)) w d) else []) (listing (s.holds w d) (s.last d))
+    → pointers_sent (if c then sent_motion s m (changed m) w (s.holds w d) (after s (mark s (Moves m)) w d) else []) (listing (s.holds w d) (s.last d))
     ≡ listing (after s (mark s (Moves m)) w d) (if c then m.pointers else s.last d)
 motion_tracked s m w d down next f r false n e =
     listing_same (s.holds w d) (after s (mark s (Moves m)) w d) (s.last d) (λ i h. sym (other_motion s m w d n (changed m) refl i))
@@ -257,7 +257,7 @@ motion_tracked s m w d down next f r true t e =
     subst
     (λ x.
     Fits s x down
-    → pointers_told (told_motion s m (changed m) w (s.holds w x) (after s (mark s (Moves m)) w x)) (listing (s.holds w x) (s.last x))
+    → pointers_sent (sent_motion s m (changed m) w (s.holds w x) (after s (mark s (Moves m)) w x)) (listing (s.holds w x) (s.last x))
     ≡ listing (after s (mark s (Moves m)) w x) m.pointers)
     (eqb-true m.device d t)
     (λ g.
@@ -281,5 +281,5 @@ tracks_law s (Mutes muted) w d down next f r lv n =
     taken_tracked d (s.last d) (s.holds w d) (after s (mark s (Mutes muted)) w d) (λ i. muted w) (λ i. refl)
 tracks_law s (Removes v) w d down next f r lv n =
     listing_same (s.holds w d) (after s (mark s (Removes v)) w d) (s.last d) (λ i h. sym (and_not (s.holds w d i) (w == v) lv))
-tracks_law s Rests w d down next f r lv n =
-    listing_same (s.holds w d) (after s (mark s Rests) w d) (s.last d) (λ i h. sym (and_not (s.holds w d i) false refl))
+tracks_law s NoOp w d down next f r lv n =
+    listing_same (s.holds w d) (after s (mark s NoOp) w d) (s.last d) (λ i h. sym (and_not (s.holds w d i) false refl))

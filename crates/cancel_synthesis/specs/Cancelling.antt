@@ -3,7 +3,7 @@ use Rattle.std.specs.Prelude.{ℕ, Bool, true, false, List, [], ◌∷◌}
 use Rattle.input_types.specs.declared.motion.Motion.{Motion}
 use Rattle.input_types.specs.declared.motion.MotionAction.TheVariants.{Cancel}
 use Rattle.input_types.specs.declared.pointer.Pointer.{Pointer}
-use Rattle.routing_rules.specs.Told.{plain, cancelled_ups}
+use Rattle.routing_rules.specs.Outgoing.{plain, cancelled_ups}
 
 -- pointers of a device are taken from a window: whether it keeps none, what it still has, and what it is still to be
 -- told of
@@ -14,11 +14,11 @@ pub record Cancelling : Type 0 where
   pub gone : List Pointer
 
 -- one Cancel of what it still has, where it keeps none, and else a cancelled up for each that is gone
-abbrev pub told_from : ℕ → (ends : Bool) → (left gone : List Pointer) → List Motion
-told_from d ends left [] = []
-told_from d true left (p ∷ gone) = plain d Cancel left ∷ []
-told_from d false left (p ∷ gone) = cancelled_ups d left (p ∷ gone)
+abbrev pub sent_from : ℕ → (ends : Bool) → (left gone : List Pointer) → List Motion
+sent_from d ends left [] = []
+sent_from d true left (p ∷ gone) = plain d Cancel left ∷ []
+sent_from d false left (p ∷ gone) = cancelled_ups d left (p ∷ gone)
 
--- the motions that the window is still to be told
-abbrev pub still_told : Cancelling → List Motion
-still_told c = told_from c.device c.ends c.left c.gone
+-- the motions that the window is still to be sent
+abbrev pub still_sent : Cancelling → List Motion
+still_sent c = sent_from c.device c.ends c.left c.gone

@@ -7,7 +7,7 @@ use Rattle.input_types.specs.declared.message.Body.TheVariants.{Motion as Motion
 use Rattle.input_types.specs.declared.motion.Motion.{Motion}
 use Rattle.input_types.specs.declared.pointer.Pointer.{Pointer}
 use Rattle.input_types.specs.Gestures.{flag_canceled}
-use Rattle.routing_rules.specs.Told.{cancels, devices}
+use Rattle.routing_rules.specs.Outgoing.{cancels, devices}
 use Rattle.cancel_synthesis.specs.Tracked.{Tracked, pointers_in}
 
 -- pointers with these ids are taken from a window that has these of the device
@@ -29,18 +29,18 @@ abbrev pub of_device : ℕ → List KeyMsg → List KeyMsg
 of_device d ms = filter (λ m. m.key.device == d) ms
 
 -- all keys that are down, as bodies
-abbrev pub keys_told : List KeyMsg → List Body
-keys_told ms = map Key (keys_cancelled ms)
+abbrev pub keys_sent : List KeyMsg → List Body
+keys_sent ms = map Key (keys_cancelled ms)
 
 -- all pointers of a device are taken
-abbrev pub device_told : ℕ → List Pointer → List Body
-device_told d ps = map MotionBody (pointers_cancelled d (λ i. true) ps)
+abbrev pub device_sent : ℕ → List Pointer → List Body
+device_sent d ps = map MotionBody (pointers_cancelled d (λ i. true) ps)
 
 -- those of some devices, from a table with those of each device
-abbrev pub devices_told : List (List Pointer) → List ℕ → List Body
-devices_told table [] = []
-devices_told table (d ∷ ds) = device_told d (pointers_in table d) ++ devices_told table ds
+abbrev pub devices_sent : List (List Pointer) → List ℕ → List Body
+devices_sent table [] = []
+devices_sent table (d ∷ ds) = device_sent d (pointers_in table d) ++ devices_sent table ds
 
 -- everything ends: device by device the pointers, and then the keys
 abbrev pub all_cancelled : Tracked → List Body
-all_cancelled t = devices_told t.pointers devices ++ keys_told t.keys
+all_cancelled t = devices_sent t.pointers devices ++ keys_sent t.keys

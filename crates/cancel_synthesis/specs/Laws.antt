@@ -5,32 +5,32 @@ use Rattle.input_types.specs.declared.motion.Motion.{Motion}
 use Rattle.input_types.specs.declared.pointer.Pointer.{Pointer}
 use Rattle.routing_rules.specs.Scene.{Scene, Step}
 use Rattle.routing_rules.specs.Given.{mark}
-use Rattle.routing_rules.specs.Told.{listing, cancels, after, told}
+use Rattle.routing_rules.specs.Outgoing.{listing, cancels, after, outgoing}
 use Rattle.routing_rules.specs.Fits.{Fits, Rises, Leaves, down_after, last_then}
 use Rattle.cancel_synthesis.specs.Tracked.{pointers_after, keys_after}
 use Rattle.cancel_synthesis.specs.Ends.{pointers_cancelled, keys_cancelled, of_device}
 
 -- the pointers of a device after these motions of it, the first one first
-abbrev pub pointers_told : List Motion → List Pointer → List Pointer
-pointers_told [] ps = ps
-pointers_told (m ∷ ms) ps = pointers_told ms (pointers_after m m.action ps)
+abbrev pub pointers_sent : List Motion → List Pointer → List Pointer
+pointers_sent [] ps = ps
+pointers_sent (m ∷ ms) ps = pointers_sent ms (pointers_after m m.action ps)
 
 -- the keys after these messages
-abbrev pub keys_told : List KeyMsg → List KeyMsg → List KeyMsg
-keys_told [] ls = ls
-keys_told (m ∷ ms) ls = keys_told ms (keys_after m ls)
+abbrev pub keys_sent : List KeyMsg → List KeyMsg → List KeyMsg
+keys_sent [] ls = ls
+keys_sent (m ∷ ms) ls = keys_sent ms (keys_after m ls)
 
 -- Once the cancels of pointers are tracked, just those that are not lost are left.
 abbrev pub PointersEnd : Type 0
-PointersEnd = (d : ℕ) (lost : ℕ → Bool) (ps : List Pointer) → pointers_told (pointers_cancelled d lost ps) ps ≡ listing (λ i. not (lost i)) ps
+PointersEnd = (d : ℕ) (lost : ℕ → Bool) (ps : List Pointer) → pointers_sent (pointers_cancelled d lost ps) ps ≡ listing (λ i. not (lost i)) ps
 
 -- Once the cancels of all keys are tracked, none is left.
 abbrev pub KeysEnd : Type 0
-KeysEnd = (ls : List KeyMsg) → keys_told (keys_cancelled ls) ls ≡ []
+KeysEnd = (ls : List KeyMsg) → keys_sent (keys_cancelled ls) ls ≡ []
 
 -- Once those of the keys of a device are tracked, the others are left.
 abbrev pub DeviceKeysEnd : Type 0
-DeviceKeysEnd = (d : ℕ) (ls : List KeyMsg) → keys_told (keys_cancelled (of_device d ls)) ls ≡ filter (λ l. not (l.key.device == d)) ls
+DeviceKeysEnd = (d : ℕ) (ls : List KeyMsg) → keys_sent (keys_cancelled (of_device d ls)) ls ≡ filter (λ l. not (l.key.device == d)) ls
 
 -- Where the pointers of a window are those of the last motion of the device that it holds, its cancels are what the
 -- rules of routing tell it where these are lost.
@@ -40,10 +40,10 @@ CancelsLaw =
     → ((i : ℕ) → later i ≡ (before i && not (lost i)))
     → pointers_cancelled d lost (listing before last) ≡ cancels d last before later
 
--- Where the pointers of a window are those of the last motion of the device that it holds, and what it is told at a
+-- Where the pointers of a window are those of the last motion of the device that it holds, and what it is sent at a
 -- step is tracked, they are again so after the step.
 abbrev pub TracksLaw : Type 0
 TracksLaw =
     (s : Scene) (e : Step) (w d : ℕ) (down next : List ℕ)
     → Fits s d down → Rises e → Leaves e w → down_after e d down ≡ Some next
-    → pointers_told (told s e w d) (listing (s.holds w d) (s.last d)) ≡ listing (after s (mark s e) w d) (last_then e d (s.last d))
+    → pointers_sent (outgoing s e w d) (listing (s.holds w d) (s.last d)) ≡ listing (after s (mark s e) w d) (last_then e d (s.last d))

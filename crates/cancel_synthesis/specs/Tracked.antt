@@ -1,4 +1,4 @@
--- What a window was told and is not told the end of: its pointers at their last places, and its keys.
+-- What a window was sent and is not told the end of: its pointers at their last places, and its keys.
 use Rattle.std.specs.Prelude.{ℕ, ◌-◌, ◌==◌, ◌&&◌, ◌||◌, nat_lt, nat_le, max, not, Bool, ◌≡◌, ◌+◌, ◌≤◌, List, [], ◌∷◌, filter, length, suc, slice_index_or, Option, Some, None, if◌then◌else◌}
 use Rattle.input_types.specs.declared.key.KeyArgs.{KeyArgs}
 use Rattle.input_types.specs.declared.key.KeyMsg.{KeyMsg}

@@ -1,7 +1,7 @@
 //! The cancels of pointers that are taken from a window, one after the other.
 ghost use Rattle.std.specs.Prelude.{◌≡◌, ◌==◌, not, drop, filter, slice_get};
-ghost use Rattle.routing_rules.specs.Told.{cancels_of};
-ghost use Rattle.cancel_synthesis.specs.Cancelling.{still_told};
+ghost use Rattle.routing_rules.specs.Outgoing.{cancels_of};
+ghost use Rattle.cancel_synthesis.specs.Cancelling.{still_sent};
 
 use bits32::Bits32;
 use input_types::{DeviceId, FLAG_CANCELED, Motion, MotionAction, PointerId, Pointers};
@@ -11,7 +11,7 @@ use std::marker::Model;
 /// What a window is told where pointers of a device are taken from it, one motion after the other: nothing, where none
 /// is taken; one Cancel, where it keeps none; and else a cancelled up for each, which lists what is still held with it.
 ///
-/// It is a list of its own: what the window is told meanwhile changes nothing of it, and no call takes memory.
+/// It is a list of its own: what the window is sent meanwhile changes nothing of it, and no call takes memory.
 #[derive(Drop)]
 pub struct Cancels {
     device: DeviceId,
@@ -21,8 +21,8 @@ pub struct Cancels {
     left: Pointers,
     /// What is taken from it.
     gone: Pointers,
-    /// Of how many of these it is told already.
-    told: usize,
+    /// Of how many of these it is sent already.
+    outgoing: usize,
 }
 
 impl Model for Cancels {
@@ -31,37 +31,37 @@ impl Model for Cancels {
 
     ghost Value = { Cancelling };
 
-    ghost view = { λ c. record { device = c.device; ends = c.ends; left = c.left; gone = drop c.told c.gone } };
+    ghost view = { λ c. record { device = c.device; ends = c.ends; left = c.left; gone = drop c.outgoing c.gone } };
 }
 
 impl Cancels {
     /// A window that had pointers of a device keeps some of them, and the others are gone.
     pub(crate) fn new(device: DeviceId, had: &Pointers, kept: &Pointers, gone: &Pointers) -> Cancels
-        ensures { still_told result ≡ cancels_of device had.now kept.now gone.now }
+        ensures { still_sent result ≡ cancels_of device had.now kept.now gone.now }
     {
         Cancels {
             device,
             ends: kept.is_empty(),
             left: *had,
             gone: *gone,
-            told: 0,
+            outgoing: 0,
         }
     }
 
     /// The next motion; None exactly where none is left.
     pub fn next(&mut self) -> Option<Motion>
-        ensures first { result ≡ slice_get (still_told self.old) 0 }
-        ensures others { still_told self.new ≡ drop 1 (still_told self.old) }
+        ensures first { result ≡ slice_get (still_sent self.old) 0 }
+        ensures others { still_sent self.new ≡ drop 1 (still_sent self.old) }
     {
         let count = self.gone.len();
-        if count <= self.told {
+        if count <= self.outgoing {
             return None;
         }
         if self.ends {
-            self.told = count;
+            self.outgoing = count;
             return Some(plain(self.device, MotionAction::Cancel, self.left));
         }
-        let pointer = self.gone.as_slice()[self.told];
+        let pointer = self.gone.as_slice()[self.outgoing];
         let up = about(
             self.device,
             MotionAction::PointerUp,
@@ -70,7 +70,7 @@ impl Cancels {
             self.left,
         );
         self.left = without(&self.left, pointer.id);
-        self.told += 1;
+        self.outgoing += 1;
         Some(up)
     }
 }

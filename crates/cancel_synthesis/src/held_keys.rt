@@ -3,7 +3,7 @@ ghost use Rattle.std.specs.Prelude.{◌≡◌, true, length, ◌+◌, ◌≤◌,
 ghost use Rattle.std.specs.Prelude.{OnOk, OnErr, IsOk, vec_len, vec_capacity};
 ghost use Rattle.input_types.specs.declared.key.KeyMsg.{KeyMsg as Kept};
 ghost use Rattle.cancel_synthesis.specs.Tracked.{same_key, is_before, is_at, with_key, without_key, place_of};
-ghost use Rattle.cancel_synthesis.specs.Ends.{key_cancelled, keys_cancelled, of_device, keys_told};
+ghost use Rattle.cancel_synthesis.specs.Ends.{key_cancelled, keys_cancelled, of_device, keys_sent};
 
 use input_types::{Body, DeviceId, FLAG_CANCELED, KeyArgs, KeyMsg};
 use std::alloc::AllocError;
@@ -124,7 +124,7 @@ pub(crate) fn cancel_device_keys_into(
 
 /// Adds the cancelled ups of these keys to a list.
 pub(crate) fn cancel_each_key(out: &mut Vec<Body>, keys: &[KeyMsg]) -> Result<(), AllocError>
-    ensures { OnOk result (out.new.items ≡ out.old.items ++ keys_told keys.now) }
+    ensures { OnOk result (out.new.items ≡ out.old.items ++ keys_sent keys.now) }
 {
     for kept in keys {
         out.push(Body::Key(key_cancelled(kept)))?;

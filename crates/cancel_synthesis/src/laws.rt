@@ -9,7 +9,7 @@ pub fn cancelling()
     ensures rules { CancelsLaw }
 {}
 
-/// A window whose pointers are what it holds, at the places of the last motion, has just these again once it is told
+/// A window whose pointers are what it holds, at the places of the last motion, has just these again once it is sent
 /// a step and that is tracked.
 pub fn tracking()
     ensures { TracksLaw }

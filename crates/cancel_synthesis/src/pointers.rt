@@ -1,9 +1,9 @@
 //! The pointers of one device in a window, and the cancels of all of them.
 ghost use Rattle.std.specs.Prelude.{◌≡◌, ◌+◌, ◌<◌, ◌++◌, OnOk};
 ghost use Rattle.routing_rules.specs.Given.{changed};
-ghost use Rattle.routing_rules.specs.Told.{devices};
+ghost use Rattle.routing_rules.specs.Outgoing.{devices};
 ghost use Rattle.cancel_synthesis.specs.Tracked.{pointers_after, without};
-ghost use Rattle.cancel_synthesis.specs.Ends.{device_told, devices_told};
+ghost use Rattle.cancel_synthesis.specs.Ends.{device_sent, devices_sent};
 
 use crate::cancels::{Cancels, without};
 use input_types::{Body, DeviceId, Motion, MotionAction, Pointers};
@@ -36,7 +36,7 @@ pub(crate) fn cancel_devices(
     out: &mut Vec<Body>,
     pointers: &[Pointers; 8],
 ) -> Result<(), AllocError>
-    ensures { OnOk result (out.new.items ≡ out.old.items ++ devices_told pointers.now devices) }
+    ensures { OnOk result (out.new.items ≡ out.old.items ++ devices_sent pointers.now devices) }
 {
     for (k, had) in pointers.iter().enumerate() {
         cancel_whole(out, device_at(k), had)?;
@@ -57,7 +57,7 @@ fn device_at(place: usize) -> DeviceId
 
 /// Adds the cancel of all pointers of a device to a list, where there are some.
 fn cancel_whole(out: &mut Vec<Body>, device: DeviceId, had: &Pointers) -> Result<(), AllocError>
-    ensures { OnOk result (out.new.items ≡ out.old.items ++ device_told device had.now) }
+    ensures { OnOk result (out.new.items ≡ out.old.items ++ device_sent device had.now) }
 {
     let mut cancels = Cancels::new(device, had, &Pointers::empty(), had);
     if let Some(cancel) = cancels.next() {

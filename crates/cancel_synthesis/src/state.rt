@@ -1,10 +1,10 @@
-//! What a window was told, as far as it has not ended.
+//! What a window was sent, as far as it has not ended.
 ghost use Rattle.std.specs.Prelude.{◌≡◌, ◌+◌, ◌≤◌, ◌<◌, ℕ, not, [], length, IfOk, OnOk, OnErr, IsOk, vec_len, vec_capacity};
 ghost use Rattle.bits32.specs.Set.{is_in};
-ghost use Rattle.routing_rules.specs.Told.{listing, plain};
+ghost use Rattle.routing_rules.specs.Outgoing.{listing, plain};
 ghost use Rattle.input_types.specs.declared.motion.MotionAction.TheVariants.{Move};
 ghost use Rattle.input_types.specs.declared.message.Body.TheVariants.{Motion as MotionBody, Key as KeyBody};
-ghost use Rattle.cancel_synthesis.specs.Cancelling.{still_told};
+ghost use Rattle.cancel_synthesis.specs.Cancelling.{still_sent};
 ghost use Rattle.cancel_synthesis.specs.Tracked.{Tracks, pointers_of, pointers_in, pointers_then};
 ghost use Rattle.cancel_synthesis.specs.Tracked.{keys_after, with_spare};
 ghost use Rattle.cancel_synthesis.specs.Ends.{pointers_cancelled, keys_cancelled, of_device, all_cancelled};
@@ -18,7 +18,7 @@ use split_motion::{PointersById, part, part_but};
 use std::alloc::{AllocError, Global};
 use std::marker::Model;
 
-/// The pointers and keys that are down in one window, from what it was told. Places are display pixels.
+/// The pointers and keys that are down in one window, from what it was sent. Places are display pixels.
 #[derive(Drop)]
 pub struct InputState {
     /// The pointers of each device at their last places, those of device 1 first.
@@ -41,7 +41,7 @@ impl Model for InputState {
 }
 
 impl InputState {
-    /// The window was told nothing.
+    /// The window was sent nothing.
     pub fn new(alloc: Global) -> InputState
         ensures pointers { (d : ℕ) → pointers_of result d ≡ [] }
         ensures keys { result.keys ≡ [] }
@@ -104,7 +104,7 @@ impl InputState {
         Ok(())
     }
 
-    /// The window is told one thing more. Without memory nothing changes.
+    /// The window is sent one thing more. Without memory nothing changes.
     pub fn track(&mut self, body: &Body) -> Result<(), AllocError>
         ensures ok { OnOk result (Tracks self.old self.new body.now) }
         ensures err { OnErr result (self.new ≡ self.old) }
@@ -121,7 +121,7 @@ impl InputState {
         Ok(())
     }
 
-    /// The window is told a motion more. Takes no memory.
+    /// The window is sent a motion more. Takes no memory.
     pub fn track_motion(&mut self, motion: &Motion)
         ensures { Tracks self.old self.new (MotionBody motion.now) }
     {
@@ -137,7 +137,7 @@ impl InputState {
         self.spare = self.spare.saturating_sub(1);
     }
 
-    /// The window is told a key message more, for which room was reserved. Takes no memory.
+    /// The window is sent a key message more, for which room was reserved. Takes no memory.
     pub fn track_key(&mut self, message: &KeyMsg)
         requires { 1 ≤ self.old.spare }
         ensures { Tracks self.old self.new (KeyBody message.now) }
@@ -149,7 +149,7 @@ impl InputState {
     /// What the window is told where pointers of a device with these ids are taken from it, one motion after the
     /// other. Takes no memory.
     pub fn cancels(&self, device: DeviceId, lost: Bits32) -> Cancels
-        ensures { still_told result ≡ pointers_cancelled device (λ i. is_in i lost) (pointers_of self.now device) }
+        ensures { still_sent result ≡ pointers_cancelled device (λ i. is_in i lost) (pointers_of self.now device) }
     {
         let had = pointers_at(&self.pointers, device);
         Cancels::new(device, had, &part_but(had, lost), &part(had, lost))
@@ -157,7 +157,7 @@ impl InputState {
 
     /// The same where those of its pointers of a device are taken that have other ids than these.
     pub fn cancels_but(&self, device: DeviceId, kept: Bits32) -> Cancels
-        ensures { still_told result
+        ensures { still_sent result
             ≡ pointers_cancelled device (λ i. not (is_in i kept)) (pointers_of self.now device) }
     {
         let had = pointers_at(&self.pointers, device);
@@ -170,12 +170,12 @@ impl InputState {
         ensures { IfOk result (λ v.
             v.items ≡ pointers_cancelled device (λ i. is_in i lost) (pointers_of self.now device)) }
     {
-        let mut told = Vec::new(*self.keys.allocator());
+        let mut outgoing = Vec::new(*self.keys.allocator());
         let mut cancels = self.cancels(device, lost);
         while let Some(cancel) = cancels.next() {
-            told.push(cancel)?;
+            outgoing.push(cancel)?;
         }
-        Ok(told)
+        Ok(outgoing)
     }
 
     /// Fills a list with what it is told where its keys are taken from it. It needs no memory where the list has room
@@ -205,10 +205,10 @@ impl InputState {
     pub fn cancel_all(&self) -> Result<Vec<Body>, AllocError>
         ensures { IfOk result (λ v. v.items ≡ all_cancelled self.now) }
     {
-        let mut told = Vec::new(*self.keys.allocator());
-        cancel_devices(&mut told, &self.pointers)?;
-        cancel_each_key(&mut told, &self.keys)?;
-        Ok(told)
+        let mut outgoing = Vec::new(*self.keys.allocator());
+        cancel_devices(&mut outgoing, &self.pointers)?;
+        cancel_each_key(&mut outgoing, &self.keys)?;
+        Ok(outgoing)
     }
 }
 

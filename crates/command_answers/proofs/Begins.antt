@@ -25,8 +25,8 @@ use Rattle.command_files.specs.Devices.{devices_of}
 use Rattle.replay_actors.specs.Session.{channel_of, step_of}
 use Rattle.command_files.specs.Planned.{script_of}
 use Rattle.command_files.specs.Judged.{Answer, Behind}
-use Rattle.command_answers.specs.declared.running.Telling.{Telling}
-use Rattle.command_answers.specs.Running.{Comes, RunTells, lines_of}
+use Rattle.command_answers.specs.declared.running.Sending.{Sending}
+use Rattle.command_answers.specs.Running.{Comes, RunSends, lines_of}
 use Rattle.command_files.specs.Inputs.{lines_judged}
 use Rattle.command_files.specs.Refusing.{RefusesSo}
 use Rattle.command_files.specs.Recorded.{HasEnded, HasRead, RefusesEvents}
@@ -51,17 +51,17 @@ fresh how p run reader readers schedule devices d n stand is ran =
     }
 
 -- what the events of all lines come to is what the recording comes to
-pub judged : (what : Telling) (p : PlanData) (bytes : List ℕ) (s : ScheduleState) (a : Answer) (ended : HasEnded (lines_of what) p bytes s)
-    → Comes what p ended.past a → Behind (RunTells what p) (lines_judged (recorded (devices_of p) bytes)) a
+pub judged : (what : Sending) (p : PlanData) (bytes : List ℕ) (s : ScheduleState) (a : Answer) (ended : HasEnded (lines_of what) p bytes s)
+    → Comes what p ended.past a → Behind (RunSends what p) (lines_judged (recorded (devices_of p) bytes)) a
 judged what p bytes s a ended r =
-    subst (λ (x : Result (List RawEvent) LineError). Behind (RunTells what p) (lines_judged x) a) (sym ended.read)
+    subst (λ (x : Result (List RawEvent) LineError). Behind (RunSends what p) (lines_judged x) a) (sym ended.read)
     (subst (λ (xs : List RawEvent). Comes what p xs a) (sym (reverse-reverse ended.past)) r)
 
-pub refuses_events : (what : Telling) (p : PlanData) (bytes : List ℕ) (r : Refusal) → RefusesEvents p bytes r
-    → RefusesSo (λ x. Behind (RunTells what p) (lines_judged (recorded (devices_of p) bytes)) (Err x)) r
+pub refuses_events : (what : Sending) (p : PlanData) (bytes : List ℕ) (r : Refusal) → RefusesEvents p bytes r
+    → RefusesSo (λ x. Behind (RunSends what p) (lines_judged (recorded (devices_of p) bytes)) (Err x)) r
 refuses_events what p bytes (SessionOf e) h = absurd h
 refuses_events what p bytes (Recording e) h =
-    subst (λ (x : Result (List RawEvent) LineError). Behind (RunTells what p) (lines_judged x) (Err (refusal_view (Recording e)))) (sym h) refl
+    subst (λ (x : Result (List RawEvent) LineError). Behind (RunSends what p) (lines_judged x) (Err (refusal_view (Recording e)))) (sym h) refl
 refuses_events what p bytes (Order e) h = absurd h
 refuses_events what p bytes (Stream e) h = absurd h
 refuses_events what p bytes ReadFailed h = absurd h

@@ -24,11 +24,11 @@ Answered session bytes read a = Behind (InspectAnswers session) (beside (lines_j
 abbrev text_of : List ℕ → Answer
 text_of xs = Ok xs
 
-pub counts_told : (session : PlanData × List ℕ) (bytes text : List ℕ) (t : TallyState)
+pub counts_sent : (session : PlanData × List ℕ) (bytes text : List ℕ) (t : TallyState)
     (counted : IsCounted (devices_of session.0) (plans_of session.0) bytes t)
     → text ≡ inspected (devices_of session.0) (reverse (lines_of bytes)) (plans_of session.0) (reverse counted.events) session.0.steps session.1
     → Behind (InspectAnswers session) ((lined_file (devices_of session.0)).rule bytes) (Ok text)
-counts_told session bytes text t counted is =
+counts_sent session bytes text t counted is =
     subst (λ (x : Result (List RawEvent) LineError). Answered session bytes x (Ok text)) (sym counted.events_are) (ap text_of (sym is))
 
 pub counts_refused : (session : PlanData × List ℕ) (bytes : List ℕ) (r : Refusal) → RefusesEvents session.0 bytes r

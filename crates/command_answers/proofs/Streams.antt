@@ -18,10 +18,10 @@ pub stream_stops : (told : Option (List Entry)) (before now : List Reading) (nam
 stream_stops told before now name Is fb fn r h = file_by told before now name stream_file [] (λ rest bytes. Ends (Is bytes) rest) fb fn r h
 
 -- the file is accepted, and this is the text that comes of its bytes
-pub stream_told : (told : Option (List Entry)) (before now : List Reading) (name given bytes : List ℕ) (Is : List ℕ → Answer → Type 0)
+pub stream_sent : (told : Option (List Entry)) (before now : List Reading) (name given bytes : List ℕ) (Is : List ℕ → Answer → Type 0)
     (r : Result (List ℕ) Refusal) → bytes ≡ given → IsRead told before now name stream_file (Ok given) → IfOk r (λ text. Is bytes (Ok text))
     → IfOk r (λ text. Logged told before now ((name, stream_limit) ∷ []) (λ rs. Reads (by_log rs) name stream_file (λ rest y. Ends (Is y) rest) (Ok text)))
-stream_told told before now name given bytes Is r same one ok =
+stream_sent told before now name given bytes Is r same one ok =
     if_ok_map r _ _
     (λ text h.
     last_file told before now name stream_file bytes Is (Ok text) (subst (λ (bs : List ℕ). IsRead told before now name stream_file (Ok bs)) (sym same) one) h)

@@ -4,9 +4,9 @@ use Rattle.std.specs.Option.{option_or}
 use Rattle.input_types.specs.declared.message.Message.{Message as Told}
 use Rattle.input_types.specs.StreamRule.{is_well_formed}
 use Rattle.stream_text.specs.declared.stream_line.StreamLine.{StreamLine}
-use Rattle.stream_text.specs.declared.stream_line.StreamLine.TheVariants.{Channel, Message, End, Naming}
+use Rattle.stream_text.specs.declared.stream_line.StreamLine.TheVariants.{Channel, Message, End, Anr}
 use Rattle.stream_text.specs.declared.stream_lines.Place.{Place}
-use Rattle.stream_text.specs.declared.stream_lines.Place.TheVariants.{Between, Section, Namings}
+use Rattle.stream_text.specs.declared.stream_lines.Place.TheVariants.{Between, Section, Anrs}
 use Rattle.stream_text.specs.Number.{◌>>=◌}
 use Rattle.text_lines.specs.Lines.{Line, lines_of}
 use Rattle.stream_text.specs.StreamLine.{line_of}
@@ -14,7 +14,7 @@ use Rattle.stream_text.specs.StreamFile.{Event, follow, may_end, told, with_even
 use Rattle.stream_text.specs.OrderText.{order_passed}
 use Rattle.command_answers.specs.Verify.{messages_in, judged, verdict}
 use Rattle.stream_judge.specs.Breaks.{break_from, first_break}
-use Rattle.command_answers.specs.Judging.{told_after, break_at, channels_at, messages_at, Known, Judges, breaks, channels_left, messages_left, judged_on}
+use Rattle.command_answers.specs.Judging.{sent_after, break_at, channels_at, messages_at, Known, Judges, breaks, channels_left, messages_left, judged_on}
 
 -- The lines that are left say of their streams what the streams say: behind these messages of the section that is open, or behind none.
 record Ties (found by_lines : Option ℕ) (messages by_line : ℕ) (channels sections : ℕ) : Type 0 where
@@ -33,7 +33,7 @@ Inside past n es =
 abbrev TiesAt : Place → List Told → ℕ → List Event → Type 0
 TiesAt Between past n es = Outside past es
 TiesAt (Section id count) past n es = Inside past n es
-TiesAt Namings past n es = Outside past es
+TiesAt Anrs past n es = Outside past es
 
 abbrev TiesOf : Place → List Told → ℕ → Result (List Event) ℕ → Type 0
 TiesOf place past n (Ok es) = TiesAt place past n es
@@ -48,14 +48,14 @@ begins past n id (Ok es) h =
     in record { breaks_are = h.breaks_are; messages_are = m; channels_are = c }
 
 -- a naming, the first one or another
-first_naming : (past : List Told) (n clock id seq : ℕ) (r : Result (List Event) ℕ) → TiesOf Namings past (n + 1) r → TiesOf Between past n (with_event (n, Naming clock id seq) r)
-first_naming past n clock id seq (Err bad) h = tt
-first_naming past n clock id seq (Ok es) h =
+first_anr : (past : List Told) (n clock id seq : ℕ) (r : Result (List Event) ℕ) → TiesOf Anrs past (n + 1) r → TiesOf Between past n (with_event (n, Anr clock id seq) r)
+first_anr past n clock id seq (Err bad) h = tt
+first_anr past n clock id seq (Ok es) h =
     let m : 0 + messages_left es ≡ messages_in (streams_of es) = omega (arith, h.messages_are)
     in let c : 0 + channels_left es ≡ length (streams_of es) = omega (arith, h.channels_are)
     in record { breaks_are = h.breaks_are; messages_are = m; channels_are = c }
 
-names : (past : List Told) (n clock id seq : ℕ) (r : Result (List Event) ℕ) → TiesOf Namings past (n + 1) r → TiesOf Namings past n (with_event (n, Naming clock id seq) r)
+names : (past : List Told) (n clock id seq : ℕ) (r : Result (List Event) ℕ) → TiesOf Anrs past (n + 1) r → TiesOf Anrs past n (with_event (n, Anr clock id seq) r)
 names past n clock id seq (Err bad) h = tt
 names past n clock id seq (Ok es) h =
     let m : 0 + messages_left es ≡ messages_in (streams_of es) = omega (arith, h.messages_are)
@@ -68,10 +68,10 @@ one_break : (n : ℕ) (b : Bool) (later found rest : Option ℕ) → later ≡ o
 one_break n true later found rest h = h
 one_break n false later found rest h = refl
 
-tells : (past : List Told) (n id count : ℕ) (m : Told) (r : Result (List Event) ℕ) → TiesOf (Section id (count + 1)) (m ∷ past) (n + 1) r
+sends : (past : List Told) (n id count : ℕ) (m : Told) (r : Result (List Event) ℕ) → TiesOf (Section id (count + 1)) (m ∷ past) (n + 1) r
     → TiesOf (Section id count) past n (with_event (n, Message m) r)
-tells past n id count m (Err bad) h = tt
-tells past n id count m (Ok es) h =
+sends past n id count m (Err bad) h = tt
+sends past n id count m (Ok es) h =
     let b : breaks past ((n, Message m) ∷ es) ≡ option_or (break_from n past (m ∷ messages_of es)) (first_break (streams_of es)) =
     one_break n (is_well_formed (m ∷ past)) (breaks (m ∷ past) es) (break_from (n + 1) (m ∷ past) (messages_of es)) (first_break (streams_of es)) h.breaks_are
     in let k : 1 + messages_left es ≡ suc (length (messages_of es)) + messages_in (streams_of es) = omega (arith, h.messages_are)
@@ -96,7 +96,7 @@ step_from n lines o = numbered_line n o (λ next. events_from next (n + 1) lines
 
 message_step : (past : List Told) (n id count : ℕ) (m : Told) (lines : List Line) (b : Bool) → Behind n lines
     → TiesOf (Section id count) past n (step_from n lines ((if b then Some (Section id (count + 1)) else None) >>= λ next. Some (Message m, next)))
-message_step past n id count m lines true behind = tells past n id count m (events_from (Section id (count + 1)) (n + 1) lines) (behind (Section id (count + 1)) (m ∷ past))
+message_step past n id count m lines true behind = sends past n id count m (events_from (Section id (count + 1)) (n + 1) lines) (behind (Section id (count + 1)) (m ∷ past))
 message_step past n id count m lines false behind = tt
 
 end_step : (past : List Told) (n id count e sent received finished : ℕ) (lines : List Line) (b : Bool) → Behind n lines
@@ -110,16 +110,16 @@ line_step : (place : Place) (past : List Told) (n : ℕ) (says : StreamLine) (li
 line_step Between past n (Channel id) lines behind = begins past n id (events_from (Section id 0) (n + 1) lines) (behind (Section id 0) [])
 line_step Between past n (Message m) lines behind = tt
 line_step Between past n (End e sent received finished) lines behind = tt
-line_step Between past n (Naming clock id seq) lines behind = first_naming past n clock id seq (events_from Namings (n + 1) lines) (behind Namings past)
+line_step Between past n (Anr clock id seq) lines behind = first_anr past n clock id seq (events_from Anrs (n + 1) lines) (behind Anrs past)
 line_step (Section id count) past n (Channel other) lines behind = tt
 line_step (Section id count) past n (Message m) lines behind = message_step past n id count m lines (m.seq == count + 1) behind
 line_step (Section id count) past n (End e sent received finished) lines behind =
     end_step past n id count e sent received finished lines ((e == id) && (sent == count)) behind
-line_step (Section id count) past n (Naming clock other seq) lines behind = tt
-line_step Namings past n (Channel id) lines behind = tt
-line_step Namings past n (Message m) lines behind = tt
-line_step Namings past n (End e sent received finished) lines behind = tt
-line_step Namings past n (Naming clock id seq) lines behind = names past n clock id seq (events_from Namings (n + 1) lines) (behind Namings past)
+line_step (Section id count) past n (Anr clock other seq) lines behind = tt
+line_step Anrs past n (Channel id) lines behind = tt
+line_step Anrs past n (Message m) lines behind = tt
+line_step Anrs past n (End e sent received finished) lines behind = tt
+line_step Anrs past n (Anr clock id seq) lines behind = names past n clock id seq (events_from Anrs (n + 1) lines) (behind Anrs past)
 
 read_step : (place : Place) (past : List Told) (n : ℕ) (o : Option StreamLine) (lines : List Line) → Behind n lines
     → TiesOf place past n (step_from n lines (o >>= λ says. follow place says >>= λ next. Some (says, next)))
@@ -134,7 +134,7 @@ ended_step place past n text false lines behind = tt
 no_lines : (place : Place) (past : List Told) (n : ℕ) → TiesOf place past n (if may_end place then Ok [] else Err n)
 no_lines Between past n = record { breaks_are = refl; messages_are = refl; channels_are = refl }
 no_lines (Section id count) past n = tt
-no_lines Namings past n = record { breaks_are = refl; messages_are = refl; channels_are = refl }
+no_lines Anrs past n = record { breaks_are = refl; messages_are = refl; channels_are = refl }
 
 ties : (lines : List Line) (place : Place) (past : List Told) (n : ℕ) → TiesOf place past n (events_from place n lines)
 ties [] place past n = no_lines place past n
@@ -169,11 +169,11 @@ or_again None b c = refl
 or_again (Some x) b c = refl
 
 pub after_line : (past : List Told) (n : ℕ) (line : StreamLine) (old new : Known) (r : Result (List Event) ℕ) → Judges past n line old new
-    → judged_on old past (with_event (n, line) r) ≡ judged_on new (told_after past line) r
+    → judged_on old past (with_event (n, line) r) ≡ judged_on new (sent_after past line) r
 after_line past n line old new (Err bad) h = refl
 after_line past n line old new (Ok es) h =
-    let b : option_or old.broken (option_or (break_at past n line) (breaks (told_after past line) es)) ≡ option_or new.broken (breaks (told_after past line) es) =
-    sym (or_again old.broken (break_at past n line) (breaks (told_after past line) es)) ∙ ap (λ o. option_or o (breaks (told_after past line) es)) (sym h.broken)
+    let b : option_or old.broken (option_or (break_at past n line) (breaks (sent_after past line) es)) ≡ option_or new.broken (breaks (sent_after past line) es) =
+    sym (or_again old.broken (break_at past n line) (breaks (sent_after past line) es)) ∙ ap (λ o. option_or o (breaks (sent_after past line) es)) (sym h.broken)
     in let c : old.channels + (channels_at line + channels_left es) ≡ new.channels + channels_left es = omega (arith, h.channels)
     in let m : old.messages + (messages_at line + messages_left es) ≡ new.messages + messages_left es = omega (arith, h.messages)
     in rw (b, c, m) refl
@@ -188,10 +188,10 @@ pub one_channel : (line : StreamLine) → channels_at line ≤ 1
 one_channel (Channel id) = omega arith
 one_channel (Message m) = omega arith
 one_channel (End id sent received finished) = omega arith
-one_channel (Naming clock id seq) = omega arith
+one_channel (Anr clock id seq) = omega arith
 
 pub one_message : (line : StreamLine) → messages_at line ≤ 1
 one_message (Channel id) = omega arith
 one_message (Message m) = omega arith
 one_message (End id sent received finished) = omega arith
-one_message (Naming clock id seq) = omega arith
+one_message (Anr clock id seq) = omega arith

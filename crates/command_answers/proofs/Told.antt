@@ -1,4 +1,4 @@
--- The answer by what was read is that by the files, where these are told.
+-- The answer by what was read is that by the files, where these are sent.
 use Rattle.std.proofs.Common.{List, Option, None, Some}
 use Rattle.io_trace.specs.Trace.{Reading}
 use Rattle.outside_io.specs.Outside.{Entry}
@@ -22,44 +22,44 @@ use Rattle.command_answers.specs.Replay.{RecordingAnswers, RunAnswers}
 use Rattle.command_answers.specs.Verify.{StreamAnswers}
 use Rattle.command_answers.specs.Why.{CausesAnswer, WhyAnswers}
 
-pub command_told : (entries : List Entry) (command : Option Command) (rs : List Reading) (a : Answer) → AllAgree entries rs → AnswersTo (by_log rs) command a
+pub command_sent : (entries : List Entry) (command : Option Command) (rs : List Reading) (a : Answer) → AllAgree entries rs → AnswersTo (by_log rs) command a
     → AnswersTo (by_name entries) command a
-command_told entries None rs a agree h = (h.0, tt)
-command_told entries (Some (replay files)) rs a agree h =
+command_sent entries None rs a agree h = (h.0, tt)
+command_sent entries (Some (replay files)) rs a agree h =
     reads_told entries files.session session_file (RecordingAnswers files.events) rs a agree
     (λ ys more plan. reads_told entries files.events (events_file (devices_of plan)) (λ rest given. Ends (RunAnswers plan given) rest) ys a more (λ zs all given k. (k.0, tt))) h
-command_told entries (Some (race files)) rs a agree h =
+command_sent entries (Some (race files)) rs a agree h =
     reads_told entries files.session session_file (ThreadsAnswer files.events) rs a agree
     (λ ys more plan. reads_told entries files.events (events_file (devices_of plan)) (λ rest given. Ends (RaceAnswers plan given) rest) ys a more (λ zs all given k. (k.0, tt))) h
-command_told entries (Some (check files order)) rs a agree h =
+command_sent entries (Some (check files order)) rs a agree h =
     reads_told entries files.session session_file (CheckAnswers files.events order) rs a agree
     (λ ys more plan. reads_told entries files.events (events_file (devices_of plan)) (OrderedBy order plan) ys a more
     (λ zs all given. reads_told entries order order_file (λ last lines. Ends (OrderAnswers plan given lines) last) zs a all (λ us rest lines k. (k.0, tt)))) h
-command_told entries (Some (verify stream)) rs a agree h =
+command_sent entries (Some (verify stream)) rs a agree h =
     reads_told entries stream stream_file (λ rest bytes. Ends (StreamAnswers bytes) rest) rs a agree (λ ys more bytes k. (k.0, tt)) h
-command_told entries (Some (work seed packets)) rs a agree h = (h.0, tt)
-command_told entries (Some (batch stream frame)) rs a agree h =
+command_sent entries (Some (work seed packets)) rs a agree h = (h.0, tt)
+command_sent entries (Some (batch stream frame)) rs a agree h =
     reads_told entries stream stream_file (λ rest bytes. Ends (BatchAnswers frame bytes) rest) rs a agree (λ ys more bytes k. (k.0, tt)) h
-command_told entries (Some (hover files mouse)) rs a agree h =
+command_sent entries (Some (hover files mouse)) rs a agree h =
     reads_told entries files.session session_file (MouseAnswers files.events mouse) rs a agree
     (λ ys more plan. reads_told entries files.events (events_file (mouse_alone mouse)) (λ rest given. Ends (HoverAnswers plan given) rest) ys a more (λ zs all given k. (k.0, tt))) h
-command_told entries (Some (emit stream channel device)) rs a agree h =
+command_sent entries (Some (emit stream channel device)) rs a agree h =
     reads_told entries stream stream_file (λ rest bytes. Ends (EmitAnswers channel device bytes) rest) rs a agree (λ ys more bytes k. (k.0, tt)) h
-command_told entries (Some (judge stream)) rs a agree h =
+command_sent entries (Some (judge stream)) rs a agree h =
     reads_told entries stream stream_file (λ rest bytes. Ends (JudgeAnswers bytes) rest) rs a agree (λ ys more bytes k. (k.0, tt)) h
-command_told entries (Some (compare want got us pixels)) rs a agree h =
+command_sent entries (Some (compare want got us pixels)) rs a agree h =
     reads_told entries want want_file (GotAnswers got us pixels) rs a agree
     (λ ys more sections. reads_told entries got got_file (λ rest came. Ends (SameAnswers us pixels sections came) rest) ys a more (λ zs all came k. (k.0, tt))) h
-command_told entries (Some (inspect files)) rs a agree h =
+command_sent entries (Some (inspect files)) rs a agree h =
     reads_told entries files.session keyed_file (CountsAnswer files.events) rs a agree
     (λ ys more session. reads_told entries files.events (lined_file (devices_of session.0)) (λ rest given. Ends (InspectAnswers session given) rest) ys a more (λ zs all given k. (k.0, tt))) h
-command_told entries (Some (why files)) rs a agree h =
+command_sent entries (Some (why files)) rs a agree h =
     reads_told entries files.session session_file (CausesAnswer files.events) rs a agree
     (λ ys more plan. reads_told entries files.events (events_file (devices_of plan)) (λ rest given. Ends (WhyAnswers plan given) rest) ys a more (λ zs all given k. (k.0, tt))) h
 
--- the answer to a command, where the files are told
+-- the answer to a command, where the files are sent
 pub answers_told : (told : Option (List Entry)) (before now : List Reading) (command : Command) (a : Answer) → Answers told before now command a
     → IfTold told (λ entries. AnswersTo (by_name entries) (Some command) a)
 answers_told told before now command a log =
     told_map told (λ entries. AllAgree entries log.readings) (λ entries. AnswersTo (by_name entries) (Some command) a)
-    (λ entries agree. command_told entries (Some command) log.readings a agree log.holds) log.agree
+    (λ entries agree. command_sent entries (Some command) log.readings a agree log.holds) log.agree

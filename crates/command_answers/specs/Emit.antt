@@ -10,7 +10,7 @@ use Rattle.command_files.specs.declared.refusal.Refusal.TheVariants as refusal
 use Rattle.command_files.specs.declared.refusal.StreamError.TheVariants as stream
 use Rattle.command_files.specs.declared.refusal.Subject.TheVariants as subject
 
--- A refusal that is told as one: a file that may be read never spends a writer, and want of memory is no answer.
+-- A refusal that is sent as one: a file that may be read never spends a writer, and want of memory is no answer.
 abbrev pub MayRefuse : EmitError → Type 0
 MayRefuse (Spent n) = ⊥
 MayRefuse Memory = ⊥

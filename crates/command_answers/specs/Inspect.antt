@@ -20,7 +20,7 @@ looked_at session recording =
 abbrev pub InspectAnswers : PlanData × List ℕ → List RawEvent × List (List ℕ) → Answer → Type 0
 InspectAnswers session recording a = Ok (looked_at session recording) ≡ a
 
--- the answer once the session is accepted: the recording is judged, and then what both hold is told
+-- the answer once the session is accepted: the recording is judged, and then what both hold is sent
 abbrev pub CountsAnswer : List ℕ → Origin → PlanData × List ℕ → Answer → Type 0
 CountsAnswer events from session a =
     Reads from events (lined_file (devices_of session.0)) (λ rest recording. Ends (InspectAnswers session recording) rest) a

@@ -5,38 +5,38 @@ use Rattle.input_types.specs.declared.message.Message.{Message as Told}
 use Rattle.input_types.specs.StreamRule.{is_well_formed}
 use Rattle.gesture_verifier.specs.Told.{Told as Tables, VerifierStandsFor}
 use Rattle.stream_text.specs.declared.stream_line.StreamLine.{StreamLine}
-use Rattle.stream_text.specs.declared.stream_line.StreamLine.TheVariants.{Channel, Message, End, Naming}
+use Rattle.stream_text.specs.declared.stream_line.StreamLine.TheVariants.{Channel, Message, End, Anr}
 use Rattle.stream_text.specs.StreamFile.{Event}
 use Rattle.command_files.specs.Refused.{Refused, bad_stream_line}
 use Rattle.command_answers.specs.Verify.{said}
 
 -- the messages of the open section behind a line, the newest first
-abbrev pub told_after : List Told → StreamLine → List Told
-told_after past (Channel id) = []
-told_after past (Message m) = m ∷ past
-told_after past (End id sent received finished) = past
-told_after past (Naming clock id seq) = past
+abbrev pub sent_after : List Told → StreamLine → List Told
+sent_after past (Channel id) = []
+sent_after past (Message m) = m ∷ past
+sent_after past (End id sent received finished) = past
+sent_after past (Anr clock id seq) = past
 
 -- the number of a line, where its message may not come behind those of its section
 abbrev pub break_at : List Told → ℕ → StreamLine → Option ℕ
 break_at past n (Channel id) = None
 break_at past n (Message m) = if is_well_formed (m ∷ past) then None else Some n
 break_at past n (End id sent received finished) = None
-break_at past n (Naming clock id seq) = None
+break_at past n (Anr clock id seq) = None
 
 -- how many sections a line begins
 abbrev pub channels_at : StreamLine → ℕ
 channels_at (Channel id) = 1
 channels_at (Message m) = 0
 channels_at (End id sent received finished) = 0
-channels_at (Naming clock id seq) = 0
+channels_at (Anr clock id seq) = 0
 
 -- how many messages a line tells
 abbrev pub messages_at : StreamLine → ℕ
 messages_at (Channel id) = 0
 messages_at (Message m) = 1
 messages_at (End id sent received finished) = 0
-messages_at (Naming clock id seq) = 0
+messages_at (Anr clock id seq) = 0
 
 -- what a judge knows: the tables of the open section, the line of the first break, and how many channels and messages there were
 pub record Known : Type 0 where
@@ -51,7 +51,7 @@ Knows past j = j.broken ≡ None → VerifierStandsFor past j.tables
 
 -- what is known behind a line
 pub record Judges (past : List Told) (n : ℕ) (line : StreamLine) (old new : Known) : Type 0 where
-  pub knows : Knows (told_after past line) new
+  pub knows : Knows (sent_after past line) new
   pub broken : new.broken ≡ option_or old.broken (break_at past n line)
   pub channels : new.channels ≡ old.channels + channels_at line
   pub messages : new.messages ≡ old.messages + messages_at line
@@ -59,7 +59,7 @@ pub record Judges (past : List Told) (n : ℕ) (line : StreamLine) (old new : Kn
 -- the line of the first break of the lines that are left
 abbrev pub breaks : List Told → List Event → Option ℕ
 breaks past [] = None
-breaks past (e ∷ es) = option_or (break_at past e.0 e.1) (breaks (told_after past e.1) es)
+breaks past (e ∷ es) = option_or (break_at past e.0 e.1) (breaks (sent_after past e.1) es)
 
 -- how many sections these lines begin
 abbrev pub channels_left : List Event → ℕ

@@ -30,7 +30,7 @@ Explains plan past (Err r) = Overruns plan past × (r ≡ too_long (codes "run")
 abbrev pub WhyAnswers : PlanData → List RawEvent → Answer → Type 0
 WhyAnswers plan events a = Explains plan (reverse events) a
 
--- the answer once the session is accepted: the recording is judged, and then the causes of the run are told
+-- the answer once the session is accepted: the recording is judged, and then the causes of the run are sent
 abbrev pub CausesAnswer : List ℕ → Origin → PlanData → Answer → Type 0
 CausesAnswer events from plan a =
     Reads from events (events_file (devices_of plan)) (λ rest given. Ends (WhyAnswers plan given) rest) a

@@ -4,13 +4,13 @@ use Rattle.std.specs.Fmt.{decimal}
 use Rattle.std.specs.Option.{unwrap_or}
 use Rattle.raw_events.specs.declared.event.RawEvent.{RawEvent}
 use Rattle.session_plan.specs.DeviceDisplays.{device_displays}
-use Rattle.dispatch_history.specs.Due.{counts, namings}
+use Rattle.dispatch_history.specs.Due.{counts, anrs}
 use Rattle.dispatch_history.specs.Effect.{Effect}
 use Rattle.dispatch_history.specs.Plan.{Cooked}
 use Rattle.dispatch_history.specs.Ordered.{Ordered}
 use Rattle.schedule.specs.Run.{IsWithin}
 use Rattle.schedule.specs.Printing.{end_of}
-use Rattle.stream_text.specs.StreamsHistory.{naming_lines, unopened}
+use Rattle.stream_text.specs.StreamsHistory.{anr_lines, unopened}
 use Rattle.workload_maker.specs.Events.{events_of}
 use Rattle.workload_maker.specs.Session.{session}
 use Rattle.command_files.specs.Judged.{Answer}
@@ -31,7 +31,7 @@ end_lines k (suc n) es = end_of k (unwrap_or (counts es k) unopened) ++ end_line
 
 -- how far each of the five channels came, and who was named unresponsive
 abbrev pub summary : ℕ → ℕ → ℕ → List Effect → List ℕ
-summary seed packets args es = head seed packets args ++ (end_lines 1 5 es ++ naming_lines (namings es))
+summary seed packets args es = head seed packets args ++ (end_lines 1 5 es ++ anr_lines (anrs es))
 
 -- the events of a workload of ten fingers, the newest first
 abbrev pub work_past : ℕ → ℕ → List RawEvent

@@ -1,11 +1,11 @@
-//! `replay`: what each window is told in the run of a session and of a recording.
+//! `replay`: what each window is sent in the run of a session and of a recording.
 ghost use Rattle.std.specs.Prelude.{◌≡◌, ◌≤◌, IsTrue, None, Ok, IfOk, IfErr};
 ghost use Rattle.command_words.specs.Command.{replay};
 ghost use Rattle.command_words.specs.CommandView.{recorded_view};
 ghost use Rattle.command_files.specs.Inputs.{IsAccepted};
 ghost use Rattle.command_answers.specs.Program.{Answers, RefusesCommand};
 
-use crate::running::{Telling, answer_run};
+use crate::running::{Sending, answer_run};
 use command_files::Refusal;
 use command_words::Recorded;
 use outside_io::Files;
@@ -30,5 +30,5 @@ pub fn answer_replay<F: Files>(
     ensures entries { F.entries files.new ≡ F.entries files.old }
     ensures names { F.lends files.new ≡ F.lends files.old }
 {
-    answer_run(alloc, files, names, Telling::Streams)
+    answer_run(alloc, files, names, Sending::Streams)
 }

@@ -19,7 +19,7 @@ ghost use Rattle.command_files.specs.Planned.{given, script_of};
 ghost use Rattle.command_files.specs.Recorded.{HasRead};
 ghost use Rattle.command_files.specs.Refusing.{RefusesSo};
 ghost use Rattle.command_answers.specs.Begun.{BeginsWith};
-ghost use Rattle.command_answers.specs.Running.{Comes, RecordingTells, RunTells, SaysOf, StopsOf, lines_of, text_by};
+ghost use Rattle.command_answers.specs.Running.{Comes, RecordingSends, RunSends, SaysOf, StopsOf, lines_of, text_by};
 
 use crate::plan::plan_run;
 use crate::texts::text_of;
@@ -37,21 +37,21 @@ use text_pieces::Pieces;
 
 /// What is told of a run.
 #[derive(Clone, Copy)]
-pub(crate) enum Telling {
-    /// What each window is told.
+pub(crate) enum Sending {
+    /// What each window is sent.
     Streams,
     /// What each call came to, and why.
     Causes,
 }
 
-impl Telling {
+impl Sending {
     /// What a run has where this is told of it.
     fn lines(self) -> Lines
         ensures { result ≡ lines_of self }
     {
         match self {
-            Telling::Streams => Lines::Kept,
-            Telling::Causes => Lines::Causes,
+            Sending::Streams => Lines::Kept,
+            Sending::Causes => Lines::Causes,
         }
     }
 }
@@ -81,21 +81,21 @@ fn begin(alloc: Global, session: Session, lines: Lines) -> Result<Begun, AllocEr
 }
 
 /// The text of a run, taken out of it.
-fn told_text(
+fn sent_text(
     alloc: Global,
     channels: &[ChannelPlan],
     schedule: &mut Schedule,
-    telling: Telling,
+    sending: Sending,
 ) -> Result<Pieces, AllocError>
     requires { length channels.now ≤ 64 }
-    ensures { (plan : PlanView) (es : List Effect) → HasWith (lines_of telling) plan es schedule.old
+    ensures { (plan : PlanView) (es : List Effect) → HasWith (lines_of sending) plan es schedule.old
         → opened (past_of es) ≡ length plan.channels → length channels.now ≡ length plan.channels
         → IfOk result
-        (λ text. text ≡ text_by telling plan.displays (map (λ c. c.name) (map channel_view channels.now)) es) }
+        (λ text. text ≡ text_by sending plan.displays (map (λ c. c.name) (map channel_view channels.now)) es) }
 {
-    match telling {
-        Telling::Streams => text_of(alloc, channels, schedule),
-        Telling::Causes => Ok(Pieces::of(alloc, schedule.take_causes(alloc))),
+    match sending {
+        Sending::Streams => text_of(alloc, channels, schedule),
+        Sending::Causes => Ok(Pieces::of(alloc, schedule.take_causes(alloc))),
     }
 }
 
@@ -104,35 +104,35 @@ fn done_text(
     alloc: Global,
     channels: &[ChannelPlan],
     schedule: &mut Schedule,
-    telling: Telling,
+    sending: Sending,
 ) -> Result<Pieces, Refusal>
     requires { length channels.now ≤ 64 }
     ensures ok { (p : PlanData) (past : List Event) → map channel_view channels.now ≡ p.channels
-        → CompletedWith (lines_of telling) (script_of p) (given p past) schedule.old
-        → IfOk result (λ text. Comes telling p past (Ok text)) }
+        → CompletedWith (lines_of sending) (script_of p) (given p past) schedule.old
+        → IfOk result (λ text. Comes sending p past (Ok text)) }
     ensures err { (p : PlanData) (past : List Event) → map channel_view channels.now ≡ p.channels
-        → CompletedWith (lines_of telling) (script_of p) (given p past) schedule.old
-        → IfErr result (RefusesSo (λ r. Comes telling p past (Err r))) }
+        → CompletedWith (lines_of sending) (script_of p) (given p past) schedule.old
+        → IfErr result (RefusesSo (λ r. Comes sending p past (Err r))) }
 {
     if schedule.is_too_long() {
         return Err(Refusal::TooLong(Subject::Run));
     }
-    Ok(told_text(alloc, channels, schedule, telling)?)
+    Ok(sent_text(alloc, channels, schedule, sending)?)
 }
 
 /// Ends the recording, and makes the text.
-fn ended_text(alloc: Global, begun: Begun, telling: Telling) -> Result<Pieces, Refusal>
+fn ended_text(alloc: Global, begun: Begun, sending: Sending) -> Result<Pieces, Refusal>
     requires run { IsRun begun.plan }
     requires few { length begun.channels.items ≤ 64 }
     ensures ok { (p : PlanData) (bytes : List ℕ) → map channel_view begun.channels.items ≡ p.channels
         → plan_of begun.plan ≡ script_of p
-        → HasRead (lines_of telling) p bytes begun.recording
-        → IfOk result (λ text. Behind (RunTells telling p) (lines_judged (recorded (devices_of p) bytes)) (Ok text)) }
+        → HasRead (lines_of sending) p bytes begun.recording
+        → IfOk result (λ text. Behind (RunSends sending p) (lines_judged (recorded (devices_of p) bytes)) (Ok text)) }
     ensures err { (p : PlanData) (bytes : List ℕ) → map channel_view begun.channels.items ≡ p.channels
         → plan_of begun.plan ≡ script_of p
-        → HasRead (lines_of telling) p bytes begun.recording
+        → HasRead (lines_of sending) p bytes begun.recording
         → IfErr result (RefusesSo
-        (λ r. Behind (RunTells telling p) (lines_judged (recorded (devices_of p) bytes)) (Err r))) }
+        (λ r. Behind (RunSends sending p) (lines_judged (recorded (devices_of p) bytes)) (Err r))) }
 {
     let Begun {
         channels,
@@ -142,7 +142,7 @@ fn ended_text(alloc: Global, begun: Begun, telling: Telling) -> Result<Pieces, R
     match recording.end(&plan) {
         Ok(schedule) => {
             let mut schedule = schedule;
-            done_text(alloc, &channels, &mut schedule, telling)
+            done_text(alloc, &channels, &mut schedule, sending)
         }
         Err(refusal) => Err(refusal),
     }
@@ -154,18 +154,18 @@ fn recording_text<F: Files>(
     files: &mut F,
     begun: Begun,
     name: &str,
-    telling: Telling,
+    sending: Sending,
 ) -> Result<Pieces, Refusal>
     requires lends { IsTrue (F.lends files.old name.now) }
     requires free { F.lent files.old ≡ None }
     requires run { IsRun begun.plan }
     requires few { length begun.channels.items ≤ 64 }
-    ensures ok { (p : PlanData) → BeginsWith (lines_of telling) p begun → IfOk result
+    ensures ok { (p : PlanData) → BeginsWith (lines_of sending) p begun → IfOk result
         (λ text. Logged (F.entries files.old) (F.readings files.old) (F.readings files.new)
-        ((name.now, recording_limit) ∷ []) (λ rs. RecordingTells telling name.now (by_log rs) p (Ok text))) }
-    ensures err { (p : PlanData) → BeginsWith (lines_of telling) p begun → IfErr result
+        ((name.now, recording_limit) ∷ []) (λ rs. RecordingSends sending name.now (by_log rs) p (Ok text))) }
+    ensures err { (p : PlanData) → BeginsWith (lines_of sending) p begun → IfErr result
         (RefusesBy (λ x. Logged (F.entries files.old) (F.readings files.old) (F.readings files.new)
-        ((name.now, recording_limit) ∷ []) (λ rs. RecordingTells telling name.now (by_log rs) p (Err x)))
+        ((name.now, recording_limit) ∷ []) (λ rs. RecordingSends sending name.now (by_log rs) p (Err x)))
         (Logged (F.entries files.old) (F.readings files.old) (F.readings files.new)
         ((name.now, recording_limit) ∷ []) (λ rs. ⊤)) (F.faults files.old) (F.faults files.new)) }
     ensures later { F.faults files.old ≤ F.faults files.new }
@@ -183,7 +183,7 @@ fn recording_text<F: Files>(
         &mut begun.recording,
     );
     match fed {
-        Ok(()) => ended_text(alloc, begun, telling),
+        Ok(()) => ended_text(alloc, begun, sending),
         Err(error) => Err(read_refusal(error, Subject::Recording)),
     }
 }
@@ -193,14 +193,14 @@ pub(crate) fn answer_run<F: Files>(
     alloc: Global,
     files: &mut F,
     names: Recorded<'_>,
-    telling: Telling,
+    sending: Sending,
 ) -> Result<Pieces, Refusal>
     requires session { IsTrue (F.lends files.old names.session.now) }
     requires events { IsAccepted (F.entries files.old) names.session.now → IsTrue (F.lends files.old names.events.now) }
     requires free { F.lent files.old ≡ None }
-    ensures ok { IfOk result (λ text. SaysOf telling (F.entries files.old) (F.readings files.old)
+    ensures ok { IfOk result (λ text. SaysOf sending (F.entries files.old) (F.readings files.old)
         (F.readings files.new) (recorded_view names.entry) (Ok text)) }
-    ensures err { IfErr result (StopsOf telling (F.entries files.old) (F.readings files.old) (F.readings files.new)
+    ensures err { IfErr result (StopsOf sending (F.entries files.old) (F.readings files.old) (F.readings files.new)
         (recorded_view names.entry) (F.faults files.old) (F.faults files.new)) }
     ensures later { F.faults files.old ≤ F.faults files.new }
     ensures free { F.lent files.new ≡ None }
@@ -208,6 +208,6 @@ pub(crate) fn answer_run<F: Files>(
     ensures names { F.lends files.new ≡ F.lends files.old }
 {
     let plan = read_session(alloc, files, names.session)?;
-    let begun = begin(alloc, plan, telling.lines())?;
-    recording_text(alloc, files, begun, names.events, telling)
+    let begun = begin(alloc, plan, sending.lines())?;
+    recording_text(alloc, files, begun, names.events, sending)
 }

@@ -7,7 +7,7 @@ ghost use Rattle.session_plan.specs.View.{channel_view};
 ghost use Rattle.stream_text.specs.StreamsHistory.{sections_of, streams_text};
 ghost use Rattle.schedule.specs.State.{Has};
 
-use schedule::{Schedule, add_all_namings};
+use schedule::{Schedule, add_all_anrs};
 use session_plan::ChannelPlan;
 use std::alloc::{AllocError, Global};
 use text_pieces::Pieces;
@@ -41,10 +41,10 @@ pub(crate) fn text_of(
         → opened (past_of es) ≡ length plan.channels → length channels.now ≡ length plan.channels
         → IfOk result (λ text. text ≡ streams_text (map (λ c. c.name) (map channel_view channels.now)) es) }
 {
-    let mut namings = Vec::new(alloc);
-    add_all_namings(schedule.namings(), &mut namings)?;
+    let mut anrs = Vec::new(alloc);
+    add_all_anrs(schedule.anrs(), &mut anrs)?;
     let mut text = Pieces::new(alloc);
     add_sections(alloc, schedule, channels, &mut text)?;
-    text.push(namings)?;
+    text.push(anrs)?;
     Ok(text)
 }

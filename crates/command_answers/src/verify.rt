@@ -73,7 +73,7 @@ impl Judge {
                 self.messages += 1;
                 Ok(())
             }
-            StreamLine::End { .. } | StreamLine::Naming { .. } => Ok(()),
+            StreamLine::End { .. } | StreamLine::Anr { .. } => Ok(()),
         }
     }
 

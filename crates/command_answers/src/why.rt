@@ -5,7 +5,7 @@ ghost use Rattle.command_words.specs.CommandView.{recorded_view};
 ghost use Rattle.command_files.specs.Inputs.{IsAccepted};
 ghost use Rattle.command_answers.specs.Program.{Answers, RefusesCommand};
 
-use crate::running::{Telling, answer_run};
+use crate::running::{Sending, answer_run};
 use command_files::Refusal;
 use command_words::Recorded;
 use outside_io::Files;
@@ -30,5 +30,5 @@ pub fn answer_why<F: Files>(
     ensures entries { F.entries files.new ≡ F.entries files.old }
     ensures names { F.lends files.new ≡ F.lends files.old }
 {
-    answer_run(alloc, files, names, Telling::Causes)
+    answer_run(alloc, files, names, Sending::Causes)
 }

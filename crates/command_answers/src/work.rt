@@ -17,7 +17,7 @@ ghost use Rattle.command_answers.specs.Work.{Works, end_lines, head, summary, wo
 use crate::plan::plan_run;
 use command_files::{Refusal, Subject, readers_of, run_event};
 use device_reader::Readers;
-use schedule::{Lines, Plan, Schedule, add_all_namings};
+use schedule::{Lines, Plan, Schedule, add_all_anrs};
 use std::alloc::{AllocError, Global};
 use text_pieces::Pieces;
 use workload_maker::{Events, make};
@@ -86,7 +86,7 @@ fn summed_up(
 {
     let mut text = head_text(alloc, seed, packets, args)?;
     add_ends(schedule, CHANNELS, &mut text)?;
-    add_all_namings(schedule.namings(), &mut text)?;
+    add_all_anrs(schedule.anrs(), &mut text)?;
     Ok(text)
 }
 

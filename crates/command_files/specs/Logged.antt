@@ -8,13 +8,13 @@ use Rattle.command_files.specs.Judged.{FileKind, IfTold, IsEnough, judged}
 use Rattle.command_files.specs.Refused.{Refused}
 use Rattle.command_files.specs.RefusalView.{refusal_view}
 
--- A reading agrees with the bytes of its file: what it gave is in front of them, and is all of them where the end was told. Of a file that
+-- A reading agrees with the bytes of its file: what it gave is in front of them, and is all of them where the end was sent. Of a file that
 -- is not there nothing was given.
 abbrev pub Agrees : Option (List ℕ) → Reading → Type 0
 Agrees None r = (r.given ≡ []) × (r.ended ≡ false)
 Agrees (Some bytes) r = (rest : List ℕ) × (bytes ≡ r.given ++ rest) × (r.ended ≡ true → rest ≡ [])
 
--- one reading was logged: of this name, of at most one byte more than the limit, and it agrees with the files where they are told
+-- one reading was logged: of this name, of at most one byte more than the limit, and it agrees with the files where they are sent
 pub record OneRead (told : Option (List Entry)) (before now : List Reading) (name : List ℕ) (limit : ℕ) (Holds : Reading → Type 0) : Type 0 where
   pub reading : Reading
   pub grown : now ≡ before ++ reading ∷ []
@@ -59,7 +59,7 @@ abbrev pub AllAgree : List Entry → List Reading → Type 0
 AllAgree entries [] = ⊤
 AllAgree entries (r ∷ rs) = Agrees (bytes_of entries r.name) r × AllAgree entries rs
 
--- The log grew by readings of these files, in their turn, each once and within its limit. They agree with the files where these are told.
+-- The log grew by readings of these files, in their turn, each once and within its limit. They agree with the files where these are sent.
 pub record Logged (told : Option (List Entry)) (before now : List Reading) (files : List (List ℕ × ℕ)) (Holds : List Reading → Type 0) : Type 0 where
   pub readings : List Reading
   pub grown : now ≡ before ++ readings

@@ -10,7 +10,7 @@ use Rattle.judge_text.specs.Lines.{refusal_line as judge_line}
 use Rattle.session_plan.specs.Fault.{Fault}
 use Rattle.session_plan.specs.ErrorLine.{line_of}
 
--- a refusal as it is told: a status, and a line with its newline
+-- a refusal as it is sent: a status, and a line with its newline
 pub record Refused : Type 0 where
   pub status : ℕ
   pub line : List ℕ

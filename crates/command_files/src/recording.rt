@@ -41,7 +41,7 @@ impl Model for Recording {
     ghost view = { λ r. record { reader = r.reader; readers = r.readers; schedule = r.schedule } };
 }
 
-/// What a refused line does to what is run or counted: nothing. Want of memory is told.
+/// What a refused line does to what is run or counted: nothing. Want of memory is sent.
 pub(crate) fn passed_over(error: LineError) -> Result<(), AllocError>
     ensures { OnOk result (is_memory error ≡ false) }
 {

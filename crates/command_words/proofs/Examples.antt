@@ -128,7 +128,7 @@ pub inspects :
 unfolding form_of command_with looking_with value_of recorded_of inspect_of
 inspects = (refl, refl, refl)
 
--- the files of a run whose causes are told
+-- the files of a run whose causes are sent
 pub tells :
     (form_of (codes "why" ∷ codes "--events" ∷ codes "e" ∷ codes "--session=s" ∷ []) ≡ Some (why (record { session = codes "s"; events = codes "e" })))
     × (form_of (codes "why" ∷ codes "--events" ∷ codes "e" ∷ []) ≡ None)

@@ -19,7 +19,7 @@ pub struct Recorded<'a> {
 /// A command with what its options say.
 #[derive(Clone, Copy)]
 pub enum Command<'a> {
-    /// Prints an order that threads took, and what each window is told in it.
+    /// Prints an order that threads took, and what each window is sent in it.
     Race(Recorded<'a>),
     /// A command that starts no threads.
     Alone(Alone<'a>),
@@ -28,9 +28,9 @@ pub enum Command<'a> {
 /// A command that starts no threads, with what its options say.
 #[derive(Clone, Copy)]
 pub enum Alone<'a> {
-    /// Prints what each window is told for a recording.
+    /// Prints what each window is sent for a recording.
     Replay(Recorded<'a>),
-    /// Prints what each window is told in the order that a file gives.
+    /// Prints what each window is sent in the order that a file gives.
     Check {
         recorded: Recorded<'a>,
         order: &'a str,

@@ -8,11 +8,11 @@ use Rattle.input_types.specs.declared.message.Message.{Message as Told}
 use Rattle.stream_judge.specs.Placed.{ArePlaced, Places}
 use Rattle.stream_judge.proofs.Placed.{placed_of}
 use Rattle.stream_text.specs.declared.stream_line.StreamLine.{StreamLine}
-use Rattle.stream_text.specs.declared.stream_line.StreamLine.TheVariants.{Channel, Message, End, Naming}
+use Rattle.stream_text.specs.declared.stream_line.StreamLine.TheVariants.{Channel, Message, End, Anr}
 use Rattle.stream_text.specs.declared.stream_lines.Place.{Place}
-use Rattle.stream_text.specs.declared.stream_lines.Place.TheVariants.{Between, Section as Inside, Namings}
+use Rattle.stream_text.specs.declared.stream_lines.Place.TheVariants.{Between, Section as Inside, Anrs}
 use Rattle.stream_text.specs.StreamLine.{CanSay}
-use Rattle.stream_text.specs.StreamAnswer.{channel_told}
+use Rattle.stream_text.specs.StreamAnswer.{channel_sent}
 use Rattle.stream_text.specs.StreamFile.{Event, Goes, Unread, events_of, follow, messages_of, streams_of, with_event}
 use Rattle.compare_text.specs.declared.section.Opened.{Opened}
 use Rattle.compare_text.specs.Compared.{points_in}
@@ -39,7 +39,7 @@ points_said (Channel id) n k es e h = refl
 points_said (Message m) n k es e h =
     ap (λ ps. if is_point m.body then (n, m) ∷ ps else ps) h ∙ ap (λ j. if is_point m.body then (j, m) ∷ points_left es else points_left es) (sym e)
 points_said (End id sent received finished) n k es e h = refl
-points_said (Naming clock id seq) n k es e h = refl
+points_said (Anr clock id seq) n k es e h = refl
 
 points_tied : (es : List Event) (place : Place) (n : ℕ) → ArePlaced place n es → points_from n (messages_of es) ≡ points_left es
 points_tied [] place n p = refl
@@ -53,7 +53,7 @@ sections_said (Channel id) n k es e points h =
     rw (line, own, h) refl
 sections_said (Message m) n k es e points h = h
 sections_said (End id sent received finished) n k es e points h = h
-sections_said (Naming clock id seq) n k es e points h = h
+sections_said (Anr clock id seq) n k es e points h = h
 
 sections_tied : (es : List Event) (place : Place) (n : ℕ) → ArePlaced place n es → sections_of (streams_of es) ≡ sections_at es
 sections_tied [] place n p = refl
@@ -65,16 +65,16 @@ sections_tied ((k, says) ∷ es) place n p =
 abbrev counts : Place → List Event → Type 0
 counts Between es = count_points es ≡ points_in (sections_at es)
 counts (Inside id told) es = count_points es ≡ length (points_left es) + points_in (sections_at es)
-counts Namings es = count_points es ≡ points_in (sections_at es)
+counts Anrs es = count_points es ≡ points_in (sections_at es)
 
 one_point : (b : Bool) (n rest sections : ℕ) (m : Told) (ps : List (ℕ × Told)) → rest ≡ length ps + sections
     → (if b then 1 else 0) + rest ≡ length (if b then (n, m) ∷ ps else ps) + sections
 one_point true n rest sections m ps h = omega (arith, h)
 one_point false n rest sections m ps h = omega (arith, h)
 
-told_next : (id count : ℕ) (b : Bool) (next : Place) → (if b then Some (Inside id (count + 1)) else None) ≡ Some next → Inside id (count + 1) ≡ next
-told_next id count true next h = cc
-told_next id count false next h = absurd (cc)
+sent_next : (id count : ℕ) (b : Bool) (next : Place) → (if b then Some (Inside id (count + 1)) else None) ≡ Some next → Inside id (count + 1) ≡ next
+sent_next id count true next h = cc
+sent_next id count false next h = absurd (cc)
 
 ended_next : (b : Bool) (next : Place) → (if b then Some Between else None) ≡ Some next → Between ≡ next
 ended_next true next h = cc
@@ -86,27 +86,27 @@ count_step Between next n (Channel id) es f h =
     let own : counts (Inside id 0) es = subst (λ (p : Place). counts p es) (sym same) h in omega (arith, own)
 count_step Between next n (Message m) es f h = absurd (cc)
 count_step Between next n (End e sent received finished) es f h = absurd (cc)
-count_step Between next n (Naming clock id seq) es f h =
-    let same : Namings ≡ next = cc in
-    let own : counts Namings es = subst (λ (p : Place). counts p es) (sym same) h in omega (arith, own)
+count_step Between next n (Anr clock id seq) es f h =
+    let same : Anrs ≡ next = cc in
+    let own : counts Anrs es = subst (λ (p : Place). counts p es) (sym same) h in omega (arith, own)
 count_step (Inside id told) next n (Channel other) es f h = absurd (cc)
 count_step (Inside id told) next n (Message m) es f h =
-    let own : counts (Inside id (told + 1)) es = subst (λ (p : Place). counts p es) (sym (told_next id told (m.seq == told + 1) next f)) h in
+    let own : counts (Inside id (told + 1)) es = subst (λ (p : Place). counts p es) (sym (sent_next id told (m.seq == told + 1) next f)) h in
     one_point (is_point m.body) n (count_points es) (points_in (sections_at es)) m (points_left es) own
 count_step (Inside id told) next n (End e sent received finished) es f h =
     let own : counts Between es = subst (λ (p : Place). counts p es) (sym (ended_next ((e == id) && (sent == told)) next f)) h in omega (arith, own)
-count_step (Inside id told) next n (Naming clock other seq) es f h = absurd (cc)
-count_step Namings next n (Channel id) es f h = absurd (cc)
-count_step Namings next n (Message m) es f h = absurd (cc)
-count_step Namings next n (End e sent received finished) es f h = absurd (cc)
-count_step Namings next n (Naming clock id seq) es f h =
-    let same : Namings ≡ next = cc in
-    let own : counts Namings es = subst (λ (p : Place). counts p es) (sym same) h in omega (arith, own)
+count_step (Inside id told) next n (Anr clock other seq) es f h = absurd (cc)
+count_step Anrs next n (Channel id) es f h = absurd (cc)
+count_step Anrs next n (Message m) es f h = absurd (cc)
+count_step Anrs next n (End e sent received finished) es f h = absurd (cc)
+count_step Anrs next n (Anr clock id seq) es f h =
+    let same : Anrs ≡ next = cc in
+    let own : counts Anrs es = subst (λ (p : Place). counts p es) (sym same) h in omega (arith, own)
 
 no_lines : (place : Place) (n : ℕ) → ArePlaced place n [] → counts place []
 no_lines Between n p = refl
 no_lines (Inside id told) n p = absurd (cc)
-no_lines Namings n p = refl
+no_lines Anrs n p = refl
 
 counted : (es : List Event) (place : Place) (n : ℕ) → ArePlaced place n es → counts place es
 counted [] place n p = no_lines place n p
@@ -154,8 +154,8 @@ passed bytes opened points more n (Message m) old new es no_section is line same
 passed bytes opened points more n (End id sent received finished) old new es no_section is line same h =
     let c = h ((n, End id sent received finished) ∷ es) (before (n, End id sent received finished) old new es line same) in
     record { may = c.may; all = c.all; counted = omega (arith, is, c.counted) }
-passed bytes opened points more n (Naming clock id seq) old new es no_section is line same h =
-    let c = h ((n, Naming clock id seq) ∷ es) (before (n, Naming clock id seq) old new es line same) in
+passed bytes opened points more n (Anr clock id seq) old new es no_section is line same h =
+    let c = h ((n, Anr clock id seq) ∷ es) (before (n, Anr clock id seq) old new es line same) in
     record { may = c.may; all = c.all; counted = omega (arith, is, c.counted) }
 
 opened_one : (s : Opened) (es : List Event) → s.lines.events ≡ Ok es → s.id < 65 → is_opened s ≡ true
@@ -179,17 +179,17 @@ begun bytes opened more s points n old new es is line lines id read same h =
     }
 
 -- the line begins a section, or none
-pub begins : (says : StreamLine) (id : ℕ) → channel_told says ≡ Some id → says ≡ Channel id
+pub begins : (says : StreamLine) (id : ℕ) → channel_sent says ≡ Some id → says ≡ Channel id
 begins (Channel other) id h = let same : other ≡ id = cc in ap (λ i. Channel i) same
 begins (Message m) id h = absurd (cc)
 begins (End e sent received finished) id h = absurd (cc)
-begins (Naming clock other seq) id h = absurd (cc)
+begins (Anr clock other seq) id h = absurd (cc)
 
-pub begins_none : (says : StreamLine) → channel_told says ≡ None → (id : ℕ) → says ≡ Channel id → ⊥
+pub begins_none : (says : StreamLine) → channel_sent says ≡ None → (id : ℕ) → says ≡ Channel id → ⊥
 begins_none (Channel other) h id e = absurd (cc)
 begins_none (Message m) h id e = absurd (cc)
 begins_none (End x sent received finished) h id e = absurd (cc)
-begins_none (Naming clock other seq) h id e = absurd (cc)
+begins_none (Anr clock other seq) h id e = absurd (cc)
 
 at_most : (b : Bool) → (if b then 1 else 0) ≤ 1
 at_most true = omega arith
@@ -199,14 +199,14 @@ pub one_at_most : (says : StreamLine) → point_at says ≤ 1
 one_at_most (Channel id) = omega arith
 one_at_most (Message m) = at_most (is_point m.body)
 one_at_most (End id sent received finished) = omega arith
-one_at_most (Naming clock id seq) = omega arith
+one_at_most (Anr clock id seq) = omega arith
 
 -- a line that begins a section says one of 64 channels
 said : (says : StreamLine) (id : ℕ) → says ≡ Channel id → CanSay says → id < 65
 said (Channel other) id h can = let same : other ≡ id = cc in omega (arith, same, can)
 said (Message m) id h can = absurd (cc)
 said (End e sent received finished) id h can = absurd (cc)
-said (Naming clock other seq) id h can = absurd (cc)
+said (Anr clock other seq) id h can = absurd (cc)
 
 abbrev event : ℕ → StreamLine → Option Event
 event n says = Some (n, says)

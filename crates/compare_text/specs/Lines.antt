@@ -1,4 +1,4 @@
--- How a refusal is told.
+-- How a refusal is sent.
 use Rattle.std.specs.Prelude.{codes, ℕ, List, [], ◌++◌}
 use Rattle.std.specs.Fmt.{decimal}
 use Rattle.compare_text.specs.declared.error.CompareError.{CompareError}

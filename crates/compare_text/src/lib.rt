@@ -1,6 +1,6 @@
 //! Whether a stream file that came agrees with one that was wanted, up to a time and a place.
 //!
-//! What a window is told at an end, at a key or at a change of the focus is a point; a move that is not canceled is
+//! What a window is sent at an end, at a key or at a change of the focus is a point; a move that is not canceled is
 //! none, since its place shows at the next message that lists it. So a device that merges moves agrees with one that
 //! does not. With 20 microseconds and 3 pixels, the stream
 //!

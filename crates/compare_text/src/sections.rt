@@ -2,7 +2,7 @@
 ghost use Rattle.std.specs.Prelude.{◌≡◌, ◌+◌, ◌<◌, ◌≤◌, true, map, Ok, Err, IfOk, IfErr};
 ghost use Rattle.compare_text.specs.Compared.{points_in};
 ghost use Rattle.compare_text.specs.Indexed.{Reads, are_opened, file_sections, point_at, seen};
-ghost use Rattle.stream_text.specs.StreamAnswer.{channel_told};
+ghost use Rattle.stream_text.specs.StreamAnswer.{channel_sent};
 
 use crate::points::is_point;
 use crate::section::Opened;
@@ -34,7 +34,7 @@ impl<'a> Model for Sections<'a> {
 
 /// The channel whose section a line begins.
 fn channel_of(says: &StreamLine) -> Option<u32>
-    ensures { result ≡ channel_told says.now }
+    ensures { result ≡ channel_sent says.now }
 {
     match says {
         StreamLine::Channel { id } => Some(*id),

@@ -18,8 +18,8 @@ window channel left top right bottom =
     let frame : Rect = record { left = pos left; top = pos top; right = pos right; bottom = pos bottom } in
     record { channel = channel; display = 0; frame = frame; region = frame ∷ []; flags = record { bits = 0 } }
 
-abbrev tell : ℕ → HoverAction → ℕ → ℕ → HoverMsg
-tell moment action x y = record { moment = moment; action = action; at = record { x = pos x; y = pos y } }
+abbrev send : ℕ → HoverAction → ℕ → ℕ → HoverMsg
+send moment action x y = record { moment = moment; action = action; at = record { x = pos x; y = pos y } }
 
 -- a display of 1080 by 2400 and two channels
 abbrev phone : Screen
@@ -41,10 +41,10 @@ walk =
     ∷ Windows 0 (left ∷ right ∷ [])
     ∷ []
 
-pub left_on_a_walk : stream phone walk 1 ≡ tell 1000 Enter 500 1200 ∷ tell 2000 Exit 500 1200 ∷ []
+pub left_on_a_walk : stream phone walk 1 ≡ send 1000 Enter 500 1200 ∷ send 2000 Exit 500 1200 ∷ []
 left_on_a_walk = refl
 
-pub right_on_a_walk : stream phone walk 2 ≡ tell 2000 Enter 60 1200 ∷ tell 3000 Move 60 0 ∷ tell 4000 Exit 60 0 ∷ []
+pub right_on_a_walk : stream phone walk 2 ≡ send 2000 Enter 60 1200 ∷ send 3000 Move 60 0 ∷ send 4000 Exit 60 0 ∷ []
 right_on_a_walk = refl
 
 -- an app over the whole display, and a dialog in front of it
@@ -54,14 +54,14 @@ dialog = window 1 40 200 1040 2200
 abbrev app : Window
 app = window 2 0 0 1080 2400
 
--- the hovered dialog is closed: it is told no Exit, and the app behind it has the cursor
+-- the hovered dialog is closed: it is sent no Exit, and the app behind it has the cursor
 abbrev closing : List CursorCall
 closing = Remove 2000 1 ∷ Moved 1000 (pos 0) (pos 0) ∷ Windows 0 (dialog ∷ app ∷ []) ∷ []
 
-pub dialog_is_closed : stream phone closing 1 ≡ tell 1000 Enter 500 1000 ∷ []
+pub dialog_is_closed : stream phone closing 1 ≡ send 1000 Enter 500 1000 ∷ []
 dialog_is_closed = refl
 
-pub app_behind_is_entered : stream phone closing 2 ≡ tell 2000 Enter 540 1200 ∷ []
+pub app_behind_is_entered : stream phone closing 2 ≡ send 2000 Enter 540 1200 ∷ []
 app_behind_is_entered = refl
 
 pub dialog_was_removed : was_removed phone closing 1 ≡ true
@@ -71,16 +71,16 @@ dialog_was_removed = refl
 abbrev passing : List CursorCall
 passing = Windows 3000 (app ∷ []) ∷ Windows 2000 (dialog ∷ app ∷ []) ∷ Moved 1000 (pos 0) (pos 0) ∷ Windows 0 (app ∷ []) ∷ []
 
-pub dialog_comes_and_goes : stream phone passing 1 ≡ tell 2000 Enter 500 1000 ∷ tell 3000 Exit 500 1000 ∷ []
+pub dialog_comes_and_goes : stream phone passing 1 ≡ send 2000 Enter 500 1000 ∷ send 3000 Exit 500 1000 ∷ []
 dialog_comes_and_goes = refl
 
-pub app_is_left_and_entered : stream phone passing 2 ≡ tell 1000 Enter 540 1200 ∷ tell 2000 Exit 540 1200 ∷ tell 3000 Enter 540 1200 ∷ []
+pub app_is_left_and_entered : stream phone passing 2 ≡ send 1000 Enter 540 1200 ∷ send 2000 Exit 540 1200 ∷ send 3000 Enter 540 1200 ∷ []
 app_is_left_and_entered = refl
 
 -- a window that is moved away is told where the cursor was, from its new corner
 pub window_is_moved_away :
     stream phone (Windows 2000 (window 1 600 0 1080 2400 ∷ []) ∷ Moved 1000 (pos 0) (pos 0) ∷ Windows 0 (dialog ∷ []) ∷ []) 1
-    ≡ tell 1000 Enter 500 1000 ∷ record { moment = 2000; action = Exit; at = record { x = negsuc 59; y = pos 1200 } } ∷ []
+    ≡ send 1000 Enter 500 1000 ∷ record { moment = 2000; action = Exit; at = record { x = negsuc 59; y = pos 1200 } } ∷ []
 window_is_moved_away = refl
 
 -- windows come and go before the mouse has moved
@@ -97,7 +97,7 @@ dot = record { width = 1; height = 1; channels = 1 }
 
 pub dot_is_moved_on :
     stream dot (Moved 2000 (pos 7) (negsuc 6) ∷ Moved 1000 (pos 1) (pos 1) ∷ Windows 0 (window 1 0 0 1 1 ∷ []) ∷ []) 1
-    ≡ tell 1000 Enter 0 0 ∷ tell 2000 Move 0 0 ∷ []
+    ≡ send 1000 Enter 0 0 ∷ send 2000 Move 0 0 ∷ []
 dot_is_moved_on = refl
 
 abbrev event : ℕ → ℕ → ℤ → RawEvent

@@ -19,9 +19,9 @@ use Rattle.cursor_core.specs.Rows.{HasRow, row_with, rows_gone, rows_with}
 use Rattle.cursor_core.specs.Told.{change, is_at, message, place, stream, stream_of, told}
 use Rattle.cursor_core.proofs.Hovering.{hovered_corner, hovered_live, hovered_same}
 use Rattle.cursor_core.proofs.Noted.{notes_are}
-use Rattle.cursor_core.proofs.Rows.{gone_goes, gone_is, gone_of, keeps_more, row_told}
+use Rattle.cursor_core.proofs.Rows.{gone_goes, gone_is, gone_of, keeps_more, row_sent}
 
--- what a window is told, by all that it depends on
+-- what a window is sent, by all that it depends on
 abbrev said_by : ℕ → ℕ → Pixel → Pixel → Pixel → Bool → Option ℕ → Option ℕ → Bool → List HoverMsg
 said_by w moment from to o alive before after moved =
     cond alive (option_to_list (option_map (λ a. message moment a (place a from to) o) (change (is_at before w) (is_at after w) moved))) []
@@ -36,9 +36,9 @@ record Agrees (d : Screen) (call : CursorCall) (calls : List CursorCall) (s : St
   before_is : s.before ≡ hovered d calls
   after_is : s.after ≡ hovered d (call ∷ calls)
 
-step_told : (d : Screen) (call : CursorCall) (calls : List CursorCall) (s : Step) (w : ℕ) → Agrees d call calls s
+step_sent : (d : Screen) (call : CursorCall) (calls : List CursorCall) (s : Step) (w : ℕ) → Agrees d call calls s
     → said_by w s.moment s.from s.to (origin (call ∷ calls) w) (mask_has s.live w) s.before s.after s.moved ≡ told d call calls w
-step_told d call calls s w a =
+step_sent d call calls s w a =
     ap (λ x. said_by w x s.from s.to (origin (call ∷ calls) w) (mask_has s.live w) s.before s.after s.moved) a.moment_is
     ∙ ap (λ x. said_by w (clock (call ∷ calls)) x s.to (origin (call ∷ calls) w) (mask_has s.live w) s.before s.after s.moved) a.from_is
     ∙ ap (λ x. said_by w (clock (call ∷ calls)) (cursor d calls) x (origin (call ∷ calls) w) (mask_has s.live w) s.before s.after s.moved) a.to_is
@@ -54,7 +54,7 @@ next_noted : (d : Screen) (call : CursorCall) (calls : List CursorCall) (s : Ste
 next_noted d call calls s left met a lefts mets w =
     let alive : is_at s.after w ≡ true → mask_has s.live w ≡ true =
     λ e. a.live_is w ∙ hovered_live (has_moved (call ∷ calls)) (windows (call ∷ calls)) (live d.channels (call ∷ calls)) (cursor d (call ∷ calls)) w (ap (λ o. is_at o w) (sym a.after_is) ∙ e) in
-    notes_are s left met (origin (call ∷ calls)) w lefts mets alive ∙ step_told d call calls s w a
+    notes_are s left met (origin (call ∷ calls)) w lefts mets alive ∙ step_sent d call calls s w a
 
 -- a stream with more messages, where there is one
 more_of : (b : Bool) (s ms : List HoverMsg) → cond b (Some (s ++ ms)) None ≡ option_map (λ x. x ++ ms) (cond b (Some s) None)
@@ -66,7 +66,7 @@ more_kept : (d : Screen) (call : CursorCall) (calls : List CursorCall) (rows : L
     → HasRow (stream_of d calls c) (row_of rows c) → HasRow (stream_of d (call ∷ calls) c) (row_of (rows_with f 1 rows) c)
 more_kept d call calls rows f c is h =
     subst (λ o. HasRow o (row_of (rows_with f 1 rows) c)) (sym (more_of (nat_lt 0 c && nat_le c d.channels) (stream d calls c) (told d call calls c)))
-    (subst (λ r. HasRow (option_map (λ x. x ++ told d call calls c) (stream_of d calls c)) r) (sym (row_told f rows c))
+    (subst (λ r. HasRow (option_map (λ x. x ++ told d call calls c) (stream_of d calls c)) r) (sym (row_sent f rows c))
     (subst (λ ms. HasRow (option_map (λ x. x ++ ms) (stream_of d calls c)) (option_map (row_with (f c)) (row_of rows c))) is
     (keeps_more (stream_of d calls c) (row_of rows c) (f c) h)))
 
@@ -186,9 +186,9 @@ removed d calls k new now channel s left met h moment moved_is from to alive bef
     (λ u e. left_is ∙ ap (corner_in k.windows) e) met_is)
 
 -- a cursor whose channel was let go
-pub let_gone : (d : Screen) (calls : List CursorCall) (k : Kept) (channel : ℕ) → CursorStandsFor d calls k
+pub released : (d : Screen) (calls : List CursorCall) (k : Kept) (channel : ℕ) → CursorStandsFor d calls k
     → CursorStandsFor d calls (record k { streams = rows_gone channel k.streams })
-let_gone d calls k channel h = record {
+released d calls k channel h = record {
   last_is = h.last_is;
   at_is = h.at_is;
   clock_is = h.clock_is;
@@ -199,7 +199,7 @@ let_gone d calls k channel h = record {
   streams_are = λ c. gone_goes channel c (stream_of d calls c) k.streams (h.streams_are c);
 }
 
--- all that the channel was told is gone
+-- all that the channel was sent is gone
 pub all_gone : (d : Screen) (calls : List CursorCall) (k : Kept) (channel : ℕ) → CursorStandsFor d calls k → 1 ≤ channel → channel ≤ d.channels
     → gone_in (row_of (rows_gone channel k.streams) channel) ≡ length (stream d calls channel)
 all_gone d calls k channel h low high =

@@ -9,7 +9,7 @@ use Rattle.cursor_core.specs.Kept.{Row, empty_row, gone_in, row_of}
 use Rattle.cursor_core.specs.Notes.{note_list}
 use Rattle.cursor_core.specs.Rows.{HasRow, Keeps, gone_at, row_gone, row_with, rows_gone, rows_with}
 
--- a message to channel c, as what each channel is told
+-- a message to channel c, as what each channel is sent
 abbrev to : ℕ → HoverMsg → ℕ → List HoverMsg
 to c m v = if c == v then m ∷ [] else []
 
@@ -17,7 +17,7 @@ to c m v = if c == v then m ∷ [] else []
 abbrev with_left : Row → List HoverMsg → Row
 with_left r ms = record { gone = r.gone; left = ms }
 
--- a row that is told nothing
+-- a row that is sent nothing
 still : (row : Row) → row_with [] row ≡ row
 still row = ap (with_left row) (append-nil row.left)
 
@@ -29,22 +29,22 @@ untouched c w m (row ∷ rows) out =
     let rest : (c < suc w) ⊎ (suc w + length rows ≤ c) = elim out [ inl low ↦ inl (omega (arith, low)) | inr high ↦ inr (omega (arith, high)) ] in
     ap₂ (λ (r : Row) (rs : List Row). r ∷ rs) (rw other (still row)) (untouched c (suc w) m rows rest)
 
-set_told : (rows : List Row) (i w : ℕ) (x : Row) (m : HoverMsg) → i < length rows → x ≡ get_or rows i x
+set_sent : (rows : List Row) (i w : ℕ) (x : Row) (m : HoverMsg) → i < length rows → x ≡ get_or rows i x
     → slice_set rows i (row_with (m ∷ []) x) ≡ rows_with (to (w + i) m) w rows
-set_told [] i w x m within is = absurd (omega (arith, within))
-set_told (row ∷ rows) zero w x m within is =
+set_sent [] i w x m within is = absurd (omega (arith, within))
+set_sent (row ∷ rows) zero w x m within is =
     let here : (w + 0 == w) ≡ true = eq-eqb (w + 0) w (omega arith) in
     ap₂ (λ (r : Row) (rs : List Row). r ∷ rs) (rw here (ap (row_with (m ∷ [])) is)) (sym (untouched (w + 0) (suc w) m rows (inl (omega arith))))
-set_told (row ∷ rows) (suc i) w x m within is =
+set_sent (row ∷ rows) (suc i) w x m within is =
     let other : (w + suc i == w) ≡ false = ne_eqb (w + suc i) w (λ e. absurd (omega (arith, e))) in
     let next : suc w + i ≡ w + suc i = omega arith in
     ap₂ (λ (r : Row) (rs : List Row). r ∷ rs) (rw other (sym (still row)))
-    (set_told rows i (suc w) x m (omega (arith, within)) is ∙ ap (λ c. rows_with (to c m) (suc w) rows) next)
+    (set_sent rows i (suc w) x m (omega (arith, within)) is ∙ ap (λ c. rows_with (to c m) (suc w) rows) next)
 
--- a message to a channel, put behind what it was told
+-- a message to a channel, put behind what it was sent
 pub pushed : (rows : List Row) (c i : ℕ) (x : Row) (m : HoverMsg) → c ≡ 1 + i → i < length rows → x ≡ get_or rows i x
     → slice_set rows i (row_with (m ∷ []) x) ≡ rows_with (note_list (Some (record { channel = c; message = m }))) 1 rows
-pushed rows c i x m at within is = set_told rows i 1 x m within is ∙ ap (λ d. rows_with (to d m) 1 rows) (sym at)
+pushed rows c i x m at within is = set_sent rows i 1 x m within is ∙ ap (λ d. rows_with (to d m) 1 rows) (sym at)
 
 -- a message to a channel without a row
 pub unknown : (rows : List Row) (c : ℕ) (m : HoverMsg) → (c < 1) ⊎ (1 + length rows ≤ c) → rows ≡ rows_with (note_list (Some (record { channel = c; message = m }))) 1 rows
@@ -91,12 +91,12 @@ rows_stay f w (row ∷ rows) = ap suc (rows_stay f (suc w) rows)
 pub taken_back : (old rows : List Row) (c i : ℕ) (x : Row) (m : HoverMsg) → c ≡ 1 + i → i < length old → x ≡ get_or old i x
     → old ≡ rows_with (note_list (Some (record { channel = c; message = m }))) 1 rows → slice_set old i (without_newest x) ≡ rows
 taken_back old rows c i x m at within is told =
-    let told_there : old ≡ rows_with (to (1 + i) m) 1 rows = told ∙ ap (λ d. rows_with (to d m) 1 rows) at in
-    let inside : i < length rows = omega (arith, within, ap (λ rs. length rs) told_there, rows_stay (to (1 + i) m) 1 rows) in
-    ap (λ rs. slice_set rs i (without_newest x)) told_there
-    ∙ back_at rows i 1 x m inside (is ∙ ap (λ rs. get_or rs i x) told_there)
+    let sent_there : old ≡ rows_with (to (1 + i) m) 1 rows = told ∙ ap (λ d. rows_with (to d m) 1 rows) at in
+    let inside : i < length rows = omega (arith, within, ap (λ rs. length rs) sent_there, rows_stay (to (1 + i) m) 1 rows) in
+    ap (λ rs. slice_set rs i (without_newest x)) sent_there
+    ∙ back_at rows i 1 x m inside (is ∙ ap (λ rs. get_or rs i x) sent_there)
 
--- a channel without a row was told nothing
+-- a channel without a row was sent nothing
 pub nothing_back : (old rows : List Row) (c : ℕ) (m : HoverMsg) → (c < 1) ⊎ (1 + length old ≤ c)
     → old ≡ rows_with (note_list (Some (record { channel = c; message = m }))) 1 rows → old ≡ rows
 nothing_back old rows c m out told =
@@ -104,35 +104,35 @@ nothing_back old rows c m out told =
     told ∙ untouched c 1 m rows (elim out [ inl low ↦ inl low | inr high ↦ inr (omega (arith, high, long)) ])
 
 -- told twice
-pub told_twice : (f g : ℕ → List HoverMsg) (w : ℕ) (rows : List Row) → rows_with g w (rows_with f w rows) ≡ rows_with (λ v. f v ++ g v) w rows
-told_twice f g w [] = refl
-told_twice f g w (row ∷ rows) = ap₂ (λ (r : Row) (rs : List Row). r ∷ rs) (ap (with_left row) (append_assoc row.left (f w) (g w))) (told_twice f g (suc w) rows)
+pub sent_twice : (f g : ℕ → List HoverMsg) (w : ℕ) (rows : List Row) → rows_with g w (rows_with f w rows) ≡ rows_with (λ v. f v ++ g v) w rows
+sent_twice f g w [] = refl
+sent_twice f g w (row ∷ rows) = ap₂ (λ (r : Row) (rs : List Row). r ∷ rs) (ap (with_left row) (append_assoc row.left (f w) (g w))) (sent_twice f g (suc w) rows)
 
-told_at : (f : ℕ → List HoverMsg) (w i : ℕ) (rows : List Row) → slice_get (rows_with f w rows) i ≡ option_map (row_with (f (w + i))) (slice_get rows i)
-told_at f w i [] = refl
-told_at f w zero (row ∷ rows) =
+sent_at : (f : ℕ → List HoverMsg) (w i : ℕ) (rows : List Row) → slice_get (rows_with f w rows) i ≡ option_map (row_with (f (w + i))) (slice_get rows i)
+sent_at f w i [] = refl
+sent_at f w zero (row ∷ rows) =
     let here : w ≡ w + 0 = omega arith in
     ap (λ v. Some (row_with (f v) row)) here
-told_at f w (suc i) (row ∷ rows) =
+sent_at f w (suc i) (row ∷ rows) =
     let next : suc w + i ≡ w + suc i = omega arith in
-    told_at f (suc w) i rows ∙ ap (λ v. option_map (row_with (f v)) (slice_get rows i)) next
+    sent_at f (suc w) i rows ∙ ap (λ v. option_map (row_with (f v)) (slice_get rows i)) next
 
--- the row of a channel that was told more
-pub row_told : (f : ℕ → List HoverMsg) (rows : List Row) (c : ℕ) → row_of (rows_with f 1 rows) c ≡ option_map (row_with (f c)) (row_of rows c)
-row_told f rows zero = refl
-row_told f rows (suc i) =
+-- the row of a channel that was sent more
+pub row_sent : (f : ℕ → List HoverMsg) (rows : List Row) (c : ℕ) → row_of (rows_with f 1 rows) c ≡ option_map (row_with (f c)) (row_of rows c)
+row_sent f rows zero = refl
+row_sent f rows (suc i) =
     let next : 1 + i ≡ suc i = omega arith in
-    told_at f 1 i rows ∙ ap (λ v. option_map (row_with (f v)) (slice_get rows i)) next
+    sent_at f 1 i rows ∙ ap (λ v. option_map (row_with (f v)) (slice_get rows i)) next
 
-told_stays : (ms : List HoverMsg) (r : Option Row) → gone_in (option_map (row_with ms) r) ≡ gone_in r
-told_stays ms None = refl
-told_stays ms (Some r) = refl
+sent_stays : (ms : List HoverMsg) (r : Option Row) → gone_in (option_map (row_with ms) r) ≡ gone_in r
+sent_stays ms None = refl
+sent_stays ms (Some r) = refl
 
 -- nothing of it is let go
 pub none_gone : (f : ℕ → List HoverMsg) (rows : List Row) (c : ℕ) → gone_in (row_of (rows_with f 1 rows) c) ≡ gone_in (row_of rows c)
-none_gone f rows c = ap gone_in (row_told f rows c) ∙ told_stays (f c) (row_of rows c)
+none_gone f rows c = ap gone_in (row_sent f rows c) ∙ sent_stays (f c) (row_of rows c)
 
--- a row keeps what is told
+-- a row keeps what is sent
 pub keeps_more : (s : Option (List HoverMsg)) (r : Option Row) (ms : List HoverMsg) → HasRow s r → HasRow (option_map (λ x. x ++ ms) s) (option_map (row_with ms) r)
 keeps_more None None ms h = tt
 keeps_more None (Some r) ms h = absurd h
@@ -212,8 +212,8 @@ set_gone (row ∷ rows) zero x within is = ap (λ r. row_gone r ∷ rows) is
 set_gone (row ∷ rows) (suc i) x within is = ap (λ rs. row ∷ rs) (set_gone rows i x (omega (arith, within)) is)
 
 -- the row of a channel, let go
-pub let_gone : (rows : List Row) (c i : ℕ) (x : Row) → c ≡ 1 + i → i < length rows → x ≡ get_or rows i x → slice_set rows i (row_gone x) ≡ rows_gone c rows
-let_gone rows c i x at within is =
+pub released : (rows : List Row) (c i : ℕ) (x : Row) → c ≡ 1 + i → i < length rows → x ≡ get_or rows i x → slice_set rows i (row_gone x) ≡ rows_gone c rows
+released rows c i x at within is =
     let same : suc i ≡ c = omega (arith, at) in
     set_gone rows i x within is ∙ ap (λ d. rows_gone d rows) same
 

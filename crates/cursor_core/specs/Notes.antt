@@ -18,19 +18,19 @@ place_of s action = place action s.from s.to
 abbrev pub note_at : Step → ℕ → HoverAction → Pixel → Note
 note_at s w action o = record { channel = w; message = message s.moment action (place_of s action) o }
 
--- what a window that was hovered is told, where it is live
+-- what a window that was hovered is sent, where it is live
 abbrev pub note_of : Step → ℕ → Pixel → Option Note
 note_of s w o = if mask_has s.live w then option_map (λ action. note_at s w action o) (change true (is_at s.after w) s.moved) else None
 
--- what a window that was not hovered and is now is told
+-- what a window that was not hovered and is now is sent
 abbrev pub note_to : Step → ℕ → Pixel → Option Note
 note_to s w o = if is_at s.before w then None else Some (note_at s w Enter o)
 
--- what the window that was hovered is told
+-- what the window that was hovered is sent
 abbrev pub note_before : Step → Pixel → Option Note
 note_before s o = option_and_then (λ w. note_of s w o) s.before
 
--- what the window that is hovered now is told, where it was not
+-- what the window that is hovered now is sent, where it was not
 abbrev pub note_after : Step → Pixel → Option Note
 note_after s o = option_and_then (λ w. note_to s w o) s.after
 

@@ -15,11 +15,11 @@ HasRow None (Some r) = ⊥
 HasRow (Some stream) None = ⊥
 HasRow (Some stream) (Some r) = Keeps stream r
 
--- a channel is told so
+-- a channel is sent so
 abbrev pub row_with : List HoverMsg → Row → Row
 row_with ms r = record { gone = r.gone; left = r.left ++ ms }
 
--- each channel from channel `w` on is told so
+-- each channel from channel `w` on is sent so
 abbrev pub rows_with : (ℕ → List HoverMsg) → ℕ → List Row → List Row
 rows_with f w [] = []
 rows_with f w (row ∷ rows) = row_with (f w) row ∷ rows_with f (suc w) rows

@@ -1,4 +1,4 @@
--- What each window is told.
+-- What each window is sent.
 use Rattle.std.specs.Prelude.{◌≡◌, ℕ, nat_le, nat_lt, Bool, true, false, ◌==◌, ◌&&◌, ◌||◌, if◌then◌else◌, List, [], ◌∷◌, ◌++◌, Option, Some, None, option_map}
 use Rattle.std.specs.Option.{option_to_list}
 use Rattle.input_types.specs.declared.axis.Pixel.{Pixel}
@@ -40,7 +40,7 @@ abbrev pub message_of : Screen → CursorCall → List CursorCall → ℕ → Ho
 message_of d call calls w action =
     message (clock (call ∷ calls)) action (place action (cursor d calls) (cursor d (call ∷ calls))) (origin (call ∷ calls) w)
 
--- what a call after these calls tells a window; one that is not live after it is told nothing
+-- what a call after these calls tells a window; one that is not live after it is sent nothing
 abbrev pub told : Screen → CursorCall → List CursorCall → ℕ → List HoverMsg
 told d call calls w =
     if live d.channels (call ∷ calls) w then

@@ -15,8 +15,8 @@ ghost use Rattle.cursor_core.specs.Told.{stream, stream_of, IsInTurns};
 use crate::call::CursorCall;
 use crate::corner::{corner_after, corner_in};
 use crate::message::HoverMsg;
-use crate::note::{Step, note_after, note_before, tell_both};
-use crate::stream::{Stream, left_of, let_go, streams};
+use crate::note::{Step, note_after, note_before, send_both};
+use crate::stream::{Stream, left_of, release, streams};
 use input_types::{DisplayId, Moment, Pixel};
 use std::alloc::{AllocError, Global};
 use std::marker::Model;
@@ -97,7 +97,7 @@ impl Cursor {
         }
     }
 
-    /// All that a channel was told, the oldest first, but for what was let go; `None` exactly where it is not one of
+    /// All that a channel was sent, the oldest first, but for what was let go; `None` exactly where it is not one of
     /// the first channels.
     pub fn stream(&self, channel: u32) -> Option<&[HoverMsg]>
         ensures { (d : Screen) (calls : List Call) → CursorStandsFor d calls self.now
@@ -106,16 +106,16 @@ impl Cursor {
         left_of(&self.streams, channel)
     }
 
-    /// Drops what a channel was told so far. Its room stays for what it is told next. Of a channel that is not one of
+    /// Drops what a channel was sent so far. Its room stays for what it is sent next. Of a channel that is not one of
     /// the first it changes nothing.
-    pub fn let_go(&mut self, channel: u32)
+    pub fn release(&mut self, channel: u32)
         ensures stays { (d : Screen) (calls : List Call) → CursorStandsFor d calls self.old
             → CursorStandsFor d calls self.new }
         ensures gone { (d : Screen) (calls : List Call) → CursorStandsFor d calls self.old
             → 1 ≤ channel → channel ≤ d.channels → gone self.new channel ≡ length (stream d calls channel) }
         ensures others { (c : ℕ) → (c == channel) ≡ false → gone self.new c ≡ gone self.old c }
     {
-        let_go(&mut self.streams, channel);
+        release(&mut self.streams, channel);
     }
 
     /// Where the cursor is, in pixels of the display.
@@ -201,7 +201,7 @@ impl Cursor {
     {
         let first = note_before(step, left);
         let second = note_after(step, met);
-        tell_both(&mut self.streams, &first, &second)?;
+        send_both(&mut self.streams, &first, &second)?;
         self.at = step.to;
         self.clock = step.moment;
         self.moved = step.moved || self.moved;

@@ -1,7 +1,7 @@
 //! A mouse cursor over the windows of display 0.
 //!
 //! The cursor begins in the middle of the display. It hovers over the window that a touch there would go to, from its
-//! first motion on, and each window is told when the cursor comes, moves and goes. With the windows `left` from (0, 0)
+//! first motion on, and each window is sent when the cursor comes, moves and goes. With the windows `left` from (0, 0)
 //! to (540, 2400) and `right` from (540, 0) to (1080, 2400) of a display of 1080 by 2400:
 //!
 //! ```text

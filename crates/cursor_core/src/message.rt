@@ -26,7 +26,7 @@ pub struct HoverMsg {
     pub at: Pixel,
 }
 
-/// What a window is told, by whether the cursor was over it, whether it is, and whether it moved.
+/// What a window is sent, by whether the cursor was over it, whether it is, and whether it moved.
 pub(crate) fn change(was: bool, is: bool, moved: bool) -> Option<HoverAction>
     ensures { result ≡ change was is moved }
 {

@@ -91,7 +91,7 @@ pub(crate) fn note_after(step: &Step, origin: Pixel) -> Option<Note>
 }
 
 /// Tells what two notes say, or nothing where there is no memory for both.
-pub(crate) fn tell_both(
+pub(crate) fn send_both(
     streams: &mut [Stream],
     first: &Option<Note>,
     second: &Option<Note>,
@@ -99,8 +99,8 @@ pub(crate) fn tell_both(
     ensures ok { OnOk result (streams.new ≡ rows_with (λ w. noted first.now second.now w) 1 streams.old) }
     ensures err { OnErr result (streams.new ≡ streams.old) }
 {
-    tell(streams, first)?;
-    if let Err(error) = tell(streams, second) {
+    send(streams, first)?;
+    if let Err(error) = send(streams, second) {
         untell(streams, first);
         return Err(error);
     }
@@ -108,7 +108,7 @@ pub(crate) fn tell_both(
 }
 
 /// Tells what a note says, where there is one and its channel is known.
-fn tell(streams: &mut [Stream], note: &Option<Note>) -> Result<(), AllocError>
+fn send(streams: &mut [Stream], note: &Option<Note>) -> Result<(), AllocError>
     ensures ok { OnOk result (streams.new ≡ rows_with (note_list note.now) 1 streams.old) }
     ensures err { OnErr result (streams.new ≡ streams.old) }
 {

@@ -1,4 +1,4 @@
-//! What one channel was told.
+//! What one channel was sent.
 ghost use Rattle.std.specs.Prelude.{◌≡◌, ◌-◌, [], ◌∷◌, length, take, replicate, option_map};
 ghost use Rattle.std.specs.Prelude.{OnOk, OnErr, IfOk};
 ghost use Rattle.cursor_core.specs.Kept.{empty_row, left_of};
@@ -28,7 +28,7 @@ impl Model for Stream {
 }
 
 impl Stream {
-    /// The channel was told nothing yet.
+    /// The channel was sent nothing yet.
     fn new(alloc: Global) -> Stream
         ensures { result ≡ empty_row }
     {
@@ -68,7 +68,7 @@ impl Stream {
     }
 
     /// Drops all of them. Their room stays for what comes.
-    fn let_go(&mut self)
+    fn release(&mut self)
         ensures { self.new ≡ row_gone self.old }
     {
         self.gone += self.messages.len() as u64;
@@ -76,7 +76,7 @@ impl Stream {
     }
 }
 
-/// As many channels, each of which was told nothing yet.
+/// As many channels, each of which was sent nothing yet.
 pub(crate) fn streams(alloc: Global, channels: u32) -> Result<Vec<Stream>, AllocError>
     ensures { IfOk result (λ v. v.items ≡ replicate channels empty_row) }
 {
@@ -87,7 +87,7 @@ pub(crate) fn streams(alloc: Global, channels: u32) -> Result<Vec<Stream>, Alloc
     Ok(streams)
 }
 
-/// What a channel was told and was not let go, where it has a stream. Channels are numbered from 1.
+/// What a channel was sent and was not let go, where it has a stream. Channels are numbered from 1.
 pub(crate) fn left_of(streams: &[Stream], channel: u32) -> Option<&[HoverMsg]>
     ensures { option_map (λ s. s.now) result ≡ left_of streams.now channel }
 {
@@ -98,13 +98,13 @@ pub(crate) fn left_of(streams: &[Stream], channel: u32) -> Option<&[HoverMsg]>
     Some(streams[place - 1].left())
 }
 
-/// Drops what a channel was told so far, where it has a stream.
-pub(crate) fn let_go(streams: &mut [Stream], channel: u32)
+/// Drops what a channel was sent so far, where it has a stream.
+pub(crate) fn release(streams: &mut [Stream], channel: u32)
     ensures { streams.new ≡ rows_gone channel streams.old }
 {
     let place = channel as usize;
     if place == 0 || streams.len() < place {
         return;
     }
-    streams[place - 1].let_go();
+    streams[place - 1].release();
 }

@@ -18,7 +18,7 @@ pub struct Counts {
 
 /// A window was named unresponsive.
 #[derive(Clone, Copy, Debug, PartialEq, Eq)]
-pub struct Naming {
+pub struct Anr {
     /// The clock of the tick that named it.
     pub clock: Moment,
     pub channel: u32,

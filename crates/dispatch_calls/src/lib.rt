@@ -22,5 +22,5 @@ mod counts;
 mod reply;
 
 pub use call::{Call, Entry};
-pub use counts::{Counts, Naming};
+pub use counts::{Anr, Counts};
 pub use reply::Reply;

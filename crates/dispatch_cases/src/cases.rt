@@ -46,7 +46,7 @@ fn answer(
 }
 
 /// What is read of it.
-fn tell(
+fn send(
     alloc: Global,
     core: &mut Core,
     line: &[u8],
@@ -85,7 +85,7 @@ fn step(alloc: Global, core: &mut Core, line: &[u8], out: &mut Vec<u8>) -> Resul
             Err(AllocError) => say(out, "no memory"),
         };
     }
-    tell(alloc, core, line, &numbers, out)
+    send(alloc, core, line, &numbers, out)
 }
 
 /// All lines, with their answers.

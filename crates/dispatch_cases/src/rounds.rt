@@ -111,14 +111,14 @@ fn own(dispatcher: &mut Dispatcher, channel: u32, now: Moment) -> Result<u64, Al
     match receive(dispatcher, channel)? {
         Some(seq) => {
             make(dispatcher, &Call::Finish { now, channel, seq })?;
-            dispatcher.let_go(channel);
+            dispatcher.release(channel);
             Ok(1)
         }
         None => Ok(0),
     }
 }
 
-/// A motion comes, and each window that is told something takes it.
+/// A motion comes, and each window that is sent something takes it.
 fn round(
     dispatcher: &mut Dispatcher,
     motion: Motion,

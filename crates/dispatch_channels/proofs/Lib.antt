@@ -1,7 +1,7 @@
 pub mod Picking
 pub mod Wholes
 pub mod Moved
-pub mod Told
+pub mod Outgoing
 pub mod Noting
 pub mod Lateness
 pub mod Pending

@@ -10,12 +10,12 @@ use Rattle.window_snapshot.specs.Mask.{mask_has, mask_with}
 use Rattle.dispatch_tables.specs.Channel.{counts_of}
 use Rattle.dispatch_tables.specs.Masks.{mask_less}
 use Rattle.dispatch_tables.specs.Delivery.{noted_with}
-use Rattle.dispatch_tables.specs.Dues.{namings_in}
+use Rattle.dispatch_tables.specs.Dues.{anrs_in}
 use Rattle.dispatch_channels.specs.Table.{Table, opened, channel_of, input_of}
 use Rattle.dispatch_channels.specs.Heard.{body_from}
 
--- a window was told nothing, and there is room for what it is told first
-pub record IsUntold (input : Tracked) : Type 0 where
+-- a window was sent nothing, and there is room for what it is sent first
+pub record IsUnsent (input : Tracked) : Type 0 where
   pub pointers_are : (d : ℕ) → pointers_of input d ≡ []
   pub keys_are : input.keys ≡ []
   pub spare_is : input.spare ≡ 1
@@ -24,7 +24,7 @@ pub record IsUntold (input : Tracked) : Type 0 where
 abbrev pub new_channel : (limit : ℕ) → ChannelState
 new_channel limit = with_spare 1 (opened_with limit)
 
--- A channel with the next number is opened with a limit, and is live and able. What each window was told is kept as before, and none but
+-- A channel with the next number is opened with a limit, and is live and able. What each window was sent is kept as before, and none but
 -- those that were opened was live.
 pub record Opens (limit number : ℕ) (old new : Table) : Type 0 where
   pub few : opened old < 64
@@ -33,25 +33,25 @@ pub record Opens (limit number : ℕ) (old new : Table) : Type 0 where
   pub number_is : number ≡ opened old + 1
   pub channels_are : new.channels ≡ old.channels ++ new_channel limit ∷ []
   pub inputs_are : new.inputs ≡ old.inputs ++ input_of new number ∷ []
-  pub untold : IsUntold (input_of new number)
+  pub unsent : IsUnsent (input_of new number)
   pub live_is : new.live ≡ mask_with old.live number
   pub able_is : new.able ≡ mask_with old.able number
-  pub namings_are : new.namings ≡ old.namings
+  pub anrs_are : new.anrs ≡ old.anrs
 
 -- no channel is opened exactly where 64 are, and nothing changes then
 abbrev pub OpensOrNot : (limit : ℕ) → Option ℕ → (old new : Table) → Type 0
 OpensOrNot limit None old new = (opened old ≡ 64) × (new ≡ old)
 OpensOrNot limit (Some number) old new = Opens limit number old new
 
--- a channel is told a body that is in display pixels: its places are counted from an origin where it is enqueued, and not where it is
+-- a channel is sent a body that is in display pixels: its places are counted from an origin where it is enqueued, and not where it is
 -- tracked
-pub record Tells (channel : ℕ) (body : Body) (origin : Pixel) (clock : ℕ) (old new : Table) : Type 0 where
+pub record Sends (channel : ℕ) (body : Body) (origin : Pixel) (clock : ℕ) (old new : Table) : Type 0 where
   pub channels_are : new.channels ≡ slice_set old.channels (channel - 1) (enqueued (body_from origin body) clock (channel_of old channel))
   pub inputs_are : new.inputs ≡ slice_set old.inputs (channel - 1) (input_of new channel)
   pub tracks : Tracks (input_of old channel) (input_of new channel) body
   pub live_is : new.live ≡ old.live
   pub able_is : new.able ≡ old.able
-  pub namings_are : new.namings ≡ old.namings
+  pub anrs_are : new.anrs ≡ old.anrs
 
 -- none of the unfinished messages of the live channels of a mask was delivered after a clock
 abbrev pub MayPublish : (mask clock : ℕ) → Table → Type 0
@@ -67,7 +67,7 @@ pub record Publishes (mask clock : ℕ) (old new : Table) : Type 0 where
   pub inputs_are : new.inputs ≡ old.inputs
   pub live_is : new.live ≡ old.live
   pub able_is : new.able ≡ old.able
-  pub namings_are : new.namings ≡ old.namings
+  pub anrs_are : new.anrs ≡ old.anrs
 
 -- a channel once a message of it is finished, and what may be published then is
 abbrev pub finished_at : (seq clock : ℕ) → ChannelState → ChannelState
@@ -87,7 +87,7 @@ abbrev pub named_in : (mask clock : ℕ) → Table → Table
 named_in mask clock t =
     record t {
       able = mask_less t.able mask;
-      namings = noted_with (namings_in clock mask (channel_of t) (opened t)) t.namings;
+      anrs = noted_with (anrs_in clock mask (channel_of t) (opened t)) t.anrs;
     }
 
 -- a channel is removed

@@ -1,4 +1,4 @@
--- What the owner of a channel reads of what its window is told.
+-- What the owner of a channel reads of what its window is sent.
 use Rattle.input_types.specs.declared.axis.Pixel.{Pixel}
 use Rattle.input_types.specs.declared.message.Body.{Body}
 use Rattle.input_types.specs.declared.message.Body.TheVariants.{Motion, Key, Focus}

@@ -11,14 +11,14 @@ use Rattle.dispatch_tables.specs.Dues.{due_in}
 pub record Table : Type 0 where
   -- the channels in the order of their opening, that with number 1 first
   pub channels : List ChannelState
-  -- of each, what its window was told and is not told the end of
+  -- of each, what its window was sent and is not told the end of
   pub inputs : List Tracked
   -- the mask of those that are live
   pub live : ℕ
   -- the mask of those that are able to take input
   pub able : ℕ
   -- what was noted of ticks
-  pub namings : Noted
+  pub anrs : Noted
 
 -- how many channels were opened; they have the numbers from 1 to this
 abbrev pub opened : Table → ℕ
@@ -36,13 +36,13 @@ channel_in ss c = slice_index_or ss (c - 1) (opened_with 0)
 abbrev pub channel_of : Table → ℕ → ChannelState
 channel_of t c = channel_in t.channels c
 
--- a window that was told nothing
-abbrev pub untold : Tracked
-untold = record { pointers = []; keys = []; spare = 0 }
+-- a window that was sent nothing
+abbrev pub unsent : Tracked
+unsent = record { pointers = []; keys = []; spare = 0 }
 
--- what the window of the channel with a number from 1 on was told
+-- what the window of the channel with a number from 1 on was sent
 abbrev pub input_of : Table → ℕ → Tracked
-input_of t c = slice_index_or t.inputs (c - 1) untold
+input_of t c = slice_index_or t.inputs (c - 1) unsent
 
 -- the channels with another one in a place
 abbrev pub with_channel : ℕ → ChannelState → Table → Table

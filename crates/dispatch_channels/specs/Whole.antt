@@ -10,7 +10,7 @@ use Rattle.dispatch_channels.specs.Table.{channel_in}
 abbrev pub DuesAre : List (Option ℕ) → (able : ℕ) → List ChannelState → Type 0
 DuesAre dues able channels = (c : ℕ) → due_of dues c ≡ due_in (mask_has able c) (channel_in channels c)
 
--- at most 64 channels, of each of which there is what it was told; only those that were opened are live, and only those that are live
+-- at most 64 channels, of each of which there is what it was sent; only those that were opened are live, and only those that are live
 -- are able
 pub record IsWhole (channels : List ChannelState) (inputs live able : ℕ) (dues : List (Option ℕ)) : Type 0 where
   pub as_many : inputs ≡ length channels

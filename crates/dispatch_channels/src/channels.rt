@@ -7,19 +7,19 @@ ghost use Rattle.input_channel.specs.State.{next_of, received_one, received_next
 ghost use Rattle.dispatch_tables.specs.Delivery.{none_noted};
 ghost use Rattle.dispatch_history.specs.Reply.{is_due};
 ghost use Rattle.dispatch_channels.specs.Table.{opened, IsOpened, channel_of, input_of, with_channel, with_room, but_for_room, NoLessRoom, due_moment};
-ghost use Rattle.dispatch_channels.specs.Changes.{OpensOrNot, Tells, MayPublish, Publishes, finished_in, named_in, removed_in};
+ghost use Rattle.dispatch_channels.specs.Changes.{OpensOrNot, Sends, MayPublish, Publishes, finished_in, named_in, removed_in};
 
 mod asked;
 mod keys;
-mod letting;
 mod moves;
 mod pending;
 mod ready;
+mod releasing;
 
 use crate::due::{clear_all, due_channels, due_in, set_due};
 use crate::heard::{body_from, motion_from};
 use crate::mask::{less, without};
-use crate::noted::Namings;
+use crate::noted::Anrs;
 use crate::publishing::{able_after, finish_one, publish_all};
 use crate::tracked::track;
 use anr_tracker::Tracker;
@@ -38,13 +38,13 @@ const MOST: usize = 64;
 #[derive(Drop)]
 pub struct Channels {
     channels: Vec<Channel>,
-    /// Of each channel, what its window was told and is not told the end of.
+    /// Of each channel, what its window was sent and is not told the end of.
     inputs: Vec<InputState>,
     live: u64,
     able: u64,
     /// When those that are able are due to be named.
     tracker: Tracker,
-    namings: Namings,
+    anrs: Anrs,
 }
 
 impl Model for Channels {
@@ -59,7 +59,7 @@ impl Model for Channels {
       inputs = t.inputs.items;
       live = t.live;
       able = t.able;
-      namings = t.namings;
+      anrs = t.anrs;
     } };
 
     ghost invariant = { λ t. IsWhole t.channels.items (length t.inputs.items) t.live t.able t.tracker };
@@ -68,7 +68,7 @@ impl Model for Channels {
 impl Channels {
     /// No channels.
     pub fn new(alloc: Global) -> Channels
-        ensures { result ≡ record { channels = []; inputs = []; live = 0; able = 0; namings = none_noted } }
+        ensures { result ≡ record { channels = []; inputs = []; live = 0; able = 0; anrs = none_noted } }
     {
         Channels {
             channels: Vec::new(alloc),
@@ -76,7 +76,7 @@ impl Channels {
             live: 0,
             able: 0,
             tracker: Tracker::new(),
-            namings: Namings::new(alloc),
+            anrs: Anrs::new(alloc),
         }
     }
 
@@ -130,7 +130,7 @@ impl Channels {
         Ok(Some(number))
     }
 
-    /// Makes room, so that the channel can be told the next `n` bodies. Without memory nothing changes but the room
+    /// Makes room, so that the channel can be sent the next `n` bodies. Without memory nothing changes but the room
     /// that it has.
     pub fn reserve(&mut self, channel: u32, n: u32) -> Result<(), AllocError>
         requires { IsOpened self.old channel }
@@ -145,24 +145,24 @@ impl Channels {
         self.inputs[place].reserve(n)
     }
 
-    /// A live channel is told a body, which is given in display pixels. The owner reads its places from the origin of
+    /// A live channel is sent a body, which is given in display pixels. The owner reads its places from the origin of
     /// the window, kept at the ends of their type. Takes no memory.
-    pub fn tell(&mut self, channel: u32, body: &Body, origin: Pixel, clock: Moment)
+    pub fn send(&mut self, channel: u32, body: &Body, origin: Pixel, clock: Moment)
         requires live { mask_has self.old.live channel ≡ true }
         requires room { 1 ≤ (channel_of self.old channel).spare }
         requires track_room { 1 ≤ (input_of self.old channel).spare }
-        ensures { Tells channel body.now origin clock self.old self.new }
+        ensures { Sends channel body.now origin clock self.old self.new }
     {
         let place = channel as usize - 1;
         let _seq = self.channels[place].enqueue_reserved(body_from(origin, body), clock);
         track(&mut self.inputs[place], body);
     }
 
-    /// A live channel is told a motion, as `tell` would tell it, without a body in display pixels. Takes no memory.
-    pub fn tell_motion(&mut self, channel: u32, motion: &Motion, origin: Pixel, clock: Moment)
+    /// A live channel is sent a motion, as `send` would tell it, without a body in display pixels. Takes no memory.
+    pub fn send_motion(&mut self, channel: u32, motion: &Motion, origin: Pixel, clock: Moment)
         requires live { mask_has self.old.live channel ≡ true }
         requires room { 1 ≤ (channel_of self.old channel).spare }
-        ensures { Tells channel (MotionBody motion.now) origin clock self.old self.new }
+        ensures { Sends channel (MotionBody motion.now) origin clock self.old self.new }
     {
         let place = channel as usize - 1;
         let body = Body::Motion(motion_from(origin, motion));
@@ -265,7 +265,7 @@ impl Channels {
         ensures ok { OnOk result (self.new ≡ named_in mask clock self.old) }
         ensures err { OnErr result (self.new ≡ self.old) }
     {
-        self.namings.note(&self.channels, mask, clock)?;
+        self.anrs.note(&self.channels, mask, clock)?;
         clear_all(&mut self.tracker, mask);
         self.able = less(self.able, mask);
         Ok(())

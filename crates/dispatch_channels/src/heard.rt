@@ -1,4 +1,4 @@
-//! What the owner of a channel reads of what its window is told.
+//! What the owner of a channel reads of what its window is sent.
 ghost use Rattle.std.specs.Prelude.{◌≡◌};
 ghost use Rattle.dispatch_history.specs.Said.{motion_from};
 ghost use Rattle.input_channel.specs.Moves.{counted_from};

@@ -1,7 +1,7 @@
-//! The channels of a dispatcher: what their windows were told, who is live and able to take input, and who is due to
+//! The channels of a dispatcher: what their windows were sent, who is live and able to take input, and who is due to
 //! be named unresponsive.
 //!
-//! Two channels are opened with a limit of 5000000. The second is told a DOWN at 0 and a MOVE at 1000000, its window
+//! Two channels are opened with a limit of 5000000. The second is sent a DOWN at 0 and a MOVE at 1000000, its window
 //! at (0, 1200) of the display:
 //!
 //! ```text
@@ -17,7 +17,7 @@
 //! finish 2 1 at 5000001                2 is able, and due at 6000000
 //! ```
 //!
-//! Each channel is kept with what its window was told and is not told the end of, in display pixels, from which
+//! Each channel is kept with what its window was sent and is not told the end of, in display pixels, from which
 //! cancels are made. Who is due is found from a table beside them, which always is what the channels say.
 #![tactic(auto)]
 

@@ -2,10 +2,10 @@
 ghost use Rattle.std.specs.Prelude.{◌≡◌, ◌+◌, ◌≤◌, ◌<◌, ◌++◌, length, vec_len, vec_capacity, option_to_list, if◌then◌else◌};
 ghost use Rattle.std.specs.Prelude.{OnOk, OnErr};
 ghost use Rattle.dispatch_tables.specs.Delivery.{none_noted, noted_with, noted_gone};
-ghost use Rattle.dispatch_tables.specs.Dues.{naming_in, namings_in};
+ghost use Rattle.dispatch_tables.specs.Dues.{anr_in, anrs_in};
 ghost use Rattle.dispatch_channels.specs.Table.{channel_in};
 
-use dispatch_calls::Naming;
+use dispatch_calls::Anr;
 use input_channel::Channel;
 use input_types::Moment;
 use std::alloc::{AllocError, Global};
@@ -14,13 +14,13 @@ use window_snapshot::mask_has;
 
 /// The namings so far, but for the first ones, which were let go.
 #[derive(Drop)]
-pub(crate) struct Namings {
-    list: Vec<Naming>,
+pub(crate) struct Anrs {
+    list: Vec<Anr>,
     // How many were let go.
     gone: u64,
 }
 
-impl Model for Namings {
+impl Model for Anrs {
     ghost use Rattle.std.specs.Prelude.{◌+◌, ◌^◌, ◌<◌, vec_len};
     ghost use Rattle.dispatch_tables.specs.Delivery.{Noted};
 
@@ -31,19 +31,19 @@ impl Model for Namings {
     ghost invariant = { λ n. n.gone + vec_len n.list < 2 ^ 64 };
 }
 
-impl Namings {
+impl Anrs {
     /// No namings.
-    pub(crate) fn new(alloc: Global) -> Namings
+    pub(crate) fn new(alloc: Global) -> Anrs
         ensures { result ≡ none_noted }
     {
-        Namings {
+        Anrs {
             list: Vec::new(alloc),
             gone: 0,
         }
     }
 
     /// Those that were not let go, the first one first.
-    pub(crate) fn left(&self) -> &[Naming]
+    pub(crate) fn left(&self) -> &[Anr]
         ensures { result.now ≡ self.now.left }
     {
         &self.list
@@ -58,7 +58,7 @@ impl Namings {
     ) -> Result<(), AllocError>
         requires few { length channels.now ≤ 64 }
         ensures ok { OnOk result (self.new
-            ≡ noted_with (namings_in clock mask (channel_in channels.now) (length channels.now)) self.old) }
+            ≡ noted_with (anrs_in clock mask (channel_in channels.now) (length channels.now)) self.old) }
         ensures err { OnErr result (self.new ≡ self.old) }
     {
         // Their count must not end before the room for them does.
@@ -72,7 +72,7 @@ impl Namings {
     }
 
     /// Drops all of them, and gives back their memory.
-    pub(crate) fn let_go(&mut self)
+    pub(crate) fn release(&mut self)
         ensures { self.new ≡ noted_gone self.old }
     {
         self.gone += self.list.len() as u64;
@@ -81,11 +81,11 @@ impl Namings {
 }
 
 /// What is noted of a channel that is named at a clock: its oldest message that is published and not finished.
-fn naming_in(clock: Moment, number: u32, channel: &Channel) -> Option<Naming>
-    ensures { result ≡ naming_in clock number channel.now }
+fn anr_in(clock: Moment, number: u32, channel: &Channel) -> Option<Anr>
+    ensures { result ≡ anr_in clock number channel.now }
 {
     let (seq, _) = channel.oldest_unfinished()?;
-    Some(Naming {
+    Some(Anr {
         clock,
         channel: number,
         seq,
@@ -93,39 +93,39 @@ fn naming_in(clock: Moment, number: u32, channel: &Channel) -> Option<Naming>
 }
 
 /// The same of a channel that may be named.
-fn naming_if(is_named: bool, clock: Moment, number: u32, channel: &Channel) -> Option<Naming>
-    ensures { result ≡ (if is_named then naming_in clock number channel.now else None) }
+fn anr_if(is_named: bool, clock: Moment, number: u32, channel: &Channel) -> Option<Anr>
+    ensures { result ≡ (if is_named then anr_in clock number channel.now else None) }
 {
     if is_named {
-        naming_in(clock, number, channel)
+        anr_in(clock, number, channel)
     } else {
         None
     }
 }
 
 /// Notes a naming, where there is one.
-fn note(namings: &mut Vec<Naming>, naming: Option<Naming>)
-    requires { vec_len namings.old < vec_capacity namings.old }
-    ensures items { namings.new.items ≡ namings.old.items ++ option_to_list naming }
-    ensures len { vec_len namings.new ≤ vec_len namings.old + 1 }
-    ensures capacity { vec_capacity namings.new ≡ vec_capacity namings.old }
+fn note(anrs: &mut Vec<Anr>, anr: Option<Anr>)
+    requires { vec_len anrs.old < vec_capacity anrs.old }
+    ensures items { anrs.new.items ≡ anrs.old.items ++ option_to_list anr }
+    ensures len { vec_len anrs.new ≤ vec_len anrs.old + 1 }
+    ensures capacity { vec_capacity anrs.new ≡ vec_capacity anrs.old }
 {
-    if let Some(naming) = naming {
-        namings.push_reserved(naming);
+    if let Some(anr) = anr {
+        anrs.push_reserved(anr);
     }
 }
 
 /// Notes the channels of a mask.
-fn note_all(namings: &mut Vec<Naming>, channels: &[Channel], mask: u64, clock: Moment)
-    requires room { vec_len namings.old + length channels.now ≤ vec_capacity namings.old }
+fn note_all(anrs: &mut Vec<Anr>, channels: &[Channel], mask: u64, clock: Moment)
+    requires room { vec_len anrs.old + length channels.now ≤ vec_capacity anrs.old }
     requires few { length channels.now ≤ 64 }
-    ensures few { vec_len namings.new ≤ vec_len namings.old + length channels.now }
-    ensures items { namings.new.items
-        ≡ namings.old.items ++ namings_in clock mask (channel_in channels.now) (length channels.now) }
+    ensures few { vec_len anrs.new ≤ vec_len anrs.old + length channels.now }
+    ensures items { anrs.new.items
+        ≡ anrs.old.items ++ anrs_in clock mask (channel_in channels.now) (length channels.now) }
 {
     for (place, channel) in channels.iter().enumerate() {
         let number = place as u32 + 1;
-        let naming = naming_if(mask_has(mask, number), clock, number, channel);
-        note(namings, naming);
+        let anr = anr_if(mask_has(mask, number), clock, number, channel);
+        note(anrs, anr);
     }
 }

@@ -1,4 +1,4 @@
-//! What a window is told is tracked.
+//! What a window is sent is tracked.
 ghost use Rattle.std.specs.Prelude.{◌≤◌};
 ghost use Rattle.cancel_synthesis.specs.Tracked.{Tracks};
 
@@ -6,7 +6,7 @@ use cancel_synthesis::InputState;
 use input_types::Body;
 use std::alloc::AllocError;
 
-/// What a window is told is tracked, where there is room for it.
+/// What a window is sent is tracked, where there is room for it.
 pub(crate) fn track(input: &mut InputState, body: &Body)
     requires { 1 ≤ input.old.spare }
     ensures { Tracks input.old input.new body.now }

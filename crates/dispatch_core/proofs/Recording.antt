@@ -12,7 +12,7 @@ use Rattle.dispatch_history.specs.Legal.{Legal, reply}
 use Rattle.dispatch_history.specs.PointerOf.{AllRise}
 use Rattle.dispatch_history.proofs.LegalLaws.{effects_law}
 use Rattle.dispatch_history.proofs.WholeLaws.{whole_law, well_formed_law, removed_law, removed_state_law, gone_law}
-use Rattle.dispatcher.specs.Access.{gone, namings_gone}
+use Rattle.dispatcher.specs.Access.{gone, anrs_released}
 use Rattle.dispatcher.specs.Dispatching.{Dispatching, StandsFor}
 use Rattle.dispatcher.specs.Memory.{MayCount}
 use Rattle.dispatcher.proofs.Standing.{after_of}
@@ -33,7 +33,7 @@ pub recorded_more : (e : Entry) (entries : List Entry) (old new : Dispatching)
     → StandsFor (step old.displays e.call e.reply (effects old.displays (history_of entries))) new
     → new.displays ≡ old.displays
     → ((c : ℕ) → 1 ≤ c → gone new c ≡ gone old c)
-    → namings_gone new ≡ namings_gone old
+    → anrs_released new ≡ anrs_released old
     → IsRecorded (e ∷ entries) new
 recorded_more e entries old new r s same kept noted =
     let stands = subst (λ ds. StandsFor (effects ds (history_of (e ∷ entries))) new) (sym same) s in

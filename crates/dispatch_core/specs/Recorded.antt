@@ -12,7 +12,7 @@ use Rattle.dispatch_history.specs.Effects.{effects}
 use Rattle.dispatch_history.specs.History.{History, live}
 use Rattle.dispatch_history.specs.Known.{known_state}
 use Rattle.dispatch_history.specs.Legal.{Legal}
-use Rattle.dispatcher.specs.Access.{gone, namings_gone, is_opened}
+use Rattle.dispatcher.specs.Access.{gone, anrs_released, is_opened}
 use Rattle.dispatcher.specs.Dispatching.{Dispatching, IsAfter, StandsFor}
 use Rattle.dispatcher.specs.Queueing.{is_input}
 
@@ -32,7 +32,7 @@ history_of entries = map (λ e. (e.call, e.reply)) entries
 abbrev pub effects_of : Recorded → List Effect
 effects_of r = effects r.displays (history_of r.entries)
 
--- all messages that a channel was told, where it was opened, the first one first
+-- all messages that a channel was sent, where it was opened, the first one first
 abbrev pub stream_of : Recorded → ℕ → Option (List Message)
 stream_of r c = if is_opened (effects_of r) c then Some (reverse (stream (effects_of r) c)) else None
 
@@ -91,7 +91,7 @@ pub record IsRecorded (entries : List Entry) (d : Dispatching) : Type 0 where
   pub stands : StandsFor (effects d.displays (history_of entries)) d
   pub after : IsAfter (effects d.displays (history_of entries)) d
   pub kept : (c : ℕ) → 1 ≤ c → gone d c ≡ 0
-  pub noted : namings_gone d ≡ 0
+  pub noted : anrs_released d ≡ 0
 
 -- a list of this length in a block of this capacity has room for so many more, which can be counted
 pub record HasRoom (len capacity spare : ℕ) : Type 0 where

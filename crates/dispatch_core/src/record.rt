@@ -1,7 +1,7 @@
 //! The dispatcher with its history.
 ghost use Rattle.std.specs.Prelude.{◌≡◌, ◌+◌, ◌++◌, ◌≤◌, ◌<◌, ◌^◌, true, [], ◌∷◌, max, reverse, option_map};
 ghost use Rattle.std.specs.Prelude.{IfOk, IfSome, OnOk, OnErr, IsOk, is_some, vec_len, vec_capacity};
-ghost use Rattle.dispatch_history.specs.Due.{counts, first_due, namings};
+ghost use Rattle.dispatch_history.specs.Due.{counts, first_due, anrs};
 ghost use Rattle.dispatch_history.specs.Effect.{past_of};
 ghost use Rattle.dispatch_history.specs.History.{clock, live};
 ghost use Rattle.dispatch_history.specs.Legal.{Legal, reply};
@@ -15,7 +15,7 @@ ghost use Rattle.dispatch_core.specs.Recorded.{history_of, effects_of, stream_of
 ghost use Rattle.dispatch_core.specs.Recorded.{AnswersGone, IsSound, HasRoom};
 
 use cancel_synthesis::InputState;
-use dispatch_calls::{Call, Counts, Entry, Naming, Reply};
+use dispatch_calls::{Anr, Call, Counts, Entry, Reply};
 use dispatcher::Dispatcher;
 use input_types::{Displays, Message, Moment};
 use route_split::Touches;
@@ -131,7 +131,7 @@ impl Core {
         Ok(())
     }
 
-    /// All messages that a channel was told, the first one first; None exactly where none was opened with this number.
+    /// All messages that a channel was sent, the first one first; None exactly where none was opened with this number.
     pub fn stream(&self, channel: u32) -> Option<&[Message]>
         ensures { option_map (λ ms. ms.now) result ≡ stream_of self.now channel }
     {
@@ -184,10 +184,10 @@ impl Core {
     }
 
     /// All namings so far, the first one first.
-    pub fn namings(&self) -> &[Naming]
-        ensures { result.now ≡ namings (effects_of self.now) }
+    pub fn anrs(&self) -> &[Anr]
+        ensures { result.now ≡ anrs (effects_of self.now) }
     {
-        self.dispatcher.namings()
+        self.dispatcher.anrs()
     }
 
     /// Who holds which pointers, since when, and who is pilfering which device. Each holder is live, able to take
@@ -198,7 +198,7 @@ impl Core {
         self.dispatcher.touches()
     }
 
-    /// What the window of a channel was told and is not told the end of; None exactly where no channel was opened with
+    /// What the window of a channel was sent and is not told the end of; None exactly where no channel was opened with
     /// this number.
     pub fn input(&self, channel: u32) -> Option<&InputState>
         ensures some { is_some result ≡ is_opened (effects_of self.now) channel }

@@ -7,23 +7,23 @@ use Rattle.input_types.specs.declared.message.Body.TheVariants.{Motion as Motion
 use Rattle.input_types.specs.declared.message.Message.{Message}
 use Rattle.input_types.specs.declared.motion.Motion.{Motion}
 use Rattle.input_types.specs.Gestures.{after_motion, allowed, differ}
-use Rattle.input_types.specs.StreamRule.{StreamState, untold, after_key, after_body, stream_state, with_ids, with_repeat}
-use Rattle.dispatch_history.specs.Effect.{ids_after, told_down, focus_after, told_focus}
-use Rattle.dispatch_history.specs.Known.{is_key, repeat_after, told_repeat}
+use Rattle.input_types.specs.StreamRule.{StreamState, unsent, after_key, after_body, stream_state, with_ids, with_repeat}
+use Rattle.dispatch_history.specs.Effect.{ids_after, sent_down, focus_after, sent_focus}
+use Rattle.dispatch_history.specs.Known.{is_key, repeat_after, sent_repeat}
 
 -- messages each of which may come, by the ids of each device, by each key and by the focus
 pub record Comes (ms : List Message) : Type 0 where
-  pub ids : (d : ℕ) → is_some (told_down d ms) ≡ true
-  pub repeats : (d s : ℕ) → is_some (told_repeat d s ms) ≡ true
-  pub focus : is_some (told_focus ms) ≡ true
+  pub ids : (d : ℕ) → is_some (sent_down d ms) ≡ true
+  pub repeats : (d s : ℕ) → is_some (sent_repeat d s ms) ≡ true
+  pub focus : is_some (sent_focus ms) ≡ true
 
 -- what they leave known
 pub record Agrees (ms : List Message) : Type 0 where
   pub state : StreamState
   pub is : stream_state ms ≡ Some state
-  pub ids : (d : ℕ) → told_down d ms ≡ Some (state.ids d)
-  pub repeats : (d s : ℕ) → told_repeat d s ms ≡ Some (state.repeats d s)
-  pub focus : told_focus ms ≡ Some state.focus
+  pub ids : (d : ℕ) → sent_down d ms ≡ Some (state.ids d)
+  pub repeats : (d s : ℕ) → sent_repeat d s ms ≡ Some (state.repeats d s)
+  pub focus : sent_focus ms ≡ Some state.focus
 
 some_before : {X : Type 0} (c : Bool) (f : X → Option X) (o : Option X) → is_some (cond c (option_and_then f o) o) ≡ true → is_some o ≡ true
 some_before c f (Some x) e = refl
@@ -48,9 +48,9 @@ focus_before (KeyBody m) x e = e
 comes_before : (m : Message) (past : List Message) → Comes (m ∷ past) → Comes past
 comes_before m past c =
     record {
-      ids = λ d. ids_before d m.body (told_down d past) (c.ids d);
-      repeats = λ d s. repeat_before d s m.body (told_repeat d s past) (c.repeats d s);
-      focus = focus_before m.body (told_focus past) c.focus;
+      ids = λ d. ids_before d m.body (sent_down d past) (c.ids d);
+      repeats = λ d s. repeat_before d s m.body (sent_repeat d s past) (c.repeats d s);
+      focus = focus_before m.body (sent_focus past) c.focus;
     }
 
 -- what is there
@@ -70,7 +70,7 @@ motion_agrees : (m : Message) (k : Motion) (past : List Message) → m.body ≡ 
 motion_agrees m k past b c a =
     let d = k.device in
     let came : is_some (after_motion (a.state.ids d) k) ≡ true =
-    sym (ap (λ body. is_some (ids_after d body (told_down d past))) b ∙ ap (λ x. is_some (cond (d == d) (option_and_then (λ down. after_motion down k) x) x)) (a.ids d)
+    sym (ap (λ body. is_some (ids_after d body (sent_down d past))) b ∙ ap (λ x. is_some (cond (d == d) (option_and_then (λ down. after_motion down k) x) x)) (a.ids d)
     ∙ ap (λ t. is_some (cond t (after_motion (a.state.ids d) k) (Some (a.state.ids d)))) (eq-eqb d d refl))
     ∙ c.ids d in
     let next = the_some (after_motion (a.state.ids d) k) came in
@@ -82,11 +82,11 @@ motion_agrees m k past b c a =
           ∙ ap (option_and_then (λ s. after_body s (MotionBody k))) a.is
           ∙ ap (option_map (λ ids. record { ids = with_ids a.state.ids d ids; repeats = a.state.repeats; focus = a.state.focus })) next.1;
       ids =
-          λ e. ap (λ body. ids_after e body (told_down e past)) b
+          λ e. ap (λ body. ids_after e body (sent_down e past)) b
           ∙ ap (λ x. cond (d == e) (option_and_then (λ down. after_motion down k) x) x) (a.ids e)
           ∙ at_device e (d == e) refl next.0 next.1;
-      repeats = λ e s. ap (λ body. repeat_after e s body (told_repeat e s past)) b ∙ a.repeats e s;
-      focus = ap (λ body. focus_after body (told_focus past)) b ∙ a.focus;
+      repeats = λ e s. ap (λ body. repeat_after e s body (sent_repeat e s past)) b ∙ a.repeats e s;
+      focus = ap (λ body. focus_after body (sent_focus past)) b ∙ a.focus;
     }
   where
     at_device : (e : ℕ) (t : Bool) → (k.device == e) ≡ t → (next : List ℕ) → after_motion (a.state.ids k.device) k ≡ Some next
@@ -101,7 +101,7 @@ key_agrees m k past b c a =
     let s = k.key.scan in
     let own : is_key d s k.key ≡ true = ap₂ (λ x y. x && y) (eq-eqb d d refl) (eq-eqb s s refl) in
     let came : is_some (after_key (a.state.repeats d s) k) ≡ true =
-    sym (ap (λ body. is_some (repeat_after d s body (told_repeat d s past))) b ∙ ap (λ x. is_some (cond (is_key d s k.key) (option_and_then (λ due. after_key due k) x) x)) (a.repeats d s)
+    sym (ap (λ body. is_some (repeat_after d s body (sent_repeat d s past))) b ∙ ap (λ x. is_some (cond (is_key d s k.key) (option_and_then (λ due. after_key due k) x) x)) (a.repeats d s)
     ∙ ap (λ t. is_some (cond t (after_key (a.state.repeats d s) k) (Some (a.state.repeats d s)))) own)
     ∙ c.repeats d s in
     let next = the_some (after_key (a.state.repeats d s) k) came in
@@ -112,12 +112,12 @@ key_agrees m k past b c a =
           ap (λ body. option_and_then (λ st. after_body st body) (stream_state past)) b
           ∙ ap (option_and_then (λ st. after_body st (KeyBody k))) a.is
           ∙ ap (option_map (λ due. record { ids = a.state.ids; repeats = with_repeat a.state.repeats d s due; focus = a.state.focus })) next.1;
-      ids = λ e. ap (λ body. ids_after e body (told_down e past)) b ∙ a.ids e;
+      ids = λ e. ap (λ body. ids_after e body (sent_down e past)) b ∙ a.ids e;
       repeats =
-          λ e u. ap (λ body. repeat_after e u body (told_repeat e u past)) b
+          λ e u. ap (λ body. repeat_after e u body (sent_repeat e u past)) b
           ∙ ap (λ x. cond (is_key e u k.key) (option_and_then (λ due. after_key due k) x) x) (a.repeats e u)
           ∙ at_key e u (e == d) (u == s) refl refl next.0 next.1;
-      focus = ap (λ body. focus_after body (told_focus past)) b ∙ a.focus;
+      focus = ap (λ body. focus_after body (sent_focus past)) b ∙ a.focus;
     }
   where
     at_key : (e u : ℕ) (t v : Bool) → (e == k.key.device) ≡ t → (u == k.key.scan) ≡ v → (next : Option ℕ) → after_key (a.state.repeats k.key.device k.key.scan) k ≡ Some next
@@ -129,7 +129,7 @@ key_agrees m k past b c a =
 focus_agrees : (m : Message) (f : Bool) (past : List Message) → m.body ≡ FocusBody f → Comes (m ∷ past) → Agrees past → Agrees (m ∷ past)
 focus_agrees m f past b c a =
     let came : is_some (allowed (differ f a.state.focus) f) ≡ true =
-    sym (ap (λ body. is_some (focus_after body (told_focus past))) b ∙ ap (λ x. is_some (option_and_then (λ has. allowed (differ f has) f) x)) a.focus) ∙ c.focus in
+    sym (ap (λ body. is_some (focus_after body (sent_focus past))) b ∙ ap (λ x. is_some (option_and_then (λ has. allowed (differ f has) f) x)) a.focus) ∙ c.focus in
     let may = is_allowed (differ f a.state.focus) came in
     record {
       state = record { ids = a.state.ids; repeats = a.state.repeats; focus = f };
@@ -137,10 +137,10 @@ focus_agrees m f past b c a =
           ap (λ body. option_and_then (λ s. after_body s body) (stream_state past)) b
           ∙ ap (option_and_then (λ s. after_body s (FocusBody f))) a.is
           ∙ ap (λ t. allowed t (record { ids = a.state.ids; repeats = a.state.repeats; focus = f })) may;
-      ids = λ e. ap (λ body. ids_after e body (told_down e past)) b ∙ a.ids e;
-      repeats = λ e s. ap (λ body. repeat_after e s body (told_repeat e s past)) b ∙ a.repeats e s;
+      ids = λ e. ap (λ body. ids_after e body (sent_down e past)) b ∙ a.ids e;
+      repeats = λ e s. ap (λ body. repeat_after e s body (sent_repeat e s past)) b ∙ a.repeats e s;
       focus =
-          ap (λ body. focus_after body (told_focus past)) b
+          ap (λ body. focus_after body (sent_focus past)) b
           ∙ ap (option_and_then (λ has. allowed (differ f has) f)) a.focus
           ∙ ap (λ t. allowed t f) may;
     }
@@ -150,7 +150,7 @@ focus_agrees m f past b c a =
     is_allowed false e = absurd (true≢false (sym e))
 
 pub agrees : (ms : List Message) → Comes ms → Agrees ms
-agrees [] c = record { state = untold; is = refl; ids = λ d. refl; repeats = λ d s. refl; focus = refl }
+agrees [] c = record { state = unsent; is = refl; ids = λ d. refl; repeats = λ d s. refl; focus = refl }
 agrees (m ∷ past) c = by_body m.body refl (agrees past (comes_before m past c))
   where
     by_body : (b : Body) → m.body ≡ b → Agrees past → Agrees (m ∷ past)

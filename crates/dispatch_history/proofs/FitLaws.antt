@@ -16,7 +16,7 @@ use Rattle.dispatch_calls.specs.declared.reply.Reply.TheVariants.{Named, Done}
 use Rattle.routing_rules.specs.Pairs.{has}
 use Rattle.routing_rules.specs.Taking.{takes}
 use Rattle.routing_rules.specs.Marks.{Mark, held}
-use Rattle.routing_rules.specs.Scene.{Step, Rests}
+use Rattle.routing_rules.specs.Scene.{Step, NoOp}
 use Rattle.routing_rules.specs.Given.{mark}
 use Rattle.routing_rules.specs.Fits.{Fits, Rises, down_after, last_then}
 use Rattle.routing_rules.proofs.HoldingLaws.{held_step}
@@ -137,7 +137,7 @@ pub record StepFacts (ds : List ℕ) (call : Call) (answer : Reply) (args : Opti
 still_facts : (ds : List ℕ) (call : Call) (answer : Reply) (es : List Effect) (d : ℕ) → Still (step_of (snapshot (past_of es)) call answer None) → StepFacts ds call answer None es d (down_ids es d)
 still_facts ds call answer es d s = record { rises = s.rises; down = s.down d (down_ids es d); last_is = s.last_is d (last es d) }
 
-still_rests : Still Rests
+still_rests : Still NoOp
 still_rests = record { rises = tt; down = λ d ids. refl; last_is = λ d ps. refl }
 
 pub step_facts : (ds : List ℕ) (call : Call) (answer : Reply) (h : History) (d : ℕ) → Legal ds ((call, answer) ∷ h) → AllRise ((call, answer) ∷ h)

@@ -13,19 +13,19 @@ use Rattle.dispatch_calls.specs.declared.call.Call.{Call}
 use Rattle.dispatch_calls.specs.declared.reply.Reply.{Reply}
 use Rattle.window_snapshot.specs.Named.{is_focusable_on}
 use Rattle.routing_rules.specs.Given.{mark}
-use Rattle.routing_rules.specs.Told.{told_with, devices}
+use Rattle.routing_rules.specs.Outgoing.{sent_with, devices}
 use Rattle.dispatch_history.specs.History.{History, clock, live, origin, snapshot}
 use Rattle.dispatch_history.specs.Queue.{inbound, args_of}
-use Rattle.dispatch_history.specs.Effect.{Effect, past_of, stream, told_on, focus_after, told_focus}
+use Rattle.dispatch_history.specs.Effect.{Effect, past_of, stream, sent_on, focus_after, sent_focus}
 use Rattle.dispatch_history.specs.Effects.{effects, said_at}
 use Rattle.focus_resolver.specs.Resolver.{all_displays, focus_if, is_at}
-use Rattle.dispatch_history.specs.Focus.{focus, may_focus, requested, has_focus, focus_told}
+use Rattle.dispatch_history.specs.Focus.{focus, may_focus, requested, has_focus, focus_sent}
 use Rattle.dispatch_history.specs.Said.{motions_said, keys_said, motion_from}
 use Rattle.dispatch_history.specs.Step.{scene, step_of}
 use Rattle.dispatch_history.specs.Laws.{FocusLaw, FocusComesLaw}
 use Rattle.dispatch_history.proofs.LegalLaws.{effects_law}
 use Rattle.dispatch_history.proofs.StreamLaws.{stream_step, silent_law}
-use Rattle.dispatch_history.proofs.ToldMotions.{shifted}
+use Rattle.dispatch_history.proofs.SentMotions.{shifted}
 use Rattle.dispatch_history.proofs.MotionLaws.{live_said, unopened, new_channel}
 
 -- what bodies do to what is known of something
@@ -46,17 +46,17 @@ unfolding bodies_after
 motions_after f none o [] x = refl
 motions_after f none o (m ∷ ms) x = ap (bodies_after f (shifted o ms)) (none (motion_from o m) x) ∙ motions_after f none o ms x
 
-told_focus_on : (now : ℕ) (bs : List Body) (ms : List Message) → told_focus (told_on now bs ms) ≡ bodies_after focus_after bs (told_focus ms)
+sent_focus_on : (now : ℕ) (bs : List Body) (ms : List Message) → sent_focus (sent_on now bs ms) ≡ bodies_after focus_after bs (sent_focus ms)
 unfolding bodies_after
-told_focus_on now [] ms = refl
-told_focus_on now (b ∷ bs) ms = told_focus_on now bs (record { seq = 1 + length ms; moment = now; body = b } ∷ ms)
+sent_focus_on now [] ms = refl
+sent_focus_on now (b ∷ bs) ms = sent_focus_on now bs (record { seq = 1 + length ms; moment = now; body = b } ∷ ms)
 
 keys_focus : (ks : List KeyMsg) (x : Option Bool) → bodies_after focus_after (map Key ks) x ≡ x
 unfolding bodies_after
 keys_focus [] x = refl
 keys_focus (k ∷ ks) x = keys_focus ks x
 
-moved_focus : (a b : Bool) → bodies_after focus_after (focus_told a b) (Some a) ≡ Some b
+moved_focus : (a b : Bool) → bodies_after focus_after (focus_sent a b) (Some a) ≡ Some b
 unfolding bodies_after
 moved_focus true true = refl
 moved_focus true false = refl
@@ -92,11 +92,11 @@ step_focus ds call answer es w n =
     let x : Option Bool = Some (has_focus (past_of es) w) in
     let m = motions_said s e (mark s e) o w in
     let k = keys_said after_it args es w in
-    let f = focus_told (has_focus (past_of es) w) (has_focus after_it w) in
+    let f = focus_sent (has_focus (past_of es) w) (has_focus after_it w) in
     ap (λ bs. bodies_after focus_after bs x) (live_said ds call answer es w n)
     ∙ bodies_after-append focus_after (m ++ k) f x
     ∙ ap (bodies_after focus_after f) (bodies_after-append focus_after m k x)
-    ∙ ap (λ y. bodies_after focus_after f (bodies_after focus_after k y)) (motions_after focus_after (λ v y. refl) o (flat_map (told_with s e (mark s e) w) devices) x)
+    ∙ ap (λ y. bodies_after focus_after f (bodies_after focus_after k y)) (motions_after focus_after (λ v y. refl) o (flat_map (sent_with s e (mark s e) w) devices) x)
     ∙ ap (bodies_after focus_after f) (keys_said_focus after_it answer args es w x)
     ∙ moved_focus (has_focus (past_of es) w) (has_focus after_it w)
   where
@@ -110,13 +110,13 @@ focus_law ds ((call, answer) ∷ h) w l e =
     let es = effects ds h in
     let p = effects_law ds h in
     let now_live : live ((call, answer) ∷ past_of es) w ≡ true = subst (λ past. live ((call, answer) ∷ past) w ≡ true) (sym p) e in
-    let before : told_focus (stream es w) ≡ Some (has_focus h w) =
+    let before : sent_focus (stream es w) ≡ Some (has_focus h w) =
     elim (cases_Bool (live h w)) [
       | inl y ↦ focus_law ds h w l.1 y
-      | inr n ↦ ap told_focus (unopened ds h w l.1 (new_channel ds call answer h w l n e)) ∙ ap Some (sym (no_focus h w n))
+      | inr n ↦ ap sent_focus (unopened ds h w l.1 (new_channel ds call answer h w l n e)) ∙ ap Some (sym (no_focus h w n))
     ] in
-    ap told_focus (stream_step ds call answer h w l)
-    ∙ told_focus_on (clock ((call, answer) ∷ h)) (said_at ds call answer es w) (stream es w)
+    ap sent_focus (stream_step ds call answer h w l)
+    ∙ sent_focus_on (clock ((call, answer) ∷ h)) (said_at ds call answer es w) (stream es w)
     ∙ ap (bodies_after focus_after (said_at ds call answer es w)) (before ∙ ap (λ past. Some (has_focus past w)) (sym p))
     ∙ step_focus ds call answer es w now_live
     ∙ ap (λ past. Some (has_focus ((call, answer) ∷ past) w)) p
@@ -126,5 +126,5 @@ focus_comes ds [] w l = refl
 focus_comes ds ((call, answer) ∷ h) w l =
     elim (cases_Bool (live ((call, answer) ∷ h) w)) [
       | inl y ↦ ap is_some (focus_law ds ((call, answer) ∷ h) w l y)
-      | inr f ↦ ap (λ ms. is_some (told_focus ms)) (silent_law ds call answer h w f) ∙ focus_comes ds h w l.1
+      | inr f ↦ ap (λ ms. is_some (sent_focus ms)) (silent_law ds call answer h w f) ∙ focus_comes ds h w l.1
     ]

@@ -67,11 +67,11 @@ the_earliest_holder_began_first_although_its_pointers_are_younger :
     ∷ says 5 5000 (motion PointerDown 0 (at 0 100 2200 ∷ at 2 200 100 ∷ [])) ∷ []
 the_earliest_holder_began_first_although_its_pointers_are_younger = refl
 
-the_other_holder_is_told_moves :
+the_other_holder_is_sent_moves :
     stream_of down_beside 2
     ≡ says 1 2000 (motion Down 0 (at 1 60 100 ∷ [])) ∷ says 2 3000 (motion Move 0 (at 1 60 100 ∷ []))
     ∷ says 3 4000 (motion Move 0 (at 1 60 100 ∷ [])) ∷ says 4 5000 (motion Move 0 (at 1 60 100 ∷ [])) ∷ []
-the_other_holder_is_told_moves = refl
+the_other_holder_is_sent_moves = refl
 
 -- Two taps, the second where no window is. Windows 1 and 3 watch for touches outside (4 is WATCH_OUTSIDE_TOUCH), window 1 in front
 -- of the touched window 2, window 3 behind it.
@@ -82,15 +82,15 @@ taps_outside =
     ++ moved 1000 Down 0 (at 0 500 500 ∷ []) ++ moved 2000 Up 0 (at 0 500 500 ∷ [])
     ++ moved 3000 Down 0 (at 0 500 2200 ∷ []) ++ moved 4000 Up 0 (at 0 500 2200 ∷ [])
 
-a_watcher_in_front_is_told_of_the_touch_of_another : stream_of taps_outside 1 ≡ says 1 1000 (motion Outside 0 (at 0 500 500 ∷ [])) ∷ []
-a_watcher_in_front_is_told_of_the_touch_of_another = refl
+a_watcher_in_front_is_sent_of_the_touch_of_another : stream_of taps_outside 1 ≡ says 1 1000 (motion Outside 0 (at 0 500 500 ∷ [])) ∷ []
+a_watcher_in_front_is_sent_of_the_touch_of_another = refl
 
 the_touched_window_has_the_tap :
     stream_of taps_outside 2 ≡ says 1 1000 (motion Down 0 (at 0 500 400 ∷ [])) ∷ says 2 2000 (motion Up 0 (at 0 500 400 ∷ [])) ∷ []
 the_touched_window_has_the_tap = refl
 
-a_watcher_behind_is_told_nothing : stream_of taps_outside 3 ≡ []
-a_watcher_behind_is_told_nothing = refl
+a_watcher_behind_is_sent_nothing : stream_of taps_outside 3 ≡ []
+a_watcher_behind_is_sent_nothing = refl
 
 -- Window 1 is slippery (8 is SLIPPERY), window 2 lies below it. A finger goes down on window 1 and moves onto window 2.
 abbrev slippery_above : List Call

@@ -21,7 +21,7 @@ each_repeat_has_the_next_number :
     ≡ focused 1 0 true ∷ keyed 2 1000000 (key 115 24 true) 0 0 ∷ keyed 3 1500000 (key 115 24 true) 0 1 ∷ keyed 4 1550000 (key 115 24 true) 0 2 ∷ []
 each_repeat_has_the_next_number = refl
 
--- The focus moves while a key is down: the window that loses it is told a cancelled up, and the up goes to nobody. A key without a
+-- The focus moves while a key is down: the window that loses it is sent a cancelled up, and the up goes to nobody. A key without a
 -- place in the layout goes to the window that has the focus now.
 abbrev focus_moves : List Call
 focus_moves =
@@ -34,6 +34,6 @@ the_window_that_loses_the_focus_loses_its_keys_first :
     ≡ focused 1 0 true ∷ keyed 2 1000000 (key 115 24 true) 0 0 ∷ keyed 3 1200000 (key 115 24 false) 0x20 0 ∷ focused 4 1200000 false ∷ []
 the_window_that_loses_the_focus_loses_its_keys_first = refl
 
-the_up_of_a_key_that_nobody_holds_is_told_to_nobody :
+the_up_of_a_key_that_nobody_holds_is_sent_to_nobody :
     stream_of focus_moves 2 ≡ focused 1 1200000 true ∷ keyed 2 1400000 (key 999 0 true) 0 0 ∷ []
-the_up_of_a_key_that_nobody_holds_is_told_to_nobody = refl
+the_up_of_a_key_that_nobody_holds_is_sent_to_nobody = refl

@@ -12,7 +12,7 @@ use Rattle.dispatch_calls.specs.declared.reply.Reply.TheVariants.{Opened, Named,
 use Rattle.routing_rules.specs.Pairs.{Pair, has, has_any}
 use Rattle.routing_rules.specs.Taking.{takes}
 use Rattle.routing_rules.specs.Marks.{Mark, held}
-use Rattle.routing_rules.specs.Scene.{Scene, Shows, Rests, stays, is_missed}
+use Rattle.routing_rules.specs.Scene.{Scene, Shows, NoOp, stays, is_missed}
 use Rattle.routing_rules.specs.Given.{changed, given, taken, mark}
 use Rattle.dispatch_history.specs.History.{History, live, live_after, snapshot}
 use Rattle.dispatch_history.specs.Queue.{inbound, args_of}
@@ -160,27 +160,27 @@ holders ds ((Remove now k, answer) ∷ h) w d i x =
     remains ds (effect_of ds (Remove now k) answer None es) es w d q.0 (remove_live ws (scene ds es) now k w d i answer (live (past_of es) w) (was_live es w q.0) b.1) (refl) q.1
 holders ds ((Open limit, answer) ∷ h) w d i x =
     let es = effects ds h in
-    let b = only_kept (mark (scene ds es) Rests) (marks es) w d i refl x in
+    let b = only_kept (mark (scene ds es) NoOp) (marks es) w d i refl x in
     let q = holders ds h w d i b.0 in
     remains ds (effect_of ds (Open limit) answer None es) es w d q.0 (open_live limit answer w (live (past_of es) w) (was_live es w q.0)) refl q.1
 holders ds ((FocusOn now y c, answer) ∷ h) w d i x =
     let es = effects ds h in
-    let b = only_kept (mark (scene ds es) Rests) (marks es) w d i refl x in
+    let b = only_kept (mark (scene ds es) NoOp) (marks es) w d i refl x in
     let q = holders ds h w d i b.0 in
     remains ds (effect_of ds (FocusOn now y c) answer None es) es w d q.0 (was_live es w q.0) refl q.1
 holders ds ((Notify now a, answer) ∷ h) w d i x =
     let es = effects ds h in
-    let b = only_kept (mark (scene ds es) Rests) (marks es) w d i refl x in
+    let b = only_kept (mark (scene ds es) NoOp) (marks es) w d i refl x in
     let q = holders ds h w d i b.0 in
     remains ds (effect_of ds (Notify now a) answer None es) es w d q.0 (was_live es w q.0) refl q.1
 holders ds ((Receive c, answer) ∷ h) w d i x =
     let es = effects ds h in
-    let b = only_kept (mark (scene ds es) Rests) (marks es) w d i refl x in
+    let b = only_kept (mark (scene ds es) NoOp) (marks es) w d i refl x in
     let q = holders ds h w d i b.0 in
     remains ds (effect_of ds (Receive c) answer None es) es w d q.0 (was_live es w q.0) refl q.1
 holders ds ((Finish now c n, answer) ∷ h) w d i x =
     let es = effects ds h in
-    let b = only_kept (mark (scene ds es) Rests) (marks es) w d i refl x in
+    let b = only_kept (mark (scene ds es) NoOp) (marks es) w d i refl x in
     let q = holders ds h w d i b.0 in
     remains ds (effect_of ds (Finish now c n) answer None es) es w d q.0 (was_live es w q.0) refl q.1
 

@@ -18,17 +18,17 @@ use Rattle.dispatch_history.specs.Effects.{effects}
 use Rattle.dispatch_history.specs.Focus.{is_target}
 use Rattle.dispatch_history.specs.Delivery.{able, names, unresponsive}
 use Rattle.dispatch_history.specs.Keys.{same_key, goes_down, ends, loses_all, key_given, keys}
-use Rattle.dispatch_history.specs.KeyTold.{key_cancelled, keys_told, last_key, while_held, repeat_due, repeat_told, repeat_by}
+use Rattle.dispatch_history.specs.KeySent.{key_cancelled, keys_sent, last_key, while_held, repeat_due, repeat_sent, repeat_by}
 use Rattle.dispatch_history.specs.Reply.{pump_reply, is_due}
 use Rattle.dispatch_history.specs.Legal.{Legal}
-use Rattle.dispatch_history.specs.Known.{is_key, told_repeat, held_key, next_repeat, newest_key}
+use Rattle.dispatch_history.specs.Known.{is_key, sent_repeat, held_key, next_repeat, newest_key}
 use Rattle.dispatch_history.specs.Laws.{KeysLaw, KeysComeLaw, HeldKeyLaw}
 use Rattle.dispatch_history.proofs.LegalLaws.{effects_law}
 use Rattle.dispatch_history.proofs.FitLaws.{dispatched_keep}
 use Rattle.dispatch_history.proofs.StreamLaws.{silent_law}
 use Rattle.dispatch_history.proofs.MotionLaws.{unopened, new_channel}
 use Rattle.dispatch_history.proofs.KeysDown.{AllHeld, down_keys, all_held, goes_down_new, held_is, is_key-parts}
-use Rattle.dispatch_history.proofs.KeyTells.{Known, KeyKnown, all, all-append, any_held, filter_all, filter_none, NoLoss, keys_tell, repeat_tells}
+use Rattle.dispatch_history.proofs.KeySends.{Known, KeyKnown, all, all-append, any_held, filter_all, filter_none, NoLoss, keys_send, repeat_sends}
 use Rattle.dispatch_history.proofs.KeysKnown.{known, known_repeat, known_last, said_known, last_key_law, newest_last}
 
 -- A pump, by its answer. Where it repeats, the last key message is that of a key that is held.
@@ -37,34 +37,34 @@ RepeatsHeld d s w last old x =
     (m : Sent) → last ≡ Some m → (w == m.channel) ≡ true → is_key d s m.key.key ≡ true
     → (k : KeyArgs) × (held_key old d s ≡ Some k) × (k.down ≡ true) × (x.1 ≡ Some m.key)
 
-abbrev Tells : ℕ → ℕ → Option Args → Bool → Bool → List KeyArgs → List KeyMsg → Known → Type 0
-Tells d s o hears loses old r x =
-    KeyKnown (held_key (key_given (goes_down o) hears (cond loses [] (filter (λ k. not (ends o k)) old))) d s) (all d s (keys_told o hears loses old ++ r) x)
+abbrev Sends : ℕ → ℕ → Option Args → Bool → Bool → List KeyArgs → List KeyMsg → Known → Type 0
+Sends d s o hears loses old r x =
+    KeyKnown (held_key (key_given (goes_down o) hears (cond loses [] (filter (λ k. not (ends o k)) old))) d s) (all d s (keys_sent o hears loses old ++ r) x)
 
 abbrev NewKey : Option Args → List KeyArgs → Type 0
 NewKey o old = (k : KeyArgs) → goes_down o ≡ Some k → (k.down ≡ true) × (held_key old k.device k.scan ≡ None)
 
--- nothing is told beside what the keys do
-tells_alone : (d s : ℕ) (o : Option Args) (hears loses : Bool) (down : ℕ → ℕ → Bool) (old : List KeyArgs) (x : Known) → AllHeld down old → NoLoss o loses → NewKey o old
-    → KeyKnown (held_key old d s) x → Tells d s o hears loses old [] x
-tells_alone d s o hears loses down old x a n f h =
-    subst (KeyKnown (held_key (key_given (goes_down o) hears (cond loses [] (filter (λ k. not (ends o k)) old))) d s)) (sym (all-append d s (keys_told o hears loses old) [] x))
-    (keys_tell d s o hears loses down old x a n f h)
+-- nothing is sent beside what the keys do
+sends_alone : (d s : ℕ) (o : Option Args) (hears loses : Bool) (down : ℕ → ℕ → Bool) (old : List KeyArgs) (x : Known) → AllHeld down old → NoLoss o loses → NewKey o old
+    → KeyKnown (held_key old d s) x → Sends d s o hears loses old [] x
+sends_alone d s o hears loses down old x a n f h =
+    subst (KeyKnown (held_key (key_given (goes_down o) hears (cond loses [] (filter (λ k. not (ends o k)) old))) d s)) (sym (all-append d s (keys_sent o hears loses old) [] x))
+    (keys_send d s o hears loses down old x a n f h)
 
 -- no args are dispatched, and nothing is lost
-tells_idle : (d s : ℕ) (hears : Bool) (old : List KeyArgs) (r : List KeyMsg) (x : Known) → KeyKnown (held_key old d s) (all d s r x) → Tells d s None hears false old r x
-tells_idle d s hears old r x h =
-    subst₂ (λ left told. KeyKnown (held_key left d s) (all d s (map key_cancelled told ++ r) x)) (sym (filter_all (λ k. true) (λ k. refl) old)) (sym (filter_none (λ k. false) (λ k. refl) old)) h
+sends_idle : (d s : ℕ) (hears : Bool) (old : List KeyArgs) (r : List KeyMsg) (x : Known) → KeyKnown (held_key old d s) (all d s r x) → Sends d s None hears false old r x
+sends_idle d s hears old r x h =
+    subst₂ (λ left outgoing. KeyKnown (held_key left d s) (all d s (map key_cancelled outgoing ++ r) x)) (sym (filter_all (λ k. true) (λ k. refl) old)) (sym (filter_none (λ k. false) (λ k. refl) old)) h
 
 repeats : (d s now w : ℕ) (hears : Bool) (old : List KeyArgs) (last : Option Sent) (x : Known) → RepeatsHeld d s w last old x → KeyKnown (held_key old d s) x
-    → Tells d s None hears false old (repeat_told (Pump now) Repeated last w) x
-repeats d s now w hears old None x f h = tells_idle d s hears old [] x h
+    → Sends d s None hears false old (repeat_sent (Pump now) Repeated last w) x
+repeats d s now w hears old None x f h = sends_idle d s hears old [] x h
 repeats d s now w hears old (Some m) x f h = by_channel (w == m.channel) (f m refl)
   where
     by_channel : (b : Bool) → (b ≡ true → is_key d s m.key.key ≡ true → (k : KeyArgs) × (held_key old d s ≡ Some k) × (k.down ≡ true) × (x.1 ≡ Some m.key))
-        → Tells d s None hears false old (cond b (repeated m.key ∷ []) []) x
-    by_channel true g = tells_idle d s hears old (repeated m.key ∷ []) x (repeat_tells d s m.key (held_key old d s) x (g refl) h)
-    by_channel false g = tells_idle d s hears old [] x h
+        → Sends d s None hears false old (cond b (repeated m.key ∷ []) []) x
+    by_channel true g = sends_idle d s hears old (repeated m.key ∷ []) x (repeat_sends d s m.key (held_key old d s) x (g refl) h)
+    by_channel false g = sends_idle d s hears old [] x h
 
 no_loss : (o : Option Args) → NoLoss o false
 no_loss None = tt
@@ -72,23 +72,23 @@ no_loss (Some (MotionArgs m)) = tt
 no_loss (Some (Reset r)) = tt
 no_loss (Some (KeyOfDevice k)) = refl
 
-pump_tells : (d s now w : ℕ) (answer : Reply) (ws : List Args) (hears loses : Bool) (down : ℕ → ℕ → Bool) (old : List KeyArgs) (last : Option Sent) (x : Known) (due : Option ℕ) (at : ℕ)
+pump_sends : (d s now w : ℕ) (answer : Reply) (ws : List Args) (hears loses : Bool) (down : ℕ → ℕ → Bool) (old : List KeyArgs) (last : Option Sent) (x : Known) (due : Option ℕ) (at : ℕ)
     → answer ≡ pump_reply ws due at → AllHeld down old → loses ≡ false → NewKey (args_of (Pump now) answer ws) old
     → (is_due due at ≡ true → RepeatsHeld d s w last old x) → KeyKnown (held_key old d s) x
-    → Tells d s (args_of (Pump now) answer ws) hears loses old (repeat_told (Pump now) answer last w) x
-pump_tells d s now w answer (a ∷ ws) hears loses down old last x due at r held n new f h =
-    subst₂ (λ v b. NewKey (args_of (Pump now) v (a ∷ ws)) old → Tells d s (args_of (Pump now) v (a ∷ ws)) hears b old (repeat_told (Pump now) v last w) x) (sym r) (sym n)
-    (λ g. tells_alone d s (Some a) hears false down old x held (no_loss (Some a)) g h) new
-pump_tells d s now w answer [] hears loses down old last x due at r held n new f h =
-    subst (λ b. Tells d s (args_of (Pump now) answer []) hears b old (repeat_told (Pump now) answer last w) x) (sym n) (by_due (cases_Bool (is_due due at)))
+    → Sends d s (args_of (Pump now) answer ws) hears loses old (repeat_sent (Pump now) answer last w) x
+pump_sends d s now w answer (a ∷ ws) hears loses down old last x due at r held n new f h =
+    subst₂ (λ v b. NewKey (args_of (Pump now) v (a ∷ ws)) old → Sends d s (args_of (Pump now) v (a ∷ ws)) hears b old (repeat_sent (Pump now) v last w) x) (sym r) (sym n)
+    (λ g. sends_alone d s (Some a) hears false down old x held (no_loss (Some a)) g h) new
+pump_sends d s now w answer [] hears loses down old last x due at r held n new f h =
+    subst (λ b. Sends d s (args_of (Pump now) answer []) hears b old (repeat_sent (Pump now) answer last w) x) (sym n) (by_due (cases_Bool (is_due due at)))
   where
-    by_due : (is_due due at ≡ true) ⊎ (is_due due at ≡ false) → Tells d s (args_of (Pump now) answer []) hears false old (repeat_told (Pump now) answer last w) x
+    by_due : (is_due due at ≡ true) ⊎ (is_due due at ≡ false) → Sends d s (args_of (Pump now) answer []) hears false old (repeat_sent (Pump now) answer last w) x
     by_due (inl y) =
         let e : answer ≡ Repeated = r ∙ ap (λ b. cond b Repeated Idle) y in
-        subst (λ v. Tells d s (args_of (Pump now) v []) hears false old (repeat_told (Pump now) v last w) x) (sym e) (repeats d s now w hears old last x (f y) h)
+        subst (λ v. Sends d s (args_of (Pump now) v []) hears false old (repeat_sent (Pump now) v last w) x) (sym e) (repeats d s now w hears old last x (f y) h)
     by_due (inr y) =
         let e : answer ≡ Idle = r ∙ ap (λ b. cond b Repeated Idle) y in
-        subst (λ v. Tells d s (args_of (Pump now) v []) hears false old (repeat_told (Pump now) v last w) x) (sym e) (tells_idle d s hears old [] x h)
+        subst (λ v. Sends d s (args_of (Pump now) v []) hears false old (repeat_sent (Pump now) v last w) x) (sym e) (sends_idle d s hears old [] x h)
 
 -- a window that is not live holds no key
 none_given : (o : Option KeyArgs) (hears loses : Bool) (held : List KeyArgs) → hears ≡ false → loses ≡ true → key_given o hears (cond loses [] held) ≡ []
@@ -173,17 +173,17 @@ step_knows ds call answer h w d s l n before =
     es : List Effect
     es = effects ds h
 
-    quiet : (c : Call) → Tells d s None (is_target (past_of es) w && able es w) (loses_all ((c, answer) ∷ past_of es) (past_of es) w) (keys es w) [] (known d s (stream es w))
+    quiet : (c : Call) → Sends d s None (is_target (past_of es) w && able es w) (loses_all ((c, answer) ∷ past_of es) (past_of es) w) (keys es w) [] (known d s (stream es w))
     quiet c =
-        tells_alone d s None (is_target (past_of es) w && able es w) (loses_all ((c, answer) ∷ past_of es) (past_of es) w) (down_keys (dispatched es)) (keys es w) (known d s (stream es w))
+        sends_alone d s None (is_target (past_of es) w && able es w) (loses_all ((c, answer) ∷ past_of es) (past_of es) w) (down_keys (dispatched es)) (keys es w) (known d s (stream es w))
         (all_held ds h w l.1) tt (λ k e. absurd (cc e)) before
 
     by_call : (c : Call) → Legal ds ((c, answer) ∷ h) → live ((c, answer) ∷ past_of es) w ≡ true
-        → Tells d s (args_of c answer (inbound (past_of es))) (is_target (past_of es) w && able es w) (loses_all ((c, answer) ∷ past_of es) (past_of es) w) (keys es w)
+        → Sends d s (args_of c answer (inbound (past_of es))) (is_target (past_of es) w && able es w) (loses_all ((c, answer) ∷ past_of es) (past_of es) w) (keys es w)
         (repeat_by ((c, answer) ∷ past_of es) (last_key es) w) (known d s (stream es w))
     by_call (Pump now) m q =
         let o = args_of (Pump now) answer (inbound (past_of es)) in
-        pump_tells d s now w answer (inbound (past_of es)) (is_target (past_of es) w && able es w) (loses_all ((Pump now, answer) ∷ past_of es) (past_of es) w) (down_keys (dispatched es))
+        pump_sends d s now w answer (inbound (past_of es)) (is_target (past_of es) w && able es w) (loses_all ((Pump now, answer) ∷ past_of es) (past_of es) w) (down_keys (dispatched es))
         (keys es w) (last_key es) (known d s (stream es w)) (repeat_due es) (max now (clock (past_of es))) m.0 (all_held ds h w m.1)
         (live_keeps (is_target (past_of es) w) (live (past_of es) w) q)
         (λ k e. goes_down_new ds h w o k m.1 (λ v. dispatched_keep ds ((Pump now, answer) ∷ h) v m) e)
@@ -229,5 +229,5 @@ keys_come ds [] w d s l = refl
 keys_come ds ((call, answer) ∷ h) w d s l =
     elim (cases_Bool (live ((call, answer) ∷ h) w)) [
       | inl y ↦ ap is_some (keys_law ds ((call, answer) ∷ h) w d s l y)
-      | inr f ↦ ap (λ ms. is_some (told_repeat d s ms)) (silent_law ds call answer h w f) ∙ keys_come ds h w d s l.1
+      | inr f ↦ ap (λ ms. is_some (sent_repeat d s ms)) (silent_law ds call answer h w f) ∙ keys_come ds h w d s l.1
     ]

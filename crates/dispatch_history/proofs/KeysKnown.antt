@@ -10,26 +10,26 @@ use Rattle.input_types.specs.declared.motion.Motion.{Motion}
 use Rattle.input_types.specs.StreamRule.{after_key}
 use Rattle.key_repeat.specs.Due.{Sent}
 use Rattle.routing_rules.specs.Given.{mark}
-use Rattle.routing_rules.specs.Told.{told_with, devices}
+use Rattle.routing_rules.specs.Outgoing.{sent_with, devices}
 use Rattle.dispatch_calls.specs.declared.call.Call.{Call}
 use Rattle.dispatch_calls.specs.declared.reply.Reply.{Reply}
 use Rattle.dispatch_history.specs.History.{History, clock, live, origin, snapshot}
 use Rattle.dispatch_history.specs.Queue.{inbound, args_of}
-use Rattle.dispatch_history.specs.Effect.{Told, past_of, stream, told_on, told_to}
+use Rattle.dispatch_history.specs.Effect.{Outgoing, past_of, stream, sent_on, sent_to}
 use Rattle.dispatch_history.specs.Effects.{effects, said_at}
 use Rattle.dispatch_history.specs.Step.{scene, step_of}
-use Rattle.dispatch_history.specs.Focus.{has_focus, is_target, focus_told}
+use Rattle.dispatch_history.specs.Focus.{has_focus, is_target, focus_sent}
 use Rattle.dispatch_history.specs.Delivery.{able}
 use Rattle.dispatch_history.specs.Keys.{loses_all, keys}
-use Rattle.dispatch_history.specs.KeyTold.{keys_told, key_in, last_key, repeat_by}
+use Rattle.dispatch_history.specs.KeySent.{keys_sent, key_in, last_key, repeat_by}
 use Rattle.dispatch_history.specs.Said.{motions_said, keys_said}
 use Rattle.dispatch_history.specs.Legal.{Legal}
-use Rattle.dispatch_history.specs.Known.{is_key, last_message, last_message_after, told_repeat, repeat_after, newest_key, newest_key_after}
+use Rattle.dispatch_history.specs.Known.{is_key, last_message, last_message_after, sent_repeat, repeat_after, newest_key, newest_key_after}
 use Rattle.dispatch_history.specs.Laws.{LastKeyLaw}
 use Rattle.dispatch_history.proofs.StreamLaws.{stream_step}
-use Rattle.dispatch_history.proofs.ToldMotions.{shifted}
+use Rattle.dispatch_history.proofs.SentMotions.{shifted}
 use Rattle.dispatch_history.proofs.MotionLaws.{live_said}
-use Rattle.dispatch_history.proofs.KeyTells.{Known, one, all}
+use Rattle.dispatch_history.proofs.KeySends.{Known, one, all}
 
 -- what messages and bodies do to what is known of a key
 abbrev pub body_known : ℕ → ℕ → Body → Known → Known
@@ -52,7 +52,7 @@ second_of : (b : Bool) (x y : Known) → (cond b x y).1 ≡ cond b x.1 y.1
 second_of true x y = refl
 second_of false x y = refl
 
-pub known_repeat : (d s : ℕ) (ms : List Message) → (known d s ms).0 ≡ told_repeat d s ms
+pub known_repeat : (d s : ℕ) (ms : List Message) → (known d s ms).0 ≡ sent_repeat d s ms
 known_repeat d s [] = refl
 known_repeat d s (m ∷ past) = of_body m.body ∙ ap (repeat_after d s m.body) (known_repeat d s past)
   where
@@ -70,7 +70,7 @@ known_last d s (m ∷ past) = of_body m.body ∙ ap (last_message_after d s m.bo
     of_body (MotionBody k) = refl
     of_body (FocusBody b) = refl
 
-known_on : (d s now : ℕ) (bs : List Body) (ms : List Message) → known d s (told_on now bs ms) ≡ bodies_known d s bs (known d s ms)
+known_on : (d s now : ℕ) (bs : List Body) (ms : List Message) → known d s (sent_on now bs ms) ≡ bodies_known d s bs (known d s ms)
 unfolding bodies_known
 known_on d s now [] ms = refl
 known_on d s now (b ∷ bs) ms = known_on d s now bs (record { seq = 1 + length ms; moment = now; body = b } ∷ ms)
@@ -85,7 +85,7 @@ unfolding bodies_known
 motions_known d s o [] x = refl
 motions_known d s o (m ∷ ms) x = motions_known d s o ms x
 
-focus_known : (d s : ℕ) (a b : Bool) (x : Known) → bodies_known d s (focus_told a b) x ≡ x
+focus_known : (d s : ℕ) (a b : Bool) (x : Known) → bodies_known d s (focus_sent a b) x ≡ x
 unfolding bodies_known
 focus_known d s true true x = refl
 focus_known d s true false x = refl
@@ -102,7 +102,7 @@ pub said_known : (ds : List ℕ) (call : Call) (answer : Reply) (h : History) (w
     → known d s (stream (effects ds ((call, answer) ∷ h)) w)
     ≡ (let es = effects ds h in
     all d s
-    (keys_told (args_of call answer (inbound (past_of es))) (is_target (past_of es) w && able es w) (loses_all ((call, answer) ∷ past_of es) (past_of es) w) (keys es w)
+    (keys_sent (args_of call answer (inbound (past_of es))) (is_target (past_of es) w && able es w) (loses_all ((call, answer) ∷ past_of es) (past_of es) w) (keys es w)
     ++ repeat_by ((call, answer) ∷ past_of es) (last_key es) w)
     (known d s (stream es w)))
 said_known ds call answer h w d s l n =
@@ -115,40 +115,40 @@ said_known ds call answer h w d s l n =
     let x = known d s (stream es w) in
     let m = motions_said sc e (mark sc e) o w in
     let k = keys_said after_it args es w in
-    let f = focus_told (has_focus (past_of es) w) (has_focus after_it w) in
+    let f = focus_sent (has_focus (past_of es) w) (has_focus after_it w) in
     ap (known d s) (stream_step ds call answer h w l)
     ∙ known_on d s (clock ((call, answer) ∷ h)) (said_at ds call answer es w) (stream es w)
     ∙ ap (λ bs. bodies_known d s bs x) (live_said ds call answer es w n)
     ∙ bodies_known-append d s (m ++ k) f x
     ∙ focus_known d s (has_focus (past_of es) w) (has_focus after_it w) (bodies_known d s (m ++ k) x)
     ∙ bodies_known-append d s m k x
-    ∙ ap (bodies_known d s k) (motions_known d s o (flat_map (told_with sc e (mark sc e) w) devices) x)
+    ∙ ap (bodies_known d s k) (motions_known d s o (flat_map (sent_with sc e (mark sc e) w) devices) x)
     ∙ keys_known d s
-    (keys_told args (is_target (past_of es) w && able es w) (loses_all after_it (past_of es) w) (keys es w) ++ repeat_by after_it (last_key es) w) x
+    (keys_sent args (is_target (past_of es) w && able es w) (loses_all after_it (past_of es) w) (keys es w) ++ repeat_by after_it (last_key es) w) x
 
 -- The last key message of all is the newest one in the stream of its channel.
 abbrev Follows : Option Sent → (ℕ → List Message) → Type 0
 Follows o st = (m : Sent) → o ≡ Some m → newest_key (st m.channel) ≡ Some m.key
 
-told_first : (now : ℕ) (t : Told) (ts : List Told) (st : List Message) (c : ℕ)
-    → told_on now (told_to (t ∷ ts) c) st ≡ told_on now (told_to ts c) (cond (t.channel == c) (record { seq = 1 + length st; moment = now; body = t.body } ∷ st) st)
-told_first now t ts st c = by_test (t.channel == c)
+sent_first : (now : ℕ) (t : Outgoing) (ts : List Outgoing) (st : List Message) (c : ℕ)
+    → sent_on now (sent_to (t ∷ ts) c) st ≡ sent_on now (sent_to ts c) (cond (t.channel == c) (record { seq = 1 + length st; moment = now; body = t.body } ∷ st) st)
+sent_first now t ts st c = by_test (t.channel == c)
   where
     by_test : (b : Bool)
-        → told_on now (map (λ u. u.body) (cond b (t ∷ filter (λ u. u.channel == c) ts) (filter (λ u. u.channel == c) ts))) st
-        ≡ told_on now (told_to ts c) (cond b (record { seq = 1 + length st; moment = now; body = t.body } ∷ st) st)
+        → sent_on now (map (λ u. u.body) (cond b (t ∷ filter (λ u. u.channel == c) ts) (filter (λ u. u.channel == c) ts))) st
+        ≡ sent_on now (sent_to ts c) (cond b (record { seq = 1 + length st; moment = now; body = t.body } ∷ st) st)
     by_test true = refl
     by_test false = refl
 
-follows : (now : ℕ) (ts : List Told) (o : Option Sent) (st : ℕ → List Message) → Follows o st → Follows (key_in now ts o) (λ c. told_on now (told_to ts c) (st c))
+follows : (now : ℕ) (ts : List Outgoing) (o : Option Sent) (st : ℕ → List Message) → Follows o st → Follows (key_in now ts o) (λ c. sent_on now (sent_to ts c) (st c))
 follows now [] o st f = f
 follows now (t ∷ ts) o st f = by_body t.channel t.body (λ p su g. follows now ts p su g)
   where
     by_body : (e : ℕ) (b : Body)
-        → ((p : Option Sent) (su : ℕ → List Message) → Follows p su → Follows (key_in now ts p) (λ c. told_on now (told_to ts c) (su c)))
-        → Follows (key_in now (record { channel = e; body = b } ∷ ts) o) (λ c. told_on now (told_to (record { channel = e; body = b } ∷ ts) c) (st c))
+        → ((p : Option Sent) (su : ℕ → List Message) → Follows p su → Follows (key_in now ts p) (λ c. sent_on now (sent_to ts c) (su c)))
+        → Follows (key_in now (record { channel = e; body = b } ∷ ts) o) (λ c. sent_on now (sent_to (record { channel = e; body = b } ∷ ts) c) (st c))
     by_body e (KeyBody k) more =
-        λ m q. ap newest_key (told_first now (record { channel = e; body = KeyBody k }) ts (st m.channel) m.channel)
+        λ m q. ap newest_key (sent_first now (record { channel = e; body = KeyBody k }) ts (st m.channel) m.channel)
         ∙ more (Some (record { channel = e; key = k; clock = now })) (λ c. cond (e == c) (record { seq = 1 + length (st c); moment = now; body = KeyBody k } ∷ st c) (st c))
         (λ n r.
         let same : record { channel = e; key = k; clock = now } ≡ n = cc in
@@ -156,7 +156,7 @@ follows now (t ∷ ts) o st f = by_body t.channel t.body (λ p su g. follows now
         (ap (λ b. newest_key (cond b (record { seq = 1 + length (st e); moment = now; body = KeyBody k } ∷ st e) (st e))) (eq-eqb e e refl)))
         m q
     by_body e (MotionBody k) more =
-        λ m q. ap newest_key (told_first now (record { channel = e; body = MotionBody k }) ts (st m.channel) m.channel)
+        λ m q. ap newest_key (sent_first now (record { channel = e; body = MotionBody k }) ts (st m.channel) m.channel)
         ∙ more o (λ c. cond (e == c) (record { seq = 1 + length (st c); moment = now; body = MotionBody k } ∷ st c) (st c))
         (λ n r. silent (e == n.channel) (record { seq = 1 + length (st n.channel); moment = now; body = MotionBody k }) (st n.channel) refl ∙ f n r)
         m q
@@ -165,7 +165,7 @@ follows now (t ∷ ts) o st f = by_body t.channel t.body (λ p su g. follows now
         silent true msg ms s = s
         silent false msg ms s = refl
     by_body e (FocusBody k) more =
-        λ m q. ap newest_key (told_first now (record { channel = e; body = FocusBody k }) ts (st m.channel) m.channel)
+        λ m q. ap newest_key (sent_first now (record { channel = e; body = FocusBody k }) ts (st m.channel) m.channel)
         ∙ more o (λ c. cond (e == c) (record { seq = 1 + length (st c); moment = now; body = FocusBody k } ∷ st c) (st c))
         (λ n r. silent (e == n.channel) (record { seq = 1 + length (st n.channel); moment = now; body = FocusBody k }) (st n.channel) refl ∙ f n r)
         m q

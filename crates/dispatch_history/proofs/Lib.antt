@@ -17,11 +17,11 @@ pub mod PointerLaws
 pub mod FitLaws
 pub mod MotionGives
 pub mod HolderLaws
-pub mod ToldMotions
+pub mod SentMotions
 pub mod MotionLaws
 pub mod FocusLaws
 pub mod KeysDown
-pub mod KeyTells
+pub mod KeySends
 pub mod KeysKnown
 pub mod KeyLaws
 pub mod Agreeing

@@ -74,8 +74,8 @@ removed =
     Open 5000000 ∷ Windows 0 (window 1 0 0 0 1080 2400 ∷ []) ∷ [] ++ moved 1000 Down 0 (at 0 540 1200 ∷ [])
     ++ Remove 2000 1 ∷ Receive 1 ∷ Finish 3000 1 1 ∷ Pilfer 3000 1 1 ∷ Remove 3000 1 ∷ []
 
-a_removed_channel_is_told_nothing_more : stream_of removed 1 ≡ says 1 1000 (motion Down 0 (at 0 540 1200 ∷ [])) ∷ []
-a_removed_channel_is_told_nothing_more = refl
+a_removed_channel_is_sent_nothing_more : stream_of removed 1 ≡ says 1 1000 (motion Down 0 (at 0 540 1200 ∷ [])) ∷ []
+a_removed_channel_is_sent_nothing_more = refl
 
 a_removed_channel_is_gone : replies_of removed ≡ Opened 1 ∷ Done ∷ Taken ∷ Dispatched ∷ Done ∷ Gone ∷ Gone ∷ Gone ∷ Gone ∷ []
 a_removed_channel_is_gone = refl

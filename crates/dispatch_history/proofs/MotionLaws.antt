@@ -17,21 +17,21 @@ use Rattle.dispatch_history.specs.Effects.{effects, said_at}
 use Rattle.dispatch_history.specs.Legal.{Legal}
 use Rattle.dispatch_history.specs.PointerOf.{AllRise}
 use Rattle.dispatch_history.specs.Laws.{MotionsLaw, MotionsComeLaw}
-use Rattle.routing_rules.proofs.ToldLaws.{told_law, filter_none}
+use Rattle.routing_rules.proofs.SentLaws.{sent_law, filter_none}
 use Rattle.dispatch_history.proofs.LegalLaws.{effects_law}
 use Rattle.dispatch_history.proofs.FitLaws.{held_then, step_facts, fit_law}
 use Rattle.dispatch_history.proofs.StreamLaws.{live_law, removed_live, stream_step, silent_law}
 use Rattle.dispatch_history.proofs.HolderLaws.{holder_law}
 use Rattle.routing_rules.specs.Given.{mark}
-use Rattle.routing_rules.specs.Told.{told_with, told, after, devices}
-use Rattle.routing_rules.specs.Fits.{told_ids, Leaves}
-use Rattle.dispatch_history.specs.Effect.{Effect, past_of, stream, told_down, down_ids}
-use Rattle.dispatch_history.specs.Focus.{has_focus, is_target, focus_told}
+use Rattle.routing_rules.specs.Outgoing.{sent_with, outgoing, after, devices}
+use Rattle.routing_rules.specs.Fits.{sent_ids, Leaves}
+use Rattle.dispatch_history.specs.Effect.{Effect, past_of, stream, sent_down, down_ids}
+use Rattle.dispatch_history.specs.Focus.{has_focus, is_target, focus_sent}
 use Rattle.dispatch_history.specs.Delivery.{able, unresponsive}
 use Rattle.dispatch_history.specs.Keys.{keys, loses_all}
-use Rattle.dispatch_history.specs.KeyTold.{keys_told, repeat_by, last_key}
+use Rattle.dispatch_history.specs.KeySent.{keys_sent, repeat_by, last_key}
 use Rattle.dispatch_history.specs.Said.{motions_said, keys_said}
-use Rattle.dispatch_history.proofs.ToldMotions.{told_of, bodies_down, told_down_on, bodies_down-append, keys_down, focus_down, none_of_devices, one_of_devices, devices_differ}
+use Rattle.dispatch_history.proofs.SentMotions.{sent_of, bodies_down, sent_down_on, bodies_down-append, keys_down, focus_down, none_of_devices, one_of_devices, devices_differ}
 
 -- a step that removes a window leaves it not live
 pub removes_other : (ws : List Window) (call : Call) (answer : Reply) (args : Option Args) (w : ℕ) (before : Bool) → live_after call answer w before ≡ true → Leaves (step_of ws call answer args) w
@@ -59,18 +59,18 @@ pub live_said : (ds : List ℕ) (call : Call) (answer : Reply) (es : List Effect
     let args = args_of call answer (inbound (past_of es)) in
     let s = scene ds es in
     let e = step_of (snapshot (past_of es)) call answer args in
-    motions_said s e (mark s e) (origin (past_of es) w) w ++ keys_said after_it args es w ++ focus_told (has_focus (past_of es) w) (has_focus after_it w))
+    motions_said s e (mark s e) (origin (past_of es) w) w ++ keys_said after_it args es w ++ focus_sent (has_focus (past_of es) w) (has_focus after_it w))
 live_said ds call answer es w n = rw n refl
 
 keys_said_down : (d : ℕ) (after_it : History) (answer : Reply) (args : Option Args) (es : List Effect) (w : ℕ) (x : Option (List ℕ))
     → bodies_down d (keys_said after_it args es w) x ≡ x
 keys_said_down d after_it answer args es w x =
     keys_down d
-    (keys_told args (is_target (past_of es) w && able es w) (loses_all after_it (past_of es) w) (keys es w) ++ repeat_by after_it (last_key es) w) x
+    (keys_sent args (is_target (past_of es) w && able es w) (loses_all after_it (past_of es) w) (keys es w) ++ repeat_by after_it (last_key es) w) x
 
 -- a step does to the ids that a window knows of a device what it is told of that device
 step_down : (ds : List ℕ) (call : Call) (answer : Reply) (es : List Effect) (w d : ℕ) (ids next : List ℕ) → live ((call, answer) ∷ past_of es) w ≡ true → list_any (λ e. e == d) devices ≡ true
-    → told_ids ids (told (scene ds es) (step_of (snapshot (past_of es)) call answer (args_of call answer (inbound (past_of es)))) w d) ≡ Some next
+    → sent_ids ids (outgoing (scene ds es) (step_of (snapshot (past_of es)) call answer (args_of call answer (inbound (past_of es)))) w d) ≡ Some next
     → bodies_down d (said_at ds call answer es w) (Some ids) ≡ Some next
 step_down ds call answer es w d ids next n h t =
     let after_it : History = (call, answer) ∷ past_of es in
@@ -80,13 +80,13 @@ step_down ds call answer es w d ids next n h t =
     let o = origin (past_of es) w in
     let m = motions_said s e (mark s e) o w in
     let k = keys_said after_it args es w in
-    let f = focus_told (has_focus (past_of es) w) (has_focus after_it w) in
+    let f = focus_sent (has_focus (past_of es) w) (has_focus after_it w) in
     ap (λ bs. bodies_down d bs (Some ids)) (live_said ds call answer es w n)
     ∙ bodies_down-append d (m ++ k) f (Some ids)
     ∙ focus_down d (has_focus (past_of es) w) (has_focus after_it w) (bodies_down d (m ++ k) (Some ids))
     ∙ bodies_down-append d m k (Some ids)
     ∙ keys_said_down d after_it answer args es w (bodies_down d m (Some ids))
-    ∙ one_of_devices (told_with s e (mark s e) w) d o devices ids next (λ v. told_of s e (mark s e) w v) devices_differ h t
+    ∙ one_of_devices (sent_with s e (mark s e) w) d o devices ids next (λ v. sent_of s e (mark s e) w v) devices_differ h t
 
 -- of a device that has none of the numbers nothing is said
 step_skips : (ds : List ℕ) (call : Call) (answer : Reply) (es : List Effect) (w d : ℕ) (x : Option (List ℕ)) → live ((call, answer) ∷ past_of es) w ≡ true → list_any (λ e. e == d) devices ≡ false
@@ -99,13 +99,13 @@ step_skips ds call answer es w d x n h =
     let o = origin (past_of es) w in
     let m = motions_said s e (mark s e) o w in
     let k = keys_said after_it args es w in
-    let f = focus_told (has_focus (past_of es) w) (has_focus after_it w) in
+    let f = focus_sent (has_focus (past_of es) w) (has_focus after_it w) in
     ap (λ bs. bodies_down d bs x) (live_said ds call answer es w n)
     ∙ bodies_down-append d (m ++ k) f x
     ∙ focus_down d (has_focus (past_of es) w) (has_focus after_it w) (bodies_down d (m ++ k) x)
     ∙ bodies_down-append d m k x
     ∙ keys_said_down d after_it answer args es w (bodies_down d m x)
-    ∙ none_of_devices (told_with s e (mark s e) w) d o devices x (λ v. told_of s e (mark s e) w v) h
+    ∙ none_of_devices (sent_with s e (mark s e) w) d o devices x (λ v. sent_of s e (mark s e) w v) h
 
 -- a channel that was not opened yet has told nothing
 pub opened_mono : (call : Call) (answer : Reply) (n : ℕ) → n ≤ opened_after call answer n
@@ -159,7 +159,7 @@ holds_none ds h w d n i =
     ]
 
 abbrev Known : List ℕ → History → ℕ → ℕ → Type 0
-Known ds h w d = told_down d (stream (effects ds h) w) ≡ Some (filter ((scene ds (effects ds h)).holds w d) (down_ids (effects ds h) d))
+Known ds h w d = sent_down d (stream (effects ds h) w) ≡ Some (filter ((scene ds (effects ds h)).holds w d) (down_ids (effects ds h) d))
 
 -- before a step after which the channel is live, its window knows what it holds
 known_before : (ds : List ℕ) (call : Call) (answer : Reply) (h : History) (w d : ℕ) → Legal ds ((call, answer) ∷ h) → live ((call, answer) ∷ h) w ≡ true → (live h w ≡ true → Known ds h w d) → Known ds h w d
@@ -167,7 +167,7 @@ known_before ds call answer h w d l e known =
     elim (cases_Bool (live h w)) [
       | inl y ↦ known y
       | inr n ↦
-          ap (told_down d) (unopened ds h w l.1 (new_channel ds call answer h w l n e))
+          ap (sent_down d) (unopened ds h w l.1 (new_channel ds call answer h w l n e))
           ∙ ap Some (sym (filter_none ((scene ds (effects ds h)).holds w d) (down_ids (effects ds h) d) (holds_none ds h w d n)))
     ]
 
@@ -182,33 +182,33 @@ motions_law ds ((call, answer) ∷ h) w d l r e k =
     let now_live : live ((call, answer) ∷ past_of es) w ≡ true = subst (λ past. live ((call, answer) ∷ past) w ≡ true) (sym (effects_law ds h)) e in
     let before : Known ds h w d = known_before ds call answer h w d l e (λ y. motions_law ds h w d l.1 r.1 y k) in
     let next = down_ids (effects ds ((call, answer) ∷ h)) d in
-    let told_it = told_law s step w d (down_ids es d) next (fit_law ds h d l.1 r.1) x.rises (removes_other (snapshot (past_of es)) call answer args w (live (past_of es) w) now_live) x.down in
-    ap (told_down d) (stream_step ds call answer h w l)
-    ∙ told_down_on d (clock ((call, answer) ∷ h)) (said_at ds call answer es w) (stream es w)
+    let sent_it = sent_law s step w d (down_ids es d) next (fit_law ds h d l.1 r.1) x.rises (removes_other (snapshot (past_of es)) call answer args w (live (past_of es) w) now_live) x.down in
+    ap (sent_down d) (stream_step ds call answer h w l)
+    ∙ sent_down_on d (clock ((call, answer) ∷ h)) (said_at ds call answer es w) (stream es w)
     ∙ ap (bodies_down d (said_at ds call answer es w)) before
-    ∙ step_down ds call answer es w d (filter (s.holds w d) (down_ids es d)) (filter (after s (mark s step) w d) next) now_live k told_it
+    ∙ step_down ds call answer es w d (filter (s.holds w d) (down_ids es d)) (filter (after s (mark s step) w d) next) now_live k sent_it
     ∙ ap Some (sym (filter_agree ((scene ds (effects ds ((call, answer) ∷ h))).holds w d) (after s (mark s step) w d) (λ i. held_then (mark s step) (marks es) w d i) next))
 
 -- of a device without a number nothing is known
-pub none_known : (ds : List ℕ) (h : History) (w d : ℕ) → Legal ds h → list_any (λ e. e == d) devices ≡ false → told_down d (stream (effects ds h) w) ≡ Some []
+pub none_known : (ds : List ℕ) (h : History) (w d : ℕ) → Legal ds h → list_any (λ e. e == d) devices ≡ false → sent_down d (stream (effects ds h) w) ≡ Some []
 none_known ds [] w d l n = refl
 none_known ds ((call, answer) ∷ h) w d l n =
     elim (cases_Bool (live ((call, answer) ∷ h) w)) [
       | inl y ↦
-          ap (told_down d) (stream_step ds call answer h w l)
-          ∙ told_down_on d (clock ((call, answer) ∷ h)) (said_at ds call answer (effects ds h) w) (stream (effects ds h) w)
-          ∙ step_skips ds call answer (effects ds h) w d (told_down d (stream (effects ds h) w))
+          ap (sent_down d) (stream_step ds call answer h w l)
+          ∙ sent_down_on d (clock ((call, answer) ∷ h)) (said_at ds call answer (effects ds h) w) (stream (effects ds h) w)
+          ∙ step_skips ds call answer (effects ds h) w d (sent_down d (stream (effects ds h) w))
           (subst (λ past. live ((call, answer) ∷ past) w ≡ true) (sym (effects_law ds h)) y) n
           ∙ none_known ds h w d l.1 n
-      | inr f ↦ ap (told_down d) (silent_law ds call answer h w f) ∙ none_known ds h w d l.1 n
+      | inr f ↦ ap (sent_down d) (silent_law ds call answer h w f) ∙ none_known ds h w d l.1 n
     ]
 
-some_known : (ds : List ℕ) (h : History) (w d : ℕ) → Legal ds h → AllRise h → list_any (λ e. e == d) devices ≡ true → is_some (told_down d (stream (effects ds h) w)) ≡ true
+some_known : (ds : List ℕ) (h : History) (w d : ℕ) → Legal ds h → AllRise h → list_any (λ e. e == d) devices ≡ true → is_some (sent_down d (stream (effects ds h) w)) ≡ true
 some_known ds [] w d l r k = refl
 some_known ds ((call, answer) ∷ h) w d l r k =
     elim (cases_Bool (live ((call, answer) ∷ h) w)) [
       | inl y ↦ ap is_some (motions_law ds ((call, answer) ∷ h) w d l r y k)
-      | inr f ↦ ap (λ ms. is_some (told_down d ms)) (silent_law ds call answer h w f) ∙ some_known ds h w d l.1 r.1 k
+      | inr f ↦ ap (λ ms. is_some (sent_down d ms)) (silent_law ds call answer h w f) ∙ some_known ds h w d l.1 r.1 k
     ]
 
 pub motions_come : MotionsComeLaw

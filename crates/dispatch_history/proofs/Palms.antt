@@ -31,11 +31,11 @@ palm_on_the_right =
     ++ dispatch 1015000 (MotionArgs (cancelled PointerUp 1 (at 0 100 200 ∷ at 1 700 400 ∷ [])))
     ++ moved 1020000 Up 0 (at 0 100 200 ∷ [])
 
-a_palm_of_another_window_is_told_as_a_move :
+a_palm_of_another_window_is_sent_as_a_move :
     stream_of palm_on_the_right 1
     ≡ says 1 1000000 (motion Down 0 (at 0 100 200 ∷ [])) ∷ says 2 1010000 (motion Move 0 (at 0 100 200 ∷ []))
     ∷ says 3 1015000 (motion Move 0 (at 0 100 200 ∷ [])) ∷ says 4 1020000 (motion Up 0 (at 0 100 200 ∷ [])) ∷ []
-a_palm_of_another_window_is_told_as_a_move = refl
+a_palm_of_another_window_is_sent_as_a_move = refl
 
 the_only_pointer_of_a_window_is_cancelled_as_one :
     stream_of palm_on_the_right 2

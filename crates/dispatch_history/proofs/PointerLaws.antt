@@ -14,7 +14,7 @@ use Rattle.dispatch_calls.specs.declared.call.Call.TheVariants.{Open, Windows, F
 use Rattle.dispatch_calls.specs.declared.reply.Reply.{Reply}
 use Rattle.dispatch_calls.specs.declared.reply.Reply.TheVariants.{Taken}
 use Rattle.routing_rules.specs.Given.{changed}
-use Rattle.routing_rules.specs.Told.{is_up, is_down}
+use Rattle.routing_rules.specs.Outgoing.{is_up, is_down}
 use Rattle.routing_rules.proofs.Listings.{apart_rising, has_id, id_at, any-ids_of, not_in_remove}
 use Rattle.routing_rules.proofs.FitsLaws.{among, in_remove, stays_in}
 use Rattle.routing_rules.proofs.MotionKind.{Kind, opens, moves, closes, kind_at}

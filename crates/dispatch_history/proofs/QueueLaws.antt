@@ -11,7 +11,7 @@ use Rattle.dispatch_history.specs.History.{History, clock}
 use Rattle.dispatch_history.specs.Queue.{accepted, accepted_after, dispatches, dispatches_after, inbound, args_of, down_on}
 use Rattle.dispatch_history.specs.Effect.{past_of, dispatched, with_args}
 use Rattle.dispatch_history.specs.Effects.{effects}
-use Rattle.dispatch_history.specs.KeyTold.{repeat_due}
+use Rattle.dispatch_history.specs.KeySent.{repeat_due}
 use Rattle.dispatch_history.specs.Legal.{Legal}
 use Rattle.dispatch_history.specs.Reply.{pump_reply, is_due, id_bits, is_down}
 use Rattle.dispatch_history.specs.Laws.{QueueLaw, DeviceLaw}

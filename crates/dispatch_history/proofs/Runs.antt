@@ -9,7 +9,7 @@ use Rattle.dispatch_calls.specs.declared.call.Call.{Call}
 use Rattle.dispatch_calls.specs.declared.call.Call.TheVariants.{Windows, FocusOn}
 use Rattle.dispatch_history.specs.Effect.{Effect, stream, past_of}
 use Rattle.dispatch_history.specs.History.{received, finished}
-use Rattle.dispatch_history.specs.Due.{namings, counts}
+use Rattle.dispatch_history.specs.Due.{anrs, counts}
 use Rattle.dispatch_history.specs.Plan.{Plan, ChannelOf, ScriptStep, Cooked, Line, ReaderLine, ScriptLine, PumpLine, ReceiveLine, FinishLine}
 use Rattle.dispatch_history.specs.Given.{given_calls}
 use Rattle.dispatch_history.specs.Ordered.{ordered, chosen, extend}
@@ -99,7 +99,7 @@ it_receives_both_and_finishes_none :
     counts (ordered 9 unresponsive) 1 ≡ Some (record { sent = 2; received = 2; finished = 0; published = 2; live = true })
 it_receives_both_and_finishes_none = refl
 
-it_is_named_once : namings (ordered 9 unresponsive) ≡ record { clock = 6000000; channel = 1; seq = 1 } ∷ []
+it_is_named_once : anrs (ordered 9 unresponsive) ≡ record { clock = 6000000; channel = 1; seq = 1 } ∷ []
 it_is_named_once = refl
 
 nothing_is_left : chosen unresponsive (ordered 9 unresponsive) ≡ None

@@ -8,69 +8,69 @@ use Rattle.dispatch_calls.specs.declared.call.Call.TheVariants.{Open, Windows, F
 use Rattle.dispatch_calls.specs.declared.reply.Reply.{Reply}
 use Rattle.dispatch_calls.specs.declared.reply.Reply.TheVariants.{Opened, Full, Done}
 use Rattle.dispatch_history.specs.History.{History, clock, live, live_after, opened, opened_after}
-use Rattle.dispatch_history.specs.Effect.{Effect, Told, past_of, told_to, told_on, stream}
-use Rattle.dispatch_history.specs.Effects.{effects, channels, told_by, said_at}
+use Rattle.dispatch_history.specs.Effect.{Effect, Outgoing, past_of, sent_to, sent_on, stream}
+use Rattle.dispatch_history.specs.Effects.{effects, channels, sent_by, said_at}
 use Rattle.dispatch_history.specs.Legal.{Legal}
 use Rattle.dispatch_history.specs.Laws.{LiveLaw, StreamStep, SilentLaw}
 use Rattle.dispatch_history.proofs.LegalLaws.{effects_law}
 
--- what is told in two parts
-told_to-append : (xs ys : List Told) (c : ℕ) → told_to (xs ++ ys) c ≡ told_to xs c ++ told_to ys c
-told_to-append [] ys c = refl
-told_to-append (x ∷ xs) ys c = first (x.channel == c) (told_to-append xs ys c)
+-- what is sent in two parts
+sent_to-append : (xs ys : List Outgoing) (c : ℕ) → sent_to (xs ++ ys) c ≡ sent_to xs c ++ sent_to ys c
+sent_to-append [] ys c = refl
+sent_to-append (x ∷ xs) ys c = first (x.channel == c) (sent_to-append xs ys c)
   where
-    first : (b : Bool) → told_to (xs ++ ys) c ≡ told_to xs c ++ told_to ys c
+    first : (b : Bool) → sent_to (xs ++ ys) c ≡ sent_to xs c ++ sent_to ys c
         → map (λ t. t.body) (cond b (x ∷ filter (λ t. t.channel == c) (xs ++ ys)) (filter (λ t. t.channel == c) (xs ++ ys)))
-        ≡ map (λ t. t.body) (cond b (x ∷ filter (λ t. t.channel == c) xs) (filter (λ t. t.channel == c) xs)) ++ told_to ys c
+        ≡ map (λ t. t.body) (cond b (x ∷ filter (λ t. t.channel == c) xs) (filter (λ t. t.channel == c) xs)) ++ sent_to ys c
     first true e = ap (λ bs. x.body ∷ bs) e
     first false e = e
 
--- what is told to one channel, of bodies for another one and for itself
-told_one : (w c : ℕ) (b : Bool) (bs : List Body) → (w == c) ≡ b → told_to (map (λ x. record { channel = w; body = x }) bs) c ≡ cond b bs []
-told_one w c true [] e = refl
-told_one w c false [] e = refl
-told_one w c true (x ∷ bs) e = rw e (ap (λ ys. x ∷ ys) (told_one w c true bs e))
-told_one w c false (x ∷ bs) e = rw e (told_one w c false bs e)
+-- what is sent to one channel, of bodies for another one and for itself
+sent_one : (w c : ℕ) (b : Bool) (bs : List Body) → (w == c) ≡ b → sent_to (map (λ x. record { channel = w; body = x }) bs) c ≡ cond b bs []
+sent_one w c true [] e = refl
+sent_one w c false [] e = refl
+sent_one w c true (x ∷ bs) e = rw e (ap (λ ys. x ∷ ys) (sent_one w c true bs e))
+sent_one w c false (x ∷ bs) e = rw e (sent_one w c false bs e)
 
-abbrev tell : (ℕ → List Body) → ℕ → List Told
-tell f w = map (λ b. record { channel = w; body = b }) (f w)
+abbrev send : (ℕ → List Body) → ℕ → List Outgoing
+send f w = map (λ b. record { channel = w; body = b }) (f w)
 
--- a channel that is said nothing to is told nothing
-told_none : (f : ℕ → List Body) (c : ℕ) → f c ≡ [] → (ws : List ℕ) → told_to (flat_map (tell f) ws) c ≡ []
-told_none f c e [] = refl
-told_none f c e (w ∷ ws) =
-    told_to-append (tell f w) (flat_map (tell f) ws) c
-    ∙ ap₂ (λ xs ys. xs ++ ys) (told_one w c (w == c) (f w) refl ∙ here (w == c) refl) (told_none f c e ws)
+-- a channel that is said nothing to is sent nothing
+sent_none : (f : ℕ → List Body) (c : ℕ) → f c ≡ [] → (ws : List ℕ) → sent_to (flat_map (send f) ws) c ≡ []
+sent_none f c e [] = refl
+sent_none f c e (w ∷ ws) =
+    sent_to-append (send f w) (flat_map (send f) ws) c
+    ∙ ap₂ (λ xs ys. xs ++ ys) (sent_one w c (w == c) (f w) refl ∙ here (w == c) refl) (sent_none f c e ws)
   where
     here : (b : Bool) → (w == c) ≡ b → cond b (f w) [] ≡ []
     here true q = ap f (eqb-true w c q) ∙ e
     here false q = refl
 
--- what is told to one of the channels 1 to n, the last of which stands apart
-last_apart : (f : ℕ → List Body) (n c : ℕ) → told_to (told_by f (suc n)) c ≡ told_to (told_by f n) c ++ cond (suc n == c) (f (suc n)) []
+-- what is sent to one of the channels 1 to n, the last of which stands apart
+last_apart : (f : ℕ → List Body) (n c : ℕ) → sent_to (sent_by f (suc n)) c ≡ sent_to (sent_by f n) c ++ cond (suc n == c) (f (suc n)) []
 last_apart f n c =
-    ap (λ ts. told_to ts c) (flat_map-append (tell f) (channels n) (suc n ∷ []))
-    ∙ told_to-append (flat_map (tell f) (channels n)) (tell f (suc n) ++ []) c
-    ∙ ap (λ xs. told_to (told_by f n) c ++ xs)
-    (ap (λ ts. told_to ts c) (append-nil (tell f (suc n))) ∙ told_one (suc n) c (suc n == c) (f (suc n)) refl)
+    ap (λ ts. sent_to ts c) (flat_map-append (send f) (channels n) (suc n ∷ []))
+    ∙ sent_to-append (flat_map (send f) (channels n)) (send f (suc n) ++ []) c
+    ∙ ap (λ xs. sent_to (sent_by f n) c ++ xs)
+    (ap (λ ts. sent_to ts c) (append-nil (send f (suc n))) ∙ sent_one (suc n) c (suc n == c) (f (suc n)) refl)
 
-told_above : (f : ℕ → List Body) (n c : ℕ) → n < c → told_to (told_by f n) c ≡ []
-told_above f zero c lt = refl
-told_above f (suc n) c lt =
-    last_apart f n c ∙ ap₂ (λ xs b. xs ++ cond b (f (suc n)) []) (told_above f n c (omega (arith, lt))) (ne_eqb (suc n) c (λ e. absurd (omega (arith, lt, e))))
+sent_above : (f : ℕ → List Body) (n c : ℕ) → n < c → sent_to (sent_by f n) c ≡ []
+sent_above f zero c lt = refl
+sent_above f (suc n) c lt =
+    last_apart f n c ∙ ap₂ (λ xs b. xs ++ cond b (f (suc n)) []) (sent_above f n c (omega (arith, lt))) (ne_eqb (suc n) c (λ e. absurd (omega (arith, lt, e))))
 
-told_within : (f : ℕ → List Body) (n c : ℕ) → 1 ≤ c → c ≤ n → told_to (told_by f n) c ≡ f c
-told_within f zero c one le = absurd (omega (arith, one, le))
-told_within f (suc n) c one le =
+sent_within : (f : ℕ → List Body) (n c : ℕ) → 1 ≤ c → c ≤ n → sent_to (sent_by f n) c ≡ f c
+sent_within f zero c one le = absurd (omega (arith, one, le))
+sent_within f (suc n) c one le =
     elim (cases_eq (suc n) c) [
       | inl e ↦
           last_apart f n c
-          ∙ ap₂ (λ xs b. xs ++ cond b (f (suc n)) []) (told_above f n c (omega (arith, e))) (eq-eqb (suc n) c e)
+          ∙ ap₂ (λ xs b. xs ++ cond b (f (suc n)) []) (sent_above f n c (omega (arith, e))) (eq-eqb (suc n) c e)
           ∙ ap f e
       | inr ne ↦
           let below : c ≤ n = below_of ne in
           last_apart f n c
-          ∙ ap₂ (λ xs b. xs ++ cond b (f (suc n)) []) (told_within f n c one below) (ne_eqb (suc n) c ne)
+          ∙ ap₂ (λ xs b. xs ++ cond b (f (suc n)) []) (sent_within f n c one below) (ne_eqb (suc n) c ne)
           ∙ append-nil (f c)
     ]
   where
@@ -117,25 +117,25 @@ live_law ds ((Pilfer now channel device, answer) ∷ h) c l e = live_law ds h c 
 not_live_said : (ds : List ℕ) (call : Call) (answer : Reply) (es : List Effect) (c : ℕ) → live ((call, answer) ∷ past_of es) c ≡ false → said_at ds call answer es c ≡ []
 not_live_said ds call answer es c n = rw n refl
 
-told_at : (ds : List ℕ) (call : Call) (answer : Reply) (h : History) (c : ℕ) → Legal ds ((call, answer) ∷ h)
-    → told_to (told_by (said_at ds call answer (effects ds h)) (opened ((call, answer) ∷ past_of (effects ds h)))) c ≡ said_at ds call answer (effects ds h) c
-told_at ds call answer h c l =
+sent_at : (ds : List ℕ) (call : Call) (answer : Reply) (h : History) (c : ℕ) → Legal ds ((call, answer) ∷ h)
+    → sent_to (sent_by (said_at ds call answer (effects ds h)) (opened ((call, answer) ∷ past_of (effects ds h)))) c ≡ said_at ds call answer (effects ds h) c
+sent_at ds call answer h c l =
     let P : History → History = λ k. (call, answer) ∷ k in
     elim (cases_Bool (live (P (past_of (effects ds h))) c)) [
       | inl y ↦
           let r = live_law ds (P h) c l (subst (λ k. live (P k) c ≡ true) (effects_law ds h) y) in
-          told_within (said_at ds call answer (effects ds h)) (opened (P (past_of (effects ds h)))) c r.0 (subst (λ k. c ≤ opened (P k)) (sym (effects_law ds h)) r.1)
+          sent_within (said_at ds call answer (effects ds h)) (opened (P (past_of (effects ds h)))) c r.0 (subst (λ k. c ≤ opened (P k)) (sym (effects_law ds h)) r.1)
       | inr n ↦
           let e = not_live_said ds call answer (effects ds h) c n in
-          told_none (said_at ds call answer (effects ds h)) c e (channels (opened (P (past_of (effects ds h))))) ∙ sym e
+          sent_none (said_at ds call answer (effects ds h)) c e (channels (opened (P (past_of (effects ds h))))) ∙ sym e
     ]
 
 pub stream_step : StreamStep
 stream_step ds call answer h c l =
-    ap₂ (λ now bs. told_on now bs (stream (effects ds h) c)) (ap (λ k. clock ((call, answer) ∷ k)) (effects_law ds h)) (told_at ds call answer h c l)
+    ap₂ (λ now bs. sent_on now bs (stream (effects ds h) c)) (ap (λ k. clock ((call, answer) ∷ k)) (effects_law ds h)) (sent_at ds call answer h c l)
 
 pub silent_law : SilentLaw
 silent_law ds call answer h c n =
     let e = not_live_said ds call answer (effects ds h) c (subst (λ k. live ((call, answer) ∷ k) c ≡ false) (sym (effects_law ds h)) n) in
-    ap (λ bs. told_on (clock ((call, answer) ∷ past_of (effects ds h))) bs (stream (effects ds h) c))
-    (told_none (said_at ds call answer (effects ds h)) c e (channels (opened ((call, answer) ∷ past_of (effects ds h)))))
+    ap (λ bs. sent_on (clock ((call, answer) ∷ past_of (effects ds h))) bs (stream (effects ds h) c))
+    (sent_none (said_at ds call answer (effects ds h)) c e (channels (opened ((call, answer) ∷ past_of (effects ds h)))))

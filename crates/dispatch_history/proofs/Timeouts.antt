@@ -69,11 +69,11 @@ out_of_order =
     ++ moved 5400000 Up 0 (at 0 550 1200 ∷ []) ++ moved 5500000 Down 0 (at 0 100 100 ∷ []) ++ Finish 6000000 1 1 ∷ []
     ++ moved 6000000 Up 0 (at 0 100 100 ∷ []) ++ moved 6100000 Down 0 (at 0 200 200 ∷ [])
 
-an_unresponsive_window_is_told_nothing_new :
+an_unresponsive_window_is_sent_nothing_new :
     stream_of out_of_order 1
     ≡ finger 1 0 540 ∷ says 2 1000000 (motion Move 0 (at 0 550 1200 ∷ [])) ∷ says 3 5000000 (motion Cancel 0 (at 0 550 1200 ∷ []))
     ∷ says 4 6100000 (motion Down 0 (at 0 200 200 ∷ [])) ∷ []
-an_unresponsive_window_is_told_nothing_new = refl
+an_unresponsive_window_is_sent_nothing_new = refl
 
 only_what_was_received_can_be_finished :
     replies_of (take 12 out_of_order)

@@ -12,28 +12,28 @@ use Rattle.input_types.specs.declared.motion.MotionAction.TheVariants.{Outside}
 use Rattle.input_types.specs.declared.pointer.Pointer.{Pointer}
 use Rattle.window_snapshot.specs.Hits.{is_watcher_at}
 use Rattle.routing_rules.specs.Marks.{Mark}
-use Rattle.routing_rules.specs.Scene.{Scene, Step, Moves, Resets, Pilfers, Shows, Mutes, Removes, Rests}
+use Rattle.routing_rules.specs.Scene.{Scene, Step, Moves, Resets, Pilfers, Shows, Mutes, Removes, NoOp}
 use Rattle.routing_rules.specs.Given.{changed, mark}
-use Rattle.routing_rules.specs.Told.{plain, opening, closing, cancels, cancels_of, cancelled_ups, moves, outside, or_else, is_up, is_cancelled, is_first, listing, told_motion, told_with, after, devices}
+use Rattle.routing_rules.specs.Outgoing.{plain, opening, closing, cancels, cancels_of, cancelled_ups, moves, outside, or_else, is_up, is_cancelled, is_first, listing, sent_motion, sent_with, after, devices}
 use Rattle.routing_rules.specs.Fits.{Rises}
 use Rattle.routing_rules.proofs.FitsLaws.{among}
 use Rattle.routing_rules.proofs.Listings.{Apart, has_id, apart_rising}
 use Rattle.dispatch_history.specs.History.{History, clock, live, origin, snapshot}
 use Rattle.dispatch_history.specs.Queue.{inbound, args_of}
-use Rattle.dispatch_history.specs.Effect.{Effect, past_of, stream, told_on, told_down, down_ids}
+use Rattle.dispatch_history.specs.Effect.{Effect, past_of, stream, sent_on, sent_down, down_ids}
 use Rattle.dispatch_history.specs.Effects.{effects, said_at}
 use Rattle.dispatch_history.specs.Step.{scene, step_of}
-use Rattle.dispatch_history.specs.Focus.{has_focus, focus_told}
+use Rattle.dispatch_history.specs.Focus.{has_focus, focus_sent}
 use Rattle.dispatch_history.specs.Said.{motions_said, keys_said}
 use Rattle.window_snapshot.specs.Origins.{place_from}
 use Rattle.dispatch_history.specs.Legal.{Legal}
 use Rattle.dispatch_history.specs.PointerOf.{AllRise}
-use Rattle.dispatch_history.specs.Known.{told_pointer}
+use Rattle.dispatch_history.specs.Known.{sent_pointer}
 use Rattle.dispatch_history.specs.Laws.{TurnsLaw, TurnsComeLaw}
 use Rattle.dispatch_history.proofs.LegalLaws.{effects_law}
 use Rattle.dispatch_history.proofs.FitLaws.{step_facts, fit_law}
 use Rattle.dispatch_history.proofs.StreamLaws.{stream_step, silent_law}
-use Rattle.dispatch_history.proofs.ToldMotions.{shifted}
+use Rattle.dispatch_history.proofs.SentMotions.{shifted}
 use Rattle.dispatch_history.proofs.MotionLaws.{live_said, motions_law, motions_come}
 use Rattle.dispatch_history.proofs.Turns.{AllApart, BodyApart, turns}
 
@@ -89,7 +89,7 @@ if_lists : (c : Bool) (xs ys : List Motion) → Lists xs → Lists ys → Lists 
 if_lists true xs ys a b = a
 if_lists false xs ys a b = b
 
-motion_lists : (s : Scene) (m : Motion) (o : Option Pointer) (w : ℕ) (b l : ℕ → Bool) → Apart m.pointers → Apart (s.last m.device) → Lists (told_motion s m o w b l)
+motion_lists : (s : Scene) (m : Motion) (o : Option Pointer) (w : ℕ) (b l : ℕ → Bool) → Apart m.pointers → Apart (s.last m.device) → Lists (sent_motion s m o w b l)
 motion_lists s m None w b l a k =
     let d = m.device in
     either_lists (cancels d (s.last d) b l) (moves d (listing l m.pointers))
@@ -113,16 +113,16 @@ motion_lists s m (Some p) w b l a k =
     outside_lists =
         if_lists (is_first m.action && s.able w && is_watcher_at s.windows (s.reach m.device) p.at.x p.at.y w) (plain m.device Outside (p ∷ []) ∷ []) [] ((refl, tt), tt) tt
 
-told_lists : (s : Scene) (e : Step) (k : Mark) (w d : ℕ) → Rises e → ((v : ℕ) → Apart (s.last v)) → Lists (told_with s e k w d)
-told_lists s (Moves m) k w d r a =
-    if_lists (m.device == d) (told_motion s m (changed m) w (s.holds w d) (after s k w d)) []
+sent_lists : (s : Scene) (e : Step) (k : Mark) (w d : ℕ) → Rises e → ((v : ℕ) → Apart (s.last v)) → Lists (sent_with s e k w d)
+sent_lists s (Moves m) k w d r a =
+    if_lists (m.device == d) (sent_motion s m (changed m) w (s.holds w d) (after s k w d)) []
     (motion_lists s m (changed m) w (s.holds w d) (after s k w d) (apart_rising m.pointers r) (a m.device)) tt
-told_lists s (Removes v) k w d r a = tt
-told_lists s Rests k w d r a = tt
-told_lists s (Resets v) k w d r a = cancels_list d (listing (s.holds w d) (s.last d)) (listing (after s k w d) (s.last d)) (listing (λ i. s.holds w d i && not (after s k w d i)) (s.last d)) (some_apart (λ p. s.holds w d p.id) (s.last d) (a d))
-told_lists s (Pilfers v x) k w d r a = cancels_list d (listing (s.holds w d) (s.last d)) (listing (after s k w d) (s.last d)) (listing (λ i. s.holds w d i && not (after s k w d i)) (s.last d)) (some_apart (λ p. s.holds w d p.id) (s.last d) (a d))
-told_lists s (Shows names) k w d r a = cancels_list d (listing (s.holds w d) (s.last d)) (listing (after s k w d) (s.last d)) (listing (λ i. s.holds w d i && not (after s k w d i)) (s.last d)) (some_apart (λ p. s.holds w d p.id) (s.last d) (a d))
-told_lists s (Mutes muted) k w d r a = cancels_list d (listing (s.holds w d) (s.last d)) (listing (after s k w d) (s.last d)) (listing (λ i. s.holds w d i && not (after s k w d i)) (s.last d)) (some_apart (λ p. s.holds w d p.id) (s.last d) (a d))
+sent_lists s (Removes v) k w d r a = tt
+sent_lists s NoOp k w d r a = tt
+sent_lists s (Resets v) k w d r a = cancels_list d (listing (s.holds w d) (s.last d)) (listing (after s k w d) (s.last d)) (listing (λ i. s.holds w d i && not (after s k w d i)) (s.last d)) (some_apart (λ p. s.holds w d p.id) (s.last d) (a d))
+sent_lists s (Pilfers v x) k w d r a = cancels_list d (listing (s.holds w d) (s.last d)) (listing (after s k w d) (s.last d)) (listing (λ i. s.holds w d i && not (after s k w d i)) (s.last d)) (some_apart (λ p. s.holds w d p.id) (s.last d) (a d))
+sent_lists s (Shows names) k w d r a = cancels_list d (listing (s.holds w d) (s.last d)) (listing (after s k w d) (s.last d)) (listing (λ i. s.holds w d i && not (after s k w d i)) (s.last d)) (some_apart (λ p. s.holds w d p.id) (s.last d) (a d))
+sent_lists s (Mutes muted) k w d r a = cancels_list d (listing (s.holds w d) (s.last d)) (listing (after s k w d) (s.last d)) (listing (λ i. s.holds w d i && not (after s k w d i)) (s.last d)) (some_apart (λ p. s.holds w d p.id) (s.last d) (a d))
 
 both_list : (xs ys : List Motion) → Lists xs → Lists ys → Lists (xs ++ ys)
 both_list [] ys a b = b
@@ -153,7 +153,7 @@ keys_apart : (ks : List KeyMsg) → Bodies (map KeyBody ks)
 keys_apart [] = tt
 keys_apart (k ∷ ks) = (tt, keys_apart ks)
 
-focus_apart : (a b : Bool) → Bodies (focus_told a b)
+focus_apart : (a b : Bool) → Bodies (focus_sent a b)
 focus_apart true true = tt
 focus_apart true false = (tt, tt)
 focus_apart false true = (tt, tt)
@@ -163,7 +163,7 @@ both_apart : (xs ys : List Body) → Bodies xs → Bodies ys → Bodies (xs ++ y
 both_apart [] ys a b = b
 both_apart (x ∷ xs) ys a b = (a.0, both_apart xs ys a.1 b)
 
-on_apart : (now : ℕ) (bs : List Body) (ms : List Message) → Bodies bs → AllApart ms → AllApart (told_on now bs ms)
+on_apart : (now : ℕ) (bs : List Body) (ms : List Message) → Bodies bs → AllApart ms → AllApart (sent_on now bs ms)
 on_apart now [] ms a b = b
 on_apart now (x ∷ bs) ms a b = on_apart now bs (record { seq = 1 + length ms; moment = now; body = x } ∷ ms) a.1 (a.0, b)
 
@@ -189,16 +189,16 @@ stream_apart ds ((call, answer) ∷ h) w l r =
 
     said_apart : Bodies
         (motions_said (scene ds es) e (mark (scene ds es) e) (origin (past_of es) w) w ++ keys_said ((call, answer) ∷ past_of es) (args_of call answer (inbound (past_of es))) es w
-        ++ focus_told (has_focus (past_of es) w) (has_focus ((call, answer) ∷ past_of es) w))
+        ++ focus_sent (has_focus (past_of es) w) (has_focus ((call, answer) ∷ past_of es) w))
     said_apart =
         let s = scene ds es in
         let m = motions_said s e (mark s e) (origin (past_of es) w) w in
         let k = keys_said ((call, answer) ∷ past_of es) (args_of call answer (inbound (past_of es))) es w in
-        let f = focus_told (has_focus (past_of es) w) (has_focus ((call, answer) ∷ past_of es) w) in
+        let f = focus_sent (has_focus (past_of es) w) (has_focus ((call, answer) ∷ past_of es) w) in
         let ms : Bodies m =
-        shifted_apart (origin (past_of es) w) (flat_map (told_with s e (mark s e) w) devices)
-        (all_list (told_with s e (mark s e) w)
-        (λ d. told_lists s e (mark s e) w d (step_facts ds call answer h d l r).rises (λ v. apart_rising (s.last v) (fit_law ds h v l.1 r.1).rises)) devices) in
+        shifted_apart (origin (past_of es) w) (flat_map (sent_with s e (mark s e) w) devices)
+        (all_list (sent_with s e (mark s e) w)
+        (λ d. sent_lists s e (mark s e) w d (step_facts ds call answer h d l r).rises (λ v. apart_rising (s.last v) (fit_law ds h v l.1 r.1).rises)) devices) in
         both_apart (m ++ k) f (both_apart m k ms (keys_apart _)) (focus_apart (has_focus (past_of es) w) (has_focus ((call, answer) ∷ past_of es) w))
 
 -- of ids that are down a set has just its own, where those are down
@@ -217,8 +217,8 @@ turns_law ds h w d i l r e k =
     ∙ ap Some (held_among (s.holds w d) i (down_ids es d) ((fit_law ds h d l r).held_is_down w i))
 
 pub turns_come : TurnsComeLaw
-turns_come ds h w d i l r = by_ids (told_down d (stream (effects ds h) w)) refl (motions_come ds h w d l r)
+turns_come ds h w d i l r = by_ids (sent_down d (stream (effects ds h) w)) refl (motions_come ds h w d l r)
   where
-    by_ids : (o : Option (List ℕ)) → told_down d (stream (effects ds h) w) ≡ o → is_some o ≡ true → is_some (told_pointer d i (stream (effects ds h) w)) ≡ true
+    by_ids : (o : Option (List ℕ)) → sent_down d (stream (effects ds h) w) ≡ o → is_some o ≡ true → is_some (sent_pointer d i (stream (effects ds h) w)) ≡ true
     by_ids None q e = absurd (true≢false (sym e))
     by_ids (Some ids) q e = ap is_some (turns d i (stream (effects ds h) w) ids (stream_apart ds h w l r) q)

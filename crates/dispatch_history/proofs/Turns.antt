@@ -10,13 +10,13 @@ use Rattle.input_types.specs.declared.motion.MotionAction.TheVariants.{Down, Up,
 use Rattle.input_types.specs.declared.pointer.Pointer.{Pointer}
 use Rattle.input_types.specs.Gestures.{after_motion, after_action, allowed, ids_of, same_ids}
 use Rattle.routing_rules.specs.Given.{changed}
-use Rattle.routing_rules.specs.Told.{is_down}
+use Rattle.routing_rules.specs.Outgoing.{is_down}
 use Rattle.routing_rules.proofs.FitsLaws.{among, in_remove, stays_in}
 use Rattle.routing_rules.proofs.Listings.{Apart, has_id, id_at, any-ids_of, not_in_remove, same_ids_is, some_at}
 use Rattle.routing_rules.proofs.MotionKind.{allowed_parts}
-use Rattle.dispatch_history.specs.Effect.{ids_after, told_down}
+use Rattle.dispatch_history.specs.Effect.{ids_after, sent_down}
 use Rattle.dispatch_history.specs.PointerOf.{is_of}
-use Rattle.dispatch_history.specs.Known.{is_end_of, pointer_after, told_pointer}
+use Rattle.dispatch_history.specs.Known.{is_end_of, pointer_after, sent_pointer}
 
 -- a motion of a body lists different ids
 abbrev pub BodyApart : Body → Type 0
@@ -144,23 +144,23 @@ other_turn d i m x q =
     cond (t && (is_down m.action && is_of (changed m) i)) (option_and_then (λ down. allowed (not down) true) x)
     (cond (t && is_end_of m.action (changed m) m.pointers i) (option_and_then (λ down. allowed down false) x) x)) q
 
-pub turns : (d i : ℕ) (ms : List Message) (ids : List ℕ) → AllApart ms → told_down d ms ≡ Some ids → told_pointer d i ms ≡ Some (among i ids)
+pub turns : (d i : ℕ) (ms : List Message) (ids : List ℕ) → AllApart ms → sent_down d ms ≡ Some ids → sent_pointer d i ms ≡ Some (among i ids)
 turns d i [] ids a e = let same : [] ≡ ids = cc in ap (λ xs. Some (among i xs)) same
 turns d i (m ∷ past) ids a e = by_body m.body a.0 e (λ xs r. turns d i past xs a.1 r)
   where
-    came : (k : Motion) (o : Option (List ℕ)) → Apart k.pointers → (k.device == d) ≡ true → told_down d past ≡ o → option_and_then (λ down. after_motion down k) o ≡ Some ids
-        → ((xs : List ℕ) → told_down d past ≡ Some xs → told_pointer d i past ≡ Some (among i xs)) → pointer_after d i (MotionBody k) (told_pointer d i past) ≡ Some (among i ids)
+    came : (k : Motion) (o : Option (List ℕ)) → Apart k.pointers → (k.device == d) ≡ true → sent_down d past ≡ o → option_and_then (λ down. after_motion down k) o ≡ Some ids
+        → ((xs : List ℕ) → sent_down d past ≡ Some xs → sent_pointer d i past ≡ Some (among i xs)) → pointer_after d i (MotionBody k) (sent_pointer d i past) ≡ Some (among i ids)
     came k None b q r e more = cc
     came k (Some before) b q r e more =
         ap (pointer_after d i (MotionBody k)) (more before r) ∙ own_turn d i k (among i before) q ∙ one_turn k.action k.pointers k.index k.flags i before ids b e
 
-    by_body : (b : Body) → BodyApart b → ids_after d b (told_down d past) ≡ Some ids
-        → ((xs : List ℕ) → told_down d past ≡ Some xs → told_pointer d i past ≡ Some (among i xs)) → pointer_after d i b (told_pointer d i past) ≡ Some (among i ids)
+    by_body : (b : Body) → BodyApart b → ids_after d b (sent_down d past) ≡ Some ids
+        → ((xs : List ℕ) → sent_down d past ≡ Some xs → sent_pointer d i past ≡ Some (among i xs)) → pointer_after d i b (sent_pointer d i past) ≡ Some (among i ids)
     by_body (MotionBody k) b e more = by_device (k.device == d) refl e
       where
-        by_device : (t : Bool) → (k.device == d) ≡ t → cond t (option_and_then (λ down. after_motion down k) (told_down d past)) (told_down d past) ≡ Some ids
-            → pointer_after d i (MotionBody k) (told_pointer d i past) ≡ Some (among i ids)
-        by_device true q e = came k (told_down d past) b q refl e more
-        by_device false q e = other_turn d i k (told_pointer d i past) q ∙ more ids e
+        by_device : (t : Bool) → (k.device == d) ≡ t → cond t (option_and_then (λ down. after_motion down k) (sent_down d past)) (sent_down d past) ≡ Some ids
+            → pointer_after d i (MotionBody k) (sent_pointer d i past) ≡ Some (among i ids)
+        by_device true q e = came k (sent_down d past) b q refl e more
+        by_device false q e = other_turn d i k (sent_pointer d i past) q ∙ more ids e
     by_body (KeyBody k) b e more = more ids e
     by_body (FocusBody f) b e more = more ids e

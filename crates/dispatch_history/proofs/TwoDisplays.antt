@@ -24,7 +24,7 @@ volume down = record { device = 3; scan = 115; code = 24; meta = 0; down = down 
 abbrev pressed : ℕ → Bool → List Call
 pressed now down = dispatch now (KeyOfDevice (volume down))
 
--- a motion of device 2, and one that it is told
+-- a motion of device 2, and one that it is sent
 abbrev moved_2 : ℕ → MotionAction → List Pointer → List Call
 moved_2 now action ps = dispatch now (MotionArgs (of 2 (motion action 0 ps)))
 
@@ -67,8 +67,8 @@ a_window_that_comes_where_it_was_requested_is_focused :
     stream_on two_displays requested_early 2 ≡ focused 1 3000 true ∷ keyed 2 5000 (volume true) 0 0 ∷ []
 a_window_that_comes_where_it_was_requested_is_focused = refl
 
-and_the_window_on_the_first_display_is_told_nothing : stream_on two_displays requested_early 1 ≡ []
-and_the_window_on_the_first_display_is_told_nothing = refl
+and_the_window_on_the_first_display_is_sent_nothing : stream_on two_displays requested_early 1 ≡ []
+and_the_window_on_the_first_display_is_sent_nothing = refl
 
 -- A focused window moves from display 0 to display 1 in the middle of a gesture.
 abbrev moves_over : List Call
@@ -89,9 +89,9 @@ abbrev requested_on_both : List Call
 requested_on_both =
     Open 5000000 ∷ Windows 0 (a ∷ []) ∷ FocusOn 0 1 (Some 1) ∷ FocusOn 0 0 (Some 1) ∷ Windows 3000 (on 1 a ∷ []) ∷ []
 
-a_window_that_is_focused_on_the_one_and_then_on_the_other_is_told_once :
+a_window_that_is_focused_on_the_one_and_then_on_the_other_is_sent_once :
     stream_on two_displays requested_on_both 1 ≡ focused 1 0 true ∷ []
-a_window_that_is_focused_on_the_one_and_then_on_the_other_is_told_once = refl
+a_window_that_is_focused_on_the_one_and_then_on_the_other_is_sent_once = refl
 
 -- A finger on each display.
 abbrev finger_on_each : List Call
@@ -121,20 +121,20 @@ the_window_of_the_display_has_the_tap :
     ≡ says 1 1000 (motion Down 0 (at 0 540 500 ∷ [])) ∷ says 2 2000 (motion Up 0 (at 0 540 500 ∷ [])) ∷ []
 the_window_of_the_display_has_the_tap = refl
 
-a_spy_on_another_display_is_told_nothing : stream_on two_displays beside_another_display 2 ≡ []
-a_spy_on_another_display_is_told_nothing = refl
+a_spy_on_another_display_is_sent_nothing : stream_on two_displays beside_another_display 2 ≡ []
+a_spy_on_another_display_is_sent_nothing = refl
 
-a_watcher_on_another_display_is_told_nothing : stream_on two_displays beside_another_display 3 ≡ []
-a_watcher_on_another_display_is_told_nothing = refl
+a_watcher_on_another_display_is_sent_nothing : stream_on two_displays beside_another_display 3 ≡ []
+a_watcher_on_another_display_is_sent_nothing = refl
 
--- on one display both are told
-the_spy_is_told_on_one_display :
+-- on one display both are sent
+the_spy_is_sent_on_one_display :
     stream_on two_displays
     (open_two ++ Open 5000000 ∷ Windows 0 (window 2 16 0 0 1080 2400 ∷ window 3 4 0 0 100 100 ∷ a ∷ []) ∷ []
     ++ moved 1000 Down 0 (at 0 540 500 ∷ []))
     2
     ≡ says 1 1000 (motion Down 0 (at 0 540 500 ∷ [])) ∷ []
-the_spy_is_told_on_one_display = refl
+the_spy_is_sent_on_one_display = refl
 
 so_is_the_watcher :
     stream_on two_displays

@@ -6,11 +6,11 @@ use Rattle.std.proofs.lemmas.Bool.{cases_Bool, eq-eqb}
 use Rattle.input_types.specs.declared.message.Body.{Body}
 use Rattle.input_types.specs.declared.message.Message.{Message}
 use Rattle.input_types.specs.StreamRule.{stream_state}
-use Rattle.routing_rules.specs.Told.{devices}
+use Rattle.routing_rules.specs.Outgoing.{devices}
 use Rattle.dispatch_calls.specs.declared.call.Call.TheVariants.{Remove}
 use Rattle.dispatch_calls.specs.declared.reply.Reply.TheVariants.{Done, Gone}
 use Rattle.dispatch_history.specs.History.{History, clock, live, moment_of, opened}
-use Rattle.dispatch_history.specs.Effect.{past_of, stream, told_on, told_to, told_down, down_ids}
+use Rattle.dispatch_history.specs.Effect.{past_of, stream, sent_on, sent_to, sent_down, down_ids}
 use Rattle.dispatch_history.specs.Step.{marks}
 use Rattle.routing_rules.specs.Pairs.{has}
 use Rattle.routing_rules.specs.Marks.{held}
@@ -36,7 +36,7 @@ whole ds h w l r =
 some_same : {X : Type 0} {x y : X} → Some x ≡ Some y → x ≡ y
 some_same e = cc
 
-known_ids : (ds : List ℕ) (h : History) (w d : ℕ) → Legal ds h → AllRise h → live h w ≡ true → told_down d (stream (effects ds h) w) ≡ Some (held_ids (effects ds h) w d)
+known_ids : (ds : List ℕ) (h : History) (w d : ℕ) → Legal ds h → AllRise h → live h w ≡ true → sent_down d (stream (effects ds h) w) ≡ Some (held_ids (effects ds h) w d)
 known_ids ds h w d l r e =
     let es = effects ds h in
     let ids = filter (has (held (marks es)) w d) (down_ids es d) in
@@ -59,11 +59,11 @@ pub well_formed_law : WellFormedLaw
 well_formed_law ds h w l r = ap is_some (whole ds h w l r).is
 
 -- numbers and moments
-numbered_on : (now : ℕ) (bs : List Body) (ms : List Message) → IsNumbered ms → IsNumbered (told_on now bs ms)
+numbered_on : (now : ℕ) (bs : List Body) (ms : List Message) → IsNumbered ms → IsNumbered (sent_on now bs ms)
 numbered_on now [] ms n = n
 numbered_on now (b ∷ bs) ms n = numbered_on now bs (record { seq = 1 + length ms; moment = now; body = b } ∷ ms) (refl, n)
 
-falls_on : (now : ℕ) (bs : List Body) (ms : List Message) → NeverFalls now ms → NeverFalls now (told_on now bs ms)
+falls_on : (now : ℕ) (bs : List Body) (ms : List Message) → NeverFalls now ms → NeverFalls now (sent_on now bs ms)
 falls_on now [] ms n = n
 falls_on now (b ∷ bs) ms n = falls_on now bs (record { seq = 1 + length ms; moment = now; body = b } ∷ ms) (omega arith, n)
 
@@ -78,9 +78,9 @@ numbers_law ds (e ∷ h) w =
     let before = numbers_law ds h w in
     let now = clock ((e.0, e.1) ∷ past_of es) in
     let same : now ≡ clock (e ∷ h) = ap (λ past. max (moment_of e.0) (clock past)) (effects_law ds h) in
-    let bs = told_to _ w in (
+    let bs = sent_to _ w in (
       numbered_on now bs (stream es w) before.0,
-      subst (λ b. NeverFalls b (told_on now bs (stream es w))) same
+      subst (λ b. NeverFalls b (sent_on now bs (stream es w))) same
           (falls_on now bs (stream es w) (falls_below (clock h) now (stream es w) (omega (arith, same)) before.1)),
     )
 

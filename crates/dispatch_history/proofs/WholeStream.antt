@@ -1,4 +1,4 @@
--- A worked example: one channel is told motions of two devices, a key that repeats and is cancelled, and its focus.
+-- A worked example: one channel is sent motions of two devices, a key that repeats and is cancelled, and its focus.
 use Rattle.std.specs.Prelude.{◌≡◌, ℕ, true, false, List, [], ◌∷◌, ◌++◌, reverse, Option, Some, None, option_map, refl}
 use Rattle.input_types.specs.declared.message.Args.TheVariants.{Motion as MotionArgs, Key as KeyOfDevice}
 use Rattle.input_types.specs.declared.motion.MotionAction.TheVariants.{Down, Up, PointerDown}
@@ -31,16 +31,16 @@ its_stream :
 its_stream = refl
 
 -- the ids that are down of both devices, the next repeat number of the key, and the focus, by the stream and by what the window holds
-abbrev told : StreamState → List ℕ × List ℕ × Option ℕ
-told s = (s.ids 1, s.ids 2, s.repeats 1 30)
+abbrev outgoing : StreamState → List ℕ × List ℕ × Option ℕ
+outgoing s = (s.ids 1, s.ids 2, s.repeats 1 30)
 
 abbrev by_stream : List Call → Option (List ℕ × List ℕ × Option ℕ)
-by_stream calls = option_map told (stream_state (stream (run one_display (reverse calls)) 1))
+by_stream calls = option_map outgoing (stream_state (stream (run one_display (reverse calls)) 1))
 
 while_the_key_is_held : by_stream while_held ≡ Some (0 ∷ 1 ∷ [], 0 ∷ [], Some 2)
 while_the_key_is_held = refl
 
-and_its_window_holds_just_that : told (known_state (run one_display (reverse while_held)) 1) ≡ (0 ∷ 1 ∷ [], 0 ∷ [], Some 2)
+and_its_window_holds_just_that : outgoing (known_state (run one_display (reverse while_held)) 1) ≡ (0 ∷ 1 ∷ [], 0 ∷ [], Some 2)
 and_its_window_holds_just_that = refl
 
 once_it_is_cancelled : by_stream and_then ≡ Some (0 ∷ 1 ∷ [], [], None)

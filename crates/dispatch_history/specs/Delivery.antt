@@ -10,7 +10,7 @@ use Rattle.dispatch_calls.specs.declared.reply.Reply.TheVariants.{Named, Done}
 use Rattle.dispatch_history.specs.History.{History, clock, live, limit_of, finished}
 use Rattle.dispatch_history.specs.Effect.{Effect, past_of, stream}
 
--- how many messages of a channel are published: all that were told, but at most 64 that are not finished
+-- how many messages of a channel are published: all that were sent, but at most 64 that are not finished
 abbrev pub published : List Effect → ℕ → ℕ
 published es c = min (length (stream es c)) (length (finished (past_of es) c) + 64)
 

@@ -4,7 +4,7 @@ use Rattle.input_types.specs.declared.message.Message.{Message}
 use Rattle.window_snapshot.specs.Mask.{mask_has, mask_with}
 use Rattle.dispatch_calls.specs.declared.call.Call.{Call}
 use Rattle.dispatch_calls.specs.declared.counts.Counts.{Counts}
-use Rattle.dispatch_calls.specs.declared.counts.Naming.{Naming}
+use Rattle.dispatch_calls.specs.declared.counts.Anr.{Anr}
 use Rattle.dispatch_calls.specs.declared.reply.Reply.{Reply}
 use Rattle.dispatch_calls.specs.declared.reply.Reply.TheVariants.{Named}
 use Rattle.dispatch_history.specs.History.{clock, opened, limit_of, live, received, finished}
@@ -51,24 +51,24 @@ abbrev pub first_due : List Effect → Option Due
 first_due es = fold sooner_due None (dues es)
 
 -- what is noted of each channel that a tick names, in rising order: the clock of the tick, and its oldest message then
-abbrev pub naming_of : List Effect → ℕ → ℕ → Option Message → Option Naming
-naming_of es now c None = None
-naming_of es now c (Some m) = Some (record { clock = now; channel = c; seq = m.seq })
+abbrev pub anr_of : List Effect → ℕ → ℕ → Option Message → Option Anr
+anr_of es now c None = None
+anr_of es now c (Some m) = Some (record { clock = now; channel = c; seq = m.seq })
 
 -- the namings that a step with this reply and this clock makes, by rising channel
-abbrev pub namings_by : Reply → ℕ → List Effect → List Naming
-namings_by (Named mask) now before =
-    filter_map (λ c. naming_of before now c (oldest before c)) (filter (mask_has mask) (channels (opened (past_of before))))
-namings_by reply now before = []
+abbrev pub anrs_by : Reply → ℕ → List Effect → List Anr
+anrs_by (Named mask) now before =
+    filter_map (λ c. anr_of before now c (oldest before c)) (filter (mask_has mask) (channels (opened (past_of before))))
+anrs_by reply now before = []
 
 -- all namings, in the order of the history
-abbrev pub namings : List Effect → List Naming
-namings [] = []
-namings (x ∷ before) = namings before ++ namings_at x.past before
+abbrev pub anrs : List Effect → List Anr
+anrs [] = []
+anrs (x ∷ before) = anrs before ++ anrs_at x.past before
   where
-    namings_at : List (Call × Reply) → List Effect → List Naming
-    namings_at [] before = []
-    namings_at (e ∷ h) before = namings_by e.1 (clock (e ∷ h)) before
+    anrs_at : List (Call × Reply) → List Effect → List Anr
+    anrs_at [] before = []
+    anrs_at (e ∷ h) before = anrs_by e.1 (clock (e ∷ h)) before
 
 -- how far a channel has come, where it was opened
 abbrev pub counts : List Effect → ℕ → Option Counts

@@ -11,8 +11,8 @@ use Rattle.input_types.specs.declared.pointer.Pointer.{Pointer}
 use Rattle.routing_rules.specs.Marks.{Mark}
 use Rattle.dispatch_history.specs.History.{History, clock}
 
--- one body that is told to a channel
-pub record Told : Type 0 where
+-- one body that is sent to a channel
+pub record Outgoing : Type 0 where
   pub channel : ℕ
   pub body : Body
 
@@ -25,7 +25,7 @@ pub record Effect : Type 0 where
   -- the pointers that it gave, and those that it took
   pub mark : Mark
   -- what it told, channel by channel
-  pub told : List Told
+  pub outgoing : List Outgoing
 
 -- the history that these are the effects of
 abbrev pub past_of : List Effect → History
@@ -43,18 +43,18 @@ dispatched [] = []
 dispatched (x ∷ before) = with_args x.args (dispatched before)
 
 -- what a step told to a channel
-abbrev pub told_to : List Told → ℕ → List Body
-told_to ts c = map (λ t. t.body) (filter (λ t. t.channel == c) ts)
+abbrev pub sent_to : List Outgoing → ℕ → List Body
+sent_to ts c = map (λ t. t.body) (filter (λ t. t.channel == c) ts)
 
 -- messages behind a stream, newest first: each has the next number, and all have the clock after the step
-abbrev pub told_on : ℕ → List Body → List Message → List Message
-told_on now [] stream = stream
-told_on now (b ∷ bs) stream = told_on now bs (record { seq = 1 + length stream; moment = now; body = b } ∷ stream)
+abbrev pub sent_on : ℕ → List Body → List Message → List Message
+sent_on now [] stream = stream
+sent_on now (b ∷ bs) stream = sent_on now bs (record { seq = 1 + length stream; moment = now; body = b } ∷ stream)
 
--- the stream of a channel: all that it was told, newest first
+-- the stream of a channel: all that it was sent, newest first
 abbrev pub stream : List Effect → ℕ → List Message
 stream [] c = []
-stream (x ∷ before) c = told_on (clock x.past) (told_to x.told c) (stream before c)
+stream (x ∷ before) c = sent_on (clock x.past) (sent_to x.outgoing c) (stream before c)
 
 -- a motion of the device lists its pointers anew
 abbrev pub last_after : Option Args → ℕ → List Pointer → List Pointer
@@ -80,9 +80,9 @@ ids_after d (MotionBody m) ids = if m.device == d then option_and_then (λ down.
 ids_after d body ids = ids
 
 -- the ids of a device that the owner of a channel knows to be down after its messages, where each of its motions may come
-abbrev pub told_down : ℕ → List Message → Option (List ℕ)
-told_down d [] = Some []
-told_down d (m ∷ past) = ids_after d m.body (told_down d past)
+abbrev pub sent_down : ℕ → List Message → Option (List ℕ)
+sent_down d [] = Some []
+sent_down d (m ∷ past) = ids_after d m.body (sent_down d past)
 
 -- what a message does to the focus that is known, where it may come
 abbrev pub focus_after : Body → Option Bool → Option Bool
@@ -90,6 +90,6 @@ focus_after (FocusBody b) x = option_and_then (λ has. allowed (differ b has) b)
 focus_after body x = x
 
 -- whether the owner of a channel knows to have the focus after its messages, where each change of it may come
-abbrev pub told_focus : List Message → Option Bool
-told_focus [] = Some false
-told_focus (m ∷ past) = focus_after m.body (told_focus past)
+abbrev pub sent_focus : List Message → Option Bool
+sent_focus [] = Some false
+sent_focus (m ∷ past) = focus_after m.body (sent_focus past)

@@ -9,7 +9,7 @@ use Rattle.routing_rules.specs.Scene.{Scene, Step}
 use Rattle.routing_rules.specs.Given.{mark}
 use Rattle.dispatch_history.specs.History.{History, opened, snapshot}
 use Rattle.dispatch_history.specs.Queue.{inbound, args_of}
-use Rattle.dispatch_history.specs.Effect.{Effect, Told, past_of}
+use Rattle.dispatch_history.specs.Effect.{Effect, Outgoing, past_of}
 use Rattle.dispatch_history.specs.Step.{scene, step_of}
 use Rattle.dispatch_history.specs.Said.{said}
 
@@ -19,8 +19,8 @@ channels zero = []
 channels (suc n) = channels n ++ suc n ∷ []
 
 -- what a step tells, channel by channel
-abbrev pub told_by : (ℕ → List Body) → ℕ → List Told
-told_by said_to n = flat_map (λ w. map (λ b. record { channel = w; body = b }) (said_to w)) (channels n)
+abbrev pub sent_by : (ℕ → List Body) → ℕ → List Outgoing
+sent_by said_to n = flat_map (λ w. map (λ b. record { channel = w; body = b }) (said_to w)) (channels n)
 
 -- what a step with this mark says to a channel
 abbrev pub said_with : History → Option Args → List Effect → Scene → Step → Mark → ℕ → List Body
@@ -29,7 +29,7 @@ said_with after args before s e k c = said after args s e k before c
 -- the effect of a step that has this mark
 abbrev pub effect_with : History → Option Args → List Effect → Scene → Step → Mark → Effect
 effect_with after args before s e k =
-    record { past = after; args = args; mark = k; told = told_by (said_with after args before s e k) (opened after) }
+    record { past = after; args = args; mark = k; outgoing = sent_by (said_with after args before s e k) (opened after) }
 
 -- the effect of a step that is this to the rules
 abbrev pub effect_in : History → Option Args → List Effect → Scene → Step → Effect

@@ -49,7 +49,7 @@ abbrev pub is_target : History → ℕ → Bool
 is_target h w = is_at (key_target h) w
 
 -- what a window is told where its focus changes: that it has lost it, or that it has it now
-abbrev pub focus_told : Bool → Bool → List Body
-focus_told true false = Focus false ∷ []
-focus_told false true = Focus true ∷ []
-focus_told before later = []
+abbrev pub focus_sent : Bool → Bool → List Body
+focus_sent true false = Focus false ∷ []
+focus_sent false true = Focus true ∷ []
+focus_sent before later = []

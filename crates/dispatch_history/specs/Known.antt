@@ -15,7 +15,7 @@ use Rattle.input_types.specs.StreamRule.{StreamState, after_key}
 use Rattle.routing_rules.specs.Given.{changed}
 use Rattle.routing_rules.specs.Pairs.{has}
 use Rattle.routing_rules.specs.Marks.{held}
-use Rattle.routing_rules.specs.Told.{devices, is_down}
+use Rattle.routing_rules.specs.Outgoing.{devices, is_down}
 use Rattle.dispatch_history.specs.PointerOf.{is_of}
 use Rattle.dispatch_history.specs.Effect.{Effect, past_of, stream, down_ids}
 use Rattle.dispatch_history.specs.Focus.{has_focus}
@@ -42,9 +42,9 @@ repeat_after d s (KeyBody m) x = if is_key d s m.key then option_and_then (λ du
 repeat_after d s body x = x
 
 -- the next repeat number of a key that the owner of a channel knows to be down, where each message of the key may come
-abbrev pub told_repeat : ℕ → ℕ → List Message → Option (Option ℕ)
-told_repeat d s [] = Some None
-told_repeat d s (m ∷ past) = repeat_after d s m.body (told_repeat d s past)
+abbrev pub sent_repeat : ℕ → ℕ → List Message → Option (Option ℕ)
+sent_repeat d s [] = Some None
+sent_repeat d s (m ∷ past) = repeat_after d s m.body (sent_repeat d s past)
 
 -- the key of this device and scan code among those that a window holds
 abbrev pub held_key : List KeyArgs → ℕ → ℕ → Option KeyArgs
@@ -117,6 +117,6 @@ pointer_after d i (MotionBody m) x =
 pointer_after d i body x = x
 
 -- whether a pointer is down after messages with which it goes down and ends by turns; None where it does not
-abbrev pub told_pointer : ℕ → ℕ → List Message → Option Bool
-told_pointer d i [] = Some false
-told_pointer d i (m ∷ past) = pointer_after d i m.body (told_pointer d i past)
+abbrev pub sent_pointer : ℕ → ℕ → List Message → Option Bool
+sent_pointer d i [] = Some false
+sent_pointer d i (m ∷ past) = pointer_after d i m.body (sent_pointer d i past)

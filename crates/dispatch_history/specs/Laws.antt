@@ -12,19 +12,19 @@ use Rattle.input_types.specs.DeviceRule.{device_state}
 use Rattle.dispatch_history.specs.History.{History, clock, live, opened, snapshot}
 use Rattle.dispatch_history.specs.Queue.{accepted, inbound}
 use Rattle.dispatch_history.specs.PointerOf.{PointerOf, IsDown, AllRise}
-use Rattle.dispatch_history.specs.Effect.{Effect, past_of, stream, dispatched, told_on, told_down, told_focus, down_ids, is_key_down}
+use Rattle.dispatch_history.specs.Effect.{Effect, past_of, stream, dispatched, sent_on, sent_down, sent_focus, down_ids, is_key_down}
 use Rattle.dispatch_history.specs.Effects.{effects, said_at}
 use Rattle.dispatch_history.specs.Delivery.{able, unresponsive, names, finishes, has_late}
 use Rattle.dispatch_history.specs.Step.{scene}
 use Rattle.routing_rules.specs.Fits.{Fits}
-use Rattle.routing_rules.specs.Told.{devices}
+use Rattle.routing_rules.specs.Outgoing.{devices}
 use Rattle.dispatch_history.specs.Focus.{has_focus}
 use Rattle.input_types.specs.declared.key.KeyArgs.{KeyArgs}
 use Rattle.key_repeat.specs.Due.{Sent}
 use Rattle.dispatch_history.specs.Keys.{keys}
-use Rattle.dispatch_history.specs.KeyTold.{last_key}
+use Rattle.dispatch_history.specs.KeySent.{last_key}
 use Rattle.dispatch_history.specs.KeyPlaces.{HoldsKey}
-use Rattle.dispatch_history.specs.Known.{told_repeat, last_message, held_key, AllDiffer, next_repeat, newest_key, known_state, IsNumbered, NeverFalls, told_pointer}
+use Rattle.dispatch_history.specs.Known.{sent_repeat, last_message, held_key, AllDiffer, next_repeat, newest_key, known_state, IsNumbered, NeverFalls, sent_pointer}
 use Rattle.dispatch_history.specs.Legal.{Legal, reply, calls_of, run, replay}
 use Rattle.dispatch_history.specs.Plan.{Plan}
 use Rattle.dispatch_history.specs.Ordered.{Ordered, ordered, chosen}
@@ -100,9 +100,9 @@ StreamStep =
     (displays : List ℕ) (call : Call) (answer : Reply) (h : History) (c : ℕ)
     → Legal displays ((call, answer) ∷ h)
     → stream (effects displays ((call, answer) ∷ h)) c
-    ≡ told_on (clock ((call, answer) ∷ h)) (said_at displays call answer (effects displays h) c) (stream (effects displays h) c)
+    ≡ sent_on (clock ((call, answer) ∷ h)) (said_at displays call answer (effects displays h) c) (stream (effects displays h) c)
 
--- A channel that is not live after a step is told nothing at it: nothing follows a removal.
+-- A channel that is not live after a step is sent nothing at it: nothing follows a removal.
 abbrev pub SilentLaw : Type 0
 SilentLaw =
     (displays : List ℕ) (call : Call) (answer : Reply) (h : History) (c : ℕ)
@@ -130,19 +130,19 @@ abbrev pub MotionsLaw : Type 0
 MotionsLaw =
     (displays : List ℕ) (h : History) (w d : ℕ)
     → Legal displays h → AllRise h → live h w ≡ true → list_any (λ e. e == d) devices ≡ true
-    → told_down d (stream (effects displays h) w) ≡ Some (filter ((scene displays (effects displays h)).holds w d) (down_ids (effects displays h) d))
+    → sent_down d (stream (effects displays h) w) ≡ Some (filter ((scene displays (effects displays h)).holds w d) (down_ids (effects displays h) d))
 
 -- So do those of a channel that is not live any more.
 abbrev pub MotionsComeLaw : Type 0
-MotionsComeLaw = (displays : List ℕ) (h : History) (w d : ℕ) → Legal displays h → AllRise h → IsTrue (is_some (told_down d (stream (effects displays h) w)))
+MotionsComeLaw = (displays : List ℕ) (h : History) (w d : ℕ) → Legal displays h → AllRise h → IsTrue (is_some (sent_down d (stream (effects displays h) w)))
 
 -- The owner of a live channel knows from its stream whether its window has the focus, each change of which comes as it may.
 abbrev pub FocusLaw : Type 0
-FocusLaw = (displays : List ℕ) (h : History) (w : ℕ) → Legal displays h → live h w ≡ true → told_focus (stream (effects displays h) w) ≡ Some (has_focus h w)
+FocusLaw = (displays : List ℕ) (h : History) (w : ℕ) → Legal displays h → live h w ≡ true → sent_focus (stream (effects displays h) w) ≡ Some (has_focus h w)
 
 -- So do those of a channel that is not live any more.
 abbrev pub FocusComesLaw : Type 0
-FocusComesLaw = (displays : List ℕ) (h : History) (w : ℕ) → Legal displays h → IsTrue (is_some (told_focus (stream (effects displays h) w)))
+FocusComesLaw = (displays : List ℕ) (h : History) (w : ℕ) → Legal displays h → IsTrue (is_some (sent_focus (stream (effects displays h) w)))
 
 -- The messages of each key in the stream of a live channel come one after the other as the rule of streams says, and the keys that are
 -- down after them are just those that its window holds, each with the next repeat number.
@@ -150,12 +150,12 @@ abbrev pub KeysLaw : Type 0
 KeysLaw =
     (displays : List ℕ) (h : History) (w d s : ℕ)
     → Legal displays h → live h w ≡ true
-    → told_repeat d s (stream (effects displays h) w)
+    → sent_repeat d s (stream (effects displays h) w)
     ≡ Some (next_repeat (held_key (keys (effects displays h) w) d s) (last_message d s (stream (effects displays h) w)))
 
 -- So do those of a channel that is not live any more.
 abbrev pub KeysComeLaw : Type 0
-KeysComeLaw = (displays : List ℕ) (h : History) (w d s : ℕ) → Legal displays h → IsTrue (is_some (told_repeat d s (stream (effects displays h) w)))
+KeysComeLaw = (displays : List ℕ) (h : History) (w d s : ℕ) → Legal displays h → IsTrue (is_some (sent_repeat d s (stream (effects displays h) w)))
 
 -- The last message of a key that a window holds is a down or a repeat with the same code and meta bits, from which its cancel is made.
 abbrev pub HeldKeyLaw : Type 0
@@ -164,7 +164,7 @@ HeldKeyLaw =
     → Legal displays h → live h w ≡ true → held_key (keys (effects displays h) w) d s ≡ Some k
     → (k.down ≡ true) × (n : ℕ) × (last_message d s (stream (effects displays h) w) ≡ Some (record { key = k; flags = 0; repeat = n }))
 
--- The last key message that was told to any window, from which a repeat is made, is the newest one in the stream of its channel.
+-- The last key message that was sent to any window, from which a repeat is made, is the newest one in the stream of its channel.
 abbrev pub LastKeyLaw : Type 0
 LastKeyLaw =
     (displays : List ℕ) (h : History) (last : Sent)
@@ -219,13 +219,13 @@ abbrev pub TurnsLaw : Type 0
 TurnsLaw =
     (displays : List ℕ) (h : History) (w d i : ℕ)
     → Legal displays h → AllRise h → live h w ≡ true → list_any (λ e. e == d) devices ≡ true
-    → told_pointer d i (stream (effects displays h) w) ≡ Some ((scene displays (effects displays h)).holds w d i)
+    → sent_pointer d i (stream (effects displays h) w) ≡ Some ((scene displays (effects displays h)).holds w d i)
 
 -- So it does in that of a channel that is not live any more.
 abbrev pub TurnsComeLaw : Type 0
 TurnsComeLaw =
     (displays : List ℕ) (h : History) (w d i : ℕ)
-    → Legal displays h → AllRise h → IsTrue (is_some (told_pointer d i (stream (effects displays h) w)))
+    → Legal displays h → AllRise h → IsTrue (is_some (sent_pointer d i (stream (effects displays h) w)))
 
 -- In a legal history the keys that are computed for a window are those that it holds by places.
 abbrev pub KeyPlacesLaw : Type 0

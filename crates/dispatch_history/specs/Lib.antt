@@ -4,7 +4,7 @@ pub mod Effect
 pub mod Delivery
 pub mod Focus
 pub mod Keys
-pub mod KeyTold
+pub mod KeySent
 pub mod Step
 pub mod Said
 pub mod Effects

@@ -8,7 +8,7 @@ use Rattle.dispatch_history.specs.History.{History, moment_of, clock, opened, li
 use Rattle.dispatch_history.specs.Queue.{inbound}
 use Rattle.dispatch_history.specs.Effect.{Effect, past_of}
 use Rattle.dispatch_history.specs.Delivery.{published, is_finished}
-use Rattle.dispatch_history.specs.KeyTold.{repeat_due}
+use Rattle.dispatch_history.specs.KeySent.{repeat_due}
 use Rattle.dispatch_history.specs.Due.{Due, first_due}
 use Rattle.dispatch_history.specs.Effects.{channels}
 use Rattle.dispatch_history.specs.Legal.{answered}

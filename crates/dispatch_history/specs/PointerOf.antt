@@ -7,7 +7,7 @@ use Rattle.input_types.specs.Pointers.{IsRising}
 use Rattle.dispatch_calls.specs.declared.call.Call.{Call}
 use Rattle.dispatch_calls.specs.declared.call.Call.TheVariants.{Notify}
 use Rattle.routing_rules.specs.Given.{changed}
-use Rattle.routing_rules.specs.Told.{is_up, is_down}
+use Rattle.routing_rules.specs.Outgoing.{is_up, is_down}
 use Rattle.dispatch_history.specs.History.{History}
 use Rattle.dispatch_history.specs.Effect.{Effect}
 

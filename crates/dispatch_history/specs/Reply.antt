@@ -16,7 +16,7 @@ use Rattle.dispatch_history.specs.History.{clock, opened, live, snapshot, receiv
 use Rattle.dispatch_history.specs.Queue.{inbound, down_on}
 use Rattle.dispatch_history.specs.Effect.{Effect, past_of, stream}
 use Rattle.dispatch_history.specs.Delivery.{published, is_finished}
-use Rattle.dispatch_history.specs.KeyTold.{repeat_due}
+use Rattle.dispatch_history.specs.KeySent.{repeat_due}
 use Rattle.dispatch_history.specs.Step.{marks}
 use Rattle.dispatch_history.specs.Due.{named, mask_of}
 

@@ -1,4 +1,4 @@
--- What a channel is told at a step.
+-- What a channel is sent at a step.
 use Rattle.std.specs.Prelude.{ℕ, ◌&&◌, List, [], ◌++◌, map, flat_map, Option, if◌then◌else◌}
 use Rattle.input_types.specs.declared.axis.Pixel.{Pixel}
 use Rattle.input_types.specs.declared.message.Args.{Args}
@@ -7,13 +7,13 @@ use Rattle.input_types.specs.declared.message.Body.TheVariants.{Motion as Motion
 use Rattle.input_types.specs.declared.motion.Motion.{Motion}
 use Rattle.routing_rules.specs.Marks.{Mark}
 use Rattle.routing_rules.specs.Scene.{Scene, Step}
-use Rattle.routing_rules.specs.Told.{told_with, devices}
+use Rattle.routing_rules.specs.Outgoing.{sent_with, devices}
 use Rattle.dispatch_history.specs.History.{History, live, origin}
 use Rattle.dispatch_history.specs.Effect.{Effect, past_of}
 use Rattle.dispatch_history.specs.Delivery.{able}
-use Rattle.dispatch_history.specs.Focus.{has_focus, is_target, focus_told}
+use Rattle.dispatch_history.specs.Focus.{has_focus, is_target, focus_sent}
 use Rattle.dispatch_history.specs.Keys.{keys, loses_all}
-use Rattle.dispatch_history.specs.KeyTold.{keys_told, repeat_by, last_key}
+use Rattle.dispatch_history.specs.KeySent.{keys_sent, repeat_by, last_key}
 use Rattle.window_snapshot.specs.Origins.{place_from}
 
 -- a motion whose places are counted from an origin
@@ -27,15 +27,15 @@ motion_from o m =
       pointers = map (λ p. record { id = p.id; at = place_from o p.at }) m.pointers;
     }
 
--- the motions that a channel is told: device by device, counted from its origin before the step
+-- the motions that a channel is sent: device by device, counted from its origin before the step
 abbrev pub motions_said : Scene → Step → Mark → Pixel → ℕ → List Body
-motions_said s e k o w = map (λ m. MotionBody (motion_from o m)) (flat_map (told_with s e k w) devices)
+motions_said s e k o w = map (λ m. MotionBody (motion_from o m)) (flat_map (sent_with s e k w) devices)
 
--- the key messages that it is told
+-- the key messages that it is sent
 abbrev pub keys_said : History → Option Args → List Effect → ℕ → List Body
 keys_said after args before w =
     map Key
-    (keys_told args (is_target (past_of before) w && able before w) (loses_all after (past_of before) w) (keys before w)
+    (keys_sent args (is_target (past_of before) w && able before w) (loses_all after (past_of before) w) (keys before w)
     ++ repeat_by after (last_key before) w)
 
 -- what a channel is told that is live after the step: motions, then keys, then the focus
@@ -44,5 +44,5 @@ said after args s e k before w =
     if live after w then
     motions_said s e k (origin (past_of before) w) w
     ++ keys_said after args before w
-    ++ focus_told (has_focus (past_of before) w) (has_focus after w)
+    ++ focus_sent (has_focus (past_of before) w) (has_focus after w)
     else []

@@ -6,7 +6,7 @@ use Rattle.dispatch_history.specs.History.{History, clock, live, received, finis
 use Rattle.dispatch_history.specs.Queue.{inbound}
 use Rattle.dispatch_history.specs.Effects.{effects}
 use Rattle.dispatch_history.specs.Delivery.{published}
-use Rattle.dispatch_history.specs.KeyTold.{repeat_due}
+use Rattle.dispatch_history.specs.KeySent.{repeat_due}
 
 -- a tick counts until the next pump
 abbrev pub ticked_after : Call → Bool → Bool

@@ -11,7 +11,7 @@ use Rattle.dispatch_calls.specs.declared.reply.Reply.{Reply}
 use Rattle.dispatch_calls.specs.declared.reply.Reply.TheVariants.{Done, Named}
 use Rattle.routing_rules.specs.Pairs.{Pair, has_any}
 use Rattle.routing_rules.specs.Marks.{Mark, held, since, pilfering}
-use Rattle.routing_rules.specs.Scene.{Scene, Step, Moves, Resets, Pilfers, Shows, Mutes, Removes, Rests, scene_of, stays}
+use Rattle.routing_rules.specs.Scene.{Scene, Step, Moves, Resets, Pilfers, Shows, Mutes, Removes, NoOp, scene_of, stays}
 use Rattle.dispatch_history.specs.History.{snapshot, is_on}
 use Rattle.dispatch_history.specs.Effect.{Effect, past_of, last}
 use Rattle.dispatch_history.specs.Delivery.{able}
@@ -45,4 +45,4 @@ step_of before (Windows now next) reply args = Shows (stays before next)
 step_of before (Tick now) (Named mask) args = Mutes (mask_has mask)
 step_of before (Pilfer now channel device) Done args = Pilfers channel device
 step_of before (Remove now channel) Done args = Removes channel
-step_of before call reply args = Rests
+step_of before call reply args = NoOp

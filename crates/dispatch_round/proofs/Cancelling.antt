@@ -7,16 +7,16 @@ use Rattle.input_types.specs.declared.motion.Motion.{Motion}
 use Rattle.input_types.specs.declared.motion.MotionAction.TheVariants.{Cancel, PointerUp}
 use Rattle.input_types.specs.declared.pointer.Pointer.{Pointer}
 use Rattle.input_types.specs.Gestures.{flag_canceled}
-use Rattle.routing_rules.specs.Told.{listing, index_in, plain, cancels_of, cancelled_ups, devices}
+use Rattle.routing_rules.specs.Outgoing.{listing, index_in, plain, cancels_of, cancelled_ups, devices}
 use Rattle.cancel_synthesis.specs.Ends.{pointers_cancelled}
 use Rattle.cancel_synthesis.specs.Tracked.{Tracked, is_device, pointers_of, pointers_after}
 use Rattle.cancel_synthesis.proofs.PointerEnds.{as_cases}
 use Rattle.pilfer_monitor.specs.Pilfer.{set_of}
 use Rattle.touch_state.specs.Touches.{Touches}
 use Rattle.route_split.specs.declared.mark.Mark.{Mark}
-use Rattle.route_split.specs.declared.mark.Mark.TheVariants.{Rests, Give, Lift, Slip, Empty, Pilfer, Unnamed, Mute, Forget}
-use Rattle.route_split.specs.declared.tells.Tells.{Tells}
-use Rattle.route_split.specs.declared.tells.Tells.TheVariants.{Nothing, One, Cancels}
+use Rattle.route_split.specs.declared.mark.Mark.TheVariants.{NoOp, Give, Lift, Slip, Empty, Pilfer, Unnamed, Mute, Forget}
+use Rattle.route_split.specs.declared.sends.Sends.{Sends}
+use Rattle.route_split.specs.declared.sends.Sends.TheVariants.{Nothing, One, Cancels}
 use Rattle.route_split.specs.Tables.{holds_at}
 use Rattle.bits32.specs.Set.{is_in}
 use Rattle.dispatch_round.specs.Bodies.{pointers_tracked}
@@ -61,7 +61,7 @@ all_losses_few ts w input (d ∷ ds) =
     let size = length-append (losses ts w input d) (flat_map (losses ts w input) ds) in
     omega (arith, here, rest, size)
 
-pub found_few : (x : Tells) (d : ℕ) (had : List Pointer) → length (motions_by x d had) ≤ max 1 (length had)
+pub found_few : (x : Sends) (d : ℕ) (had : List Pointer) → length (motions_by x d had) ≤ max 1 (length had)
 found_few Nothing d had = omega arith
 found_few (One m) d had = omega arith
 found_few (Cancels lost) d had =
@@ -110,7 +110,7 @@ pilfered_few (Pilfer device spy) lost w input =
     cancelled_few device (λ i. is_in i (set_of lost w)) (pointers_of input device) in
     let le : length (pointers_of input device) ≤ count_of input devices = one_counted input device in
     omega (arith, few, le)
-pilfered_few Rests lost w input = omega arith
+pilfered_few NoOp lost w input = omega arith
 pilfered_few (Give device id windows) lost w input = omega arith
 pilfered_few (Lift device id) lost w input = omega arith
 pilfered_few (Slip device id from to) lost w input = omega arith

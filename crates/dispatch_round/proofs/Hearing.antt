@@ -11,25 +11,25 @@ use Rattle.input_types.specs.declared.motion.Motion.{Motion}
 use Rattle.window_snapshot.specs.Mask.{mask_has}
 use Rattle.routing_rules.specs.Scene.{Scene, Moves}
 use Rattle.routing_rules.specs.Given.{changed, mark}
-use Rattle.routing_rules.specs.Told.{after, told, devices}
+use Rattle.routing_rules.specs.Outgoing.{after, outgoing, devices}
 use Rattle.routing_rules.proofs.Listings.{has_id, has_id-listing}
 use Rattle.cancel_synthesis.specs.Tracked.{pointers_of, keys_then}
 use Rattle.touch_state.specs.Touches.{Touches}
-use Rattle.route_split.specs.declared.tells.Tells.{Tells}
+use Rattle.route_split.specs.declared.sends.Sends.{Sends}
 use Rattle.route_split.specs.Tables.{holds_at}
 use Rattle.route_split.specs.Marking.{AreLosses}
-use Rattle.route_split.specs.Telling.{IsTold, IsListed}
-use Rattle.route_split.proofs.ToldBy.{after_is}
+use Rattle.route_split.specs.Sending.{IsSent, IsListed}
+use Rattle.route_split.proofs.SentBy.{after_is}
 use Rattle.routing_rules.specs.Watching.{is_watching}
-use Rattle.key_tables.specs.Focused.{change_of, change_told}
+use Rattle.key_tables.specs.Focused.{change_of, change_sent}
 use Rattle.key_tables.specs.Held.{bodies_tracked}
 use Rattle.dispatch_channels.specs.Table.{Table, channel_of, input_of}
 use Rattle.dispatch_round.specs.declared.round.Round.{Round}
 use Rattle.dispatch_round.specs.declared.listener.Listener.{Listener}
 use Rattle.dispatch_round.specs.Bodies.{keys_to, bodies_of}
 use Rattle.dispatch_round.specs.Rounds.{IsStepIn, may_take, most_motions, most_bodies}
-use Rattle.dispatch_round.specs.Saying.{CanHear, TellsOne, motions_by, losses, pilfered_from, HearsMotions, HearsRound, Spends}
-use Rattle.dispatch_round.proofs.Saying.{tells_none, tells_then, hears_after, heard-spare}
+use Rattle.dispatch_round.specs.Saying.{CanHear, SendsOne, motions_by, losses, pilfered_from, HearsMotions, HearsRound, Spends}
+use Rattle.dispatch_round.proofs.Saying.{sends_none, sends_then, hears_after, heard-spare}
 use Rattle.dispatch_round.proofs.Cancelling.{found_few, all_losses_few, pilfered_few}
 use Rattle.dispatch_round.proofs.Ruling.{found_all, lost_all, pilfered_all, none_all}
 
@@ -38,20 +38,20 @@ pub of_some : {A : Type 0} (P : A → Type 0) (o : Option A) (x : A) → o ≡ S
 of_some P o x e h = subst (λ q. IfSome q P) e h
 
 -- at a motion what was found for its device
-pub hears_found : (r : Round) (us : List Touches) (to : Listener) (t u : Table) (m : Motion) (x : Tells) (before : ℕ) (watches : Bool) (lost : Option (List ℕ))
+pub hears_found : (r : Round) (us : List Touches) (to : Listener) (t u : Table) (m : Motion) (x : Sends) (before : ℕ) (watches : Bool) (lost : Option (List ℕ))
     → option_copied r.motion ≡ Some m → 1 ≤ m.device → m.device ≤ 8 → watches ≡ mask_has r.watchers to.window
     → ((i : ℕ) → is_in i before ≡ has_id i (pointers_of (input_of t to.window) m.device))
     → ((s : Scene) → ((i : ℕ) → s.holds to.window m.device i ≡ is_in i before)
     → ((i : ℕ) → after s (mark s (Moves m)) to.window m.device i ≡ holds_at us to.window m.device i)
     → IsListed s m.device → watches ≡ is_watching s m (changed m) to.window
-    → IsTold x (told s (Moves m) to.window m.device) m.device (s.last m.device) (s.holds to.window m.device))
-    → TellsOne to (map MotionBody (motions_by x m.device (pointers_of (input_of t to.window) m.device))) t u
+    → IsSent x (outgoing s (Moves m) to.window m.device) m.device (s.last m.device) (s.holds to.window m.device))
+    → SendsOne to (map MotionBody (motions_by x m.device (pointers_of (input_of t to.window) m.device))) t u
     → HearsMotions r us lost to t u
 hears_found r us to t u m x before watches lost opt low high seen ids found says = record {
   motions = motions_by x m.device (pointers_of (input_of t to.window) m.device);
   few = subst (λ o. length (motions_by x m.device (pointers_of (input_of t to.window) m.device)) ≤ most_motions o (input_of t to.window)) (sym opt)
       (found_few x m.device (pointers_of (input_of t to.window) m.device));
-  told = says;
+  outgoing = says;
   by_rules = λ s e ts by h holds.
       let step = subst (λ o. IsStepIn s ts r.mark o r.watchers e) opt h.step_is in
       found_all s e m to.window x (pointers_of (input_of t to.window) m.device) step.0 low high (holds m.device low high)
@@ -69,13 +69,13 @@ hears_found r us to t u m x before watches lost opt low high seen ids found says
 -- at another step what is taken
 pub hears_lost : (r : Round) (us : List Touches) (to : Listener) (t u : Table) (lost : Option (List ℕ))
     → option_copied r.motion ≡ None → may_take r.mark ≡ true
-    → TellsOne to (map MotionBody (flat_map (losses us to.window (input_of t to.window)) devices)) t u
+    → SendsOne to (map MotionBody (flat_map (losses us to.window (input_of t to.window)) devices)) t u
     → HearsMotions r us lost to t u
 hears_lost r us to t u lost opt takes says = record {
   motions = flat_map (losses us to.window (input_of t to.window)) devices;
   few = subst (λ o. length (flat_map (losses us to.window (input_of t to.window)) devices) ≤ most_motions o (input_of t to.window)) (sym opt)
       (all_losses_few us to.window (input_of t to.window) devices);
-  told = says;
+  outgoing = says;
   by_rules = λ s e ts by h holds.
       lost_all s e ts us r.mark lost to.window (input_of t to.window) h.stands (subst (λ o. IsStepIn s ts r.mark o r.watchers e) opt h.step_is) takes by holds;
 }
@@ -83,13 +83,13 @@ hears_lost r us to t u lost opt takes says = record {
 -- and what a window loses to one that pilfers
 pub hears_pilfered : (r : Round) (us : List Touches) (to : Listener) (t u : Table) (o : Option (List ℕ)) (lost : List ℕ)
     → option_copied r.motion ≡ None → o ≡ Some lost
-    → TellsOne to (map MotionBody (pilfered_from r.mark lost to.window (input_of t to.window))) t u
+    → SendsOne to (map MotionBody (pilfered_from r.mark lost to.window (input_of t to.window))) t u
     → HearsMotions r us o to t u
 hears_pilfered r us to t u o lost opt some says = record {
   motions = pilfered_from r.mark lost to.window (input_of t to.window);
   few = subst (λ o. length (pilfered_from r.mark lost to.window (input_of t to.window)) ≤ most_motions o (input_of t to.window)) (sym opt)
       (pilfered_few r.mark lost to.window (input_of t to.window));
-  told = says;
+  outgoing = says;
   by_rules = λ s e ts by h holds.
       pilfered_all s e ts r.mark lost to.window (input_of t to.window) h.stands (subst (λ o. IsStepIn s ts r.mark o r.watchers e) opt h.step_is)
       (subst (λ o. IfSome o (AreLosses ts r.mark)) some by.losses_are) holds;
@@ -100,7 +100,7 @@ pub hears_none : (r : Round) (us : List Touches) (o : Option (List ℕ)) (to : L
 hears_none r us o to t opt rests = record {
   motions = [];
   few = omega arith;
-  told = tells_none to t;
+  outgoing = sends_none to t;
   by_rules = λ s e ts by h holds. none_all s e r.mark to.window (subst (λ o. IsStepIn s ts r.mark o r.watchers e) opt h.step_is) rests;
 }
 
@@ -108,20 +108,20 @@ hears_none r us o to t opt rests = record {
 pub room_for_keys : (r : Round) (us : List Touches) (o : Option (List ℕ)) (to : Listener) (t u : Table) (keys : List KeyMsg)
     → HearsMotions r us o to t u → keys ≡ keys_to r.target r.keys.now to.window
     → CanHear to.window (most_bodies r to.window (input_of t to.window)) t
-    → CanHear to.window (length keys + length (change_told (change_of r.lost r.gained to.window))) u
+    → CanHear to.window (length keys + length (change_sent (change_of r.lost r.gained to.window))) u
 room_for_keys r us o to t u keys h is can =
     let size : length (map MotionBody h.motions) ≡ length h.motions = length-map h.motions MotionBody in
     let few = h.few in
     let many : length keys ≡ length (keys_to r.target r.keys.now to.window) = ap length is in
-    hears_after to (map MotionBody h.motions) _ _ t u h.told can (omega (arith, size, few, many))
+    hears_after to (map MotionBody h.motions) _ _ t u h.outgoing can (omega (arith, size, few, many))
 
 pub room_for_change : (r : Round) (to : Listener) (t u : Table) (keys : List KeyMsg) (change : Option Bool)
-    → TellsOne to (map Key keys) t u → change ≡ change_of r.lost r.gained to.window
-    → CanHear to.window (length keys + length (change_told (change_of r.lost r.gained to.window))) t
-    → CanHear to.window (length (change_told change)) u
+    → SendsOne to (map Key keys) t u → change ≡ change_of r.lost r.gained to.window
+    → CanHear to.window (length keys + length (change_sent (change_of r.lost r.gained to.window))) t
+    → CanHear to.window (length (change_sent change)) u
 room_for_change r to t u keys change h is can =
     let size : length (map Key keys) ≡ length keys = length-map keys Key in
-    let many : length (change_told change) ≡ length (change_told (change_of r.lost r.gained to.window)) = ap (λ x. length (change_told x)) is in
+    let many : length (change_sent change) ≡ length (change_sent (change_of r.lost r.gained to.window)) = ap (λ x. length (change_sent x)) is in
     hears_after to (map Key keys) _ _ t u h can (omega (arith, size, many))
 
 -- motions and a change of the focus leave the keys
@@ -130,33 +130,33 @@ motions_leave [] bs held = refl
 motions_leave (m ∷ ms) bs held = motions_leave ms bs held
 
 change_leaves : (bs : List Body) (change : Option Bool) (held : List KeyMsg)
-    → bodies_tracked (bs ++ change_told change) held ≡ bodies_tracked bs held
+    → bodies_tracked (bs ++ change_sent change) held ≡ bodies_tracked bs held
 change_leaves [] None held = refl
 change_leaves [] (Some b) held = refl
 change_leaves (b ∷ bs) change held = change_leaves bs change (keys_then b held)
 
--- what is told takes no more of the room than the most that may be told
+-- what is sent takes no more of the room than the most that may be sent
 round_spends : (r : Round) (us : List Touches) (o : Option (List ℕ)) (to : Listener) (t u x : Table) (keys : List KeyMsg) (change : Option Bool)
-    → (h : HearsMotions r us o to t u) → TellsOne to (bodies_of h.motions keys change) t x
+    → (h : HearsMotions r us o to t u) → SendsOne to (bodies_of h.motions keys change) t x
     → keys ≡ keys_to r.target r.keys.now to.window → change ≡ change_of r.lost r.gained to.window
     → Spends r to.window t x
-round_spends r us o to t u x keys change h told k c =
+round_spends r us o to t u x keys change h outgoing k c =
     let bodies = bodies_of h.motions keys change in
     let motions : length (map MotionBody h.motions) ≡ length h.motions = length-map h.motions MotionBody in
     let many : length (map Key keys) ≡ length keys = length-map keys Key in
     let both = map MotionBody h.motions ++ map Key keys in
     let rest : length both ≡ length (map MotionBody h.motions) + length (map Key keys) = length-append (map MotionBody h.motions) (map Key keys) in
-    let size : length bodies ≡ length both + length (change_told change) = length-append both (change_told change) in
+    let size : length bodies ≡ length both + length (change_sent change) = length-append both (change_sent change) in
     let as_keys : length keys ≡ length (keys_to r.target r.keys.now to.window) = ap length k in
-    let as_change : length (change_told change) ≡ length (change_told (change_of r.lost r.gained to.window)) = ap (λ x. length (change_told x)) c in
+    let as_change : length (change_sent change) ≡ length (change_sent (change_of r.lost r.gained to.window)) = ap (λ x. length (change_sent x)) c in
     let few = h.few in
     let spare : (channel_of x to.window).spare ≡ (channel_of t to.window).spare - length bodies =
-    ap (λ s. s.spare) told.channel_is ∙ heard-spare bodies to.origin to.clock (channel_of t to.window) in
+    ap (λ s. s.spare) outgoing.channel_is ∙ heard-spare bodies to.origin to.clock (channel_of t to.window) in
     record {
       room = omega (arith, spare, size, motions, rest, many, as_keys, as_change, few);
-      track_room = omega (arith, told.track_spare, size, motions, rest, many, as_keys, as_change, few);
+      track_room = omega (arith, outgoing.track_spare, size, motions, rest, many, as_keys, as_change, few);
       keys_are =
-          told.tracks.keys_are
+          outgoing.tracks.keys_are
           ∙ change_leaves both change (input_of t to.window).keys
           ∙ motions_leave h.motions (map Key keys) (input_of t to.window).keys
           ∙ ap (λ ks. bodies_tracked (map Key ks) (input_of t to.window).keys) k;
@@ -164,15 +164,15 @@ round_spends r us o to t u x keys change h told k c =
 
 -- all together
 pub hears_round : (r : Round) (us : List Touches) (o : Option (List ℕ)) (to : Listener) (t u v x : Table) (keys : List KeyMsg) (change : Option Bool)
-    → HearsMotions r us o to t u → TellsOne to (map Key keys) u v → TellsOne to (change_told change) v x
+    → HearsMotions r us o to t u → SendsOne to (map Key keys) u v → SendsOne to (change_sent change) v x
     → keys ≡ keys_to r.target r.keys.now to.window → change ≡ change_of r.lost r.gained to.window
     → HearsRound r us o to t x
 hears_round r us o to t u v x keys change h p q k c = record {
   bodies = bodies_of h.motions keys change;
-  told = all;
+  outgoing = all;
   spends = round_spends r us o to t u x keys change h all k c;
   by_rules = λ s e ts by round holds i. bodies_of (h.by_rules s e ts by round holds i) (k i) (c i);
 }
   where
-    all : TellsOne to (bodies_of h.motions keys change) t x
-    all = tells_then to _ (change_told change) t v x (tells_then to (map MotionBody h.motions) (map Key keys) t u v h.told p) q
+    all : SendsOne to (bodies_of h.motions keys change) t x
+    all = sends_then to _ (change_sent change) t v x (sends_then to (map MotionBody h.motions) (map Key keys) t u v h.outgoing p) q

@@ -14,13 +14,13 @@ use Rattle.window_snapshot.proofs.Masks.{mask_has-zero}
 use Rattle.routing_rules.specs.Scene.{Scene, Step, Moves}
 use Rattle.routing_rules.specs.Given.{changed, mark}
 use Rattle.routing_rules.specs.Taking.{takes, pilfers}
-use Rattle.routing_rules.specs.Told.{after, listing, moves, told, told_motion}
+use Rattle.routing_rules.specs.Outgoing.{after, listing, moves, outgoing, sent_motion}
 use Rattle.touch_state.specs.Touches.{Touches}
 use Rattle.touch_state.proofs.Sets.{and_true}
-use Rattle.route_split.specs.declared.mark.Mark.TheVariants.{Rests}
+use Rattle.route_split.specs.declared.mark.Mark.TheVariants.{NoOp}
 use Rattle.route_split.specs.Tables.{ChangesAll, any_at, holds_at}
 use Rattle.route_split.specs.Marking.{IsChanged, IsWhole, gives, taking, holds_after}
-use Rattle.route_split.proofs.ToldBy.{after_is}
+use Rattle.route_split.proofs.SentBy.{after_is}
 use Rattle.dispatch_tables.specs.Masks.{mask_less}
 use Rattle.dispatch_channels.specs.Table.{Table, channel_of, input_of, NoLessRoom}
 use Rattle.dispatch_channels.specs.Changes.{Publishes}
@@ -30,16 +30,16 @@ use Rattle.dispatch_round.specs.declared.round.Round.{Round}
 use Rattle.dispatch_round.specs.declared.listener.Listener.{Listener}
 use Rattle.dispatch_round.specs.Bodies.{keys_to, motions_of}
 use Rattle.dispatch_round.specs.Rounds.{IsStepIn, IsRound, may_take, may_hear, keyed, most_motions, is_concerned, IsLeft}
-use Rattle.dispatch_round.specs.Saying.{CanHear, TellsOne, HearsRound}
+use Rattle.dispatch_round.specs.Saying.{CanHear, SendsOne, HearsRound}
 use Rattle.dispatch_round.specs.Light.{IsLight, held_by, moved, most_moves, most_light, HasLight, HearsMoves, SpendsLight}
 use Rattle.key_tables.specs.Focused.{change_of}
 use Rattle.key_tables.specs.Held.{bodies_tracked}
 use Rattle.input_channel.specs.State.{published_at}
-use Rattle.dispatch_round.proofs.Saying.{tells_none, hears_after, heard-spare}
+use Rattle.dispatch_round.proofs.Saying.{sends_none, hears_after, heard-spare}
 use Rattle.dispatch_round.proofs.Hearing.{hears_round}
 use Rattle.dispatch_round.proofs.Reaching.{reached_other}
 use Rattle.dispatch_round.proofs.MoveLaws.{still_moves, few_moves}
-use Rattle.dispatch_round.proofs.Ruling.{motion_told, none_all}
+use Rattle.dispatch_round.proofs.Ruling.{motion_sent, none_all}
 
 -- ---- what a light round is
 
@@ -52,7 +52,7 @@ is_whole r light = subst IsWhole (sym light.mark_is) tt
 
 -- the tables stay as they are with its mark
 pub still_rests : (ts : List Touches) (r : Round) (place : ℕ) → IsLight r
-    → ((at : ℕ) → ChangesAll ts ts (gives Rests) (takes (taking ts Rests)) at (pilfers (taking ts Rests)))
+    → ((at : ℕ) → ChangesAll ts ts (gives NoOp) (takes (taking ts NoOp)) at (pilfers (taking ts NoOp)))
     → ChangesAll ts ts (gives r.mark) (takes (taking ts r.mark)) place (pilfers (taking ts r.mark))
 still_rests ts r place light same =
     subst (λ k. ChangesAll ts ts (gives k) (takes (taking ts k)) place (pilfers (taking ts k))) (sym light.mark_is) (same place)
@@ -62,7 +62,7 @@ no_change lost gained w l g =
     ap₂ (λ x y. change_of x y w) l g
     ∙ ap₂ (λ x y. cond x (Some false) (cond y (Some true) None)) (mask_has-zero w) (mask_has-zero w)
 
--- the windows that may be told something
+-- the windows that may be sent something
 free : (a k : Bool) → (((a || k) || false) || false) ≡ (a || k)
 free true k = refl
 free false true = refl
@@ -83,20 +83,20 @@ light_concerned r ts w light =
     or_false true = refl
     or_false false = refl
 
-    held : (o : Option Motion) → may_hear ts Rests o 0 w ≡ held_by ts o w
+    held : (o : Option Motion) → may_hear ts NoOp o 0 w ≡ held_by ts o w
     held None = refl
     held (Some m) = ap (λ b. (any_at ts w m.device || false) || b) (mask_has-zero w) ∙ or_false (any_at ts w m.device)
 
--- ---- a window is told
+-- ---- a window is sent
 
 pub hears_moved : (m : Motion) (r : Round) (us : List Touches) (to : Listener) (t u : Table) → IsLight r → option_copied r.motion ≡ Some m
-    → 1 ≤ m.device → m.device ≤ 8 → TellsOne to (moved us m to.window) t u → HearsMoves r us to t u
+    → 1 ≤ m.device → m.device ≤ 8 → SendsOne to (moved us m to.window) t u → HearsMoves r us to t u
 hears_moved m r us to t u light opt low high says = record {
   hears =
       record {
         motions = ms;
         few = subst (λ o. length ms ≤ most_motions o (input_of t to.window)) (sym opt) (omega (arith, one));
-        told = says;
+        outgoing = says;
         by_rules = λ s e ts by h holds. by_rules s e ts by h;
       };
   few = at_most;
@@ -108,10 +108,10 @@ hears_moved m r us to t u light opt low high says = record {
     ms : List Motion
     ms = moves m.device (listing held m.pointers)
 
-    told_is : (s : Scene) → told s (Moves m) to.window m.device
-        ≡ told_motion s m (changed m) to.window (s.holds to.window m.device) (after s (mark s (Moves m)) to.window m.device)
-    told_is s =
-        ap (λ b. cond b (told_motion s m (changed m) to.window (s.holds to.window m.device) (after s (mark s (Moves m)) to.window m.device)) [])
+    sent_is : (s : Scene) → outgoing s (Moves m) to.window m.device
+        ≡ sent_motion s m (changed m) to.window (s.holds to.window m.device) (after s (mark s (Moves m)) to.window m.device)
+    sent_is s =
+        ap (λ b. cond b (sent_motion s m (changed m) to.window (s.holds to.window m.device) (after s (mark s (Moves m)) to.window m.device)) [])
         (eq-eqb m.device m.device refl)
 
     by_rules : (s : Scene) (e : Step) (ts : List Touches) → IsChanged ts us r.mark None → IsRound s e ts r → ms ≡ motions_of s e to.window
@@ -128,9 +128,9 @@ hears_moved m r us to t u light opt low high says = record {
         fun_ext (λ i. after_is s ts r.mark (mark s (Moves m)) h.stands step.1 to.window m.device i ∙ sym (by.holds_are to.window m.device i)) in
         sym
         (ap (λ f. motions_of s f to.window) step.0
-        ∙ motion_told s m to.window low high
-        ∙ told_is s
-        ∙ ap₂ (told_motion s m (changed m) to.window) was now
+        ∙ motion_sent s m to.window low high
+        ∙ sent_is s
+        ∙ ap₂ (sent_motion s m (changed m) to.window) was now
         ∙ still_moves s m to.window held (is_move r m light opt))
 
     one : length ms ≤ 1
@@ -145,7 +145,7 @@ hears_nothing r us to t light opt = record {
       record {
         motions = [];
         few = omega arith;
-        told = tells_none to t;
+        outgoing = sends_none to t;
         by_rules = λ s e ts by h holds.
             none_all s e r.mark to.window (subst (λ o. IsStepIn s ts r.mark o r.watchers e) opt h.step_is) (ap may_take light.mark_is);
       };
@@ -160,14 +160,14 @@ room_for_light r us to t u keys h is can =
     let size : length (map MotionBody h.hears.motions) ≡ length h.hears.motions = length-map h.hears.motions MotionBody in
     let few = h.few in
     let many : length keys ≡ length (keys_to r.target r.keys.now to.window) = ap length is in
-    hears_after to (map MotionBody h.hears.motions) _ _ t u h.hears.told can (omega (arith, size, few, many))
+    hears_after to (map MotionBody h.hears.motions) _ _ t u h.hears.outgoing can (omega (arith, size, few, many))
 
--- it is told all of the round
+-- it is sent all of the round
 pub hears_light : (r : Round) (us : List Touches) (to : Listener) (t u v : Table) (keys : List KeyMsg) → IsLight r
-    → HearsMoves r us to t u → TellsOne to (map Key keys) u v → keys ≡ keys_to r.target r.keys.now to.window
+    → HearsMoves r us to t u → SendsOne to (map Key keys) u v → keys ≡ keys_to r.target r.keys.now to.window
     → HearsRound r us None to t v
 hears_light r us to t u v keys light h p is =
-    hears_round r us None to t u v v keys None h.hears p (tells_none to v) is (sym (no_change r.lost r.gained to.window light.lost_is light.gained_is))
+    hears_round r us None to t u v v keys None h.hears p (sends_none to v) is (sym (no_change r.lost r.gained to.window light.lost_is light.gained_is))
 
 -- and that spends no more than the most
 motions_leave : (ms : List Motion) (keys : List KeyMsg) → bodies_tracked (map MotionBody ms) keys ≡ keys
@@ -175,7 +175,7 @@ motions_leave [] keys = refl
 motions_leave (m ∷ ms) keys = motions_leave ms keys
 
 pub spends_light : (r : Round) (us : List Touches) (to : Listener) (t u v : Table) (keys : List KeyMsg)
-    → HearsMoves r us to t u → TellsOne to (map Key keys) u v → keys ≡ keys_to r.target r.keys.now to.window
+    → HearsMoves r us to t u → SendsOne to (map Key keys) u v → keys ≡ keys_to r.target r.keys.now to.window
     → SpendsLight r t v to.window
 spends_light r us to t u v keys h p is =
     let ms : List Motion = h.hears.motions in
@@ -184,16 +184,16 @@ spends_light r us to t u v keys h p is =
     let as_keys : length keys ≡ length (keys_to r.target r.keys.now to.window) = ap length is in
     let few = h.few in
     let first : (channel_of u to.window).spare ≡ (channel_of t to.window).spare - length (map MotionBody ms) =
-    ap (λ s. s.spare) h.hears.told.channel_is ∙ heard-spare (map MotionBody ms) to.origin to.clock (channel_of t to.window) in
+    ap (λ s. s.spare) h.hears.outgoing.channel_is ∙ heard-spare (map MotionBody ms) to.origin to.clock (channel_of t to.window) in
     let last : (channel_of v to.window).spare ≡ (channel_of u to.window).spare - length (map Key keys) =
     ap (λ s. s.spare) p.channel_is ∙ heard-spare (map Key keys) to.origin to.clock (channel_of u to.window) in
     record {
       room = omega (arith, first, last, motions, many, as_keys, few);
-      track_room = omega (arith, h.hears.told.track_spare, p.track_spare, motions, many, as_keys, few);
+      track_room = omega (arith, h.hears.outgoing.track_spare, p.track_spare, motions, many, as_keys, few);
       keys_are =
           p.tracks.keys_are
           ∙ ap₂ (λ (ks held : List KeyMsg). bodies_tracked (map Key ks) held) is
-          (h.hears.told.tracks.keys_are ∙ motions_leave ms (input_of t to.window).keys);
+          (h.hears.outgoing.tracks.keys_are ∙ motions_leave ms (input_of t to.window).keys);
     }
 
 -- ---- one window after another

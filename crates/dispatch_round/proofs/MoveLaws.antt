@@ -10,10 +10,10 @@ use Rattle.input_types.specs.declared.pointer.Pointer.{Pointer}
 use Rattle.window_snapshot.specs.Hits.{is_watcher_at}
 use Rattle.routing_rules.specs.Scene.{Scene}
 use Rattle.routing_rules.specs.Given.{changed}
-use Rattle.routing_rules.specs.Told.{listing, plain, moves, is_up, is_first, or_else, told_motion}
+use Rattle.routing_rules.specs.Outgoing.{listing, plain, moves, is_up, is_first, or_else, sent_motion}
 use Rattle.routing_rules.specs.Watching.{is_watching}
-use Rattle.route_split.specs.Telling.{told_rest}
-use Rattle.route_split.proofs.TellingLaws.{kept_told, none_told, rest_told, some_listed, some_move}
+use Rattle.route_split.specs.Sending.{sent_rest}
+use Rattle.route_split.proofs.SendingLaws.{kept_sent, none_sent, rest_sent, some_listed, some_move}
 
 none_in : (i : ℕ) → is_in i 0 ≡ false
 none_in i = rw (bit_at-zero i) refl
@@ -28,21 +28,21 @@ or_none (x ∷ xs) = refl
 
 -- a window that holds still what it held is told that this moves, as far as it is listed
 pub still_moves : (s : Scene) (m : Motion) (w : ℕ) (held : ℕ → Bool) → m.action ≡ Move
-    → told_motion s m (changed m) w held held ≡ moves m.device (listing held m.pointers)
+    → sent_motion s m (changed m) w held held ≡ moves m.device (listing held m.pointers)
 still_moves s m w held is = by_changed (changed m)
   where
-    rest : told_rest m None (s.last m.device) held held ≡ moves m.device (listing held m.pointers)
+    rest : sent_rest m None (s.last m.device) held held ≡ moves m.device (listing held m.pointers)
     rest =
-        kept_told m None (s.last m.device) held held 0 refl (λ i. none_in i ∙ sym (not_lost (held i)))
+        kept_sent m None (s.last m.device) held held 0 refl (λ i. none_in i ∙ sym (not_lost (held i)))
         ∙ or_none (moves m.device (listing held m.pointers))
 
     unwatched : (p : Pointer) → is_watching s m (Some p) w ≡ false
     unwatched p = ap (λ a. is_first a && s.able w && is_watcher_at s.windows (s.reach m.device) p.at.x p.at.y w) is
 
-    by_changed : (o : Option Pointer) → told_motion s m o w held held ≡ moves m.device (listing held m.pointers)
-    by_changed None = none_told s m w held held ∙ rest
+    by_changed : (o : Option Pointer) → sent_motion s m o w held held ≡ moves m.device (listing held m.pointers)
+    by_changed None = none_sent s m w held held ∙ rest
     by_changed (Some p) =
-        rest_told s m p w held held false (not_lost (held p.id)) (ap (λ a. is_up a && held p.id) is) (sym (unwatched p)) ∙ rest
+        rest_sent s m p w held held false (not_lost (held p.id)) (ap (λ a. is_up a && held p.id) is) (sym (unwatched p)) ∙ rest
 
 pub some_moves : (f : ℕ → Bool) (d : ℕ) (ps : List Pointer) → list_any (λ p. f p.id) ps ≡ true
     → moves d (listing f ps) ≡ plain d Move (listing f ps) ∷ []

@@ -8,16 +8,16 @@ use Rattle.cancel_synthesis.specs.Tracked.{Tracked}
 use Rattle.cancel_synthesis.specs.Tracked.{with_spare as tracked_with_spare}
 use Rattle.window_snapshot.specs.Mask.{mask_has, mask_with}
 use Rattle.dispatch_tables.specs.Masks.{mask_less}
-use Rattle.dispatch_channels.specs.Table.{Table, opened, channel_of, input_of, untold, with_room, but_for_room, NoLessRoom}
+use Rattle.dispatch_channels.specs.Table.{Table, opened, channel_of, input_of, unsent, with_room, but_for_room, NoLessRoom}
 use Rattle.dispatch_channels.proofs.Wholes.{channel_set_same, channel_set_other}
 use Rattle.dispatch_channels.proofs.Picking.{channel_low}
 use Rattle.touch_state.specs.Touches.{Touches}
 use Rattle.dispatch_channels.proofs.Moved.{reached, all_reached}
 use Rattle.input_types.specs.declared.motion.Motion.{Motion}
-use Rattle.key_tables.specs.Focused.{change_of, change_told}
+use Rattle.key_tables.specs.Focused.{change_of, change_sent}
 use Rattle.dispatch_round.specs.declared.round.Round.{Round}
 use Rattle.dispatch_round.specs.Bodies.{keys_to}
-use Rattle.dispatch_round.specs.Rounds.{most_motions, most_bodies, most_told, is_concerned, IsFew, HasMostRoom, HasRoom, HasMadeRoom, IsLeft, MakesRoom}
+use Rattle.dispatch_round.specs.Rounds.{most_motions, most_bodies, most_sent, is_concerned, IsFew, HasMostRoom, HasRoom, HasMadeRoom, IsLeft, MakesRoom}
 use Rattle.dispatch_round.proofs.Reaching.{not_reached, reached_next, reached_other}
 
 -- more room is no change but of the room
@@ -30,20 +30,20 @@ pub same_but_room : (c n : ℕ) (t : Table) → but_for_room (with_room c n t) �
 same_but_room c n t =
     ap₂ (λ ss is. let u : Table = record t { channels = ss; inputs = is } in u)
     (map_set (λ y. let z : ChannelState = record y { spare = 0 } in z) t.channels (c - 1) (with_spare n (channel_of t c)) (opened_with 0) refl)
-    (map_set (λ y. let z : Tracked = record y { spare = 0 } in z) t.inputs (c - 1) (tracked_with_spare n (input_of t c)) untold refl)
+    (map_set (λ y. let z : Tracked = record y { spare = 0 } in z) t.inputs (c - 1) (tracked_with_spare n (input_of t c)) unsent refl)
 
 -- room in one channel
 pub made_here : (t : Table) (k n : ℕ) → 1 ≤ k → k ≤ opened t → length t.inputs ≡ opened t
     → (channel_of (with_room k n t) k ≡ with_spare n (channel_of t k)) × (input_of (with_room k n t) k ≡ tracked_with_spare n (input_of t k))
 made_here t k n low high many = (
   channel_set_same t.channels k (with_spare n (channel_of t k)) low high,
-  get_or-set_same t.inputs (k - 1) (tracked_with_spare n (input_of t k)) untold (omega (arith, low, high, many)),
+  get_or-set_same t.inputs (k - 1) (tracked_with_spare n (input_of t k)) unsent (omega (arith, low, high, many)),
 )
 
 left_there : (t : Table) (k n c : ℕ) → 1 ≤ k → 1 ≤ c → c ≢ k → IsLeft t (with_room k n t) c
 left_there t k n c low from ne = (
   channel_set_other t.channels k c (with_spare n (channel_of t k)) low from ne,
-  get_or-set_other t.inputs (k - 1) (c - 1) (tracked_with_spare n (input_of t k)) untold (λ s. ne (omega (arith, s, low, from))),
+  get_or-set_other t.inputs (k - 1) (c - 1) (tracked_with_spare n (input_of t k)) unsent (λ s. ne (omega (arith, s, low, from))),
 )
 
 -- one channel after another
@@ -101,7 +101,7 @@ made_enough r first t c h =
 
     same_most : (r : Round) (k n : ℕ) (i : Tracked) → most_bodies r k (tracked_with_spare n i) ≡ most_bodies r k i
     same_most r k n i =
-        ap (λ m. m + length (keys_to r.target r.keys.now k) + length (change_told (change_of r.lost r.gained k))) (at (option_copied r.motion) n i)
+        ap (λ m. m + length (keys_to r.target r.keys.now k) + length (change_sent (change_of r.lost r.gained k))) (at (option_copied r.motion) n i)
 
     fits : (a b s x : ℕ) → a ≡ b → s ≡ max b x → a ≤ s
     fits a b s x e f = omega (arith, e, f)
@@ -109,13 +109,13 @@ made_enough r first t c h =
 -- and they are few still
 pub few_made : (r : Round) (first t : Table) (c : ℕ) → HasMadeRoom r first t c → IsFew r first c → IsFew r t c
 few_made r first t c h few =
-    subst (λ (i : Tracked). most_bodies r c i ≤ most_told r c) (sym h.1)
+    subst (λ (i : Tracked). most_bodies r c i ≤ most_sent r c) (sym h.1)
     (as_few (option_copied r.motion) few)
   where
     as_few : (o : Option Motion)
-        → most_motions o (input_of first c) + length (keys_to r.target r.keys.now c) + length (change_told (change_of r.lost r.gained c)) ≤ most_told r c
+        → most_motions o (input_of first c) + length (keys_to r.target r.keys.now c) + length (change_sent (change_of r.lost r.gained c)) ≤ most_sent r c
         → most_motions o (tracked_with_spare (most_bodies r c (input_of first c)) (input_of first c)) + length (keys_to r.target r.keys.now c)
-        + length (change_told (change_of r.lost r.gained c)) ≤ most_told r c
+        + length (change_sent (change_of r.lost r.gained c)) ≤ most_sent r c
     as_few None h = h
     as_few (Some m) h = h
 
@@ -142,7 +142,7 @@ makes_room r ts mask rest first t none is made left =
 pub no_less : (t u v : Table) → NoLessRoom t u → NoLessRoom u v → NoLessRoom t v
 no_less t u v h k c = (omega (arith, (h c).0, (k c).0), omega (arith, (h c).1, (k c).1))
 
--- another window is told few bodies
+-- another window is sent few bodies
 pub few_next : (r : Round) (first t : Table) (mask rest k : ℕ) → mask_has rest k ≡ true → mask_has mask k ≡ true
     → ((c : ℕ) → 1 ≤ c → reached mask rest c ≡ false → IsLeft first t c)
     → IsFew r t k
@@ -151,12 +151,12 @@ pub few_next : (r : Round) (first t : Table) (mask rest k : ℕ) → mask_has re
 few_next r first t mask rest k e is left here before c hear = elim (cases_eq c k) [
   | inl same ↦
       let was = left k (channel_low rest k e) (not_reached mask rest k e) in
-      subst (IsFew r first) (sym same) (subst (λ (i : Tracked). most_bodies r k i ≤ most_told r k) was.1 here)
+      subst (IsFew r first) (sym same) (subst (λ (i : Tracked). most_bodies r k i ≤ most_sent r k) was.1 here)
   | inr ne ↦ before c (sym (reached_other mask rest k c e ne) ∙ hear)
 ]
 
 pub still_most : (r : Round) (first t : Table) (c : ℕ) → IsLeft first t c → HasMostRoom r first c → HasMostRoom r t c
 still_most r first t c same h = record {
-  room = subst (λ (s : ChannelState). most_told r c ≤ s.spare) (sym same.0) h.room;
-  track_room = subst (λ (i : Tracked). most_told r c ≤ i.spare) (sym same.1) h.track_room;
+  room = subst (λ (s : ChannelState). most_sent r c ≤ s.spare) (sym same.0) h.room;
+  track_room = subst (λ (i : Tracked). most_sent r c ≤ i.spare) (sym same.1) h.track_room;
 }

@@ -1,4 +1,4 @@
--- What is told is what the rules say.
+-- What is sent is what the rules say.
 use Rattle.std.proofs.Common.{◌≡◌, ◌≢◌, ◌⊎◌, ℕ, zero, suc, ◌-◌, ◌≤◌, ◌==◌, nat_le, get_or, Bool, true, false, not, ◌&&◌, ◌||◌, cond, List, [], ◌∷◌, ◌++◌, flat_map, Option, Some, None, refl, sym, ap, ap₂, ◌∙◌, arith, append-nil, inl, inr}
 use Rattle.std.specs.List.{list_any}
 use Rattle.std.proofs.lemmas.Bool.{cases_eq, eq-eqb, ne_eqb, le-leb, leb-true, and_parts, and_from, both_ways, true≢false}
@@ -8,37 +8,37 @@ use Rattle.input_types.specs.declared.motion.Motion.{Motion}
 use Rattle.input_types.specs.declared.pointer.Pointer.{Pointer}
 use Rattle.window_snapshot.specs.Mask.{is_channel, mask_has, mask_with}
 use Rattle.window_snapshot.proofs.Masks.{mask_has-with, mask_has-zero}
-use Rattle.routing_rules.specs.Scene.{Scene, Step, Moves, Rests as Resting, Removes}
+use Rattle.routing_rules.specs.Scene.{Scene, Step, Moves, NoOp as NoOps, Removes}
 use Rattle.routing_rules.specs.Given.{changed, mark}
-use Rattle.routing_rules.specs.Told.{listing, after, told, told_motion, devices}
-use Rattle.routing_rules.proofs.ToldLaws.{quiet_cancels}
+use Rattle.routing_rules.specs.Outgoing.{listing, after, outgoing, sent_motion, devices}
+use Rattle.routing_rules.proofs.SentLaws.{quiet_cancels}
 use Rattle.cancel_synthesis.specs.Ends.{pointers_cancelled}
 use Rattle.cancel_synthesis.specs.Tracked.{Tracked, is_device, pointers_of}
 use Rattle.cancel_synthesis.proofs.PointerEnds.{cancels_law}
 use Rattle.pilfer_monitor.specs.Pilfer.{set_of}
 use Rattle.touch_state.specs.Touches.{Touches}
 use Rattle.route_split.specs.declared.mark.Mark.{Mark}
-use Rattle.route_split.specs.declared.mark.Mark.TheVariants.{Rests, Give, Lift, Slip, Empty, Pilfer, Unnamed, Mute, Forget}
-use Rattle.route_split.specs.declared.tells.Tells.{Tells}
-use Rattle.route_split.specs.declared.tells.Tells.TheVariants.{Nothing, One, Cancels}
+use Rattle.route_split.specs.declared.mark.Mark.TheVariants.{NoOp, Give, Lift, Slip, Empty, Pilfer, Unnamed, Mute, Forget}
+use Rattle.route_split.specs.declared.sends.Sends.{Sends}
+use Rattle.route_split.specs.declared.sends.Sends.TheVariants.{Nothing, One, Cancels}
 use Rattle.route_split.specs.Tables.{Stands, holds_at}
-use Rattle.route_split.specs.Marking.{IsWhole, IsStepOf, IsChanged, AreLosses, is_forget, holds_after, may_be_told}
-use Rattle.route_split.specs.Telling.{IsTold}
-use Rattle.route_split.proofs.ToldBy.{after_is, told_cancels, nothing_told, still_held}
+use Rattle.route_split.specs.Marking.{IsWhole, IsStepOf, IsChanged, AreLosses, is_forget, holds_after, may_be_sent}
+use Rattle.route_split.specs.Sending.{IsSent}
+use Rattle.route_split.proofs.SentBy.{after_is, sent_cancels, nothing_sent, still_held}
 use Rattle.route_split.proofs.Steps.{other_law}
 use Rattle.route_split.proofs.Quiet.{quiet_law}
-use Rattle.key_tables.specs.Focused.{change_of, change_told}
+use Rattle.key_tables.specs.Focused.{change_of, change_sent}
 use Rattle.dispatch_round.specs.declared.round.Round.{Round}
 use Rattle.dispatch_round.specs.Bodies.{motions_of, keys_to, bodies_of}
-use Rattle.dispatch_round.specs.Rounds.{IsStepIn, IsRound, HoldsPointers, may_take, may_hear, keyed, is_concerned, told_in}
+use Rattle.dispatch_round.specs.Rounds.{IsStepIn, IsRound, HoldsPointers, may_take, may_hear, keyed, is_concerned, sent_in}
 use Rattle.dispatch_round.specs.Saying.{motions_by, losses, pilfered_from}
 
 -- what was found for a device
-pub found_told : (x : Tells) (ms : List Motion) (d : ℕ) (last had : List Pointer) (before : ℕ → Bool)
-    → had ≡ listing before last → IsTold x ms d last before → motions_by x d had ≡ ms
-found_told Nothing ms d last had before is h = sym h
-found_told (One m) ms d last had before is h = sym h
-found_told (Cancels lost) ms d last had before is h =
+pub found_sent : (x : Sends) (ms : List Motion) (d : ℕ) (last had : List Pointer) (before : ℕ → Bool)
+    → had ≡ listing before last → IsSent x ms d last before → motions_by x d had ≡ ms
+found_sent Nothing ms d last had before is h = sym h
+found_sent (One m) ms d last had before is h = sym h
+found_sent (Cancels lost) ms d last had before is h =
     ap (pointers_cancelled d (λ i. is_in i lost)) is
     ∙ cancels_law d last before (λ i. before i && not (is_in i lost)) (λ i. is_in i lost) (λ i. refl)
     ∙ sym h
@@ -50,10 +50,10 @@ both_held true false f = refl
 both_held false true f = sym (f refl)
 both_held false false f = refl
 
-pub losses_told : (s : Scene) (e : Step) (ts us : List Touches) (k : Mark) (lost : Option (List ℕ)) (w d : ℕ) (input : Tracked)
+pub losses_sent : (s : Scene) (e : Step) (ts us : List Touches) (k : Mark) (lost : Option (List ℕ)) (w d : ℕ) (input : Tracked)
     → Stands s ts → IsStepOf k e → is_forget k ≡ false → IsChanged ts us k lost → pointers_of input d ≡ listing (s.holds w d) (s.last d)
-    → losses us w input d ≡ told s e w d
-losses_told s e ts us k lost w d input f h stays by is =
+    → losses us w input d ≡ outgoing s e w d
+losses_sent s e ts us k lost w d input f h stays by is =
     let was : (i : ℕ) → s.holds w d i ≡ holds_at ts w d i = λ i. ap (λ (g : ℕ → ℕ → ℕ → Bool). g w d i) f.holds_are in
     let now : (i : ℕ) → after s (mark s e) w d i ≡ holds_at us w d i =
     λ i. after_is s ts k (mark s e) f (other_law s ts k e f h) w d i ∙ sym (by.holds_are w d i) in
@@ -61,11 +61,11 @@ losses_told s e ts us k lost w d input f h stays by is =
     λ i. now i ∙ both_held (s.holds w d i) (holds_at us w d i) (λ l. was i ∙ still_held ts k e w d i h (sym (by.holds_are w d i) ∙ l)) in
     ap (pointers_cancelled d (λ i. not (holds_at us w d i))) is
     ∙ cancels_law d (s.last d) (s.holds w d) (after s (mark s e) w d) (λ i. not (holds_at us w d i)) same
-    ∙ sym (told_cancels s k e w d h stays)
+    ∙ sym (sent_cancels s k e w d h stays)
 
 pub takes_no_forget : (k : Mark) → may_take k ≡ true → is_forget k ≡ false
 takes_no_forget (Forget window) e = absurd (true≢false (sym e))
-takes_no_forget Rests e = refl
+takes_no_forget NoOp e = refl
 takes_no_forget (Give device id windows) e = refl
 takes_no_forget (Lift device id) e = refl
 takes_no_forget (Slip device id from to) e = refl
@@ -100,26 +100,26 @@ one_of g (suc (suc (suc (suc (suc (suc (suc zero))))))) low high = append-nil (g
 one_of g (suc (suc (suc (suc (suc (suc (suc (suc zero)))))))) low high = append-nil (g 8)
 one_of g (suc (suc (suc (suc (suc (suc (suc (suc (suc n))))))))) low high = absurd (omega (arith, high))
 
-pub motion_told : (s : Scene) (m : Motion) (w : ℕ) → 1 ≤ m.device → m.device ≤ 8 → motions_of s (Moves m) w ≡ told s (Moves m) w m.device
-motion_told s m w low high =
-    let g : ℕ → List Motion = λ d. told_motion s m (changed m) w (s.holds w d) (after s (mark s (Moves m)) w d) in
+pub motion_sent : (s : Scene) (m : Motion) (w : ℕ) → 1 ≤ m.device → m.device ≤ 8 → motions_of s (Moves m) w ≡ outgoing s (Moves m) w m.device
+motion_sent s m w low high =
+    let g : ℕ → List Motion = λ d. sent_motion s m (changed m) w (s.holds w d) (after s (mark s (Moves m)) w d) in
     one_of g m.device low high ∙ sym (ap (λ b. cond b (g m.device) []) (eq-eqb m.device m.device refl))
 
-pub found_all : (s : Scene) (e : Step) (m : Motion) (w : ℕ) (x : Tells) (had : List Pointer)
+pub found_all : (s : Scene) (e : Step) (m : Motion) (w : ℕ) (x : Sends) (had : List Pointer)
     → e ≡ Moves m → 1 ≤ m.device → m.device ≤ 8 → had ≡ listing (s.holds w m.device) (s.last m.device)
-    → IsTold x (told s (Moves m) w m.device) m.device (s.last m.device) (s.holds w m.device)
+    → IsSent x (outgoing s (Moves m) w m.device) m.device (s.last m.device) (s.holds w m.device)
     → motions_by x m.device had ≡ motions_of s e w
 found_all s e m w x had is low high holds h =
-    found_told x (told s (Moves m) w m.device) m.device (s.last m.device) had (s.holds w m.device) holds h
-    ∙ sym (motion_told s m w low high)
+    found_sent x (outgoing s (Moves m) w m.device) m.device (s.last m.device) had (s.holds w m.device) holds h
+    ∙ sym (motion_sent s m w low high)
     ∙ sym (ap (λ f. motions_of s f w) is)
 
 pub lost_all : (s : Scene) (e : Step) (ts us : List Touches) (k : Mark) (lost : Option (List ℕ)) (w : ℕ) (input : Tracked)
     → Stands s ts → IsStepOf k e → may_take k ≡ true → IsChanged ts us k lost → HoldsPointers s w input
     → flat_map (losses us w input) devices ≡ motions_of s e w
 lost_all s e ts us k lost w input f h takes by holds =
-    same_devices (losses us w input) (told s e w)
-    (λ d low high. losses_told s e ts us k lost w d input f h (takes_no_forget k takes) by (holds d low high))
+    same_devices (losses us w input) (outgoing s e w)
+    (λ d low high. losses_sent s e ts us k lost w d input f h (takes_no_forget k takes) by (holds d low high))
 
 -- what a window loses to one that pilfers, of the one device
 not_lost : (h n p : Bool) → (h && not (n && p)) ≡ (h && not (h && (n && p)))
@@ -156,21 +156,21 @@ pilfered_all s e ts (Pilfer device spy) lost w input f h are holds = by_range (i
         ∙ not_lost (holds_at ts w device i) (not (w == spy)) (holds_at ts spy device i)
         ∙ ap₂ (λ a b. a && not b) (sym (was device i)) (sym (are w i))
 
-    here : 1 ≤ device → device ≤ 8 → pilfered_from (Pilfer device spy) lost w input ≡ told s e w device
+    here : 1 ≤ device → device ≤ 8 → pilfered_from (Pilfer device spy) lost w input ≡ outgoing s e w device
     here low high =
         ap (pointers_cancelled device (λ i. is_in i (set_of lost w))) (holds device low high)
         ∙ cancels_law device (s.last device) (s.holds w device) (after s (mark s e) w device) (λ i. is_in i (set_of lost w)) same
-        ∙ sym (told_cancels s (Pilfer device spy) e w device h refl)
+        ∙ sym (sent_cancels s (Pilfer device spy) e w device h refl)
 
-    there : (d : ℕ) → d ≢ device → told s e w d ≡ []
+    there : (d : ℕ) → d ≢ device → outgoing s e w d ≡ []
     there d ne =
-        told_cancels s (Pilfer device spy) e w d h refl
+        sent_cancels s (Pilfer device spy) e w d h refl
         ∙ quiet_cancels d (s.last d) (s.holds w d) (after s (mark s e) w d)
         (λ i. now d i ∙ none_of (not (w == spy)) (d == device) (holds_at ts spy device i) (holds_at ts w d i) (ne_eqb d device ne) ∙ sym (was d i))
 
-    at : (d : ℕ) → (d ≡ device) ⊎ (d ≢ device) → told s e w d ≡ cond (device == d) (told s e w d) []
-    at d (inl is) = sym (ap (λ b. cond b (told s e w d) []) (eq-eqb device d (sym is)))
-    at d (inr ne) = there d ne ∙ sym (ap (λ b. cond b (told s e w d) []) (ne_eqb device d (λ q. ne (sym q))))
+    at : (d : ℕ) → (d ≡ device) ⊎ (d ≢ device) → outgoing s e w d ≡ cond (device == d) (outgoing s e w d) []
+    at d (inl is) = sym (ap (λ b. cond b (outgoing s e w d) []) (eq-eqb device d (sym is)))
+    at d (inr ne) = there d ne ∙ sym (ap (λ b. cond b (outgoing s e w d) []) (ne_eqb device d (λ q. ne (sym q))))
 
     by_range : (b : Bool) → is_device device ≡ b → pilfered_from (Pilfer device spy) lost w input ≡ motions_of s e w
     by_range true is =
@@ -178,13 +178,13 @@ pilfered_all s e ts (Pilfer device spy) lost w input f h are holds = by_range (i
         let low = leb-true 1 device both.0 in
         let high = leb-true device 8 both.1 in
         here low high
-        ∙ sym (one_of (told s e w) device low high)
-        ∙ sym (same_devices (told s e w) (λ d. cond (device == d) (told s e w d) []) (λ d from to. at d (cases_eq d device)))
+        ∙ sym (one_of (outgoing s e w) device low high)
+        ∙ sym (same_devices (outgoing s e w) (λ d. cond (device == d) (outgoing s e w d) []) (λ d from to. at d (cases_eq d device)))
     by_range false is =
         ap (λ b. pointers_cancelled device (λ i. is_in i (set_of lost w)) (cond b (get_or input.pointers (device - 1) []) [])) is
-        ∙ sym (same_devices (told s e w) (λ d. [])
+        ∙ sym (same_devices (outgoing s e w) (λ d. [])
         (λ d from to. there d (λ q. both_ways (is_device device) is (ap is_device (sym q) ∙ and_from (nat_le 1 d) (nat_le d 8) (le-leb 1 d from) (le-leb d 8 to)))))
-pilfered_all s e ts Rests lost w input f h are holds = absurd are
+pilfered_all s e ts NoOp lost w input f h are holds = absurd are
 pilfered_all s e ts (Give device id windows) lost w input f h are holds = absurd are
 pilfered_all s e ts (Lift device id) lost w input f h are holds = absurd are
 pilfered_all s e ts (Slip device id from to) lost w input f h are holds = absurd are
@@ -193,25 +193,25 @@ pilfered_all s e ts (Unnamed windows) lost w input f h are holds = absurd are
 pilfered_all s e ts (Mute channels) lost w input f h are holds = absurd are
 pilfered_all s e ts (Forget window) lost w input f h are holds = absurd are
 
-rests_told : (s : Scene) (e : Step) (k : Mark) (w d : ℕ) → IsStepOf k e → may_take k ≡ false → told s e w d ≡ []
-rests_told s (Removes v) (Forget window) w d h e = refl
-rests_told s Resting Rests w d h e = refl
-rests_told s e Rests w d h none = at e h
+no_op_sent : (s : Scene) (e : Step) (k : Mark) (w d : ℕ) → IsStepOf k e → may_take k ≡ false → outgoing s e w d ≡ []
+no_op_sent s (Removes v) (Forget window) w d h e = refl
+no_op_sent s NoOps NoOp w d h e = refl
+no_op_sent s e NoOp w d h none = at e h
   where
-    at : (e : Step) → IsStepOf Rests e → told s e w d ≡ []
-    at Resting h = refl
+    at : (e : Step) → IsStepOf NoOp e → outgoing s e w d ≡ []
+    at NoOps h = refl
     at _ h = absurd h
-rests_told s e (Forget window) w d h none = nothing_told s (Forget window) e w d h refl
-rests_told s e (Give device id windows) w d h none = absurd (true≢false none)
-rests_told s e (Lift device id) w d h none = absurd (true≢false none)
-rests_told s e (Slip device id from to) w d h none = absurd (true≢false none)
-rests_told s e (Empty device) w d h none = absurd (true≢false none)
-rests_told s e (Pilfer device window) w d h none = absurd (true≢false none)
-rests_told s e (Unnamed windows) w d h none = absurd (true≢false none)
-rests_told s e (Mute channels) w d h none = absurd (true≢false none)
+no_op_sent s e (Forget window) w d h none = nothing_sent s (Forget window) e w d h refl
+no_op_sent s e (Give device id windows) w d h none = absurd (true≢false none)
+no_op_sent s e (Lift device id) w d h none = absurd (true≢false none)
+no_op_sent s e (Slip device id from to) w d h none = absurd (true≢false none)
+no_op_sent s e (Empty device) w d h none = absurd (true≢false none)
+no_op_sent s e (Pilfer device window) w d h none = absurd (true≢false none)
+no_op_sent s e (Unnamed windows) w d h none = absurd (true≢false none)
+no_op_sent s e (Mute channels) w d h none = absurd (true≢false none)
 
 pub none_all : (s : Scene) (e : Step) (k : Mark) (w : ℕ) → IsStepOf k e → may_take k ≡ false → [] ≡ motions_of s e w
-none_all s e k w h none = sym (same_devices (told s e w) (λ d. []) (λ d low high. rests_told s e k w d h none))
+none_all s e k w h none = sym (same_devices (outgoing s e w) (λ d. []) (λ d low high. no_op_sent s e k w d h none))
 
 -- a window that is not concerned
 neither : (a b : Bool) → (a || b) ≡ false → (a ≡ false) × (b ≡ false)
@@ -227,24 +227,24 @@ none_hear p f (d ∷ ds) none h =
 quiet_motions : (s : Scene) (e : Step) (ts : List Touches) (k : Mark) (o : Option Motion) (watchers w : ℕ)
     → Stands s ts → IsWhole k → IsStepIn s ts k o watchers e → may_hear ts k o watchers w ≡ false → motions_of s e w ≡ []
 quiet_motions s e ts k (Some m) watchers w f whole h none =
-    let both = neither (may_be_told ts k w m.device) (mask_has watchers w) none in
+    let both = neither (may_be_sent ts k w m.device) (mask_has watchers w) none in
     ap (λ x. motions_of s x w) h.0
-    ∙ same_devices (told s (Moves m) w) (λ d. []) (λ d low high. at d both (cases_eq m.device d))
+    ∙ same_devices (outgoing s (Moves m) w) (λ d. []) (λ d low high. at d both (cases_eq m.device d))
   where
-    here : (d : ℕ) → m.device ≡ d → may_be_told ts k w m.device ≡ false → mask_has watchers w ≡ false → told s (Moves m) w d ≡ []
+    here : (d : ℕ) → m.device ≡ d → may_be_sent ts k w m.device ≡ false → mask_has watchers w ≡ false → outgoing s (Moves m) w d ≡ []
     here d same a b =
-        ap (told s (Moves m) w) (sym same)
+        ap (outgoing s (Moves m) w) (sym same)
         ∙ (quiet_law s ts k w m.device f whole a).0 m h.1 (sym (h.3 w) ∙ b)
 
-    at : (d : ℕ) → (may_be_told ts k w m.device ≡ false) × (mask_has watchers w ≡ false) → (m.device ≡ d) ⊎ (m.device ≢ d) → told s (Moves m) w d ≡ []
+    at : (d : ℕ) → (may_be_sent ts k w m.device ≡ false) × (mask_has watchers w ≡ false) → (m.device ≡ d) ⊎ (m.device ≢ d) → outgoing s (Moves m) w d ≡ []
     at d both (inl same) = here d same both.0 both.1
-    at d both (inr ne) = ap (λ b. cond b (told_motion s m (changed m) w (s.holds w d) (after s (mark s (Moves m)) w d)) []) (ne_eqb m.device d ne)
+    at d both (inr ne) = ap (λ b. cond b (sent_motion s m (changed m) w (s.holds w d) (after s (mark s (Moves m)) w d)) []) (ne_eqb m.device d ne)
 quiet_motions s e ts k None watchers w f whole h none = at (may_take k) refl
   where
     at : (b : Bool) → may_take k ≡ b → motions_of s e w ≡ []
     at false rests = sym (none_all s e k w h rests)
     at true does =
-        none_hear (may_be_told ts k w) (told s e w) devices (sym (ap (λ b. b && list_any (may_be_told ts k w) devices) does) ∙ none)
+        none_hear (may_be_sent ts k w) (outgoing s e w) devices (sym (ap (λ b. b && list_any (may_be_sent ts k w) devices) does) ∙ none)
         (λ d quiet. (quiet_law s ts k w d f whole quiet).1 e h)
 
 quiet_keys : (keys : List KeyMsg) (target w : ℕ) → is_channel w ≡ true → mask_has (keyed keys target) w ≡ false → keys_to target keys w ≡ []
@@ -260,13 +260,13 @@ quiet_keys (m ∷ ms) target w is none = elim (cases_eq w target) [
   | inr ne ↦ ap (λ b. cond b (m ∷ ms) []) (ne_eqb w target ne)
 ]
 
-quiet_change : (lost gained w : ℕ) → mask_has lost w ≡ false → mask_has gained w ≡ false → change_told (change_of lost gained w) ≡ []
+quiet_change : (lost gained w : ℕ) → mask_has lost w ≡ false → mask_has gained w ≡ false → change_sent (change_of lost gained w) ≡ []
 quiet_change lost gained w a b =
-    ap₂ (λ x y. change_told (cond x (Some false) (cond y (Some true) None))) a b
+    ap₂ (λ x y. change_sent (cond x (Some false) (cond y (Some true) None))) a b
 
-pub quiet_told : (s : Scene) (e : Step) (ts : List Touches) (r : Round) (w : ℕ)
-    → IsRound s e ts r → IsWhole r.mark → is_channel w ≡ true → is_concerned ts r w ≡ false → told_in r s e w ≡ []
-quiet_told s e ts r w h whole is none =
+pub quiet_sent : (s : Scene) (e : Step) (ts : List Touches) (r : Round) (w : ℕ)
+    → IsRound s e ts r → IsWhole r.mark → is_channel w ≡ true → is_concerned ts r w ≡ false → sent_in r s e w ≡ []
+quiet_sent s e ts r w h whole is none =
     let a = neither _ (mask_has r.gained w) none in
     let b = neither _ (mask_has r.lost w) a.0 in
     let d = neither _ (mask_has (keyed r.keys.now r.target) w) b.0 in

@@ -1,4 +1,4 @@
--- A window is told one body after the other.
+-- A window is sent one body after the other.
 use Rattle.std.proofs.Common.{◌≡◌, ℕ, ◌+◌, ◌-◌, ◌≤◌, List, [], ◌∷◌, ◌++◌, length, get_or, refl, sym, ap, ◌∙◌, arith, length-append}
 use Rattle.std.proofs.lemmas.List.{length-set, get_or-set_other}
 use Rattle.input_types.specs.declared.axis.Pixel.{Pixel}
@@ -9,18 +9,18 @@ use Rattle.input_channel.specs.State.{ChannelState, enqueued}
 use Rattle.cancel_synthesis.specs.Tracked.{pointers_then, keys_then}
 use Rattle.key_tables.specs.Held.{bodies_tracked}
 use Rattle.window_snapshot.specs.Mask.{mask_has}
-use Rattle.dispatch_channels.specs.Table.{Table, opened, IsOpened, channel_in, channel_of, untold}
+use Rattle.dispatch_channels.specs.Table.{Table, opened, IsOpened, channel_in, channel_of, unsent}
 use Rattle.dispatch_channels.specs.Heard.{body_from}
-use Rattle.dispatch_channels.specs.Changes.{Tells}
+use Rattle.dispatch_channels.specs.Changes.{Sends}
 use Rattle.dispatch_channels.proofs.Wholes.{channel_set_same, channel_set_other}
 use Rattle.dispatch_round.specs.declared.listener.Listener.{Listener}
 use Rattle.dispatch_round.specs.Bodies.{pointers_tracked}
-use Rattle.dispatch_round.specs.Told.{heard}
-use Rattle.dispatch_round.specs.Saying.{CanHear, TellsOne}
+use Rattle.dispatch_round.specs.Outgoing.{heard}
+use Rattle.dispatch_round.specs.Saying.{CanHear, SendsOne}
 
--- nothing is told
-pub tells_none : (to : Listener) (t : Table) → TellsOne to [] t t
-tells_none to t = record {
+-- nothing is sent
+pub sends_none : (to : Listener) (t : Table) → SendsOne to [] t t
+sends_none to t = record {
   channel_is = refl;
   tracks = record { pointers_are = λ d. refl; keys_are = refl };
   track_spare = omega arith;
@@ -28,13 +28,13 @@ tells_none to t = record {
   as_many = refl;
   live_is = refl;
   able_is = refl;
-  namings_are = refl;
+  anrs_are = refl;
 }
 
 -- one body is
-pub tells_one : (to : Listener) (b : Body) (t u : Table)
-    → Tells to.window b to.origin to.clock t u → IsOpened t to.window → TellsOne to (b ∷ []) t u
-tells_one to b t u h opened =
+pub sends_one : (to : Listener) (b : Body) (t u : Table)
+    → Sends to.window b to.origin to.clock t u → IsOpened t to.window → SendsOne to (b ∷ []) t u
+sends_one to b t u h opened =
     let low : 1 ≤ to.window = opened.0 in
     let high : to.window ≤ length t.channels = opened.1 in
     record {
@@ -43,13 +43,13 @@ tells_one to b t u h opened =
       track_spare = h.tracks.spare_is;
       others = λ k from ne. (
         ap (λ ss. channel_in ss k) h.channels_are ∙ channel_set_other t.channels to.window k _ low from ne,
-        ap (λ is. get_or is (k - 1) untold) h.inputs_are
-            ∙ get_or-set_other t.inputs (to.window - 1) (k - 1) _ untold (λ e. ne (omega (arith, e, low, from))),
+        ap (λ is. get_or is (k - 1) unsent) h.inputs_are
+            ∙ get_or-set_other t.inputs (to.window - 1) (k - 1) _ unsent (λ e. ne (omega (arith, e, low, from))),
       );
       as_many = ap length h.channels_are ∙ length-set t.channels (to.window - 1) _;
       live_is = h.live_is;
       able_is = h.able_is;
-      namings_are = h.namings_are;
+      anrs_are = h.anrs_are;
     }
 
 -- some, and then some more
@@ -67,8 +67,8 @@ keys-append : (xs ys : List Body) (ks : List KeyMsg) → bodies_tracked (xs ++ y
 keys-append [] ys ks = refl
 keys-append (x ∷ xs) ys ks = keys-append xs ys (keys_then x ks)
 
-pub tells_then : (to : Listener) (xs ys : List Body) (t u v : Table) → TellsOne to xs t u → TellsOne to ys u v → TellsOne to (xs ++ ys) t v
-tells_then to xs ys t u v p q =
+pub sends_then : (to : Listener) (xs ys : List Body) (t u v : Table) → SendsOne to xs t u → SendsOne to ys u v → SendsOne to (xs ++ ys) t v
+sends_then to xs ys t u v p q =
     let size : length (xs ++ ys) ≡ length xs + length ys = length-append xs ys in
     record {
       channel_is = q.channel_is ∙ ap (heard ys to.origin to.clock) p.channel_is ∙ sym (heard-append xs ys to.origin to.clock (channel_of t to.window));
@@ -81,7 +81,7 @@ tells_then to xs ys t u v p q =
       as_many = q.as_many ∙ p.as_many;
       live_is = q.live_is ∙ p.live_is;
       able_is = q.able_is ∙ p.able_is;
-      namings_are = q.namings_are ∙ p.namings_are;
+      anrs_are = q.anrs_are ∙ p.anrs_are;
     }
 
 -- each takes some of the room
@@ -93,7 +93,7 @@ heard-spare (x ∷ xs) o now s =
     rest ∙ omega arith
 
 pub hears_after : (to : Listener) (xs : List Body) (n m : ℕ) (t u : Table)
-    → TellsOne to xs t u → CanHear to.window n t → m + length xs ≤ n → CanHear to.window m u
+    → SendsOne to xs t u → CanHear to.window n t → m + length xs ≤ n → CanHear to.window m u
 hears_after to xs n m t u h can le =
     let spare : (channel_of u to.window).spare ≡ (channel_of t to.window).spare - length xs =
     ap (λ s. s.spare) h.channel_is ∙ heard-spare xs to.origin to.clock (channel_of t to.window) in

@@ -12,7 +12,7 @@ use Rattle.input_types.specs.declared.motion.Motion.{Motion}
 use Rattle.input_types.specs.declared.pointer.Pointer.{Pointer}
 use Rattle.window_snapshot.specs.Mask.{mask_has}
 use Rattle.focus_resolver.proofs.Masks.{mask_has-or}
-use Rattle.routing_rules.specs.Told.{devices}
+use Rattle.routing_rules.specs.Outgoing.{devices}
 use Rattle.cancel_synthesis.specs.Ends.{pointers_cancelled}
 use Rattle.cancel_synthesis.specs.Tracked.{Tracked, pointers_of}
 use Rattle.cancel_synthesis.proofs.CancelSteps.{first_of, first_of_none}
@@ -21,23 +21,23 @@ use Rattle.route_split.specs.Tables.{holds_at}
 use Rattle.dispatch_channels.specs.Table.{Table, input_of}
 use Rattle.dispatch_round.specs.declared.listener.Listener.{Listener}
 use Rattle.dispatch_round.specs.Rounds.{count_of}
-use Rattle.dispatch_round.specs.Saying.{CanHear, TellsOne, losses}
-use Rattle.dispatch_round.proofs.Saying.{tells_none, tells_then, hears_after, hears_less}
+use Rattle.dispatch_round.specs.Saying.{CanHear, SendsOne, losses}
+use Rattle.dispatch_round.proofs.Saying.{sends_none, sends_then, hears_after, hears_less}
 use Rattle.dispatch_round.proofs.Cancelling.{cancelled_few, cancelled_elsewhere, drop_devices}
 
 -- the element at a place, and those behind it
 drop_here : {A : Type 0} (xs : List A) (i : ℕ) (x : A) → i < length xs → x ≡ get_or xs i x → drop i xs ≡ x ∷ drop (i + 1) xs
 drop_here xs i x lt is = drop-cons xs i x lt ∙ ap₂ (λ y n. y ∷ drop n xs) (sym is) (sym (add-one i))
 
--- one is told, and then the rest
+-- one is sent, and then the rest
 pub say_next : (to : Listener) (b : Body) (all rest : List Body) (t u v : Table)
-    → all ≡ b ∷ rest → TellsOne to (b ∷ []) t u → TellsOne to rest u v → TellsOne to all t v
-say_next to b all rest t u v e p q = subst (λ (bs : List Body). TellsOne to bs t v) (sym e) (tells_then to (b ∷ []) rest t u v p q)
+    → all ≡ b ∷ rest → SendsOne to (b ∷ []) t u → SendsOne to rest u v → SendsOne to all t v
+say_next to b all rest t u v e p q = subst (λ (bs : List Body). SendsOne to bs t v) (sym e) (sends_then to (b ∷ []) rest t u v p q)
 
 -- nothing is left to tell
 pub say_rest : {A : Type 0} (to : Listener) (f : List A → List Body) (xs : List A) (i : ℕ) (t : Table)
-    → length xs ≤ i → f [] ≡ [] → TellsOne to (f (drop i xs)) t t
-say_rest to f xs i t le e = subst (λ (bs : List Body). TellsOne to bs t t) (sym (ap f (drop_all i xs le) ∙ e)) (tells_none to t)
+    → length xs ≤ i → f [] ≡ [] → SendsOne to (f (drop i xs)) t t
+say_rest to f xs i t le e = subst (λ (bs : List Body). SendsOne to bs t t) (sym (ap f (drop_all i xs le) ∙ e)) (sends_none to t)
 
 -- the next of any bodies made one by one
 pub each_next_of : {A : Type 0} (f : A → Body) (xs : List A) (i : ℕ) (x : A) → i < length xs → x ≡ get_or xs i x
@@ -45,19 +45,19 @@ pub each_next_of : {A : Type 0} (f : A → Body) (xs : List A) (i : ℕ) (x : A)
 each_next_of f xs i x lt is = ap (map f) (drop_here xs i x lt is)
 
 pub one_less : (to : Listener) (b : Body) (n i : ℕ) (t u : Table)
-    → TellsOne to (b ∷ []) t u → CanHear to.window (n - i) t → i < n → CanHear to.window (n - (i + 1)) u
+    → SendsOne to (b ∷ []) t u → CanHear to.window (n - i) t → i < n → CanHear to.window (n - (i + 1)) u
 one_less to b n i t u h can lt = hears_after to (b ∷ []) (n - i) (n - (i + 1)) t u h can (omega (arith, lt))
 
 -- the next of some motions
 pub motions_next : (to : Listener) (all : List Motion) (m : Motion) (n : List Motion) (t u v : Table)
-    → Some m ≡ slice_get all 0 → n ≡ drop 1 all → TellsOne to (MotionBody m ∷ []) t u → TellsOne to (map MotionBody n) u v
-    → TellsOne to (map MotionBody all) t v
+    → Some m ≡ slice_get all 0 → n ≡ drop 1 all → SendsOne to (MotionBody m ∷ []) t u → SendsOne to (map MotionBody n) u v
+    → SendsOne to (map MotionBody all) t v
 motions_next to all m n t u v is others p q =
     say_next to (MotionBody m) (map MotionBody all) (map MotionBody n) t u v
     (ap (map MotionBody) (first_of all m is ∙ ap (λ (ms : List Motion). m ∷ ms) (sym others))) p q
 
 pub motions_less : (to : Listener) (all : List Motion) (m : Motion) (n : List Motion) (t u : Table)
-    → Some m ≡ slice_get all 0 → n ≡ drop 1 all → TellsOne to (MotionBody m ∷ []) t u → CanHear to.window (length all) t
+    → Some m ≡ slice_get all 0 → n ≡ drop 1 all → SendsOne to (MotionBody m ∷ []) t u → CanHear to.window (length all) t
     → CanHear to.window (length n) u
 motions_less to all m n t u is others h can =
     let size : length all ≡ suc (length n) = ap length (first_of all m is ∙ ap (λ (ms : List Motion). m ∷ ms) (sym others)) in
@@ -68,16 +68,16 @@ motions_shrink all m n is others =
     let size : length all ≡ suc (length n) = ap length (first_of all m is ∙ ap (λ (ms : List Motion). m ∷ ms) (sym others)) in
     omega (arith, size)
 
-pub motions_none : (to : Listener) (all : List Motion) (t : Table) → None ≡ slice_get all 0 → TellsOne to (map MotionBody all) t t
-motions_none to all t is = subst (λ (ms : List Motion). TellsOne to (map MotionBody ms) t t) (sym (first_of_none all is)) (tells_none to t)
+pub motions_none : (to : Listener) (all : List Motion) (t : Table) → None ≡ slice_get all 0 → SendsOne to (map MotionBody all) t t
+motions_none to all t is = subst (λ (ms : List Motion). SendsOne to (map MotionBody ms) t t) (sym (first_of_none all is)) (sends_none to t)
 
 -- the cancels of some of the pointers that a window has
-pub few_cancels : (d : ℕ) (lost : ℕ → Bool) (w : ℕ) (told : List Motion) (had : List Pointer) (n : ℕ) (t : Table)
-    → told ≡ pointers_cancelled d lost had → length had ≤ n → CanHear w n t → CanHear w (length told) t
-few_cancels d lost w told had n t is few can =
-    let size : length told ≡ length (pointers_cancelled d lost had) = ap length is in
+pub few_cancels : (d : ℕ) (lost : ℕ → Bool) (w : ℕ) (outgoing : List Motion) (had : List Pointer) (n : ℕ) (t : Table)
+    → outgoing ≡ pointers_cancelled d lost had → length had ≤ n → CanHear w n t → CanHear w (length outgoing) t
+few_cancels d lost w outgoing had n t is few can =
+    let size : length outgoing ≡ length (pointers_cancelled d lost had) = ap length is in
     let less : length (pointers_cancelled d lost had) ≤ length had = cancelled_few d lost had in
-    hears_less w n (length told) t can (omega (arith, size, less, few))
+    hears_less w n (length outgoing) t can (omega (arith, size, less, few))
 
 -- the pointers of the next device
 pub room_for_device : (w k d : ℕ) (first now : Tracked) (t : Table)
@@ -98,13 +98,13 @@ same_losses ts w d e now first is same =
 pub losses_next : (to : Listener) (ts : List Touches) (k d : ℕ) (first : Tracked) (t u v : Table)
     → k < 8 → d ≡ k + 1 → ((e : ℕ) → k < e → pointers_of (input_of u to.window) e ≡ pointers_of first e)
     → CanHear to.window (count_of first (drop k devices)) u
-    → ((x : Table) → TellsOne to (map MotionBody (flat_map (losses ts to.window first) (drop k devices))) u x
-    → TellsOne to (map MotionBody (flat_map (losses ts to.window first) devices)) t x)
-    → TellsOne to (map MotionBody (losses ts to.window (input_of u to.window) d)) u v
+    → ((x : Table) → SendsOne to (map MotionBody (flat_map (losses ts to.window first) (drop k devices))) u x
+    → SendsOne to (map MotionBody (flat_map (losses ts to.window first) devices)) t x)
+    → SendsOne to (map MotionBody (losses ts to.window (input_of u to.window) d)) u v
     → CanHear to.window (count_of first (drop (k + 1) devices)) v
     × ((e : ℕ) → k + 1 < e → pointers_of (input_of v to.window) e ≡ pointers_of first e)
-    × ((x : Table) → TellsOne to (map MotionBody (flat_map (losses ts to.window first) (drop (k + 1) devices))) v x
-    → TellsOne to (map MotionBody (flat_map (losses ts to.window first) devices)) t x)
+    × ((x : Table) → SendsOne to (map MotionBody (flat_map (losses ts to.window first) (drop (k + 1) devices))) v x
+    → SendsOne to (map MotionBody (flat_map (losses ts to.window first) devices)) t x)
 losses_next to ts k d first t u v lt is same can all h =
     let now : List Motion = losses ts to.window (input_of u to.window) d in
     let ds : List ℕ = drop (k + 1) devices in
@@ -124,8 +124,8 @@ losses_next to ts k d first t u v lt is same can all h =
           h.tracks.pointers_are e
           ∙ cancelled_elsewhere d (λ i. not (holds_at ts to.window d i)) (pointers_of (input_of u to.window) d) e (pointers_of (input_of u to.window) e) (ne_eqb d e (λ s. absurd (omega (arith, above, is, s))))
           ∙ same e (omega (arith, above)),
-      λ x rest. all x (subst (λ (bs : List Body). TellsOne to bs u x) joined
-          (tells_then to (map MotionBody now) (map MotionBody (flat_map (losses ts to.window first) ds)) u v x h rest)),
+      λ x rest. all x (subst (λ (bs : List Body). SendsOne to bs u x) joined
+          (sends_then to (map MotionBody now) (map MotionBody (flat_map (losses ts to.window first) ds)) u v x h rest)),
     )
 
 -- the windows of the next device

@@ -1,4 +1,4 @@
--- The windows of a mask are told something, one after another.
+-- The windows of a mask are sent something, one after another.
 use Rattle.std.specs.Prelude.{◌≡◌, ◌≤◌, ℕ, Bool, true, false, List, Option, IfSome}
 use Rattle.input_types.specs.declared.axis.Pixel.{Pixel}
 use Rattle.routing_rules.specs.Scene.{Scene, Step}
@@ -7,20 +7,20 @@ use Rattle.route_split.specs.Marking.{IsChanged, AreLosses}
 use Rattle.dispatch_channels.specs.Table.{Table, opened, channel_of, input_of}
 use Rattle.dispatch_round.specs.declared.round.Round.{Round}
 use Rattle.dispatch_round.specs.Bodies.{TracksAll}
-use Rattle.dispatch_round.specs.Rounds.{IsRound, AllHoldPointers, told_in}
-use Rattle.dispatch_round.specs.Told.{origin_at, heard}
+use Rattle.dispatch_round.specs.Rounds.{IsRound, AllHoldPointers, sent_in}
+use Rattle.dispatch_round.specs.Outgoing.{origin_at, heard}
 use Rattle.dispatch_round.specs.Saying.{Spends}
 
 -- The channels that pass the test are told what is said in the round, in each scene; the others are as they were, and so is all else.
 pub record HearsEach
     (r : Round) (ts : List Touches) (losses : Option (List ℕ)) (hear : ℕ → Bool) (origins : List Pixel) (clock : ℕ)
     (old new : Table) : Type 0 where
-  pub told :
+  pub outgoing :
       (s : Scene) (e : Step) (before : List Touches)
       → IsChanged before ts r.mark losses → IsRound s e before r → AllHoldPointers s old
       → (c : ℕ) → hear c ≡ true
-      → (channel_of new c ≡ heard (told_in r s e c) (origin_at origins c) clock (channel_of old c))
-      × TracksAll (input_of old c) (input_of new c) (told_in r s e c)
+      → (channel_of new c ≡ heard (sent_in r s e c) (origin_at origins c) clock (channel_of old c))
+      × TracksAll (input_of old c) (input_of new c) (sent_in r s e c)
   pub stays :
       (c : ℕ) → 1 ≤ c → hear c ≡ false → (channel_of new c ≡ channel_of old c) × (input_of new c ≡ input_of old c)
   pub spends : (c : ℕ) → hear c ≡ true → Spends r c old new
@@ -29,7 +29,7 @@ pub record HearsEach
   pub as_many : opened new ≡ opened old
   pub live_is : new.live ≡ old.live
   pub able_is : new.able ≡ old.able
-  pub namings_are : new.namings ≡ old.namings
+  pub anrs_are : new.anrs ≡ old.anrs
 
 -- the same, by what windows lost with the mark of the round, where one pilfers
 pub record HearsChanged

@@ -1,6 +1,6 @@
 pub mod Bodies
 pub mod Rounds
-pub mod Told
+pub mod Outgoing
 pub mod Saying
 pub mod Each
 pub mod Light

@@ -5,10 +5,10 @@ use Rattle.input_types.specs.declared.message.Body.{Body}
 use Rattle.input_types.specs.declared.message.Body.TheVariants.{Motion as MotionBody, Key}
 use Rattle.input_types.specs.declared.motion.Motion.{Motion}
 use Rattle.input_types.specs.declared.motion.MotionAction.TheVariants.{Move}
-use Rattle.routing_rules.specs.Told.{listing, moves}
+use Rattle.routing_rules.specs.Outgoing.{listing, moves}
 use Rattle.touch_state.specs.Touches.{Touches}
 use Rattle.key_tables.specs.Held.{bodies_tracked}
-use Rattle.route_split.specs.declared.mark.Mark.TheVariants.{Rests}
+use Rattle.route_split.specs.declared.mark.Mark.TheVariants.{NoOp}
 use Rattle.route_split.specs.Tables.{any_at, holds_at}
 use Rattle.dispatch_channels.specs.Table.{Table, channel_of, input_of}
 use Rattle.dispatch_round.specs.declared.round.Round.{Round}
@@ -18,7 +18,7 @@ use Rattle.dispatch_round.specs.Saying.{HearsMotions}
 
 -- The round gives and takes nothing. Its motion, where it has one, is a Move, for which no window watches, and no focus changes.
 pub record IsLight (r : Round) : Type 0 where
-  pub mark_is : r.mark ≡ Rests
+  pub mark_is : r.mark ≡ NoOp
   pub motion_is : IfSome (option_copied r.motion) (λ m. m.action ≡ Move)
   pub watchers_is : r.watchers ≡ 0
   pub lost_is : r.lost ≡ 0
@@ -33,7 +33,7 @@ held_by ts None w = false
 abbrev pub moved : List Touches → Motion → (w : ℕ) → List Body
 moved ts m w = map MotionBody (moves m.device (listing (holds_at ts w m.device) m.pointers))
 
--- of a motion it is told one message at most
+-- of a motion it is sent one message at most
 abbrev pub most_moves : Option Motion → ℕ
 most_moves (Some m) = 1
 most_moves None = 0

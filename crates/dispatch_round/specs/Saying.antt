@@ -1,4 +1,4 @@
--- One window is told something.
+-- One window is sent something.
 use Rattle.std.specs.Prelude.{◌≡◌, ◌≢◌, ◌≤◌, ℕ, ◌+◌, ◌-◌, not, true, List, [], ◌∷◌, length, map, Option}
 use Rattle.std.specs.Option.{option_copied}
 use Rattle.bits32.specs.Set.{is_in}
@@ -12,8 +12,8 @@ use Rattle.touch_state.specs.Touches.{Touches}
 use Rattle.pilfer_monitor.specs.Pilfer.{set_of}
 use Rattle.route_split.specs.declared.mark.Mark.{Mark}
 use Rattle.route_split.specs.declared.mark.Mark.TheVariants.{Pilfer}
-use Rattle.route_split.specs.declared.tells.Tells.{Tells}
-use Rattle.route_split.specs.declared.tells.Tells.TheVariants.{Nothing, One, Cancels}
+use Rattle.route_split.specs.declared.sends.Sends.{Sends}
+use Rattle.route_split.specs.declared.sends.Sends.TheVariants.{Nothing, One, Cancels}
 use Rattle.route_split.specs.Tables.{holds_at}
 use Rattle.route_split.specs.Marking.{IsChanged}
 use Rattle.cancel_synthesis.specs.Ends.{pointers_cancelled}
@@ -23,8 +23,8 @@ use Rattle.dispatch_channels.specs.Table.{Table, opened, IsOpened, channel_of, i
 use Rattle.dispatch_round.specs.declared.round.Round.{Round}
 use Rattle.dispatch_round.specs.declared.listener.Listener.{Listener}
 use Rattle.dispatch_round.specs.Bodies.{TracksAll, keys_to, motions_of}
-use Rattle.dispatch_round.specs.Rounds.{IsRound, HoldsPointers, told_in, most_motions, most_bodies}
-use Rattle.dispatch_round.specs.Told.{heard}
+use Rattle.dispatch_round.specs.Rounds.{IsRound, HoldsPointers, sent_in, most_motions, most_bodies}
+use Rattle.dispatch_round.specs.Outgoing.{heard}
 
 -- a live channel has room for so many bodies more
 pub record CanHear (w n : ℕ) (t : Table) : Type 0 where
@@ -33,8 +33,8 @@ pub record CanHear (w n : ℕ) (t : Table) : Type 0 where
   pub room : n ≤ (channel_of t w).spare
   pub track_room : n ≤ (input_of t w).spare
 
--- A channel is told bodies, in order, which are tracked. All else is as before.
-pub record TellsOne (to : Listener) (bodies : List Body) (old new : Table) : Type 0 where
+-- A channel is sent bodies, in order, which are tracked. All else is as before.
+pub record SendsOne (to : Listener) (bodies : List Body) (old new : Table) : Type 0 where
   pub channel_is : channel_of new to.window ≡ heard bodies to.origin to.clock (channel_of old to.window)
   pub tracks : TracksAll (input_of old to.window) (input_of new to.window) bodies
   pub track_spare : (input_of new to.window).spare ≡ (input_of old to.window).spare - length bodies
@@ -43,10 +43,10 @@ pub record TellsOne (to : Listener) (bodies : List Body) (old new : Table) : Typ
   pub as_many : opened new ≡ opened old
   pub live_is : new.live ≡ old.live
   pub able_is : new.able ≡ old.able
-  pub namings_are : new.namings ≡ old.namings
+  pub anrs_are : new.anrs ≡ old.anrs
 
--- the motions that it is told, where these are its pointers of the device
-abbrev pub motions_by : Tells → (d : ℕ) → List Pointer → List Motion
+-- the motions that it is sent, where these are its pointers of the device
+abbrev pub motions_by : Sends → (d : ℕ) → List Pointer → List Motion
 motions_by Nothing d had = []
 motions_by (One m) d had = m ∷ []
 motions_by (Cancels lost) d had = pointers_cancelled d (λ i. is_in i lost) had
@@ -60,30 +60,30 @@ abbrev pub pilfered_from : Mark → (lost : List ℕ) → (w : ℕ) → Tracked 
 pilfered_from (Pilfer device spy) lost w input = pointers_cancelled device (λ i. is_in i (set_of lost w)) (pointers_of input device)
 pilfered_from k lost w input = []
 
--- A window is told motions, not more than there may be, and in each scene those of the rules, where the tables changed
+-- A window is sent motions, not more than there may be, and in each scene those of the rules, where the tables changed
 -- by the mark of the step.
 pub record HearsMotions (r : Round) (ts : List Touches) (losses : Option (List ℕ)) (to : Listener) (old new : Table) : Type 0 where
   pub motions : List Motion
   pub few : length motions ≤ most_motions (option_copied r.motion) (input_of old to.window)
-  pub told : TellsOne to (map MotionBody motions) old new
+  pub outgoing : SendsOne to (map MotionBody motions) old new
   pub by_rules :
       (s : Scene) (e : Step) (before : List Touches)
       → IsChanged before ts r.mark losses
       → IsRound s e before r → HoldsPointers s to.window (input_of old to.window) → motions ≡ motions_of s e to.window
 
--- What a window is told takes no more of its room than the most that it may be told, and of its keys it leaves what the keys of the
+-- What a window is sent takes no more of its room than the most that it may be sent, and of its keys it leaves what the keys of the
 -- round leave.
 pub record Spends (r : Round) (w : ℕ) (old new : Table) : Type 0 where
   pub room : (channel_of old w).spare ≤ (channel_of new w).spare + most_bodies r w (input_of old w)
   pub track_room : (input_of old w).spare ≤ (input_of new w).spare + most_bodies r w (input_of old w)
   pub keys_are : (input_of new w).keys ≡ bodies_tracked (map Key (keys_to r.target r.keys.now w)) (input_of old w).keys
 
--- It is told bodies, in each scene those of the round.
+-- It is sent bodies, in each scene those of the round.
 pub record HearsRound (r : Round) (ts : List Touches) (losses : Option (List ℕ)) (to : Listener) (old new : Table) : Type 0 where
   pub bodies : List Body
-  pub told : TellsOne to bodies old new
+  pub outgoing : SendsOne to bodies old new
   pub spends : Spends r to.window old new
   pub by_rules :
       (s : Scene) (e : Step) (before : List Touches)
       → IsChanged before ts r.mark losses
-      → IsRound s e before r → HoldsPointers s to.window (input_of old to.window) → bodies ≡ told_in r s e to.window
+      → IsRound s e before r → HoldsPointers s to.window (input_of old to.window) → bodies ≡ sent_in r s e to.window

@@ -3,8 +3,8 @@ ghost use Rattle.std.specs.Prelude.{◌≡◌, ℕ};
 ghost use Rattle.std.specs.List.{list_any};
 ghost use Rattle.std.specs.Option.{option_copied};
 ghost use Rattle.window_snapshot.specs.Mask.{mask_has, mask_with};
-ghost use Rattle.routing_rules.specs.Told.{devices};
-ghost use Rattle.route_split.specs.Marking.{may_be_told};
+ghost use Rattle.routing_rules.specs.Outgoing.{devices};
+ghost use Rattle.route_split.specs.Marking.{may_be_sent};
 ghost use Rattle.dispatch_round.specs.Rounds.{may_hear, keyed, is_concerned, AreListeners};
 
 use crate::devices::device_at;
@@ -17,7 +17,7 @@ use window_snapshot::mask_with;
 
 /// The mask of the windows that hold something of any device, or are given something.
 fn all_concerned(mark: &Mark, touches: &Touches) -> u64
-    ensures { (w : ℕ) → mask_has result w ≡ list_any (may_be_told touches.now mark.now w) devices }
+    ensures { (w : ℕ) → mask_has result w ≡ list_any (may_be_sent touches.now mark.now w) devices }
 {
     let mut mask = 0;
     'devices: for place in 0..8u8 {
@@ -26,7 +26,7 @@ fn all_concerned(mark: &Mark, touches: &Touches) -> u64
     mask
 }
 
-/// The mask of the windows that may be told a motion.
+/// The mask of the windows that may be sent a motion.
 fn may_hear(round: &Round, touches: &Touches) -> u64
     ensures { (w : ℕ) →
         mask_has result w ≡ may_hear touches.now round.now.mark (option_copied round.now.motion) round.now.watchers w }
@@ -54,14 +54,14 @@ pub(crate) fn keyed(keys: &[KeyMsg], target: u32) -> u64
     }
 }
 
-/// The mask of the live windows that may be told something in a round, before the tables of touches have changed by it.
+/// The mask of the live windows that may be sent something in a round, before the tables of touches have changed by it.
 pub fn listeners(round: &Round, touches: &Touches, channels: &Channels) -> u64
     ensures { AreListeners result touches.now round.now channels.now }
 {
     concerned(round, touches) & channels.live()
 }
 
-/// The mask of the windows that may be told something, live or not.
+/// The mask of the windows that may be sent something, live or not.
 fn concerned(round: &Round, touches: &Touches) -> u64
     ensures { (w : ℕ) → mask_has result w ≡ is_concerned touches.now round.now w }
 {

@@ -11,11 +11,11 @@
 //!            1 and 2 are published
 //! ```
 //!
-//! A step is told in two parts, so that want of memory changes nothing but the room that channels have. [`make_room`]
-//! takes all memory that the step can need; it looks at the windows that may be told something, and at no others.
-//! [`tell_all`] takes none and cannot fail: it changes the tables of touches by the mark of the step, and tells these
-//! windows. A window is told its motions first, device by device, then keys, and then whether it lost the focus or has
-//! it now. What it was told that it holds, and holds no more, is cancelled at the last places that it was told. Where a
+//! A step is sent in two parts, so that want of memory changes nothing but the room that channels have. [`make_room`]
+//! takes all memory that the step can need; it looks at the windows that may be sent something, and at no others.
+//! [`send_all`] takes none and cannot fail: it changes the tables of touches by the mark of the step, and tells these
+//! windows. A window is sent its motions first, device by device, then keys, and then whether it lost the focus or has
+//! it now. What it was told that it holds, and holds no more, is cancelled at the last places that it was sent. Where a
 //! window pilfers, that is what the pilfer says that each window lost.
 //!
 //! A [`Round`] says what a step tells. What is proved holds for every scene of the rules that the tables stand for
@@ -30,10 +30,10 @@ mod motions;
 mod room;
 mod round;
 mod say;
-mod tell;
+mod send;
 
 pub use concern::listeners;
-pub use light::{make_light_room, tell_light};
+pub use light::{make_light_room, send_light};
 pub use room::make_room;
 pub use round::Round;
-pub use tell::tell_all;
+pub use send::send_all;

@@ -8,11 +8,11 @@ ghost use Rattle.routing_rules.specs.Taking.{takes, pilfers};
 ghost use Rattle.route_split.specs.Tables.{ChangesAll};
 ghost use Rattle.route_split.specs.Marking.{gives, taking};
 ghost use Rattle.dispatch_channels.specs.Table.{opened, IsOpened, channel_of, but_for_room, NoLessRoom};
-ghost use Rattle.dispatch_round.specs.Rounds.{IsRound, AllHoldPointers, told_in, IsLeft, AreListeners, IsTimely};
-ghost use Rattle.dispatch_round.specs.Saying.{CanHear, TellsOne, HearsRound};
+ghost use Rattle.dispatch_round.specs.Rounds.{IsRound, AllHoldPointers, sent_in, IsLeft, AreListeners, IsTimely};
+ghost use Rattle.dispatch_round.specs.Saying.{CanHear, SendsOne, HearsRound};
 ghost use Rattle.dispatch_round.specs.Each.{HearsEach};
 ghost use Rattle.dispatch_round.specs.Light.{IsLight, held_by, most_moves, most_light, HasLight, HearsMoves, SpendsLight, moved};
-ghost use Rattle.dispatch_round.specs.Told.{TellsAll};
+ghost use Rattle.dispatch_round.specs.Outgoing.{SendsAll};
 
 use crate::concern::keyed;
 use crate::listener::Listener;
@@ -37,7 +37,7 @@ fn holders(motion: Option<&Motion>, touches: &Touches) -> u64
     }
 }
 
-/// The mask of the live windows that may be told something.
+/// The mask of the live windows that may be sent something.
 #[inline(always)]
 fn hearers(round: &Round, touches: &Touches, channels: &Channels) -> u64
     requires { IsLight round.now }
@@ -46,7 +46,7 @@ fn hearers(round: &Round, touches: &Touches, channels: &Channels) -> u64
     (holders(round.motion, touches) | keyed(round.keys, round.target)) & channels.live()
 }
 
-/// How many Moves a window may be told.
+/// How many Moves a window may be sent.
 #[inline(always)]
 fn most_moves(motion: Option<&Motion>) -> usize
     ensures value { result ≡ most_moves (option_copied motion.entry) }
@@ -58,7 +58,7 @@ fn most_moves(motion: Option<&Motion>) -> usize
     }
 }
 
-/// The most messages that a window is told; without memory for so many, none.
+/// The most messages that a window is sent; without memory for so many, none.
 #[inline(always)]
 fn most_light(round: &Round, window: u32) -> Result<u32, AllocError>
     ensures value { IfOk result (λ n. n ≡ most_light round.now window) }
@@ -86,7 +86,7 @@ fn make_room_in(round: &Round, channels: &mut Channels, window: u32) -> Result<(
     channels.make_ready(window, count)
 }
 
-/// Makes room for all that a light round tells the windows that are live, so that [`tell_light`] takes no memory, and
+/// Makes room for all that a light round tells the windows that are live, so that [`send_light`] takes no memory, and
 /// answers their mask. With and without memory nothing changes but the room that channels have. Where they have enough
 /// already, no memory is taken.
 #[inline(always)]
@@ -96,23 +96,24 @@ pub fn make_light_room(
     channels: &mut Channels,
 ) -> Result<u64, AllocError>
     requires { IsLight round.now }
-    ensures told { IfOk result (λ told. AreListeners told touches.now round.now channels.new) }
-    ensures enough { IfOk result (λ told. (w : ℕ) → mask_has told w ≡ true → HasLight round.now channels.new w) }
+    ensures outgoing { IfOk result (λ outgoing. AreListeners outgoing touches.now round.now channels.new) }
+    ensures enough { IfOk result (λ outgoing.
+        (w : ℕ) → mask_has outgoing w ≡ true → HasLight round.now channels.new w) }
     ensures same { but_for_room channels.new ≡ but_for_room channels.old }
     ensures room { NoLessRoom channels.old channels.new }
     ensures roomy { length round.now.keys.now < 2 ^ 31
         → ((w : ℕ) → mask_has channels.old.live w ≡ true → HasLight round.now channels.old w) → IsOk result }
 {
-    // Its clauses say that what each window was told is kept.
+    // Its clauses say that what each window was sent is kept.
     let _opened = channels.opened();
-    let told = hearers(round, touches, channels);
-    let mut rest = told;
+    let outgoing = hearers(round, touches, channels);
+    let mut rest = outgoing;
     while rest != 0 {
         let window = first_of(rest);
         make_room_in(round, channels, window)?;
         rest = without(rest, window);
     }
-    Ok(told)
+    Ok(outgoing)
 }
 
 /// A motion whose pointers are found by their ids.
@@ -158,11 +159,11 @@ fn move_held(
 )
     requires pointers { pointers.now ≡ motion.now.pointers }
     requires room { CanHear to.now.window 1 channels.old }
-    ensures { TellsOne to.now (moved touches.now motion.now to.now.window) channels.old channels.new }
+    ensures { SendsOne to.now (moved touches.now motion.now to.now.window) channels.old channels.new }
 {
     let held = touches.held(to.window, motion.device);
     if pointers.has_some(held) {
-        channels.tell_moves(
+        channels.send_moves(
             to.window,
             motion.device,
             pointers,
@@ -197,9 +198,9 @@ fn say_light(
     }
 }
 
-/// One window is told all of a light round: of its motion, and then of keys.
+/// One window is sent all of a light round: of its motion, and then of keys.
 #[inline(always)]
-fn tell_one(
+fn send_one(
     to: &Listener,
     round: &Round,
     motion: Option<&MotionById>,
@@ -216,10 +217,10 @@ fn tell_one(
     say_keys(to, keys_to(round.keys, round.target, to.window), channels);
 }
 
-/// The windows of a mask are told so, the first one first.
+/// The windows of a mask are sent so, the first one first.
 #[inline(always)]
-fn tell_each(
-    told: u64,
+fn send_each(
+    outgoing: u64,
     clock: Moment,
     origins: &[Pixel; 64],
     round: &Round,
@@ -227,14 +228,15 @@ fn tell_each(
     channels: &mut Channels,
 )
     requires light { IsLight round.now }
-    requires opened { (w : ℕ) → mask_has told w ≡ true → w ≤ opened channels.old }
-    requires live { (w : ℕ) → mask_has told w ≡ true → mask_has channels.old.live w ≡ true }
-    requires room { (w : ℕ) → mask_has told w ≡ true → HasLight round.now channels.old w }
-    ensures each { HearsEach round.now touches.now None (mask_has told) origins.now clock channels.old channels.new }
-    ensures spends { (w : ℕ) → mask_has told w ≡ true → SpendsLight round.now channels.old channels.new w }
+    requires opened { (w : ℕ) → mask_has outgoing w ≡ true → w ≤ opened channels.old }
+    requires live { (w : ℕ) → mask_has outgoing w ≡ true → mask_has channels.old.live w ≡ true }
+    requires room { (w : ℕ) → mask_has outgoing w ≡ true → HasLight round.now channels.old w }
+    ensures each { HearsEach round.now touches.now None (mask_has outgoing) origins.now clock channels.old
+        channels.new }
+    ensures spends { (w : ℕ) → mask_has outgoing w ≡ true → SpendsLight round.now channels.old channels.new w }
 {
     let motion = by_id(round.motion);
-    let mut rest = told;
+    let mut rest = outgoing;
     while rest != 0 {
         let window = first_of(rest);
         let to = Listener {
@@ -242,18 +244,19 @@ fn tell_each(
             origin: origins[window as usize - 1],
             clock,
         };
-        tell_one(&to, round, motion.as_ref(), touches, channels);
+        send_one(&to, round, motion.as_ref(), touches, channels);
         rest = without(rest, window);
     }
 }
 
-/// Tells the windows of the mask `told` what the rules of the step of a light round say, and publishes it at the clock.
-/// It is what [`tell_all`](crate::tell_all) makes of the round, found with less work. Takes no memory.
+/// Sends the windows of the mask `outgoing` what the rules of the step of a light round say, and publishes it at the
+/// clock.
+/// It is what [`send_all`](crate::tell_all) makes of the round, found with less work. Takes no memory.
 ///
 /// The mask is that which [`make_light_room`] answers.
 #[inline(always)]
-pub fn tell_light(
-    told: u64,
+pub fn send_light(
+    outgoing: u64,
     round: &Round,
     touches: &mut Touches,
     channels: &mut Channels,
@@ -262,21 +265,21 @@ pub fn tell_light(
     clock: Moment,
 )
     requires light { IsLight round.now }
-    requires told { AreListeners told touches.old round.now channels.old }
-    requires enough { (w : ℕ) → mask_has told w ≡ true → HasLight round.now channels.old w }
+    requires outgoing { AreListeners outgoing touches.old round.now channels.old }
+    requires enough { (w : ℕ) → mask_has outgoing w ≡ true → HasLight round.now channels.old w }
     requires timely { IsTimely clock channels.old }
     ensures changes { let k = round.now.mark in
         ChangesAll touches.old touches.new (gives k) (takes (taking touches.old k)) place
         (pilfers (taking touches.old k)) }
-    ensures told { (s : Scene) (e : Step) → IsRound s e touches.old round.now → AllHoldPointers s channels.old
-        → TellsAll told (told_in round.now s e) origins.now clock channels.old channels.new }
-    ensures spends { (w : ℕ) → mask_has told w ≡ true → SpendsLight round.now channels.old channels.new w }
-    ensures left { (w : ℕ) → 1 ≤ w → mask_has told w ≡ false → IsLeft channels.old channels.new w }
+    ensures outgoing { (s : Scene) (e : Step) → IsRound s e touches.old round.now → AllHoldPointers s channels.old
+        → SendsAll outgoing (sent_in round.now s e) origins.now clock channels.old channels.new }
+    ensures spends { (w : ℕ) → mask_has outgoing w ≡ true → SpendsLight round.now channels.old channels.new w }
+    ensures left { (w : ℕ) → 1 ≤ w → mask_has outgoing w ≡ false → IsLeft channels.old channels.new w }
     ensures live { channels.new.live ≡ channels.old.live }
     ensures gone { (c : ℕ) → 1 ≤ c → (channel_of channels.new c).gone ≡ (channel_of channels.old c).gone }
-    ensures namings { channels.new.namings ≡ channels.old.namings }
+    ensures anrs { channels.new.anrs ≡ channels.old.anrs }
 {
     touches.rest();
-    tell_each(told, clock, origins, round, touches, channels);
-    channels.publish(told, clock);
+    send_each(outgoing, clock, origins, round, touches, channels);
+    channels.publish(outgoing, clock);
 }

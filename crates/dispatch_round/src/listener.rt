@@ -1,7 +1,7 @@
-//! Who is told.
+//! Who is sent.
 use input_types::{Moment, Pixel};
 
-/// A window that is told something at a clock, and where it has its origin.
+/// A window that is sent something at a clock, and where it has its origin.
 #[derive(Clone, Copy)]
 pub(crate) struct Listener {
     pub(crate) window: u32,

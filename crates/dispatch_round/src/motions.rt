@@ -1,14 +1,14 @@
-//! One window is told the motions of a step.
+//! One window is sent the motions of a step.
 ghost use Rattle.std.specs.Prelude.{◌≡◌, ℕ, true, ◌==◌, List, Option, Some, length, map, flat_map};
 ghost use Rattle.std.specs.List.{list_any};
 ghost use Rattle.std.specs.Option.{option_copied};
 ghost use Rattle.bits32.specs.Set.{is_in};
 ghost use Rattle.input_types.specs.declared.message.Body.TheVariants.{Motion as MotionBody};
-ghost use Rattle.routing_rules.specs.Told.{devices};
+ghost use Rattle.routing_rules.specs.Outgoing.{devices};
 ghost use Rattle.cancel_synthesis.specs.Tracked.{pointers_of};
 ghost use Rattle.dispatch_channels.specs.Table.{input_of};
 ghost use Rattle.dispatch_round.specs.Rounds.{may_take, count_of, most_motions};
-ghost use Rattle.dispatch_round.specs.Saying.{CanHear, TellsOne, HearsMotions, losses, pilfered_from};
+ghost use Rattle.dispatch_round.specs.Saying.{CanHear, SendsOne, HearsMotions, losses, pilfered_from};
 
 use crate::devices::device_at;
 use crate::listener::Listener;
@@ -27,7 +27,7 @@ pub(crate) fn may_take(mark: &Mark) -> bool
     ensures { result ≡ may_take mark.now }
 {
     match *mark {
-        Mark::Rests | Mark::Forget { window: _ } => false,
+        Mark::NoOp | Mark::Forget { window: _ } => false,
         _ => true,
     }
 }
@@ -38,7 +38,7 @@ fn say_loss(to: &Listener, device: DeviceId, touches: &Touches, channels: &mut C
         CanHear to.now.window (length had) channels.old }
     ensures { let input = input_of channels.old to.now.window in
         let lost = losses touches.now to.now.window input device in
-        TellsOne to.now (map MotionBody lost) channels.old channels.new }
+        SendsOne to.now (map MotionBody lost) channels.old channels.new }
 {
     let held = touches.held(to.window, device);
     let cancels = channels.input(to.window).cancels_but(device, held);
@@ -50,7 +50,7 @@ fn say_losses(to: &Listener, touches: &Touches, channels: &mut Channels)
     requires { CanHear to.now.window (count_of (input_of channels.old to.now.window) devices) channels.old }
     ensures { let input = input_of channels.old to.now.window in
         let lost = flat_map (losses touches.now to.now.window input) devices in
-        TellsOne to.now (map MotionBody lost) channels.old channels.new }
+        SendsOne to.now (map MotionBody lost) channels.old channels.new }
 {
     'devices: for place in 0..8u8 {
         say_loss(to, device_at(place), touches, channels);
@@ -62,7 +62,7 @@ fn say_pilfered(to: &Listener, mark: &Mark, losses: &Losses, channels: &mut Chan
     requires { CanHear to.now.window (count_of (input_of channels.old to.now.window) devices) channels.old }
     ensures { let input = input_of channels.old to.now.window in
         let lost = pilfered_from mark.now losses.now to.now.window input in
-        TellsOne to.now (map MotionBody lost) channels.old channels.new }
+        SendsOne to.now (map MotionBody lost) channels.old channels.new }
 {
     match *mark {
         Mark::Pilfer { device, window: _ } => {
@@ -77,7 +77,7 @@ fn say_pilfered(to: &Listener, mark: &Mark, losses: &Losses, channels: &mut Chan
 /// Tells what the rules say of the motion of a step, where the window held these ids before. It is not inlined: most
 /// motions only move.
 #[inline(never)]
-fn say_told(
+fn say_sent(
     to: &Listener,
     round: &Round,
     motion: &Motion,
@@ -95,8 +95,8 @@ fn say_told(
     // Read for its clause alone: devices have the numbers 1 to 8, which contracts do not see of the type.
     let _number = motion.device.get();
     let watches = mask_has(round.watchers, to.window);
-    let tells = touches.tells(motion, to.window, before, watches);
-    say_found(to, motion.device, &tells, channels);
+    let sends = touches.sends(motion, to.window, before, watches);
+    say_found(to, motion.device, &sends, channels);
 }
 
 /// Tells the motions of a step, by which the tables of touches have changed.
@@ -118,7 +118,7 @@ pub(crate) fn say_motions(
             let before = ids_of(channels.input(to.window).pointers(motion.device));
             match touches.moving(motion, to.window, before) {
                 Some(ids) => say_moves(to, motion, ids, channels),
-                None => say_told(to, round, motion, touches, before, channels),
+                None => say_sent(to, round, motion, touches, before, channels),
             }
         }
         None => match losses {

@@ -1,12 +1,12 @@
 //! Room for what a step tells.
 ghost use Rattle.std.specs.Prelude.{◌≡◌, ◌≤◌, ◌<◌, ◌^◌, ℕ, true, false, length, max, OnOk, OnErr, IfOk, IsOk};
-ghost use Rattle.key_tables.specs.Focused.{change_told};
+ghost use Rattle.key_tables.specs.Focused.{change_sent};
 ghost use Rattle.std.specs.Option.{option_copied};
-ghost use Rattle.routing_rules.specs.Told.{devices};
+ghost use Rattle.routing_rules.specs.Outgoing.{devices};
 ghost use Rattle.dispatch_channels.specs.Table.{IsOpened, input_of, with_room, but_for_room, NoLessRoom};
 ghost use Rattle.dispatch_round.specs.Bodies.{keys_to};
 ghost use Rattle.window_snapshot.specs.Mask.{mask_has};
-ghost use Rattle.dispatch_round.specs.Rounds.{most_told, IsFew, HasMostRoom};
+ghost use Rattle.dispatch_round.specs.Rounds.{most_sent, IsFew, HasMostRoom};
 ghost use Rattle.dispatch_round.specs.Rounds.{count_of, most_motions, most_bodies, is_concerned, HasRoom, IsReady, AreListeners, MakesRoom};
 
 use crate::concern::listeners;
@@ -38,7 +38,7 @@ fn at_least_one(count: usize) -> usize
     if count == 0 { 1 } else { count }
 }
 
-/// The most motions that it is told in a round.
+/// The most motions that it is sent in a round.
 fn most_motions(round: &Round, input: &InputState) -> usize
     ensures value { result ≡ most_motions (option_copied round.now.motion) input.now }
     ensures few { result ≤ 128 }
@@ -49,7 +49,7 @@ fn most_motions(round: &Round, input: &InputState) -> usize
     }
 }
 
-/// The key messages that a window is told, where the target is told these.
+/// The key messages that a window is sent, where the target is sent these.
 pub(crate) fn keys_to(keys: &[KeyMsg], target: u32, window: u32) -> &[KeyMsg]
     ensures { result.now ≡ keys_to target keys.now window }
 {
@@ -58,7 +58,7 @@ pub(crate) fn keys_to(keys: &[KeyMsg], target: u32, window: u32) -> &[KeyMsg]
 
 /// How many bodies tell of a change.
 fn count_of(change: Option<bool>) -> usize
-    ensures value { result ≡ length (change_told change) }
+    ensures value { result ≡ length (change_sent change) }
     ensures few { result ≤ 1 }
 {
     match change {
@@ -67,11 +67,11 @@ fn count_of(change: Option<bool>) -> usize
     }
 }
 
-/// The most bodies that it is told; without memory for so many messages, none.
+/// The most bodies that it is sent; without memory for so many messages, none.
 fn most_bodies(round: &Round, channels: &Channels, window: u32) -> Result<u32, AllocError>
     requires { IsOpened channels.now window }
     ensures value { IfOk result (λ n. n ≡ most_bodies round.now window (input_of channels.now window)) }
-    ensures most { IfOk result (λ n. n ≤ most_told round.now window) }
+    ensures most { IfOk result (λ n. n ≤ most_sent round.now window) }
     ensures fits { length round.now.keys.now < 2 ^ 31 → IsOk result }
 {
     let motions = most_motions(round, channels.input(window));
@@ -98,8 +98,8 @@ fn make_room_in(round: &Round, channels: &mut Channels, window: u32) -> Result<(
     channels.reserve(window, count)
 }
 
-/// Makes room for all that a step tells the windows that are live, so that [`tell_all`](crate::tell_all) takes no
-/// memory, and answers their mask: no other is told anything. With and without memory nothing changes but the room that
+/// Makes room for all that a step tells the windows that are live, so that [`send_all`](crate::tell_all) takes no
+/// memory, and answers their mask: no other is sent anything. With and without memory nothing changes but the room that
 /// channels have. Where they have enough already, no memory is taken.
 pub fn make_room(
     round: &Round,
@@ -108,24 +108,24 @@ pub fn make_room(
 ) -> Result<u64, AllocError>
     ensures made { OnOk result (MakesRoom touches.now round.now channels.old channels.new) }
     ensures ready { OnOk result (IsReady touches.now round.now channels.new) }
-    ensures told { IfOk result (λ told. AreListeners told touches.now round.now channels.new) }
+    ensures outgoing { IfOk result (λ outgoing. AreListeners outgoing touches.now round.now channels.new) }
     ensures same { but_for_room channels.new ≡ but_for_room channels.old }
     ensures room { NoLessRoom channels.old channels.new }
-    ensures few { IfOk result (λ told. (w : ℕ) → mask_has told w ≡ true → IsFew round.now channels.new w) }
+    ensures few { IfOk result (λ outgoing. (w : ℕ) → mask_has outgoing w ≡ true → IsFew round.now channels.new w) }
     ensures roomy { length round.now.keys.now < 2 ^ 31 → ((w : ℕ) → mask_has channels.old.live w ≡ true
         → is_concerned touches.now round.now w ≡ true → HasMostRoom round.now channels.old w) → IsOk result }
     ensures reserved { length round.now.keys.now < 2 ^ 31 →
         IsReady touches.now round.now channels.old → IsOk result }
     ensures calm { ((w : ℕ) → is_concerned touches.now round.now w ≡ false) → IsOk result }
 {
-    // Its clauses say that what each window was told is kept.
+    // Its clauses say that what each window was sent is kept.
     let _opened = channels.opened();
-    let told = listeners(round, touches, channels);
-    let mut rest = told;
+    let outgoing = listeners(round, touches, channels);
+    let mut rest = outgoing;
     while rest != 0 {
         let window = first_of(rest);
         make_room_in(round, channels, window)?;
         rest = without(rest, window);
     }
-    Ok(told)
+    Ok(outgoing)
 }

@@ -1,49 +1,49 @@
-//! One window is told motions of a device, keys, or a change of its focus. None of this takes memory.
+//! One window is sent motions of a device, keys, or a change of its focus. None of this takes memory.
 ghost use Rattle.std.specs.Prelude.{max, [], ◌∷◌, map, length};
 ghost use Rattle.input_types.specs.declared.message.Body.TheVariants.{Motion as MotionBody, Key as KeyBody, Focus as FocusBody};
 ghost use Rattle.input_types.specs.declared.motion.MotionAction.TheVariants.{Move};
-ghost use Rattle.routing_rules.specs.Told.{listing, plain};
+ghost use Rattle.routing_rules.specs.Outgoing.{listing, plain};
 ghost use Rattle.bits32.specs.Set.{is_in};
-ghost use Rattle.cancel_synthesis.specs.Cancelling.{still_told};
+ghost use Rattle.cancel_synthesis.specs.Cancelling.{still_sent};
 ghost use Rattle.cancel_synthesis.specs.Ends.{pointers_cancelled};
 ghost use Rattle.cancel_synthesis.specs.Tracked.{pointers_of};
-ghost use Rattle.key_tables.specs.Focused.{change_told};
+ghost use Rattle.key_tables.specs.Focused.{change_sent};
 ghost use Rattle.dispatch_channels.specs.Table.{input_of};
-ghost use Rattle.dispatch_round.specs.Saying.{CanHear, TellsOne, motions_by};
+ghost use Rattle.dispatch_round.specs.Saying.{CanHear, SendsOne, motions_by};
 
 use crate::listener::Listener;
 use bits32::Bits32;
 use cancel_synthesis::Cancels;
 use dispatch_channels::Channels;
 use input_types::{Body, DeviceId, KeyMsg, Motion};
-use route_split::Tells;
+use route_split::Sends;
 use split_motion::PointersById;
 
 /// Tells one body.
 fn say(to: &Listener, body: &Body, channels: &mut Channels)
     requires { CanHear to.now.window 1 channels.old }
-    ensures { TellsOne to.now (body.now ∷ []) channels.old channels.new }
+    ensures { SendsOne to.now (body.now ∷ []) channels.old channels.new }
 {
-    channels.tell(to.window, body, to.origin, to.clock);
+    channels.send(to.window, body, to.origin, to.clock);
 }
 
 /// Tells one motion.
 fn say_motion(to: &Listener, motion: &Motion, channels: &mut Channels)
     requires { CanHear to.now.window 1 channels.old }
-    ensures { TellsOne to.now (MotionBody motion.now ∷ []) channels.old channels.new }
+    ensures { SendsOne to.now (MotionBody motion.now ∷ []) channels.old channels.new }
 {
-    channels.tell_motion(to.window, motion, to.origin, to.clock);
+    channels.send_motion(to.window, motion, to.origin, to.clock);
 }
 
 /// Tells that the pointers of a motion with these ids move.
 pub(crate) fn say_moves(to: &Listener, motion: &Motion, ids: Bits32, channels: &mut Channels)
     requires { CanHear to.now.window 1 channels.old }
-    ensures { TellsOne to.now
+    ensures { SendsOne to.now
         (MotionBody (plain motion.now.device Move (listing (λ i. is_in i ids) motion.now.pointers)) ∷ [])
         channels.old channels.new }
 {
     let pointers = PointersById::new(&motion.pointers);
-    channels.tell_moves(
+    channels.send_moves(
         to.window,
         motion.device,
         &pointers,
@@ -55,8 +55,8 @@ pub(crate) fn say_moves(to: &Listener, motion: &Motion, ids: Bits32, channels: &
 
 /// Tells the cancels of pointers that are taken from the window, one after the other.
 pub(crate) fn say_cancels(to: &Listener, cancels: Cancels, channels: &mut Channels)
-    requires { CanHear to.now.window (length (still_told cancels)) channels.old }
-    ensures { TellsOne to.now (map MotionBody (still_told cancels)) channels.old channels.new }
+    requires { CanHear to.now.window (length (still_sent cancels)) channels.old }
+    ensures { SendsOne to.now (map MotionBody (still_sent cancels)) channels.old channels.new }
 {
     let mut left = cancels;
     while let Some(cancel) = left.next() {
@@ -65,16 +65,16 @@ pub(crate) fn say_cancels(to: &Listener, cancels: Cancels, channels: &mut Channe
 }
 
 /// Tells what the rules found for a device.
-pub(crate) fn say_found(to: &Listener, device: DeviceId, tells: &Tells, channels: &mut Channels)
+pub(crate) fn say_found(to: &Listener, device: DeviceId, sends: &Sends, channels: &mut Channels)
     requires { let had = pointers_of (input_of channels.old to.now.window) device in
         CanHear to.now.window (max 1 (length had)) channels.old }
     ensures { let had = pointers_of (input_of channels.old to.now.window) device in
-        TellsOne to.now (map MotionBody (motions_by tells.now device had)) channels.old channels.new }
+        SendsOne to.now (map MotionBody (motions_by sends.now device had)) channels.old channels.new }
 {
-    match tells {
-        Tells::Nothing => {}
-        Tells::One(motion) => say_motion(to, motion, channels),
-        Tells::Cancels { lost } => say_lost(to, device, *lost, channels),
+    match sends {
+        Sends::Nothing => {}
+        Sends::One(motion) => say_motion(to, motion, channels),
+        Sends::Cancels { lost } => say_lost(to, device, *lost, channels),
     }
 }
 
@@ -84,7 +84,7 @@ fn say_lost(to: &Listener, device: DeviceId, lost: Bits32, channels: &mut Channe
     requires { let had = pointers_of (input_of channels.old to.now.window) device in
         CanHear to.now.window (max 1 (length had)) channels.old }
     ensures { let had = pointers_of (input_of channels.old to.now.window) device in
-        TellsOne to.now (map MotionBody (pointers_cancelled device (λ i. is_in i lost) had)) channels.old channels.new }
+        SendsOne to.now (map MotionBody (pointers_cancelled device (λ i. is_in i lost) had)) channels.old channels.new }
 {
     let cancels = channels.input(to.window).cancels(device, lost);
     say_cancels(to, cancels, channels);
@@ -93,7 +93,7 @@ fn say_lost(to: &Listener, device: DeviceId, lost: Bits32, channels: &mut Channe
 /// Tells key messages, in order.
 pub(crate) fn say_keys(to: &Listener, keys: &[KeyMsg], channels: &mut Channels)
     requires { CanHear to.now.window (length keys.now) channels.old }
-    ensures { TellsOne to.now (map KeyBody keys.now) channels.old channels.new }
+    ensures { SendsOne to.now (map KeyBody keys.now) channels.old channels.new }
 {
     for message in keys {
         say_key(to, message, channels);
@@ -103,15 +103,15 @@ pub(crate) fn say_keys(to: &Listener, keys: &[KeyMsg], channels: &mut Channels)
 /// Tells one key message.
 fn say_key(to: &Listener, message: &KeyMsg, channels: &mut Channels)
     requires { CanHear to.now.window 1 channels.old }
-    ensures { TellsOne to.now (KeyBody message.now ∷ []) channels.old channels.new }
+    ensures { SendsOne to.now (KeyBody message.now ∷ []) channels.old channels.new }
 {
-    channels.tell_key(to.window, message, to.clock);
+    channels.send_key(to.window, message, to.clock);
 }
 
 /// Tells whether the window has the focus now, where that changed.
 pub(crate) fn say_change(to: &Listener, change: Option<bool>, channels: &mut Channels)
-    requires { CanHear to.now.window (length (change_told change)) channels.old }
-    ensures { TellsOne to.now (change_told change) channels.old channels.new }
+    requires { CanHear to.now.window (length (change_sent change)) channels.old }
+    ensures { SendsOne to.now (change_sent change) channels.old channels.new }
 {
     match change {
         Some(has_focus) => say_focus(to, has_focus, channels),
@@ -124,7 +124,7 @@ pub(crate) fn say_change(to: &Listener, change: Option<bool>, channels: &mut Cha
 #[inline(never)]
 fn say_focus(to: &Listener, has_focus: bool, channels: &mut Channels)
     requires { CanHear to.now.window 1 channels.old }
-    ensures { TellsOne to.now (FocusBody has_focus ∷ []) channels.old channels.new }
+    ensures { SendsOne to.now (FocusBody has_focus ∷ []) channels.old channels.new }
 {
     say(to, &Body::Focus(has_focus), channels);
 }

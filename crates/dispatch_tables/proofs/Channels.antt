@@ -4,7 +4,7 @@ use Rattle.std.proofs.lemmas.Bool.{true≢false}
 use Rattle.dispatch_calls.specs.declared.call.Call.{Call}
 use Rattle.dispatch_calls.specs.declared.reply.Reply.{Reply}
 use Rattle.dispatch_history.specs.History.{clock}
-use Rattle.dispatch_history.specs.Effect.{Effect, past_of, stream, told_on}
+use Rattle.dispatch_history.specs.Effect.{Effect, past_of, stream, sent_on}
 use Rattle.dispatch_history.specs.Effects.{step, said_at}
 use Rattle.dispatch_history.specs.Known.{IsNumbered}
 use Rattle.dispatch_history.proofs.StreamLaws.{stream_step}
@@ -32,7 +32,7 @@ stepped ds call answer es c l h =
       received_is = received_part call answer c _;
       finished_is = finished_part call answer c _;
       stream_is =
-          subst (λ xs. stream (step ds call answer xs) c ≡ told_on (clock ((call, answer) ∷ past_of es)) (said_at ds call answer xs c) (stream xs c))
+          subst (λ xs. stream (step ds call answer xs) c ≡ sent_on (clock ((call, answer) ∷ past_of es)) (said_at ds call answer xs c) (stream xs c))
           last.1.whole (stream_step ds call answer (past_of es) c l.legal);
       delivery_is = λ k. refl;
       numbered = numbered ds (step ds call answer es) c l;
@@ -49,8 +49,8 @@ sound ds es c l =
 
 pub channel_step : (ds : List ℕ) (call : Call) (answer : Reply) (es : List Effect) (c gone spare : ℕ)
     → Lawful ds (step ds call answer es) → gone ≤ length (stream es c)
-    → let told = said_at ds call answer es c in let now = clock (past_of (step ds call answer es)) in channel_at (step ds call answer es) c gone (spare - length told)
-    ≡ published_at now (enqueued_all told now (with_part (part_of call answer c) (channel_at es c gone spare)))
+    → let outgoing = said_at ds call answer es c in let now = clock (past_of (step ds call answer es)) in channel_at (step ds call answer es) c gone (spare - length outgoing)
+    ≡ published_at now (enqueued_all outgoing now (with_part (part_of call answer c) (channel_at es c gone spare)))
 channel_step ds call answer es c gone spare l le =
     stepped_channel es (step ds call answer es) c (part_of call answer c) (said_at ds call answer es c) gone spare
     (stepped ds call answer es c l (sound ds es c (lawful_last ds call answer es l).1))

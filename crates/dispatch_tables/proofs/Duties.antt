@@ -11,7 +11,7 @@ use Rattle.input_types.specs.declared.message.Message.{Message}
 use Rattle.anr_tracker.specs.Due.{IsFirst, is_before, sooner_of, is_put_off}
 use Rattle.anr_tracker.proofs.Firsts.{first_with, one_first}
 use Rattle.input_channel.specs.State.{ChannelState, oldest_of}
-use Rattle.dispatch_calls.specs.declared.counts.Naming.{Naming}
+use Rattle.dispatch_calls.specs.declared.counts.Anr.{Anr}
 use Rattle.dispatch_calls.specs.declared.reply.Reply.{Reply}
 use Rattle.dispatch_calls.specs.declared.reply.Reply.TheVariants.{Named}
 use Rattle.window_snapshot.specs.Mask.{mask_has}
@@ -20,12 +20,12 @@ use Rattle.dispatch_history.specs.History.{clock, limit_of, live, opened}
 use Rattle.dispatch_history.specs.Effect.{Effect, past_of}
 use Rattle.dispatch_history.specs.Effects.{channels, step}
 use Rattle.dispatch_history.specs.Delivery.{able, unresponsive, delivery, oldest}
-use Rattle.dispatch_history.specs.Due.{Due, due_at, sooner_due, first_due, is_late_at, mask_of, named, naming_of, namings, namings_by}
+use Rattle.dispatch_history.specs.Due.{Due, due_at, sooner_due, first_due, is_late_at, mask_of, named, anr_of, anrs, anrs_by}
 use Rattle.dispatch_history.specs.Reply.{is_due}
 use Rattle.dispatch_tables.specs.Lawful.{Lawful}
 use Rattle.dispatch_tables.specs.Channel.{channel_at}
-use Rattle.dispatch_tables.specs.Dues.{due_moment, due_in, due_pair, naming_in, is_named}
-use Rattle.dispatch_tables.specs.Laws.{QuietDueLaw, NotLiveDueLaw, FirstDueLaw, NamedLaw, NamingsLaw, NamingsKeptLaw}
+use Rattle.dispatch_tables.specs.Dues.{due_moment, due_in, due_pair, anr_in, is_named}
+use Rattle.dispatch_tables.specs.Laws.{QuietDueLaw, NotLiveDueLaw, FirstDueLaw, NamedLaw, AnrsLaw, AnrsKeptLaw}
 use Rattle.dispatch_tables.proofs.Kept.{quiet_law}
 use Rattle.dispatch_tables.proofs.Answering.{oldest_law}
 use Rattle.dispatch_tables.proofs.Unopened.{unopened_not_live}
@@ -252,19 +252,19 @@ named_law ds es now l = (
       (λ c. same c ∙ sym (late_is_due es c (max now (clock (past_of es))) (able es c) (oldest es c)) ∙ sym (named_mask ds es now c l)),
 )
 
-naming_is : (es : List Effect) (at c : ℕ) (s : ChannelState) → oldest_of s ≡ oldest_of (channel_at es c 0 0)
-    → naming_of es at c (oldest es c) ≡ naming_in at c s
-naming_is es at c s e =
+anr_is : (es : List Effect) (at c : ℕ) (s : ChannelState) → oldest_of s ≡ oldest_of (channel_at es c 0 0)
+    → anr_of es at c (oldest es c) ≡ anr_in at c s
+anr_is es at c s e =
     by_oldest (oldest es c) ∙ ap (option_map (λ (p : ℕ × ℕ). record { clock = at; channel = c; seq = p.0 })) (sym (e ∙ oldest_law es c 0 0))
   where
     by_oldest : (o : Option Message)
-        → naming_of es at c o
+        → anr_of es at c o
         ≡ option_map (λ (p : ℕ × ℕ). record { clock = at; channel = c; seq = p.0 }) (option_map {U = ℕ × ℕ} (λ m. (m.seq, delivery es c m.seq)) o)
     by_oldest None = refl
     by_oldest (Some m) = refl
 
 -- what is noted of the channels 1 to n is by them alone
-among_same : (f g : ℕ → Option Naming) (p : ℕ → Bool) (n : ℕ) → ((c : ℕ) → 1 ≤ c → c ≤ n → f c ≡ g c)
+among_same : (f g : ℕ → Option Anr) (p : ℕ → Bool) (n : ℕ) → ((c : ℕ) → 1 ≤ c → c ≤ n → f c ≡ g c)
     → filter_map f (filter p (channels n)) ≡ filter_map g (filter p (channels n))
 among_same f g p zero same = refl
 among_same f g p (suc n) same =
@@ -272,7 +272,7 @@ among_same f g p (suc n) same =
     ∙ ap₂ (λ xs ys. xs ++ ys) (among_same f g p n (λ c from to. same c from (omega (arith, to)))) (one (p (suc n)))
     ∙ sym (cut g)
   where
-    cut : (h : ℕ → Option Naming)
+    cut : (h : ℕ → Option Anr)
         → filter_map h (filter p (channels n ++ suc n ∷ []))
         ≡ filter_map h (filter p (channels n)) ++ filter_map h (filter p (suc n ∷ []))
     cut h = ap (filter_map h) (filter-append p (channels n) (suc n ∷ [])) ∙ filter_map-append h (filter p (channels n)) (filter p (suc n ∷ []))
@@ -281,16 +281,16 @@ among_same f g p (suc n) same =
     one true = ap (λ o. cons_option o []) (same (suc n) (omega arith) (omega arith))
     one false = refl
 
-pub namings_law : NamingsLaw
-namings_law ds call mask es kept keeps =
+pub anrs_law : AnrsLaw
+anrs_law ds call mask es kept keeps =
     let at = clock (past_of (step ds call (Named mask) es)) in
-    ap (λ xs. namings es ++ xs)
-    (among_same (λ c. naming_of es at c (oldest es c)) (λ c. naming_in at c (kept c)) (mask_has mask) (opened (past_of es))
-    (λ c from to. naming_is es at c (kept c) (ap oldest_of (keeps c from to).is)))
+    ap (λ xs. anrs es ++ xs)
+    (among_same (λ c. anr_of es at c (oldest es c)) (λ c. anr_in at c (kept c)) (mask_has mask) (opened (past_of es))
+    (λ c from to. anr_is es at c (kept c) (ap oldest_of (keeps c from to).is)))
 
-pub namings_kept_law : NamingsKeptLaw
-namings_kept_law ds call answer es e = kept answer (clock (past_of (step ds call answer es))) e
+pub anrs_kept_law : AnrsKeptLaw
+anrs_kept_law ds call answer es e = kept answer (clock (past_of (step ds call answer es))) e
   where
-    kept : (answer : Reply) (at : ℕ) → is_named answer ≡ false → namings es ++ namings_by answer at es ≡ namings es
+    kept : (answer : Reply) (at : ℕ) → is_named answer ≡ false → anrs es ++ anrs_by answer at es ≡ anrs es
     kept (Named mask) at f = absurd (cc f)
-    kept answer at f = append-nil (namings es)
+    kept answer at f = append-nil (anrs es)

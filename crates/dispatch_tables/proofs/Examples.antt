@@ -11,11 +11,11 @@ use Rattle.dispatch_history.proofs.Worked.{one_display, window, at, motion, move
 use Rattle.input_channel.specs.State.{ChannelState}
 use Rattle.dispatch_tables.specs.Channel.{channel_at, part_of, Finishes, Untouched}
 use Rattle.dispatch_tables.specs.Masks.{live_mask_after, able_mask_after}
-use Rattle.dispatch_tables.specs.Dues.{due_moment, due_in, namings_in}
+use Rattle.dispatch_tables.specs.Dues.{due_moment, due_in, anrs_in}
 
 -- A window takes a down and a move, and its owner takes the down.
-abbrev two_told : List Call
-two_told =
+abbrev two_sent : List Call
+two_sent =
     Open 5000000 ∷ Windows 0 (window 1 0 0 0 1080 2400 ∷ []) ∷ [] ++ moved 0 Down 0 (at 0 540 1200 ∷ []) ++ moved 1000000 Move 0 (at 0 550 1200 ∷ [])
     ++ Receive 1 ∷ []
 
@@ -35,10 +35,10 @@ one_received =
       spare = 4;
     }
 
-the_down_is_received_and_let_go : channel_at (after_calls two_told) 1 1 4 ≡ one_received
-the_down_is_received_and_let_go = refl
+the_down_is_received_and_released : channel_at (after_calls two_sent) 1 1 4 ≡ one_received
+the_down_is_received_and_released = refl
 
-it_is_due_by_the_down : due_moment (after_calls two_told) 1 ≡ Some 5000000
+it_is_due_by_the_down : due_moment (after_calls two_sent) 1 ≡ Some 5000000
 it_is_due_by_the_down = refl
 
 and_so_it_is_by_what_is_kept : due_in true one_received ≡ Some 5000000
@@ -58,17 +58,17 @@ one_finished =
       spare = 4;
     }
 
-the_down_is_finished : channel_at (after_calls (two_told ++ Finish 3000000 1 1 ∷ [])) 1 1 4 ≡ one_finished
+the_down_is_finished : channel_at (after_calls (two_sent ++ Finish 3000000 1 1 ∷ [])) 1 1 4 ≡ one_finished
 the_down_is_finished = refl
 
-it_is_first_due_by_the_move : first_due (after_calls (two_told ++ Finish 3000000 1 1 ∷ [])) ≡ Some (record { moment = 6000000; channel = 1 })
+it_is_first_due_by_the_move : first_due (after_calls (two_sent ++ Finish 3000000 1 1 ∷ [])) ≡ Some (record { moment = 6000000; channel = 1 })
 it_is_first_due_by_the_move = refl
 
 -- A tick at 5000000 names it in place of that, and then it is not due.
-a_named_channel_is_not_due : due_moment (after_calls (two_told ++ Tick 5000000 ∷ [])) 1 ≡ None
+a_named_channel_is_not_due : due_moment (after_calls (two_sent ++ Tick 5000000 ∷ [])) 1 ≡ None
 a_named_channel_is_not_due = refl
 
-what_the_tick_notes : namings_in 5000000 1 (λ c. one_received) 1 ≡ record { clock = 5000000; channel = 1; seq = 1 } ∷ []
+what_the_tick_notes : anrs_in 5000000 1 (λ c. one_received) 1 ≡ record { clock = 5000000; channel = 1; seq = 1 } ∷ []
 what_the_tick_notes = refl
 
 -- parts, and masks of the channels 1 and 3

@@ -13,19 +13,19 @@ use Rattle.dispatch_history.specs.History.{clock, live, opened, opened_after}
 use Rattle.dispatch_history.specs.Effect.{Effect, past_of}
 use Rattle.dispatch_history.specs.Effects.{step}
 use Rattle.dispatch_history.specs.Delivery.{able, has_late}
-use Rattle.dispatch_history.specs.Due.{namings}
+use Rattle.dispatch_history.specs.Due.{anrs}
 use Rattle.dispatch_history.specs.Reply.{reply_to}
 use Rattle.dispatch_tables.specs.Lawful.{Lawful}
 use Rattle.dispatch_tables.specs.Channel.{Holds, Opens, Untouched, part_of}
 use Rattle.dispatch_tables.specs.Masks.{able_mask_after}
-use Rattle.dispatch_tables.specs.Dues.{due_moment, due_in, namings_in}
+use Rattle.dispatch_tables.specs.Dues.{due_moment, due_in, anrs_in}
 use Rattle.dispatch_tables.specs.Delivery.{Delivery, DeliveryIs, NotedIs, noted_after, noted_with}
 use Rattle.dispatch_history.proofs.MotionLaws.{opened_mono}
 use Rattle.dispatch_tables.specs.Laws.{DeliveryStart, DeliveryLaw, DeliveryDue}
 use Rattle.dispatch_tables.proofs.Lawfuls.{lawful_last}
 use Rattle.dispatch_tables.proofs.Unopened.{done_live}
 use Rattle.dispatch_tables.proofs.Ables.{live_number, live_mask_law, able_mask_law}
-use Rattle.dispatch_tables.proofs.Duties.{oldest_due, namings_law, namings_kept_law}
+use Rattle.dispatch_tables.proofs.Duties.{oldest_due, anrs_law, anrs_kept_law}
 use Rattle.dispatch_tables.proofs.Noting.{noted_more}
 use Rattle.dispatch_tables.proofs.Keeping.{kept_step, kept_quiet, kept_late, kept_due}
 
@@ -74,15 +74,15 @@ same_late call answer f g mask same = refl
 
 -- what is noted
 notes : (ds : List ℕ) (call : Call) (answer : Reply) (es : List Effect) (k : Delivery) → DeliveryIs es k
-    → NotedIs (namings (step ds call answer es)) (noted_after answer (clock (past_of (step ds call answer es))) k)
+    → NotedIs (anrs (step ds call answer es)) (noted_after answer (clock (past_of (step ds call answer es))) k)
 notes ds call (Named mask) es k h =
     let now = clock (past_of (step ds call (Named mask) es)) in
-    let same : namings (step ds call (Named mask) es) ≡ namings es ++ namings_in now mask k.channel k.count =
-    namings_law ds call mask es k.channel (λ c from to. h.keeps c from (subst (λ n. c ≤ n) (sym h.count_is) to))
-    ∙ ap (λ n. namings es ++ namings_in now mask k.channel n) (sym h.count_is) in
-    subst (λ xs. NotedIs xs (noted_with (namings_in now mask k.channel k.count) k.noted)) (sym same)
-    (noted_more (namings es) (namings_in now mask k.channel k.count) k.noted h.noted_is)
-notes ds call answer es k h = subst (λ xs. NotedIs xs k.noted) (sym (namings_kept_law ds call answer es refl)) h.noted_is
+    let same : anrs (step ds call (Named mask) es) ≡ anrs es ++ anrs_in now mask k.channel k.count =
+    anrs_law ds call mask es k.channel (λ c from to. h.keeps c from (subst (λ n. c ≤ n) (sym h.count_is) to))
+    ∙ ap (λ n. anrs es ++ anrs_in now mask k.channel n) (sym h.count_is) in
+    subst (λ xs. NotedIs xs (noted_with (anrs_in now mask k.channel k.count) k.noted)) (sym same)
+    (noted_more (anrs es) (anrs_in now mask k.channel k.count) k.noted h.noted_is)
+notes ds call answer es k h = subst (λ xs. NotedIs xs k.noted) (sym (anrs_kept_law ds call answer es refl)) h.noted_is
 
 -- all that goes on
 pub delivery_law : DeliveryLaw
@@ -92,7 +92,7 @@ delivery_law ds call answer es changed k later l h g =
       keeps = keeps;
       live_is = ap mask_has g.live_is ∙ live_mask_law ds call answer es k.live l h.live_is;
       able_is = able_is;
-      noted_is = subst (NotedIs (namings (step ds call answer es))) (sym g.noted_is) (notes ds call answer es k h);
+      noted_is = subst (NotedIs (anrs (step ds call answer es))) (sym g.noted_is) (notes ds call answer es k h);
     }
   where
     reply_is : answer ≡ reply_to es call

@@ -3,7 +3,7 @@ use Rattle.std.proofs.Common.{◌≡◌, ℕ, ◌-◌, ◌≤◌, max, nat_le, n
 use Rattle.std.proofs.Math.Path.{fun_ext}
 use Rattle.std.specs.Prelude.{option_map}
 use Rattle.input_channel.specs.Order.{NoneAfter}
-use Rattle.input_channel.specs.State.{ChannelState, IsChannel, sent, publishable, published_at, let_go_of, each_let_go, all_let_go, next_of, may_finish, oldest_of}
+use Rattle.input_channel.specs.State.{ChannelState, IsChannel, sent, publishable, published_at, release_of, each_released, all_released, next_of, may_finish, oldest_of}
 use Rattle.input_channel.specs.State.{has_late as late_at}
 use Rattle.dispatch_history.specs.History.{clock, live, opened, received}
 use Rattle.dispatch_history.specs.Effect.{Effect, past_of, stream}
@@ -17,8 +17,8 @@ use Rattle.dispatch_tables.specs.Dues.{due_moment, due_in}
 use Rattle.dispatch_tables.specs.Laws.{KeptStep, KeptReady, KeptUnopened, KeptQuiet, KeptLess, KeptFacts, ReceiveLaw, FinishLaw, OldestLaw, LateLaw, CountsLaw, DueLaw, DuesLaw}
 use Rattle.dispatch_tables.specs.Holding.{HeldLess, MayGoLaw, PassLaw}
 use Rattle.dispatch_tables.proofs.Channels.{channel_step}
-use Rattle.dispatch_tables.proofs.Kept.{none_after_clock, all_published, channel_law, ready_law, quiet_law, let_go_law, each_gone_law, all_gone_law}
-use Rattle.dispatch_tables.proofs.Letting.{may_go_on, most_on, received_may_go, received_most, all_may_go}
+use Rattle.dispatch_tables.proofs.Kept.{none_after_clock, all_published, channel_law, ready_law, quiet_law, release_law, each_gone_law, all_gone_law}
+use Rattle.dispatch_tables.proofs.Releases.{may_go_on, most_on, received_may_go, received_most, all_may_go}
 use Rattle.dispatch_tables.proofs.Unopened.{unopened_law}
 use Rattle.dispatch_tables.proofs.Answering.{receive_law, pass_law, finish_law, oldest_law, late_law, counts_law}
 use Rattle.dispatch_tables.proofs.Duties.{due_law, quiet_due_law}
@@ -73,26 +73,26 @@ may_go_law ds call answer es c gone l may = may_go_on ds call answer es c gone l
 
 pub kept_less : KeptLess
 kept_less ds es c s l k = (
-  kept (λ t. Keeps es c (let_go_of t)) es c s k (λ gone spare may.
-      subst (Keeps es c) (sym (let_go_law es c gone spare))
+  kept (λ t. Keeps es c (release_of t)) es c s k (λ gone spare may.
+      subst (Keeps es c) (sym (release_law es c gone spare))
       (keeps_at es c (max gone (received (past_of es) c)) spare (received_may_go ds es c gone l may))),
   λ n. record { is = ap {A = ChannelState} (λ t. record t { spare = max n s.spare }) k.is; may_go = k.may_go },
   λ dead.
-      kept (λ t. Keeps es c (all_let_go t)) es c s k (λ gone spare may.
+      kept (λ t. Keeps es c (all_released t)) es c s k (λ gone spare may.
       subst (Keeps es c) (sym (all_gone_law ds es c gone spare l may.of_all))
       (keeps_at es c (length (stream es c)) 0 (all_may_go es c dead))),
 )
 
 pub held_less : HeldLess
 held_less ds es c s l k = (
-  held (λ t. Holds es c (let_go_of t)) es c s k (λ gone spare most.
-      subst (Holds es c) (sym (let_go_law es c gone spare))
+  held (λ t. Holds es c (release_of t)) es c s k (λ gone spare most.
+      subst (Holds es c) (sym (release_law es c gone spare))
       (holds_at es c (max gone (received (past_of es) c)) spare (received_most ds es c gone l most))),
   λ n. record { is = ap {A = ChannelState} (λ t. record t { spare = max n s.spare }) k.is; most = k.most },
-  held (λ t. Holds es c (each_let_go t)) es c s k (λ gone spare most.
+  held (λ t. Holds es c (each_released t)) es c s k (λ gone spare most.
       subst (Holds es c) (sym (each_gone_law ds es c gone spare l most))
       (holds_at es c (length (stream es c)) spare (omega arith))),
-  held (λ t. Holds es c (all_let_go t)) es c s k (λ gone spare most.
+  held (λ t. Holds es c (all_released t)) es c s k (λ gone spare most.
       subst (Holds es c) (sym (all_gone_law ds es c gone spare l most))
       (holds_at es c (length (stream es c)) 0 (omega arith))),
 )

@@ -7,7 +7,7 @@ use Rattle.input_types.specs.declared.message.Body.{Body}
 use Rattle.input_types.specs.declared.message.Message.{Message}
 use Rattle.input_channel.specs.declared.unfinished.Unfinished.{Unfinished}
 use Rattle.input_channel.specs.Order.{delivered, without, NoneAfter}
-use Rattle.input_channel.specs.State.{ChannelState, IsChannel, sent, publishable, published_at, let_go_of, each_let_go, all_let_go}
+use Rattle.input_channel.specs.State.{ChannelState, IsChannel, sent, publishable, published_at, release_of, each_released, all_released}
 use Rattle.input_channel.proofs.Delivering.{published_channel, published_is}
 use Rattle.input_channel.proofs.Finishing.{finished_channel}
 use Rattle.dispatch_calls.specs.declared.call.Call.{Call}
@@ -67,9 +67,9 @@ part_after now Receives s h = h
 part_after now (Finishes seq) s h = none_after-without now seq s.unfinished h
 part_after now Untouched s h = h
 
-told_after : (now : ℕ) (bs : List Body) (s : ChannelState) → NoneAfter now s.unfinished
+sent_after : (now : ℕ) (bs : List Body) (s : ChannelState) → NoneAfter now s.unfinished
     → NoneAfter now (enqueued_all bs now s).unfinished
-told_after now bs s h = subst (λ t. NoneAfter now t.unfinished) (sym (enqueued_is now bs s (sent s) refl)) h
+sent_after now bs s h = subst (λ t. NoneAfter now t.unfinished) (sym (enqueued_is now bs s (sent s) refl)) h
 
 -- a channel with other messages and other room
 other_messages : (s : ChannelState) (gone spare : ℕ) (messages : List Message) → IsChannel s
@@ -124,8 +124,8 @@ published_ok now s h after =
     subst IsChannel (published_is s now (min (64 - length s.unfinished) (sent s - s.published)) h refl)
     (published_channel s now (min (64 - length s.unfinished) (sent s - s.published)) h after refl)
 
-told_ok : (now : ℕ) (bs : List Body) (s : ChannelState) → IsChannel s → IsChannel (enqueued_all bs now s)
-told_ok now bs s h =
+sent_ok : (now : ℕ) (bs : List Body) (s : ChannelState) → IsChannel s → IsChannel (enqueued_all bs now s)
+sent_ok now bs s h =
     subst IsChannel (sym (enqueued_is now bs s (sent s) refl))
     (other_messages s s.gone (s.spare - length bs) (s.messages ++ messages_from now (sent s) bs) h
     (omega (arith, length-append s.messages (messages_from now (sent s) bs))))
@@ -154,8 +154,8 @@ whole_channel ds es c l =
     let all : IsChannel (channel_at (step ds call answer xs) c 0 (0 - length bs)) =
     subst IsChannel (sym (channel_step ds call answer xs c 0 0 m (omega arith)))
     (published_ok now (enqueued_all bs now s)
-    (told_ok now bs s (part_channel ds xs c p last.1 (can_be xs c call answer last.0) h))
-    (told_after now bs s (part_after now p (channel_at xs c 0 0) (none_after_clock ds xs c 0 0 now last.1 old)))) in
+    (sent_ok now bs s (part_channel ds xs c p last.1 (can_be xs c call answer last.0) h))
+    (sent_after now bs s (part_after now p (channel_at xs c 0 0) (none_after_clock ds xs c 0 0 now last.1 old)))) in
     let t = channel_at (step ds call answer xs) c 0 (0 - length bs) in
     other_messages t 0 0 t.messages all (omega arith))
     es l
@@ -190,7 +190,7 @@ ready_law ds call answer es c gone spare bodies l =
     let now = clock (past_of (step ds call answer es)) in
     let s = channel_at es c gone spare in
     let old : clock (past_of es) ≤ now = omega arith in
-    told_after now bodies (with_part (part_of call answer c) s)
+    sent_after now bodies (with_part (part_of call answer c) s)
     (part_after now (part_of call answer c) s (none_after_clock ds es c gone spare now (lawful_last ds call answer es l).1 old))
 
 -- a channel of which all that can be is published stays as it is
@@ -214,23 +214,23 @@ quiet_law ds call answer es c gone spare l le none untouched =
     ∙ (λ i. published_at now (enqueued_all (none i) now (with_part (untouched i) s)))
     ∙ all_published now s (channel_law ds es c gone spare (lawful_last ds call answer es l).1 le).2
 
-pub let_go_law : (es : List Effect) (c gone spare : ℕ)
-    → let_go_of (channel_at es c gone spare) ≡ channel_at es c (max gone (received (past_of es) c)) spare
-let_go_law es c gone spare =
+pub release_law : (es : List Effect) (c gone spare : ℕ)
+    → release_of (channel_at es c gone spare) ≡ channel_at es c (max gone (received (past_of es) c)) spare
+release_law es c gone spare =
     let rest : gone + (received (past_of es) c - gone) ≡ max gone (received (past_of es) c) = omega arith in
     λ i. record (channel_at es c (max gone (received (past_of es) c)) spare) {
       messages = (drop-drop (received (past_of es) c - gone) gone (reverse (stream es c)) ∙ ap (λ n. drop n (reverse (stream es c))) rest) i;
     }
 
 pub each_gone_law : (ds : List ℕ) (es : List Effect) (c gone spare : ℕ) → Lawful ds es → gone ≤ length (stream es c)
-    → each_let_go (channel_at es c gone spare) ≡ channel_at es c (length (stream es c)) spare
+    → each_released (channel_at es c gone spare) ≡ channel_at es c (length (stream es c)) spare
 each_gone_law ds es c gone spare l le =
     let none : drop (length (stream es c)) (reverse (stream es c)) ≡ [] =
     drop_of_length-le (reverse (stream es c)) (omega (arith, length-reverse (stream es c))) in
     λ i. record (channel_at es c gone spare) { gone = (channel_law ds es c gone spare l le).1 i; messages = sym none i }
 
 pub all_gone_law : (ds : List ℕ) (es : List Effect) (c gone spare : ℕ) → Lawful ds es → gone ≤ length (stream es c)
-    → all_let_go (channel_at es c gone spare) ≡ channel_at es c (length (stream es c)) 0
+    → all_released (channel_at es c gone spare) ≡ channel_at es c (length (stream es c)) 0
 all_gone_law ds es c gone spare l le =
     let none : drop (length (stream es c)) (reverse (stream es c)) ≡ [] =
     drop_of_length-le (reverse (stream es c)) (omega (arith, length-reverse (stream es c))) in

@@ -13,9 +13,9 @@ pub mod AbleMasks
 pub mod Ables
 pub mod Duties
 pub mod Noting
-pub mod Letting
+pub mod Releases
 pub mod Keeping
 pub mod Examples
 pub mod Silence
 pub mod Going
-pub mod Resting
+pub mod NoOps

@@ -1,14 +1,14 @@
--- Messages that are told come behind the others, and all are numbered one by one.
+-- Messages that are sent come behind the others, and all are numbered one by one.
 use Rattle.std.proofs.Common.{◌≡◌, ℕ, zero, suc, ◌+◌, ◌-◌, List, [], ◌∷◌, ◌++◌, length, reverse, take, drop, refl, sym, ap, ◌∙◌, subst, arith, append_assoc, append-nil, length-append}
 use Rattle.std.proofs.lemmas.List.{reverse-append, length-reverse}
 use Rattle.input_types.specs.declared.message.Body.{Body}
 use Rattle.input_types.specs.declared.message.Message.{Message}
 use Rattle.input_channel.specs.State.{ChannelState, sent, enqueued}
-use Rattle.dispatch_history.specs.Effect.{told_on}
+use Rattle.dispatch_history.specs.Effect.{sent_on}
 use Rattle.dispatch_history.specs.Known.{IsNumbered}
 use Rattle.dispatch_tables.specs.Channel.{NumberedFrom, enqueued_all}
 
--- what is told behind n messages, oldest first
+-- what is sent behind n messages, oldest first
 abbrev pub messages_from : ℕ → ℕ → List Body → List Message
 messages_from now n [] = []
 messages_from now n (b ∷ bs) = record { seq = 1 + n; moment = now; body = b } ∷ messages_from now (suc n) bs
@@ -17,20 +17,20 @@ pub length-messages : (now n : ℕ) (bs : List Body) → length (messages_from n
 length-messages now n [] = refl
 length-messages now n (b ∷ bs) = ap suc (length-messages now (suc n) bs)
 
-pub reverse_told : (now : ℕ) (bs : List Body) (ms : List Message)
-    → reverse (told_on now bs ms) ≡ reverse ms ++ messages_from now (length ms) bs
-reverse_told now [] ms = sym (append-nil (reverse ms))
-reverse_told now (b ∷ bs) ms =
+pub reverse_sent : (now : ℕ) (bs : List Body) (ms : List Message)
+    → reverse (sent_on now bs ms) ≡ reverse ms ++ messages_from now (length ms) bs
+reverse_sent now [] ms = sym (append-nil (reverse ms))
+reverse_sent now (b ∷ bs) ms =
     let m : Message = record { seq = 1 + length ms; moment = now; body = b } in
-    reverse_told now bs (m ∷ ms)
+    reverse_sent now bs (m ∷ ms)
     ∙ ap (λ xs. xs ++ messages_from now (suc (length ms)) bs) (reverse-append (m ∷ []) ms)
     ∙ append_assoc (reverse ms) (m ∷ []) (messages_from now (suc (length ms)) bs)
 
-pub length-told_on : (now : ℕ) (bs : List Body) (ms : List Message) → length (told_on now bs ms) ≡ length ms + length bs
-length-told_on now [] ms = omega arith
-length-told_on now (b ∷ bs) ms =
+pub length-sent_on : (now : ℕ) (bs : List Body) (ms : List Message) → length (sent_on now bs ms) ≡ length ms + length bs
+length-sent_on now [] ms = omega arith
+length-sent_on now (b ∷ bs) ms =
     let m : Message = record { seq = 1 + length ms; moment = now; body = b } in
-    let more : length (told_on now bs (m ∷ ms)) ≡ length (m ∷ ms) + length bs = length-told_on now bs (m ∷ ms) in
+    let more : length (sent_on now bs (m ∷ ms)) ≡ length (m ∷ ms) + length bs = length-sent_on now bs (m ∷ ms) in
     more ∙ omega arith
 
 -- all that is enqueued at once

@@ -11,10 +11,10 @@ use Rattle.input_types.specs.declared.message.Message.{Message}
 use Rattle.input_channel.specs.Order.{delivered}
 use Rattle.input_channel.specs.State.{ChannelState, published_at}
 use Rattle.dispatch_history.specs.History.{clock, limit_of, received, finished}
-use Rattle.dispatch_history.specs.Effect.{Effect, past_of, stream, told_on}
+use Rattle.dispatch_history.specs.Effect.{Effect, past_of, stream, sent_on}
 use Rattle.dispatch_history.specs.Delivery.{published, delivery, is_finished}
 use Rattle.dispatch_tables.specs.Channel.{Part, Opens, Receives, Finishes, Untouched, with_part, channel_at, enqueued_all, NumberedFrom}
-use Rattle.dispatch_tables.proofs.Numbering.{messages_from, length-messages, length-told_on, reverse_told, enqueued_is}
+use Rattle.dispatch_tables.proofs.Numbering.{messages_from, length-messages, length-sent_on, reverse_sent, enqueued_is}
 use Rattle.dispatch_tables.proofs.Waiting.{waiting, waiting-more, waiting-without}
 use Rattle.dispatch_tables.proofs.Parts.{limit_by, received_by, finished_by, count_by, unfinished_by, by_part, part_fields, count_part, CanBe}
 
@@ -55,23 +55,23 @@ waiting-part (Opens limit) ns at ms = refl
 waiting-part Receives ns at ms = refl
 waiting-part Untouched ns at ms = refl
 
--- effects with one step more, as they are for a channel: its part in the step, and what it is told
-pub record Stepped (es later : List Effect) (c : ℕ) (p : Part) (told : List Body) : Type 0 where
+-- effects with one step more, as they are for a channel: its part in the step, and what it is sent
+pub record Stepped (es later : List Effect) (c : ℕ) (p : Part) (outgoing : List Body) : Type 0 where
   pub sound : Sound es c
   pub can : CanBe es c p
   pub limit_is : limit_of (past_of later) c ≡ limit_by p (limit_of (past_of es) c)
   pub received_is : received (past_of later) c ≡ received_by p (received (past_of es) c)
   pub finished_is : finished (past_of later) c ≡ finished_by p (finished (past_of es) c)
-  pub stream_is : stream later c ≡ told_on (clock (past_of later)) told (stream es c)
+  pub stream_is : stream later c ≡ sent_on (clock (past_of later)) outgoing (stream es c)
   pub delivery_is : (k : ℕ)
       → delivery later c k ≡ cond (nat_le k (published es c)) (delivery es c k) (clock (past_of later))
   pub numbered : NumberedFrom 0 (reverse (stream later c))
 
-pub stepped_published : (es later : List Effect) (c : ℕ) (p : Part) (told : List Body) → Stepped es later c p told
+pub stepped_published : (es later : List Effect) (c : ℕ) (p : Part) (outgoing : List Body) → Stepped es later c p outgoing
     → published es c ≤ published later c
-stepped_published es later c p told h =
-    let longer : length (stream later c) ≡ length (stream es c) + length told =
-    ap length h.stream_is ∙ length-told_on (clock (past_of later)) told (stream es c) in
+stepped_published es later c p outgoing h =
+    let longer : length (stream later c) ≡ length (stream es c) + length outgoing =
+    ap length h.stream_is ∙ length-sent_on (clock (past_of later)) outgoing (stream es c) in
     let more : length (finished (past_of es) c) ≤ length (finished (past_of later) c) =
     subst (λ ns. length (finished (past_of es) c) ≤ length ns) (sym h.finished_is) (more_finished p (finished (past_of es) c)) in
     published-grows (length (stream es c)) (length (stream later c)) (length (finished (past_of es) c)) (length (finished (past_of later) c)) 64
@@ -90,14 +90,14 @@ received_more (Opens limit) n = omega arith
 received_more (Finishes seq) n = omega arith
 received_more Untouched n = omega arith
 
-pub stepped_sound : (es later : List Effect) (c : ℕ) (p : Part) (told : List Body) → Stepped es later c p told
+pub stepped_sound : (es later : List Effect) (c : ℕ) (p : Part) (outgoing : List Body) → Stepped es later c p outgoing
     → Sound later c
-stepped_sound es later c p told h =
+stepped_sound es later c p outgoing h =
     let few : received (past_of later) c ≤ published es c = subst (λ n. n ≤ published es c) (sym h.received_is) (received_few es c p h.sound h.can) in
     let more : received (past_of es) c ≤ received (past_of later) c =
     subst (λ n. received (past_of es) c ≤ n) (sym h.received_is) (received_more p (received (past_of es) c)) in
     record {
-      received_published = omega (arith, few, stepped_published es later c p told h);
+      received_published = omega (arith, few, stepped_published es later c p outgoing h);
       done_received =
           λ k d.
           let was = done_by es c p h.sound h.can k (subst (λ ns. list_any (λ n. n == k) ns ≡ true) h.finished_is d) in
@@ -105,15 +105,15 @@ stepped_sound es later c p told h =
     }
 
 -- what waits after the step: what waited, without what is finished, and behind it what is delivered
-stepped_unfinished : (es later : List Effect) (c : ℕ) (p : Part) (told : List Body) → Stepped es later c p told
+stepped_unfinished : (es later : List Effect) (c : ℕ) (p : Part) (outgoing : List Body) → Stepped es later c p outgoing
     → waiting (is_finished (past_of later) c) (delivery later c) (take (published later c) (reverse (stream later c)))
     ≡ unfinished_by p (waiting (is_finished (past_of es) c) (delivery es c) (take (published es c) (reverse (stream es c))))
     ++ delivered (clock (past_of later)) (published es c) (published later c - published es c)
-stepped_unfinished es later c p told h =
+stepped_unfinished es later c p outgoing h =
     ap (λ ms. waiting done (delivery later c) (take (published later c) ms)) whole
     ∙ waiting-more done (delivery later c) (delivery es c) now (published es c) (published later c) old new
     (subst (λ ms. NumberedFrom 0 ms) whole h.numbered) (omega (arith, length-reverse (stream es c)))
-    (stepped_published es later c p told h)
+    (stepped_published es later c p outgoing h)
     (omega (arith, ap length whole, length-reverse (stream later c)))
     (λ k le. h.delivery_is k ∙ ap (λ b. cond b (delivery es c k) now) (le-leb k (published es c) le))
     (λ k lt. (fresh k lt, h.delivery_is k ∙ ap (λ b. cond b (delivery es c k) now) (above k lt)))
@@ -129,10 +129,10 @@ stepped_unfinished es later c p told h =
     old = reverse (stream es c)
 
     new : List Message
-    new = messages_from (clock (past_of later)) (length (stream es c)) told
+    new = messages_from (clock (past_of later)) (length (stream es c)) outgoing
 
-    whole : reverse (stream later c) ≡ reverse (stream es c) ++ messages_from (clock (past_of later)) (length (stream es c)) told
-    whole = ap reverse h.stream_is ∙ reverse_told (clock (past_of later)) told (stream es c)
+    whole : reverse (stream later c) ≡ reverse (stream es c) ++ messages_from (clock (past_of later)) (length (stream es c)) outgoing
+    whole = ap reverse h.stream_is ∙ reverse_sent (clock (past_of later)) outgoing (stream es c)
 
     above : (k : ℕ) → published es c < k → nat_le k (published es c) ≡ false
     above k lt = grind (arith, nat_tests)
@@ -151,11 +151,11 @@ stepped_unfinished es later c p told h =
         ∙ waiting-part p (finished (past_of es) c) (delivery es c) (take (published es c) (reverse (stream es c)))
 
 -- the channel after the step
-pub stepped_channel : (es later : List Effect) (c : ℕ) (p : Part) (told : List Body) (gone spare : ℕ)
-    → Stepped es later c p told → gone ≤ length (stream es c)
-    → channel_at later c gone (spare - length told)
-    ≡ published_at (clock (past_of later)) (enqueued_all told (clock (past_of later)) (with_part p (channel_at es c gone spare)))
-stepped_channel es later c p told gone spare h le =
+pub stepped_channel : (es later : List Effect) (c : ℕ) (p : Part) (outgoing : List Body) (gone spare : ℕ)
+    → Stepped es later c p outgoing → gone ≤ length (stream es c)
+    → channel_at later c gone (spare - length outgoing)
+    ≡ published_at (clock (past_of later)) (enqueued_all outgoing (clock (past_of later)) (with_part p (channel_at es c gone spare)))
+stepped_channel es later c p outgoing gone spare h le =
     (λ i. record {
       limit = h.limit_is i;
       gone = gone;
@@ -164,9 +164,9 @@ stepped_channel es later c p told gone spare h le =
       received = h.received_is i;
       finished = count i;
       unfinished = unfinished i;
-      spare = spare - length told;
+      spare = spare - length outgoing;
     })
-    ∙ sym (ap (published_at now) (ap (enqueued_all told now) (part_fields p s) ∙ enqueued_is now told (by_part p s) (length (stream es c)) all))
+    ∙ sym (ap (published_at now) (ap (enqueued_all outgoing now) (part_fields p s) ∙ enqueued_is now outgoing (by_part p s) (length (stream es c)) all))
   where
     now : ℕ
     now = clock (past_of later)
@@ -175,7 +175,7 @@ stepped_channel es later c p told gone spare h le =
     s = channel_at es c gone spare
 
     more : List Message
-    more = messages_from (clock (past_of later)) (length (stream es c)) told
+    more = messages_from (clock (past_of later)) (length (stream es c)) outgoing
 
     kept : gone ≤ length (reverse (stream es c))
     kept = omega (arith, le, length-reverse (stream es c))
@@ -183,38 +183,38 @@ stepped_channel es later c p told gone spare h le =
     all : gone + length (drop gone (reverse (stream es c))) ≡ length (stream es c)
     all = omega (arith, kept, length-drop gone (reverse (stream es c)), length-reverse (stream es c))
 
-    messages : drop gone (reverse (stream later c)) ≡ drop gone (reverse (stream es c)) ++ messages_from (clock (past_of later)) (length (stream es c)) told
+    messages : drop gone (reverse (stream later c)) ≡ drop gone (reverse (stream es c)) ++ messages_from (clock (past_of later)) (length (stream es c)) outgoing
     messages =
         ap (λ ms. drop gone (reverse ms)) h.stream_is
-        ∙ ap (drop gone) (reverse_told (clock (past_of later)) told (stream es c))
-        ∙ drop-append-le gone (reverse (stream es c)) (messages_from (clock (past_of later)) (length (stream es c)) told) kept
+        ∙ ap (drop gone) (reverse_sent (clock (past_of later)) outgoing (stream es c))
+        ∙ drop-append-le gone (reverse (stream es c)) (messages_from (clock (past_of later)) (length (stream es c)) outgoing) kept
 
     count : length (finished (past_of later) c) ≡ count_by p (length (finished (past_of es) c))
     count = ap length h.finished_is ∙ count_part p (finished (past_of es) c)
 
     far : published later c
-        ≡ min (gone + length (drop gone (reverse (stream es c)) ++ messages_from (clock (past_of later)) (length (stream es c)) told))
+        ≡ min (gone + length (drop gone (reverse (stream es c)) ++ messages_from (clock (past_of later)) (length (stream es c)) outgoing))
         (count_by p (length (finished (past_of es) c)) + 64)
     far =
-        let longer : length (stream later c) ≡ length (stream es c) + length told =
-        ap length h.stream_is ∙ length-told_on (clock (past_of later)) told (stream es c) in
-        let same : length (stream later c) ≡ gone + length (drop gone (reverse (stream es c)) ++ messages_from (clock (past_of later)) (length (stream es c)) told) =
+        let longer : length (stream later c) ≡ length (stream es c) + length outgoing =
+        ap length h.stream_is ∙ length-sent_on (clock (past_of later)) outgoing (stream es c) in
+        let same : length (stream later c) ≡ gone + length (drop gone (reverse (stream es c)) ++ messages_from (clock (past_of later)) (length (stream es c)) outgoing) =
         omega (
           arith,
           longer,
           all,
-          length-append (drop gone (reverse (stream es c))) (messages_from (clock (past_of later)) (length (stream es c)) told),
-          length-messages (clock (past_of later)) (length (stream es c)) told,
+          length-append (drop gone (reverse (stream es c))) (messages_from (clock (past_of later)) (length (stream es c)) outgoing),
+          length-messages (clock (past_of later)) (length (stream es c)) outgoing,
         ) in
         ap₂ (λ n k. min n (k + 64)) same count
 
     unfinished : waiting (is_finished (past_of later) c) (delivery later c) (take (published later c) (reverse (stream later c)))
         ≡ unfinished_by p (waiting (is_finished (past_of es) c) (delivery es c) (take (published es c) (reverse (stream es c))))
         ++ delivered (clock (past_of later)) (published es c)
-        (min (gone + length (drop gone (reverse (stream es c)) ++ messages_from (clock (past_of later)) (length (stream es c)) told))
+        (min (gone + length (drop gone (reverse (stream es c)) ++ messages_from (clock (past_of later)) (length (stream es c)) outgoing))
         (count_by p (length (finished (past_of es) c)) + 64)
         - published es c)
     unfinished =
-        stepped_unfinished es later c p told h
+        stepped_unfinished es later c p outgoing h
         ∙ ap (λ n. unfinished_by p (waiting (is_finished (past_of es) c) (delivery es c) (take (published es c) (reverse (stream es c))))
         ++ delivered (clock (past_of later)) (published es c) (n - published es c)) far

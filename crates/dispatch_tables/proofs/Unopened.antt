@@ -49,7 +49,7 @@ part_live es c (Finish now k seq) Done r =
     ]
 part_live es c call answer r = inl refl
 
--- a channel that is not live after a step is told nothing
+-- a channel that is not live after a step is sent nothing
 pub not_live_said : (ds : List ℕ) (call : Call) (answer : Reply) (es : List Effect) (c : ℕ)
     → live ((call, answer) ∷ past_of es) c ≡ false → said_at ds call answer es c ≡ []
 not_live_said ds call answer es c n = rw n refl

@@ -48,7 +48,7 @@ with_part Receives s = received_one s
 with_part (Finishes seq) s = finished_with seq s
 with_part Untouched s = s
 
--- all that it is told is enqueued, in order
+-- all that it is sent is enqueued, in order
 abbrev pub enqueued_all : List Body → ℕ → ChannelState → ChannelState
 enqueued_all [] now s = s
 enqueued_all (b ∷ bs) now s = enqueued_all bs now (enqueued b now s)

@@ -3,7 +3,7 @@ use Rattle.std.specs.Prelude.{◌≡◌, ℕ, ◌+◌, ◌≤◌, Bool, true, fa
 use Rattle.input_types.specs.declared.message.Body.{Body}
 use Rattle.window_snapshot.specs.Mask.{mask_has}
 use Rattle.dispatch_calls.specs.declared.call.Call.{Call}
-use Rattle.dispatch_calls.specs.declared.counts.Naming.{Naming}
+use Rattle.dispatch_calls.specs.declared.counts.Anr.{Anr}
 use Rattle.dispatch_calls.specs.declared.reply.Reply.{Reply}
 use Rattle.dispatch_calls.specs.declared.reply.Reply.TheVariants.{Named}
 use Rattle.input_channel.specs.State.{ChannelState, published_at}
@@ -11,22 +11,22 @@ use Rattle.input_channel.specs.State.{has_late as late_at}
 use Rattle.dispatch_history.specs.History.{opened, opened_after, live}
 use Rattle.dispatch_history.specs.Effect.{Effect, past_of}
 use Rattle.dispatch_history.specs.Delivery.{able}
-use Rattle.dispatch_history.specs.Due.{namings}
+use Rattle.dispatch_history.specs.Due.{anrs}
 use Rattle.dispatch_tables.specs.Channel.{Holds, Untouched, part_of, with_part, enqueued_all}
 use Rattle.dispatch_tables.specs.Masks.{live_mask_after, able_mask_after}
-use Rattle.dispatch_tables.specs.Dues.{due_in, namings_in}
+use Rattle.dispatch_tables.specs.Dues.{due_in, anrs_in}
 
 -- what was noted of ticks: how many namings were let go, the first ones, and the others
 pub record Noted : Type 0 where
   pub gone : ℕ
-  pub left : List Naming
+  pub left : List Anr
 
 -- nothing was noted
 abbrev pub none_noted : Noted
 none_noted = record { gone = 0; left = [] }
 
 -- some namings more
-abbrev pub noted_with : List Naming → Noted → Noted
+abbrev pub noted_with : List Anr → Noted → Noted
 noted_with more n = record n { left = n.left ++ more }
 
 -- all are let go
@@ -34,7 +34,7 @@ abbrev pub noted_gone : Noted → Noted
 noted_gone n = record { gone = n.gone + length n.left; left = [] }
 
 -- it is what is left of all these namings, once the first ones were let go
-pub record NotedIs (all : List Naming) (n : Noted) : Type 0 where
+pub record NotedIs (all : List Anr) (n : Noted) : Type 0 where
   pub few : n.gone ≤ length all
   pub left_is : n.left ≡ drop n.gone all
 
@@ -57,28 +57,28 @@ pub record DeliveryIs (es : List Effect) (k : Delivery) : Type 0 where
   pub keeps : (c : ℕ) → 1 ≤ c → c ≤ k.count → Holds es c (k.channel c)
   pub live_is : mask_has k.live ≡ live (past_of es)
   pub able_is : mask_has k.able ≡ able es
-  pub noted_is : NotedIs (namings es) k.noted
+  pub noted_is : NotedIs (anrs es) k.noted
 
--- a channel after a step: its part in it, then what it is told, and all is published
-abbrev pub channel_after : Call → Reply → (told : List Body) → (now channel : ℕ) → ChannelState → ChannelState
-channel_after call answer told now c s = published_at now (enqueued_all told now (with_part (part_of call answer c) s))
+-- a channel after a step: its part in it, then what it is sent, and all is published
+abbrev pub channel_after : Call → Reply → (outgoing : List Body) → (now channel : ℕ) → ChannelState → ChannelState
+channel_after call answer outgoing now c s = published_at now (enqueued_all outgoing now (with_part (part_of call answer c) s))
 
 -- what is noted after a step
 abbrev pub noted_after : Reply → (now : ℕ) → Delivery → Noted
-noted_after (Named mask) now k = noted_with (namings_in now mask k.channel k.count) k.noted
+noted_after (Named mask) now k = noted_with (anrs_in now mask k.channel k.count) k.noted
 noted_after answer now k = k.noted
 
--- What is kept goes one step on, in which channels are told these bodies, at the clock after the step. Some channels
--- change, at least those that are told something or have a part in the step. One that the step opens begins as if it
+-- What is kept goes one step on, in which channels are sent these bodies, at the clock after the step. Some channels
+-- change, at least those that are sent something or have a part in the step. One that the step opens begins as if it
 -- had been there before, without messages.
 pub record GoesOn
-    (call : Call) (answer : Reply) (es : List Effect) (told : ℕ → List Body) (now : ℕ) (changed : ℕ → Bool)
+    (call : Call) (answer : Reply) (es : List Effect) (outgoing : ℕ → List Body) (now : ℕ) (changed : ℕ → Bool)
     (k later : Delivery) : Type 0 where
   pub count_is : later.count ≡ opened_after call answer k.count
   pub changes : (c : ℕ) → changed c ≡ true → 1 ≤ c → c ≤ later.count
-      → (s : ChannelState) × Holds es c s × (later.channel c ≡ channel_after call answer (told c) now c s)
+      → (s : ChannelState) × Holds es c s × (later.channel c ≡ channel_after call answer (outgoing c) now c s)
   pub stays : (c : ℕ) → changed c ≡ false → 1 ≤ c → c ≤ later.count
-      → (later.channel c ≡ k.channel c) × (told c ≡ []) × (part_of call answer c ≡ Untouched)
+      → (later.channel c ≡ k.channel c) × (outgoing c ≡ []) × (part_of call answer c ≡ Untouched)
   pub live_is : later.live ≡ live_mask_after call answer k.live
   pub able_is : later.able ≡ able_mask_after call answer (λ c. late_at now (later.channel c)) k.able
   pub noted_is : later.noted ≡ noted_after answer now k

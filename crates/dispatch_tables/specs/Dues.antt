@@ -1,7 +1,7 @@
 -- When channels are due to be named, by the history and by what is kept.
 use Rattle.std.specs.Prelude.{ℕ, ◌+◌, Bool, true, false, List, filter, filter_map, Option, None, option_map, if◌then◌else◌}
 use Rattle.input_channel.specs.State.{ChannelState, oldest_of}
-use Rattle.dispatch_calls.specs.declared.counts.Naming.{Naming}
+use Rattle.dispatch_calls.specs.declared.counts.Anr.{Anr}
 use Rattle.dispatch_calls.specs.declared.reply.Reply.{Reply}
 use Rattle.dispatch_calls.specs.declared.reply.Reply.TheVariants.{Named}
 use Rattle.window_snapshot.specs.Mask.{mask_has}
@@ -25,12 +25,12 @@ abbrev pub due_pair : ℕ × ℕ → Due
 due_pair p = record { moment = p.0; channel = p.1 }
 
 -- what is noted of a channel that is named at a clock
-abbrev pub naming_in : (now channel : ℕ) → ChannelState → Option Naming
-naming_in now c s = option_map (λ p. record { clock = now; channel = c; seq = p.0 }) (oldest_of s)
+abbrev pub anr_in : (now channel : ℕ) → ChannelState → Option Anr
+anr_in now c s = option_map (λ p. record { clock = now; channel = c; seq = p.0 }) (oldest_of s)
 
 -- what is noted of the channels 1 to n that are in a mask, in rising order
-abbrev pub namings_in : (now mask : ℕ) → (ℕ → ChannelState) → (n : ℕ) → List Naming
-namings_in now mask kept n = filter_map (λ c. naming_in now c (kept c)) (filter (mask_has mask) (channels n))
+abbrev pub anrs_in : (now mask : ℕ) → (ℕ → ChannelState) → (n : ℕ) → List Anr
+anrs_in now mask kept n = filter_map (λ c. anr_in now c (kept c)) (filter (mask_has mask) (channels n))
 
 -- a reply that names channels
 abbrev pub is_named : Reply → Bool

@@ -2,7 +2,7 @@
 use Rattle.std.specs.Prelude.{◌≡◌, ℕ, true, List, nat_lt}
 use Rattle.dispatch_calls.specs.declared.call.Call.{Call}
 use Rattle.dispatch_calls.specs.declared.reply.Reply.{Reply}
-use Rattle.input_channel.specs.State.{ChannelState, let_go_of, each_let_go, all_let_go, with_spare}
+use Rattle.input_channel.specs.State.{ChannelState, release_of, each_released, all_released, with_spare}
 use Rattle.dispatch_history.specs.Effect.{Effect, past_of}
 use Rattle.dispatch_history.specs.Effects.{step}
 use Rattle.dispatch_history.specs.History.{live}
@@ -16,10 +16,10 @@ HeldLess =
     (displays : List ℕ) (es : List Effect) (c : ℕ) (s : ChannelState)
     → Lawful displays es
     → Holds es c s
-    → Holds es c (let_go_of s)
+    → Holds es c (release_of s)
     × ((n : ℕ) → Holds es c (with_spare n s))
-    × Holds es c (each_let_go s)
-    × Holds es c (all_let_go s)
+    × Holds es c (each_released s)
+    × Holds es c (all_released s)
 
 -- What may be let go before a step may be let go after it.
 abbrev pub MayGoLaw : Type 0

@@ -4,25 +4,25 @@ use Rattle.input_types.specs.declared.message.Body.{Body}
 use Rattle.window_snapshot.specs.Mask.{mask_has}
 use Rattle.anr_tracker.specs.Due.{IsFirst}
 use Rattle.dispatch_calls.specs.declared.call.Call.{Call}
-use Rattle.dispatch_calls.specs.declared.counts.Naming.{Naming}
+use Rattle.dispatch_calls.specs.declared.counts.Anr.{Anr}
 use Rattle.dispatch_calls.specs.declared.reply.Reply.{Reply}
 use Rattle.dispatch_calls.specs.declared.reply.Reply.TheVariants.{Done, Gone, Named, UnknownSeq}
 use Rattle.input_channel.specs.Order.{NoneAfter}
-use Rattle.input_channel.specs.State.{ChannelState, IsChannel, sent, published_at, next_of, may_finish, oldest_of, let_go_of, all_let_go, with_spare, opened_with}
+use Rattle.input_channel.specs.State.{ChannelState, IsChannel, sent, published_at, next_of, may_finish, oldest_of, release_of, all_released, with_spare, opened_with}
 use Rattle.input_channel.specs.State.{has_late as late_at}
 use Rattle.dispatch_history.specs.History.{History, clock, live, opened}
 use Rattle.dispatch_history.specs.Effect.{Effect, past_of, stream}
 use Rattle.dispatch_history.specs.Effects.{effects, step, said_at, channels}
 use Rattle.dispatch_history.specs.Delivery.{able, delivery, has_late, oldest}
-use Rattle.dispatch_history.specs.Due.{counts, first_due, mask_of, named, namings}
+use Rattle.dispatch_history.specs.Due.{counts, first_due, mask_of, named, anrs}
 use Rattle.dispatch_history.specs.Legal.{Legal}
 use Rattle.dispatch_history.specs.Reply.{reply_to, receive_reply, finish_reply, got_reply, is_due}
 use Rattle.dispatch_tables.specs.Lawful.{Lawful}
 use Rattle.dispatch_tables.specs.Channel.{Holds, Keeps, part_of, Untouched, with_part, enqueued_all, NumberedFrom, counts_of}
 use Rattle.dispatch_tables.specs.Masks.{able_after, live_mask_after, able_mask_after}
 use Rattle.dispatch_tables.specs.Delivery.{Delivery, DeliveryIs, GoesOn, Noted, NotedIs, none_noted, noted_gone, due_kept}
-use Rattle.dispatch_tables.specs.Silent.{is_silent, is_resting}
-use Rattle.dispatch_tables.specs.Dues.{due_moment, due_in, due_pair, namings_in, is_named}
+use Rattle.dispatch_tables.specs.Silent.{is_silent, is_no_op}
+use Rattle.dispatch_tables.specs.Dues.{due_moment, due_in, due_pair, anrs_in, is_named}
 
 -- The effects of a legal history are lawful, and so are none.
 abbrev pub LawfulEffects : Type 0
@@ -41,7 +41,7 @@ LawfulLast =
     → Lawful displays (step displays call answer es) → (answer ≡ reply_to es call) × Lawful displays es
 
 -- A channel that is kept before a step is kept after it once it is opened, received from or finished as the step says,
--- all that it is told is enqueued, and it is published, at the clock after the step.
+-- all that it is sent is enqueued, and it is published, at the clock after the step.
 abbrev pub KeptStep : Type 0
 KeptStep =
     (displays : List ℕ) (call : Call) (answer : Reply) (es : List Effect) (c : ℕ) (s : ChannelState)
@@ -67,7 +67,7 @@ KeptUnopened =
     (displays : List ℕ) (es : List Effect) (c : ℕ)
     → Lawful displays es → opened (past_of es) < c → Holds es c (opened_with 0)
 
--- A channel that is told nothing and has no part in a step is kept as it was.
+-- A channel that is sent nothing and has no part in a step is kept as it was.
 abbrev pub KeptQuiet : Type 0
 KeptQuiet =
     (displays : List ℕ) (call : Call) (answer : Reply) (es : List Effect) (c : ℕ) (s : ChannelState)
@@ -77,7 +77,7 @@ KeptQuiet =
     → part_of call answer c ≡ Untouched
     → Holds (step displays call answer es) c s
 
--- A channel that is not live after a step is told nothing, and has no part in it.
+-- A channel that is not live after a step is sent nothing, and has no part in it.
 abbrev pub NotLiveLaw : Type 0
 NotLiveLaw =
     (displays : List ℕ) (call : Call) (answer : Reply) (es : List Effect) (c : ℕ)
@@ -92,9 +92,9 @@ KeptLess =
     (displays : List ℕ) (es : List Effect) (c : ℕ) (s : ChannelState)
     → Lawful displays es
     → Keeps es c s
-    → Keeps es c (let_go_of s)
+    → Keeps es c (release_of s)
     × ((n : ℕ) → Keeps es c (with_spare n s))
-    × (live (past_of es) c ≡ false → Keeps es c (all_let_go s))
+    × (live (past_of es) c ≡ false → Keeps es c (all_released s))
 
 -- What is kept is a channel, which has as many messages as its stream; all that can be is published, so that it stays
 -- as it is where it is published again; and no message was delivered after the clock.
@@ -181,7 +181,7 @@ AbleMaskLaw =
 abbrev pub DueLaw : Type 0
 DueLaw = (es : List Effect) (c : ℕ) (s : ChannelState) → Holds es c s → due_moment es c ≡ due_in (able es c) s
 
--- A channel that is told nothing, has no part in a step, and is able after it as before, is due as before.
+-- A channel that is sent nothing, has no part in a step, and is able after it as before, is due as before.
 abbrev pub QuietDueLaw : Type 0
 QuietDueLaw =
     (displays : List ℕ) (call : Call) (answer : Reply) (es : List Effect) (c : ℕ)
@@ -195,7 +195,7 @@ QuietDueLaw =
 abbrev pub NotLiveDueLaw : Type 0
 NotLiveDueLaw = (es : List Effect) (c : ℕ) → live (past_of es) c ≡ false → due_moment es c ≡ None
 
--- A table of dues after a step: it is written again for channels, among which are all that are told something, have a
+-- A table of dues after a step: it is written again for channels, among which are all that are sent something, have a
 -- part in the step or are not able as before.
 abbrev pub DuesLaw : Type 0
 DuesLaw =
@@ -234,24 +234,24 @@ NamedLaw =
     → mask ≡ mask_of (named es now))
 
 -- A step that names channels notes its clock and the oldest unfinished message of each.
-abbrev pub NamingsLaw : Type 0
-NamingsLaw =
+abbrev pub AnrsLaw : Type 0
+AnrsLaw =
     (displays : List ℕ) (call : Call) (mask : ℕ) (es : List Effect) (kept : ℕ → ChannelState)
     → ((c : ℕ) → 1 ≤ c → c ≤ opened (past_of es) → Holds es c (kept c))
     → let now = clock (past_of (step displays call (Named mask) es)) in
-    namings (step displays call (Named mask) es) ≡ namings es ++ namings_in now mask kept (opened (past_of es))
+    anrs (step displays call (Named mask) es) ≡ anrs es ++ anrs_in now mask kept (opened (past_of es))
 
 -- A step that is answered with no mask notes nothing.
-abbrev pub NamingsKeptLaw : Type 0
-NamingsKeptLaw =
+abbrev pub AnrsKeptLaw : Type 0
+AnrsKeptLaw =
     (displays : List ℕ) (call : Call) (answer : Reply) (es : List Effect)
     → is_named answer ≡ false
-    → namings (step displays call answer es) ≡ namings es
+    → anrs (step displays call answer es) ≡ anrs es
 
 -- What is left of what was noted may be let go.
-abbrev pub NamingsGoLaw : Type 0
-NamingsGoLaw =
-    (all : List Naming) (n : Noted) → NotedIs all n → NotedIs all (noted_gone n) × ((noted_gone n).gone ≡ length all)
+abbrev pub AnrsGoLaw : Type 0
+AnrsGoLaw =
+    (all : List Anr) (n : Noted) → NotedIs all n → NotedIs all (noted_gone n) × ((noted_gone n).gone ≡ length all)
 
 -- What these steps tell: nothing.
 abbrev pub SilentCalls : Type 0
@@ -282,10 +282,10 @@ DeliveryDue =
     → Lawful displays es → DeliveryIs es k → due_kept k ≡ due_moment es
 
 -- Steps that leave all channels as they are.
-abbrev pub DeliveryRests : Type 0
-DeliveryRests =
+abbrev pub DeliveryNoOp : Type 0
+DeliveryNoOp =
     (displays : List ℕ) (call : Call) (answer : Reply) (es : List Effect) (k : Delivery)
     → Lawful displays (step displays call answer es)
-    → is_resting call answer ≡ true
+    → is_no_op call answer ≡ true
     → DeliveryIs es k
     → DeliveryIs (step displays call answer es) k

@@ -22,16 +22,16 @@ is_silent call answer c = false
 
 -- Args that are handed in, what is refused, a pump for which nothing waits and a receive of nothing leave all channels
 -- as they are.
-abbrev pub is_resting : Call → Reply → Bool
-is_resting call (Named mask) = false
-is_resting (Notify now args) answer = true
-is_resting (Receive channel) (Got m) = false
-is_resting (Receive channel) answer = true
-is_resting (Finish now channel seq) Done = false
-is_resting (Finish now channel seq) answer = true
-is_resting (Pilfer now channel device) Done = false
-is_resting (Pilfer now channel device) answer = true
-is_resting (Pump now) Idle = true
-is_resting (Remove now channel) Gone = true
-is_resting (Open limit) Full = true
-is_resting call answer = false
+abbrev pub is_no_op : Call → Reply → Bool
+is_no_op call (Named mask) = false
+is_no_op (Notify now args) answer = true
+is_no_op (Receive channel) (Got m) = false
+is_no_op (Receive channel) answer = true
+is_no_op (Finish now channel seq) Done = false
+is_no_op (Finish now channel seq) answer = true
+is_no_op (Pilfer now channel device) Done = false
+is_no_op (Pilfer now channel device) answer = true
+is_no_op (Pump now) Idle = true
+is_no_op (Remove now channel) Gone = true
+is_no_op (Open limit) Full = true
+is_no_op call answer = false

@@ -1,5 +1,5 @@
 //! What is proved of what is kept. Each function has the laws as its clauses, and does nothing.
-ghost use Rattle.dispatch_tables.specs.Laws.{LawfulEffects, LawfulStep, LawfulLast, KeptStep, KeptReady, KeptUnopened, KeptQuiet, NotLiveLaw, KeptLess, KeptFacts, NumberedLaw, ReceiveLaw, FinishLaw, OldestLaw, LateLaw, CountsLaw, OpenedFew, AbleLaw, LiveMaskLaw, AbleMaskLaw, DueLaw, QuietDueLaw, NotLiveDueLaw, DuesLaw, FirstDueLaw, NamedLaw, NamingsLaw, NamingsKeptLaw, NamingsGoLaw, SilentCalls, DeliveryStart, DeliveryLaw, DeliveryDue, DeliveryRests};
+ghost use Rattle.dispatch_tables.specs.Laws.{LawfulEffects, LawfulStep, LawfulLast, KeptStep, KeptReady, KeptUnopened, KeptQuiet, NotLiveLaw, KeptLess, KeptFacts, NumberedLaw, ReceiveLaw, FinishLaw, OldestLaw, LateLaw, CountsLaw, OpenedFew, AbleLaw, LiveMaskLaw, AbleMaskLaw, DueLaw, QuietDueLaw, NotLiveDueLaw, DuesLaw, FirstDueLaw, NamedLaw, AnrsLaw, AnrsKeptLaw, AnrsGoLaw, SilentCalls, DeliveryStart, DeliveryLaw, DeliveryDue, DeliveryNoOp};
 ghost use Rattle.dispatch_tables.specs.Holding.{HeldLess, MayGoLaw, PassLaw};
 
 /// Effects of legal histories: a step that is answered as it is to be keeps them so, and each step was.
@@ -58,17 +58,17 @@ pub fn dues()
 {}
 
 /// Whom a tick names, and what is noted of it.
-pub fn namings()
+pub fn anrs()
     ensures named { NamedLaw }
-    ensures tick { NamingsLaw }
-    ensures others { NamingsKeptLaw }
-    ensures gone { NamingsGoLaw }
+    ensures tick { AnrsLaw }
+    ensures others { AnrsKeptLaw }
+    ensures gone { AnrsGoLaw }
 {}
 
 /// What is kept of all channels stands for nothing at first, and after each step for one step more.
 pub fn delivery()
     ensures start { DeliveryStart }
     ensures step { DeliveryLaw }
-    ensures rests { DeliveryRests }
+    ensures rests { DeliveryNoOp }
     ensures due { DeliveryDue }
 {}

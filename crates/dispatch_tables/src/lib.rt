@@ -1,6 +1,6 @@
 //! What a dispatcher keeps in place of a history, and what each step makes of it: definitions and laws, with no code.
 //!
-//! A history says what a channel was told and how far its owner has come; what is kept says the same in a few lists and
+//! A history says what a channel was sent and how far its owner has come; what is kept says the same in a few lists and
 //! numbers. A window whose limit is 5000000 takes a DOWN at 0 and a MOVE at 1000000, and its owner takes the DOWN. Then
 //! of its channel is kept:
 //!

@@ -9,22 +9,22 @@ use Rattle.dispatch_calls.specs.declared.call.Call.TheVariants.{Notify, Pump}
 use Rattle.dispatch_calls.specs.declared.reply.Reply.{Reply}
 use Rattle.dispatcher.specs.declared.brief.Brief.{Brief}
 use Rattle.dispatcher.specs.declared.tables.Tables.{Tables}
-use Rattle.dispatcher.specs.Briefs.{reply_of, told_of}
+use Rattle.dispatcher.specs.Briefs.{reply_of, sent_of}
 use Rattle.dispatcher.specs.Queueing.{is_input}
 use Rattle.dispatcher.specs.Tables.{GoesOn}
 
 -- what holds of an answer holds of the reply
-pub told_ok : (P : Reply → Type 0) (r : Result Brief AllocError) → IfOk r (λ b. P (reply_of b)) → IfOk (told_of r) P
-told_ok P (Ok b) h = h
-told_ok P (Err e) h = tt
+pub sent_ok : (P : Reply → Type 0) (r : Result Brief AllocError) → IfOk r (λ b. P (reply_of b)) → IfOk (sent_of r) P
+sent_ok P (Ok b) h = h
+sent_ok P (Err e) h = tt
 
-pub told_err : (P : Type 0) (r : Result Brief AllocError) → OnErr r P → OnErr (told_of r) P
-told_err P (Ok b) h = tt
-told_err P (Err e) h = h
+pub sent_err : (P : Type 0) (r : Result Brief AllocError) → OnErr r P → OnErr (sent_of r) P
+sent_err P (Ok b) h = tt
+sent_err P (Err e) h = h
 
-pub told_is : (r : Result Brief AllocError) → IsOk r → IsOk (told_of r)
-told_is (Ok b) h = refl
-told_is (Err e) h = h
+pub sent_is : (r : Result Brief AllocError) → IsOk r → IsOk (sent_of r)
+sent_is (Ok b) h = refl
+sent_is (Err e) h = h
 
 -- what is dropped is some reply
 pub dropped_ok : {X : Type 0} (P : Reply → Type 0) (a : Result X AllocError) (r : Result Brief AllocError) → is_ok a ≡ is_ok r
@@ -39,10 +39,10 @@ dropped_err P (Err e) (Ok b) same h = absurd (true≢false (sym same))
 dropped_err P (Err e) (Err f) same h = h
 
 -- a call that has this answer has that reply
-pub told_as : (call same : Call) (answer reply : Reply) (old new : Tables) → call ≡ same → reply ≡ answer → GoesOn same answer old new
+pub sent_as : (call same : Call) (answer reply : Reply) (old new : Tables) → call ≡ same → reply ≡ answer → GoesOn same answer old new
     → GoesOn call reply old new
-told_as call same answer reply old new is told goes =
-    subst (λ k. GoesOn k reply old new) (sym is) (subst (λ a. GoesOn same a old new) (sym told) goes)
+sent_as call same answer reply old new is outgoing goes =
+    subst (λ k. GoesOn k reply old new) (sym is) (subst (λ a. GoesOn same a old new) (sym outgoing) goes)
 
 -- a call that hands in no args and dispatches none is no input
 pub no_input : (call : Call) → ((now : ℕ) (args : Args) → call ≡ Notify now args → ⊥) → ((now : ℕ) → call ≡ Pump now → ⊥) → is_input call ≡ true → ⊥

@@ -10,7 +10,7 @@ use Rattle.window_snapshot.specs.Named.{is_shown_on}
 use Rattle.window_snapshot.proofs.Masks.{mask_has-zero}
 use Rattle.focus_resolver.specs.Resolver.{FocusState, target_of, focus_of, is_focused, is_at}
 use Rattle.key_repeat.specs.Due.{due_of}
-use Rattle.key_tables.specs.Held.{target_told}
+use Rattle.key_tables.specs.Held.{target_sent}
 use Rattle.routing_rules.specs.Scene.{Scene, Moves}
 use Rattle.routing_rules.specs.Given.{changed, mark as rule_mark}
 use Rattle.route_split.specs.declared.mark.Mark.{Mark}
@@ -33,17 +33,17 @@ use Rattle.dispatcher.specs.Pointing.{step_at}
 use Rattle.dispatcher.specs.Queue.{Queue, QueueGoes}
 use Rattle.dispatcher.specs.Shown.{ShownGoes}
 use Rattle.dispatcher.specs.Knows.{Kept, KeptStandsFor}
-use Rattle.dispatcher.specs.Telling.{parted_in, FocusGoes, TellsFocus, told_target, GoesRound}
+use Rattle.dispatcher.specs.Sending.{parted_in, FocusGoes, SendsFocus, sent_target, GoesRound}
 use Rattle.dispatcher.proofs.Inputs.{target_live}
-use Rattle.dispatcher.proofs.KeysTold.{target_is}
+use Rattle.dispatcher.proofs.KeysSent.{target_is}
 use Rattle.dispatcher.proofs.Replies.{reply_law}
 use Rattle.dispatcher.proofs.Stepping.{motion_step}
 use Rattle.dispatcher.specs.declared.tables.Routing.{Routing}
-use Rattle.dispatcher.specs.Carrying.{TellsRound, CarriesOut, CarriesFrom, IsOf}
+use Rattle.dispatcher.specs.Carrying.{SendsRound, CarriesOut, CarriesFrom, IsOf}
 use Rattle.dispatcher.specs.Keying.{target_number}
 use Rattle.dispatcher.specs.Tables.{kept, Pumps}
 use Rattle.dispatcher.proofs.Gone.{room_gone, both_gone}
-use Rattle.dispatcher.proofs.Going.{Told, round_told, Keyed, keyed_none, IsLive, StillGoes, still_round, still_step}
+use Rattle.dispatcher.proofs.Going.{Outgoing, round_sent, Keyed, keyed_none, IsLive, StillGoes, still_round, still_step}
 
 -- the key target is live
 pub target_lives : (ds : List ℕ) (es : List Effect) (k : Kept) (o : Option ℕ) → KeptStandsFor ds es k → target_of k.focus ≡ o → IsLive o k.delivery.live
@@ -56,26 +56,26 @@ pub not_both : (b : Bool) → (b && not b) ≡ false
 not_both true = refl
 not_both false = refl
 
-pub no_focus_told : (alive : ℕ) (f : FocusState) → TellsFocus 0 0 alive f f
-no_focus_told alive f w lives =
+pub no_focus_sent : (alive : ℕ) (f : FocusState) → SendsFocus 0 0 alive f f
+no_focus_sent alive f w lives =
     let none : mask_has 0 w ≡ (is_focused (focus_of f) w && not (is_focused (focus_of f) w)) =
     mask_has-zero w ∙ sym (not_both (is_focused (focus_of f) w)) in
     (none, none)
 
 -- a call that leaves the windows and the focus as they are
-pub told_same : (ds : List ℕ) (call : Call) (answer : Reply) (es : List Effect) (queue later : Queue) (place clock : ℕ) (old new : Routing) (r : Round) (mark : Mark)
+pub sent_same : (ds : List ℕ) (call : Call) (answer : Reply) (es : List Effect) (queue later : Queue) (place clock : ℕ) (old new : Routing) (r : Round) (mark : Mark)
     (motion : Option Motion) (keys : List KeyMsg) (mid : Table)
-    → Told ds call answer es queue later place clock old
+    → Outgoing ds call answer es queue later place clock old
     → but_for_room mid ≡ but_for_room old.channels
     → parted_in call answer later.clock mid ≡ mid
     → CarriesOut r place clock (record old { channels = mid }) new
     → IsOf mark motion (target_number old.focus) keys 0 0 r
     → ShownGoes call old.shown old.shown
     → FocusGoes call old.shown.windows mid.live old.focus old.focus
-    → Keyed (target_of old.focus) mid.live (told_target call answer (kept queue old) old.focus) keys
+    → Keyed (target_of old.focus) mid.live (sent_target call answer (kept queue old) old.focus) keys
     → IsStepIn (scene ds es) old.touches mark motion r.watchers (step_at call answer es)
     → KeptStandsFor ds (step ds call answer es) (kept later new)
-told_same ds call answer es queue later place clock old new r mark motion keys mid t same part carries is shown focus keyed st =
+sent_same ds call answer es queue later place clock old new r mark motion keys mid t same part carries is shown focus keyed st =
     let alive = mid.live in
     let from : mid.live ≡ old.channels.live = ap (λ x. x.live) same in
     let lives : IsLive (target_of old.focus) alive =
@@ -91,15 +91,15 @@ told_same ds call answer es queue later place clock old new r mark motion keys m
       focus =
           subst (λ x. FocusGoes call x alive old.focus new.focus) (ap (λ x. x.windows) (sym carries.shown_is))
           (subst (λ f. FocusGoes call old.shown.windows alive old.focus f) (sym carries.focus_is) focus);
-      changes = subst (λ f. TellsFocus 0 0 alive old.focus f) (sym carries.focus_is) (no_focus_told alive old.focus);
+      changes = subst (λ f. SendsFocus 0 0 alive old.focus f) (sym carries.focus_is) (no_focus_sent alive old.focus);
       lives = lives;
-      keyed = subst (λ f. Keyed (target_of old.focus) alive (told_target call answer (kept queue old) f) keys) (sym carries.focus_is) keyed;
+      keyed = subst (λ f. Keyed (target_of old.focus) alive (sent_target call answer (kept queue old) f) keys) (sym carries.focus_is) keyed;
       repeats = carries.repeat_is;
     } in
-    round_told ds call answer es queue later place clock old new r mid t same
+    round_sent ds call answer es queue later place clock old new r mid t same
     (subst (λ p. GoesRound call answer r p.live (kept queue old) (kept later new)) (sym part) (still_round call answer queue later place clock old new r mark motion keys 0 0 alive goes))
     (still_step ds call answer es old r mark motion (target_number old.focus) keys 0 0 is st)
-    (subst (λ p. TellsRound r old.touches old.shown.origins clock p new.channels) (sym part) carries.channels)
+    (subst (λ p. SendsRound r old.touches old.shown.origins clock p new.channels) (sym part) carries.channels)
 
 -- what waits is dispatched
 dispatches : (ws : List Args) (a : Args) (due : Option ℕ) (at : ℕ) → slice_get ws 0 ≡ Some a → Dispatched ≡ pump_reply ws due at
@@ -109,7 +109,7 @@ dispatches (w ∷ ws) a due at e = refl
 -- a pump of args that tells windows
 pub pumped : (es : List Effect) (now : ℕ) (a : Args) (queue later : Queue) (place clock : ℕ) (old : Routing) → slice_get queue.waiting 0 ≡ Some a → queue.place ≡ place
     → max now queue.clock ≡ clock → KeptStandsFor old.displays es (kept queue old) → QueueGoes (Pump now) Dispatched queue later
-    → Told old.displays (Pump now) Dispatched es queue later place clock old
+    → Outgoing old.displays (Pump now) Dispatched es queue later place clock old
 pumped es now a queue later place clock old first at clk stands goes =
     record {
       place_is = at;
@@ -119,7 +119,7 @@ pumped es now a queue later place clock old first at clk stands goes =
       reply_is =
           dispatches queue.waiting a (due_of old.repeat) (max now queue.clock) first ∙ sym (reply_law old.displays es (kept queue old) (Pump now) stands tt tt);
       rises = tt;
-      telling = refl;
+      sending = refl;
     }
 
 -- a motion that is dispatched
@@ -133,7 +133,7 @@ pub motion_pumps : (old new : Routing) (place clock : ℕ) (m : Motion) (r : Rou
 motion_pumps old new place clock m r by reach is from reaches marks watches =
     record {
       after = λ es now queue later first at clk stands goes.
-          told_same old.displays (Pump now) Dispatched es queue later place clock old new r by (Some m) [] from.mid
+          sent_same old.displays (Pump now) Dispatched es queue later place clock old new r by (Some m) [] from.mid
           (pumped es now (MotionArgs m) queue later place clock old first at clk stands goes)
           from.same
           refl
@@ -141,9 +141,9 @@ motion_pumps old new place clock m r by reach is from reaches marks watches =
           is
           (record { windows_are = refl; origins_are = λ w low high. refl })
           refl
-          (keyed_none (target_of old.focus) from.mid.live (told_target (Pump now) Dispatched (kept queue old) old.focus)
+          (keyed_none (target_of old.focus) from.mid.live (sent_target (Pump now) Dispatched (kept queue old) old.focus)
           (λ t. ap
-          (λ o. target_told (Pump now) Dispatched o t (mask_has old.channels.able t) (is_at (target_of old.focus) t) (input_of old.channels t).keys old.repeat) first))
+          (λ o. target_sent (Pump now) Dispatched o t (mask_has old.channels.able t) (is_at (target_of old.focus) t) (input_of old.channels t).keys old.repeat) first))
           (motion_step old.displays now es (kept queue old) m by r.watchers reach stands first reaches marks watches);
       displays_are = from.carries.displays_are;
       gone_are = both_gone old.channels from.mid new.channels (room_gone old.channels from.mid from.same) from.carries.gone_are;

@@ -9,7 +9,7 @@ use Rattle.dispatch_channels.specs.Table.{Table}
 use Rattle.dispatch_channels.specs.Changes.{named_in}
 use Rattle.dispatcher.specs.declared.tables.Routing.{Routing}
 use Rattle.dispatcher.specs.Carrying.{CarriesOut, CarriesSome}
-use Rattle.dispatcher.specs.Naming.{Names}
+use Rattle.dispatcher.specs.Anr.{Names}
 use Rattle.dispatcher.specs.Tables.{Pumps, SameButRoom}
 
 -- the same tables with another list
@@ -27,7 +27,7 @@ carried_with : (r : Round) (place clock a b : ℕ) (old new : Routing) (t : Tabl
 carried_with r place clock a b old new t h =
     record {
       touches = h.touches;
-      channels = record { changed = h.channels.changed; tells = h.channels.tells };
+      channels = record { changed = h.channels.changed; sends = h.channels.sends };
       gone_are = h.gone_are;
       repeat_is = h.repeat_is;
       displays_are = h.displays_are;

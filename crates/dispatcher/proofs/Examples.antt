@@ -12,11 +12,11 @@ use Rattle.key_repeat.specs.Due.{Sent}
 use Rattle.route_split.specs.Tables.{no_table}
 use Rattle.dispatch_calls.specs.declared.call.Call.TheVariants.{Open, Notify, Pump, Tick, Receive, Finish, Pilfer, Remove}
 use Rattle.dispatch_calls.specs.declared.reply.Reply.TheVariants.{Opened, Full, Taken, Inconsistent, Dispatched, Repeated, Idle, Named, Empty, Gone, UnknownSeq, NotSpy}
-use Rattle.dispatch_channels.specs.Table.{untold}
+use Rattle.dispatch_channels.specs.Table.{unsent}
 use Rattle.dispatcher.specs.Queue.{waiting_after}
 use Rattle.dispatcher.specs.Knows.{Kept}
 use Rattle.dispatcher.specs.Replying.{reply_by}
-use Rattle.dispatcher.specs.Telling.{told_target, repeat_then}
+use Rattle.dispatcher.specs.Sending.{sent_target, repeat_then}
 use Rattle.dispatch_tables.specs.Delivery.{none_noted}
 
 abbrev volume_up : Bool → KeyArgs
@@ -32,9 +32,9 @@ sent repeat clock = Some (record { channel = 1; key = message true 0 repeat; clo
 abbrev down : List Down
 down = record { ids = 0; keys = 0 ∷ 0 ∷ 0 ∷ 524288 ∷ [] } ∷ replicate 7 (record { ids = 0; keys = [] })
 
--- window 1 was told the key
-abbrev told : ℕ → Tracked
-told w = if w == 1 then record { pointers = []; keys = message true 0 0 ∷ []; spare = 0 } else untold
+-- window 1 was sent the key
+abbrev outgoing : ℕ → Tracked
+outgoing w = if w == 1 then record { pointers = []; keys = message true 0 0 ∷ []; spare = 0 } else unsent
 
 -- so many channels were opened, of which only the first is live, and these args wait
 abbrev kept : ℕ → List Args → Kept
@@ -44,7 +44,7 @@ kept count waiting =
       shown = record { windows = []; origins = [] };
       touches = replicate 8 no_table;
       delivery = record { count = count; channel = λ c. opened_with 5000000; live = 1; able = 1; noted = none_noted };
-      inputs = told;
+      inputs = outgoing;
       focus = record { requested = Some 1 ∷ None ∷ None ∷ None ∷ []; last = 0; focusable = 1 ∷ 0 ∷ 0 ∷ 0 ∷ [] };
       repeat = sent 0 1000000;
     }
@@ -102,10 +102,10 @@ args_that_are_refused_do_not_wait = refl
 the_first_ones_are_dispatched : waiting_after (Pump 1100000) Dispatched (Reset 1 ∷ Reset 2 ∷ []) ≡ Reset 2 ∷ []
 the_first_ones_are_dispatched = refl
 
-a_reset_that_waits_first_cancels : told_target (Pump 1100000) Dispatched (kept 2 (Reset 1 ∷ [])) (kept 2 []).focus 1 ≡ message false 32 0 ∷ []
+a_reset_that_waits_first_cancels : sent_target (Pump 1100000) Dispatched (kept 2 (Reset 1 ∷ [])) (kept 2 []).focus 1 ≡ message false 32 0 ∷ []
 a_reset_that_waits_first_cancels = refl
 
-a_repeat_is_the_next_one : told_target (Pump 1500000) Repeated (kept 2 []) (kept 2 []).focus 1 ≡ message true 0 1 ∷ []
+a_repeat_is_the_next_one : sent_target (Pump 1500000) Repeated (kept 2 []) (kept 2 []).focus 1 ≡ message true 0 1 ∷ []
 a_repeat_is_the_next_one = refl
 
 and_is_kept : repeat_then (Some 1) 1 1500000 (message true 0 1 ∷ []) (sent 0 1000000) ≡ sent 1 1500000

@@ -17,21 +17,21 @@ use Rattle.dispatch_history.specs.Reply.{reply_to}
 use Rattle.dispatch_history.specs.Step.{scene}
 use Rattle.dispatch_channels.specs.Table.{Table, but_for_room}
 use Rattle.dispatch_round.specs.declared.round.Round.{Round}
-use Rattle.dispatch_round.specs.Rounds.{IsStepIn, told_in}
-use Rattle.dispatch_round.specs.Told.{TellsAll}
+use Rattle.dispatch_round.specs.Rounds.{IsStepIn, sent_in}
+use Rattle.dispatch_round.specs.Outgoing.{SendsAll}
 use Rattle.dispatcher.specs.Pointing.{step_at}
 use Rattle.dispatcher.specs.Queue.{Queue, QueueGoes}
 use Rattle.dispatcher.specs.Shown.{ShownGoes}
 use Rattle.dispatcher.specs.Knows.{KeptStandsFor}
-use Rattle.dispatcher.specs.Telling.{parted_in, is_telling, FocusGoes, TellsFocus, AreKeys, repeat_then, told_target, GoesRound}
+use Rattle.dispatcher.specs.Sending.{parted_in, is_sending, FocusGoes, SendsFocus, AreKeys, repeat_then, sent_target, GoesRound}
 use Rattle.dispatcher.proofs.Rounding.{round_law}
 use Rattle.dispatcher.specs.declared.tables.Routing.{Routing}
-use Rattle.dispatcher.specs.Carrying.{TakesMark, TellsRound, IsOf}
+use Rattle.dispatcher.specs.Carrying.{TakesMark, SendsRound, IsOf}
 use Rattle.dispatcher.specs.Keying.{target_number}
 use Rattle.dispatcher.specs.Tables.{kept}
 
 -- a step that tells windows, of tables that stand for a history
-pub record Told
+pub record Outgoing
     (ds : List ℕ) (call : Call) (answer : Reply) (es : List Effect) (queue later : Queue) (place clock : ℕ) (old : Routing) : Type 0 where
   pub place_is : queue.place ≡ place
   pub clock_is : max (moment_of call) queue.clock ≡ clock
@@ -39,47 +39,47 @@ pub record Told
   pub goes : QueueGoes call answer queue later
   pub reply_is : answer ≡ reply_to es call
   pub rises : RisesIn call
-  pub telling : is_telling call answer ≡ true
+  pub sending : is_sending call answer ≡ true
 
 -- after it they stand for the history with it
-pub round_told : (ds : List ℕ) (call : Call) (answer : Reply) (es : List Effect) (queue later : Queue) (place clock : ℕ) (old new : Routing) (r : Round) (mid : Table)
-    → Told ds call answer es queue later place clock old
+pub round_sent : (ds : List ℕ) (call : Call) (answer : Reply) (es : List Effect) (queue later : Queue) (place clock : ℕ) (old new : Routing) (r : Round) (mid : Table)
+    → Outgoing ds call answer es queue later place clock old
     → but_for_room mid ≡ but_for_room old.channels
     → GoesRound call answer r (parted_in call answer later.clock mid).live (kept queue old) (kept later new)
     → IsStepIn (scene ds es) old.touches r.mark (option_copied r.motion) r.watchers (step_at call answer es)
-    → TellsRound r old.touches old.shown.origins clock (parted_in call answer later.clock mid) new.channels
+    → SendsRound r old.touches old.shown.origins clock (parted_in call answer later.clock mid) new.channels
     → KeptStandsFor ds (step ds call answer es) (kept later new)
-round_told ds call answer es queue later place clock old new r mid t same goes is tells =
+round_sent ds call answer es queue later place clock old new r mid t same goes is sends =
     let at : later.clock ≡ clock = t.goes.clock_is ∙ t.clock_is in
     let p = parted_in call answer later.clock mid in
-    round_law ds call answer es (kept queue old) (kept later new) r old.channels mid new.channels tells.changed t.stands refl refl same t.reply_is t.rises t.telling goes is
-    (λ s e this holds. subst (λ x. TellsAll tells.changed (told_in r s e) old.shown.origins x p new.channels) (sym at) (tells.tells s e this holds))
+    round_law ds call answer es (kept queue old) (kept later new) r old.channels mid new.channels sends.changed t.stands refl refl same t.reply_is t.rises t.sending goes is
+    (λ s e this holds. subst (λ x. SendsAll sends.changed (sent_in r s e) old.shown.origins x p new.channels) (sym at) (sends.sends s e this holds))
     refl
     refl
 
--- what the key target is told, where it is live
-abbrev pub Keyed : (target : Option ℕ) → (alive : ℕ) → (told : ℕ → List KeyMsg) → List KeyMsg → Type 0
-Keyed None alive told keys = keys ≡ []
-Keyed (Some t) alive told keys = mask_has alive t ≡ true → keys ≡ told t
+-- what the key target is sent, where it is live
+abbrev pub Keyed : (target : Option ℕ) → (alive : ℕ) → (outgoing : ℕ → List KeyMsg) → List KeyMsg → Type 0
+Keyed None alive outgoing keys = keys ≡ []
+Keyed (Some t) alive outgoing keys = mask_has alive t ≡ true → keys ≡ outgoing t
 
--- nobody is told a key
-pub keyed_none : (o : Option ℕ) (alive : ℕ) (told : ℕ → List KeyMsg) → ((t : ℕ) → told t ≡ []) → Keyed o alive told []
-keyed_none None alive told none = refl
-keyed_none (Some t) alive told none = λ lives. sym (none t)
+-- nobody is sent a key
+pub keyed_none : (o : Option ℕ) (alive : ℕ) (outgoing : ℕ → List KeyMsg) → ((t : ℕ) → outgoing t ≡ []) → Keyed o alive outgoing []
+keyed_none None alive outgoing none = refl
+keyed_none (Some t) alive outgoing none = λ lives. sym (none t)
 
-pub keys_are : (o : Option ℕ) (alive : ℕ) (told : ℕ → List KeyMsg) (keys : List KeyMsg) → Keyed o alive told keys → AreKeys o alive told (unwrap_or o 0) keys
-keys_are None alive told keys h = h
-keys_are (Some t) alive told keys h = (refl, h)
+pub keys_are : (o : Option ℕ) (alive : ℕ) (outgoing : ℕ → List KeyMsg) (keys : List KeyMsg) → Keyed o alive outgoing keys → AreKeys o alive outgoing (unwrap_or o 0) keys
+keys_are None alive outgoing keys h = h
+keys_are (Some t) alive outgoing keys h = (refl, h)
 
 -- the key target, where there is one, is live
 abbrev pub IsLive : Option ℕ → (alive : ℕ) → Type 0
 IsLive None alive = Unit {0}
 IsLive (Some t) alive = mask_has alive t ≡ true
 
-pub repeat_is : (o : Option ℕ) (alive clock : ℕ) (told : ℕ → List KeyMsg) (keys : List KeyMsg) (last : Option Sent) → IsLive o alive → Keyed o alive told keys
+pub repeat_is : (o : Option ℕ) (alive clock : ℕ) (outgoing : ℕ → List KeyMsg) (keys : List KeyMsg) (last : Option Sent) → IsLive o alive → Keyed o alive outgoing keys
     → repeat_after clock (unwrap_or o 0) keys last ≡ repeat_then o alive clock keys last
-repeat_is None alive clock told keys last live h = ap (λ ks. repeat_after clock 0 ks last) h
-repeat_is (Some t) alive clock told keys last live h = sym (ap (λ b. repeat_next b clock t keys last) live)
+repeat_is None alive clock outgoing keys last live h = ap (λ ks. repeat_after clock 0 ks last) h
+repeat_is (Some t) alive clock outgoing keys last live h = sym (ap (λ b. repeat_next b clock t keys last) live)
 
 -- a round without a motion, that is carried out between these tables, with this focus after it
 pub record StillGoes
@@ -92,9 +92,9 @@ pub record StillGoes
   pub shown : ShownGoes call old.shown new.shown
   pub touches : TakesMark r.mark place old.touches new.touches
   pub focus : FocusGoes call new.shown.windows alive old.focus new.focus
-  pub changes : TellsFocus lost gained alive old.focus new.focus
+  pub changes : SendsFocus lost gained alive old.focus new.focus
   pub lives : IsLive (target_of old.focus) alive
-  pub keyed : Keyed (target_of old.focus) alive (told_target call answer (kept queue old) new.focus) keys
+  pub keyed : Keyed (target_of old.focus) alive (sent_target call answer (kept queue old) new.focus) keys
   pub repeats : new.repeat ≡ repeat_after clock r.target r.keys.now old.repeat
 
 pub still_round : (call : Call) (answer : Reply) (queue later : Queue) (place clock : ℕ) (old new : Routing) (r : Round) (mark : Mark) (motion : Option Motion) (keys : List KeyMsg)
@@ -102,22 +102,22 @@ pub still_round : (call : Call) (answer : Reply) (queue later : Queue) (place cl
     → StillGoes call answer queue later place clock old new r mark motion keys lost gained alive
     → GoesRound call answer r alive (kept queue old) (kept later new)
 still_round call answer queue later place clock old new r mark motion keys lost gained alive g =
-    let told = told_target call answer (kept queue old) new.focus in
+    let outgoing = sent_target call answer (kept queue old) new.focus in
     record {
       queue = g.queue_goes;
       shown = g.shown;
       touches = subst (λ n. TakesMark r.mark n old.touches new.touches) (sym g.place_is) g.touches;
       focus = g.focus;
-      changes = subst (λ n. TellsFocus n r.gained alive old.focus new.focus) (sym g.is.lost_is)
-          (subst (λ n. TellsFocus lost n alive old.focus new.focus) (sym g.is.gained_is) g.changes);
-      keys = subst (λ c. AreKeys (target_of old.focus) alive told c r.keys.now) (sym g.is.target_is)
-          (subst (λ ks. AreKeys (target_of old.focus) alive told (target_number old.focus) ks) (sym g.is.keys_are)
-          (keys_are (target_of old.focus) alive told keys g.keyed));
+      changes = subst (λ n. SendsFocus n r.gained alive old.focus new.focus) (sym g.is.lost_is)
+          (subst (λ n. SendsFocus lost n alive old.focus new.focus) (sym g.is.gained_is) g.changes);
+      keys = subst (λ c. AreKeys (target_of old.focus) alive outgoing c r.keys.now) (sym g.is.target_is)
+          (subst (λ ks. AreKeys (target_of old.focus) alive outgoing (target_number old.focus) ks) (sym g.is.keys_are)
+          (keys_are (target_of old.focus) alive outgoing keys g.keyed));
       repeat_is =
           g.repeats
           ∙ ap (λ c. repeat_after clock c r.keys.now old.repeat) g.is.target_is
           ∙ ap (λ ks. repeat_after clock (target_number old.focus) ks old.repeat) g.is.keys_are
-          ∙ repeat_is (target_of old.focus) alive clock told keys old.repeat g.lives g.keyed
+          ∙ repeat_is (target_of old.focus) alive clock outgoing keys old.repeat g.lives g.keyed
           ∙ ap (λ n. repeat_then (target_of old.focus) alive n keys old.repeat) (sym g.clock_is)
           ∙ ap (λ ks. repeat_then (target_of old.focus) alive later.clock ks old.repeat) (sym g.is.keys_are);
     }

@@ -10,10 +10,10 @@ use Rattle.dispatcher.proofs.Rooms.{channel_bare}
 
 -- where nothing changes
 pub none_gone : (t : Table) → LetsNoneGo t t
-none_gone t = record { of_channels = λ c low. refl; of_namings = refl }
+none_gone t = record { of_channels = λ c low. refl; of_anrs = refl }
 
 pub same_gone : (t u : Table) → u ≡ t → LetsNoneGo t u
-same_gone t u same = record { of_channels = λ c low. ap (λ x. (channel_of x c).gone) same; of_namings = ap (λ x. x.namings.gone) same }
+same_gone t u same = record { of_channels = λ c low. ap (λ x. (channel_of x c).gone) same; of_anrs = ap (λ x. x.anrs.gone) same }
 
 -- where there is other room
 pub room_gone : (t u : Table) → but_for_room u ≡ but_for_room t → LetsNoneGo t u
@@ -21,7 +21,7 @@ room_gone t u same =
     record {
       of_channels = λ c low.
           ap (λ s. s.gone) (sym (channel_bare u c)) ∙ ap (λ x. (channel_of x c).gone) same ∙ ap (λ s. s.gone) (channel_bare t c);
-      of_namings = ap (λ x. x.namings.gone) same;
+      of_anrs = ap (λ x. x.anrs.gone) same;
     }
 
 -- where one channel changes, of which none are let go
@@ -43,7 +43,7 @@ passed_gone t u k is =
       of_channels = λ c low.
           ap (λ x. (channel_of x c).gone) is
           ∙ set_gone t.channels (k - 1) (c - 1) (passed s) (opened_with 0) (passed_keeps (nat_lt s.received s.published) s);
-      of_namings = ap (λ x. x.namings.gone) is;
+      of_anrs = ap (λ x. x.anrs.gone) is;
     }
 
 pub finished_gone : (t u : Table) (k seq clock : ℕ) → u ≡ finished_in k seq clock t → LetsNoneGo t u
@@ -51,7 +51,7 @@ finished_gone t u k seq clock is =
     record {
       of_channels = λ c low.
           ap (λ x. (channel_of x c).gone) is ∙ set_gone t.channels (k - 1) (c - 1) (finished_at seq clock (channel_of t k)) (opened_with 0) refl;
-      of_namings = ap (λ x. x.namings.gone) is;
+      of_anrs = ap (λ x. x.anrs.gone) is;
     }
 
 -- where one is opened
@@ -66,17 +66,17 @@ opened_gone limit number t u h =
     record {
       of_channels = λ c low.
           ap (λ ss. (get_or ss (c - 1) (opened_with 0)).gone) h.channels_are ∙ more_gone t.channels (c - 1) (new_channel limit) refl;
-      of_namings = ap (λ n. n.gone) h.namings_are;
+      of_anrs = ap (λ n. n.gone) h.anrs_are;
     }
 
 -- where channels are named
 pub named_gone : (mask clock : ℕ) (t u : Table) → LetsNoneGo (named_in mask clock t) u → LetsNoneGo t u
-named_gone mask clock t u h = record { of_channels = h.of_channels; of_namings = h.of_namings }
+named_gone mask clock t u h = record { of_channels = h.of_channels; of_anrs = h.of_anrs }
 
 -- one after the other
 pub both_gone : (t u v : Table) → LetsNoneGo t u → LetsNoneGo u v → LetsNoneGo t v
 both_gone t u v h k =
-    record { of_channels = λ c low. k.of_channels c low ∙ h.of_channels c low; of_namings = k.of_namings ∙ h.of_namings }
+    record { of_channels = λ c low. k.of_channels c low ∙ h.of_channels c low; of_anrs = k.of_anrs ∙ h.of_anrs }
 
 -- whatever is answered
 pub answered_gone : {A E : Type 0} (call : Call) (r : Result A E) (old new : Tables)
@@ -88,7 +88,7 @@ answered_gone call (Ok a) old new ok err =
           ap (λ s. s.gone) (channel_bare new.routing.channels c)
           ∙ ok.gone_are.of_channels c low
           ∙ sym (ap (λ s. s.gone) (channel_bare old.routing.channels c));
-      of_namings = ok.gone_are.of_namings;
+      of_anrs = ok.gone_are.of_anrs;
     }
 answered_gone call (Err e) old new ok err =
-    record { of_channels = λ c low. ap (λ r. (channel_of r.channels c).gone) err.routing_is.0; of_namings = ap (λ r. r.channels.namings.gone) err.routing_is.0 }
+    record { of_channels = λ c low. ap (λ r. (channel_of r.channels c).gone) err.routing_is.0; of_anrs = ap (λ r. r.channels.anrs.gone) err.routing_is.0 }

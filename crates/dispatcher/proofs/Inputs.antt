@@ -1,4 +1,4 @@
--- What windows were told, after any step.
+-- What windows were sent, after any step.
 use Rattle.std.proofs.Common.{◌≡◌, ◌≤◌, ℕ, zero, suc, Bool, true, false, cond, List, [], ◌∷◌, ◌++◌, flat_map, map, Option, Some, None, refl, sym, ap, ◌∙◌, subst, arith, eq-eqb}
 use Rattle.std.proofs.lemmas.Bool.{and_parts}
 use Rattle.window_snapshot.specs.Named.{is_focusable_on}
@@ -8,12 +8,12 @@ use Rattle.input_types.specs.declared.message.Body.TheVariants.{Motion as Motion
 use Rattle.focus_resolver.specs.Resolver.{focus_if, is_at}
 use Rattle.key_repeat.specs.Due.{Sent}
 use Rattle.cancel_synthesis.specs.Tracked.{pointers_of}
-use Rattle.cancel_synthesis.specs.Laws.{pointers_told, keys_told}
-use Rattle.routing_rules.specs.Told.{told_with, devices}
+use Rattle.cancel_synthesis.specs.Laws.{pointers_sent, keys_sent}
+use Rattle.routing_rules.specs.Outgoing.{sent_with, devices}
 use Rattle.dispatch_calls.specs.declared.call.Call.{Call}
 use Rattle.dispatch_calls.specs.declared.reply.Reply.{Reply}
 use Rattle.dispatch_history.specs.History.{History, live, clock, origin, snapshot}
-use Rattle.dispatch_history.specs.Focus.{key_target, may_focus, requested, asked, is_target, has_focus, focus_told}
+use Rattle.dispatch_history.specs.Focus.{key_target, may_focus, requested, asked, is_target, has_focus, focus_sent}
 use Rattle.dispatch_history.specs.Effect.{Effect, past_of}
 use Rattle.dispatch_history.specs.Effects.{step, said_at}
 use Rattle.dispatch_history.specs.Said.{motion_from}
@@ -37,9 +37,9 @@ input_law ds call answer es w old new l rise lives is goes =
     }
 
 pub input_first : InputFirst
-input_first ds es w input l n untold no_keys =
+input_first ds es w input l n unsent no_keys =
     record {
-      pointers_are = pointers_first ds es w input l n untold;
+      pointers_are = pointers_first ds es w input l n unsent;
       keys_are = subst (λ ks. KeysAre es w ks) (sym no_keys) (keys_at_first ds es w l n);
     }
 
@@ -79,19 +79,19 @@ none_each f d e low high =
     one_of f (suc (suc (suc (suc (suc (suc (suc (suc zero)))))))) a b c g h i j k low high = k
     one_of f (suc (suc (suc (suc (suc (suc (suc (suc (suc n))))))))) a b c g h i j k low high = absurd (omega (arith, high))
 
--- a window that is said nothing is told no motion and no key
+-- a window that is said nothing is sent no motion and no key
 pub record Unsaid (ds : List ℕ) (call : Call) (answer : Reply) (es : List Effect) (w : ℕ) : Type 0 where
-  pub motions : flat_map (told_with (scene ds es) (step_at call answer es) (mark_at ds call answer es) w) devices ≡ []
+  pub motions : flat_map (sent_with (scene ds es) (step_at call answer es) (mark_at ds call answer es) w) devices ≡ []
   pub keys : key_messages call answer es w ≡ []
 
 pub unsaid : (ds : List ℕ) (call : Call) (answer : Reply) (es : List Effect) (w : ℕ) → live (past_of (step ds call answer es)) w ≡ true
     → said_at ds call answer es w ≡ [] → Unsaid ds call answer es w
 unsaid ds call answer es w lives e =
-    let ms = flat_map (told_with (scene ds es) (step_at call answer es) (mark_at ds call answer es) w) devices in
+    let ms = flat_map (sent_with (scene ds es) (step_at call answer es) (mark_at ds call answer es) w) devices in
     let Shift : Motion → Body = λ m. MotionBody (motion_from (origin (past_of es) w) m) in
     let ks = key_messages call answer es w in
     let a =
-    none_of (map Shift ms ++ map Key ks) (focus_told (has_focus (past_of es) w) (has_focus (past_of (step ds call answer es)) w))
+    none_of (map Shift ms ++ map Key ks) (focus_sent (has_focus (past_of es) w) (has_focus (past_of (step ds call answer es)) w))
     (sym (said_parts ds call answer es w lives) ∙ e) in
     let b = none_of (map Shift ms) (map Key ks) a.0 in
     record { motions = none_mapped Shift ms b.0; keys = none_mapped Key ks b.1 }
@@ -101,9 +101,9 @@ input_quiet ds call answer es w input lives e =
     let u = unsaid ds call answer es w lives e in
     record {
       pointers_are = λ d low high.
-          ap (λ ms. pointers_told ms (pointers_of input d))
-          (sym (none_each (told_with (scene ds es) (step_at call answer es) (mark_at ds call answer es) w) d u.motions low high));
-      keys_are = ap (λ ms. keys_told ms input.keys) (sym u.keys);
+          ap (λ ms. pointers_sent ms (pointers_of input d))
+          (sym (none_each (sent_with (scene ds es) (step_at call answer es) (mark_at ds call answer es) w) d u.motions low high));
+      keys_are = ap (λ ms. keys_sent ms input.keys) (sym u.keys);
     }
 
 may_be : (may : ℕ → Bool) (o : Option ℕ) (t : ℕ) → focus_if may o ≡ Some t → may t ≡ true

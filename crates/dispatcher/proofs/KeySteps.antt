@@ -1,4 +1,4 @@
--- Keys that are told to the key target.
+-- Keys that are sent to the key target.
 use Rattle.std.proofs.Common.{◌≡◌, ◌+◌, ◌||◌, ℕ, max, Bool, true, false, cond, List, [], ◌∷◌, slice_get, Option, Some, None, option_map, refl, sym, ap, ◌∙◌, subst}
 use Rattle.std.proofs.lemmas.Bool.{true≢false}
 use Rattle.input_types.specs.declared.key.KeyMsg.{KeyMsg}
@@ -10,11 +10,11 @@ use Rattle.window_snapshot.specs.Mask.{mask_has}
 use Rattle.window_snapshot.proofs.Masks.{mask_has-zero, mask_has_channel}
 use Rattle.focus_resolver.specs.Resolver.{target_of, is_at}
 use Rattle.key_repeat.specs.Due.{Sent, next_of, due_of, is_repeated, repeated, delay_after}
-use Rattle.key_tables.specs.Held.{one_told, target_told}
-use Rattle.key_tables.proofs.Telling.{repeat_read}
+use Rattle.key_tables.specs.Held.{one_sent, target_sent}
+use Rattle.key_tables.proofs.Sending.{repeat_read}
 use Rattle.touch_state.specs.Touches.{Touches}
 use Rattle.route_split.specs.declared.mark.Mark.{Mark}
-use Rattle.route_split.specs.declared.mark.Mark.TheVariants.{Rests}
+use Rattle.route_split.specs.declared.mark.Mark.TheVariants.{NoOp}
 use Rattle.dispatch_calls.specs.declared.call.Call.TheVariants.{Pump}
 use Rattle.dispatch_calls.specs.declared.reply.Reply.TheVariants.{Dispatched, Repeated, Idle}
 use Rattle.dispatch_history.specs.Effect.{Effect, past_of}
@@ -25,54 +25,54 @@ use Rattle.dispatch_history.specs.Step.{marks, scene}
 use Rattle.dispatch_channels.specs.Table.{Table, input_of}
 use Rattle.dispatch_round.specs.declared.round.Round.{Round}
 use Rattle.dispatch_round.specs.Rounds.{IsStepIn}
-use Rattle.dispatch_round.proofs.Ruling.{quiet_told}
+use Rattle.dispatch_round.proofs.Ruling.{quiet_sent}
 use Rattle.dispatcher.specs.Pointing.{step_at}
 use Rattle.dispatcher.specs.Queue.{Queue, QueueGoes}
 use Rattle.dispatcher.specs.Knows.{Kept, KeptStandsFor}
-use Rattle.dispatcher.specs.Telling.{told_target}
-use Rattle.dispatcher.proofs.KeysTold.{target_is}
+use Rattle.dispatcher.specs.Sending.{sent_target}
+use Rattle.dispatcher.proofs.KeysSent.{target_is}
 use Rattle.dispatcher.proofs.Replies.{reply_law}
 use Rattle.dispatcher.proofs.Stepping.{other_steps}
 use Rattle.dispatcher.specs.declared.tables.Routing.{Routing}
-use Rattle.dispatcher.specs.Carrying.{TellsRound, CarriesSome, IsOf}
+use Rattle.dispatcher.specs.Carrying.{SendsRound, CarriesSome, IsOf}
 use Rattle.dispatcher.specs.Keying.{target_number, only_live}
 use Rattle.dispatcher.specs.Tables.{kept, Pumps}
 use Rattle.dispatcher.proofs.Gone.{room_gone, both_gone, none_gone}
 use Rattle.dispatcher.proofs.Going.{Keyed}
-use Rattle.dispatcher.proofs.Calls.{told_same, pumped}
-use Rattle.dispatcher.proofs.RestLaws.{rests_as_is}
-use Rattle.dispatcher.proofs.Resting.{rested}
+use Rattle.dispatcher.proofs.Calls.{sent_same, pumped}
+use Rattle.dispatcher.proofs.NoOpLaws.{no_op_as_is}
+use Rattle.dispatcher.proofs.NoOps.{rested}
 
--- where nobody listens nobody is told
-pub keyed_nobody : (o : Option ℕ) (alive : ℕ) (told : ℕ → List KeyMsg) → None ≡ only_live alive o → Keyed o alive told []
-keyed_nobody None alive told e = refl
-keyed_nobody (Some t) alive told e =
+-- where nobody listens nobody is sent
+pub keyed_nobody : (o : Option ℕ) (alive : ℕ) (outgoing : ℕ → List KeyMsg) → None ≡ only_live alive o → Keyed o alive outgoing []
+keyed_nobody None alive outgoing e = refl
+keyed_nobody (Some t) alive outgoing e =
     λ lives. let none : None ≡ Some t = e ∙ ap (λ b. cond b (Some t) None) lives in absurd (cc none)
 
--- where one listens that one is told
-pub keyed_one : (o : Option ℕ) (alive : ℕ) (told : ℕ → List KeyMsg) (t : ℕ) (keys : List KeyMsg) → Some t ≡ only_live alive o → keys ≡ told t
-    → Keyed o alive told keys
-keyed_one None alive told t keys e h = absurd (cc e)
-keyed_one (Some u) alive told t keys e h =
+-- where one listens that one is sent
+pub keyed_one : (o : Option ℕ) (alive : ℕ) (outgoing : ℕ → List KeyMsg) (t : ℕ) (keys : List KeyMsg) → Some t ≡ only_live alive o → keys ≡ outgoing t
+    → Keyed o alive outgoing keys
+keyed_one None alive outgoing t keys e h = absurd (cc e)
+keyed_one (Some u) alive outgoing t keys e h =
     λ lives.
     let same : Some t ≡ Some u = e ∙ ap (λ b. cond b (Some u) None) lives in
     let at : t ≡ u = cc same in
-    h ∙ ap told at
+    h ∙ ap outgoing at
 
 -- what the key target is told of these args, where they are dispatched
-abbrev told_by : Routing → Option Args → (now t : ℕ) → List KeyMsg
-told_by old o now t =
-    target_told (Pump now) Dispatched o t (mask_has old.channels.able t) (is_at (target_of old.focus) t) (input_of old.channels t).keys old.repeat
+abbrev sent_by : Routing → Option Args → (now t : ℕ) → List KeyMsg
+sent_by old o now t =
+    target_sent (Pump now) Dispatched o t (mask_has old.channels.able t) (is_at (target_of old.focus) t) (input_of old.channels t).keys old.repeat
 
 -- args are dispatched to the key target, in one history
-args_told : (old new : Routing) (place clock : ℕ) (a : Args) (mark : Mark) (keys : List KeyMsg) (es : List Effect) (now : ℕ) (queue later : Queue)
+args_sent : (old new : Routing) (place clock : ℕ) (a : Args) (mark : Mark) (keys : List KeyMsg) (es : List Effect) (now : ℕ) (queue later : Queue)
     → CarriesSome mark keys 0 0 place clock old new → slice_get queue.waiting 0 ≡ Some a → queue.place ≡ place → max now queue.clock ≡ clock
     → KeptStandsFor old.displays es (kept queue old) → QueueGoes (Pump now) Dispatched queue later
     → ((watchers : ℕ) → IsStepIn (scene old.displays es) old.touches mark None watchers (step_at (Pump now) Dispatched es))
-    → Keyed (target_of old.focus) old.channels.live (told_by old (Some a) now) keys
+    → Keyed (target_of old.focus) old.channels.live (sent_by old (Some a) now) keys
     → KeptStandsFor old.displays (step old.displays (Pump now) Dispatched es) (kept later new)
-args_told old new place clock a mark keys es now queue later some first at clk stands goes st keyed =
-    told_same old.displays (Pump now) Dispatched es queue later place clock old new some.round mark None keys some.carries.mid
+args_sent old new place clock a mark keys es now queue later some first at clk stands goes st keyed =
+    sent_same old.displays (Pump now) Dispatched es queue later place clock old new some.round mark None keys some.carries.mid
     (pumped es now a queue later place clock old first at clk stands goes)
     some.carries.same
     refl
@@ -80,36 +80,36 @@ args_told old new place clock a mark keys es now queue later some first at clk s
     some.is
     (record { windows_are = refl; origins_are = λ w low high. refl })
     refl
-    (subst (λ n. Keyed (target_of old.focus) n (told_target (Pump now) Dispatched (kept queue old) old.focus) keys) (sym (ap (λ x. x.live) some.carries.same))
-    (subst (λ o. Keyed (target_of old.focus) old.channels.live (told_by old o now) keys) (sym first) keyed))
+    (subst (λ n. Keyed (target_of old.focus) n (sent_target (Pump now) Dispatched (kept queue old) old.focus) keys) (sym (ap (λ x. x.live) some.carries.same))
+    (subst (λ o. Keyed (target_of old.focus) old.channels.live (sent_by old o now) keys) (sym first) keyed))
     (st some.round.watchers)
 
 -- a round that tells nobody anything, and with which no pointer changes hands
 abbrev silent_round : (target : ℕ) → Round
-silent_round target = record { mark = Rests; motion = None; watchers = 0; target = target; keys = record { ref_ptr = (0, 0); now = [] }; lost = 0; gained = 0 }
+silent_round target = record { mark = NoOp; motion = None; watchers = 0; target = target; keys = record { ref_ptr = (0, 0); now = [] }; lost = 0; gained = 0 }
 
-tells_none : (target clock : ℕ) (ts : List Touches) (origins : List Pixel) (t : Table) → TellsRound (silent_round target) ts origins clock t t
-tells_none target clock ts origins t =
+sends_none : (target clock : ℕ) (ts : List Touches) (origins : List Pixel) (t : Table) → SendsRound (silent_round target) ts origins clock t t
+sends_none target clock ts origins t =
     record {
       changed = 0;
-      tells = λ s e is holds.
+      sends = λ s e is holds.
           record {
             are_live = λ c has. absurd (true≢false (sym has ∙ mask_has-zero c));
             changes = λ c has. absurd (true≢false (sym has ∙ mask_has-zero c));
             tracks = λ c has. absurd (true≢false (sym has ∙ mask_has-zero c));
             stays = λ c from none. (refl, refl);
             quiet = λ c none lives.
-                quiet_told s e ts (silent_round target) c is tt (mask_has_channel t.live c lives) (ap (λ b. b || b || b) (mask_has-zero c));
+                quiet_sent s e ts (silent_round target) c is tt (mask_has_channel t.live c lives) (ap (λ b. b || b || b) (mask_has-zero c));
             as_many = refl;
             live_is = refl;
             able_is = refl;
-            namings_are = refl;
+            anrs_are = refl;
           };
     }
 
 -- it is carried out where all stays as it is
 carries_none : (place clock : ℕ) (es : List Effect) (queue : Queue) (old : Routing) → KeptStandsFor old.displays es (kept queue old)
-    → CarriesSome Rests [] 0 0 place clock old old
+    → CarriesSome NoOp [] 0 0 place clock old old
 carries_none place clock es queue old stands =
     let target = target_number old.focus in
     record {
@@ -121,8 +121,8 @@ carries_none place clock es queue old stands =
             same = refl;
             carries =
                 record {
-                  touches = rests_as_is (marks es) old.touches place stands.knows.touches;
-                  channels = tells_none target clock old.touches old.shown.origins old.channels;
+                  touches = no_op_as_is (marks es) old.touches place stands.knows.touches;
+                  channels = sends_none target clock old.touches old.shown.origins old.channels;
                   gone_are = none_gone old.channels;
                   repeat_is = refl;
                   displays_are = refl;
@@ -132,14 +132,14 @@ carries_none place clock es queue old stands =
           };
     }
 
--- a key that is dispatched, and that nobody is told
+-- a key that is dispatched, and that nobody is sent
 pub nobody_pump : (old : Routing) (place clock : ℕ) (k : KeyArgs)
-    → ((now : ℕ) → Keyed (target_of old.focus) old.channels.live (told_by old (Some (KeyOfDevice k)) now) [])
+    → ((now : ℕ) → Keyed (target_of old.focus) old.channels.live (sent_by old (Some (KeyOfDevice k)) now) [])
     → Pumps (Some (KeyOfDevice k)) Dispatched place clock old old
 nobody_pump old place clock k keyed =
     record {
       after = λ es now queue later first at clk stands goes.
-          args_told old old place clock (KeyOfDevice k) Rests [] es now queue later (carries_none place clock es queue old stands) first at clk stands goes
+          args_sent old old place clock (KeyOfDevice k) NoOp [] es now queue later (carries_none place clock es queue old stands) first at clk stands goes
           (λ w. (other_steps old.displays es (kept queue old) stands).keys now w k first)
           (keyed now);
       displays_are = refl;
@@ -151,14 +151,14 @@ pub args_pump : (old new : Routing) (place clock : ℕ) (a : Args) (mark : Mark)
     → lost ≡ 0 → gained ≡ 0 → CarriesSome mark keys lost gained place clock old new
     → ((es : List Effect) (now watchers : ℕ) (queue : Queue) → KeptStandsFor old.displays es (kept queue old) → slice_get queue.waiting 0 ≡ Some a
     → IsStepIn (scene old.displays es) old.touches mark None watchers (step_at (Pump now) Dispatched es))
-    → ((now : ℕ) → Keyed (target_of old.focus) old.channels.live (told_by old (Some a) now) keys)
+    → ((now : ℕ) → Keyed (target_of old.focus) old.channels.live (sent_by old (Some a) now) keys)
     → Pumps (Some a) Dispatched place clock old new
 args_pump old new place clock a mark keys lost gained l g some st keyed =
     let exact : CarriesSome mark keys 0 0 place clock old new =
     subst (λ n. CarriesSome mark keys n 0 place clock old new) l (subst (λ n. CarriesSome mark keys lost n place clock old new) g some) in
     record {
       after = λ es now queue later first at clk stands goes.
-          args_told old new place clock a mark keys es now queue later exact first at clk stands goes (λ w. st es now w queue stands first) (keyed now);
+          args_sent old new place clock a mark keys es now queue later exact first at clk stands goes (λ w. st es now w queue stands first) (keyed now);
       displays_are = some.carries.carries.displays_are;
       gone_are =
           both_gone old.channels some.carries.mid new.channels (room_gone old.channels some.carries.mid some.carries.same) some.carries.carries.gone_are;
@@ -198,26 +198,26 @@ no_target ds es k n s none e =
     let at : is_target (past_of es) sent.0.channel ≡ true = (repeat_read ds es k.repeat s.lawful s.knows.keying.repeat_is).1 sent.0 sent.1 in
     true≢false (sym at ∙ ap (λ o. is_at o sent.0.channel) (target_is es k.focus None s.knows.keying.focus_is none))
 
-keyed_repeat : (ds : List ℕ) (es : List Effect) (k : Kept) (alive : ℕ) (n : ℕ × KeyMsg) (o : Option ℕ) (told : ℕ → List KeyMsg)
-    → KeptStandsFor ds es k → next_of k.repeat ≡ Some n → target_of k.focus ≡ o → ((t : ℕ) → told t ≡ one_told (option_map (λ n. n.1) (next_of k.repeat)))
-    → Keyed o alive told (n.1 ∷ [])
-keyed_repeat ds es k alive n None told s e none is = absurd (no_target ds es k n s none e)
-keyed_repeat ds es k alive n (Some t) told s e at is = λ lives. sym (is t ∙ ap (λ x. one_told (option_map (λ n. n.1) x)) e)
+keyed_repeat : (ds : List ℕ) (es : List Effect) (k : Kept) (alive : ℕ) (n : ℕ × KeyMsg) (o : Option ℕ) (outgoing : ℕ → List KeyMsg)
+    → KeptStandsFor ds es k → next_of k.repeat ≡ Some n → target_of k.focus ≡ o → ((t : ℕ) → outgoing t ≡ one_sent (option_map (λ n. n.1) (next_of k.repeat)))
+    → Keyed o alive outgoing (n.1 ∷ [])
+keyed_repeat ds es k alive n None outgoing s e none is = absurd (no_target ds es k n s none e)
+keyed_repeat ds es k alive n (Some t) outgoing s e at is = λ lives. sym (is t ∙ ap (λ x. one_sent (option_map (λ n. n.1) x)) e)
 
 -- a key is repeated
 pub repeat_pump : (old new : Routing) (place clock : ℕ) (n : ℕ × KeyMsg) (lost gained : ℕ)
     → lost ≡ 0 → gained ≡ 0 → is_due (due_of old.repeat) clock ≡ true → next_of old.repeat ≡ Some n
-    → CarriesSome Rests (n.1 ∷ []) lost gained place clock old new → Pumps None Repeated place clock old new
+    → CarriesSome NoOp (n.1 ∷ []) lost gained place clock old new → Pumps None Repeated place clock old new
 repeat_pump old new place clock n lost gained l g due e some =
     record {
       after = λ es now queue later none at clk stands goes.
           let r = some.round in
           let from = some.carries in
           let keys = n.1 ∷ [] in
-          let is : IsOf Rests None (target_number old.focus) keys 0 0 r =
-          subst (λ n. IsOf Rests None (target_number old.focus) keys n 0 r) l
-          (subst (λ n. IsOf Rests None (target_number old.focus) keys lost n r) g some.is) in
-          told_same old.displays (Pump now) Repeated es queue later place clock old new r Rests None keys from.mid
+          let is : IsOf NoOp None (target_number old.focus) keys 0 0 r =
+          subst (λ n. IsOf NoOp None (target_number old.focus) keys n 0 r) l
+          (subst (λ n. IsOf NoOp None (target_number old.focus) keys lost n r) g some.is) in
+          sent_same old.displays (Pump now) Repeated es queue later place clock old new r NoOp None keys from.mid
           (record {
             place_is = at;
             clock_is = clk;
@@ -225,7 +225,7 @@ repeat_pump old new place clock n lost gained l g due e some =
             goes = goes;
             reply_is = idle_reply es now queue clock old true none clk stands due;
             rises = tt;
-            telling = refl;
+            sending = refl;
           })
           from.same
           refl
@@ -233,7 +233,7 @@ repeat_pump old new place clock n lost gained l g due e some =
           is
           (record { windows_are = refl; origins_are = λ w low high. refl })
           refl
-          (keyed_repeat old.displays es (kept queue old) from.mid.live n (target_of old.focus) (told_target (Pump now) Repeated (kept queue old) old.focus) stands e refl
+          (keyed_repeat old.displays es (kept queue old) from.mid.live n (target_of old.focus) (sent_target (Pump now) Repeated (kept queue old) old.focus) stands e refl
           (λ t. refl))
           ((other_steps old.displays es (kept queue old) stands).repeats now r.watchers);
       displays_are = some.carries.carries.displays_are;

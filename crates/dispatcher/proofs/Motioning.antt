@@ -34,7 +34,7 @@ reaches live shown windows display c shows =
     mask_has-and live shown c ∙ ap (λ b. mask_has live c && b) shows ∙ both_channels (is_channel c) _ (is_shown_on windows display c)
 
 -- by what is found of it in the tables
-pub motion_told : (old new : Routing) (place clk : ℕ) (m : Motion) (r : Round) (by : Mark) (live shown able : ℕ) (windows : List Window) (display : ℕ)
+pub motion_sent : (old new : Routing) (place clk : ℕ) (m : Motion) (r : Round) (by : Mark) (live shown able : ℕ) (windows : List Window) (display : ℕ)
     → IsOf by (Some m) (target_number old.focus) [] 0 0 r
     → CarriesFrom r place clk old new
     → windows ≡ old.shown.windows → live ≡ old.channels.live → able ≡ old.channels.able → display ≡ device_display old.displays m.device
@@ -42,7 +42,7 @@ pub motion_told : (old new : Routing) (place clk : ℕ) (m : Motion) (r : Round)
     → ((s : Scene) → Stands s old.touches → Sees s windows (bit_and live shown) able m.device → IsMark old.touches by (rule_mark s (Moves m)))
     → ((s : Scene) → Sees s windows (bit_and live shown) able m.device → (w : ℕ) → mask_has r.watchers w ≡ is_watching s m (changed m) w)
     → Pumps (Some (MotionArgs m)) Dispatched place clk old new
-motion_told old new place clk m r by live shown able windows display is from ws l a d shows marks watches =
+motion_sent old new place clk m r by live shown able windows display is from ws l a d shows marks watches =
     let reach = bit_and live shown in
     let sees : (s : Scene) → Sees s old.shown.windows reach old.channels.able m.device → Sees s windows reach able m.device =
     λ s h. subst (λ v. Sees s v reach able m.device) (sym ws) (subst (λ n. Sees s old.shown.windows reach n m.device) (sym a) h) in

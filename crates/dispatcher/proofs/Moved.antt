@@ -22,11 +22,11 @@ use Rattle.routing_rules.specs.Scene.{Scene, Moves}
 use Rattle.routing_rules.specs.Slip.{Slip, only, holders_of, slips_to, slip_of, slip}
 use Rattle.routing_rules.specs.Taking.{Taking, Nothing, takes, pilfers}
 use Rattle.routing_rules.specs.Given.{changed, given_by, taken_by, slips_in, slips_out, mark as rule_mark}
-use Rattle.routing_rules.specs.Told.{is_first}
+use Rattle.routing_rules.specs.Outgoing.{is_first}
 use Rattle.routing_rules.specs.Watching.{is_watching}
 use Rattle.touch_state.specs.Touches.{Touches}
 use Rattle.touch_state.proofs.Sets.{and_false}
-use Rattle.route_split.specs.declared.mark.Mark.TheVariants.{Rests}
+use Rattle.route_split.specs.declared.mark.Mark.TheVariants.{NoOp}
 use Rattle.route_split.specs.Marking.{IsMark}
 use Rattle.key_tables.specs.Held.{bodies_tracked}
 use Rattle.dispatch_calls.specs.declared.reply.Reply.TheVariants.{Dispatched}
@@ -41,7 +41,7 @@ use Rattle.dispatcher.specs.Carrying.{CarriesFrom, IsOf}
 use Rattle.dispatcher.specs.Keying.{target_number}
 use Rattle.dispatcher.specs.Roomy.{HasRoomFor, IsRoomy, AreModest}
 use Rattle.dispatcher.specs.Tables.{Pumps}
-use Rattle.dispatcher.proofs.Motioning.{motion_told}
+use Rattle.dispatcher.proofs.Motioning.{motion_sent}
 use Rattle.dispatcher.proofs.Roomy.{keys_same}
 
 -- ---- nothing slips
@@ -85,7 +85,7 @@ none_taken s m is e = ap (λ a. taken_by s m a (changed m)) is ∙ at (changed m
     at (Some p) = ap (slips_out m.device p.id) e
 
 pub move_rests : (s : Scene) (ts : List Touches) (m : Motion) → m.action ≡ Move → list_any is_slippery s.windows ≡ false
-    → IsMark ts Rests (rule_mark s (Moves m))
+    → IsMark ts NoOp (rule_mark s (Moves m))
 move_rests s ts m is none =
     let slips = none_slips s m is none in
     record {
@@ -103,14 +103,14 @@ none_watching s m w is = at (changed m)
     at (Some p) = ap (λ a. is_first a && s.able w && is_watcher_at s.windows (s.reach m.device) p.at.x p.at.y w) is
 
 -- it is dispatched
-pub move_told : (old new : Routing) (place clk : ℕ) (m : Motion) (r : Round)
-    → IsOf Rests (Some m) (target_number old.focus) [] 0 0 r → r.watchers ≡ 0
+pub move_sent : (old new : Routing) (place clk : ℕ) (m : Motion) (r : Round)
+    → IsOf NoOp (Some m) (target_number old.focus) [] 0 0 r → r.watchers ≡ 0
     → CarriesFrom r place clk old new
     → m.action ≡ Move → list_any is_slippery old.shown.windows ≡ false
     → Pumps (Some (MotionArgs m)) Dispatched place clk old new
-move_told old new place clk m r is unwatched from move none =
+move_sent old new place clk m r is unwatched from move none =
     let display = device_display old.displays m.device in
-    motion_told old new place clk m r Rests old.channels.live (mask_of (filter (λ v. v.display == display) old.shown.windows)) old.channels.able old.shown.windows display
+    motion_sent old new place clk m r NoOp old.channels.live (mask_of (filter (λ v. v.display == display) old.shown.windows)) old.channels.able old.shown.windows display
     is
     from
     refl
@@ -132,17 +132,17 @@ pub room_for_light : (n list : ℕ) (r : Round) (t : Table) → IsRoomy (suc n) 
     → (w : ℕ) → mask_has t.live w ≡ true → HasLight r t w
 room_for_light n list r t roomy modest w lives =
     let had = roomy w lives in
-    let told = (modest.each w lives).with_them in
+    let outgoing = (modest.each w lives).with_them in
     let one : most_moves (option_copied r.motion) ≤ 1 = at_most (option_copied r.motion) in
-    (omega (arith, had.room, told, one), omega (arith, had.track_room, told, one))
+    (omega (arith, had.room, outgoing, one), omega (arith, had.track_room, outgoing, one))
 
 -- and it leaves room for one pump less
-pub light_roomy : (n list told : ℕ) (r : Round) (t m u : Table) → IsRoomy (suc n) list t → AreModest r.target r.keys.now t
+pub light_roomy : (n list outgoing : ℕ) (r : Round) (t m u : Table) → IsRoomy (suc n) list t → AreModest r.target r.keys.now t
     → but_for_room m ≡ but_for_room t → NoLessRoom t m
-    → ((w : ℕ) → mask_has told w ≡ true → SpendsLight r m u w) → ((w : ℕ) → 1 ≤ w → mask_has told w ≡ false → IsLeft m u w)
+    → ((w : ℕ) → mask_has outgoing w ≡ true → SpendsLight r m u w) → ((w : ℕ) → 1 ≤ w → mask_has outgoing w ≡ false → IsLeft m u w)
     → u.live ≡ m.live → IsRoomy n list u
-light_roomy n list told r t m u roomy modest same more spends left live c lives =
-    elim (cases_Bool (mask_has told c)) [ inl y ↦ heard y | inr out ↦ quiet out ]
+light_roomy n list outgoing r t m u roomy modest same more spends left live c lives =
+    elim (cases_Bool (mask_has outgoing c)) [ inl y ↦ heard y | inr out ↦ quiet out ]
   where
     alive : mask_has t.live c ≡ true
     alive = ap (λ l. mask_has l c) (sym (live ∙ ap (λ x. x.live) same)) ∙ lives
@@ -153,7 +153,7 @@ light_roomy n list told r t m u roomy modest same more spends left live c lives 
     keys : (input_of m c).keys ≡ (input_of t c).keys
     keys = keys_same t m c same
 
-    heard : mask_has told c ≡ true → HasRoomFor n list (channel_of u c) (input_of u c)
+    heard : mask_has outgoing c ≡ true → HasRoomFor n list (channel_of u c) (input_of u c)
     heard y =
         let ks = keys_to r.target r.keys.now c in
         let spent = spends c y in
@@ -168,7 +168,7 @@ light_roomy n list told r t m u roomy modest same more spends left live c lives 
           list_room = omega (arith, had.list_room, kept.one_more, many);
         }
 
-    quiet : mask_has told c ≡ false → HasRoomFor n list (channel_of u c) (input_of u c)
+    quiet : mask_has outgoing c ≡ false → HasRoomFor n list (channel_of u c) (input_of u c)
     quiet out =
         let is = left c (channel_low t.live c alive) out in
         let many : length (input_of u c).keys ≡ length (input_of t c).keys = ap (λ (i : Tracked). length i.keys) is.1 ∙ ap length keys in

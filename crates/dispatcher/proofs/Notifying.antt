@@ -13,7 +13,7 @@ use Rattle.dispatcher.proofs.Answering.{taken_law, refused_law}
 use Rattle.dispatcher.specs.declared.tables.Tables.{Tables}
 use Rattle.dispatcher.specs.Queueing.{stepped}
 use Rattle.dispatcher.specs.Tables.{GoesOn}
-use Rattle.dispatcher.proofs.Resting.{rested}
+use Rattle.dispatcher.proofs.NoOps.{rested}
 use Rattle.dispatcher.proofs.Gone.{none_gone}
 
 -- args that are accepted

@@ -13,10 +13,10 @@ use Rattle.cancel_synthesis.specs.Ends.{keys_cancelled}
 use Rattle.dispatch_history.specs.History.{snapshot}
 use Rattle.dispatch_history.specs.Effect.{Effect, past_of}
 use Rattle.dispatcher.specs.Knows.{Kept, KeptStandsFor}
-use Rattle.dispatcher.specs.Telling.{Refocuses, AreKeys, told_target}
+use Rattle.dispatcher.specs.Sending.{Refocuses, AreKeys, sent_target}
 use Rattle.dispatcher.specs.RoundLaws.{OpenFocusLaw, OpenKeysLaw, TargetLiveLaw}
 use Rattle.dispatcher.proofs.Inputs.{target_live}
-use Rattle.dispatcher.proofs.KeysTold.{target_is}
+use Rattle.dispatcher.proofs.KeysSent.{target_is}
 use Rattle.dispatcher.proofs.Removing.{same_at}
 
 -- a channel that may not have a focus has none
@@ -152,7 +152,7 @@ pub open_keys : OpenKeysLaw
 open_keys ds es k g limit number channel s r aims = by_target (target_of k.focus) refl
   where
     by_target : (o : Option ℕ) → target_of k.focus ≡ o
-        → AreKeys o (mask_with k.delivery.live number) (told_target (Open limit) (Opened number) k g) channel []
+        → AreKeys o (mask_with k.delivery.live number) (sent_target (Open limit) (Opened number) k g) channel []
     by_target None e = refl
     by_target (Some t) e = (
       aims t e,

@@ -11,19 +11,19 @@ use Rattle.dispatch_tables.specs.Channel.{Opens, Untouched, Holds, part_of, with
 use Rattle.dispatch_tables.specs.Delivery.{DeliveryIs}
 use Rattle.dispatch_tables.proofs.Ables.{live_number}
 use Rattle.dispatch_tables.proofs.Keeping.{kept_unopened}
-use Rattle.dispatch_channels.specs.Table.{Table, opened, channel_of, input_of, untold}
+use Rattle.dispatch_channels.specs.Table.{Table, opened, channel_of, input_of, unsent}
 use Rattle.dispatch_channels.specs.Changes.{new_channel}
 use Rattle.dispatcher.specs.Input.{InputIs}
 use Rattle.dispatcher.specs.Knows.{Kept, KeptStandsFor}
 use Rattle.dispatcher.specs.Staying.{delivery_of}
-use Rattle.dispatcher.specs.Telling.{OpensWith}
+use Rattle.dispatcher.specs.Sending.{OpensWith}
 use Rattle.dispatcher.specs.RoundLaws.{OpenLaw, OpensLaw}
 use Rattle.dispatcher.proofs.Inputs.{input_first}
 use Rattle.dispatcher.proofs.Replies.{kept_live}
 use Rattle.dispatcher.proofs.RoomLaws.{keeps_room}
 use Rattle.dispatcher.proofs.Rounding.{round_goes}
 
--- what was told to a window that is live after the step: one that is opened was told nothing
+-- what was sent to a window that is live after the step: one that is opened was sent nothing
 opened_input : (ds : List ℕ) (limit number : ℕ) (es : List Effect) (k : Kept) (t p : Table) (w : ℕ) → KeptStandsFor ds es k → k.delivery ≡ delivery_of t
     → k.inputs ≡ input_of t → OpensWith limit number t p → (w == number || live (past_of es) w) ≡ true → InputIs ds es w (input_of p w)
 opened_input ds limit number es k t p w s e f o y =
@@ -41,11 +41,11 @@ opened_input ds limit number es k t p w s e f o y =
     ]
 
 pub open_law : OpenLaw
-open_law ds limit number es k later r t p u changed stands e f reply o goes is tells g h =
+open_law ds limit number es k later r t p u changed stands e f reply o goes is sends g h =
     let call = Open limit in
     let answer = Opened number in
     round_goes ds call answer es k later r t p u changed (λ c. c == number)
-    (record { stands = stands; delivery_was = e; reply_is = reply; rises = tt; goes = goes; step_is = is; tells = tells; delivery_is = g; inputs_are = h })
+    (record { stands = stands; delivery_was = e; reply_is = reply; rises = tt; goes = goes; step_is = is; sends = sends; delivery_is = g; inputs_are = h })
     (record {
       as_many = o.as_many;
       kept = λ c y. by_number c (c == number) refl y;
@@ -61,7 +61,7 @@ open_law ds limit number es k later r t p u changed stands e f reply o goes is t
       inputs = λ w y. opened_input ds limit number es k t p w stands e f o y;
       live_is = o.live_is;
       able_is = λ late. o.able_is;
-      noted_is = o.namings_are;
+      noted_is = o.anrs_are;
     })
   where
     below : (c : ℕ) → (c == number) ≡ false → c ≤ opened p → c ≤ opened t
@@ -116,16 +116,16 @@ opens_law limit number old new o =
       others = λ c from to. (
         ap (λ cs. slice_index_or cs (c - 1) (opened_with 0)) o.channels_are
             ∙ index_before old.channels (new_channel limit) (c - 1) (opened_with 0) (omega (arith, from, to)),
-        ap (λ xs. slice_index_or xs (c - 1) untold) o.inputs_are
-            ∙ index_before old.inputs (input_of new number) (c - 1) untold (omega (arith, from, to, o.as_many)),
+        ap (λ xs. slice_index_or xs (c - 1) unsent) o.inputs_are
+            ∙ index_before old.inputs (input_of new number) (c - 1) unsent (omega (arith, from, to, o.as_many)),
       );
       channel_is =
           ap (λ cs. slice_index_or cs (number - 1) (opened_with 0)) o.channels_are
           ∙ ap (λ n. slice_index_or (old.channels ++ new_channel limit ∷ []) n (opened_with 0)) place
           ∙ index_last old.channels (new_channel limit) (opened_with 0);
-      pointers_are = o.untold.pointers_are;
-      keys_are = o.untold.keys_are;
+      pointers_are = o.unsent.pointers_are;
+      keys_are = o.unsent.keys_are;
       live_is = o.live_is;
       able_is = o.able_is;
-      namings_are = o.namings_are;
+      anrs_are = o.anrs_are;
     }

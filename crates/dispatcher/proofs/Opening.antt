@@ -10,12 +10,12 @@ use Rattle.focus_resolver.specs.Changes.{IsOnlyIn}
 use Rattle.input_channel.specs.State.{opened_with}
 use Rattle.input_channel.specs.Order.{NoneAfter}
 use Rattle.cancel_synthesis.specs.Tracked.{Tracked, pointers_of}
-use Rattle.key_tables.specs.Focused.{change_told, change_of}
+use Rattle.key_tables.specs.Focused.{change_sent, change_of}
 use Rattle.input_types.specs.declared.motion.Motion.{Motion}
-use Rattle.routing_rules.specs.Told.{devices}
+use Rattle.routing_rules.specs.Outgoing.{devices}
 use Rattle.touch_state.specs.Touches.{Touches}
 use Rattle.route_split.specs.declared.mark.Mark.{Mark}
-use Rattle.route_split.specs.declared.mark.Mark.TheVariants.{Rests}
+use Rattle.route_split.specs.declared.mark.Mark.TheVariants.{NoOp}
 use Rattle.dispatch_calls.specs.declared.call.Call.TheVariants.{Open}
 use Rattle.dispatch_calls.specs.declared.reply.Reply.TheVariants.{Opened, Full}
 use Rattle.dispatch_history.specs.Reply.{open_reply}
@@ -24,10 +24,10 @@ use Rattle.dispatch_channels.specs.Table.{Table, opened, channel_of, input_of}
 use Rattle.dispatch_channels.specs.Changes.{Opens, new_channel}
 use Rattle.dispatch_round.specs.declared.round.Round.{Round}
 use Rattle.dispatch_round.specs.Bodies.{keys_to}
-use Rattle.dispatch_round.specs.Rounds.{may_hear, keyed, is_concerned, count_of, most_motions, most_bodies, HasRoom, IsReady, IsTimely, told_in}
-use Rattle.dispatch_round.specs.Told.{TellsAll}
+use Rattle.dispatch_round.specs.Rounds.{may_hear, keyed, is_concerned, count_of, most_motions, most_bodies, HasRoom, IsReady, IsTimely, sent_in}
+use Rattle.dispatch_round.specs.Outgoing.{SendsAll}
 use Rattle.dispatcher.specs.Shown.{ShownGoes}
-use Rattle.dispatcher.specs.Telling.{Refocuses, AreKeys, TellsFocus, told_target}
+use Rattle.dispatcher.specs.Sending.{Refocuses, AreKeys, SendsFocus, sent_target}
 use Rattle.dispatcher.proofs.OpenLaws.{open_law, opens_law}
 use Rattle.dispatcher.proofs.OpenFocus.{open_focus, open_keys}
 use Rattle.dispatcher.proofs.Replies.{reply_law}
@@ -40,7 +40,7 @@ use Rattle.dispatcher.specs.Tables.{kept, Goes}
 use Rattle.dispatcher.proofs.Gone.{opened_gone, both_gone}
 use Rattle.dispatcher.proofs.Going.{Keyed, IsLive, StillGoes, still_round, still_step}
 use Rattle.dispatcher.proofs.Calls.{target_lives}
-use Rattle.dispatcher.proofs.Resting.{rests_at}
+use Rattle.dispatcher.proofs.NoOps.{no_op_at}
 
 -- a window that holds nothing has no pointers
 count_none : (input : Tracked) (ds : List ℕ) → ((d : ℕ) → pointers_of input d ≡ []) → count_of input ds ≡ 0
@@ -55,29 +55,29 @@ keys_none target w = by_test (w == target)
     by_test true = refl
     by_test false = refl
 
-change_few : (o : Option Bool) → length (change_told o) ≤ 1
+change_few : (o : Option Bool) → length (change_sent o) ≤ 1
 change_few None = omega arith
 change_few (Some b) = omega arith
 
--- the new window alone may be told anything
-concerned_one : (ts : List Touches) (r : Round) (target number gained w : ℕ) → IsOf Rests None target [] 0 (bit_and gained (mask_with 0 number)) r
+-- the new window alone may be sent anything
+concerned_one : (ts : List Touches) (r : Round) (target number gained w : ℕ) → IsOf NoOp None target [] 0 (bit_and gained (mask_with 0 number)) r
     → is_concerned ts r w ≡ true → mask_has (bit_and gained (mask_with 0 number)) w ≡ true
 concerned_one ts r target number gained w is h =
     let g = bit_and gained (mask_with 0 number) in
     let E : Mark → Option Motion → List KeyMsg → ℕ → ℕ → Bool =
     λ m o ks l n. may_hear ts m o r.watchers w || mask_has (keyed ks r.target) w || mask_has l w || mask_has n w in
-    let plain : is_concerned ts r w ≡ E Rests None [] 0 g =
+    let plain : is_concerned ts r w ≡ E NoOp None [] 0 g =
     ap (λ m. E m (option_copied r.motion) r.keys.now r.lost r.gained) is.mark_is
-    ∙ ap (λ o. E Rests o r.keys.now r.lost r.gained) is.motion_is
-    ∙ ap (λ ks. E Rests None ks r.lost r.gained) is.keys_are
-    ∙ ap (λ l. E Rests None [] l r.gained) is.lost_is
-    ∙ ap (λ n. E Rests None [] 0 n) is.gained_is in
-    let zero_has : E Rests None [] 0 g ≡ mask_has g w = ap (λ b. (b || b) || mask_has g w) (mask_has-zero w) in
+    ∙ ap (λ o. E NoOp o r.keys.now r.lost r.gained) is.motion_is
+    ∙ ap (λ ks. E NoOp None ks r.lost r.gained) is.keys_are
+    ∙ ap (λ l. E NoOp None [] l r.gained) is.lost_is
+    ∙ ap (λ n. E NoOp None [] 0 n) is.gained_is in
+    let zero_has : E NoOp None [] 0 g ≡ mask_has g w = ap (λ b. (b || b) || mask_has g w) (mask_has-zero w) in
     sym zero_has ∙ sym plain ∙ h
 
--- there is room for what it is told
+-- there is room for what it is sent
 pub ready_welcome : (ts : List Touches) (r : Round) (t : Table) (target number gained : ℕ)
-    → IsOf Rests None target [] 0 (bit_and gained (mask_with 0 number)) r → IsWelcome number t → IsReady ts r t
+    → IsOf NoOp None target [] 0 (bit_and gained (mask_with 0 number)) r → IsWelcome number t → IsReady ts r t
 ready_welcome ts r t target number gained is room w lives h =
     let has : mask_has (bit_and gained (mask_with 0 number)) w ≡ true = concerned_one ts r target number gained w is h in
     let both = and_parts (mask_has gained w) (mask_has (mask_with 0 number) w) (sym (mask_has-and gained (mask_with 0 number) w) ∙ has) in
@@ -86,12 +86,12 @@ ready_welcome ts r t target number gained is room w lives h =
     subst (HasRoom r t) at (room_at ts r t target number gained is room)
   where
     room_at : (ts : List Touches) (r : Round) (t : Table) (target number gained : ℕ)
-        → IsOf Rests None target [] 0 (bit_and gained (mask_with 0 number)) r → IsWelcome number t → HasRoom r t number
+        → IsOf NoOp None target [] 0 (bit_and gained (mask_with 0 number)) r → IsWelcome number t → HasRoom r t number
     room_at ts r t target number gained is room =
         let few : most_bodies r number (input_of t number) ≤ 1 =
-        subst (λ o. most_motions o (input_of t number) + length (keys_to r.target r.keys.now number) + length (change_told (change_of r.lost r.gained number)) ≤ 1)
+        subst (λ o. most_motions o (input_of t number) + length (keys_to r.target r.keys.now number) + length (change_sent (change_of r.lost r.gained number)) ≤ 1)
         (sym is.motion_is)
-        (subst (λ ks. count_of (input_of t number) devices + length (keys_to r.target ks number) + length (change_told (change_of r.lost r.gained number)) ≤ 1)
+        (subst (λ ks. count_of (input_of t number) devices + length (keys_to r.target ks number) + length (change_sent (change_of r.lost r.gained number)) ≤ 1)
         (sym is.keys_are)
         (let a = count_none (input_of t number) devices room.pointers_are in
         let b = keys_none r.target number in
@@ -107,8 +107,8 @@ welcome limit number t p h =
     ap₂ (λ xs n. get_or xs n (opened_with 0)) h.channels_are at ∙ get_or-append_seam t.channels (new_channel limit) [] (opened_with 0) in
     record {
       room = subst (λ s. 1 ≤ s.spare) (sym there) (omega arith);
-      track_room = omega (arith, h.untold.spare_is);
-      pointers_are = h.untold.pointers_are;
+      track_room = omega (arith, h.unsent.spare_is);
+      pointers_are = h.unsent.pointers_are;
     }
 
 -- nothing was delivered to it
@@ -136,9 +136,9 @@ timely_opened limit number clock t p h timely c lives =
     or_none false true = refl
     or_none false false = refl
 
-keyed_from : (o : Option ℕ) (alive : ℕ) (told : ℕ → List KeyMsg) (c : ℕ) (keys : List KeyMsg) → AreKeys o alive told c keys → Keyed o alive told keys
-keyed_from None alive told c keys h = h
-keyed_from (Some t) alive told c keys h = h.1
+keyed_from : (o : Option ℕ) (alive : ℕ) (outgoing : ℕ → List KeyMsg) (c : ℕ) (keys : List KeyMsg) → AreKeys o alive outgoing c keys → Keyed o alive outgoing keys
+keyed_from None alive outgoing c keys h = h
+keyed_from (Some t) alive outgoing c keys h = h.1
 
 -- who was live is
 live_more : (o : Option ℕ) (alive number : ℕ) → IsLive o alive → IsLive o (mask_with alive number)
@@ -162,7 +162,7 @@ opens_goes limit number place clock old new p h w =
           let dead : mask_has old.channels.live number ≡ false =
           by_live (mask_has old.channels.live number) refl in
           let refocus = subst (λ m. Refocuses old.shown.windows m old.focus w.focus) h.live_is w.refocuses in
-          let is : StillGoes (Open limit) (Opened number) queue later place clock old new r Rests None [] 0 (bit_and w.gained (mask_with 0 number)) p.live =
+          let is : StillGoes (Open limit) (Opened number) queue later place clock old new r NoOp None [] 0 (bit_and w.gained (mask_with 0 number)) p.live =
           record {
             is = w.is;
             queue_goes = goes;
@@ -174,28 +174,28 @@ opens_goes limit number place clock old new p h w =
                 subst (λ x. Refocuses x p.live old.focus new.focus) (ap (λ x. x.windows) (sym w.carries.shown_is))
                 (subst (λ f. Refocuses old.shown.windows p.live old.focus f) (sym focus) w.refocuses);
             changes =
-                subst (λ m. TellsFocus 0 (bit_and w.gained (mask_with 0 number)) m old.focus new.focus) (sym h.live_is)
-                (subst (λ f. TellsFocus 0 (bit_and w.gained (mask_with 0 number)) (mask_with old.channels.live number) old.focus f) (sym focus)
+                subst (λ m. SendsFocus 0 (bit_and w.gained (mask_with 0 number)) m old.focus new.focus) (sym h.live_is)
+                (subst (λ f. SendsFocus 0 (bit_and w.gained (mask_with 0 number)) (mask_with old.channels.live number) old.focus f) (sym focus)
                 (open_focus old.displays es k w.focus number w.gained stands dead refocus w.gains));
             lives =
                 subst (IsLive (target_of old.focus)) (sym h.live_is)
                 (live_more (target_of old.focus) old.channels.live number (target_lives old.displays es k (target_of old.focus) stands refl));
             keyed =
-                subst (λ m. Keyed (target_of old.focus) m (told_target (Open limit) (Opened number) k new.focus) []) (sym h.live_is)
-                (subst (λ f. Keyed (target_of old.focus) (mask_with old.channels.live number) (told_target (Open limit) (Opened number) k f) []) (sym focus)
-                (keyed_from (target_of old.focus) (mask_with old.channels.live number) (told_target (Open limit) (Opened number) k w.focus) (target_number old.focus) []
+                subst (λ m. Keyed (target_of old.focus) m (sent_target (Open limit) (Opened number) k new.focus) []) (sym h.live_is)
+                (subst (λ f. Keyed (target_of old.focus) (mask_with old.channels.live number) (sent_target (Open limit) (Opened number) k f) []) (sym focus)
+                (keyed_from (target_of old.focus) (mask_with old.channels.live number) (sent_target (Open limit) (Opened number) k w.focus) (target_number old.focus) []
                 (open_keys old.displays es k w.focus limit number (target_number old.focus) stands refocus (λ t e. target_at (target_of old.focus) t e))));
             repeats = w.carries.repeat_is;
           } in
           open_law old.displays limit number es k (kept later new) r old.channels p new.channels w.carries.channels.changed stands refl refl
           (reply_open (opened old.channels) number h.few h.number_is ∙ sym (reply_law old.displays es k (Open limit) stands tt tt))
           (opens_law limit number old.channels p h)
-          (still_round (Open limit) (Opened number) queue later place clock old new r Rests None [] 0 (bit_and w.gained (mask_with 0 number)) p.live is)
-          (still_step old.displays (Open limit) (Opened number) es old r Rests None (target_number old.focus) [] 0 (bit_and w.gained (mask_with 0 number)) w.is
+          (still_round (Open limit) (Opened number) queue later place clock old new r NoOp None [] 0 (bit_and w.gained (mask_with 0 number)) p.live is)
+          (still_step old.displays (Open limit) (Opened number) es old r NoOp None (target_number old.focus) [] 0 (bit_and w.gained (mask_with 0 number)) w.is
           ((other_steps old.displays es k stands).opens limit number r.watchers))
           (λ s e this holds.
-          subst (λ x. TellsAll w.carries.channels.changed (told_in r s e) old.shown.origins x p new.channels) (sym (goes.clock_is ∙ clk))
-          (w.carries.channels.tells s e this holds))
+          subst (λ x. SendsAll w.carries.channels.changed (sent_in r s e) old.shown.origins x p new.channels) (sym (goes.clock_is ∙ clk))
+          (w.carries.channels.sends s e this holds))
           refl
           refl;
       displays_are = w.carries.displays_are;
@@ -212,13 +212,13 @@ opens_goes limit number place clock old new p h w =
 -- 64 were opened
 pub opens_none : (limit place clock : ℕ) (old : Routing) → opened old.channels ≡ 64 → Goes (λ now. Open limit) Full place clock old old
 opens_none limit place clock old full =
-    rests_at (λ now. Open limit) Full place clock old (λ now. refl) (λ now. tt)
+    no_op_at (λ now. Open limit) Full place clock old (λ now. refl) (λ now. tt)
     (λ es now queue clk stands.
     sym (reply_law old.displays es (kept queue old) (Open limit) stands tt tt ∙ ap open_reply full))
 
 -- the window of a new channel is welcome by a round that is carried out
 pub welcomes_by : (number place clock : ℕ) (old new : Routing) (r : Round) (gained : ℕ) (g : FocusState)
-    → IsOf Rests None (target_number old.focus) [] 0 (bit_and gained (mask_with 0 number)) r
+    → IsOf NoOp None (target_number old.focus) [] 0 (bit_and gained (mask_with 0 number)) r
     → Refocuses old.shown.windows old.channels.live old.focus g
     → IsOnlyIn gained (is_focused (focus_of g)) (is_focused (focus_of old.focus))
     → CarriesOut r place clock (record old { focus = g }) new

@@ -29,7 +29,7 @@ use Rattle.dispatcher.specs.Queue.{QueueGoes}
 use Rattle.dispatcher.specs.Knows.{Kept, KeptStandsFor}
 use Rattle.dispatcher.specs.Staying.{delivery_of}
 use Rattle.dispatcher.specs.OwnerLaws.{GotLaw, DoneLaw}
-use Rattle.dispatcher.proofs.RestLaws.{receive_still, finish_still, touches_rest, still_goes}
+use Rattle.dispatcher.proofs.NoOpLaws.{receive_still, finish_still, touches_rest, still_goes}
 use Rattle.dispatcher.proofs.Replies.{kept_live, live_by}
 use Rattle.dispatcher.proofs.Slices.{channel_set, set_as_many}
 
@@ -56,7 +56,7 @@ record Parts (ds : List ℕ) (call : Call) (answer : Reply) (es : List Effect) (
       ≡ cond (c == k) (published_at (clock (past_of (step ds call answer es))) (with_part (part_of call answer k) (channel_of t k))) (channel_of t c)
   live_is : u.live ≡ live_mask_after call answer t.live
   able_is : u.able ≡ able_mask_after call answer (λ c. late_at (clock (past_of (step ds call answer es))) (channel_of u c)) t.able
-  noted_is : u.namings ≡ noted_after answer (clock (past_of (step ds call answer es))) (delivery_of t)
+  noted_is : u.anrs ≡ noted_after answer (clock (past_of (step ds call answer es))) (delivery_of t)
 
 parted : (ds : List ℕ) (call : Call) (answer : Reply) (es : List Effect) (t u : Table) (k : ℕ) → Lawful ds es → Lawful ds (step ds call answer es)
     → DeliveryIs es (delivery_of t) → Parts ds call answer es t u k → DeliveryIs (step ds call answer es) (delivery_of u)

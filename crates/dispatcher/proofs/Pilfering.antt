@@ -24,8 +24,8 @@ use Rattle.dispatcher.specs.Keying.{target_number}
 use Rattle.dispatcher.specs.Tables.{kept, Goes}
 use Rattle.dispatcher.proofs.Gone.{room_gone, both_gone}
 use Rattle.dispatcher.proofs.Going.{Keyed}
-use Rattle.dispatcher.proofs.Calls.{told_same}
-use Rattle.dispatcher.proofs.Resting.{rests_at}
+use Rattle.dispatcher.proofs.Calls.{sent_same}
+use Rattle.dispatcher.proofs.NoOps.{no_op_at}
 
 -- the answer, by whether the channel is live, has a spy, and holds something
 abbrev answer_by : (lives spy holds : Bool) → Reply
@@ -47,21 +47,21 @@ replies old c d now lives spy holds es queue l s h stands =
 pub pilfer_gone : (c d place clk : ℕ) (old : Routing) → mask_has old.channels.live c ≡ false
     → Goes (λ now. Pilfer now c d) Gone place clk old old
 pilfer_gone c d place clk old gone =
-    rests_at (λ now. Pilfer now c d) Gone place clk old (λ now. refl) (λ now. tt)
+    no_op_at (λ now. Pilfer now c d) Gone place clk old (λ now. refl) (λ now. tt)
     (λ es now queue time stands. replies old c d now false _ _ es queue gone refl refl stands)
 
 pub pilfer_no_spy : (c d place clk : ℕ) (old : Routing) → mask_has old.channels.live c ≡ true
     → list_any (λ v. v.channel == c && is_spy v) old.shown.windows ≡ false
     → Goes (λ now. Pilfer now c d) NotSpy place clk old old
 pilfer_no_spy c d place clk old lives none =
-    rests_at (λ now. Pilfer now c d) NotSpy place clk old (λ now. refl) (λ now. tt)
+    no_op_at (λ now. Pilfer now c d) NotSpy place clk old (λ now. refl) (λ now. tt)
     (λ es now queue time stands. replies old c d now true false _ es queue lives none refl stands)
 
 pub pilfer_nothing : (c d place clk : ℕ) (old : Routing) → mask_has old.channels.live c ≡ true
     → list_any (λ v. v.channel == c && is_spy v) old.shown.windows ≡ true → any_at old.touches c d ≡ false
     → Goes (λ now. Pilfer now c d) NothingHeld place clk old old
 pilfer_nothing c d place clk old lives spy none =
-    rests_at (λ now. Pilfer now c d) NothingHeld place clk old (λ now. refl) (λ now. tt)
+    no_op_at (λ now. Pilfer now c d) NothingHeld place clk old (λ now. refl) (λ now. tt)
     (λ es now queue time stands. replies old c d now true true false es queue lives spy none stands)
 
 -- the key target stays, and keeps its keys
@@ -83,7 +83,7 @@ pilfers c d place clk lost gained old new l g lives spy holds some =
           let is : IsOf (PilferMark d c) None (target_number old.focus) [] 0 0 r =
           subst (λ n. IsOf (PilferMark d c) None (target_number old.focus) [] n 0 r) l
           (subst (λ n. IsOf (PilferMark d c) None (target_number old.focus) [] lost n r) g some.is) in
-          told_same old.displays (Pilfer now c d) Done es queue later place clk old new r (PilferMark d c) None [] from.mid
+          sent_same old.displays (Pilfer now c d) Done es queue later place clk old new r (PilferMark d c) None [] from.mid
           (record {
             place_is = at;
             clock_is = time;
@@ -91,7 +91,7 @@ pilfers c d place clk lost gained old new l g lives spy holds some =
             goes = goes;
             reply_is = replies old c d now true true true es queue lives spy holds stands;
             rises = tt;
-            telling = refl;
+            sending = refl;
           })
           from.same
           refl

@@ -1,12 +1,12 @@
--- The pointers that a window was told, after any step.
+-- The pointers that a window was sent, after any step.
 use Rattle.std.proofs.Common.{◌≡◌, ℕ, Bool, true, false, not, List, [], ◌∷◌, refl, sym, ap, ◌∙◌, subst}
 use Rattle.std.proofs.lemmas.Bool.{true≢false, and_parts}
 use Rattle.input_types.specs.declared.pointer.Pointer.{Pointer}
 use Rattle.dispatch_calls.specs.declared.call.Call.{Call}
 use Rattle.dispatch_calls.specs.declared.reply.Reply.{Reply}
-use Rattle.routing_rules.specs.Told.{listing, told, after}
+use Rattle.routing_rules.specs.Outgoing.{listing, outgoing, after}
 use Rattle.routing_rules.specs.Fits.{Fits, last_then}
-use Rattle.cancel_synthesis.specs.Laws.{pointers_told}
+use Rattle.cancel_synthesis.specs.Laws.{pointers_sent}
 use Rattle.cancel_synthesis.proofs.Tracking.{tracks_law}
 use Rattle.dispatch_history.specs.History.{live, snapshot}
 use Rattle.dispatch_history.specs.Queue.{inbound, args_of}
@@ -36,7 +36,7 @@ pointers_law ds call answer es w old new l rise lives are goes d low high =
     subst (λ xs. StepFacts ds call answer (args_of call answer (inbound (past_of xs))) xs d (down_ids (step ds call answer xs) d)) before.whole
     (step_facts ds call answer (past_of es) d l.legal rise) in
     goes d low high
-    ∙ ap (pointers_told (told (scene ds es) (step_at call answer es) w d)) (are d low high)
+    ∙ ap (pointers_sent (outgoing (scene ds es) (step_at call answer es) w d)) (are d low high)
     ∙ tracks_law (scene ds es) (step_at call answer es) w d (down_ids es d) (down_ids (step ds call answer es) d) fits facts.rises
     (removes_other (snapshot (past_of es)) call answer (args_of call answer (inbound (past_of es))) w (live (past_of es) w) lives) facts.down
     ∙ ap (λ set. listing set (last_then (step_at call answer es) d (last es d))) (holds_next ds call answer es w d)
@@ -58,5 +58,5 @@ holds_none ds es w d i l n =
     not_held ((scene ds es).holds w d i) (live (past_of es) w) (λ y. (and_parts (live (past_of es) w) (not (unresponsive es w)) (shown y)).0) n
 
 pub pointers_first : PointersFirst
-pointers_first ds es w input l n untold d low high =
-    untold d ∙ sym (none_listed ((scene ds es).holds w d) (last es d) (λ i. holds_none ds es w d i l n))
+pointers_first ds es w input l n unsent d low high =
+    unsent d ∙ sym (none_listed ((scene ds es).holds w d) (last es d) (λ i. holds_none ds es w d i l n))

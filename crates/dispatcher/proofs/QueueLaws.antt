@@ -14,7 +14,7 @@ use Rattle.dispatch_calls.specs.declared.reply.Reply.TheVariants.{Taken, Inconsi
 use Rattle.dispatch_history.specs.History.{clock, moment_of}
 use Rattle.dispatch_history.specs.Queue.{accepted, accepted_after, dispatches, dispatches_after, inbound, down_on}
 use Rattle.dispatch_history.specs.Effect.{Effect, past_of}
-use Rattle.dispatch_history.specs.KeyTold.{repeat_due}
+use Rattle.dispatch_history.specs.KeySent.{repeat_due}
 use Rattle.dispatch_history.specs.Reply.{reply_to, pump_reply, is_due, id_bits, is_down}
 use Rattle.dispatch_tables.specs.Lawful.{Lawful}
 use Rattle.dispatch_tables.proofs.Lawfuls.{lawful_last, lawful_always}

@@ -19,7 +19,7 @@ use Rattle.dispatch_tables.proofs.Going.{delivery_due}
 use Rattle.dispatch_tables.proofs.Keeping.{kept_counts, kept_oldest}
 use Rattle.dispatch_channels.specs.Table.{Table, opened, channel_of, due_moment as due_in_table}
 use Rattle.dispatch_channels.specs.Changes.{counts_in}
-use Rattle.key_tables.proofs.Telling.{repeat_read}
+use Rattle.key_tables.proofs.Sending.{repeat_read}
 use Rattle.dispatcher.specs.Knows.{Kept, KeptStandsFor}
 use Rattle.dispatcher.specs.Staying.{delivery_of}
 use Rattle.dispatcher.specs.ReadLaws.{ReadsChannelsLaw, ReadsMomentsLaw, ReadsTouchesLaw, ReadsInputsLaw}
@@ -48,7 +48,7 @@ reads_channels ds es k t s e =
       counts_are = λ c. counts_by ds es k t c (nat_le 1 c && nat_le c (opened t)) s is refl;
       messages_are = λ c from to. ap (λ x. x.messages) (is.keeps c from to).is;
       oldest_is = λ c from to. kept_oldest es c (channel_of t c) (is.keeps c from to);
-      namings_are = is.noted_is.left_is;
+      anrs_are = is.noted_is.left_is;
       dues_are = dues;
       first_is = λ first f. first_due_law ds es first s.lawful (subst (λ due. IsFirst due first) dues f);
     }

@@ -9,7 +9,7 @@ use Rattle.focus_resolver.specs.Changes.{IsOnlyIn}
 use Rattle.cancel_synthesis.specs.Ends.{keys_cancelled}
 use Rattle.routing_rules.specs.Scene.{stays}
 use Rattle.route_split.specs.declared.mark.Mark.{Mark}
-use Rattle.route_split.specs.declared.mark.Mark.TheVariants.{Rests, Unnamed, Mute}
+use Rattle.route_split.specs.declared.mark.Mark.TheVariants.{NoOp, Unnamed, Mute}
 use Rattle.dispatch_calls.specs.declared.call.Call.{Call}
 use Rattle.dispatch_calls.specs.declared.call.Call.TheVariants.{Windows, FocusOn, Tick}
 use Rattle.dispatch_calls.specs.declared.reply.Reply.TheVariants.{Done, Named}
@@ -24,19 +24,19 @@ use Rattle.dispatcher.specs.Pointing.{step_at}
 use Rattle.dispatcher.specs.Queue.{Queue}
 use Rattle.dispatcher.specs.Shown.{Shown, ShownGoes, origin_at}
 use Rattle.dispatcher.specs.Knows.{KeptStandsFor}
-use Rattle.dispatcher.specs.Telling.{Refocuses, parted_in, is_telling, FocusGoes, TellsFocus, told_target, GoesRound}
+use Rattle.dispatcher.specs.Sending.{Refocuses, parted_in, is_sending, FocusGoes, SendsFocus, sent_target, GoesRound}
 use Rattle.dispatcher.proofs.Replies.{tick_reply}
 use Rattle.dispatcher.proofs.Stepping.{other_steps}
 use Rattle.dispatcher.specs.declared.tables.Routing.{Routing}
-use Rattle.dispatcher.specs.Carrying.{TellsRound, CarriesSome}
+use Rattle.dispatcher.specs.Carrying.{SendsRound, CarriesSome}
 use Rattle.dispatcher.specs.Keying.{target_number, only_live, listening, cancelled_of, if_lost, if_in, lost_keys, named_keys}
-use Rattle.dispatcher.specs.Naming.{Names}
+use Rattle.dispatcher.specs.Anr.{Names}
 use Rattle.dispatcher.specs.Tables.{kept, Goes}
 use Rattle.dispatcher.proofs.Gone.{room_gone, both_gone, named_gone}
-use Rattle.dispatcher.proofs.Going.{round_told, Keyed, IsLive, StillGoes, still_round, still_step}
+use Rattle.dispatcher.proofs.Going.{round_sent, Keyed, IsLive, StillGoes, still_round, still_step}
 use Rattle.dispatcher.specs.Needing.{LeavesFocus}
 use Rattle.dispatcher.specs.Showing.{Shows, origins_from}
-use Rattle.dispatcher.proofs.Calls.{target_lives, no_focus_told, not_both}
+use Rattle.dispatcher.proofs.Calls.{target_lives, no_focus_sent, not_both}
 
 -- what the key target is told that is another one after the step
 keyed_lost : (o after : Option ℕ) (alive : ℕ) (t : Table)
@@ -61,19 +61,19 @@ keyed_named (Some w) mask alive t = λ lives. ap (λ b. cancelled_of (if_in mask
     by_test false e = ap (λ b. cancelled_of (cond b (Some w) None) t) e ∙ sym (ap (λ b. cond b (keys_cancelled (input_of t w).keys) []) e)
 
 -- the masks of a change of the focus
-tells_change : (lost gained alive : ℕ) (f g : FocusState) → IsOnlyIn lost (is_focused (focus_of f)) (is_focused (focus_of g))
-    → IsOnlyIn gained (is_focused (focus_of g)) (is_focused (focus_of f)) → TellsFocus lost gained alive f g
-tells_change lost gained alive f g l h w lives = (l w, h w)
+sends_change : (lost gained alive : ℕ) (f g : FocusState) → IsOnlyIn lost (is_focused (focus_of f)) (is_focused (focus_of g))
+    → IsOnlyIn gained (is_focused (focus_of g)) (is_focused (focus_of f)) → SendsFocus lost gained alive f g
+sends_change lost gained alive f g l h w lives = (l w, h w)
 
 -- a call that changes who has the focus
 pub refocused : (call : ℕ → Call) (place clock : ℕ) (old mid : Routing) (mark : Mark) (lost gained : ℕ) (g : FocusState) (shown : Shown)
     → CarriesSome mark (lost_keys old.focus (target_of g) old.channels) lost gained place clock old mid
-    → ((now : ℕ) → is_telling (call now) Done ≡ true)
+    → ((now : ℕ) → is_sending (call now) Done ≡ true)
     → ((now : ℕ) → RisesIn (call now))
     → ((now : ℕ) (es : List Effect) → Done ≡ reply_to es (call now))
     → ((now clock : ℕ) (t : Table) → parted_in (call now) Done clock t ≡ t)
     → ((now w : ℕ) (queue : Queue)
-    → told_target (call now) Done (kept queue old) g w ≡ (if is_at (target_of g) w then [] else keys_cancelled (input_of old.channels w).keys))
+    → sent_target (call now) Done (kept queue old) g w ≡ (if is_at (target_of g) w then [] else keys_cancelled (input_of old.channels w).keys))
     → ((now : ℕ) → ShownGoes (call now) old.shown shown)
     → ((now : ℕ) → FocusGoes (call now) shown.windows old.channels.live old.focus g)
     → IsOnlyIn lost (is_focused (focus_of old.focus)) (is_focused (focus_of g))
@@ -81,7 +81,7 @@ pub refocused : (call : ℕ → Call) (place clock : ℕ) (old mid : Routing) (m
     → ((es : List Effect) (now watchers : ℕ) (queue : Queue) → KeptStandsFor old.displays es (kept queue old)
     → IsStepIn (scene old.displays es) old.touches mark None watchers (step_at (call now) Done es))
     → Goes call Done place clock old (record mid { focus = g; shown = shown })
-refocused call place clock old mid mark lost gained g shown some telling rises replies part told shows focus l h st =
+refocused call place clock old mid mark lost gained g shown some sending rises replies part outgoing shows focus l h st =
     record {
       after = λ es now queue later at clk stands goes.
           let r = some.round in
@@ -98,20 +98,20 @@ refocused call place clock old mid mark lost gained g shown some telling rises r
             shown = shows now;
             touches = from.carries.touches;
             focus = subst (λ n. FocusGoes (call now) shown.windows n old.focus g) (sym same) (focus now);
-            changes = tells_change lost gained from.mid.live old.focus g l h;
+            changes = sends_change lost gained from.mid.live old.focus g l h;
             lives = subst (IsLive (target_of old.focus)) (sym same) (target_lives old.displays es (kept queue old) (target_of old.focus) stands refl);
             keyed =
-                subst (λ n. Keyed (target_of old.focus) n (told_target (call now) Done (kept queue old) g) keys) (sym same)
-                (keyed_by old.channels.live _ _ keys (target_of old.focus) (λ w. sym (told now w queue)) (keyed_lost (target_of old.focus) (target_of g) old.channels.live old.channels));
+                subst (λ n. Keyed (target_of old.focus) n (sent_target (call now) Done (kept queue old) g) keys) (sym same)
+                (keyed_by old.channels.live _ _ keys (target_of old.focus) (λ w. sym (outgoing now w queue)) (keyed_lost (target_of old.focus) (target_of g) old.channels.live old.channels));
             repeats = from.carries.repeat_is;
           } in
-          round_told old.displays (call now) Done es queue later place clock old new r from.mid
-          (record { place_is = at; clock_is = clk; stands = stands; goes = goes; reply_is = replies now es; rises = rises now; telling = telling now })
+          round_sent old.displays (call now) Done es queue later place clock old new r from.mid
+          (record { place_is = at; clock_is = clk; stands = stands; goes = goes; reply_is = replies now es; rises = rises now; sending = sending now })
           from.same
           (subst (λ p. GoesRound (call now) Done r p.live (kept queue old) (kept later new)) (sym (part now later.clock from.mid))
           (still_round (call now) Done queue later place clock old new r mark None keys lost gained from.mid.live is))
           (still_step old.displays (call now) Done es old r mark None (target_number old.focus) keys lost gained some.is (st es now r.watchers queue stands))
-          (subst (λ p. TellsRound r old.touches old.shown.origins clock p new.channels) (sym (part now later.clock from.mid)) from.carries.channels);
+          (subst (λ p. SendsRound r old.touches old.shown.origins clock p new.channels) (sym (part now later.clock from.mid)) from.carries.channels);
       displays_are = some.carries.carries.displays_are;
       gone_are =
           both_gone old.channels some.carries.mid mid.channels (room_gone old.channels some.carries.mid some.carries.same) some.carries.carries.gone_are;
@@ -141,14 +141,14 @@ names_some mask place clock old new small due n =
             shown = subst (λ x. ShownGoes (Tick now) old.shown x) (sym n.carries.shown_is) (record { windows_are = refl; origins_are = λ w low high. refl });
             touches = n.carries.touches;
             focus = n.carries.focus_is;
-            changes = subst (λ f. TellsFocus 0 0 n.mid.live old.focus f) (sym n.carries.focus_is) (no_focus_told n.mid.live old.focus);
+            changes = subst (λ f. SendsFocus 0 0 n.mid.live old.focus f) (sym n.carries.focus_is) (no_focus_sent n.mid.live old.focus);
             lives = subst (IsLive (target_of old.focus)) (sym same) (target_lives old.displays es (kept queue old) (target_of old.focus) stands refl);
             keyed =
-                subst (λ a. Keyed (target_of old.focus) a (told_target (Tick now) (Named mask) (kept queue old) new.focus) keys) (sym same)
+                subst (λ a. Keyed (target_of old.focus) a (sent_target (Tick now) (Named mask) (kept queue old) new.focus) keys) (sym same)
                 (keyed_named (target_of old.focus) mask old.channels.live old.channels);
             repeats = n.carries.repeat_is;
           } in
-          round_told old.displays (Tick now) (Named mask) es queue later place clock old new r n.mid
+          round_sent old.displays (Tick now) (Named mask) es queue later place clock old new r n.mid
           (record {
             place_is = at;
             clock_is = clk;
@@ -157,13 +157,13 @@ names_some mask place clock old new small due n =
             reply_is =
                 sym (tick_reply old.displays es (kept queue old) now mask stands small (λ c. due c ∙ ap (λ m. is_due (due_moment old.channels c) m) (sym clk)));
             rises = tt;
-            telling = refl;
+            sending = refl;
           })
           n.same
           (still_round (Tick now) (Named mask) queue later place clock old new r (Mute mask) None keys 0 0 n.mid.live is)
           (still_step old.displays (Tick now) (Named mask) es old r (Mute mask) None (target_number old.focus) keys 0 0 n.is
           ((other_steps old.displays es (kept queue old) stands).ticks now mask r.watchers))
-          (subst (λ m. TellsRound r old.touches old.shown.origins clock (named_in mask m n.mid) new.channels) (sym (goes.clock_is ∙ clk)) n.carries.channels);
+          (subst (λ m. SendsRound r old.touches old.shown.origins clock (named_in mask m n.mid) new.channels) (sym (goes.clock_is ∙ clk)) n.carries.channels);
       displays_are = n.carries.displays_are;
       gone_are = both_gone old.channels n.mid new.channels (room_gone old.channels n.mid n.same)
           (named_gone mask clock n.mid new.channels n.carries.gone_are);
@@ -227,7 +227,7 @@ show_goes old mid place clk s ws before mask lost gained live target masks g sho
 -- the focus of a display is requested
 pub request_goes : (old mid : Routing) (place clk display lost gained : ℕ) (channel target : Option ℕ) (g : FocusState)
     → display < 4
-    → CarriesSome Rests (lost_keys old.focus target old.channels) lost gained place clk old mid
+    → CarriesSome NoOp (lost_keys old.focus target old.channels) lost gained place clk old mid
     → target ≡ target_of g
     → g ≡ record { requested = slice_set old.focus.requested display channel; last = display; focusable = old.focus.focusable }
     → IsOnlyIn lost (is_focused (focus_of old.focus)) (is_focused (focus_of g))
@@ -235,8 +235,8 @@ pub request_goes : (old mid : Routing) (place clk display lost gained : ℕ) (ch
     → Goes (λ now. FocusOn now display channel) Done place clk old (record mid { focus = g })
 request_goes old mid place clk display lost gained channel target g lt some to is l h =
     let from : mid.shown ≡ old.shown = some.carries.carries.shown_is in
-    refocused (λ now. FocusOn now display channel) place clk old mid Rests lost gained g mid.shown
-    (subst (λ t. CarriesSome Rests (lost_keys old.focus t old.channels) lost gained place clk old mid) to some)
+    refocused (λ now. FocusOn now display channel) place clk old mid NoOp lost gained g mid.shown
+    (subst (λ t. CarriesSome NoOp (lost_keys old.focus t old.channels) lost gained place clk old mid) to some)
     (λ now. refl)
     (λ now. tt)
     (λ now es. refl)

@@ -12,7 +12,7 @@ use Rattle.dispatch_history.specs.Effect.{Effect, past_of}
 use Rattle.dispatch_history.specs.Effects.{step}
 use Rattle.key_tables.specs.Focused.{FocusIs, is_request}
 use Rattle.key_tables.proofs.Focusing.{focus_requested, focus_shown, focus_left, focus_masks}
-use Rattle.dispatcher.specs.Telling.{Refocuses, FocusGoes}
+use Rattle.dispatcher.specs.Sending.{Refocuses, FocusGoes}
 
 refocused : (ds : List ℕ) (call : Call) (answer : Reply) (es : List Effect) (f g : FocusState) (ws : List Window) (alive : ℕ) → is_request call ≡ false → FocusIs es f
     → ws ≡ snapshot (past_of (step ds call answer es)) → ((c : ℕ) → mask_has alive c ≡ live (past_of (step ds call answer es)) c)

@@ -15,7 +15,7 @@ use Rattle.dispatch_calls.specs.declared.reply.Reply.TheVariants.{Done}
 use Rattle.dispatch_history.specs.History.{History, live, snapshot, clock}
 use Rattle.dispatch_history.specs.Effect.{Effect, past_of}
 use Rattle.dispatch_history.specs.Effects.{step}
-use Rattle.dispatch_history.specs.Focus.{requested, asked, may_focus, focus, has_focus, key_target, is_target, focus_told}
+use Rattle.dispatch_history.specs.Focus.{requested, asked, may_focus, focus, has_focus, key_target, is_target, focus_sent}
 use Rattle.dispatch_history.specs.Step.{scene}
 use Rattle.dispatch_tables.specs.Lawful.{Lawful}
 use Rattle.dispatch_tables.specs.Channel.{with_part}
@@ -23,11 +23,11 @@ use Rattle.dispatch_tables.specs.Delivery.{DeliveryIs}
 use Rattle.dispatch_tables.proofs.Lawfuls.{lawful_step}
 use Rattle.key_tables.specs.Held.{key_messages}
 use Rattle.key_tables.specs.Repeats.{RepeatIs, repeat_next}
-use Rattle.key_tables.proofs.Telling.{keys_quiet, target_told_law}
+use Rattle.key_tables.proofs.Sending.{keys_quiet, target_sent_law}
 use Rattle.key_tables.proofs.Repeating.{repeat_step, repeat_left}
 use Rattle.dispatch_channels.specs.Table.{Table, channel_of}
 use Rattle.dispatch_channels.specs.Changes.{removed_in}
-use Rattle.dispatch_round.specs.Told.{TellsAll}
+use Rattle.dispatch_round.specs.Outgoing.{SendsAll}
 use Rattle.cancel_synthesis.specs.Ends.{keys_cancelled}
 use Rattle.dispatcher.specs.Shown.{ShownGoes, origin_at}
 use Rattle.dispatcher.specs.Pointing.{step_at}
@@ -40,8 +40,8 @@ use Rattle.dispatcher.proofs.ShownLaws.{shown_law, touches_scene_law}
 use Rattle.dispatcher.proofs.Inputs.{target_live}
 use Rattle.dispatcher.proofs.Replies.{kept_live}
 use Rattle.dispatcher.proofs.Refocusing.{focus_goes}
-use Rattle.dispatcher.proofs.KeysTold.{target_is}
-use Rattle.dispatcher.proofs.Telling.{Parts, lives_then, tells_goes}
+use Rattle.dispatcher.proofs.KeysSent.{target_is}
+use Rattle.dispatcher.proofs.Sending.{Parts, lives_then, sends_goes}
 use Rattle.dispatcher.proofs.Rounding.{stay}
 
 -- a channel has a focus where it may as before
@@ -77,21 +77,21 @@ removed_keys ds now c es k w l s y =
           let n = not_removed (past_of es) now c w y in
           let before : live (past_of es) w ≡ true = (and_parts (not (w == c)) (live (past_of es) w) y).1 in
           let stays : is_target ((Remove now c, Done) ∷ past_of es) w ≡ true = focus_stays (past_of es) now c (asked (past_of es)) w n ∙ at in
-          target_told_law ds (Remove now c) Done es w (k.inputs w).keys k.repeat l at y (s.knows.inputs w before).keys_are s.knows.keying.repeat_is
+          target_sent_law ds (Remove now c) Done es w (k.inputs w).keys k.repeat l at y (s.knows.inputs w before).keys_are s.knows.keying.repeat_is
           ∙ ap (λ b. cond b [] (keys_cancelled (k.inputs w).keys)) stays
       | inr n ↦ keys_quiet ds (Remove now c) Done es w l n
     ]
 
-removed_told : (ds : List ℕ) (now c : ℕ) (es : List Effect) (k : Kept) (w : ℕ) → Lawful ds (step ds (Remove now c) Done es) → KeptStandsFor ds es k
+removed_sent : (ds : List ℕ) (now c : ℕ) (es : List Effect) (k : Kept) (w : ℕ) → Lawful ds (step ds (Remove now c) Done es) → KeptStandsFor ds es k
     → live (past_of (step ds (Remove now c) Done es)) w ≡ true → [] ≡ bodies_at ds (Remove now c) Done es w
-removed_told ds now c es k w l s y =
+removed_sent ds now c es k w l s y =
     let f = has_focus (past_of es) w in
     let g = has_focus (past_of (step ds (Remove now c) Done es)) w in
-    sym (ap (λ ks. map Key ks ++ focus_told f g) (removed_keys ds now c es k w l s y)
-    ∙ ap (focus_told f) (focused_stays (past_of es) now c w (not_removed (past_of es) now c w y))
+    sym (ap (λ ks. map Key ks ++ focus_sent f g) (removed_keys ds now c es k w l s y)
+    ∙ ap (focus_sent f) (focused_stays (past_of es) now c w (not_removed (past_of es) now c w y))
     ∙ same f)
   where
-    same : (b : Bool) → focus_told b b ≡ []
+    same : (b : Bool) → focus_sent b b ≡ []
     same true = refl
     same false = refl
 
@@ -121,9 +121,9 @@ removed_repeat ds now c es k later l s e = by_target (target_of k.focus) refl e
         subst (RepeatIs (step ds (Remove now c) Done es)) (sym (r ∙ keeps t (c == t) target refl))
         (repeat_step ds (Remove now c) Done es t k.repeat l (ap (λ o. is_at o t) target ∙ eq-eqb t t refl) s.knows.keying.repeat_is)
 
--- nobody is told anything
-tells_none : (origins : List Pixel) (at : ℕ) (t : Table) → TellsAll 0 (λ w. []) origins at t t
-tells_none origins at t =
+-- nobody is sent anything
+sends_none : (origins : List Pixel) (at : ℕ) (t : Table) → SendsAll 0 (λ w. []) origins at t t
+sends_none origins at t =
     record {
       are_live = λ c y. absurd (true≢false (sym y ∙ mask_has-zero c));
       changes = λ c y. absurd (true≢false (sym y ∙ mask_has-zero c));
@@ -133,7 +133,7 @@ tells_none origins at t =
       as_many = refl;
       live_is = refl;
       able_is = refl;
-      namings_are = refl;
+      anrs_are = refl;
     }
 
 pub remove_law : RemoveLaw
@@ -161,7 +161,7 @@ remove_law ds now c es k later t stands e f reply goes =
       able_is = x.able_is;
       noted_is = x.noted_is;
     } in
-    tells_goes ds call Done es k later (λ w. []) t u u 0 (λ w. false)
+    sends_goes ds call Done es k later (λ w. []) t u u 0 (λ w. false)
     (record {
       stands = stands;
       delivery_was = e;
@@ -180,8 +180,8 @@ remove_law ds now c es k later t stands e f reply goes =
           (sym (ap (λ v. v.windows) goes.shown_is) ∙ (shown_law ds call Done es k.shown later.shown stands.knows.shown shown).windows_are)
           (lives_then ds call Done es later.queue.clock t u (λ w. false) lawful was parts) goes.focus;
       repeat_is = removed_repeat ds now c es k later lawful stands goes.repeat_is;
-      told_is = λ w y. removed_told ds now c es k w lawful stands y;
-      tells = tells_none k.shown.origins later.queue.clock u;
+      sent_is = λ w y. removed_sent ds now c es k w lawful stands y;
+      sends = sends_none k.shown.origins later.queue.clock u;
       delivery_is = goes.delivery_is;
       inputs_are = goes.inputs_are ∙ f;
     })

@@ -13,7 +13,7 @@ use Rattle.dispatch_history.specs.History.{clock, live, opened, received, snapsh
 use Rattle.dispatch_history.specs.Queue.{accepted}
 use Rattle.dispatch_history.specs.Effect.{Effect, past_of}
 use Rattle.dispatch_history.specs.Effects.{channels}
-use Rattle.dispatch_history.specs.KeyTold.{repeat_due}
+use Rattle.dispatch_history.specs.KeySent.{repeat_due}
 use Rattle.dispatch_history.specs.Due.{mask_of}
 use Rattle.dispatch_history.specs.Reply.{open_reply, notify_reply, pump_reply, got_reply, receive_reply, finish_reply, is_due}
 use Rattle.dispatch_tables.specs.Lawful.{Lawful}
@@ -25,7 +25,7 @@ use Rattle.dispatch_tables.proofs.Duties.{named_law}
 use Rattle.dispatch_tables.proofs.Going.{delivery_due}
 use Rattle.dispatch_tables.proofs.Keeping.{kept_receive, kept_finish}
 use Rattle.route_split.specs.Tables.{any_at}
-use Rattle.key_tables.proofs.Telling.{repeat_read}
+use Rattle.key_tables.proofs.Sending.{repeat_read}
 use Rattle.dispatcher.specs.Knows.{Kept, KeptStandsFor}
 use Rattle.dispatcher.specs.Replying.{late_by}
 use Rattle.dispatcher.specs.Laws.{ReplyLaw, TickReplyLaw}

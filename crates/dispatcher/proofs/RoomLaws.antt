@@ -7,11 +7,11 @@ use Rattle.input_channel.specs.State.{ChannelState, opened_with}
 use Rattle.cancel_synthesis.specs.Tracked.{Tracked, pointers_in}
 use Rattle.dispatch_history.specs.History.{live}
 use Rattle.dispatch_history.specs.Effect.{Effect, past_of}
-use Rattle.dispatch_history.specs.Due.{namings}
+use Rattle.dispatch_history.specs.Due.{anrs}
 use Rattle.dispatch_tables.specs.Channel.{Holds}
 use Rattle.dispatch_tables.specs.Delivery.{DeliveryIs, NotedIs, noted_gone}
-use Rattle.dispatch_tables.proofs.Noting.{namings_go_law as noted_go}
-use Rattle.dispatch_channels.specs.Table.{Table, opened, channel_of, input_of, untold, with_channel, but_for_room}
+use Rattle.dispatch_tables.proofs.Noting.{anrs_go_law as noted_go}
+use Rattle.dispatch_channels.specs.Table.{Table, opened, channel_of, input_of, unsent, with_channel, but_for_room}
 use Rattle.key_tables.specs.Held.{KeysAre}
 use Rattle.dispatcher.specs.Queue.{QueueIs}
 use Rattle.dispatcher.specs.Shown.{ShownIs}
@@ -19,7 +19,7 @@ use Rattle.dispatcher.specs.Pointing.{TouchesAre}
 use Rattle.dispatcher.specs.Input.{InputIs}
 use Rattle.dispatcher.specs.Knows.{Kept, KeyingIs, KeptStandsFor}
 use Rattle.dispatcher.specs.Staying.{delivery_of}
-use Rattle.dispatcher.specs.ReadLaws.{SameBut, RoomLaw, LetGoLaw, NamingsGoLaw}
+use Rattle.dispatcher.specs.ReadLaws.{SameBut, RoomLaw, ReleaseLaw, AnrsGoLaw}
 use Rattle.dispatcher.proofs.Slices.{channel_set, set_as_many, index-map}
 
 -- what is kept of a channel does not depend on its room
@@ -30,7 +30,7 @@ keeps_room es c n s k = record { is = ap {A = ChannelState} (λ t. record t { sp
 abbrev pub bare_channel : ChannelState → ChannelState
 bare_channel s = record s { spare = 0 }
 
--- what was told, but for its room
+-- what was sent, but for its room
 abbrev pub bare_input : Tracked → Tracked
 bare_input i = record i { spare = 0 }
 
@@ -43,9 +43,9 @@ same_channel t u c e =
 
 pub same_input : (t u : Table) (w : ℕ) → but_for_room u ≡ but_for_room t → bare_input (input_of u w) ≡ bare_input (input_of t w)
 same_input t u w e =
-    sym (index-map bare_input u.inputs (w - 1) untold)
-    ∙ ap (λ x. slice_index_or x.inputs (w - 1) untold) e
-    ∙ index-map bare_input t.inputs (w - 1) untold
+    sym (index-map bare_input u.inputs (w - 1) unsent)
+    ∙ ap (λ x. slice_index_or x.inputs (w - 1) unsent) e
+    ∙ index-map bare_input t.inputs (w - 1) unsent
 
 same_count : (t u : Table) → but_for_room u ≡ but_for_room t → opened u ≡ opened t
 same_count t u e = sym (length-map u.channels bare_channel) ∙ ap (λ x. length x.channels) e ∙ length-map t.channels bare_channel
@@ -62,7 +62,7 @@ delivery_bare es t u e is =
           keeps_bare es c (channel_of t c) (channel_of u c) (same_channel t u c e) (is.keeps c from (subst (λ n. c ≤ n) (same_count t u e) to));
       live_is = ap mask_has (ap (λ x. x.live) e) ∙ is.live_is;
       able_is = ap mask_has (ap (λ x. x.able) e) ∙ is.able_is;
-      noted_is = subst (NotedIs (namings es)) (sym (ap (λ x. x.namings) e)) is.noted_is;
+      noted_is = subst (NotedIs (anrs es)) (sym (ap (λ x. x.anrs) e)) is.noted_is;
     }
 
 input_bare : (ds : List ℕ) (es : List Effect) (w : ℕ) (i j : Tracked) → bare_input j ≡ bare_input i → InputIs ds es w i → InputIs ds es w j
@@ -99,8 +99,8 @@ room_law ds es k later t u s same e f g h room =
     (λ w y. input_bare ds es w (k.inputs w) (later.inputs w)
     (ap (λ x. bare_input (x w)) h ∙ same_input t u w room ∙ ap (λ x. bare_input (x w)) (sym f)) (s.knows.inputs w y))
 
-pub let_go_law : LetGoLaw
-let_go_law ds es k later t u c gone s same e g h from to keeps becomes =
+pub release_law : ReleaseLaw
+release_law ds es k later t u c gone s same e g h from to keeps becomes =
     let is : DeliveryIs es (delivery_of t) = subst (DeliveryIs es) e s.knows.delivery in
     let v = with_channel c gone t in
     let set : (b : ℕ) → 1 ≤ b → channel_of v b ≡ cond (b == c) gone (channel_of t b) = λ b low. channel_set t b c gone low from to in
@@ -119,14 +119,14 @@ let_go_law ds es k later t u c gone s same e g h from to keeps becomes =
     by_number es t c gone b is keeps low high true q = subst (λ v. Holds es v gone) (sym (eqb-true b c q)) keeps
     by_number es t c gone b is keeps low high false q = is.keeps b low high
 
-pub namings_go_law : NamingsGoLaw
-namings_go_law ds es k later t u s same e g h becomes =
+pub anrs_go_law : AnrsGoLaw
+anrs_go_law ds es k later t u s same e g h becomes =
     let is : DeliveryIs es (delivery_of t) = subst (DeliveryIs es) e s.knows.delivery in
-    let noted = noted_go (namings es) t.namings is.noted_is in
-    let v : Table = record t { namings = noted_gone t.namings } in
+    let noted = noted_go (anrs es) t.anrs is.noted_is in
+    let v : Table = record t { anrs = noted_gone t.anrs } in
     let delivery : DeliveryIs es (delivery_of v) =
     record { count_is = is.count_is; keeps = is.keeps; live_is = is.live_is; able_is = is.able_is; noted_is = noted.0 } in (
       same_knows ds es k later s same (subst (DeliveryIs es) (sym (g ∙ ap delivery_of becomes)) delivery)
           (λ w y. subst (λ f. InputIs ds es w (f w)) (sym h) (s.knows.inputs w y)),
-      ap (λ x. x.namings.gone) becomes ∙ noted.1,
+      ap (λ x. x.anrs.gone) becomes ∙ noted.1,
     )

@@ -6,7 +6,7 @@ use Rattle.window_snapshot.specs.Mask.{mask_has}
 use Rattle.input_channel.specs.State.{ChannelState, with_spare}
 use Rattle.cancel_synthesis.specs.Tracked.{with_spare as tracked_with_spare}
 use Rattle.cancel_synthesis.specs.Tracked.{Tracked}
-use Rattle.dispatch_channels.specs.Table.{Table, opened, channel_of, input_of, untold, with_channel, with_room, but_for_room, NoLessRoom}
+use Rattle.dispatch_channels.specs.Table.{Table, opened, channel_of, input_of, unsent, with_channel, with_room, but_for_room, NoLessRoom}
 use Rattle.dispatch_channels.proofs.Picking.{channel_low}
 use Rattle.dispatch_channels.proofs.Wholes.{channel_set_same}
 use Rattle.dispatch_round.proofs.Rooms.{no_less}
@@ -36,7 +36,7 @@ made_room n keys count cap c t u is low high many value small held fits =
     let channel : channel_of u c ≡ with_spare count (channel_of t c) =
     ap (λ (x : Table). channel_of x c) is ∙ channel_set_same t.channels c (with_spare count (channel_of t c)) low high in
     let input : input_of u c ≡ tracked_with_spare count (input_of t c) =
-    ap (λ (x : Table). input_of x c) is ∙ get_or-set_same t.inputs (c - 1) (tracked_with_spare count (input_of t c)) untold (omega (arith, low, high, many)) in
+    ap (λ (x : Table). input_of x c) is ∙ get_or-set_same t.inputs (c - 1) (tracked_with_spare count (input_of t c)) unsent (omega (arith, low, high, many)) in
     let spare : (channel_of u c).spare ≡ max count (channel_of t c).spare = ap (λ (s : ChannelState). s.spare) channel in
     let track_spare : (input_of u c).spare ≡ max count (input_of t c).spare = ap (λ (i : Tracked). i.spare) input in
     let keys_are : length (input_of u c).keys ≡ length (input_of t c).keys = ap (λ (i : Tracked). length i.keys) input in
@@ -90,10 +90,10 @@ pub live_same : (old new : Routing) → SameButRoom old new → new.channels.liv
 live_same old new same = ap (λ (r : Routing). r.channels.live) same.0
 
 -- a channel of which messages are let go keeps its room, where it is live
-pub let_go_room : (n c : ℕ) (r : Routing) (u : Table) (s : ChannelState) → u ≡ with_channel c s r.channels → 1 ≤ c → c ≤ opened r.channels
+pub release_room : (n c : ℕ) (r : Routing) (u : Table) (s : ChannelState) → u ≡ with_channel c s r.channels → 1 ≤ c → c ≤ opened r.channels
     → (mask_has r.channels.live c ≡ true → s.spare ≡ (channel_of r.channels c).spare)
     → HasPumpRoom n r → HasPumpRoom n (record r { channels = u })
-let_go_room n c r u s is from to spare roomy k lives =
+release_room n c r u s is from to spare roomy k lives =
     let live : u.live ≡ r.channels.live = ap (λ (x : Table). x.live) is in
     let alive = ap (λ l. mask_has l k) (sym live) ∙ lives in
     let had = roomy k alive in

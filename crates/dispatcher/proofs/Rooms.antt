@@ -9,7 +9,7 @@ use Rattle.cancel_synthesis.specs.Tracked.{Tracked}
 use Rattle.dispatch_history.specs.Effect.{Effect}
 use Rattle.dispatch_tables.specs.Channel.{Holds}
 use Rattle.dispatch_tables.specs.Delivery.{DeliveryIs}
-use Rattle.dispatch_channels.specs.Table.{Table, opened, channel_of, input_of, untold, but_for_room}
+use Rattle.dispatch_channels.specs.Table.{Table, opened, channel_of, input_of, unsent, but_for_room}
 use Rattle.dispatcher.specs.Queue.{Queue}
 use Rattle.dispatcher.specs.Shown.{Shown}
 use Rattle.dispatcher.specs.Input.{InputIs}
@@ -21,7 +21,7 @@ use Rattle.dispatcher.specs.Seen.{kept_of}
 abbrev pub bare : ChannelState → ChannelState
 bare s = record s { spare = 0 }
 
--- what a window was told, without its room
+-- what a window was sent, without its room
 abbrev pub bare_input : Tracked → Tracked
 bare_input i = record i { spare = 0 }
 
@@ -34,7 +34,7 @@ pub channel_bare : (t : Table) (c : ℕ) → channel_of (but_for_room t) c ≡ b
 channel_bare t c = map_or bare t.channels (c - 1) (opened_with 0) (opened_with 0) refl
 
 pub input_bare : (t : Table) (w : ℕ) → input_of (but_for_room t) w ≡ bare_input (input_of t w)
-input_bare t w = map_or bare_input t.inputs (w - 1) untold untold refl
+input_bare t w = map_or bare_input t.inputs (w - 1) unsent unsent refl
 
 pub opened_bare : (t : Table) → opened (but_for_room t) ≡ opened t
 opened_bare t = length-map t.channels bare

@@ -8,7 +8,7 @@ use Rattle.window_snapshot.specs.Mask.{mask_has}
 use Rattle.input_channel.specs.State.{ChannelState}
 use Rattle.cancel_synthesis.specs.Tracked.{Tracked, is_before, same_key, with_key, keys_after}
 use Rattle.cancel_synthesis.specs.Ends.{keys_cancelled, key_cancelled, of_device}
-use Rattle.cancel_synthesis.specs.Laws.{keys_told}
+use Rattle.cancel_synthesis.specs.Laws.{keys_sent}
 use Rattle.cancel_synthesis.proofs.KeyEnds.{device_keys_end}
 use Rattle.key_tables.specs.Held.{bodies_tracked}
 use Rattle.dispatch_channels.specs.Table.{Table, channel_of, input_of, but_for_room, NoLessRoom}
@@ -58,24 +58,24 @@ none held = record { with_them = omega arith; one_more = omega arith }
 one : (m : KeyMsg) (held : List KeyMsg) → IsModest (m ∷ []) held
 one m held = let h = after_length m held in record { with_them = omega (arith, h); one_more = h }
 
--- the target is told them, and no other window
-told_to : (target w : ℕ) (keys held : List KeyMsg) → (w ≡ target → IsModest keys held) → IsModest (keys_to target keys w) held
-told_to target w keys held h = elim (cases_eq w target) [
+-- the target is sent them, and no other window
+sent_to : (target w : ℕ) (keys held : List KeyMsg) → (w ≡ target → IsModest keys held) → IsModest (keys_to target keys w) held
+sent_to target w keys held h = elim (cases_eq w target) [
   | inl e ↦ subst (λ b. IsModest (cond b keys []) held) (sym (eq-eqb w target e)) (h e)
   | inr ne ↦ subst (λ b. IsModest (cond b keys []) held) (sym (ne_eqb w target ne)) (none held)
 ]
 
 pub modest_none : (target : ℕ) (t : Table) → AreModest target [] t
-modest_none target t = record { few = omega arith; each = λ w lives. told_to target w [] (input_of t w).keys (λ e. none (input_of t w).keys) }
+modest_none target t = record { few = omega arith; each = λ w lives. sent_to target w [] (input_of t w).keys (λ e. none (input_of t w).keys) }
 
 pub modest_one : (target : ℕ) (m : KeyMsg) (t : Table) → AreModest target (m ∷ []) t
 modest_one target m t =
-    record { few = omega arith; each = λ w lives. told_to target w (m ∷ []) (input_of t w).keys (λ e. one m (input_of t w).keys) }
+    record { few = omega arith; each = λ w lives. sent_to target w (m ∷ []) (input_of t w).keys (λ e. one m (input_of t w).keys) }
 
 -- the cancelled keys of a device
-tracked_told : (ms held : List KeyMsg) → bodies_tracked (map Key ms) held ≡ keys_told ms held
-tracked_told [] held = refl
-tracked_told (m ∷ ms) held = tracked_told ms (keys_after m held)
+tracked_sent : (ms held : List KeyMsg) → bodies_tracked (map Key ms) held ≡ keys_sent ms held
+tracked_sent [] held = refl
+tracked_sent (m ∷ ms) held = tracked_sent ms (keys_after m held)
 
 parts_length : (p : KeyMsg → Bool) (ls : List KeyMsg) → length (filter (λ l. not (p l)) ls) + length (filter p ls) ≡ length ls
 parts_length p [] = refl
@@ -89,7 +89,7 @@ parts_length p (l ∷ ls) = by_test (p l) (parts_length p ls)
 cancelled : (d : ℕ) (held : List KeyMsg) → IsModest (keys_cancelled (of_device d held)) held
 cancelled d held =
     let ups = keys_cancelled (of_device d held) in
-    let left : bodies_tracked (map Key ups) held ≡ filter (λ l. not (l.key.device == d)) held = tracked_told ups held ∙ device_keys_end d held in
+    let left : bodies_tracked (map Key ups) held ≡ filter (λ l. not (l.key.device == d)) held = tracked_sent ups held ∙ device_keys_end d held in
     let many : length (bodies_tracked (map Key ups) held) ≡ length (filter (λ l. not (l.key.device == d)) held) = ap length left in
     let as_many : length ups ≡ length (of_device d held) = length-map (of_device d held) key_cancelled in
     let all : length (filter (λ l. not (l.key.device == d)) held) + length (of_device d held) ≡ length held = parts_length (λ l. l.key.device == d) held in
@@ -105,7 +105,7 @@ modest_cancelled n list target d keys t lives roomy is =
     record {
       few = omega (arith, as_many, few, had.small);
       each = λ w alive.
-          told_to target w keys (input_of t w).keys
+          sent_to target w keys (input_of t w).keys
           (λ e. subst (λ v. IsModest keys (input_of t v).keys) (sym e) (subst (λ ks. IsModest ks held) (sym is) (cancelled d held)));
     }
 
@@ -121,16 +121,16 @@ pub most_room : (n list : ℕ) (r : Round) (t : Table) → IsRoomy (suc n) list 
     → (w : ℕ) → mask_has t.live w ≡ true → HasMostRoom r t w
 most_room n list r t roomy modest w lives =
     let had = roomy w lives in
-    let told = (modest.each w lives).with_them in
-    record { room = omega (arith, had.room, told); track_room = omega (arith, had.track_room, told) }
+    let outgoing = (modest.each w lives).with_them in
+    record { room = omega (arith, had.room, outgoing); track_room = omega (arith, had.track_room, outgoing) }
 
 -- what a round leaves
-pub round_roomy : (n list told : ℕ) (r : Round) (t m u : Table) → IsRoomy (suc n) list t → AreModest r.target r.keys.now t
-    → but_for_room m ≡ but_for_room t → NoLessRoom t m → ((w : ℕ) → mask_has told w ≡ true → IsFew r m w)
-    → ((w : ℕ) → mask_has told w ≡ true → Spends r w m u) → ((w : ℕ) → 1 ≤ w → mask_has told w ≡ false → IsLeft m u w)
+pub round_roomy : (n list outgoing : ℕ) (r : Round) (t m u : Table) → IsRoomy (suc n) list t → AreModest r.target r.keys.now t
+    → but_for_room m ≡ but_for_room t → NoLessRoom t m → ((w : ℕ) → mask_has outgoing w ≡ true → IsFew r m w)
+    → ((w : ℕ) → mask_has outgoing w ≡ true → Spends r w m u) → ((w : ℕ) → 1 ≤ w → mask_has outgoing w ≡ false → IsLeft m u w)
     → u.live ≡ m.live → IsRoomy n list u
-round_roomy n list told r t m u roomy modest same more few spends left live c lives =
-    elim (cases_Bool (mask_has told c)) [ inl y ↦ heard y | inr out ↦ quiet out ]
+round_roomy n list outgoing r t m u roomy modest same more few spends left live c lives =
+    elim (cases_Bool (mask_has outgoing c)) [ inl y ↦ heard y | inr out ↦ quiet out ]
   where
     alive : mask_has t.live c ≡ true
     alive = ap (λ l. mask_has l c) (sym (live ∙ ap (λ x. x.live) same)) ∙ lives
@@ -141,7 +141,7 @@ round_roomy n list told r t m u roomy modest same more few spends left live c li
     keys : (input_of m c).keys ≡ (input_of t c).keys
     keys = keys_same t m c same
 
-    heard : mask_has told c ≡ true → HasRoomFor n list (channel_of u c) (input_of u c)
+    heard : mask_has outgoing c ≡ true → HasRoomFor n list (channel_of u c) (input_of u c)
     heard y =
         let ks = keys_to r.target r.keys.now c in
         let spent = spends c y in
@@ -155,7 +155,7 @@ round_roomy n list told r t m u roomy modest same more few spends left live c li
           list_room = omega (arith, had.list_room, kept.one_more, many);
         }
 
-    quiet : mask_has told c ≡ false → HasRoomFor n list (channel_of u c) (input_of u c)
+    quiet : mask_has outgoing c ≡ false → HasRoomFor n list (channel_of u c) (input_of u c)
     quiet out =
         let is = left c (channel_low t.live c alive) out in
         let many : length (input_of u c).keys ≡ length (input_of t c).keys = ap (λ (i : Tracked). length i.keys) is.1 ∙ ap length keys in

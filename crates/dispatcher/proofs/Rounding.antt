@@ -22,7 +22,7 @@ use Rattle.dispatch_history.specs.History.{clock, live, live_after, opened_after
 use Rattle.dispatch_history.specs.Queue.{args_of}
 use Rattle.dispatch_history.specs.Effect.{Effect, past_of}
 use Rattle.dispatch_history.specs.Effects.{step}
-use Rattle.dispatch_history.specs.Focus.{focus_told}
+use Rattle.dispatch_history.specs.Focus.{focus_sent}
 use Rattle.dispatch_history.specs.PointerOf.{RisesIn}
 use Rattle.dispatch_history.specs.Reply.{reply_to}
 use Rattle.dispatch_history.specs.Step.{scene}
@@ -31,27 +31,27 @@ use Rattle.dispatch_tables.specs.Channel.{Untouched, part_of, with_part}
 use Rattle.dispatch_tables.specs.Masks.{live_mask_after, able_mask_after}
 use Rattle.dispatch_tables.specs.Delivery.{DeliveryIs, noted_after}
 use Rattle.dispatch_tables.proofs.Lawfuls.{lawful_step}
-use Rattle.key_tables.specs.Focused.{FocusIs, change_of, change_told}
-use Rattle.key_tables.specs.Held.{key_messages, target_told}
+use Rattle.key_tables.specs.Focused.{FocusIs, change_of, change_sent}
+use Rattle.key_tables.specs.Held.{key_messages, target_sent}
 use Rattle.key_tables.proofs.Focusing.{focused_reads}
 use Rattle.dispatch_channels.specs.Table.{Table, opened, channel_of, input_of, but_for_room}
 use Rattle.dispatch_round.specs.declared.round.Round.{Round}
-use Rattle.dispatch_round.specs.Rounds.{IsStepIn, IsRound, AllHoldPointers, told_in}
-use Rattle.dispatch_round.specs.Told.{TellsAll}
+use Rattle.dispatch_round.specs.Rounds.{IsStepIn, IsRound, AllHoldPointers, sent_in}
+use Rattle.dispatch_round.specs.Outgoing.{SendsAll}
 use Rattle.dispatcher.specs.Pointing.{step_at}
 use Rattle.dispatcher.specs.Input.{InputIs}
 use Rattle.dispatcher.specs.Knows.{Kept, KeptStandsFor}
 use Rattle.dispatcher.specs.Staying.{delivery_of}
-use Rattle.dispatcher.specs.Telling.{parted_in, is_telling, told_target, AreKeys, TellsFocus, GoesRound}
+use Rattle.dispatcher.specs.Sending.{parted_in, is_sending, sent_target, AreKeys, SendsFocus, GoesRound}
 use Rattle.dispatcher.specs.Tracking.{motions_at, bodies_at}
 use Rattle.dispatcher.specs.RoundLaws.{RoundLaw}
 use Rattle.dispatcher.proofs.ShownLaws.{shown_law, touches_scene_law}
 use Rattle.dispatcher.proofs.Replies.{kept_live}
 use Rattle.dispatcher.proofs.OwnerLaws.{clock_next}
 use Rattle.dispatcher.proofs.Refocusing.{focus_goes}
-use Rattle.dispatcher.proofs.KeysTold.{keys_round, repeat_round}
+use Rattle.dispatcher.proofs.KeysSent.{keys_round, repeat_round}
 use Rattle.dispatcher.proofs.RoomLaws.{room_law, same_input}
-use Rattle.dispatcher.proofs.Telling.{Parts, lives_then, tells_goes}
+use Rattle.dispatcher.proofs.Sending.{Parts, lives_then, sends_goes}
 
 -- the mark of a round is that of the step
 round_mark : (s : Scene) (e : Step) (ts : List Touches) (k : Mark) (o : Option Motion) (watchers : ℕ) → Stands s ts → IsStepIn s ts k o watchers e
@@ -61,31 +61,31 @@ round_mark s e ts k None watchers stands is = other_law s ts k e stands is
 
 -- a change of the focus, by the masks of who loses and who gains it
 change_at : (lost gained w : ℕ) (f g : Bool) → mask_has lost w ≡ (f && not g) → mask_has gained w ≡ (g && not f)
-    → change_told (change_of lost gained w) ≡ focus_told f g
-change_at lost gained w f g p q = ap₂ (λ x y. change_told (cond x (Some false) (cond y (Some true) None))) p q ∙ by_bits f g
+    → change_sent (change_of lost gained w) ≡ focus_sent f g
+change_at lost gained w f g p q = ap₂ (λ x y. change_sent (cond x (Some false) (cond y (Some true) None))) p q ∙ by_bits f g
   where
-    by_bits : (f g : Bool) → change_told (cond (f && not g) (Some false) (cond (g && not f) (Some true) None)) ≡ focus_told f g
+    by_bits : (f g : Bool) → change_sent (cond (f && not g) (Some false) (cond (g && not f) (Some true) None)) ≡ focus_sent f g
     by_bits true true = refl
     by_bits true false = refl
     by_bits false true = refl
     by_bits false false = refl
 
 -- what a round tells a live window is what the step tells it
-round_told : (ds : List ℕ) (call : Call) (answer : Reply) (es : List Effect) (k : Kept) (later : FocusState) (r : Round) (alive w : ℕ)
+round_sent : (ds : List ℕ) (call : Call) (answer : Reply) (es : List Effect) (k : Kept) (later : FocusState) (r : Round) (alive w : ℕ)
     → Lawful ds (step ds call answer es) → KeptStandsFor ds es k → FocusIs (step ds call answer es) later
     → ((c : ℕ) → mask_has alive c ≡ live (past_of (step ds call answer es)) c)
-    → AreKeys (target_of k.focus) alive (told_target call answer k later) r.target r.keys.now
-    → TellsFocus r.lost r.gained alive k.focus later
+    → AreKeys (target_of k.focus) alive (sent_target call answer k later) r.target r.keys.now
+    → SendsFocus r.lost r.gained alive k.focus later
     → live (past_of (step ds call answer es)) w ≡ true
-    → told_in r (scene ds es) (step_at call answer es) w ≡ bodies_at ds call answer es w
-round_told ds call answer es k later r alive w l s next lives keys changes y =
+    → sent_in r (scene ds es) (step_at call answer es) w ≡ bodies_at ds call answer es w
+round_sent ds call answer es k later r alive w l s next lives keys changes y =
     let c = changes w (lives w ∙ y) in
     let f = is_focused (focus_of k.focus) w in
     let g = is_focused (focus_of later) w in
-    ap (λ ks. map MotionBody (motions_at ds call answer es w) ++ map Key ks ++ change_told (change_of r.lost r.gained w))
+    ap (λ ks. map MotionBody (motions_at ds call answer es w) ++ map Key ks ++ change_sent (change_of r.lost r.gained w))
     (keys_round ds call answer es k later alive r.target r.keys.now w l s next lives keys y)
     ∙ ap (λ bs. map MotionBody (motions_at ds call answer es w) ++ map Key (key_messages call answer es w) ++ bs)
-    (change_at r.lost r.gained w f g c.0 c.1 ∙ ap₂ focus_told (focused_reads es k.focus s.knows.keying.focus_is w) (focused_reads (step ds call answer es) later next w))
+    (change_at r.lost r.gained w f g c.0 c.1 ∙ ap₂ focus_sent (focused_reads es k.focus s.knows.keying.focus_is w) (focused_reads (step ds call answer es) later next w))
 
 -- the premises of a round, by what becomes of the channels before it
 pub record RoundOf (ds : List ℕ) (call : Call) (answer : Reply) (es : List Effect) (k later : Kept) (r : Round) (t p u : Table) (changed : ℕ) : Type 0 where
@@ -95,7 +95,7 @@ pub record RoundOf (ds : List ℕ) (call : Call) (answer : Reply) (es : List Eff
   pub rises : RisesIn call
   pub goes : GoesRound call answer r p.live k later
   pub step_is : IsStepIn (scene ds es) k.touches r.mark (option_copied r.motion) r.watchers (step_at call answer es)
-  pub tells : (s : Scene) (e : Step) → IsRound s e k.touches r → AllHoldPointers s p → TellsAll changed (told_in r s e) k.shown.origins later.queue.clock p u
+  pub sends : (s : Scene) (e : Step) → IsRound s e k.touches r → AllHoldPointers s p → SendsAll changed (sent_in r s e) k.shown.origins later.queue.clock p u
   pub delivery_is : later.delivery ≡ delivery_of u
   pub inputs_are : later.inputs ≡ input_of u
 
@@ -113,7 +113,7 @@ round_goes ds call answer es k later r t p u changed new o x =
     let focus_is : FocusIs (step ds call answer es) later.focus =
     focus_goes ds call answer es k.focus later.focus later.shown.windows p.live o.stands.knows.keying.focus_is
     (shown_law ds call answer es k.shown later.shown o.stands.knows.shown o.goes.shown).windows_are lives o.goes.focus in
-    tells_goes ds call answer es k later (told_in r s e) t p u changed new
+    sends_goes ds call answer es k later (sent_in r s e) t p u changed new
     (record {
       stands = o.stands;
       delivery_was = o.delivery_was;
@@ -131,9 +131,9 @@ round_goes ds call answer es k later r t p u changed new o x =
       repeat_is =
           repeat_round ds call answer es k later.focus later.repeat p.live later.queue.clock r.target r.keys.now lawful o.stands focus_is lives at o.goes.keys
           o.goes.repeat_is;
-      told_is = λ w y. round_told ds call answer es k later.focus r p.live w lawful o.stands focus_is lives o.goes.keys o.goes.changes y;
-      tells =
-          o.tells s e (record { stands = stands; step_is = o.step_is })
+      sent_is = λ w y. round_sent ds call answer es k later.focus r p.live w lawful o.stands focus_is lives o.goes.keys o.goes.changes y;
+      sends =
+          o.sends s e (record { stands = stands; step_is = o.step_is })
           (λ w y. (x.inputs w (sym (lives w) ∙ y)).pointers_are);
       delivery_is = o.delivery_is;
       inputs_are = o.inputs_are;
@@ -150,10 +150,10 @@ pub record Stay (call : Call) (answer : Reply) (now : ℕ) (t : Table) : Type 0 
   pub untouched : (c : ℕ) → part_of call answer c ≡ Untouched
   pub live_is : (parted_in call answer now t).live ≡ live_mask_after call answer t.live
   pub able_is : (late : ℕ → Bool) → (parted_in call answer now t).able ≡ able_mask_after call answer late t.able
-  pub noted_is : (parted_in call answer now t).namings ≡ noted_after answer now (delivery_of t)
+  pub noted_is : (parted_in call answer now t).anrs ≡ noted_after answer now (delivery_of t)
   pub was_live : (c : ℕ) (b : Bool) → live_after call answer c b ≡ true → b ≡ true
 
-pub stay : (call : Call) (answer : Reply) (now : ℕ) (t : Table) → is_telling call answer ≡ true → Stay call answer now t
+pub stay : (call : Call) (answer : Reply) (now : ℕ) (t : Table) → is_sending call answer ≡ true → Stay call answer now t
 stay (Remove at k) Done now t e =
     record { as_many = refl; channels = refl; inputs = refl; untouched = λ c. refl; live_is = refl; able_is = λ f. refl; noted_is = refl; was_live = λ c b x. (and_parts (not (c == k)) b x).1 }
 stay (Tick at) (Named mask) now t e =
@@ -170,26 +170,26 @@ stay (Pilfer at k d) Done now t e =
     record { as_many = refl; channels = refl; inputs = refl; untouched = λ c. refl; live_is = refl; able_is = λ f. refl; noted_is = refl; was_live = λ c b x. x }
 stay call answer now t e = absurd (true≢false (sym e))
 
--- what the key target is told does not depend on the room of the channels
+-- what the key target is sent does not depend on the room of the channels
 same_target : (call : Call) (answer : Reply) (k : Kept) (later : FocusState) (t u : Table) (w : ℕ) → k.delivery ≡ delivery_of t → k.inputs ≡ input_of t
     → but_for_room u ≡ but_for_room t
-    → told_target call answer k later w ≡ told_target call answer (record k { delivery = delivery_of u; inputs = input_of u }) later w
+    → sent_target call answer k later w ≡ sent_target call answer (record k { delivery = delivery_of u; inputs = input_of u }) later w
 same_target call answer k later t u w e f room =
     let able : k.delivery.able ≡ u.able = ap (λ d. d.able) e ∙ sym (ap (λ x. x.able) room) in
     let keys : (k.inputs w).keys ≡ (input_of u w).keys = ap (λ g. (g w).keys) f ∙ sym (ap (λ i. i.keys) (same_input t u w room)) in
-    ap (λ a. target_told call answer (args_of call answer k.queue.waiting) w (mask_has a w) (is_at (target_of later) w) (k.inputs w).keys k.repeat) able
-    ∙ ap (λ ks. target_told call answer (args_of call answer k.queue.waiting) w (mask_has u.able w) (is_at (target_of later) w) ks k.repeat) keys
+    ap (λ a. target_sent call answer (args_of call answer k.queue.waiting) w (mask_has a w) (is_at (target_of later) w) (k.inputs w).keys k.repeat) able
+    ∙ ap (λ ks. target_sent call answer (args_of call answer k.queue.waiting) w (mask_has u.able w) (is_at (target_of later) w) ks k.repeat) keys
 
-same_keys : (o : Option ℕ) (alive : ℕ) (told other : ℕ → List KeyMsg) (channel : ℕ) (keys : List KeyMsg) → ((w : ℕ) → told w ≡ other w)
-    → AreKeys o alive told channel keys → AreKeys o alive other channel keys
-same_keys None alive told other channel keys same a = a
-same_keys (Some t) alive told other channel keys same a = (a.0, λ y. a.1 y ∙ same t)
+same_keys : (o : Option ℕ) (alive : ℕ) (outgoing other : ℕ → List KeyMsg) (channel : ℕ) (keys : List KeyMsg) → ((w : ℕ) → outgoing w ≡ other w)
+    → AreKeys o alive outgoing channel keys → AreKeys o alive other channel keys
+same_keys None alive outgoing other channel keys same a = a
+same_keys (Some t) alive outgoing other channel keys same a = (a.0, λ y. a.1 y ∙ same t)
 
 pub round_law : RoundLaw
-round_law ds call answer es k later r first t u changed stands e f room reply rises telling goes is tells g h =
+round_law ds call answer es k later r first t u changed stands e f room reply rises sending goes is sends g h =
     let k' : Kept = record k { delivery = delivery_of t; inputs = input_of t } in
     let p = parted_in call answer later.queue.clock t in
-    let x = stay call answer later.queue.clock t telling in
+    let x = stay call answer later.queue.clock t sending in
     let now_stands : KeptStandsFor ds es k' =
     room_law ds es k k' first t stands (record { queue_is = refl; shown_is = refl; touches_are = refl; focus_is = refl; repeat_is = refl }) e f refl refl room in
     let was : DeliveryIs es (delivery_of t) = now_stands.knows.delivery in
@@ -207,12 +207,12 @@ round_law ds call answer es k later r first t u changed stands e f room reply ri
             focus = goes.focus;
             changes = goes.changes;
             keys =
-                same_keys (target_of k.focus) p.live (told_target call answer k later.focus) (told_target call answer k' later.focus) r.target r.keys.now
+                same_keys (target_of k.focus) p.live (sent_target call answer k later.focus) (sent_target call answer k' later.focus) r.target r.keys.now
                 (λ w. same_target call answer k later.focus first t w e f room) goes.keys;
             repeat_is = goes.repeat_is;
           };
       step_is = is;
-      tells = tells;
+      sends = sends;
       delivery_is = g;
       inputs_are = h;
     })

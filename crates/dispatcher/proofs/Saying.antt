@@ -8,7 +8,7 @@ use Rattle.input_types.specs.declared.motion.Motion.{Motion}
 use Rattle.dispatch_history.specs.History.{origin}
 use Rattle.dispatch_history.specs.Effect.{past_of}
 use Rattle.dispatch_history.specs.Effects.{step}
-use Rattle.dispatch_history.specs.Focus.{has_focus, focus_told}
+use Rattle.dispatch_history.specs.Focus.{has_focus, focus_sent}
 use Rattle.dispatch_history.specs.Said.{motion_from}
 use Rattle.dispatch_channels.specs.Heard.{body_from}
 use Rattle.key_tables.specs.Held.{key_messages}
@@ -25,7 +25,7 @@ keys_stay : (o : Pixel) (ks : List KeyMsg) (rest : List Body) → map (body_from
 keys_stay o [] rest = refl
 keys_stay o (k ∷ ks) rest = ap (λ bs. Key k ∷ bs) (keys_stay o ks rest)
 
-focus_stays : (o : Pixel) (a b : Bool) → map (body_from o) (focus_told a b) ≡ focus_told a b
+focus_stays : (o : Pixel) (a b : Bool) → map (body_from o) (focus_sent a b) ≡ focus_sent a b
 focus_stays o true true = refl
 focus_stays o true false = refl
 focus_stays o false true = refl
@@ -40,7 +40,7 @@ said_law ds call answer es w lives =
     let o = origin (past_of es) w in
     let ms = motions_at ds call answer es w in
     let ks = key_messages call answer es w in
-    let f = focus_told (has_focus (past_of es) w) (has_focus (past_of (step ds call answer es)) w) in
+    let f = focus_sent (has_focus (past_of es) w) (has_focus (past_of (step ds call answer es)) w) in
     said_parts ds call answer es w lives
     ∙ joined (map (λ m. MotionBody (motion_from o m)) ms) (map Key ks) f
     ∙ ap (λ bs. map (λ m. MotionBody (motion_from o m)) ms ++ (map Key ks ++ bs)) (sym (focus_stays o (has_focus (past_of es) w) (has_focus (past_of (step ds call answer es)) w)))

@@ -7,7 +7,7 @@ use Rattle.input_channel.specs.State.{ChannelState, enqueued}
 use Rattle.dispatch_tables.specs.Channel.{enqueued_all}
 use Rattle.dispatch_channels.specs.Heard.{body_from}
 use Rattle.dispatch_channels.specs.Table.{channel_of}
-use Rattle.dispatch_round.specs.Told.{origin_at}
+use Rattle.dispatch_round.specs.Outgoing.{origin_at}
 use Rattle.dispatcher.specs.RoundLaws.{GoneLaw}
 
 enqueued_gone : (bs : List Body) (now : ℕ) (s : ChannelState) → (enqueued_all bs now s).gone ≡ s.gone
@@ -15,10 +15,10 @@ enqueued_gone [] now s = refl
 enqueued_gone (b ∷ bs) now s = enqueued_gone bs now (enqueued b now s)
 
 pub gone_law : GoneLaw
-gone_law changed told origins now p u tells c from =
+gone_law changed outgoing origins now p u sends c from =
     elim (cases_Bool (mask_has changed c)) [
       | inl y ↦
-          ap (λ s. s.gone) (tells.changes c y)
-          ∙ enqueued_gone (map (body_from (origin_at origins c)) (told c)) now (channel_of p c)
-      | inr n ↦ ap (λ s. s.gone) (tells.stays c from n).0
+          ap (λ s. s.gone) (sends.changes c y)
+          ∙ enqueued_gone (map (body_from (origin_at origins c)) (outgoing c)) now (channel_of p c)
+      | inr n ↦ ap (λ s. s.gone) (sends.stays c from n).0
     ]

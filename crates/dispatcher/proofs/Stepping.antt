@@ -9,7 +9,7 @@ use Rattle.window_snapshot.specs.Named.{is_shown_on}
 use Rattle.window_snapshot.proofs.Masks.{mask_has-zero}
 use Rattle.routing_rules.specs.Scene.{stays}
 use Rattle.route_split.specs.Marking.{IsStepOf}
-use Rattle.route_split.specs.declared.mark.Mark.TheVariants.{Rests, Empty}
+use Rattle.route_split.specs.declared.mark.Mark.TheVariants.{NoOp, Empty}
 use Rattle.dispatch_calls.specs.declared.call.Call.TheVariants.{Pump}
 use Rattle.dispatch_calls.specs.declared.reply.Reply.TheVariants.{Dispatched}
 use Rattle.dispatch_history.specs.History.{snapshot}
@@ -52,7 +52,7 @@ pub other_steps : OtherStepsLaw
 other_steps ds es k s =
     record {
       resets = λ now d watchers e. subst (IsStepOf (Empty d)) (sym (dispatches ds es k now (Reset d) s e)) refl;
-      keys = λ now watchers a e. subst (IsStepOf Rests) (sym (dispatches ds es k now (KeyOfDevice a) s e)) tt;
+      keys = λ now watchers a e. subst (IsStepOf NoOp) (sym (dispatches ds es k now (KeyOfDevice a) s e)) tt;
       repeats = λ now watchers. tt;
       shows = λ now watchers mask next has w number.
           ap (λ ws. stays ws next w) (sym s.knows.shown.windows_are)

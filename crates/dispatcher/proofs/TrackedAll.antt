@@ -8,14 +8,14 @@ use Rattle.input_types.specs.declared.message.Body.TheVariants.{Motion as Motion
 use Rattle.input_types.specs.declared.motion.Motion.{Motion}
 use Rattle.input_types.specs.declared.pointer.Pointer.{Pointer}
 use Rattle.cancel_synthesis.specs.Tracked.{pointers_of, pointers_then, pointers_after}
-use Rattle.cancel_synthesis.specs.Laws.{pointers_told}
+use Rattle.cancel_synthesis.specs.Laws.{pointers_sent}
 use Rattle.routing_rules.specs.Given.{mark}
-use Rattle.routing_rules.specs.Told.{told, devices}
+use Rattle.routing_rules.specs.Outgoing.{outgoing, devices}
 use Rattle.dispatch_history.specs.Effect.{past_of}
 use Rattle.dispatch_history.specs.Effects.{step}
-use Rattle.dispatch_history.specs.Focus.{has_focus, focus_told}
+use Rattle.dispatch_history.specs.Focus.{has_focus, focus_sent}
 use Rattle.dispatch_history.specs.Step.{scene}
-use Rattle.dispatch_history.proofs.ToldMotions.{AllOf, told_of, Differ, devices_differ}
+use Rattle.dispatch_history.proofs.SentMotions.{AllOf, sent_of, Differ, devices_differ}
 use Rattle.key_tables.specs.Held.{key_messages}
 use Rattle.key_tables.proofs.Tracking.{bodies_tracked_law}
 use Rattle.dispatcher.specs.Pointing.{step_at}
@@ -38,8 +38,8 @@ others d e (m ∷ ms) ps n all =
     ap (λ b. pointers_tracked (map MotionBody ms) d (cond b (pointers_after m m.action ps) ps)) (ap (λ v. v == d) all.0 ∙ n)
     ∙ others d e ms ps n all.1
 
--- motions of the device are told to it
-own : (d : ℕ) (ms : List Motion) (ps : List Pointer) → AllOf d ms → pointers_tracked (map MotionBody ms) d ps ≡ pointers_told ms ps
+-- motions of the device are sent to it
+own : (d : ℕ) (ms : List Motion) (ps : List Pointer) → AllOf d ms → pointers_tracked (map MotionBody ms) d ps ≡ pointers_sent ms ps
 own d [] ps all = refl
 own d (m ∷ ms) ps all =
     ap (λ b. pointers_tracked (map MotionBody ms) d (cond b (pointers_after m m.action ps) ps)) (eq-eqb m.device d all.0)
@@ -49,7 +49,7 @@ keys_leave : (ks : List KeyMsg) (d : ℕ) (ps : List Pointer) → pointers_track
 keys_leave [] d ps = refl
 keys_leave (k ∷ ks) d ps = keys_leave ks d ps
 
-focus_leaves : (a b : Bool) (d : ℕ) (ps : List Pointer) → pointers_tracked (focus_told a b) d ps ≡ ps
+focus_leaves : (a b : Bool) (d : ℕ) (ps : List Pointer) → pointers_tracked (focus_sent a b) d ps ≡ ps
 focus_leaves true true d ps = refl
 focus_leaves true false d ps = refl
 focus_leaves false true d ps = refl
@@ -66,7 +66,7 @@ none_of_devices f d (e ∷ ds) ps all n =
     ∙ none_of_devices f d ds ps all p.1
 
 one_of_devices : (f : ℕ → List Motion) (d : ℕ) (ds : List ℕ) (ps : List Pointer) → ((e : ℕ) → AllOf e (f e)) → Differ ds → list_any (λ e. e == d) ds ≡ true
-    → pointers_tracked (map MotionBody (flat_map f ds)) d ps ≡ pointers_told (f d) ps
+    → pointers_tracked (map MotionBody (flat_map f ds)) d ps ≡ pointers_sent (f d) ps
 one_of_devices f d [] ps all differ h = absurd (true≢false (sym h))
 one_of_devices f d (e ∷ ds) ps all differ h =
     ap (λ bs. pointers_tracked bs d ps) (map_append (f e) (flat_map f ds))
@@ -75,8 +75,8 @@ one_of_devices f d (e ∷ ds) ps all differ h =
       | inl y ↦
           let q : e ≡ d = eqb-true e d y in
           ap (pointers_tracked (map MotionBody (flat_map f ds)) d)
-          (subst (λ v. pointers_tracked (map MotionBody (f v)) d ps ≡ pointers_told (f d) ps) (sym q) (own d (f d) ps (all d)))
-          ∙ none_of_devices f d ds (pointers_told (f d) ps) all (subst (λ v. list_any (λ x. x == v) ds ≡ false) q differ.0)
+          (subst (λ v. pointers_tracked (map MotionBody (f v)) d ps ≡ pointers_sent (f d) ps) (sym q) (own d (f d) ps (all d)))
+          ∙ none_of_devices f d ds (pointers_sent (f d) ps) all (subst (λ v. list_any (λ x. x == v) ds ≡ false) q differ.0)
       | inr n ↦
           ap (pointers_tracked (map MotionBody (flat_map f ds)) d) (others d e (f e) ps n (all e))
           ∙ one_of_devices f d ds ps all differ.1
@@ -107,10 +107,10 @@ tracks_all ds call answer es w old new t =
     record {
       pointers_are = λ d low high.
           t.pointers_are d
-          ∙ tracked_append (map MotionBody ms ++ map Key ks) (focus_told a b) d (pointers_of old d)
+          ∙ tracked_append (map MotionBody ms ++ map Key ks) (focus_sent a b) d (pointers_of old d)
           ∙ focus_leaves a b d (pointers_tracked (map MotionBody ms ++ map Key ks) d (pointers_of old d))
           ∙ tracked_append (map MotionBody ms) (map Key ks) d (pointers_of old d)
           ∙ keys_leave ks d (pointers_tracked (map MotionBody ms) d (pointers_of old d))
-          ∙ one_of_devices (told s e w) d devices (pointers_of old d) (λ v. told_of s e (mark s e) w v) devices_differ (is_listed_device d low high);
+          ∙ one_of_devices (outgoing s e w) d devices (pointers_of old d) (λ v. sent_of s e (mark s e) w v) devices_differ (is_listed_device d low high);
       keys_are = t.keys_are ∙ bodies_tracked_law ms ks a b old.keys;
     }

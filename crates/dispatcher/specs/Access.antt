@@ -5,14 +5,14 @@ use Rattle.input_types.specs.declared.message.Message.{Message}
 use Rattle.cancel_synthesis.specs.Tracked.{Tracked, pointers_of}
 use Rattle.routing_rules.specs.Marks.{held}
 use Rattle.routing_rules.specs.Pairs.{has}
-use Rattle.routing_rules.specs.Told.{listing}
+use Rattle.routing_rules.specs.Outgoing.{listing}
 use Rattle.key_tables.specs.Held.{KeysAre}
 use Rattle.dispatch_calls.specs.declared.reply.Reply.{Reply}
 use Rattle.dispatch_calls.specs.declared.reply.Reply.TheVariants.{Got}
 use Rattle.dispatch_history.specs.Delivery.{delivery, oldest}
 use Rattle.dispatch_history.specs.Effect.{Effect, past_of, stream, last}
 use Rattle.dispatch_history.specs.History.{opened}
-use Rattle.dispatch_history.specs.KeyTold.{repeat_due}
+use Rattle.dispatch_history.specs.KeySent.{repeat_due}
 use Rattle.dispatch_history.specs.Queue.{inbound}
 use Rattle.dispatch_history.specs.Step.{marks}
 use Rattle.dispatch_channels.specs.Table.{channel_of}
@@ -27,8 +27,8 @@ abbrev pub gone : Dispatching → ℕ → ℕ
 gone d c = (channel_of d.channels c).gone
 
 -- how many of the first namings were let go
-abbrev pub namings_gone : Dispatching → ℕ
-namings_gone d = d.channels.namings.gone
+abbrev pub anrs_released : Dispatching → ℕ
+anrs_released d = d.channels.anrs.gone
 
 -- the messages of a channel that was opened, but for those that were let go
 abbrev pub messages_of : List Effect → Dispatching → ℕ → Option (List Message)

@@ -16,6 +16,6 @@ reply_of Brief.Done = Reply.Done
 reply_of Brief.UnknownSeq = Reply.UnknownSeq
 
 -- the same where it may be want of memory
-abbrev pub told_of : Result Brief AllocError → Result Reply AllocError
-told_of (Ok brief) = Ok (reply_of brief)
-told_of (Err error) = Err error
+abbrev pub sent_of : Result Brief AllocError → Result Reply AllocError
+sent_of (Ok brief) = Ok (reply_of brief)
+sent_of (Err error) = Err error

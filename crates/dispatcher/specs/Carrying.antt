@@ -15,8 +15,8 @@ use Rattle.route_split.specs.Marking.{gives, taking}
 use Rattle.key_tables.specs.Repeats.{repeat_after}
 use Rattle.dispatch_channels.specs.Table.{Table, but_for_room}
 use Rattle.dispatch_round.specs.declared.round.Round.{Round}
-use Rattle.dispatch_round.specs.Rounds.{IsRound, AllHoldPointers, told_in, may_take}
-use Rattle.dispatch_round.specs.Told.{TellsAll}
+use Rattle.dispatch_round.specs.Rounds.{IsRound, AllHoldPointers, sent_in, may_take}
+use Rattle.dispatch_round.specs.Outgoing.{SendsAll}
 use Rattle.dispatcher.specs.declared.tables.Routing.{Routing}
 use Rattle.dispatcher.specs.Keying.{target_number}
 use Rattle.dispatcher.specs.Tables.{LetsNoneGo}
@@ -25,18 +25,18 @@ use Rattle.dispatcher.specs.Tables.{LetsNoneGo}
 abbrev pub TakesMark : Mark → (place : ℕ) → (old new : List Touches) → Type 0
 TakesMark mark place old new = ChangesAll old new (gives mark) (takes (taking old mark)) place (pilfers (taking old mark))
 
--- Channels of a mask are told what the rules say of a step, in whichever scene it is the step of this round, and no other is told
+-- Channels of a mask are told what the rules say of a step, in whichever scene it is the step of this round, and no other is sent
 -- anything.
-pub record TellsRound (round : Round) (touches : List Touches) (origins : List Pixel) (clock : ℕ) (old new : Table) : Type 0 where
+pub record SendsRound (round : Round) (touches : List Touches) (origins : List Pixel) (clock : ℕ) (old new : Table) : Type 0 where
   pub changed : ℕ
-  pub tells :
+  pub sends :
       (s : Scene) (e : Step)
-      → IsRound s e touches round → AllHoldPointers s old → TellsAll changed (told_in round s e) origins clock old new
+      → IsRound s e touches round → AllHoldPointers s old → SendsAll changed (sent_in round s e) origins clock old new
 
--- a round is carried out: windows are told it, pointers change hands, and the last key message is kept
+-- a round is carried out: windows are sent it, pointers change hands, and the last key message is kept
 pub record CarriesOut (round : Round) (place clock : ℕ) (old new : Routing) : Type 0 where
   pub touches : TakesMark round.mark place old.touches new.touches
-  pub channels : TellsRound round old.touches old.shown.origins clock old.channels new.channels
+  pub channels : SendsRound round old.touches old.shown.origins clock old.channels new.channels
   pub gone_are : LetsNoneGo old.channels new.channels
   pub repeat_is : new.repeat ≡ repeat_after clock round.target round.keys.now old.repeat
   pub displays_are : new.displays ≡ old.displays
@@ -49,7 +49,7 @@ pub record CarriesFrom (round : Round) (place clock : ℕ) (old new : Routing) :
   pub same : but_for_room mid ≡ but_for_room old.channels
   pub carries : CarriesOut round place clock (record old { channels = mid }) new
 
--- what a round is: its mark, its motion, the key target and what that is told, and who loses and gains the focus
+-- what a round is: its mark, its motion, the key target and what that is sent, and who loses and gains the focus
 pub record IsOf (mark : Mark) (motion : Option Motion) (target : ℕ) (keys : List KeyMsg) (lost gained : ℕ) (r : Round) : Type 0 where
   pub mark_is : r.mark ≡ mark
   pub motion_is : option_copied r.motion ≡ motion

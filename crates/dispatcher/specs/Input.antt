@@ -1,7 +1,7 @@
--- What is kept of what a window was told and is not told the end of, and what a step makes of it.
+-- What is kept of what a window was sent and is not told the end of, and what a step makes of it.
 use Rattle.std.specs.Prelude.{◌≡◌, ℕ, List}
 use Rattle.cancel_synthesis.specs.Tracked.{Tracked}
-use Rattle.cancel_synthesis.specs.Laws.{keys_told}
+use Rattle.cancel_synthesis.specs.Laws.{keys_sent}
 use Rattle.dispatch_calls.specs.declared.call.Call.{Call}
 use Rattle.dispatch_calls.specs.declared.reply.Reply.{Reply}
 use Rattle.dispatch_history.specs.Effect.{Effect}
@@ -16,4 +16,4 @@ pub record InputIs (displays : List ℕ) (es : List Effect) (w : ℕ) (input : T
 -- it goes one step on: the motions and the key messages that the step tells the window are tracked
 pub record InputGoes (displays : List ℕ) (call : Call) (answer : Reply) (es : List Effect) (w : ℕ) (old new : Tracked) : Type 0 where
   pub pointers_are : PointersGo displays call answer es w old new
-  pub keys_are : new.keys ≡ keys_told (key_messages call answer es w) old.keys
+  pub keys_are : new.keys ≡ keys_sent (key_messages call answer es w) old.keys

@@ -19,7 +19,7 @@ use Rattle.dispatcher.specs.Shown.{Shown, ShownIs, ShownGoes}
 use Rattle.dispatcher.specs.Pointing.{TouchesAre, TouchesGo}
 use Rattle.dispatcher.specs.Input.{InputIs, InputGoes}
 
--- what a dispatcher keeps: the clock and the queue, the windows, who holds what, the channels with what the window of each was told
+-- what a dispatcher keeps: the clock and the queue, the windows, who holds what, the channels with what the window of each was sent
 -- and is not told the end of, the focus, and the last key message
 pub record Kept : Type 0 where
   pub queue : Queue

@@ -17,12 +17,12 @@ use Rattle.dispatch_history.specs.Effect.{Effect, past_of}
 use Rattle.dispatch_history.specs.Effects.{step, said_at}
 use Rattle.dispatch_history.specs.Reply.{reply_to, is_due}
 use Rattle.window_snapshot.specs.Mask.{mask_has}
-use Rattle.dispatch_tables.specs.Silent.{is_resting}
+use Rattle.dispatch_tables.specs.Silent.{is_no_op}
 use Rattle.dispatch_tables.specs.Delivery.{due_kept}
 use Rattle.dispatch_history.specs.Step.{scene}
 use Rattle.dispatch_tables.specs.Lawful.{Lawful}
 use Rattle.route_split.specs.Tables.{Stands}
-use Rattle.route_split.specs.Telling.{IsListed}
+use Rattle.route_split.specs.Sending.{IsListed}
 use Rattle.dispatcher.specs.Queue.{Queue, QueueIs, QueueGoes}
 use Rattle.dispatcher.specs.Shown.{Shown, ShownIs, ShownGoes}
 use Rattle.focus_resolver.specs.Resolver.{FocusState}
@@ -60,7 +60,7 @@ TouchesLaw =
 abbrev pub TouchesSceneLaw : Type 0
 TouchesSceneLaw = (displays : List ℕ) (es : List Effect) (ts : List Touches) → TouchesAre es ts → Stands (scene displays es) ts
 
--- So do the pointers of a window that was told them, and is live after the step.
+-- So do the pointers of a window that was sent them, and is live after the step.
 abbrev pub PointersLaw : Type 0
 PointersLaw =
     (displays : List ℕ) (call : Call) (answer : Reply) (es : List Effect) (w : ℕ) (old new : Tracked)
@@ -70,14 +70,14 @@ PointersLaw =
     → PointersAre displays es w old → PointersGo displays call answer es w old new
     → PointersAre displays (step displays call answer es) w new
 
--- A window that is not live holds nothing: nothing was told to one that is opened.
+-- A window that is not live holds nothing: nothing was sent to one that is opened.
 abbrev pub PointersFirst : Type 0
 PointersFirst =
     (displays : List ℕ) (es : List Effect) (w : ℕ) (input : Tracked)
     → Lawful displays es → live (past_of es) w ≡ false → ((d : ℕ) → pointers_of input d ≡ [])
     → PointersAre displays es w input
 
--- So does all that is kept of what a window was told and is not told the end of.
+-- So does all that is kept of what a window was sent and is not told the end of.
 abbrev pub InputLaw : Type 0
 InputLaw =
     (displays : List ℕ) (call : Call) (answer : Reply) (es : List Effect) (w : ℕ) (old new : Tracked)
@@ -138,7 +138,7 @@ RefusedLaw =
 abbrev pub KnowsFirst : Type 0
 KnowsFirst = (displays : List ℕ) (k : Kept) → IsFirst k → KeptStandsFor displays [] k
 
--- What a step tells a window, in display pixels and tracked body by body, is what it makes of what the window was told.
+-- What a step tells a window, in display pixels and tracked body by body, is what it makes of what the window was sent.
 abbrev pub TracksAllLaw : Type 0
 TracksAllLaw =
     (displays : List ℕ) (call : Call) (answer : Reply) (es : List Effect) (w : ℕ) (old new : Tracked)
@@ -163,11 +163,11 @@ TickReplyLaw =
 
 -- A step that leaves all channels as they are, and is said so in the queue and in the tables of touches, has what stands for the history
 -- with it.
-abbrev pub RestsLaw : Type 0
-RestsLaw =
+abbrev pub NoOpLaw : Type 0
+NoOpLaw =
     (displays : List ℕ) (call : Call) (answer : Reply) (es : List Effect) (k later : Kept)
     → KeptStandsFor displays es k → answer ≡ reply_to es call → RisesIn call
-    → is_resting call answer ≡ true → Stays call answer k later
+    → is_no_op call answer ≡ true → Stays call answer k later
     → KeptStandsFor displays (step displays call answer es) later
 
 -- A tick that names nobody leaves all as it is, too.

@@ -10,7 +10,7 @@ pub mod Replying
 pub mod Staying
 pub mod Laws
 pub mod OwnerLaws
-pub mod Telling
+pub mod Sending
 pub mod RoundLaws
 pub mod ReadLaws
 pub mod Queueing
@@ -23,6 +23,6 @@ pub mod Needing
 pub mod Access
 pub mod Keying
 pub mod Carrying
-pub mod Naming
+pub mod Anr
 pub mod Opening
 pub mod Roomy

@@ -4,10 +4,10 @@ use Rattle.window_snapshot.specs.Mask.{mask_with}
 use Rattle.focus_resolver.specs.Resolver.{FocusState, focus_of, is_focused}
 use Rattle.focus_resolver.specs.Changes.{IsOnlyIn}
 use Rattle.cancel_synthesis.specs.Tracked.{pointers_of}
-use Rattle.route_split.specs.declared.mark.Mark.TheVariants.{Rests}
+use Rattle.route_split.specs.declared.mark.Mark.TheVariants.{NoOp}
 use Rattle.dispatch_channels.specs.Table.{Table, channel_of, input_of}
 use Rattle.dispatch_round.specs.declared.round.Round.{Round}
-use Rattle.dispatcher.specs.Telling.{Refocuses}
+use Rattle.dispatcher.specs.Sending.{Refocuses}
 use Rattle.dispatcher.specs.declared.tables.Routing.{Routing}
 use Rattle.dispatcher.specs.Carrying.{IsOf, CarriesOut}
 use Rattle.dispatcher.specs.Keying.{target_number}
@@ -22,7 +22,7 @@ pub record IsWelcome (number : ℕ) (t : Table) : Type 0 where
 pub record Welcomes (number place clock : ℕ) (old new : Routing) : Type 0 where
   pub round : Round
   pub gained : ℕ
-  pub is : IsOf Rests None (target_number old.focus) [] 0 (bit_and gained (mask_with 0 number)) round
+  pub is : IsOf NoOp None (target_number old.focus) [] 0 (bit_and gained (mask_with 0 number)) round
   pub focus : FocusState
   pub refocuses : Refocuses old.shown.windows old.channels.live old.focus focus
   pub gains : IsOnlyIn gained (is_focused (focus_of focus)) (is_focused (focus_of old.focus))

@@ -7,8 +7,8 @@ use Rattle.routing_rules.specs.Marks.{Mark as RuleMark}
 use Rattle.routing_rules.specs.Given.{mark}
 use Rattle.routing_rules.specs.Taking.{takes, pilfers}
 use Rattle.routing_rules.specs.Scene.{Step}
-use Rattle.routing_rules.specs.Told.{listing, told}
-use Rattle.cancel_synthesis.specs.Laws.{pointers_told}
+use Rattle.routing_rules.specs.Outgoing.{listing, outgoing}
+use Rattle.cancel_synthesis.specs.Laws.{pointers_sent}
 use Rattle.cancel_synthesis.specs.Tracked.{Tracked, pointers_of}
 use Rattle.dispatch_history.specs.History.{snapshot}
 use Rattle.dispatch_history.specs.Queue.{inbound, args_of}
@@ -37,12 +37,12 @@ pub record TouchesGo (displays : List ℕ) (call : Call) (answer : Reply) (es : 
   pub is_mark : IsMark old by (mark_at displays call answer es)
   pub changes : ChangesAll old new (gives by) (takes (taking old by)) place (pilfers (taking old by))
 
--- what a window was told and is not told the end of are the pointers that it holds, at their last places
+-- what a window was sent and is not told the end of are the pointers that it holds, at their last places
 abbrev pub PointersAre : List ℕ → List Effect → ℕ → Tracked → Type 0
 PointersAre displays es w input = (d : ℕ) → 1 ≤ d → d ≤ 8 → pointers_of input d ≡ listing ((scene displays es).holds w d) (last es d)
 
--- what a window was told goes one step on in its pointers: what the step tells it of each device is tracked
+-- what a window was sent goes one step on in its pointers: what the step tells it of each device is tracked
 abbrev pub PointersGo : List ℕ → Call → Reply → List Effect → ℕ → (old new : Tracked) → Type 0
 PointersGo displays call answer es w old new =
     (d : ℕ) → 1 ≤ d → d ≤ 8
-    → pointers_of new d ≡ pointers_told (told (scene displays es) (step_at call answer es) w d) (pointers_of old d)
+    → pointers_of new d ≡ pointers_sent (outgoing (scene displays es) (step_at call answer es) w d) (pointers_of old d)

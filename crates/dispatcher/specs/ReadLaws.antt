@@ -8,7 +8,7 @@ use Rattle.key_repeat.specs.Due.{due_of}
 use Rattle.cancel_synthesis.specs.Tracked.{pointers_of}
 use Rattle.routing_rules.specs.Marks.{held, since, pilfering}
 use Rattle.routing_rules.specs.Pairs.{has, has_any}
-use Rattle.routing_rules.specs.Told.{listing}
+use Rattle.routing_rules.specs.Outgoing.{listing}
 use Rattle.window_snapshot.specs.Named.{is_shown_on}
 use Rattle.touch_state.specs.Touches.{Touches, since as since_in}
 use Rattle.route_split.specs.Tables.{table_of, holds_at, any_at, pilfering_at}
@@ -16,8 +16,8 @@ use Rattle.key_tables.specs.Held.{KeysAre}
 use Rattle.dispatch_history.specs.History.{clock, live, opened as opened_by, snapshot}
 use Rattle.dispatch_history.specs.Effect.{Effect, past_of, stream, last}
 use Rattle.dispatch_history.specs.Delivery.{able, delivery, oldest}
-use Rattle.dispatch_history.specs.Due.{counts, first_due, namings}
-use Rattle.dispatch_history.specs.KeyTold.{repeat_due}
+use Rattle.dispatch_history.specs.Due.{counts, first_due, anrs}
+use Rattle.dispatch_history.specs.KeySent.{repeat_due}
 use Rattle.dispatch_history.specs.Step.{marks}
 use Rattle.dispatch_tables.specs.Channel.{Holds}
 use Rattle.dispatch_tables.specs.Delivery.{noted_gone}
@@ -49,8 +49,8 @@ RoomLaw =
     → KeptStandsFor displays es later
 
 -- So do those of which messages of a channel are let go that may be, and what is left of it is the rest of its stream.
-abbrev pub LetGoLaw : Type 0
-LetGoLaw =
+abbrev pub ReleaseLaw : Type 0
+ReleaseLaw =
     (displays : List ℕ) (es : List Effect) (k later : Kept) (t u : Table) (c : ℕ) (s : ChannelState)
     → KeptStandsFor displays es k
     → SameBut k later
@@ -64,16 +64,16 @@ LetGoLaw =
     → KeptStandsFor displays es later × ((channel_of u c).messages ≡ drop s.gone (reverse (stream es c)))
 
 -- So do those of which the namings are let go.
-abbrev pub NamingsGoLaw : Type 0
-NamingsGoLaw =
+abbrev pub AnrsGoLaw : Type 0
+AnrsGoLaw =
     (displays : List ℕ) (es : List Effect) (k later : Kept) (t u : Table)
     → KeptStandsFor displays es k
     → SameBut k later
     → k.delivery ≡ delivery_of t
     → later.delivery ≡ delivery_of u
     → later.inputs ≡ k.inputs
-    → u ≡ record t { namings = noted_gone t.namings }
-    → KeptStandsFor displays es later × (u.namings.gone ≡ length (namings es))
+    → u ≡ record t { anrs = noted_gone t.anrs }
+    → KeptStandsFor displays es later × (u.anrs.gone ≡ length (anrs es))
 
 -- what is read of the channels
 pub record ReadsChannels (es : List Effect) (k : Kept) (t : Table) : Type 0 where
@@ -87,7 +87,7 @@ pub record ReadsChannels (es : List Effect) (k : Kept) (t : Table) : Type 0 wher
   pub oldest_is :
       (c : ℕ) → 1 ≤ c → c ≤ opened t
       → oldest_of (channel_of t c) ≡ option_map (λ m. (m.seq, delivery es c m.seq)) (oldest es c)
-  pub namings_are : t.namings.left ≡ drop t.namings.gone (namings es)
+  pub anrs_are : t.anrs.left ≡ drop t.anrs.gone (anrs es)
   pub dues_are : due_in_table t ≡ due_moment es
   pub first_is : (first : Option (ℕ × ℕ)) → IsFirst (due_in_table t) first → first_due es ≡ option_map due_pair first
 

@@ -31,15 +31,15 @@ pub record IsModest (keys held : List KeyMsg) : Type 0 where
   pub with_them : length (bodies_tracked (map Key keys) held) + length keys ≤ length held + 2
   pub one_more : length (bodies_tracked (map Key keys) held) ≤ length held + 1
 
--- and so what the key target is told leaves each live window
+-- and so what the key target is sent leaves each live window
 pub record AreModest (target : ℕ) (keys : List KeyMsg) (t : Table) : Type 0 where
   pub few : length keys < 2 ^ 31
   pub each : (w : ℕ) → mask_has t.live w ≡ true → IsModest (keys_to target keys w) (input_of t w).keys
 
--- Those of a mask that are told a round spend no more than the most that they may be told; the others are left, and so is who is live.
-pub record TakesRoom (told : ℕ) (r : Round) (old new : Table) : Type 0 where
-  pub spends : (w : ℕ) → mask_has told w ≡ true → Spends r w old new
-  pub left : (w : ℕ) → 1 ≤ w → mask_has told w ≡ false → IsLeft old new w
+-- Those of a mask that are sent a round spend no more than the most that they may be sent; the others are left, and so is who is live.
+pub record TakesRoom (outgoing : ℕ) (r : Round) (old new : Table) : Type 0 where
+  pub spends : (w : ℕ) → mask_has outgoing w ≡ true → Spends r w old new
+  pub left : (w : ℕ) → 1 ≤ w → mask_has outgoing w ≡ false → IsLeft old new w
   pub live_is : new.live ≡ old.live
 
 -- there is room for what n pumps tell, and in the list for the keys that they cancel

@@ -14,7 +14,7 @@ use Rattle.focus_resolver.specs.Resolver.{FocusState, is_focused, focus_of, targ
 use Rattle.routing_rules.specs.Scene.{Scene, Step, Moves, stays}
 use Rattle.routing_rules.specs.Given.{changed, mark as rule_mark}
 use Rattle.route_split.specs.declared.mark.Mark.{Mark}
-use Rattle.route_split.specs.declared.mark.Mark.TheVariants.{Rests, Empty, Pilfer as PilferMark, Unnamed, Mute, Forget}
+use Rattle.route_split.specs.declared.mark.Mark.TheVariants.{NoOp, Empty, Pilfer as PilferMark, Unnamed, Mute, Forget}
 use Rattle.route_split.specs.Marking.{IsMark}
 use Rattle.route_split.specs.Seen.{Sees}
 use Rattle.route_split.specs.Tables.{Stands}
@@ -35,12 +35,12 @@ use Rattle.dispatch_channels.specs.Heard.{body_from}
 use Rattle.dispatch_channels.specs.Table.{Table, channel_of, input_of, but_for_room}
 use Rattle.dispatch_channels.specs.Changes.{Opens}
 use Rattle.dispatch_round.specs.declared.round.Round.{Round}
-use Rattle.dispatch_round.specs.Rounds.{IsStepIn, IsRound, AllHoldPointers, told_in}
-use Rattle.dispatch_round.specs.Told.{TellsAll}
+use Rattle.dispatch_round.specs.Rounds.{IsStepIn, IsRound, AllHoldPointers, sent_in}
+use Rattle.dispatch_round.specs.Outgoing.{SendsAll}
 use Rattle.dispatcher.specs.Pointing.{step_at}
 use Rattle.dispatcher.specs.Knows.{Kept, KeptStandsFor}
 use Rattle.dispatcher.specs.Staying.{delivery_of}
-use Rattle.dispatcher.specs.Telling.{parted_in, is_telling, told_target, AreKeys, TellsFocus, Refocuses, OpensWith, GoesRound, GoesRemoved}
+use Rattle.dispatcher.specs.Sending.{parted_in, is_sending, sent_target, AreKeys, SendsFocus, Refocuses, OpensWith, GoesRound, GoesRemoved}
 use Rattle.dispatcher.specs.Tracking.{bodies_at}
 
 -- What a step says to a window that is live after it is what it tells it, with the places counted from the origin of the window.
@@ -61,13 +61,13 @@ RoundLaw =
     → but_for_room t ≡ but_for_room first
     → answer ≡ reply_to es call
     → RisesIn call
-    → is_telling call answer ≡ true
+    → is_sending call answer ≡ true
     → GoesRound call answer r (parted_in call answer later.queue.clock t).live k later
     → IsStepIn (scene displays es) k.touches r.mark (option_copied r.motion) r.watchers (step_at call answer es)
     → ((s : Scene) (e : Step)
     → IsRound s e k.touches r
     → AllHoldPointers s (parted_in call answer later.queue.clock t)
-    → TellsAll changed (told_in r s e) k.shown.origins later.queue.clock (parted_in call answer later.queue.clock t) u)
+    → SendsAll changed (sent_in r s e) k.shown.origins later.queue.clock (parted_in call answer later.queue.clock t) u)
     → later.delivery ≡ delivery_of u
     → later.inputs ≡ input_of u
     → KeptStandsFor displays (step displays call answer es) later
@@ -75,8 +75,8 @@ RoundLaw =
 -- A round lets no messages go.
 abbrev pub GoneLaw : Type 0
 GoneLaw =
-    (changed : ℕ) (told : ℕ → List Body) (origins : List Pixel) (clock : ℕ) (old new : Table)
-    → TellsAll changed told origins clock old new
+    (changed : ℕ) (outgoing : ℕ → List Body) (origins : List Pixel) (clock : ℕ) (old new : Table)
+    → SendsAll changed outgoing origins clock old new
     → (c : ℕ)
     → 1 ≤ c
     → (channel_of new c).gone ≡ (channel_of old c).gone
@@ -93,7 +93,7 @@ OpenLaw =
     → GoesRound (Open limit) (Opened number) r p.live k later
     → IsStepIn (scene displays es) k.touches r.mark (option_copied r.motion) r.watchers (step_at (Open limit) (Opened number) es)
     → ((s : Scene) (e : Step)
-    → IsRound s e k.touches r → AllHoldPointers s p → TellsAll changed (told_in r s e) k.shown.origins later.queue.clock p u)
+    → IsRound s e k.touches r → AllHoldPointers s p → SendsAll changed (sent_in r s e) k.shown.origins later.queue.clock p u)
     → later.delivery ≡ delivery_of u
     → later.inputs ≡ input_of u
     → KeptStandsFor displays (step displays (Open limit) (Opened number) es) later
@@ -112,16 +112,16 @@ OpenFocusLaw =
     → mask_has k.delivery.live number ≡ false
     → Refocuses k.shown.windows (mask_with k.delivery.live number) k.focus later
     → IsOnlyIn gained (is_focused (focus_of later)) (is_focused (focus_of k.focus))
-    → TellsFocus 0 (bit_and gained (mask_with 0 number)) (mask_with k.delivery.live number) k.focus later
+    → SendsFocus 0 (bit_and gained (mask_with 0 number)) (mask_with k.delivery.live number) k.focus later
 
--- The key target stays, and is told nothing of keys.
+-- The key target stays, and is sent nothing of keys.
 abbrev pub OpenKeysLaw : Type 0
 OpenKeysLaw =
     (displays : List ℕ) (es : List Effect) (k : Kept) (later : FocusState) (limit number channel : ℕ)
     → KeptStandsFor displays es k
     → Refocuses k.shown.windows (mask_with k.delivery.live number) k.focus later
     → ((t : ℕ) → target_of k.focus ≡ Some t → channel ≡ t)
-    → AreKeys (target_of k.focus) (mask_with k.delivery.live number) (told_target (Open limit) (Opened number) k later) channel []
+    → AreKeys (target_of k.focus) (mask_with k.delivery.live number) (sent_target (Open limit) (Opened number) k later) channel []
 
 -- The key target is live.
 abbrev pub TargetLiveLaw : Type 0
@@ -129,7 +129,7 @@ TargetLiveLaw =
     (displays : List ℕ) (es : List Effect) (k : Kept) (t : ℕ)
     → KeptStandsFor displays es k → target_of k.focus ≡ Some t → mask_has k.delivery.live t ≡ true
 
--- The same of a step that removes a channel: nobody is told anything.
+-- The same of a step that removes a channel: nobody is sent anything.
 abbrev pub RemoveLaw : Type 0
 RemoveLaw =
     (displays : List ℕ) (now channel : ℕ) (es : List Effect) (k later : Kept) (t : Table)
@@ -170,16 +170,16 @@ pub record OtherSteps (displays : List ℕ) (es : List Effect) (k : Kept) : Type
       → IsStepIn (scene displays es) k.touches (Empty d) None watchers (step_at (Pump now) Dispatched es)
   pub keys :
       (now watchers : ℕ) (a : KeyArgs) → slice_get k.queue.waiting 0 ≡ Some (KeyOfDevice a)
-      → IsStepIn (scene displays es) k.touches Rests None watchers (step_at (Pump now) Dispatched es)
-  pub repeats : (now watchers : ℕ) → IsStepIn (scene displays es) k.touches Rests None watchers (step_at (Pump now) Repeated es)
+      → IsStepIn (scene displays es) k.touches NoOp None watchers (step_at (Pump now) Dispatched es)
+  pub repeats : (now watchers : ℕ) → IsStepIn (scene displays es) k.touches NoOp None watchers (step_at (Pump now) Repeated es)
   pub shows :
       (now watchers mask : ℕ) (next : List Window) → ((c : ℕ) → mask_has mask c ≡ (is_channel c && stays k.shown.windows next c))
       → IsStepIn (scene displays es) k.touches (Unnamed mask) None watchers (step_at (Windows now next) Done es)
   pub focuses :
       (now watchers display : ℕ) (channel : Option ℕ)
-      → IsStepIn (scene displays es) k.touches Rests None watchers (step_at (FocusOn now display channel) Done es)
+      → IsStepIn (scene displays es) k.touches NoOp None watchers (step_at (FocusOn now display channel) Done es)
   pub opens :
-      (limit number watchers : ℕ) → IsStepIn (scene displays es) k.touches Rests None watchers (step_at (Open limit) (Opened number) es)
+      (limit number watchers : ℕ) → IsStepIn (scene displays es) k.touches NoOp None watchers (step_at (Open limit) (Opened number) es)
   pub ticks :
       (now mask watchers : ℕ) → IsStepIn (scene displays es) k.touches (Mute mask) None watchers (step_at (Tick now) (Named mask) es)
   pub pilfers :

@@ -9,9 +9,9 @@ use Rattle.dispatcher.specs.Knows.{Kept}
 
 -- what is kept of the delivery, by the table of the channels
 abbrev pub delivery_of : Table → Delivery
-delivery_of t = record { count = opened t; channel = channel_of t; live = t.live; able = t.able; noted = t.namings }
+delivery_of t = record { count = opened t; channel = channel_of t; live = t.live; able = t.able; noted = t.anrs }
 
--- The queue goes on. Neither windows nor who holds what nor the focus nor the last key message change, nor anything that a window was told.
+-- The queue goes on. Neither windows nor who holds what nor the focus nor the last key message change, nor anything that a window was sent.
 pub record StaysBut (call : Call) (answer : Reply) (k later : Kept) : Type 0 where
   pub queue : QueueGoes call answer k.queue later.queue
   pub shown_is : later.shown ≡ k.shown

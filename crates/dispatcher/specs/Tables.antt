@@ -29,7 +29,7 @@ TablesStandFor es t = KeptStandsFor t.routing.displays es (kept t.queueing t.rou
 -- of each channel as many messages were let go as before, and as many namings
 pub record LetsNoneGo (old new : Table) : Type 0 where
   pub of_channels : (c : ℕ) → 1 ≤ c → (channel_of new c).gone ≡ (channel_of old c).gone
-  pub of_namings : new.namings.gone ≡ old.namings.gone
+  pub of_anrs : new.anrs.gone ≡ old.anrs.gone
 
 -- The tables of routing went one step on, with this call and answer, at this place and with this clock after it: together with the queue,
 -- once that goes one step on, they stand for what they stood for, with this step more. The call is given by its moment.

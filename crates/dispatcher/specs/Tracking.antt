@@ -7,7 +7,7 @@ use Rattle.dispatch_calls.specs.declared.call.Call.{Call}
 use Rattle.dispatch_calls.specs.declared.reply.Reply.{Reply}
 use Rattle.dispatch_history.specs.Effect.{Effect, past_of}
 use Rattle.dispatch_history.specs.Effects.{step}
-use Rattle.dispatch_history.specs.Focus.{has_focus, focus_told}
+use Rattle.dispatch_history.specs.Focus.{has_focus, focus_sent}
 use Rattle.dispatch_history.specs.Step.{scene}
 use Rattle.key_tables.specs.Held.{key_messages}
 use Rattle.dispatch_round.specs.Bodies.{motions_of}
@@ -22,4 +22,4 @@ abbrev pub bodies_at : List ℕ → Call → Reply → List Effect → ℕ → L
 bodies_at displays call answer es w =
     map MotionBody (motions_at displays call answer es w)
     ++ map Key (key_messages call answer es w)
-    ++ focus_told (has_focus (past_of es) w) (has_focus (past_of (step displays call answer es)) w)
+    ++ focus_sent (has_focus (past_of es) w) (has_focus (past_of (step displays call answer es)) w)

@@ -14,11 +14,11 @@ ghost use Rattle.dispatcher.specs.Roomy.{HasPumpRoom, KeepsPromise};
 ghost use Rattle.dispatcher.specs.Tables.{TablesStandFor, MayStep, GoesAs, Pumps, GoesOn, Answers, is_routed, is_owned};
 ghost use Rattle.dispatcher.specs.Tables.{SameButRoom, SameAll};
 
-use crate::brief::{Brief, reply_of, told};
+use crate::anr::tick;
+use crate::brief::{Brief, outgoing, reply_of};
 use crate::focusing::{open, request, show};
 use crate::key_steps::{repeat, route_key, route_reset};
 use crate::motions::{pilfer, route_motion};
-use crate::naming::tick;
 use crate::owners::{finish, receive, remove};
 use crate::tables::{Routing, Tables};
 use dispatch_calls::{Call, Reply};
@@ -46,8 +46,8 @@ pub(crate) fn apply(tables: &mut Tables, call: &Call) -> Result<Reply, AllocErro
         return Err(AllocError);
     }
     match call {
-        Call::Notify { now, args } => return told(notify(tables, *now, args)),
-        Call::Pump { now } => return told(pump(tables, *now)),
+        Call::Notify { now, args } => return outgoing(notify(tables, *now, args)),
+        Call::Pump { now } => return outgoing(pump(tables, *now)),
         Call::Receive { channel } => return Ok(receive_next(tables, *channel)),
         Call::Finish { now, channel, seq } => {
             return Ok(reply_of(finish_one(tables, *now, *channel, *seq)));

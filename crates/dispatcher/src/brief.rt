@@ -1,6 +1,6 @@
 //! The short answers: those of args that are handed in or dispatched, and those of owners that hold no message.
 ghost use Rattle.std.specs.Prelude.{◌≡◌};
-ghost use Rattle.dispatcher.specs.Briefs.{reply_of, told_of};
+ghost use Rattle.dispatcher.specs.Briefs.{reply_of, sent_of};
 
 use dispatch_calls::Reply;
 use std::alloc::AllocError;
@@ -36,8 +36,8 @@ pub(crate) fn reply_of(brief: Brief) -> Reply
 }
 
 /// It is made a reply, for one who reads it.
-pub(crate) fn told(answer: Result<Brief, AllocError>) -> Result<Reply, AllocError>
-    ensures { result ≡ told_of answer }
+pub(crate) fn outgoing(answer: Result<Brief, AllocError>) -> Result<Reply, AllocError>
+    ensures { result ≡ sent_of answer }
 {
     Ok(reply_of(answer?))
 }

@@ -1,6 +1,6 @@
 //! How a step is carried out.
 ghost use Rattle.std.specs.Prelude.{◌≡◌, ℕ, suc, false, [], ◌∷◌, OnOk, OnErr, IsOk};
-ghost use Rattle.route_split.specs.declared.mark.Mark.TheVariants.{Rests};
+ghost use Rattle.route_split.specs.declared.mark.Mark.TheVariants.{NoOp};
 ghost use Rattle.route_split.specs.Marking.{IsWhole};
 ghost use Rattle.dispatch_round.specs.Rounds.{AreListeners, IsReady, IsTimely, is_concerned};
 ghost use Rattle.dispatch_round.specs.Light.{IsLight};
@@ -10,25 +10,31 @@ ghost use Rattle.dispatcher.specs.Roomy.{IsRoomy, AreModest, TakesRoom};
 ghost use Rattle.dispatcher.specs.Tables.{SameButRoom};
 
 use crate::tables::Routing;
-use dispatch_round::{Round, make_light_room, make_room, tell_all, tell_light};
+use dispatch_round::{Round, make_light_room, make_room, send_all, send_light};
 use focus_resolver::Change;
 use input_types::{KeyMsg, Moment};
 use key_tables::remember;
 use route_split::Mark;
 use std::alloc::AllocError;
 
-/// A round is carried out of which the windows of the mask `told` are told, for which there is room. Takes no memory.
-pub(crate) fn carry_out(routing: &mut Routing, told: u64, round: &Round, place: u64, clock: Moment)
+/// Carries out a round that sends to the windows of the mask `outgoing`, for which there is room. Takes no memory.
+pub(crate) fn carry_out(
+    routing: &mut Routing,
+    outgoing: u64,
+    round: &Round,
+    place: u64,
+    clock: Moment,
+)
     requires whole { IsWhole round.now.mark }
-    requires told { AreListeners told routing.old.touches round.now routing.old.channels }
+    requires outgoing { AreListeners outgoing routing.old.touches round.now routing.old.channels }
     requires ready { IsReady routing.old.touches round.now routing.old.channels }
     requires timely { IsTimely clock routing.old.channels }
     ensures carries { CarriesOut round.now place clock routing.old routing.new }
-    ensures room { TakesRoom told round.now routing.old.channels routing.new.channels }
+    ensures room { TakesRoom outgoing round.now routing.old.channels routing.new.channels }
     ensures list { routing.new.cancelled ≡ routing.old.cancelled }
 {
-    tell_all(
-        told,
+    send_all(
+        outgoing,
         round,
         &mut routing.touches,
         &mut routing.channels,
@@ -40,7 +46,7 @@ pub(crate) fn carry_out(routing: &mut Routing, told: u64, round: &Round, place: 
 }
 
 /// Room is made for a round, and it is carried out. Without memory nothing changes but the room that channels have.
-pub(crate) fn tell(
+pub(crate) fn send(
     routing: &mut Routing,
     round: &Round,
     place: u64,
@@ -56,15 +62,15 @@ pub(crate) fn tell(
         → IsOk result × IsRoomy n list routing.new.channels }
     ensures list { routing.new.cancelled ≡ routing.old.cancelled }
 {
-    let told = make_room(round, &routing.touches, &mut routing.channels)?;
-    carry_out(routing, told, round, place, clock);
+    let outgoing = make_room(round, &routing.touches, &mut routing.channels)?;
+    carry_out(routing, outgoing, round, place, clock);
     Ok(())
 }
 
 /// The same of a light round, which gives and takes no pointer. Without memory nothing changes but the room that
 /// channels have. It is inlined, so that only what there is of the round is looked at.
 #[inline(always)]
-pub(crate) fn tell_lightly(
+pub(crate) fn send_lightly(
     routing: &mut Routing,
     round: &Round,
     place: u64,
@@ -79,9 +85,9 @@ pub(crate) fn tell_lightly(
         → IsOk result × IsRoomy n list routing.new.channels }
     ensures list { routing.new.cancelled ≡ routing.old.cancelled }
 {
-    let told = make_light_room(round, &routing.touches, &mut routing.channels)?;
-    tell_light(
-        told,
+    let outgoing = make_light_room(round, &routing.touches, &mut routing.channels)?;
+    send_light(
+        outgoing,
         round,
         &mut routing.touches,
         &mut routing.channels,
@@ -93,15 +99,15 @@ pub(crate) fn tell_lightly(
     Ok(())
 }
 
-/// The key target is told one key message.
-pub(crate) fn tell_key(
+/// The key target is sent one key message.
+pub(crate) fn send_key(
     routing: &mut Routing,
     message: KeyMsg,
     place: u64,
     clock: Moment,
 ) -> Result<(), AllocError>
     requires timely { IsTimely clock routing.old.channels }
-    ensures ok { OnOk result (CarriesSome Rests (message ∷ []) 0 0 place clock routing.old routing.new) }
+    ensures ok { OnOk result (CarriesSome NoOp (message ∷ []) 0 0 place clock routing.old routing.new) }
     ensures err { OnErr result (SameButRoom routing.old routing.new) }
     ensures roomy { (n list : ℕ) → IsRoomy (suc n) list routing.old.channels
         → AreModest (target_number routing.old.focus) (message ∷ []) routing.old.channels
@@ -109,7 +115,7 @@ pub(crate) fn tell_key(
     ensures list { routing.new.cancelled ≡ routing.old.cancelled }
 {
     let round = Round {
-        mark: Mark::Rests,
+        mark: Mark::NoOp,
         motion: None,
         watchers: 0,
         target: routing.focus.target().unwrap_or(0),
@@ -117,12 +123,12 @@ pub(crate) fn tell_key(
         lost: 0,
         gained: 0,
     };
-    tell_lightly(routing, &round, place, clock)
+    send_lightly(routing, &round, place, clock)
 }
 
-/// The key target is told keys, and windows are told that they lost the focus or have it now, while pointers change
+/// The key target is sent keys, and windows are told that they lost the focus or have it now, while pointers change
 /// hands by a mark.
-pub(crate) fn tell_still(
+pub(crate) fn send_still(
     routing: &mut Routing,
     mark: Mark,
     keys: &[KeyMsg],
@@ -150,7 +156,7 @@ pub(crate) fn tell_still(
         lost: change.lost,
         gained: change.gained,
     };
-    tell(routing, &round, place, clock)
+    send(routing, &round, place, clock)
 }
 
 /// A change of the focus that is none.

@@ -4,7 +4,7 @@ ghost use Rattle.std.specs.Prelude.{IfOk, IfSome, OnErr, OnOk, IsOk};
 ghost use Rattle.std.specs.Option.{option_copied};
 ghost use Rattle.dispatch_calls.specs.declared.call.Call.{Call as CallView};
 ghost use Rattle.dispatch_calls.specs.declared.reply.Reply.{Reply as Answer};
-ghost use Rattle.dispatch_history.specs.Due.{counts, first_due, namings};
+ghost use Rattle.dispatch_history.specs.Due.{counts, first_due, anrs};
 ghost use Rattle.dispatch_history.specs.Effect.{Effect, past_of};
 ghost use Rattle.dispatch_history.specs.Effects.{step};
 ghost use Rattle.dispatch_history.specs.History.{live, opened};
@@ -13,7 +13,7 @@ ghost use Rattle.dispatch_tables.specs.Channel.{MayGo};
 ghost use Rattle.dispatch_tables.specs.Dues.{due_moment, due_pair};
 ghost use Rattle.dispatcher.specs.ReadLaws.{ReadsTouches};
 ghost use Rattle.window_snapshot.specs.Mask.{is_channel};
-ghost use Rattle.dispatcher.specs.Access.{is_opened, gone, namings_gone, messages_of, has_messages, got, oldest_delivery};
+ghost use Rattle.dispatcher.specs.Access.{is_opened, gone, anrs_released, messages_of, has_messages, got, oldest_delivery};
 ghost use Rattle.dispatcher.specs.Access.{is_waiting, next_repeat, HoldsInput};
 ghost use Rattle.dispatcher.specs.Dispatching.{IsAfter, StandsFor};
 ghost use Rattle.dispatcher.specs.Memory.{IsCalm, MayCount};
@@ -21,15 +21,15 @@ ghost use Rattle.dispatcher.specs.Queueing.{args_in, is_input, is_pump};
 
 mod asked;
 mod direct;
-mod letting;
 mod pending;
+mod releasing;
 mod room;
 
 use crate::apply::apply;
 use crate::tables::Tables;
 use crate::unread::apply_unread;
 use cancel_synthesis::InputState;
-use dispatch_calls::{Call, Counts, Naming, Reply};
+use dispatch_calls::{Anr, Call, Counts, Reply};
 use input_types::{Displays, Message, Moment};
 use route_split::Touches;
 use std::alloc::{AllocError, Global};
@@ -40,7 +40,7 @@ use window_snapshot::mask_has;
 /// not its history.
 ///
 /// Contracts see the displays of the devices, and what is kept, table by table. What is kept stands for a history:
-/// each call that is answered makes it stand for the same history with one step more. Whoever reads what is told ahead
+/// each call that is answered makes it stand for the same history with one step more. Whoever reads what is sent ahead
 /// of the owners may let it go; then what is kept is only as after that history, and no message is handed out by it.
 #[derive(Drop)]
 pub struct Dispatcher {
@@ -67,7 +67,7 @@ impl Dispatcher {
         ensures start { IfOk result (λ d. StandsFor [] d) }
         ensures displays { IfOk result (λ d. d.displays ≡ displays.now) }
         ensures gone { IfOk result (λ d. (c : ℕ) → 1 ≤ c → gone d c ≡ 0) }
-        ensures namings { IfOk result (λ d. namings_gone d ≡ 0) }
+        ensures anrs { IfOk result (λ d. anrs_released d ≡ 0) }
     {
         let tables = Tables::new(alloc, displays)?;
         Ok(Dispatcher { tables })
@@ -84,7 +84,7 @@ impl Dispatcher {
             → OnOk result ((answer : Answer) × IsAfter (step self.old.displays call.now answer es) self.new) }
         ensures displays { self.new.displays ≡ self.old.displays }
         ensures gone { (c : ℕ) → 1 ≤ c → gone self.new c ≡ gone self.old c }
-        ensures namings { namings_gone self.new ≡ namings_gone self.old }
+        ensures anrs { anrs_released self.new ≡ anrs_released self.old }
         ensures err { OnErr result (self.new ≡ self.old) }
         ensures calm { (es : List Effect) → IsAfter es self.old → MayCount es → IsCalm es call.now → IsOk result }
         ensures reserved { (es : List Effect) → IsAfter es self.old → MayCount es
@@ -106,7 +106,7 @@ impl Dispatcher {
             → OnOk result ((answer : Answer) × IsAfter (step self.old.displays call.now answer es) self.new) }
         ensures displays { self.new.displays ≡ self.old.displays }
         ensures gone { (c : ℕ) → 1 ≤ c → gone self.new c ≡ gone self.old c }
-        ensures namings { namings_gone self.new ≡ namings_gone self.old }
+        ensures anrs { anrs_released self.new ≡ anrs_released self.old }
         ensures err { OnErr result (self.new ≡ self.old) }
         ensures calm { (es : List Effect) → IsAfter es self.old → MayCount es → IsCalm es call.now → IsOk result }
         ensures reserved { (es : List Effect) → IsAfter es self.old → MayCount es
@@ -136,7 +136,7 @@ impl Dispatcher {
 
     /// The messages of a channel, but for those that were let go; None exactly where none was opened with this
     /// number. Of a live channel only messages that were received were let go.
-    #[tactic(auto, using(crate::proofs::LettingGo::most_gone))]
+    #[tactic(auto, using(crate::proofs::Releasing::most_gone))]
     pub fn messages(&self, channel: u32) -> Option<&[Message]>
         ensures value { (es : List Effect) → IsAfter es self.now
             → option_map (λ ms. ms.now) result ≡ messages_of es self.now channel }
@@ -221,11 +221,11 @@ impl Dispatcher {
     }
 
     /// The namings so far but for those that were let go, the first one first.
-    pub fn namings(&self) -> &[Naming]
+    pub fn anrs(&self) -> &[Anr]
         ensures { (es : List Effect) → IsAfter es self.now
-            → result.now ≡ drop (namings_gone self.now) (namings es) }
+            → result.now ≡ drop (anrs_released self.now) (anrs es) }
     {
-        self.tables.routing.channels.namings()
+        self.tables.routing.channels.anrs()
     }
 
     /// Who holds which pointers, since when, and who is pilfering which device. Each holder is live, able to take
@@ -238,7 +238,7 @@ impl Dispatcher {
         &self.tables.routing.touches
     }
 
-    /// What the window of a channel was told and is not told the end of; None exactly where no channel was opened
+    /// What the window of a channel was sent and is not told the end of; None exactly where no channel was opened
     /// with this number.
     pub fn input(&self, channel: u32) -> Option<&InputState>
         ensures some { (es : List Effect) → IsAfter es self.now → is_some result ≡ is_opened es channel }

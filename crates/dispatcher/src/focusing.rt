@@ -10,7 +10,7 @@ ghost use Rattle.dispatcher.specs.Opening.{IsWelcome, Welcomes};
 ghost use Rattle.dispatcher.specs.Keying.{lost_keys};
 ghost use Rattle.dispatcher.specs.Tables.{Goes, SameButRoom};
 
-use crate::carry::{carry_out, tell_still};
+use crate::carry::{carry_out, send_still};
 use crate::key_steps::listening;
 use crate::stays::staying;
 use crate::tables::Routing;
@@ -54,7 +54,7 @@ fn welcome(routing: &mut Routing, number: u32, place: u64, clock: Moment)
     let windows = focusable(routing.shown.windows(), routing.channels.live());
     let change = routing.focus.windows(windows);
     let round = Round {
-        mark: Mark::Rests,
+        mark: Mark::NoOp,
         motion: None,
         watchers: 0,
         target,
@@ -62,8 +62,8 @@ fn welcome(routing: &mut Routing, number: u32, place: u64, clock: Moment)
         lost: 0,
         gained: change.gained & mask_with(0, number),
     };
-    let told = listeners(&round, &routing.touches, &routing.channels);
-    carry_out(routing, told, &round, place, clock);
+    let outgoing = listeners(&round, &routing.touches, &routing.channels);
+    carry_out(routing, outgoing, &round, place, clock);
 }
 
 /// The windows are these from now on.
@@ -106,12 +106,12 @@ pub(crate) fn request(
     let change = focus.request(display, channel);
     // Read for its clause alone: a display has one of the numbers 0 to 3, which contracts do not see of the type.
     let _number = display.get();
-    refocus(routing, Mark::Rests, &change, place, clock)?;
+    refocus(routing, Mark::NoOp, &change, place, clock)?;
     routing.focus = focus;
     Ok(Reply::Done)
 }
 
-/// The key target is told that its keys are cancelled, where it is not the key target any more, and windows are told
+/// The key target is told that its keys are cancelled, where it is not the key target any more, and windows are sent
 /// that they lost the focus or have it now.
 fn refocus(
     routing: &mut Routing,
@@ -129,13 +129,13 @@ fn refocus(
     ensures calm { IsSilent mark [] change.now → change.now.target ≡ target_of routing.old.focus → IsOk result }
 {
     let mut keys = routing.cancelled.take();
-    let told = tell_change(routing, &mut keys, mark, change, place, clock);
+    let outgoing = send_change(routing, &mut keys, mark, change, place, clock);
     routing.cancelled.keep(keys);
-    told
+    outgoing
 }
 
 /// The same with a list for the keys that are cancelled.
-fn tell_change(
+fn send_change(
     routing: &mut Routing,
     keys: &mut Vec<KeyMsg>,
     mark: Mark,
@@ -155,8 +155,8 @@ fn tell_change(
     match listening(routing) {
         Some(target) if change.target != Some(target) => {
             routing.channels.input(target).cancel_keys_into(keys)?;
-            tell_still(routing, mark, keys.as_slice(), change, place, clock)
+            send_still(routing, mark, keys.as_slice(), change, place, clock)
         }
-        _ => tell_still(routing, mark, &[], change, place, clock),
+        _ => send_still(routing, mark, &[], change, place, clock),
     }
 }

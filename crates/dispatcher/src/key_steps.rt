@@ -10,7 +10,7 @@ ghost use Rattle.dispatcher.specs.Keying.{listening};
 ghost use Rattle.dispatcher.specs.Roomy.{HasPumpRoom, IsRoomy};
 ghost use Rattle.dispatcher.specs.Tables.{Pumps, SameButRoom};
 
-use crate::carry::{no_change, tell_key, tell_still};
+use crate::carry::{no_change, send_key, send_still};
 use crate::tables::Routing;
 use input_types::{DeviceId, KeyArgs, KeyMsg, Moment};
 use key_tables::key_heard;
@@ -49,7 +49,7 @@ pub(crate) fn route_key(
     };
     let hears = mask_has(routing.channels.able(), target);
     match key_heard(key, hears, routing.channels.input(target).keys()) {
-        Some(message) => tell_key(routing, message, place, clock),
+        Some(message) => send_key(routing, message, place, clock),
         None => Ok(()),
     }
 }
@@ -67,13 +67,13 @@ pub(crate) fn route_reset(
     ensures roomy { (n : ℕ) → HasPumpRoom (suc n) routing.old → IsOk result × HasPumpRoom n routing.new }
 {
     let mut keys = routing.cancelled.take();
-    let told = tell_reset(routing, &mut keys, device, place, clock);
+    let outgoing = send_reset(routing, &mut keys, device, place, clock);
     routing.cancelled.keep(keys);
-    told
+    outgoing
 }
 
 /// The same with a list for the keys that are cancelled.
-fn tell_reset(
+fn send_reset(
     routing: &mut Routing,
     keys: &mut Vec<KeyMsg>,
     device: DeviceId,
@@ -90,13 +90,13 @@ fn tell_reset(
     let mark = Mark::Empty { device };
     let change = no_change(routing);
     let Some(target) = listening(routing) else {
-        return tell_still(routing, mark, &[], &change, place, clock);
+        return send_still(routing, mark, &[], &change, place, clock);
     };
     routing
         .channels
         .input(target)
         .cancel_device_keys_into(device, keys)?;
-    tell_still(routing, mark, keys.as_slice(), &change, place, clock)
+    send_still(routing, mark, keys.as_slice(), &change, place, clock)
 }
 
 /// Whether a repeat is due at the clock.
@@ -124,6 +124,6 @@ pub(crate) fn repeat(routing: &mut Routing, place: u64, clock: Moment) -> Result
     let Some((_, message)) = routing.repeat.next() else {
         return Ok(true);
     };
-    tell_key(routing, message, place, clock)?;
+    send_key(routing, message, place, clock)?;
     Ok(true)
 }

@@ -12,14 +12,14 @@
 //! ```
 //!
 //! A [`Dispatcher`] keeps no history: it keeps the clock and the args that wait, the windows and their origins, who
-//! holds which pointers, the channels with what the window of each was told and is not told the end of, the focus,
+//! holds which pointers, the channels with what the window of each was sent and is not told the end of, the focus,
 //! and the last key message. After the Pump above that is
 //!
 //! ```text
 //! queue      clock 1000, nothing waits, and pointer 0 is down on its device
 //! shown      the windows of the last snapshot, and the origin of each window
 //! touches    window 1 holds pointer 0, since the place of this step
-//! channels   channel 1 with one message, the DOWN, and the moment at which that is late; its window was told the
+//! channels   channel 1 with one message, the DOWN, and the moment at which that is late; its window was sent the
 //!            pointer, at its place on the display
 //! focus      who has the focus
 //! repeat     no key
@@ -34,10 +34,11 @@
 //! (specs/Telling). What is read of the tables is what the history says (specs/ReadLaws).
 //!
 //! Each call is carried out in the same order. First all is found that it changes, then room is made for all that
-//! windows are told, and then only calls are made that cannot fail. So want of memory changes nothing that can be
+//! windows are sent, and then only calls are made that cannot fail. So want of memory changes nothing that can be
 //! seen.
 #![tactic(auto)]
 
+mod anr;
 mod apply;
 mod brief;
 mod cancelled;
@@ -47,7 +48,6 @@ mod dispatcher;
 mod focusing;
 mod key_steps;
 mod motions;
-mod naming;
 mod owners;
 mod queueing;
 mod reserving;

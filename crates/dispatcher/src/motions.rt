@@ -10,7 +10,7 @@ ghost use Rattle.dispatch_round.specs.Rounds.{IsTimely};
 ghost use Rattle.dispatcher.specs.Roomy.{HasPumpRoom};
 ghost use Rattle.dispatcher.specs.Tables.{Goes, Pumps, SameButRoom};
 
-use crate::carry::{no_change, tell, tell_lightly, tell_still};
+use crate::carry::{no_change, send, send_lightly, send_still};
 use crate::tables::Routing;
 use dispatch_calls::Reply;
 use dispatch_round::Round;
@@ -48,7 +48,7 @@ pub(crate) fn route_motion(
         lost: 0,
         gained: 0,
     };
-    tell(routing, &round, place, clock)
+    send(routing, &round, place, clock)
 }
 
 /// A Move is dispatched, while no window is slippery: pointers only move with it, and none changes hands.
@@ -66,7 +66,7 @@ fn route_move(
     ensures roomy { (n : ℕ) → HasPumpRoom (suc n) routing.old → IsOk result × HasPumpRoom n routing.new }
 {
     let round = Round {
-        mark: Mark::Rests,
+        mark: Mark::NoOp,
         motion: Some(motion),
         watchers: 0,
         target: routing.focus.target().unwrap_or(0),
@@ -74,7 +74,7 @@ fn route_move(
         lost: 0,
         gained: 0,
     };
-    tell_lightly(routing, &round, place, clock)
+    send_lightly(routing, &round, place, clock)
 }
 
 /// Whether it is the action with which pointers move.
@@ -114,7 +114,7 @@ pub(crate) fn pilfer(
         window: channel,
     };
     let change = no_change(routing);
-    tell_still(routing, mark, &[], &change, place, clock)?;
+    send_still(routing, mark, &[], &change, place, clock)?;
     Ok(Reply::Done)
 }
 

@@ -74,7 +74,7 @@ pub(crate) fn remove(routing: &mut Routing, channel: u32, place: u64) -> Brief
     }
     let target = routing.focus.target();
     routing.channels.remove(channel);
-    let _not_told = routing
+    let _not_sent = routing
         .touches
         .change(&Mark::Forget { window: channel }, place);
     let windows = focusable(routing.shown.windows(), routing.channels.live());

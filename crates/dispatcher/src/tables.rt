@@ -12,7 +12,7 @@ use key_repeat::Repeat;
 use route_split::Touches;
 use std::alloc::{AllocError, Global};
 
-/// What the windows were told of, and all that decides what they are told next.
+/// What the windows were told of, and all that decides what they are sent next.
 #[derive(Drop)]
 pub(crate) struct Routing {
     pub(crate) displays: Displays,

@@ -6,7 +6,7 @@ use Rattle.raw_events.specs.declared.event.RawEvent.{RawEvent}
 use Rattle.stream_judge.specs.declared.error.FileError.{FileError}
 use Rattle.stream_judge.specs.declared.error.FileError.TheVariants as file
 use Rattle.stream_text.specs.declared.stream_line.StreamLine.{StreamLine}
-use Rattle.stream_text.specs.declared.stream_line.StreamLine.TheVariants.{Channel, Message, End, Naming}
+use Rattle.stream_text.specs.declared.stream_line.StreamLine.TheVariants.{Channel, Message, End, Anr}
 use Rattle.stream_text.specs.StreamFile.{Event}
 use Rattle.touch_writer.specs.declared.want.Want.{Want}
 use Rattle.touch_writer.specs.State.{State, packet_of}
@@ -56,7 +56,7 @@ ends_at : (device line : ℕ) (says : StreamLine) (ts : List Taken) → ((m : To
 ends_at device line (Channel id) ts not = refl
 ends_at device line (Message m) ts not = absurd (not m refl)
 ends_at device line (End id sent received finished) ts not = refl
-ends_at device line (Naming clock id seq) ts not = refl
+ends_at device line (Anr clock id seq) ts not = refl
 
 pub section_ends : (e : Emission) (events : List RawEvent) (line : ℕ) (says : StreamLine) → e.stage ≡ Open → ((m : Told) → says ≡ Message m → ⊥) → Wrote events e.packets
     → Leads events line says e (record { channel = e.channel; device = e.device; stage = Behind; want = e.want; packets = e.packets })

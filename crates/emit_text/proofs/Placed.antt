@@ -1,9 +1,9 @@
 -- The lines of a stream file are numbered one after another, and its messages stand in sections.
 use Rattle.std.proofs.Common.{◌≡◌, ℕ, ◌+◌, ◌==◌, ◌&&◌, Bool, true, false, if◌then◌else◌, List, [], ◌∷◌, Option, Some, None, Result, Ok, Err, refl}
 use Rattle.stream_text.specs.declared.stream_line.StreamLine.{StreamLine}
-use Rattle.stream_text.specs.declared.stream_line.StreamLine.TheVariants.{Channel, Message, End, Naming}
+use Rattle.stream_text.specs.declared.stream_line.StreamLine.TheVariants.{Channel, Message, End, Anr}
 use Rattle.stream_text.specs.declared.stream_lines.Place.{Place}
-use Rattle.stream_text.specs.declared.stream_lines.Place.TheVariants.{Between, Section, Namings}
+use Rattle.stream_text.specs.declared.stream_lines.Place.TheVariants.{Between, Section, Anrs}
 use Rattle.stream_text.specs.Number.{◌>>=◌}
 use Rattle.stream_text.specs.OrderText.{order_passed}
 use Rattle.stream_text.specs.StreamFile.{Event, events_behind, events_from, events_of, follow, may_end, numbered_line, told, with_event}
@@ -13,7 +13,7 @@ use Rattle.text_lines.specs.Lines.{Line, lines_of}
 -- a line may stand inside a section, or outside of all, and so may those behind it
 abbrev pub MayStand : Bool → StreamLine → (Bool → Type 0) → Type 0
 MayStand false (Channel id) Rest = Rest true
-MayStand false (Naming clock id seq) Rest = Rest false
+MayStand false (Anr clock id seq) Rest = Rest false
 MayStand true (Message m) Rest = Rest true
 MayStand true (End id sent received finished) Rest = Rest false
 MayStand _ _ Rest = ⊥
@@ -30,7 +30,7 @@ Places inside n (Err bad) = Unit {0}
 abbrev is_inside : Place → Bool
 is_inside Between = false
 is_inside (Section id told) = true
-is_inside Namings = false
+is_inside Anrs = false
 
 one_line : (inside b : Bool) (n : ℕ) (says : StreamLine) (r : Result (List Event) ℕ) → ((Rest : Bool → Type 0) → Rest b → MayStand inside says Rest)
     → Places b (n + 1) r → Places inside n (with_event (n, says) r)
@@ -59,15 +59,15 @@ line_step : (place : Place) (n : ℕ) (says : StreamLine) (lines : List Line) �
 line_step Between n (Channel id) lines follows = one_line false true n (Channel id) (events_from (Section id 0) (n + 1) lines) (λ R r. r) (follows (Section id 0))
 line_step Between n (Message m) lines follows = tt
 line_step Between n (End e sent received finished) lines follows = tt
-line_step Between n (Naming clock id seq) lines follows = one_line false false n (Naming clock id seq) (events_from Namings (n + 1) lines) (λ R r. r) (follows Namings)
+line_step Between n (Anr clock id seq) lines follows = one_line false false n (Anr clock id seq) (events_from Anrs (n + 1) lines) (λ R r. r) (follows Anrs)
 line_step (Section id count) n (Channel other) lines follows = tt
 line_step (Section id count) n (Message m) lines follows = message_step n id count (Message m) lines (m.seq == count + 1) (λ R r. r) follows
 line_step (Section id count) n (End e sent received finished) lines follows = end_step n (End e sent received finished) lines ((e == id) && (sent == count)) (λ R r. r) follows
-line_step (Section id count) n (Naming clock other seq) lines follows = tt
-line_step Namings n (Channel id) lines follows = tt
-line_step Namings n (Message m) lines follows = tt
-line_step Namings n (End e sent received finished) lines follows = tt
-line_step Namings n (Naming clock id seq) lines follows = one_line false false n (Naming clock id seq) (events_from Namings (n + 1) lines) (λ R r. r) (follows Namings)
+line_step (Section id count) n (Anr clock other seq) lines follows = tt
+line_step Anrs n (Channel id) lines follows = tt
+line_step Anrs n (Message m) lines follows = tt
+line_step Anrs n (End e sent received finished) lines follows = tt
+line_step Anrs n (Anr clock id seq) lines follows = one_line false false n (Anr clock id seq) (events_from Anrs (n + 1) lines) (λ R r. r) (follows Anrs)
 
 read_step : (place : Place) (n : ℕ) (o : Option StreamLine) (lines : List Line) → Follows n lines
     → Places (is_inside place) n (step_from n lines (o >>= λ says. follow place says >>= λ next. Some (says, next)))
@@ -82,7 +82,7 @@ ended_step place n text false lines follows = tt
 no_lines : (place : Place) (n : ℕ) → Places (is_inside place) n (if may_end place then Ok [] else Err n)
 no_lines Between n = tt
 no_lines (Section id count) n = tt
-no_lines Namings n = tt
+no_lines Anrs n = tt
 
 placed : (lines : List Line) (place : Place) (n : ℕ) → Places (is_inside place) n (events_from place n lines)
 placed [] place n = no_lines place n

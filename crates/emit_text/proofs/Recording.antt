@@ -24,12 +24,12 @@ use Rattle.touch_writer_cooks.proofs.ReadBack.{reading}
 use Rattle.emit_text.specs.declared.error.EmitError.{EmitError}
 use Rattle.emit_text.specs.declared.error.EmitError.TheVariants.{TooLate, TooLong}
 use Rattle.emit_text.specs.Emitted.{AnswersFor, motions_of}
-use Rattle.emit_text.specs.Laws.{CookToWanted, IsRecording, RecordingLaw, told_by, wanted_of}
+use Rattle.emit_text.specs.Laws.{CookToWanted, IsRecording, RecordingLaw, sent_by, wanted_of}
 use Rattle.emit_text.specs.Motions.{Taken}
 use Rattle.emit_text.specs.Packets.{Emits, UnlessRefused, path, refused}
 use Rattle.emit_text.specs.Refusals.{packet_refusal}
 use Rattle.emit_text.proofs.InRange.{AreFit, all_fit, events_of_device, packet_of_device, vacant_fit}
-use Rattle.emit_text.proofs.Spelled.{AreInRange, AreTold, IsTold, MotionsTold, motions_told}
+use Rattle.emit_text.proofs.Spelled.{AreInRange, AreSent, IsSent, MotionsSent, motions_sent}
 
 -- ---- a motion that is not refused
 
@@ -88,7 +88,7 @@ nothing device = record {
   of_device = tt;
 }
 
-one_more : (device : ℕ) (past : List Written) (s : State) (events : List RawEvent) (t : Taken) (choice : List Bool) → IsTold t → Past device past s events
+one_more : (device : ℕ) (past : List Written) (s : State) (events : List RawEvent) (t : Taken) (choice : List Bool) → IsSent t → Past device past s events
     → refused s t ≡ None → IsBestChoice s t.moment t.want choice
     → Past device (record { moment = t.moment; want = t.want; choice = choice } ∷ past) (after s t.want choice) (events ++ packet_of s t.moment t.want choice)
 one_more device past s events t choice told p none best =
@@ -122,14 +122,14 @@ record Wrote (device : ℕ) (before : List (ℕ × List Want)) (ts : List Taken)
   state : State
   events : List RawEvent
   past : Past device packets state events
-  one_each : wanted_of packets ≡ reverse (told_by ts) ++ before
+  one_each : wanted_of packets ≡ reverse (sent_by ts) ++ before
   text_is : text ≡ lines path events
 
 within : (text all : List ℕ) (b : Bool) → ◌≡◌ {A = Result (List ℕ) EmitError} (Ok text) (if b then Err TooLong else Ok all) → text ≡ all
 within text all true e = absurd (cc)
 within text all false e = cc e
 
-wrote : (device : ℕ) (ts : List Taken) (past : List Written) (s : State) (events : List RawEvent) (text : List ℕ) → AreTold ts → Past device past s events
+wrote : (device : ℕ) (ts : List Taken) (past : List Written) (s : State) (events : List RawEvent) (text : List ℕ) → AreSent ts → Past device past s events
     → Emits s events ts (Ok text) → Wrote device (wanted_of past) ts text
 wrote device [] past s events text told p h = record {
   packets = past;
@@ -153,8 +153,8 @@ wrote device (t ∷ ts) past s events text told p h =
       events = w.events;
       past = w.past;
       one_each = w.one_each
-          ∙ sym (append_assoc (reverse (told_by ts)) ((t.moment, t.want) ∷ []) (wanted_of past))
-          ∙ ap (λ ws. ws ++ wanted_of past) (sym (reverse-append ((t.moment, t.want) ∷ []) (told_by ts)));
+          ∙ sym (append_assoc (reverse (sent_by ts)) ((t.moment, t.want) ∷ []) (wanted_of past))
+          ∙ ap (λ ws. ws ++ wanted_of past) (sym (reverse-append ((t.moment, t.want) ∷ []) (sent_by ts)));
       text_is = w.text_is;
     }
 
@@ -165,12 +165,12 @@ cook_all device (w ∷ past) h = (cooking device 16 w past (omega arith) (omega 
 is_path : IsPath path (codes "dev/input/event0")
 is_path = record { begins = refl; inside = refl; short = omega arith }
 
-recording : (device : ℕ) (motions : List Taken) (text : List ℕ) → AreTold motions → Emits (first device 16) [] motions (Ok text) → IsRecording device motions text
+recording : (device : ℕ) (motions : List Taken) (text : List ℕ) → AreSent motions → Emits (first device 16) [] motions (Ok text) → IsRecording device motions text
 recording device motions text told h =
     let w : Wrote device [] motions text = wrote device motions [] (first device 16) [] text told (nothing device) h in
     record {
       packets = w.packets;
-      one_each = w.one_each ∙ append-nil (reverse (told_by motions));
+      one_each = w.one_each ∙ append-nil (reverse (sent_by motions));
       read = ap (λ t. recorded ((path, device) ∷ []) t) w.text_is
           ∙ reading ((path, device) ∷ []) path (codes "dev/input/event0") w.events is_path w.past.of_device
           ∙ ap (λ (es : List RawEvent). Ok es) w.past.events_are;
@@ -182,11 +182,11 @@ recording device motions text told h =
 abbrev Answered : ℕ → Result (Option (List Taken)) FileError → List ℕ → Type 0
 Answered device r text = (motions : List Taken) × (r ≡ Ok (Some motions)) × IsRecording device motions text
 
-of_motions : (device : ℕ) (o : Option (List Taken)) (text : List ℕ) → MotionsTold o → AnswersFor device (Ok o) (Ok text) → Answered device (Ok o) text
+of_motions : (device : ℕ) (o : Option (List Taken)) (text : List ℕ) → MotionsSent o → AnswersFor device (Ok o) (Ok text) → Answered device (Ok o) text
 of_motions device None text told h = absurd (cc)
 of_motions device (Some motions) text told h = (motions, refl, recording device motions text told h)
 
-of_streams : (device : ℕ) (o : Option (List Taken)) (broken : Option ℕ) (text : List ℕ) → MotionsTold o → AnswersFor device (unless_broken broken o) (Ok text)
+of_streams : (device : ℕ) (o : Option (List Taken)) (broken : Option ℕ) (text : List ℕ) → MotionsSent o → AnswersFor device (unless_broken broken o) (Ok text)
     → Answered device (unless_broken broken o) text
 of_streams device o None text told h = of_motions device o text told h
 of_streams device o (Some line) text told h = absurd (cc)
@@ -196,7 +196,7 @@ of_events : (bytes : List ℕ) (channel device : ℕ) (r : Result (List Event) �
     → Answered device (judged (motions_of channel device) (streams_in r)) text
 of_events bytes channel device (Err bad) text e h = absurd (cc)
 of_events bytes channel device (Ok es) text e h =
-    of_streams device (motions_of channel device (streams_of es)) (first_break (streams_of es)) text (motions_told bytes channel device es e) h
+    of_streams device (motions_of channel device (streams_of es)) (first_break (streams_of es)) text (motions_sent bytes channel device es e) h
 
 pub records : RecordingLaw
 records bytes channel device text h = of_events bytes channel device (events_of bytes) text refl h

@@ -11,7 +11,7 @@ use Rattle.input_types.specs.declared.motion.MotionAction.{MotionAction}
 use Rattle.input_types.specs.declared.motion.MotionAction.TheVariants.{Down, Up, Move, Cancel, Outside, PointerDown, PointerUp}
 use Rattle.input_types.specs.declared.pointer.Pointer.{Pointer}
 use Rattle.stream_text.specs.declared.stream_line.StreamLine.{StreamLine}
-use Rattle.stream_text.specs.declared.stream_line.StreamLine.TheVariants.{Channel, Message, End, Naming}
+use Rattle.stream_text.specs.declared.stream_line.StreamLine.TheVariants.{Channel, Message, End, Anr}
 use Rattle.stream_text.specs.declared.stream_lines.Place.{Place}
 use Rattle.stream_text.specs.declared.stream_lines.Place.TheVariants.{Between}
 use Rattle.stream_text.specs.MessageLine.{HasSpelling, HavePlaces, SpelledBody}
@@ -45,7 +45,7 @@ spelled : (text : List ℕ) (says : StreamLine) → line_of text ≡ Some says �
 spelled text (Channel id) e = tt
 spelled text (Message m) e = (line_only text (Message m) e).1
 spelled text (End id sent received finished) e = tt
-spelled text (Naming clock id seq) e = tt
+spelled text (Anr clock id seq) e = tt
 
 one_line : (n : ℕ) (says : StreamLine) (r : Result (List Event) ℕ) → IsSpelled says → Spell r → Spell (with_event (n, says) r)
 one_line n says (Ok es) s h = (s, h)
@@ -98,14 +98,14 @@ messages_spelled [] h = tt
 messages_spelled ((n, Channel id) ∷ es) h = tt
 messages_spelled ((n, Message m) ∷ es) h = (h.0, messages_spelled es h.1)
 messages_spelled ((n, End id sent received finished) ∷ es) h = tt
-messages_spelled ((n, Naming clock id seq) ∷ es) h = tt
+messages_spelled ((n, Anr clock id seq) ∷ es) h = tt
 
 streams_spelled : (es : List Event) → AreSpelled es → StreamsSpelled (streams_of es)
 streams_spelled [] h = tt
 streams_spelled ((n, Channel id) ∷ es) h = (messages_spelled es h.1, streams_spelled es h.1)
 streams_spelled ((n, Message m) ∷ es) h = streams_spelled es h.1
 streams_spelled ((n, End id sent received finished) ∷ es) h = streams_spelled es h.1
-streams_spelled ((n, Naming clock id seq) ∷ es) h = streams_spelled es h.1
+streams_spelled ((n, Anr clock id seq) ∷ es) h = streams_spelled es h.1
 
 -- ---- the motions
 
@@ -118,14 +118,14 @@ abbrev pub AreInRange : List Want → Type 0
 AreInRange [] = Unit {0}
 AreInRange (w ∷ ws) = IsInRange w × AreInRange ws
 
-pub record IsTold (t : Taken) : Type 0 where
+pub record IsSent (t : Taken) : Type 0 where
   pub moment : t.moment ≤ 1000000000000000000
   pub rises : IsRising t.want
   pub in_range : AreInRange t.want
 
-abbrev pub AreTold : List Taken → Type 0
-AreTold [] = Unit {0}
-AreTold (t ∷ ts) = IsTold t × AreTold ts
+abbrev pub AreSent : List Taken → Type 0
+AreSent [] = Unit {0}
+AreSent (t ∷ ts) = IsSent t × AreSent ts
 
 fits : (z : ℤ) → IsI32 z → FitsSigned w32 z
 fits (pos n) h = record { sfits = omega (arith, h) }
@@ -147,56 +147,56 @@ still_in_range [] (suc k) h = tt
 still_in_range (w ∷ ws) zero h = h.1
 still_in_range (w ∷ ws) (suc k) h = (h.0, still_in_range ws k h.1)
 
-abbrev Tells : Option (List Want) → Type 0
-Tells None = Unit {0}
-Tells (Some ws) = IsRising ws × AreInRange ws
+abbrev Sends : Option (List Want) → Type 0
+Sends None = Unit {0}
+Sends (Some ws) = IsRising ws × AreInRange ws
 
-down_tells : (action : MotionAction) (index : ℕ) (ws : List Want) → IsRising ws → AreInRange ws → Tells (down_after action index ws)
-down_tells Down index ws r h = (r, h)
-down_tells PointerDown index ws r h = (r, h)
-down_tells Move index ws r h = (r, h)
-down_tells PointerUp index ws r h = (still_rise ws index r, still_in_range ws index h)
-down_tells Up index ws r h = (tt, tt)
-down_tells Cancel index ws r h = (tt, tt)
-down_tells Outside index ws r h = tt
+down_sends : (action : MotionAction) (index : ℕ) (ws : List Want) → IsRising ws → AreInRange ws → Sends (down_after action index ws)
+down_sends Down index ws r h = (r, h)
+down_sends PointerDown index ws r h = (r, h)
+down_sends Move index ws r h = (r, h)
+down_sends PointerUp index ws r h = (still_rise ws index r, still_in_range ws index h)
+down_sends Up index ws r h = (tt, tt)
+down_sends Cancel index ws r h = (tt, tt)
+down_sends Outside index ws r h = tt
 
-of_device : (o : Option (List Want)) (b : Bool) → Tells o → Tells (if b then o else None)
+of_device : (o : Option (List Want)) (b : Bool) → Sends o → Sends (if b then o else None)
 of_device o true h = h
 of_device o false h = tt
 
-body_tells : (device : ℕ) (body : Body) → SpelledBody body → Tells (wanted_after device body)
-body_tells device (Motion m) s =
+body_sends : (device : ℕ) (body : Body) → SpelledBody body → Sends (wanted_after device body)
+body_sends device (Motion m) s =
     of_device (down_after m.action m.index (map contact m.pointers)) (nat_eq m.device device)
-    (down_tells m.action m.index (map contact m.pointers) (places_rise 0 m.pointers s.places) (places_in_range 0 m.pointers s.places))
-body_tells device (Key m) s = tt
-body_tells device (Focus b) s = tt
+    (down_sends m.action m.index (map contact m.pointers) (places_rise 0 m.pointers s.places) (places_in_range 0 m.pointers s.places))
+body_sends device (Key m) s = tt
+body_sends device (Focus b) s = tt
 
-in_front_told : (line moment : ℕ) (o : Option (List Want)) (ts : List Taken) → moment ≤ 1000000000000000000 → Tells o → AreTold ts
-    → AreTold (in_front (option_map (λ want. record { line = line; moment = moment; want = want }) o) ts)
-in_front_told line moment None ts late h told = told
-in_front_told line moment (Some ws) ts late h told = (record { moment = late; rises = h.0; in_range = h.1 }, told)
+in_front_sent : (line moment : ℕ) (o : Option (List Want)) (ts : List Taken) → moment ≤ 1000000000000000000 → Sends o → AreSent ts
+    → AreSent (in_front (option_map (λ want. record { line = line; moment = moment; want = want }) o) ts)
+in_front_sent line moment None ts late h told = told
+in_front_sent line moment (Some ws) ts late h told = (record { moment = late; rises = h.0; in_range = h.1 }, told)
 
-taken_told : (device line : ℕ) (ms : List Told) → AllSpelled ms → AreTold (taken device line ms)
-taken_told device line [] h = tt
-taken_told device line (m ∷ ms) h =
-    in_front_told line m.moment (wanted_after device m.body) (taken device (line + 1) ms) h.0.moment (body_tells device m.body h.0.body)
-    (taken_told device (line + 1) ms h.1)
+taken_sent : (device line : ℕ) (ms : List Told) → AllSpelled ms → AreSent (taken device line ms)
+taken_sent device line [] h = tt
+taken_sent device line (m ∷ ms) h =
+    in_front_sent line m.moment (wanted_after device m.body) (taken device (line + 1) ms) h.0.moment (body_sends device m.body h.0.body)
+    (taken_sent device (line + 1) ms h.1)
 
-abbrev pub MotionsTold : Option (List Taken) → Type 0
-MotionsTold None = Unit {0}
-MotionsTold (Some ts) = AreTold ts
+abbrev pub MotionsSent : Option (List Taken) → Type 0
+MotionsSent None = Unit {0}
+MotionsSent (Some ts) = AreSent ts
 
-section_told : (device : ℕ) (s : Stream) (o : Option Stream) (b : Bool) → AllSpelled s.messages
-    → MotionsTold (option_map (λ s. taken device s.first_line s.messages) o)
-    → MotionsTold (option_map (λ s. taken device s.first_line s.messages) (if b then Some s else o))
-section_told device s o true h rest = taken_told device s.first_line s.messages h
-section_told device s o false h rest = rest
+section_sent : (device : ℕ) (s : Stream) (o : Option Stream) (b : Bool) → AllSpelled s.messages
+    → MotionsSent (option_map (λ s. taken device s.first_line s.messages) o)
+    → MotionsSent (option_map (λ s. taken device s.first_line s.messages) (if b then Some s else o))
+section_sent device s o true h rest = taken_sent device s.first_line s.messages h
+section_sent device s o false h rest = rest
 
-streams_told : (channel device : ℕ) (ss : List Stream) → StreamsSpelled ss → MotionsTold (motions_of channel device ss)
-streams_told channel device [] h = tt
-streams_told channel device (s ∷ ss) h = section_told device s (section channel ss) (nat_eq s.id channel) h.0 (streams_told channel device ss h.1)
+streams_sent : (channel device : ℕ) (ss : List Stream) → StreamsSpelled ss → MotionsSent (motions_of channel device ss)
+streams_sent channel device [] h = tt
+streams_sent channel device (s ∷ ss) h = section_sent device s (section channel ss) (nat_eq s.id channel) h.0 (streams_sent channel device ss h.1)
 
-pub motions_told : (bytes : List ℕ) (channel device : ℕ) (es : List Event) → events_of bytes ≡ Ok es → MotionsTold (motions_of channel device (streams_of es))
-motions_told bytes channel device es e =
+pub motions_sent : (bytes : List ℕ) (channel device : ℕ) (es : List Event) → events_of bytes ≡ Ok es → MotionsSent (motions_of channel device (streams_of es))
+motions_sent bytes channel device es e =
     let s : Spell (events_of bytes) = file_spelled bytes in
-    streams_told channel device (streams_of es) (streams_spelled es (rw e at s))
+    streams_sent channel device (streams_of es) (streams_spelled es (rw e at s))

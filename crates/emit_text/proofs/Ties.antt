@@ -2,9 +2,9 @@
 use Rattle.std.proofs.Common.{◌≡◌, ℕ, ◌+◌, nat_eq, Bool, true, false, if◌then◌else◌, List, [], ◌∷◌, Option, Some, None, Result, Ok, Err, is_some, refl, sym, ap, ◌∙◌}
 use Rattle.std.specs.Option.{option_map, option_and_then, option_or}
 use Rattle.input_types.specs.declared.message.Message.{Message as Told}
-use Rattle.input_types.specs.StreamRule.{StreamState, after_body, stream_state, untold}
+use Rattle.input_types.specs.StreamRule.{StreamState, after_body, stream_state, unsent}
 use Rattle.stream_text.specs.declared.stream_line.StreamLine.{StreamLine}
-use Rattle.stream_text.specs.declared.stream_line.StreamLine.TheVariants.{Channel, Message, End, Naming}
+use Rattle.stream_text.specs.declared.stream_line.StreamLine.TheVariants.{Channel, Message, End, Anr}
 use Rattle.stream_text.specs.StreamFile.{Event, Stream, events_of, messages_of, streams_in, streams_of}
 use Rattle.stream_judge.specs.declared.error.FileError.{FileError}
 use Rattle.stream_judge.specs.Breaks.{break_from, first_break}
@@ -54,14 +54,14 @@ step : (inside : Bool) (channel device n : ℕ) (says : StreamLine) (es : List E
 step false channel device n (Channel id) es p h =
     let t : Inside channel device (n + 1) es = h true p in
     record {
-      breaks_are = λ s. t.breaks_are untold [] refl;
+      breaks_are = λ s. t.breaks_are unsent [] refl;
       motions_are = ap (λ (ts : List Taken). if nat_eq id channel then Some ts else motions_in channel device es) t.section_is
           ∙ ap (λ (o : Option (List Taken)). if nat_eq id channel then Some (taken device (n + 1) (messages_of es)) else o) t.motions_are
           ∙ found_at channel device id (n + 1) (messages_of es) (streams_of es) (nat_eq id channel);
     }
 step false channel device n (Message m) es p h = absurd p
 step false channel device n (End id sent received finished) es p h = absurd p
-step false channel device n (Naming clock id seq) es p h =
+step false channel device n (Anr clock id seq) es p h =
     let t : Outside channel device es = h false p in
     record { breaks_are = t.breaks_are; motions_are = t.motions_are }
 step true channel device n (Channel id) es p h = absurd p
@@ -78,7 +78,7 @@ step true channel device n (Message m) es p h =
 step true channel device n (End id sent received finished) es p h =
     let t : Outside channel device es = h false p in
     record { breaks_are = λ s past e. t.breaks_are s; motions_are = t.motions_are; section_is = refl }
-step true channel device n (Naming clock id seq) es p h = absurd p
+step true channel device n (Anr clock id seq) es p h = absurd p
 
 nothing : (inside : Bool) (channel device n : ℕ) → Ties inside channel device n []
 nothing false channel device n = record { breaks_are = λ s. refl; motions_are = refl }
@@ -100,11 +100,11 @@ unbroken channel device es streams None answer e h = rw e at h
 unbroken channel device es streams (Some line) answer e h = h
 
 of_lines : (channel device n : ℕ) (r : Result (List Event) ℕ) (answer : Result (List ℕ) EmitError) → Places false n r
-    → AnswersLines channel device (judged_lines untold r) answer → AnswersFor device (judged (motions_of channel device) (streams_in r)) answer
+    → AnswersLines channel device (judged_lines unsent r) answer → AnswersFor device (judged (motions_of channel device) (streams_in r)) answer
 of_lines channel device n (Err bad) answer p h = h
 of_lines channel device n (Ok es) answer p h =
     let t : Outside channel device es = ties false channel device n es p in
-    unbroken channel device es (streams_of es) (first_break (streams_of es)) answer t.motions_are (rw (t.breaks_are untold) at h)
+    unbroken channel device es (streams_of es) (first_break (streams_of es)) answer t.motions_are (rw (t.breaks_are unsent) at h)
 
 pub of_file : (bytes : List ℕ) (channel device : ℕ) (answer : Result (List ℕ) EmitError) → AnswersLines channel device (file_lines bytes) answer
     → AnswersFor device (judged (motions_of channel device) (streams_in (events_of bytes))) answer

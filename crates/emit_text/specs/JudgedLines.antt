@@ -1,8 +1,8 @@
 -- The lines of a stream file, judged one by one.
 use Rattle.std.specs.Prelude.{◌≡◌, ◌<◌, ℕ, List, [], ◌∷◌, Option, Some, None, Result, Ok, Err}
-use Rattle.input_types.specs.StreamRule.{StreamState, untold, after_body}
+use Rattle.input_types.specs.StreamRule.{StreamState, unsent, after_body}
 use Rattle.stream_text.specs.declared.stream_line.StreamLine.{StreamLine}
-use Rattle.stream_text.specs.declared.stream_line.StreamLine.TheVariants.{Channel, Message, End, Naming}
+use Rattle.stream_text.specs.declared.stream_line.StreamLine.TheVariants.{Channel, Message, End, Anr}
 use Rattle.stream_text.specs.StreamFile.{Event, events_of}
 use Rattle.stream_judge.specs.declared.error.FileError.{FileError}
 use Rattle.stream_judge.specs.declared.error.FileError.TheVariants.{BadLine, Memory}
@@ -10,10 +10,10 @@ use Rattle.stream_judge.specs.Judged.{unless_broken}
 
 -- what a window knows behind a line of its section; None where the line's message may not come
 abbrev pub after_line : StreamState → StreamLine → Option StreamState
-after_line s (Channel id) = Some untold
+after_line s (Channel id) = Some unsent
 after_line s (Message m) = after_body s m.body
 after_line s (End id sent received finished) = Some s
-after_line s (Naming clock id seq) = Some s
+after_line s (Anr clock id seq) = Some s
 
 -- the line where a message may not come, and else what is said of the rest
 abbrev pub break_or : ℕ → Option StreamState → (StreamState → Option ℕ) → Option ℕ
@@ -32,7 +32,7 @@ judged_lines s (Err bad) = Err (BadLine bad)
 
 -- the lines of a file's bytes, or why the file is refused
 abbrev pub file_lines : List ℕ → Result (List Event) FileError
-file_lines bytes = judged_lines untold (events_of bytes)
+file_lines bytes = judged_lines unsent (events_of bytes)
 
 -- what is left of a file to a reader: how many bytes, and their lines, or why the file is refused
 pub record Unjudged : Type 0 where

@@ -27,15 +27,15 @@ wanted_of [] = []
 wanted_of (w ∷ ws) = (w.moment, w.want) ∷ wanted_of ws
 
 -- what is down behind motions, with their moments
-abbrev pub told_by : List Taken → List (ℕ × List Want)
-told_by [] = []
-told_by (t ∷ ts) = (t.moment, t.want) ∷ told_by ts
+abbrev pub sent_by : List Taken → List (ℕ × List Want)
+sent_by [] = []
+sent_by (t ∷ ts) = (t.moment, t.want) ∷ sent_by ts
 
 -- A recording of motions: a reader makes of it the events of packets, one for each motion at its moment, and cooking assigns behind each packet what
 -- is down behind its motion.
 pub record IsRecording (device : ℕ) (motions : List Taken) (text : List ℕ) : Type 0 where
   pub packets : List Written
-  pub one_each : wanted_of packets ≡ reverse (told_by motions)
+  pub one_each : wanted_of packets ≡ reverse (sent_by motions)
   pub read : recorded ((path, device) ∷ []) text ≡ Ok (reverse (events_written device 16 packets))
   pub cooked : CookToWanted device packets
 

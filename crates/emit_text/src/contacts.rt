@@ -60,7 +60,7 @@ fn list_down(want: &mut Vec<Want>, motion: &Motion) -> Result<bool, AllocError>
     }
 }
 
-/// Lists the contacts that are down on a device behind what a window is told, with rising ids; false where that is no
+/// Lists the contacts that are down on a device behind what a window is sent, with rising ids; false where that is no
 /// motion of the device, or one that does not tell them.
 pub(crate) fn list_wanted(
     want: &mut Vec<Want>,

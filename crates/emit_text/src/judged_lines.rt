@@ -24,7 +24,7 @@ fn judge(alloc: Global, verifier: &mut Verifier, says: &StreamLine) -> Result<bo
             Err(StepError::Fault(_)) => Ok(false),
             Err(StepError::Memory) => Err(AllocError),
         },
-        StreamLine::End { .. } | StreamLine::Naming { .. } => Ok(true),
+        StreamLine::End { .. } | StreamLine::Anr { .. } => Ok(true),
     }
 }
 

@@ -29,13 +29,13 @@ key_of_another_device = refl
 pub key_up : (state_of told).repeats 1 1 ≡ None
 key_up = refl
 
-pub key_never_told : (state_of told).repeats 1 700 ≡ None
-key_never_told = refl
+pub key_never_sent : (state_of told).repeats 1 700 ≡ None
+key_never_sent = refl
 
 pub stands_still : one_more 18446744073709551615 ≡ 18446744073709551615
 stands_still = refl
 
--- keys that are down, in the order in which they are told
+-- keys that are down, in the order in which they are sent
 abbrev key : ℕ → ℕ → HeldKey
 key device scan = record { device = device; scan = scan }
 
@@ -48,8 +48,8 @@ devices_come_first = refl
 pub scan_codes_rise : are_rising (key 2 30 ∷ key 2 1 ∷ []) ≡ false
 scan_codes_rise = refl
 
-pub told_once : are_rising (key 2 1 ∷ key 2 1 ∷ []) ≡ false
-told_once = refl
+pub sent_once : are_rising (key 2 1 ∷ key 2 1 ∷ []) ≡ false
+sent_once = refl
 
 pub key_of_one_device : is_held 2 30 keys_down ≡ true
 key_of_one_device = refl

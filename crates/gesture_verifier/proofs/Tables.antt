@@ -11,7 +11,7 @@ use Rattle.input_types.specs.declared.key.KeyMsg.{KeyMsg}
 use Rattle.input_types.specs.declared.motion.Motion.{Motion}
 use Rattle.input_types.specs.declared.message.Body.TheVariants.{Motion as MotionBody, Key}
 use Rattle.input_types.specs.Gestures.{after_motion}
-use Rattle.input_types.specs.StreamRule.{StreamState, untold, with_ids, with_repeat, after_key, after_body}
+use Rattle.input_types.specs.StreamRule.{StreamState, unsent, with_ids, with_repeat, after_key, after_body}
 use Rattle.pointers_down.proofs.Sets.{none_listed}
 use Rattle.gesture_verifier.specs.Told.{Told, state_of, is_device, is_of_device, ids_kept, due_at, due_kept, place_of}
 
@@ -48,9 +48,9 @@ no_due x true e = e
 no_due x false e = refl
 
 -- at first nothing is down
-pub nothing_told : (x : ℕ) (table : List (ℕ × ℕ)) → x ≡ 0 → table ≡ []
-    → state_of (record { sets = replicate 8 x; repeats = table; focus = false; accepted = 0 }) ≡ untold
-nothing_told x table e t = rw (e, t) (λ i. record {
+pub nothing_sent : (x : ℕ) (table : List (ℕ × ℕ)) → x ≡ 0 → table ≡ []
+    → state_of (record { sets = replicate 8 x; repeats = table; focus = false; accepted = 0 }) ≡ unsent
+nothing_sent x table e t = rw (e, t) (λ i. record {
   ids = λ d. first_at (get_or (replicate 8 0) (d - 1) 0) (is_device d) (unwritten 0 8 (d - 1)) i;
   repeats = λ d s. no_due None (is_of_device d s) refl i;
   focus = false;

@@ -31,7 +31,7 @@ pub record IsFault (told : Told) (m : Message) (f : Fault) : Type 0 where
   pub focus : f.focus ≡ told.focus
   pub message : f.message ≡ m
   pub reason : f.reason ≡ reason_of (state_of told) m.body
-  pub told_why : is_spelled m.body ≡ true → is_some f.reason ≡ true
+  pub sent_why : is_spelled m.body ≡ true → is_some f.reason ≡ true
 
 -- the body of a key message
 abbrev pub is_key : Body → Bool

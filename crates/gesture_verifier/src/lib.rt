@@ -1,6 +1,6 @@
-//! A judge of the messages that one window is told.
+//! A judge of the messages that one window is sent.
 //!
-//! A window that is told a well-formed stream sees whole gestures: a first finger that goes down, further ones, moves,
+//! A window that is sent a well-formed stream sees whole gestures: a first finger that goes down, further ones, moves,
 //! and an end for each; keys whose repeats are counted from 0; and a focus that it gets before it loses it. `Verifier`
 //! is shown the messages of a stream one by one and says at which one the stream stops to be well-formed.
 //!

@@ -14,7 +14,7 @@ use std::alloc::{AllocError, Global};
 use std::collections::BTreeMap;
 use std::marker::Model;
 
-/// What a window knows from the messages that it was told, in the order in which they were accepted.
+/// What a window knows from the messages that it was sent, in the order in which they were accepted.
 #[derive(Drop)]
 pub struct Verifier {
     /// The ids that are down on each device, that of device 1 first.
@@ -37,7 +37,7 @@ impl Model for Verifier {
 }
 
 impl Verifier {
-    ghost use Rattle.input_types.specs.StreamRule.{untold, after_body, is_well_formed};
+    ghost use Rattle.input_types.specs.StreamRule.{unsent, after_body, is_well_formed};
     ghost use Rattle.bits32.specs.Set.{members};
     ghost use Rattle.gesture_verifier.specs.Told.{state_of, one_more, VerifierStandsFor};
     ghost use Rattle.gesture_verifier.specs.Faults.{Accepts, IsFault, Takes, is_key, ids_of_body, due_of_body};
@@ -46,7 +46,7 @@ impl Verifier {
 
     /// A judge of a stream that has no message yet.
     pub fn new(alloc: Global) -> Verifier
-        ensures untold { state_of result ≡ untold }
+        ensures unsent { state_of result ≡ unsent }
         ensures stands { VerifierStandsFor [] result }
     {
         Verifier {

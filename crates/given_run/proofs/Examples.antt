@@ -1,4 +1,4 @@
--- Worked examples: the calls of small orders, and the lines of what a window was told.
+-- Worked examples: the calls of small orders, and the lines of what a window was sent.
 use Rattle.std.specs.Prelude.{◌≡◌, ℕ, true, codes, List, [], ◌∷◌, map, Result, Ok, Err, refl, Some}
 use Rattle.std.specs.Fmt.{digits}
 use Rattle.stream_text.specs.Spelling.{labeled, pointer, motion as motion_text, numbered}
@@ -78,11 +78,11 @@ what_its_owner_received :
 unfolding labeled pointer motion_text numbered digits
 what_its_owner_received = refl
 
--- what is not received is a line as soon as it is told
+-- what is not received is a line as soon as it is sent
 what_it_did_not_receive : lines_first (effects (given_calls one_window (map line_of (Script 1 ∷ Reader ∷ Pump ∷ [])))) 1 1 ≡ codes "1 1000000 motion 1 DOWN 0@100,200\n"
 unfolding labeled pointer motion_text numbered digits
 what_it_did_not_receive = refl
 
 -- and no line before
-what_it_was_not_told : lines_first (effects (given_calls one_window (map line_of (Script 1 ∷ Reader ∷ [])))) 1 1 ≡ []
-what_it_was_not_told = refl
+what_it_was_not_sent : lines_first (effects (given_calls one_window (map line_of (Script 1 ∷ Reader ∷ [])))) 1 1 ≡ []
+what_it_was_not_sent = refl

@@ -14,7 +14,7 @@
 //!
 //! [`followed`] opens the channels and makes these calls. Nothing of a line depends on how many came before it: args
 //! are taken in their order, and for each lane the place is kept from which its next step is looked for. What it
-//! answers is a run whose sections and namings are told as those of the ordered schedule are. An order can ask for args
+//! answers is a run whose sections and namings are sent as those of the ordered schedule are. An order can ask for args
 //! or for a step that the plan does not have; then the number of the lines before that line is the answer.
 #![tactic(auto)]
 

@@ -34,15 +34,15 @@ known d calls c low high =
     rw (one, le-leb c d.channels high) refl
 
 -- what is left of it is all of it, where nothing was let go
-pub told_whole : (d : Screen) (calls : List CursorCall) (c gone : ℕ) (left : List HoverMsg) → 1 ≤ c → c ≤ d.channels → gone ≡ 0
+pub sent_whole : (d : Screen) (calls : List CursorCall) (c gone : ℕ) (left : List HoverMsg) → 1 ≤ c → c ≤ d.channels → gone ≡ 0
     → Some left ≡ option_map (drop gone) (stream_of d calls c) → left ≡ stream d calls c
-told_whole d calls c gone left low high none is =
+sent_whole d calls c gone left low high none is =
     let all : Some left ≡ Some (stream d calls c) =
     is ∙ ap (λ n. option_map (drop n) (stream_of d calls c)) none ∙ ap (option_map (drop 0)) (known d calls c low high) in
     cc all
 
 -- there is something of it
-pub none_told : (d : Screen) (calls : List CursorCall) (c gone : ℕ) → 1 ≤ c → c ≤ d.channels → ◌≡◌ {A = Option (List HoverMsg)} None (option_map (drop gone) (stream_of d calls c)) → ⊥
-none_told d calls c gone low high is =
+pub none_sent : (d : Screen) (calls : List CursorCall) (c gone : ℕ) → 1 ≤ c → c ≤ d.channels → ◌≡◌ {A = Option (List HoverMsg)} None (option_map (drop gone) (stream_of d calls c)) → ⊥
+none_sent d calls c gone low high is =
     let some : ◌≡◌ {A = Option (List HoverMsg)} None (Some (drop gone (stream d calls c))) = is ∙ ap (option_map (drop gone)) (known d calls c low high) in
     cc some

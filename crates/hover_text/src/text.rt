@@ -84,7 +84,7 @@ fn add_section(
     add_end(text, id, messages.len() as u64)
 }
 
-/// What a channel of the session was told.
+/// What a channel of the session was sent.
 fn told(cursor: &Cursor, channel: u32) -> &[HoverMsg]
     requires { IsWhole cursor.now }
     ensures { (d : Screen) (calls : List Call) → CursorStandsFor d calls cursor.now → 1 ≤ channel → channel ≤ d.channels

@@ -14,11 +14,11 @@ none_late limit clock u (v ∷ vs) h in_time =
     let other : nat_le (v.delivery + limit) clock ≡ false = grind (arith, nat_tests, h.1) in
     rw other (none_late limit clock u vs h.2 in_time)
 
-first_tells : (limit clock : ℕ) (u : Unfinished) (us : List Unfinished) → Follow u us → (b : Bool)
+first_sends : (limit clock : ℕ) (u : Unfinished) (us : List Unfinished) → Follow u us → (b : Bool)
     → nat_le (u.delivery + limit) clock ≡ b
     → b ≡ (b || list_any (λ v. nat_le (v.delivery + limit) clock) us)
-first_tells limit clock u us h true is = refl
-first_tells limit clock u us h false is = sym (none_late limit clock u us h is)
+first_sends limit clock u us h true is = refl
+first_sends limit clock u us h false is = sym (none_late limit clock u us h is)
 
 -- some message is late exactly where the oldest one is
 pub late_by_first : (limit clock : ℕ) (us : List Unfinished) (u : Unfinished) → IsInOrder us → Some u ≡ slice_get us 0
@@ -26,4 +26,4 @@ pub late_by_first : (limit clock : ℕ) (us : List Unfinished) (u : Unfinished) 
 late_by_first limit clock [] u order first = cc
 late_by_first limit clock (v ∷ vs) u order first =
     let same : u ≡ v = cc in
-    rw same (first_tells limit clock v vs order.0 (nat_le (v.delivery + limit) clock) refl)
+    rw same (first_sends limit clock v vs order.0 (nat_le (v.delivery + limit) clock) refl)

@@ -96,16 +96,16 @@ abbrev pub finished_with : ℕ → ChannelState → ChannelState
 finished_with seq s = record s { finished = s.finished + 1; unfinished = without seq s.unfinished }
 
 -- the messages that were received are let go
-abbrev pub let_go_of : ChannelState → ChannelState
-let_go_of s = record s { gone = max s.gone s.received; messages = drop (s.received - s.gone) s.messages }
+abbrev pub release_of : ChannelState → ChannelState
+release_of s = record s { gone = max s.gone s.received; messages = drop (s.received - s.gone) s.messages }
 
 -- all messages are let go, and the room for more stays
-abbrev pub each_let_go : ChannelState → ChannelState
-each_let_go s = record s { gone = sent s; messages = [] }
+abbrev pub each_released : ChannelState → ChannelState
+each_released s = record s { gone = sent s; messages = [] }
 
 -- all messages are let go, and the room for more too
-abbrev pub all_let_go : ChannelState → ChannelState
-all_let_go s = record s { gone = sent s; messages = []; spare = 0 }
+abbrev pub all_released : ChannelState → ChannelState
+all_released s = record s { gone = sent s; messages = []; spare = 0 }
 
 -- the number and the delivery of the oldest message that is published and not finished
 abbrev pub oldest_of : ChannelState → Option (ℕ × ℕ)

@@ -6,7 +6,7 @@ ghost use Rattle.input_channel.specs.Order.{NoneAfter};
 ghost use Rattle.input_channel.specs.State.{IsChannel, opened_with, sent, enqueued, with_spare, published_at};
 ghost use Rattle.input_channel.specs.State.{next_of, received_one, received_next, passed, may_finish, finished_with};
 ghost use Rattle.input_channel.specs.Moves.{moves_from};
-ghost use Rattle.input_channel.specs.State.{let_go_of, each_let_go, all_let_go, oldest_of, has_late};
+ghost use Rattle.input_channel.specs.State.{release_of, each_released, all_released, oldest_of, has_late};
 
 use crate::kept::Kept;
 use crate::unfinished::{MOST, Unfinished, deliver, place_of};
@@ -272,17 +272,17 @@ impl Channel {
     }
 
     /// Drops the messages that were received. Their numbers stay in use.
-    pub fn let_go(&mut self)
-        ensures { self.new ≡ let_go_of self.old }
+    pub fn release(&mut self)
+        ensures { self.new ≡ release_of self.old }
     {
         let count = self.received.saturating_sub(self.kept.gone());
-        self.kept.let_go(count as usize);
+        self.kept.release(count as usize);
     }
 
     /// Drops all messages, those too that were not received, as one does who has read them. Their numbers stay in use,
     /// and the room for more stays. Their owner is handed none of them any more, but `pass` goes on.
     pub fn let_each_go(&mut self)
-        ensures { self.new ≡ each_let_go self.old }
+        ensures { self.new ≡ each_released self.old }
     {
         self.kept.let_each_go();
     }
@@ -290,7 +290,7 @@ impl Channel {
     /// Drops all messages, those too that were not received, and gives back their memory. Their numbers stay in use,
     /// and the owner is handed none of them any more.
     pub fn let_all_go(&mut self)
-        ensures { self.new ≡ all_let_go self.old }
+        ensures { self.new ≡ all_released self.old }
     {
         self.kept.let_all_go();
     }

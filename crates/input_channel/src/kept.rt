@@ -151,7 +151,7 @@ impl Kept {
     }
 
     /// Lets the first `count` messages go.
-    pub(crate) fn let_go(&mut self, count: usize)
+    pub(crate) fn release(&mut self, count: usize)
         requires { count ≤ length self.old.messages }
         ensures { self.new ≡ kept_after count self.old }
     {

@@ -1,4 +1,4 @@
-//! The channel of a window: what it was told, and how far its owner has come with it.
+//! The channel of a window: what it was sent, and how far its owner has come with it.
 //!
 //! A message is enqueued, then published to the owner, received by it and finished. At most 64 are published and not
 //! finished. Their owner may finish those that it received in any order. With the clock at 0 and then at 1000000:

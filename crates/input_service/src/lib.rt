@@ -12,7 +12,7 @@
 //! seat 0 looks                                  3
 //! ```
 //!
-//! So a thread that is told a place and a reply knows what the core did up to there: one history, which begins with all
+//! So a thread that is sent a place and a reply knows what the core did up to there: one history, which begins with all
 //! that its seat had seen, and in which its own calls and no others bear its number.
 #![tactic(auto)]
 

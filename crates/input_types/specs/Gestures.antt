@@ -1,4 +1,4 @@
--- What a motion may do to the pointers that are down. One table serves for what a device does and for what a window is told.
+-- What a motion may do to the pointers that are down. One table serves for what a device does and for what a window is sent.
 use Rattle.std.specs.Prelude.{ℕ, ◌==◌, ◌&&◌, ◌||◌, not, nat_eq, nat_lt, Bool, true, false, cond, List, [], length, map, remove, Option, Some, None}
 use Rattle.std.specs.Cmp.Lexicographic.{pointwise}
 use Rattle.input_types.specs.declared.pointer.Pointer.{Pointer}

@@ -7,7 +7,7 @@ use Rattle.input_types.specs.declared.message.Body.TheVariants.{Motion as Motion
 use Rattle.input_types.specs.declared.message.Message.{Message}
 use Rattle.input_types.specs.Gestures.{after_motion, allowed, differ, is_end_flag}
 
--- what a window knows from what it was told: per device the ids that are down, in rising order; per device and scan code the next
+-- what a window knows from what it was sent: per device the ids that are down, in rising order; per device and scan code the next
 -- repeat number of a key that is down; and whether it has the focus
 pub record StreamState : Type 0 where
   pub ids : ℕ → List ℕ
@@ -15,8 +15,8 @@ pub record StreamState : Type 0 where
   pub focus : Bool
 
 -- nothing is down, and there is no focus
-abbrev pub untold : StreamState
-untold = record { ids = λ _. []; repeats = λ _ _. None; focus = false }
+abbrev pub unsent : StreamState
+unsent = record { ids = λ _. []; repeats = λ _ _. None; focus = false }
 
 -- the next repeat number of a key after a key message, where it may come: a down has the number that is due, 0 where the key is up,
 -- and an up ends a key that is down
@@ -33,7 +33,7 @@ with_ids table device ids d = if nat_eq d device then ids else table d
 abbrev pub with_repeat : (ℕ → ℕ → Option ℕ) → ℕ → ℕ → Option ℕ → ℕ → ℕ → Option ℕ
 with_repeat table device scan due d s = if nat_eq d device && nat_eq s scan then due else table d s
 
--- What a window knows after it is told one thing more, where that may come: a motion by the table of motions of its device, a key
+-- What a window knows after it is sent one thing more, where that may come: a motion by the table of motions of its device, a key
 -- message by its key, and a change of the focus.
 abbrev pub after_body : StreamState → Body → Option StreamState
 after_body s (MotionBody m) =
@@ -45,7 +45,7 @@ after_body s (Focus b) = allowed (differ b s.focus) (record { ids = s.ids; repea
 
 -- what a window knows after a list of messages, the newest first; None where one of them might not come when it came
 abbrev pub stream_state : List Message → Option StreamState
-stream_state [] = Some untold
+stream_state [] = Some unsent
 stream_state (m ∷ past) = option_and_then (λ s. after_body s m.body) (stream_state past)
 
 -- each message of a stream, here the newest first, might come when it came

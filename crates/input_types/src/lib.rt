@@ -1,4 +1,4 @@
-//! The plain data of an input service: what a device says, what a window is told, and when.
+//! The plain data of an input service: what a device says, what a window is sent, and when.
 //!
 //! A finger that goes down at (540, 1200) on device 1 at 12,345.1 seconds is the message
 //!

@@ -12,7 +12,7 @@ pub enum Args {
     Reset(DeviceId),
 }
 
-/// What a window is told. Positions are pixels from the window's own corner.
+/// What a window is sent. Positions are pixels from the window's own corner.
 #[derive(Clone, Copy, Debug, PartialEq, Eq)]
 pub enum Body {
     Motion(Motion),

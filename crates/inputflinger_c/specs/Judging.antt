@@ -13,7 +13,7 @@ use Rattle.plain_calls.specs.Numbers.{flag}
 use Rattle.inputflinger_c.specs.Faults.{reason_number}
 use Rattle.plain_calls.specs.Status.{is_ok, is_free, is_taken, no_memory, out_of_range, is_broken}
 
--- what a handle has after `new`: a handle that is not free keeps its judge; else it has one that was told nothing, or memory was wanting
+-- what a handle has after `new`: a handle that is not free keeps its judge; else it has one that was sent nothing, or memory was wanting
 abbrev pub Opens : Option Told → ℕ → Option Told → Type 0
 Opens (Some told) status new = (status ≡ is_taken) × (new ≡ Some told)
 Opens None status None = status ≡ no_memory

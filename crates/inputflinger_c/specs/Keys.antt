@@ -12,26 +12,26 @@ abbrev pub plain_key : HeldKey → PlainKey
 plain_key k = record { device = k.device; scan = k.scan }
 
 -- the statuses of a call that tells keys
-abbrev pub is_told : ℕ → Bool
-is_told status = list_any (λ s. nat_eq s status) (is_ok ∷ no_room ∷ [])
+abbrev pub is_sent : ℕ → Bool
+is_sent status = list_any (λ s. nat_eq s status) (is_ok ∷ no_room ∷ [])
 
 -- The keys that are down, in rising order, and how many they are; they are written to the places at the front where there is room for
 -- all of them, and else none is.
-pub record TellsKeys (told : Told) (status : ℕ) (before after : List PlainKey) (count : ℕ) : Type 0 where
+pub record SendsKeys (told : Told) (status : ℕ) (before after : List PlainKey) (count : ℕ) : Type 0 where
   pub keys : List HeldKey
   pub rising : are_rising keys ≡ true
   pub exact : (d s : ℕ) → is_held d s keys ≡ is_some ((state_of told).repeats d s)
   pub counted : count ≡ length keys
-  pub one : is_told status ≡ true
+  pub one : is_sent status ≡ true
   pub ok : status ≡ is_ok → after ≡ map plain_key keys ++ drop (length keys) before
   pub small : status ≡ no_room → (length before < length keys) × (after ≡ before)
 
 -- what telling them comes to, by whether memory was wanting
-abbrev pub KeysTold : Bool → ℕ → Told → List PlainKey → List PlainKey → ℕ → ℕ → Type 0
-KeysTold true status told before after was count = (after ≡ before) × (count ≡ was)
-KeysTold false status told before after was count = TellsKeys told status before after count
+abbrev pub KeysSent : Bool → ℕ → Told → List PlainKey → List PlainKey → ℕ → ℕ → Type 0
+KeysSent true status told before after was count = (after ≡ before) × (count ≡ was)
+KeysSent false status told before after was count = SendsKeys told status before after count
 
--- what `keys` comes to: of a free handle nothing is told, and a judge stays as it is
+-- what `keys` comes to: of a free handle nothing is sent, and a judge stays as it is
 abbrev pub KeysGo : Option Told → ℕ → Option Told → List PlainKey → List PlainKey → ℕ → ℕ → Type 0
 KeysGo None status new before after was count = (status ≡ is_free) × ((new ≡ None) × ((after ≡ before) × (count ≡ was)))
-KeysGo (Some told) status new before after was count = (new ≡ Some told) × KeysTold (nat_eq status no_memory) status told before after was count
+KeysGo (Some told) status new before after was count = (new ≡ Some told) × KeysSent (nat_eq status no_memory) status told before after was count

@@ -15,5 +15,5 @@ judge_owns alloc at None = ftrue
 judge_owns alloc at (Some told) = box_owns (ghosts.dealloc_token alloc) the_row at told
 
 -- how a proof tells what a cell owns apart
-abbrev pub told_coded : Coded (Option the_row.Denot)
-told_coded = coded_option the_row.coded
+abbrev pub sent_coded : Coded (Option the_row.Denot)
+sent_coded = coded_option the_row.coded

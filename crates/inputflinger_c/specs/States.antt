@@ -7,11 +7,11 @@ use Rattle.plain_calls.specs.Numbers.{flag}
 use Rattle.plain_calls.specs.Status.{is_ok, is_free}
 
 -- a state tells the ids that are down on each device, and the focus
-pub record Tells (told : Told) (s : PlainState) : Type 0 where
+pub record Sends (told : Told) (s : PlainState) : Type 0 where
   pub ids : (d : ℕ) → is_device d ≡ true → members (slice_index s.ids (d - 1)) ≡ (state_of told).ids d
   pub focus : s.focus ≡ flag (state_of told).focus
 
--- what `state` comes to: of a free handle nothing is told, and a judge stays as it is
+-- what `state` comes to: of a free handle nothing is sent, and a judge stays as it is
 abbrev pub StateGoes : Option Told → ℕ → Option Told → PlainState → PlainState → Type 0
 StateGoes None status new before after = (status ≡ is_free) × ((new ≡ None) × (after ≡ before))
-StateGoes (Some told) status new before after = (status ≡ is_ok) × ((new ≡ Some told) × Tells told after)
+StateGoes (Some told) status new before after = (status ≡ is_ok) × ((new ≡ Some told) × Sends told after)

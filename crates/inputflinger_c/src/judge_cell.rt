@@ -1,7 +1,7 @@
 //! Where the judge of a handle lies.
 ghost use Rattle.std.specs.Prelude.{◌≡◌, Option, Some, None, IsSome};
 ghost use Rattle.gesture_verifier.specs.Told.{Told};
-ghost use Rattle.inputflinger_c.specs.Owning.{told_coded, judge_owns};
+ghost use Rattle.inputflinger_c.specs.Owning.{sent_coded, judge_owns};
 
 use crate::unboxed::Unboxed;
 use gesture_verifier::Verifier;
@@ -15,7 +15,7 @@ use std::ptr;
 pub struct JudgeCell {
     at: *mut u8,
     alloc: Global,
-    pub ghost told: { Option Told } by { told_coded },
+    pub ghost told: { Option Told } by { sent_coded },
 }
 
 impl Model for JudgeCell {

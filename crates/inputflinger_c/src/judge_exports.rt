@@ -1,7 +1,7 @@
 //! The calls of a judge.
 ghost use Rattle.inputflinger_c.specs.Judging.{Opens, Frees, Steps, StepGoes};
 ghost use Rattle.std.specs.Prelude.{nat_eq};
-ghost use Rattle.inputflinger_c.specs.Keys.{KeysGo, KeysTold};
+ghost use Rattle.inputflinger_c.specs.Keys.{KeysGo, KeysSent};
 ghost use Rattle.plain_calls.specs.Status.{no_memory};
 ghost use Rattle.plain_calls.specs.Plain.{message_of};
 ghost use Rattle.inputflinger_c.specs.States.{StateGoes};
@@ -118,14 +118,14 @@ pub extern "C" fn inputflinger_proved_judge_keys(
     let Some(verifier) = judge.take(alloc) else {
         return FREE;
     };
-    let status = tell_keys(alloc, &verifier, places, count);
+    let status = send_keys(alloc, &verifier, places, count);
     judge.put(verifier);
     status
 }
 
 /// Tells the keys that are down in a stream.
-fn tell_keys(alloc: Global, verifier: &Verifier, places: &mut [PlainKey], count: &mut usize) -> u32
-    ensures { KeysTold (nat_eq result no_memory) result verifier.now places.old places.new count.old count.new }
+fn send_keys(alloc: Global, verifier: &Verifier, places: &mut [PlainKey], count: &mut usize) -> u32
+    ensures { KeysSent (nat_eq result no_memory) result verifier.now places.old places.new count.old count.new }
 {
     match verifier.keys_down(alloc) {
         Ok(keys) => {

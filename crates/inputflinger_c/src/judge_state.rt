@@ -2,7 +2,7 @@
 ghost use Rattle.std.specs.Prelude.{◌≡◌, true};
 ghost use Rattle.bits32.specs.Set.{members};
 ghost use Rattle.gesture_verifier.specs.Told.{is_device, state_of as known};
-ghost use Rattle.inputflinger_c.specs.States.{Tells};
+ghost use Rattle.inputflinger_c.specs.States.{Sends};
 
 use gesture_verifier::Verifier;
 use input_types::{Body, DeviceId};
@@ -20,7 +20,7 @@ pub struct PlainState {
 
 /// What a judge knows.
 pub(crate) fn state_of(verifier: &Verifier) -> PlainState
-    ensures { Tells verifier.now result }
+    ensures { Sends verifier.now result }
 {
     PlainState {
         ids: [

@@ -9,7 +9,7 @@
 //! inputflinger_live_open                                     1: the handle is free
 //! ```
 //!
-//! A window that is told a well-formed stream sees whole gestures. A test of a toolkit has the messages that a window
+//! A window that is sent a well-formed stream sees whole gestures. A test of a toolkit has the messages that a window
 //! got, one by one, and asks at which one the stream stops to be well-formed:
 //!
 //! ```text

@@ -1,6 +1,6 @@
 //! What is due in a live service, and what its devices give.
 ghost use Rattle.std.specs.Prelude.{◌≡◌, ⊤, nat_eq};
-ghost use Rattle.plain_calls.specs.Calling.{Reads, Replies, ok_of, told_status, written};
+ghost use Rattle.plain_calls.specs.Calling.{Reads, Replies, ok_of, answer_status, written};
 ghost use Rattle.plain_calls.specs.Driving.{IsDue, CaughtUp, Happened, HandedIn, Removed, TouchAdded, event};
 ghost use Rattle.plain_calls.specs.Layouts.{AddsKeys, layout_from};
 ghost use Rattle.plain_calls.specs.Numbers.{device_of, display_of, moment_of};
@@ -24,7 +24,7 @@ pub extern "C" fn inputflinger_proved_live_due(
     moment_us: &mut u64,
 ) -> u32
     ensures { OnService live.old.cell.state result live.new.cell.state (moment_us.new ≡ moment_us.old)
-        (λ old new. (new ≡ old) × Replies told_status result
+        (λ old new. (new ≡ old) × Replies answer_status result
         (λ r. IsDue old r × (moment_us.new ≡ written (λ t. t) r moment_us.old))) }
 {
     let Some(mut service) = live.take(alloc) else {

@@ -1,8 +1,8 @@
 //! The windows of a live service, the focus, and what can be asked of its clients.
 ghost use Rattle.std.specs.Prelude.{◌≡◌, ⊤, nat_eq};
 ghost use Rattle.live_input.specs.Seats.{is_open};
-ghost use Rattle.plain_calls.specs.Asking.{client_on, TellsClient, HasFocus, GetsKeys, Responds, Holds, IsClock};
-ghost use Rattle.plain_calls.specs.Calling.{Reads, Replies, told_status, written};
+ghost use Rattle.plain_calls.specs.Asking.{client_on, AnswersClient, HasFocus, GetsKeys, Responds, Holds, IsClock};
+ghost use Rattle.plain_calls.specs.Calling.{Reads, Replies, answer_status, written};
 ghost use Rattle.plain_calls.specs.Clients.{client_of, maybe_client, plain_client};
 ghost use Rattle.plain_calls.specs.Numbers.{device_of, display_of, flag, moment_of};
 ghost use Rattle.plain_calls.specs.Replies.{focus_status};
@@ -67,15 +67,15 @@ pub extern "C" fn inputflinger_proved_live_is_open(
     alloc: Global,
     live: &mut Service,
     client: &PlainClient,
-    told: &mut u8,
+    answer: &mut u8,
 ) -> u32
-    ensures { OnService live.old.cell.state result live.new.cell.state (told.new ≡ told.old)
-        (λ old new. (result ≡ is_ok) × ((new ≡ old) × (told.new ≡ flag (is_open old.seats (client_of client.now))))) }
+    ensures { OnService live.old.cell.state result live.new.cell.state (answer.new ≡ answer.old)
+        (λ old new. (result ≡ is_ok) × ((new ≡ old) × (answer.new ≡ flag (is_open old.seats (client_of client.now))))) }
 {
     let Some(mut service) = live.take(alloc) else {
         return FREE;
     };
-    *told = asking::is_open(&service, client);
+    *answer = asking::is_open(&service, client);
     live.put(service);
     OK
 }
@@ -89,7 +89,7 @@ pub extern "C" fn inputflinger_proved_live_client_at(
     client: &mut PlainClient,
 ) -> u32
     ensures { OnService live.old.cell.state result live.new.cell.state (client.new ≡ client.old)
-        (λ old new. (new ≡ old) × TellsClient result (client_on old channel) client.old client.new) }
+        (λ old new. (new ≡ old) × AnswersClient result (client_on old channel) client.old client.new) }
 {
     let Some(mut service) = live.take(alloc) else {
         return FREE;
@@ -109,7 +109,7 @@ pub extern "C" fn inputflinger_proved_live_focused(
 ) -> u32
     ensures { OnService live.old.cell.state result live.new.cell.state (client.new ≡ client.old)
         (λ old new. (new ≡ old) × Reads (display_of display) result (client.new ≡ client.old)
-        (λ y. Replies told_status result
+        (λ y. Replies answer_status result
         (λ r. HasFocus old y r × (client.new ≡ written plain_client r client.old)))) }
 {
     let Some(mut service) = live.take(alloc) else {
@@ -128,7 +128,7 @@ pub extern "C" fn inputflinger_proved_live_key_target(
     client: &mut PlainClient,
 ) -> u32
     ensures { OnService live.old.cell.state result live.new.cell.state (client.new ≡ client.old)
-        (λ old new. (new ≡ old) × Replies told_status result
+        (λ old new. (new ≡ old) × Replies answer_status result
         (λ r. GetsKeys old r × (client.new ≡ written plain_client r client.old))) }
 {
     let Some(mut service) = live.take(alloc) else {
@@ -145,15 +145,15 @@ pub extern "C" fn inputflinger_proved_live_is_responsive(
     alloc: Global,
     live: &mut Service,
     client: &PlainClient,
-    told: &mut u8,
+    answer: &mut u8,
 ) -> u32
-    ensures { OnService live.old.cell.state result live.new.cell.state (told.new ≡ told.old)
-        (λ old new. (result ≡ is_ok) × ((new ≡ old) × Responds old (client_of client.now) told.new)) }
+    ensures { OnService live.old.cell.state result live.new.cell.state (answer.new ≡ answer.old)
+        (λ old new. (result ≡ is_ok) × ((new ≡ old) × Responds old (client_of client.now) answer.new)) }
 {
     let Some(mut service) = live.take(alloc) else {
         return FREE;
     };
-    *told = asking::is_responsive(&service, client);
+    *answer = asking::is_responsive(&service, client);
     live.put(service);
     OK
 }

@@ -64,7 +64,7 @@ abbrev pub hint_line : (device : ℕ) → Option (List ℕ) → List ℕ
 hint_line device None = []
 hint_line device (Some words) = hint_front device ++ words ++ codes "\n"
 
--- a scan code behind those that are told: the first one begins the line
+-- a scan code behind those that are sent: the first one begins the line
 abbrev pub scan_words : (device : ℕ) → (is_first : Bool) → ℕ → List ℕ
 scan_words device is_first scan = if is_first then hint_front device ++ codes "still down " ++ decimal scan else codes "," ++ decimal scan
 

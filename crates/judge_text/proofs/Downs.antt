@@ -20,11 +20,11 @@ same_down past t pointers keys stands is rising exact =
     rw (stands.state, held, all) refl
 
 -- it is told where it is something
-pub nothing_told : (down known : Down) (v : Bool) → down ≡ known → v ≡ is_nothing down → v ≡ true → None ≡ (if is_nothing known then None else Some known)
-nothing_told down known v same is h = let none : is_nothing known ≡ true = ap is_nothing (sym same) ∙ sym is ∙ h in rw none refl
+pub nothing_sent : (down known : Down) (v : Bool) → down ≡ known → v ≡ is_nothing down → v ≡ true → None ≡ (if is_nothing known then None else Some known)
+nothing_sent down known v same is h = let none : is_nothing known ≡ true = ap is_nothing (sym same) ∙ sym is ∙ h in rw none refl
 
-pub something_told : (down known : Down) (v : Bool) → down ≡ known → v ≡ is_nothing down → v ≡ false → Some down ≡ (if is_nothing known then None else Some known)
-something_told down known v same is h = let some : is_nothing known ≡ false = ap is_nothing (sym same) ∙ sym is ∙ h in rw some (ap (λ d. Some d) same)
+pub something_sent : (down known : Down) (v : Bool) → down ≡ known → v ≡ is_nothing down → v ≡ false → Some down ≡ (if is_nothing known then None else Some known)
+something_sent down known v same is h = let some : is_nothing known ≡ false = ap is_nothing (sym same) ∙ sym is ∙ h in rw some (ap (λ d. Some d) same)
 
 -- ---- one device more
 

@@ -8,7 +8,7 @@ use Rattle.input_types.specs.declared.message.Body.{Body}
 use Rattle.input_types.specs.declared.message.Body.TheVariants.{Motion, Key, Focus}
 use Rattle.input_types.specs.declared.message.Message.{Message}
 use Rattle.input_types.specs.Gestures.{allowed, after_motion, differ}
-use Rattle.input_types.specs.StreamRule.{StreamState, after_body, after_key, stream_state, untold, with_ids, with_repeat}
+use Rattle.input_types.specs.StreamRule.{StreamState, after_body, after_key, stream_state, unsent, with_ids, with_repeat}
 use Rattle.gesture_verifier.specs.declared.held.HeldKey.{HeldKey}
 use Rattle.gesture_verifier.specs.Held.{are_rising, is_before, is_held}
 use Rattle.judge_text.specs.Down.{is_same, key_of, keys_after, keys_with, with_key, without_key}
@@ -224,7 +224,7 @@ due_from past m s d k (Some t) is h = due_step m.body t s d k (keys_after past) 
 pub due_exactly : (past : List Message) (s : StreamState) (device scan : ℕ) → stream_state past ≡ Some s
     → is_held device scan (keys_after past) ≡ is_some (s.repeats device scan)
 due_exactly [] s device scan is =
-    let same : untold ≡ s = cc in ap (λ (x : StreamState). is_some (x.repeats device scan)) same
+    let same : unsent ≡ s = cc in ap (λ (x : StreamState). is_some (x.repeats device scan)) same
 due_exactly (m ∷ past) s device scan is =
     due_from past m s device scan (stream_state past) is (λ t e. due_exactly past t device scan e)
 

@@ -8,14 +8,14 @@ use Rattle.stream_judge.specs.Breaks.{past_from}
 use Rattle.stream_judge.specs.Placed.{ArePlaced, Places}
 use Rattle.stream_judge.proofs.Placed.{placed_of}
 use Rattle.stream_text.specs.declared.stream_line.StreamLine.{StreamLine}
-use Rattle.stream_text.specs.declared.stream_line.StreamLine.TheVariants.{Channel, Message, End, Naming}
+use Rattle.stream_text.specs.declared.stream_line.StreamLine.TheVariants.{Channel, Message, End, Anr}
 use Rattle.stream_text.specs.declared.stream_lines.Place.{Place}
-use Rattle.stream_text.specs.declared.stream_lines.Place.TheVariants.{Between, Section, Namings}
+use Rattle.stream_text.specs.declared.stream_lines.Place.TheVariants.{Between, Section, Anrs}
 use Rattle.stream_text.specs.StreamFile.{Event, Goes, Unread, events_of, follow, messages_of, streams_in, streams_of, with_event}
 use Rattle.judge_text.specs.Broken.{broken_from, first_broken, reason_behind}
 use Rattle.judge_text.specs.Down.{Down, down_after}
 use Rattle.judge_text.specs.Judged.{answer, first_left_down, judged, judged_streams, messages_in, something, whole_line, whole_lines}
-use Rattle.judge_text.specs.Judging.{Known, Takes, broken_at, broken_left, down_at, down_left, judged_on, lines_at, lines_left, messages_at, messages_left, sections_at, sections_left, told_after}
+use Rattle.judge_text.specs.Judging.{Known, Takes, broken_at, broken_left, down_at, down_left, judged_on, lines_at, lines_left, messages_at, messages_left, sections_at, sections_left, sent_after}
 
 -- What lines from line n on say of their streams, behind these messages of the section that is open.
 record Ties (past : List Told) (es : List Event) (broken : Option (ℕ × Reason)) (down : Option (ℕ × Down)) (messages : ℕ) (lines : List ℕ) : Type 0 where
@@ -38,7 +38,7 @@ Inside id count past n es =
 abbrev TiesAt : Place → List Told → ℕ → List Event → Type 0
 TiesAt Between past n es = Outside past es
 TiesAt (Section id count) past n es = Inside id count past n es
-TiesAt Namings past n es = Outside past es
+TiesAt Anrs past n es = Outside past es
 
 -- the lines behind one are tied
 abbrev Behind : ℕ → List Event → Type 0
@@ -59,7 +59,7 @@ begins past n id es h = record {
       h.lines_are ∙ ap (λ c. whole_line id c ++ whole_lines (streams_of es)) k;
 }
 
-names : (past : List Told) (n clock id seq : ℕ) (es : List Event) → Outside past es → Outside past ((n, Naming clock id seq) ∷ es)
+names : (past : List Told) (n clock id seq : ℕ) (es : List Event) → Outside past es → Outside past ((n, Anr clock id seq) ∷ es)
 names past n clock id seq es h = record {
   broken_is = h.broken_is;
   down_is = h.down_is;
@@ -68,8 +68,8 @@ names past n clock id seq es h = record {
   lines_are = h.lines_are;
 }
 
-tells : (id count : ℕ) (past : List Told) (n : ℕ) (m : Told) (es : List Event) → Inside id (count + 1) (m ∷ past) (n + 1) es → Inside id count past n ((n, Message m) ∷ es)
-tells id count past n m es h = record {
+sends : (id count : ℕ) (past : List Told) (n : ℕ) (m : Told) (es : List Event) → Inside id (count + 1) (m ∷ past) (n + 1) es → Inside id count past n ((n, Message m) ∷ es)
+sends id count past n m es h = record {
   broken_is =
       ap (option_or (option_map (λ why. (n, why)) (reason_behind past m))) h.broken_is
       ∙ sym (or_again (option_map (λ why. (n, why)) (reason_behind past m)) (broken_from (n + 1) (m ∷ past) (messages_of es)) (first_broken (streams_of es)));
@@ -99,9 +99,9 @@ ends id count past n e sent received finished es same all h = record {
 }
 
 -- which place follows
-told_next : (id count : ℕ) (b : Bool) (next : Place) → (if b then Some (Section id (count + 1)) else None) ≡ Some next → Section id (count + 1) ≡ next
-told_next id count true next h = cc
-told_next id count false next h = absurd (cc)
+sent_next : (id count : ℕ) (b : Bool) (next : Place) → (if b then Some (Section id (count + 1)) else None) ≡ Some next → Section id (count + 1) ≡ next
+sent_next id count true next h = cc
+sent_next id count false next h = absurd (cc)
 
 ended_next : (b : Bool) (next : Place) → (if b then Some Between else None) ≡ Some next → (Between ≡ next) × (b ≡ true)
 ended_next true next h = (cc, refl)
@@ -116,24 +116,24 @@ step : (place : Place) (past : List Told) (n : ℕ) (says : StreamLine) (es : Li
 step Between past n (Channel id) es next f p behind = let same : Section id 0 ≡ next = cc in begins past n id es (behind (Section id 0) [] (rw same p))
 step Between past n (Message m) es next f p behind = absurd (cc)
 step Between past n (End e sent received finished) es next f p behind = absurd (cc)
-step Between past n (Naming clock id seq) es next f p behind = let same : Namings ≡ next = cc in names past n clock id seq es (behind Namings past (rw same p))
+step Between past n (Anr clock id seq) es next f p behind = let same : Anrs ≡ next = cc in names past n clock id seq es (behind Anrs past (rw same p))
 step (Section id count) past n (Channel other) es next f p behind = absurd (cc)
 step (Section id count) past n (Message m) es next f p behind =
-    let same = told_next id count (m.seq == count + 1) next f in tells id count past n m es (behind (Section id (count + 1)) (m ∷ past) (rw same p))
+    let same = sent_next id count (m.seq == count + 1) next f in sends id count past n m es (behind (Section id (count + 1)) (m ∷ past) (rw same p))
 step (Section id count) past n (End e sent received finished) es next f p behind =
     let (same, ended) = ended_next ((e == id) && (sent == count)) next f in
     let (i, k) = both (e == id) (sent == count) ended in
     ends id count past n e sent received finished es (eqb-true e id i) (eqb-true sent count k) (behind Between past (rw same p))
-step (Section id count) past n (Naming clock other seq) es next f p behind = absurd (cc)
-step Namings past n (Channel id) es next f p behind = absurd (cc)
-step Namings past n (Message m) es next f p behind = absurd (cc)
-step Namings past n (End e sent received finished) es next f p behind = absurd (cc)
-step Namings past n (Naming clock id seq) es next f p behind = let same : Namings ≡ next = cc in names past n clock id seq es (behind Namings past (rw same p))
+step (Section id count) past n (Anr clock other seq) es next f p behind = absurd (cc)
+step Anrs past n (Channel id) es next f p behind = absurd (cc)
+step Anrs past n (Message m) es next f p behind = absurd (cc)
+step Anrs past n (End e sent received finished) es next f p behind = absurd (cc)
+step Anrs past n (Anr clock id seq) es next f p behind = let same : Anrs ≡ next = cc in names past n clock id seq es (behind Anrs past (rw same p))
 
 no_lines : (place : Place) (past : List Told) (n : ℕ) → ArePlaced place n [] → TiesAt place past n []
 no_lines Between past n p = record { broken_is = refl; down_is = refl; sections_are = refl; messages_are = refl; lines_are = refl }
 no_lines (Section id count) past n p = absurd (cc)
-no_lines Namings past n p = record { broken_is = refl; down_is = refl; sections_are = refl; messages_are = refl; lines_are = refl }
+no_lines Anrs past n p = record { broken_is = refl; down_is = refl; sections_are = refl; messages_are = refl; lines_are = refl }
 
 ties : (es : List Event) (place : Place) (past : List Told) (n : ℕ) → ArePlaced place n es → TiesAt place past n es
 ties [] place past n p = no_lines place past n p
@@ -173,10 +173,10 @@ unbroken None b h = refl
 unbroken (Some x) b h = absurd (cc)
 
 pub after_line : (past : List Told) (n : ℕ) (line : StreamLine) (old new : Known) (r : Result (List Event) ℕ) → Takes past n line old new
-    → judged_on old past (with_event (n, line) r) ≡ judged_on new (told_after past line) r
+    → judged_on old past (with_event (n, line) r) ≡ judged_on new (sent_after past line) r
 after_line past n line old new (Err bad) h = refl
 after_line past n line old new (Ok es) h =
-    let later = told_after past line in
+    let later = sent_after past line in
     let broken : option_or old.broken (option_or (broken_at past n line) (broken_left later es)) ≡ option_or new.broken (broken_left later es) =
     sym (or_again old.broken (broken_at past n line) (broken_left later es)) ∙ ap (λ o. option_or o (broken_left later es)) (sym h.broken) in
     let down : option_or new.broken (broken_left later es) ≡ None
@@ -200,10 +200,10 @@ pub one_section : (line : StreamLine) → sections_at line ≤ 1
 one_section (Channel id) = omega arith
 one_section (Message m) = omega arith
 one_section (End id sent received finished) = omega arith
-one_section (Naming clock id seq) = omega arith
+one_section (Anr clock id seq) = omega arith
 
 pub one_message : (line : StreamLine) → messages_at line ≤ 1
 one_message (Channel id) = omega arith
 one_message (Message m) = omega arith
 one_message (End id sent received finished) = omega arith
-one_message (Naming clock id seq) = omega arith
+one_message (Anr clock id seq) = omega arith

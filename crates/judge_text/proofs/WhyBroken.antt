@@ -2,7 +2,7 @@
 use Rattle.std.proofs.Common.{◌≡◌, ℕ, ◌+◌, not, false, if◌then◌else◌, List, [], ◌∷◌, Option, Some, None, Result, Ok, Err, is_some, refl, ap, ◌∙◌}
 use Rattle.std.specs.Option.{option_and_then, option_map, option_or}
 use Rattle.input_types.specs.declared.message.Message.{Message as Told}
-use Rattle.input_types.specs.StreamRule.{StreamState, after_body, stream_state, untold}
+use Rattle.input_types.specs.StreamRule.{StreamState, after_body, stream_state, unsent}
 use Rattle.gesture_verifier.specs.declared.reason.Reason.{Reason}
 use Rattle.gesture_verifier.specs.Reasons.{reason_of}
 use Rattle.stream_judge.specs.Breaks.{break_from, first_break}
@@ -10,7 +10,7 @@ use Rattle.stream_judge.specs.Placed.{ArePlaced, Places}
 use Rattle.stream_judge.proofs.Placed.{placed_of}
 use Rattle.stream_judge.proofs.Spelled.{exact}
 use Rattle.stream_text.specs.declared.stream_line.StreamLine.{StreamLine}
-use Rattle.stream_text.specs.declared.stream_line.StreamLine.TheVariants.{Channel, Message, End, Naming}
+use Rattle.stream_text.specs.declared.stream_line.StreamLine.TheVariants.{Channel, Message, End, Anr}
 use Rattle.stream_text.specs.declared.stream_lines.Place.{Place}
 use Rattle.stream_text.specs.declared.stream_lines.Place.TheVariants.{Between}
 use Rattle.stream_text.specs.MessageLine.{HasSpelling}
@@ -33,7 +33,7 @@ pub comes : (past : List Told) (s t : StreamState) (m : Told) → stream_state p
 comes past s t m is spelled after =
     reason_there past s m is ∙ none_of (reason_of s m.body) (exact s m.body spelled.body ∙ ap (λ o. not (is_some o)) after)
 
--- and one that is refused is told with the reason that it has
+-- and one that is refused is sent with the reason that it has
 pub told : (n : ℕ) (old : Option (ℕ × Reason)) (o behind : Option Reason) (why : Reason) → old ≡ None → behind ≡ o → o ≡ Some why
     → Some (n, why) ≡ option_or old (option_map (λ r. (n, r)) behind)
 told n old o behind why none is there = rw (none, is, there) refl
@@ -66,7 +66,7 @@ spelled_at : (says : StreamLine) (place : Place) (n : ℕ) (k : ℕ) (es : List 
 spelled_at (Channel id) place n k es p h = tt
 spelled_at (Message m) place n k es p h = (p.1, h)
 spelled_at (End id sent received finished) place n k es p h = tt
-spelled_at (Naming clock id seq) place n k es p h = tt
+spelled_at (Anr clock id seq) place n k es p h = tt
 
 all_spelled : (es : List Event) (place : Place) (n : ℕ) → ArePlaced place n es → AreSpelled (messages_of es)
 all_spelled [] place n p = tt
@@ -80,10 +80,10 @@ first_at : (says : StreamLine) (k : ℕ) (es : List Event) → AreSpelled (messa
     → option_map (λ b. b.0) (first_broken (streams_of ((k, says) ∷ es))) ≡ first_break (streams_of ((k, says) ∷ es))
 first_at (Channel id) k es spelled h =
     joined (broken_from (k + 1) [] (messages_of es)) (first_broken (streams_of es)) (break_from (k + 1) [] (messages_of es)) (first_break (streams_of es))
-    (breaks_alike (k + 1) [] (messages_of es) untold refl spelled) h
+    (breaks_alike (k + 1) [] (messages_of es) unsent refl spelled) h
 first_at (Message m) k es spelled h = h
 first_at (End id sent received finished) k es spelled h = h
-first_at (Naming clock id seq) k es spelled h = h
+first_at (Anr clock id seq) k es spelled h = h
 
 firsts : (es : List Event) (place : Place) (n : ℕ) → ArePlaced place n es → option_map (λ b. b.0) (first_broken (streams_of es)) ≡ first_break (streams_of es)
 firsts [] place n p = refl

@@ -5,7 +5,7 @@ use Rattle.input_types.specs.declared.message.Message.{Message as Told}
 use Rattle.gesture_verifier.specs.declared.reason.Reason.{Reason}
 use Rattle.gesture_verifier.specs.Told.{Told as Tables, VerifierStandsFor}
 use Rattle.stream_text.specs.declared.stream_line.StreamLine.{StreamLine}
-use Rattle.stream_text.specs.declared.stream_line.StreamLine.TheVariants.{Channel, Message, End, Naming}
+use Rattle.stream_text.specs.declared.stream_line.StreamLine.TheVariants.{Channel, Message, End, Anr}
 use Rattle.stream_text.specs.StreamFile.{Event}
 use Rattle.judge_text.specs.declared.error.JudgeError.{JudgeError}
 use Rattle.judge_text.specs.declared.error.JudgeError.TheVariants.{BadLine}
@@ -14,11 +14,11 @@ use Rattle.judge_text.specs.Down.{Down, down_after}
 use Rattle.judge_text.specs.Judged.{answer, something, whole_line}
 
 -- the messages of the open section behind a line, the newest first
-abbrev pub told_after : List Told → StreamLine → List Told
-told_after past (Channel id) = []
-told_after past (Message m) = m ∷ past
-told_after past (End id sent received finished) = past
-told_after past (Naming clock id seq) = past
+abbrev pub sent_after : List Told → StreamLine → List Told
+sent_after past (Channel id) = []
+sent_after past (Message m) = m ∷ past
+sent_after past (End id sent received finished) = past
+sent_after past (Anr clock id seq) = past
 
 -- the number of a line, where its message may not come behind those of its section, and why
 abbrev pub broken_at : List Told → ℕ → StreamLine → Option (ℕ × Reason)
@@ -48,12 +48,12 @@ lines_at _ = []
 -- the first break of the lines that are left
 abbrev pub broken_left : List Told → List Event → Option (ℕ × Reason)
 broken_left past [] = None
-broken_left past (e ∷ es) = option_or (broken_at past e.0 e.1) (broken_left (told_after past e.1) es)
+broken_left past (e ∷ es) = option_or (broken_at past e.0 e.1) (broken_left (sent_after past e.1) es)
 
 -- the first section of them after which something is down
 abbrev pub down_left : List Told → List Event → Option (ℕ × Down)
 down_left past [] = None
-down_left past (e ∷ es) = option_or (down_at past e.0 e.1) (down_left (told_after past e.1) es)
+down_left past (e ∷ es) = option_or (down_at past e.0 e.1) (down_left (sent_after past e.1) es)
 
 -- how many sections they begin
 abbrev pub sections_left : List Event → ℕ
@@ -86,7 +86,7 @@ Knows past j = j.broken ≡ None → VerifierStandsFor past j.tables
 
 -- what is known behind a line
 pub record Takes (past : List Told) (n : ℕ) (line : StreamLine) (old new : Known) : Type 0 where
-  pub knows : Knows (told_after past line) new
+  pub knows : Knows (sent_after past line) new
   pub broken : new.broken ≡ option_or old.broken (broken_at past n line)
   pub down : new.broken ≡ None → new.down ≡ option_or old.down (down_at past n line)
   pub sections : new.sections ≡ old.sections + sections_at line

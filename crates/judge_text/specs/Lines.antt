@@ -1,4 +1,4 @@
--- How a refusal is told.
+-- How a refusal is sent.
 use Rattle.std.specs.Prelude.{codes, ℕ, nat_eq, if◌then◌else◌, List, [], ◌∷◌, ◌++◌}
 use Rattle.std.specs.Fmt.{decimal}
 use Rattle.gesture_verifier.specs.declared.held.HeldKey.{HeldKey}

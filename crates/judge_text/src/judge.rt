@@ -106,7 +106,7 @@ impl Judge {
                 self.look_down(number)?;
                 add_whole(&mut self.lines, *id, *sent)
             }
-            StreamLine::Naming { .. } => Ok(()),
+            StreamLine::Anr { .. } => Ok(()),
         }
     }
 

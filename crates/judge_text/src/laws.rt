@@ -11,7 +11,7 @@ pub fn same_break()
     ensures { SameBreakLaw }
 {}
 
-/// The keys that are told to be down are those of which a repeat is due.
+/// The keys that are sent to be down are those of which a repeat is due.
 pub fn keys()
     ensures { KeysLaw }
 {}

@@ -1,7 +1,7 @@
 //! Whether each section of a stream file is whole, and if not, why.
 //!
 //! A section is whole where each of its messages may come after those before it, and at its end no pointer and no key
-//! is down. A window that is told a whole stream has seen the end of all that began. In
+//! is down. A window that is sent a whole stream has seen the end of all that began. In
 //!
 //! ```text
 //! channel 1 main
@@ -18,7 +18,7 @@
 //! judged 1 3
 //! ```
 //!
-//! A message that may not come is told with the reason that the rule for streams has: `stream: Broken 3 AlreadyDown`
+//! A message that may not come is sent with the reason that the rule for streams has: `stream: Broken 3 AlreadyDown`
 //! where line 3 is a second `DOWN`. A file is read line by line, and no message of it is kept.
 #![tactic(auto)]
 

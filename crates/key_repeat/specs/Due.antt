@@ -2,7 +2,7 @@
 use Rattle.std.specs.Prelude.{ℕ, ◌+◌, ◌&&◌, nat_eq, nat_lt, Bool, Option, Some, None, if◌then◌else◌}
 use Rattle.input_types.specs.declared.key.KeyMsg.{KeyMsg}
 
--- the last key message: the channel that was told, what it was told, and the clock then
+-- the last key message: the channel that was sent, what it was sent, and the clock then
 pub record Sent : Type 0 where
   pub channel : ℕ
   pub key : KeyMsg
@@ -25,7 +25,7 @@ due_of (Some s) = if is_repeated s.key then Some (s.clock + delay_after s.key.re
 abbrev pub repeated : KeyMsg → KeyMsg
 repeated m = record { key = m.key; flags = m.flags; repeat = m.repeat + 1 }
 
--- what is told when the repeat is due: the channel, and the repeat
+-- what is sent when the repeat is due: the channel, and the repeat
 abbrev pub next_of : Option Sent → Option (ℕ × KeyMsg)
 next_of None = None
 next_of (Some s) = if is_repeated s.key then Some (s.channel, repeated s.key) else None

@@ -11,7 +11,7 @@ pub const FIRST_DELAY_US: u64 = 500_000;
 /// From a repeat to the next, in microseconds.
 pub const DELAY_US: u64 = 50_000;
 
-/// A key message that a channel was told, and the clock then.
+/// A key message that a channel was sent, and the clock then.
 #[derive(Clone, Copy, Debug)]
 struct Sent {
     channel: u32,
@@ -20,7 +20,7 @@ struct Sent {
 }
 
 /// When a key that is held is to be repeated. The last key message decides; its owner calls `stop` where the window
-/// that was told no longer holds the key.
+/// that was sent no longer holds the key.
 #[derive(Clone, Copy, Debug)]
 pub struct Repeat {
     last: Option<Sent>,
@@ -57,14 +57,14 @@ fn repeats(key: &KeyMsg) -> bool
 }
 
 impl Repeat {
-    /// Nothing was told yet.
+    /// Nothing was sent yet.
     pub fn new() -> Repeat
         ensures { result ≡ None }
     {
         Repeat { last: None }
     }
 
-    /// A channel was told a key message at this clock.
+    /// A channel was sent a key message at this clock.
     pub fn sent(&mut self, channel: u32, key: KeyMsg, clock: Moment)
         ensures { self.new ≡ Some (record { channel = channel; key = key; clock = clock }) }
     {

@@ -13,10 +13,10 @@ use Rattle.dispatch_calls.specs.declared.call.Call.{Call}
 use Rattle.dispatch_calls.specs.declared.call.Call.TheVariants.{Open, Windows, FocusOn, Remove}
 use Rattle.dispatch_calls.specs.declared.reply.Reply.{Reply}
 use Rattle.dispatch_history.specs.History.{History, snapshot}
-use Rattle.dispatch_history.specs.Focus.{requested, asked, may_focus, focus, has_focus, focus_told}
+use Rattle.dispatch_history.specs.Focus.{requested, asked, may_focus, focus, has_focus, focus_sent}
 use Rattle.dispatch_history.specs.Effect.{Effect, past_of}
-use Rattle.key_tables.specs.Focused.{FocusIs, is_request, leaves_focus, change_told}
-use Rattle.key_tables.specs.Laws.{FocusRead, FocusRequested, FocusShown, FocusLeft, FocusMasks, FocusAtFirst, FocusTold}
+use Rattle.key_tables.specs.Focused.{FocusIs, is_request, leaves_focus, change_sent}
+use Rattle.key_tables.specs.Laws.{FocusRead, FocusRequested, FocusShown, FocusLeft, FocusMasks, FocusAtFirst, FocusSent}
 
 same_focus : (may will : ℕ → Bool) (o : Option ℕ) → ((c : ℕ) → may c ≡ will c) → focus_if may o ≡ focus_if will o
 same_focus may will None e = refl
@@ -164,14 +164,14 @@ focus_at_first =
     none (suc (suc (suc zero))) lt = refl
     none (suc (suc (suc (suc n)))) lt = absurd (omega (arith, lt))
 
-told_by_masks : (a b : Bool) → focus_told a b ≡ change_told (cond (a && not b) (Some false) (cond (b && not a) (Some true) None))
-told_by_masks true true = refl
-told_by_masks true false = refl
-told_by_masks false true = refl
-told_by_masks false false = refl
+sent_by_masks : (a b : Bool) → focus_sent a b ≡ change_sent (cond (a && not b) (Some false) (cond (b && not a) (Some true) None))
+sent_by_masks true true = refl
+sent_by_masks true false = refl
+sent_by_masks false true = refl
+sent_by_masks false false = refl
 
-pub focus_told_law : FocusTold
-focus_told_law es fs f g lost gained w is now l k =
-    ap₂ focus_told (sym (focused_reads es f is w)) (sym (focused_reads fs g now w))
-    ∙ told_by_masks (is_focused (focus_of f) w) (is_focused (focus_of g) w)
-    ∙ ap₂ (λ a b. change_told (cond a (Some false) (cond b (Some true) None))) (sym (l w)) (sym (k w))
+pub focus_sent_law : FocusSent
+focus_sent_law es fs f g lost gained w is now l k =
+    ap₂ focus_sent (sym (focused_reads es f is w)) (sym (focused_reads fs g now w))
+    ∙ sent_by_masks (is_focused (focus_of f) w) (is_focused (focus_of g) w)
+    ∙ ap₂ (λ a b. change_sent (cond a (Some false) (cond b (Some true) None))) (sym (l w)) (sym (k w))

@@ -9,18 +9,18 @@ use Rattle.input_types.specs.declared.message.Args.TheVariants.{Motion as Motion
 use Rattle.key_repeat.specs.Due.{Sent, repeated}
 use Rattle.cancel_synthesis.specs.Tracked.{with_key as keep, without_key as forget}
 use Rattle.cancel_synthesis.specs.Ends.{keys_cancelled, of_device}
-use Rattle.cancel_synthesis.specs.Laws.{keys_told as tracked}
+use Rattle.cancel_synthesis.specs.Laws.{keys_sent as tracked}
 use Rattle.cancel_synthesis.proofs.KeyEnds.{keys_end, device_keys_end}
 use Rattle.dispatch_calls.specs.declared.call.Call.TheVariants.{Pump}
 use Rattle.dispatch_calls.specs.declared.reply.Reply.{Reply}
 use Rattle.dispatch_calls.specs.declared.reply.Reply.TheVariants.{Repeated, Idle}
 use Rattle.dispatch_history.specs.Queue.{args_of}
 use Rattle.dispatch_history.specs.Keys.{same_key, is_before, with_key, key_given}
-use Rattle.dispatch_history.specs.KeyTold.{key_as_is, key_cancelled, keys_told, repeat_told}
+use Rattle.dispatch_history.specs.KeySent.{key_as_is, key_cancelled, keys_sent, repeat_sent}
 use Rattle.dispatch_history.specs.Known.{is_key, held_key}
 use Rattle.dispatch_history.specs.Reply.{pump_reply, is_due}
 use Rattle.dispatch_history.proofs.KeysDown.{held_rest}
-use Rattle.dispatch_history.proofs.KeyTells.{filter_all, filter_none}
+use Rattle.dispatch_history.proofs.KeySends.{filter_all, filter_none}
 use Rattle.key_tables.specs.Held.{Rising}
 use Rattle.key_tables.proofs.Rising.{other_way, not_before_itself, above_found, NewKey, next_keys}
 
@@ -101,7 +101,7 @@ all_left p (k ∷ ks) e =
 
 -- the key messages of a step, tracked, leave the keys after it
 abbrev pub Leaves : Option Args → (hears loses : Bool) → List KeyMsg → List KeyMsg → Type 0
-Leaves o hears loses held told = keys_in (tracked told held) ≡ next_keys o hears loses (keys_in held)
+Leaves o hears loses held outgoing = keys_in (tracked outgoing held) ≡ next_keys o hears loses (keys_in held)
 
 none_left : (loses : Bool) (held : List KeyMsg)
     → keys_in (tracked (map key_cancelled (cond loses (keys_in held) (filter (λ k. false) (keys_in held)))) held) ≡ cond loses [] (filter (λ k. true) (keys_in held))
@@ -146,14 +146,14 @@ no_loss (Some (MotionArgs m)) = tt
 no_loss (Some (Reset r)) = tt
 no_loss (Some (KeyOfDevice k)) = refl
 
-leaves : (o : Option Args) (hears loses : Bool) (held : List KeyMsg) → NoLoss o loses → NewKey o (keys_in held) → Leaves o hears loses held (keys_told o hears loses (keys_in held))
+leaves : (o : Option Args) (hears loses : Bool) (held : List KeyMsg) → NoLoss o loses → NewKey o (keys_in held) → Leaves o hears loses held (keys_sent o hears loses (keys_in held))
 leaves None hears loses held n new = none_left loses held
 leaves (Some (MotionArgs m)) hears loses held n new = none_left loses held
 leaves (Some (Reset d)) hears loses held n new = device_left d loses held
 leaves (Some (KeyOfDevice j)) hears loses held n new =
     subst
     (λ b.
-    keys_in (tracked (keys_told (Some (KeyOfDevice j)) hears b (keys_in held)) held)
+    keys_in (tracked (keys_sent (Some (KeyOfDevice j)) hears b (keys_in held)) held)
     ≡ key_given (cond j.down (Some j) None) hears (cond b [] (filter (λ k. not (not j.down && same_key j k)) (keys_in held))))
     (sym n) (by_down j.down refl)
   where
@@ -168,13 +168,13 @@ leaves (Some (KeyOfDevice j)) hears loses held n new =
         (sym e) (key_left hears j held b e (λ t. new j (ap (λ c. cond c (Some j) None) (e ∙ t))))
 
 pub leaves_alone : (o : Option Args) (hears loses : Bool) (held : List KeyMsg) → NoLoss o loses → NewKey o (keys_in held)
-    → Leaves o hears loses held (keys_told o hears loses (keys_in held) ++ [])
+    → Leaves o hears loses held (keys_sent o hears loses (keys_in held) ++ [])
 leaves_alone o hears loses held n new =
-    ap (λ ms. keys_in (tracked ms held)) (append-nil (keys_told o hears loses (keys_in held))) ∙ leaves o hears loses held n new
+    ap (λ ms. keys_in (tracked ms held)) (append-nil (keys_sent o hears loses (keys_in held))) ∙ leaves o hears loses held n new
 
 -- no args are dispatched, and nothing is lost
 leaves_idle : (hears : Bool) (held r : List KeyMsg) → keys_in (tracked r held) ≡ keys_in held
-    → Leaves None hears false held (keys_told None hears false (keys_in held) ++ r)
+    → Leaves None hears false held (keys_sent None hears false (keys_in held) ++ r)
 leaves_idle hears held r e =
     ap (λ ks. keys_in (tracked (map key_cancelled ks ++ r) held)) (filter_none (λ k. false) (λ k. refl) (keys_in held))
     ∙ e ∙ sym (filter_all (λ k. true) (λ k. refl) (keys_in held))
@@ -185,12 +185,12 @@ RepeatHeld old last w =
     (m : Sent) → last ≡ Some m → (w == m.channel) ≡ true → (m.key.key.down ≡ true) × (held_key old m.key.key.device m.key.key.scan ≡ Some m.key.key)
 
 leaves_repeat : (now w : ℕ) (hears : Bool) (held : List KeyMsg) (last : Option Sent) → Rising (keys_in held) → RepeatHeld (keys_in held) last w
-    → Leaves None hears false held (keys_told None hears false (keys_in held) ++ repeat_told (Pump now) Repeated last w)
+    → Leaves None hears false held (keys_sent None hears false (keys_in held) ++ repeat_sent (Pump now) Repeated last w)
 leaves_repeat now w hears held None r f = leaves_idle hears held [] refl
 leaves_repeat now w hears held (Some m) r f = by_channel (w == m.channel) (f m refl)
   where
     by_channel : (b : Bool) → (b ≡ true → (m.key.key.down ≡ true) × (held_key (keys_in held) m.key.key.device m.key.key.scan ≡ Some m.key.key))
-        → Leaves None hears false held (keys_told None hears false (keys_in held) ++ cond b (repeated m.key ∷ []) [])
+        → Leaves None hears false held (keys_sent None hears false (keys_in held) ++ cond b (repeated m.key ∷ []) [])
     by_channel true g =
         let q = g refl in
         leaves_idle hears held (repeated m.key ∷ [])
@@ -200,21 +200,21 @@ leaves_repeat now w hears held (Some m) r f = by_channel (w == m.channel) (f m r
 pub leaves_pump : (now w : ℕ) (answer : Reply) (ws : List Args) (hears : Bool) (held : List KeyMsg) (last : Option Sent) (due : Option ℕ) (at : ℕ)
     → answer ≡ pump_reply ws due at → NewKey (args_of (Pump now) answer ws) (keys_in held) → Rising (keys_in held)
     → (is_due due at ≡ true → RepeatHeld (keys_in held) last w)
-    → Leaves (args_of (Pump now) answer ws) hears false held (keys_told (args_of (Pump now) answer ws) hears false (keys_in held) ++ repeat_told (Pump now) answer last w)
+    → Leaves (args_of (Pump now) answer ws) hears false held (keys_sent (args_of (Pump now) answer ws) hears false (keys_in held) ++ repeat_sent (Pump now) answer last w)
 leaves_pump now w answer (a ∷ ws) hears held last due at r new up f =
     subst
     (λ v. NewKey (args_of (Pump now) v (a ∷ ws)) (keys_in held)
-    → Leaves (args_of (Pump now) v (a ∷ ws)) hears false held (keys_told (args_of (Pump now) v (a ∷ ws)) hears false (keys_in held) ++ repeat_told (Pump now) v last w))
+    → Leaves (args_of (Pump now) v (a ∷ ws)) hears false held (keys_sent (args_of (Pump now) v (a ∷ ws)) hears false (keys_in held) ++ repeat_sent (Pump now) v last w))
     (sym r) (λ g. leaves_alone (Some a) hears false held (no_loss (Some a)) g) new
 leaves_pump now w answer [] hears held last due at r new up f = by_due (cases_Bool (is_due due at))
   where
     by_due : (is_due due at ≡ true) ⊎ (is_due due at ≡ false)
-        → Leaves (args_of (Pump now) answer []) hears false held (keys_told (args_of (Pump now) answer []) hears false (keys_in held) ++ repeat_told (Pump now) answer last w)
+        → Leaves (args_of (Pump now) answer []) hears false held (keys_sent (args_of (Pump now) answer []) hears false (keys_in held) ++ repeat_sent (Pump now) answer last w)
     by_due (inl y) =
         let e : answer ≡ Repeated = r ∙ ap (λ b. cond b Repeated Idle) y in
-        subst (λ v. Leaves (args_of (Pump now) v []) hears false held (keys_told (args_of (Pump now) v []) hears false (keys_in held) ++ repeat_told (Pump now) v last w)) (sym e)
+        subst (λ v. Leaves (args_of (Pump now) v []) hears false held (keys_sent (args_of (Pump now) v []) hears false (keys_in held) ++ repeat_sent (Pump now) v last w)) (sym e)
         (leaves_repeat now w hears held last up (f y))
     by_due (inr n) =
         let e : answer ≡ Idle = r ∙ ap (λ b. cond b Repeated Idle) n in
-        subst (λ v. Leaves (args_of (Pump now) v []) hears false held (keys_told (args_of (Pump now) v []) hears false (keys_in held) ++ repeat_told (Pump now) v last w)) (sym e)
+        subst (λ v. Leaves (args_of (Pump now) v []) hears false held (keys_sent (args_of (Pump now) v []) hears false (keys_in held) ++ repeat_sent (Pump now) v last w)) (sym e)
         (leaves_idle hears held [] refl)

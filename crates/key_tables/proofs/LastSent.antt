@@ -9,21 +9,21 @@ use Rattle.key_repeat.specs.Due.{Sent}
 use Rattle.dispatch_calls.specs.declared.call.Call.{Call}
 use Rattle.dispatch_calls.specs.declared.reply.Reply.{Reply}
 use Rattle.dispatch_history.specs.History.{History, clock, live, opened}
-use Rattle.dispatch_history.specs.Effect.{Effect, Told, past_of}
+use Rattle.dispatch_history.specs.Effect.{Effect, Outgoing, past_of}
 use Rattle.dispatch_history.specs.Effects.{channels, step, said_at}
-use Rattle.dispatch_history.specs.KeyTold.{key_in, last_key}
+use Rattle.dispatch_history.specs.KeySent.{key_in, last_key}
 use Rattle.dispatch_history.proofs.StreamLaws.{live_law}
 use Rattle.dispatch_tables.specs.Lawful.{Lawful}
 use Rattle.key_tables.specs.Held.{key_messages}
 use Rattle.key_tables.proofs.Saying.{key_bodies, said_keys}
 
--- the last of some messages that a channel was told at a clock, or else the one before
+-- the last of some messages that a channel was sent at a clock, or else the one before
 abbrev pub sent_in : (now w : ℕ) → List KeyMsg → Option Sent → Option Sent
 sent_in now w [] before = before
 sent_in now w (m ∷ ms) before = sent_in now w ms (Some (record { channel = w; key = m; clock = now }))
 
-abbrev tell : (ℕ → List Body) → ℕ → List Told
-tell f w = map (λ b. record { channel = w; body = b }) (f w)
+abbrev send : (ℕ → List Body) → ℕ → List Outgoing
+send f w = map (λ b. record { channel = w; body = b }) (f w)
 
 in_one : (now w : ℕ) (bs : List Body) (o : Option Sent) → key_in now (map (λ b. record { channel = w; body = b }) bs) o ≡ sent_in now w (key_bodies bs) o
 in_one now w [] o = refl
@@ -31,7 +31,7 @@ in_one now w (KeyBody m ∷ bs) o = in_one now w bs (Some (record { channel = w;
 in_one now w (MotionBody m ∷ bs) o = in_one now w bs o
 in_one now w (FocusBody b ∷ bs) o = in_one now w bs o
 
-in_both : (now : ℕ) (xs ys : List Told) (o : Option Sent) → key_in now (xs ++ ys) o ≡ key_in now ys (key_in now xs o)
+in_both : (now : ℕ) (xs ys : List Outgoing) (o : Option Sent) → key_in now (xs ++ ys) o ≡ key_in now ys (key_in now xs o)
 in_both now [] ys o = refl
 in_both now (x ∷ xs) ys o = in_both now xs ys _
 
@@ -41,11 +41,11 @@ sent_twice now w (m ∷ ms) o = refl
 
 -- where at most one channel is told of keys, the last message is that of this one
 in_all : (now : ℕ) (f : ℕ → List Body) (t : ℕ) → ((w : ℕ) → (w == t) ≡ false → key_bodies (f w) ≡ []) → (ws : List ℕ) (o : Option Sent)
-    → key_in now (flat_map (tell f) ws) o ≡ cond (list_any (λ w. w == t) ws) (sent_in now t (key_bodies (f t)) o) o
+    → key_in now (flat_map (send f) ws) o ≡ cond (list_any (λ w. w == t) ws) (sent_in now t (key_bodies (f t)) o) o
 in_all now f t quiet [] o = refl
 in_all now f t quiet (w ∷ ws) o =
-    in_both now (tell f w) (flat_map (tell f) ws) o
-    ∙ ap (key_in now (flat_map (tell f) ws)) (in_one now w (f w) o)
+    in_both now (send f w) (flat_map (send f) ws) o
+    ∙ ap (key_in now (flat_map (send f) ws)) (in_one now w (f w) o)
     ∙ by_channel (w == t) refl (λ p. in_all now f t quiet ws p)
   where
     own : (b : Bool) → cond b (sent_in now t (key_bodies (f t)) (sent_in now t (key_bodies (f t)) o)) (sent_in now t (key_bodies (f t)) o) ≡ sent_in now t (key_bodies (f t)) o
@@ -53,14 +53,14 @@ in_all now f t quiet (w ∷ ws) o =
     own false = refl
 
     by_channel : (b : Bool) → (w == t) ≡ b
-        → ((p : Option Sent) → key_in now (flat_map (tell f) ws) p ≡ cond (list_any (λ v. v == t) ws) (sent_in now t (key_bodies (f t)) p) p)
-        → key_in now (flat_map (tell f) ws) (sent_in now w (key_bodies (f w)) o) ≡ cond (b || list_any (λ v. v == t) ws) (sent_in now t (key_bodies (f t)) o) o
+        → ((p : Option Sent) → key_in now (flat_map (send f) ws) p ≡ cond (list_any (λ v. v == t) ws) (sent_in now t (key_bodies (f t)) p) p)
+        → key_in now (flat_map (send f) ws) (sent_in now w (key_bodies (f w)) o) ≡ cond (b || list_any (λ v. v == t) ws) (sent_in now t (key_bodies (f t)) o) o
     by_channel true e more =
-        ap (λ v. key_in now (flat_map (tell f) ws) (sent_in now v (key_bodies (f v)) o)) (eqb-true w t e)
+        ap (λ v. key_in now (flat_map (send f) ws) (sent_in now v (key_bodies (f v)) o)) (eqb-true w t e)
         ∙ more (sent_in now t (key_bodies (f t)) o)
         ∙ own (list_any (λ v. v == t) ws)
     by_channel false e more =
-        ap (λ ms. key_in now (flat_map (tell f) ws) (sent_in now w ms o)) (quiet w e) ∙ more o
+        ap (λ ms. key_in now (flat_map (send f) ws) (sent_in now w ms o)) (quiet w e) ∙ more o
 
 any_append : (p : ℕ → Bool) (xs ys : List ℕ) → list_any p (xs ++ ys) ≡ (list_any p xs || list_any p ys)
 any_append p [] ys = refl

@@ -7,9 +7,9 @@ use Rattle.input_types.specs.declared.message.Body.{Body}
 use Rattle.input_types.specs.declared.message.Body.TheVariants.{Motion as MotionBody, Key as KeyBody, Focus as FocusBody}
 use Rattle.input_types.specs.declared.message.Message.{Message}
 use Rattle.cancel_synthesis.specs.Tracked.{with_key as keep, without_key as forget, keys_after}
-use Rattle.cancel_synthesis.specs.Laws.{keys_told as tracked}
+use Rattle.cancel_synthesis.specs.Laws.{keys_sent as tracked}
 use Rattle.dispatch_history.specs.History.{clock}
-use Rattle.dispatch_history.specs.Effect.{past_of, stream, told_on}
+use Rattle.dispatch_history.specs.Effect.{past_of, stream, sent_on}
 use Rattle.dispatch_history.specs.Effects.{step, said_at}
 use Rattle.dispatch_history.specs.Keys.{same_key, is_before}
 use Rattle.dispatch_history.specs.Known.{is_key, last_message}
@@ -130,13 +130,13 @@ kept_tracked [] x held k = k
 kept_tracked (m ∷ ms) x held k = kept_tracked ms (with_message m x) (keys_after m held) (kept_after m x held k)
 
 -- bodies are messages of a stream
-last_told : (d s now : ℕ) (bs : List Body) (past : List Message) (x : Last) → x d s ≡ last_message d s past
-    → with_messages (key_bodies bs) x d s ≡ last_message d s (told_on now bs past)
-last_told d s now [] past x e = e
-last_told d s now (KeyBody m ∷ bs) past x e =
-    last_told d s now bs (record { seq = 1 + length past; moment = now; body = KeyBody m } ∷ past) (with_message m x) (ap (cond (is_key d s m.key) (Some m)) e)
-last_told d s now (MotionBody m ∷ bs) past x e = last_told d s now bs (record { seq = 1 + length past; moment = now; body = MotionBody m } ∷ past) x e
-last_told d s now (FocusBody b ∷ bs) past x e = last_told d s now bs (record { seq = 1 + length past; moment = now; body = FocusBody b } ∷ past) x e
+last_sent : (d s now : ℕ) (bs : List Body) (past : List Message) (x : Last) → x d s ≡ last_message d s past
+    → with_messages (key_bodies bs) x d s ≡ last_message d s (sent_on now bs past)
+last_sent d s now [] past x e = e
+last_sent d s now (KeyBody m ∷ bs) past x e =
+    last_sent d s now bs (record { seq = 1 + length past; moment = now; body = KeyBody m } ∷ past) (with_message m x) (ap (cond (is_key d s m.key) (Some m)) e)
+last_sent d s now (MotionBody m ∷ bs) past x e = last_sent d s now bs (record { seq = 1 + length past; moment = now; body = MotionBody m } ∷ past) x e
+last_sent d s now (FocusBody b ∷ bs) past x e = last_sent d s now bs (record { seq = 1 + length past; moment = now; body = FocusBody b } ∷ past) x e
 
 to_lasts : (past : List Message) (ms : List KeyMsg) → AllLast past ms → Lasts (λ d s. last_message d s past) ms
 to_lasts past [] a = tt
@@ -153,9 +153,9 @@ keys_step ds call answer es w held l n k =
     let x : Last = λ d s. last_message d s (stream es w) in
     let kept = kept_tracked ms x held (subst Rising (sym k.keys_are) (keys_rise ds es w old), to_lasts (stream es w) held k.lasts_are) in
     let said : key_bodies (said_at ds call answer es w) ≡ ms = said_keys ds call answer es w ∙ ap (λ b. cond b ms []) n in
-    let told : stream (step ds call answer es) w ≡ told_on (clock ((call, answer) ∷ past_of es)) (said_at ds call answer es w) (stream es w) =
+    let outgoing : stream (step ds call answer es) w ≡ sent_on (clock ((call, answer) ∷ past_of es)) (said_at ds call answer es w) (stream es w) =
     subst
-    (λ xs. stream (step ds call answer xs) w ≡ told_on (clock ((call, answer) ∷ past_of es)) (said_at ds call answer xs w) (stream xs w))
+    (λ xs. stream (step ds call answer xs) w ≡ sent_on (clock ((call, answer) ∷ past_of es)) (said_at ds call answer xs w) (stream xs w))
     old.whole (stream_step ds call answer (past_of es) w l.legal) in
     record {
       keys_are = keys_stepped ds call answer es w held l n k.keys_are;
@@ -163,8 +163,8 @@ keys_step ds call answer es w held l n k =
           from_lasts (with_messages ms x) (stream (step ds call answer es) w) (tracked ms held)
           (λ d s.
           ap (λ ns. with_messages ns x d s) (sym said)
-          ∙ last_told d s (clock ((call, answer) ∷ past_of es)) (said_at ds call answer es w) (stream es w) x refl
-          ∙ ap (last_message d s) (sym told))
+          ∙ last_sent d s (clock ((call, answer) ∷ past_of es)) (said_at ds call answer es w) (stream es w) x refl
+          ∙ ap (last_message d s) (sym outgoing))
           kept.1;
     }
 

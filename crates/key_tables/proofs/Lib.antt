@@ -6,6 +6,6 @@ pub mod Saying
 pub mod KeysLeft
 pub mod Tracking
 pub mod Lasting
-pub mod Telling
+pub mod Sending
 pub mod LastSent
 pub mod Repeating

@@ -7,7 +7,7 @@ use Rattle.input_types.specs.declared.key.KeyMsg.{KeyMsg}
 use Rattle.focus_resolver.specs.Resolver.{is_at}
 use Rattle.key_repeat.specs.Due.{Sent}
 use Rattle.cancel_synthesis.specs.Tracked.{with_key as keep, without_key as forget, keys_after}
-use Rattle.cancel_synthesis.specs.Laws.{keys_told as tracked}
+use Rattle.cancel_synthesis.specs.Laws.{keys_sent as tracked}
 use Rattle.dispatch_calls.specs.declared.call.Call.{Call}
 use Rattle.dispatch_calls.specs.declared.reply.Reply.{Reply}
 use Rattle.dispatch_history.specs.History.{clock, live}
@@ -15,7 +15,7 @@ use Rattle.dispatch_history.specs.Effect.{Effect, past_of}
 use Rattle.dispatch_history.specs.Effects.{step}
 use Rattle.dispatch_history.specs.Focus.{is_target, key_target}
 use Rattle.dispatch_history.specs.Keys.{same_key, is_before, keys}
-use Rattle.dispatch_history.specs.KeyTold.{key_as_is, last_key, while_held}
+use Rattle.dispatch_history.specs.KeySent.{key_as_is, last_key, while_held}
 use Rattle.dispatch_history.specs.Delivery.{able}
 use Rattle.dispatch_tables.specs.Lawful.{Lawful}
 use Rattle.dispatch_tables.proofs.Lawfuls.{lawful_last}
@@ -25,7 +25,7 @@ use Rattle.key_tables.specs.Laws.{RepeatStep, RepeatLeft}
 use Rattle.key_tables.proofs.Holders.{keys_of_target}
 use Rattle.key_tables.proofs.KeysLeft.{keys_in}
 use Rattle.key_tables.proofs.Tracking.{keys_stepped, dead_keys}
-use Rattle.key_tables.proofs.Telling.{keys_quiet, one_target}
+use Rattle.key_tables.proofs.Sending.{keys_quiet, one_target}
 use Rattle.key_tables.proofs.LastSent.{sent_in, last_next}
 
 own_key : (k : KeyArgs) → same_key k k ≡ true

@@ -7,7 +7,7 @@ use Rattle.input_types.specs.declared.message.Body.{Body}
 use Rattle.input_types.specs.declared.message.Body.TheVariants.{Motion as MotionBody, Key as KeyBody, Focus as FocusBody}
 use Rattle.input_types.specs.declared.motion.Motion.{Motion}
 use Rattle.routing_rules.specs.Given.{mark}
-use Rattle.routing_rules.specs.Told.{told_with, devices}
+use Rattle.routing_rules.specs.Outgoing.{sent_with, devices}
 use Rattle.dispatch_calls.specs.declared.call.Call.{Call}
 use Rattle.dispatch_calls.specs.declared.reply.Reply.{Reply}
 use Rattle.dispatch_history.specs.History.{live, origin, snapshot}
@@ -15,7 +15,7 @@ use Rattle.dispatch_history.specs.Queue.{inbound, args_of}
 use Rattle.dispatch_history.specs.Effect.{Effect, past_of}
 use Rattle.dispatch_history.specs.Effects.{said_at}
 use Rattle.dispatch_history.specs.Step.{scene, step_of}
-use Rattle.dispatch_history.specs.Focus.{has_focus, focus_told}
+use Rattle.dispatch_history.specs.Focus.{has_focus, focus_sent}
 use Rattle.dispatch_history.specs.Said.{motion_from}
 use Rattle.dispatch_history.proofs.MotionLaws.{live_said}
 use Rattle.key_tables.specs.Held.{key_messages}
@@ -41,16 +41,16 @@ all_keys : (ks : List KeyMsg) → key_bodies (map KeyBody ks) ≡ ks
 all_keys [] = refl
 all_keys (k ∷ ks) = ap (λ ms. k ∷ ms) (all_keys ks)
 
-no_focus : (a b : Bool) → key_bodies (focus_told a b) ≡ []
+no_focus : (a b : Bool) → key_bodies (focus_sent a b) ≡ []
 no_focus true true = refl
 no_focus true false = refl
 no_focus false true = refl
 no_focus false false = refl
 
 parts : (o : Pixel) (ms : List Motion) (ks : List KeyMsg) (a b : Bool)
-    → key_bodies (map (λ m. MotionBody (motion_from o m)) ms ++ map KeyBody ks ++ focus_told a b) ≡ ks
+    → key_bodies (map (λ m. MotionBody (motion_from o m)) ms ++ map KeyBody ks ++ focus_sent a b) ≡ ks
 parts o ms ks a b =
-    parts_append (map (λ m. MotionBody (motion_from o m)) ms ++ map KeyBody ks) (focus_told a b)
+    parts_append (map (λ m. MotionBody (motion_from o m)) ms ++ map KeyBody ks) (focus_sent a b)
     ∙ ap₂ (λ xs ys. xs ++ ys)
     (parts_append (map (λ m. MotionBody (motion_from o m)) ms) (map KeyBody ks) ∙ ap₂ (λ xs ys. xs ++ ys) (no_motions o ms) (all_keys ks)) (no_focus a b)
     ∙ append-nil ks
@@ -64,7 +64,7 @@ said_keys ds call answer es w =
           let s = scene ds es in
           let e = step_of (snapshot (past_of es)) call answer (args_of call answer (inbound (past_of es))) in
           ap key_bodies (live_said ds call answer es w y)
-          ∙ parts (origin (past_of es) w) (flat_map (told_with s e (mark s e) w) devices) (key_messages call answer es w) (has_focus (past_of es) w)
+          ∙ parts (origin (past_of es) w) (flat_map (sent_with s e (mark s e) w) devices) (key_messages call answer es w) (has_focus (past_of es) w)
           (has_focus ((call, answer) ∷ past_of es) w)
           ∙ sym (ap (λ b. cond b (key_messages call answer es w) []) y)
       | inr n ↦ rw n refl

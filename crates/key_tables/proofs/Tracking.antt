@@ -11,7 +11,7 @@ use Rattle.input_types.specs.declared.message.Message.{Message}
 use Rattle.input_types.specs.declared.motion.Motion.{Motion}
 use Rattle.key_repeat.specs.Due.{Sent, delay_after, due_of, is_repeated}
 use Rattle.cancel_synthesis.specs.Tracked.{keys_after}
-use Rattle.cancel_synthesis.specs.Laws.{keys_told as tracked}
+use Rattle.cancel_synthesis.specs.Laws.{keys_sent as tracked}
 use Rattle.dispatch_calls.specs.declared.call.Call.{Call}
 use Rattle.dispatch_calls.specs.declared.call.Call.TheVariants.{Open, Windows, FocusOn, Notify, Pump, Tick, Receive, Finish, Pilfer, Remove}
 use Rattle.dispatch_calls.specs.declared.reply.Reply.{Reply}
@@ -19,14 +19,14 @@ use Rattle.dispatch_history.specs.History.{History, clock, live}
 use Rattle.dispatch_history.specs.Queue.{inbound, args_of}
 use Rattle.dispatch_history.specs.Effect.{Effect, past_of, stream}
 use Rattle.dispatch_history.specs.Effects.{effects, step}
-use Rattle.dispatch_history.specs.Focus.{is_target, focus_told}
+use Rattle.dispatch_history.specs.Focus.{is_target, focus_sent}
 use Rattle.dispatch_history.specs.Delivery.{able, unresponsive}
 use Rattle.dispatch_history.specs.Keys.{same_key, loses_all, keys}
-use Rattle.dispatch_history.specs.KeyTold.{keys_told, last_key, while_held, repeat_due, repeat_told, repeat_by}
+use Rattle.dispatch_history.specs.KeySent.{keys_sent, last_key, while_held, repeat_due, repeat_sent, repeat_by}
 use Rattle.dispatch_history.specs.Known.{is_key, held_key, last_message, last_message_after, newest_key, newest_key_after}
 use Rattle.dispatch_history.specs.Legal.{Legal}
 use Rattle.dispatch_history.specs.Reply.{is_due}
-use Rattle.dispatch_history.proofs.KeyTells.{any_held}
+use Rattle.dispatch_history.proofs.KeySends.{any_held}
 use Rattle.dispatch_history.proofs.KeysKnown.{last_key_law}
 use Rattle.dispatch_history.proofs.KeyLaws.{held_key_law}
 use Rattle.dispatch_tables.specs.Lawful.{Lawful}
@@ -106,7 +106,7 @@ pump_stays false l e = ap not e
 
 -- the same of the keys of a window in place of those that are kept
 abbrev Ends : (hears : Bool) → List KeyMsg → Option Args → (loses : Bool) → List KeyMsg → List KeyArgs → Type 0
-Ends hears held o loses r old = keys_in (tracked (keys_told o hears loses old ++ r) held) ≡ next_keys o hears loses old
+Ends hears held o loses r old = keys_in (tracked (keys_sent o hears loses old ++ r) held) ≡ next_keys o hears loses old
 
 -- one step of a legal history
 keys_next : (ds : List ℕ) (call : Call) (answer : Reply) (h : History) (w : ℕ) (held : List KeyMsg) → Legal ds ((call, answer) ∷ h)
@@ -126,7 +126,7 @@ keys_next ds call answer h w held l n are = by_call call l n
         → Ends (is_target (past_of es) w && able es w) held (args_of c answer (inbound (past_of es))) (loses_all ((c, answer) ∷ past_of es) (past_of es) w) (repeat_by ((c, answer) ∷ past_of es) (last_key es) w) (keys es w)
     by_call (Pump now) m q =
         let o = args_of (Pump now) answer (inbound (past_of es)) in
-        let r = repeat_told (Pump now) answer (last_key es) w in
+        let r = repeat_sent (Pump now) answer (last_key es) w in
         let old = lawful_effects ds h m.1 in
         let new = subst (NewKey o) (sym are) (new_key ds (Pump now) answer h w m) in
         let up = subst Rising (sym are) (rising ds h w m.1) in
@@ -167,7 +167,7 @@ messages_tracked : (ks : List KeyMsg) (held : List KeyMsg) → bodies_tracked (m
 messages_tracked [] held = refl
 messages_tracked (k ∷ ks) held = messages_tracked ks (keys_after k held)
 
-focus_tracked : (a b : Bool) (held : List KeyMsg) → bodies_tracked (focus_told a b) held ≡ held
+focus_tracked : (a b : Bool) (held : List KeyMsg) → bodies_tracked (focus_sent a b) held ≡ held
 focus_tracked true true held = refl
 focus_tracked true false held = refl
 focus_tracked false true held = refl
@@ -175,7 +175,7 @@ focus_tracked false false held = refl
 
 pub bodies_tracked_law : BodiesTracked
 bodies_tracked_law ms ks a b held =
-    bodies_append (map MotionBody ms ++ map KeyBody ks) (focus_told a b) held
+    bodies_append (map MotionBody ms ++ map KeyBody ks) (focus_sent a b) held
     ∙ focus_tracked a b (bodies_tracked (map MotionBody ms ++ map KeyBody ks) held)
     ∙ bodies_append (map MotionBody ms) (map KeyBody ks) held
     ∙ ap (bodies_tracked (map KeyBody ks)) (motions_tracked ms held)

@@ -44,6 +44,6 @@ abbrev pub change_of : (lost gained : ℕ) → ℕ → Option Bool
 change_of lost gained w = if mask_has lost w then Some false else if mask_has gained w then Some true else None
 
 -- that as bodies
-abbrev pub change_told : Option Bool → List Body
-change_told None = []
-change_told (Some b) = Focus b ∷ []
+abbrev pub change_sent : Option Bool → List Body
+change_sent None = []
+change_sent (Some b) = Focus b ∷ []

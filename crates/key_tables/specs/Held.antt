@@ -21,7 +21,7 @@ use Rattle.dispatch_history.specs.Delivery.{able}
 use Rattle.dispatch_history.specs.Focus.{is_target}
 use Rattle.dispatch_history.specs.Keys.{same_key, is_before, loses_all, keys}
 use Rattle.dispatch_history.specs.Known.{last_message}
-use Rattle.dispatch_history.specs.KeyTold.{key_as_is, keys_told, repeat_by, last_key}
+use Rattle.dispatch_history.specs.KeySent.{key_as_is, keys_sent, repeat_by, last_key}
 
 -- the key comes before all of these
 abbrev pub Above : KeyArgs → List KeyArgs → Type 0
@@ -53,26 +53,26 @@ abbrev pub key_messages : Call → Reply → List Effect → ℕ → List KeyMsg
 key_messages call answer before w =
     let after = (call, answer) ∷ past_of before in
     let args = args_of call answer (inbound (past_of before)) in
-    keys_told args (is_target (past_of before) w && able before w) (loses_all after (past_of before) w) (keys before w)
+    keys_sent args (is_target (past_of before) w && able before w) (loses_all after (past_of before) w) (keys before w)
     ++ repeat_by after (last_key before) w
 
--- a key that is dispatched is told as it is: a down where the window hears it, an up where it holds the key
+-- a key that is dispatched is sent as it is: a down where the window hears it, an up where it holds the key
 abbrev pub key_heard : KeyArgs → (hears : Bool) → List KeyMsg → Option KeyMsg
 key_heard k hears held =
     if (if k.down then hears else list_any (λ m. same_key k m.key) held) then Some (key_as_is k) else None
 
 -- a message that may be made, for whichever channel
-abbrev pub one_told : Option KeyMsg → List KeyMsg
-one_told None = []
-one_told (Some m) = m ∷ []
+abbrev pub one_sent : Option KeyMsg → List KeyMsg
+one_sent None = []
+one_sent (Some m) = m ∷ []
 
 -- What the key target is told of keys, with what is kept of its keys and of the last key message. It hears keys where it
 -- is able. Its keys of a device are cancelled by a reset of that, and all of them where a tick names it and where it is
 -- not the key target any more.
-abbrev pub target_told : Call → Reply → Option Args → ℕ → (hears stays : Bool) → List KeyMsg → Option Sent → List KeyMsg
-target_told (Pump now) Dispatched (Some (KeyOfDevice k)) w hears stays held last = one_told (key_heard k hears held)
-target_told (Pump now) Dispatched (Some (Reset d)) w hears stays held last = keys_cancelled (of_device d held)
-target_told (Pump now) Repeated args w hears stays held last = one_told (option_map (λ n. n.1) (next_of last))
-target_told (Pump now) answer args w hears stays held last = []
-target_told (Tick now) (Named mask) args w hears stays held last = if mask_has mask w then keys_cancelled held else []
-target_told call answer args w hears stays held last = if stays then [] else keys_cancelled held
+abbrev pub target_sent : Call → Reply → Option Args → ℕ → (hears stays : Bool) → List KeyMsg → Option Sent → List KeyMsg
+target_sent (Pump now) Dispatched (Some (KeyOfDevice k)) w hears stays held last = one_sent (key_heard k hears held)
+target_sent (Pump now) Dispatched (Some (Reset d)) w hears stays held last = keys_cancelled (of_device d held)
+target_sent (Pump now) Repeated args w hears stays held last = one_sent (option_map (λ n. n.1) (next_of last))
+target_sent (Pump now) answer args w hears stays held last = []
+target_sent (Tick now) (Named mask) args w hears stays held last = if mask_has mask w then keys_cancelled held else []
+target_sent call answer args w hears stays held last = if stays then [] else keys_cancelled held

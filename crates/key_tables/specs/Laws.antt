@@ -8,7 +8,7 @@ use Rattle.dispatch_calls.specs.declared.call.Call.{Call}
 use Rattle.dispatch_calls.specs.declared.call.Call.TheVariants.{FocusOn}
 use Rattle.dispatch_calls.specs.declared.reply.Reply.{Reply}
 use Rattle.dispatch_history.specs.History.{History, live, clock, origin, snapshot}
-use Rattle.dispatch_history.specs.Focus.{focus, has_focus, is_target, key_target, focus_told}
+use Rattle.dispatch_history.specs.Focus.{focus, has_focus, is_target, key_target, focus_sent}
 use Rattle.dispatch_history.specs.Effect.{Effect, past_of}
 use Rattle.dispatch_history.specs.Effects.{step, said_at}
 use Rattle.dispatch_history.specs.Step.{scene, step_of}
@@ -17,16 +17,16 @@ use Rattle.routing_rules.specs.Given.{mark}
 use Rattle.dispatch_history.specs.Delivery.{able}
 use Rattle.dispatch_history.specs.Keys.{keys}
 use Rattle.dispatch_tables.specs.Lawful.{Lawful}
-use Rattle.key_tables.specs.Held.{Rising, KeysAre, bodies_tracked, key_messages, target_told}
+use Rattle.key_tables.specs.Held.{Rising, KeysAre, bodies_tracked, key_messages, target_sent}
 use Rattle.key_tables.specs.Repeats.{RepeatIs, repeat_next}
 use Rattle.key_repeat.specs.Due.{Sent, due_of}
 use Rattle.input_types.specs.declared.key.KeyMsg.{KeyMsg}
 use Rattle.input_types.specs.declared.motion.Motion.{Motion}
 use Rattle.input_types.specs.declared.message.Body.TheVariants.{Motion as MotionBody, Key}
-use Rattle.cancel_synthesis.specs.Laws.{keys_told as tracked}
+use Rattle.cancel_synthesis.specs.Laws.{keys_sent as tracked}
 use Rattle.dispatch_history.specs.Queue.{inbound, args_of}
-use Rattle.dispatch_history.specs.KeyTold.{repeat_due}
-use Rattle.key_tables.specs.Focused.{FocusIs, MasksAre, is_request, leaves_focus, change_of, change_told}
+use Rattle.dispatch_history.specs.KeySent.{repeat_due}
+use Rattle.key_tables.specs.Focused.{FocusIs, MasksAre, is_request, leaves_focus, change_of, change_sent}
 
 -- What is kept of the focus says which channel has the focus of each display, which channels are focused, and where keys
 -- go.
@@ -77,14 +77,14 @@ abbrev pub FocusAtFirst : Type 0
 FocusAtFirst = FocusIs [] (record { requested = replicate 4 None; last = 0; focusable = replicate 4 0 })
 
 -- The masks of a change of the focus say what each channel is told of it.
-abbrev pub FocusTold : Type 0
-FocusTold =
+abbrev pub FocusSent : Type 0
+FocusSent =
     (es fs : List Effect) (f g : FocusState) (lost gained w : ℕ)
     → FocusIs es f
     → FocusIs fs g
     → IsOnlyIn lost (is_focused (focus_of f)) (is_focused (focus_of g))
     → IsOnlyIn gained (is_focused (focus_of g)) (is_focused (focus_of f))
-    → focus_told (has_focus (past_of es) w) (has_focus (past_of fs) w) ≡ change_told (change_of lost gained w)
+    → focus_sent (has_focus (past_of es) w) (has_focus (past_of fs) w) ≡ change_sent (change_of lost gained w)
 
 -- Only the key target holds keys, and only while it is able.
 abbrev pub KeysOfTarget : Type 0
@@ -101,11 +101,11 @@ abbrev pub KeysAtFirst : Type 0
 KeysAtFirst =
     (displays : List ℕ) (es : List Effect) (w : ℕ) → Lawful displays es → live (past_of es) w ≡ false → KeysAre es w []
 
--- Of what a window is told only the key messages change what is kept of its keys.
+-- Of what a window is sent only the key messages change what is kept of its keys.
 abbrev pub BodiesTracked : Type 0
 BodiesTracked =
     (ms : List Motion) (ks : List KeyMsg) (a b : Bool) (held : List KeyMsg)
-    → bodies_tracked (map MotionBody ms ++ map Key ks ++ focus_told a b) held ≡ tracked ks held
+    → bodies_tracked (map MotionBody ms ++ map Key ks ++ focus_sent a b) held ≡ tracked ks held
 
 -- Where the key messages that a step tells are tracked, the keys of a channel that is live after it are kept.
 abbrev pub KeysStep : Type 0
@@ -127,7 +127,7 @@ SaidParts =
     said_at displays call answer es w
     ≡ motions_said moment this (mark moment this) (origin (past_of es) w) w
     ++ map Key (key_messages call answer es w)
-    ++ focus_told (has_focus (past_of es) w) (has_focus (past_of (step displays call answer es)) w)
+    ++ focus_sent (has_focus (past_of es) w) (has_focus (past_of (step displays call answer es)) w)
 
 -- A step tells nobody of keys but the key target before it.
 abbrev pub KeysQuiet : Type 0
@@ -138,8 +138,8 @@ KeysQuiet =
     → key_messages call answer es w ≡ []
 
 -- What it tells that one is found from what is kept.
-abbrev pub TargetTold : Type 0
-TargetTold =
+abbrev pub TargetSent : Type 0
+TargetSent =
     (displays : List ℕ) (call : Call) (answer : Reply) (es : List Effect)
     (w : ℕ) (held : List KeyMsg) (last : Option Sent)
     → Lawful displays (step displays call answer es)
@@ -148,7 +148,7 @@ TargetTold =
     → KeysAre es w held
     → RepeatIs es last
     → key_messages call answer es w
-    ≡ target_told call answer (args_of call answer (inbound (past_of es))) w (able es w)
+    ≡ target_sent call answer (args_of call answer (inbound (past_of es))) w (able es w)
     (is_target (past_of (step displays call answer es)) w) held last
 
 -- What is kept of the last key message says when a repeat is due, and is of the key target.
@@ -159,7 +159,7 @@ RepeatRead =
     → RepeatIs es last
     → (due_of last ≡ repeat_due es) × ((s : Sent) → last ≡ Some s → is_target (past_of es) s.channel ≡ true)
 
--- The key messages that the key target is told leave the last one kept.
+-- The key messages that the key target is sent leave the last one kept.
 abbrev pub RepeatStep : Type 0
 RepeatStep =
     (displays : List ℕ) (call : Call) (answer : Reply) (es : List Effect) (t : ℕ) (last : Option Sent)

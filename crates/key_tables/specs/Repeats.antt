@@ -3,13 +3,13 @@ use Rattle.std.specs.Prelude.{◌≡◌, ℕ, Bool, true, false, List, [], ◌�
 use Rattle.input_types.specs.declared.key.KeyMsg.{KeyMsg}
 use Rattle.key_repeat.specs.Due.{Sent}
 use Rattle.dispatch_history.specs.Effect.{Effect}
-use Rattle.dispatch_history.specs.KeyTold.{last_key, while_held}
+use Rattle.dispatch_history.specs.KeySent.{last_key, while_held}
 
--- what is kept is the last key message that was told, while its window holds the key
+-- what is kept is the last key message that was sent, while its window holds the key
 abbrev pub RepeatIs : List Effect → Option Sent → Type 0
 RepeatIs es last = last ≡ while_held es (last_key es)
 
--- what is kept once a window was told these key messages at a clock: a down or a repeat is kept, and an up ends what was
+-- what is kept once a window was sent these key messages at a clock: a down or a repeat is kept, and an up ends what was
 -- kept
 abbrev pub repeat_after : (now target : ℕ) → List KeyMsg → Option Sent → Option Sent
 repeat_after now t [] last = last

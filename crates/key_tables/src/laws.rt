@@ -1,5 +1,5 @@
 //! What is proved of what is kept. Each function has the laws as its clauses, and does nothing.
-ghost use Rattle.key_tables.specs.Laws.{FocusRead, FocusRequested, FocusShown, FocusLeft, FocusMasks, FocusAtFirst, FocusTold, KeysOfTarget, KeysRise, KeysAtFirst, BodiesTracked, KeysStep, SaidParts, KeysQuiet, TargetTold, RepeatRead, RepeatStep, RepeatLeft};
+ghost use Rattle.key_tables.specs.Laws.{FocusRead, FocusRequested, FocusShown, FocusLeft, FocusMasks, FocusAtFirst, FocusSent, KeysOfTarget, KeysRise, KeysAtFirst, BodiesTracked, KeysStep, SaidParts, KeysQuiet, TargetSent, RepeatRead, RepeatStep, RepeatLeft};
 
 /// What is kept of the focus says who has it and where keys go, changes as each call says, and tells each channel what
 /// it has to know.
@@ -10,7 +10,7 @@ pub fn focus()
     ensures left { FocusLeft }
     ensures masks { FocusMasks }
     ensures first { FocusAtFirst }
-    ensures told { FocusTold }
+    ensures outgoing { FocusSent }
 {}
 
 /// Only the key target holds keys, in rising order.
@@ -22,14 +22,14 @@ pub fn keys()
     ensures step { KeysStep }
 {}
 
-/// What a step tells of keys: nobody is told but the key target, and that is told what is found from what is kept.
-pub fn telling()
+/// What a step tells of keys: nobody is sent but the key target, and that is told what is found from what is kept.
+pub fn sending()
     ensures parts { SaidParts }
     ensures quiet { KeysQuiet }
-    ensures target { TargetTold }
+    ensures target { TargetSent }
 {}
 
-/// What is kept of the last key message says when a repeat is due, and is kept by what the key target is told.
+/// What is kept of the last key message says when a repeat is due, and is kept by what the key target is sent.
 pub fn repeating()
     ensures read { RepeatRead }
     ensures step { RepeatStep }

@@ -21,8 +21,8 @@
 #![tactic(auto)]
 
 mod focus;
-mod key_told;
+mod key_sent;
 pub mod laws;
 
 pub use focus::{focus_change, focusable};
-pub use key_told::{key_heard, remember};
+pub use key_sent::{key_heard, remember};

@@ -1,4 +1,4 @@
-//! What a program reads of the service: what is due, who waits, and what clients are told.
+//! What a program reads of the service: what is due, who waits, and what clients are sent.
 ghost use Rattle.std.specs.Prelude.{◌≤◌};
 
 use crate::answers::{not_added, not_opened, say, say_client, say_number, say_whether};
@@ -65,16 +65,16 @@ pub(crate) fn add(
 }
 
 /// A message on a line of its own.
-fn tell(message: &Message, out: &mut Vec<u8>) -> Result<bool, AllocError> {
+fn send(message: &Message, out: &mut Vec<u8>) -> Result<bool, AllocError> {
     out.extend_from_slice(b"> ")?;
     message_text(message, out)?;
     Ok(true)
 }
 
 /// The next message of a client. The answer is whether there was one.
-fn tell_next(world: &mut World, client: Client, out: &mut Vec<u8>) -> Result<bool, AllocError> {
+fn send_next(world: &mut World, client: Client, out: &mut Vec<u8>) -> Result<bool, AllocError> {
     match world.live.next(client) {
-        Ok(Some(message)) => tell(&message, out),
+        Ok(Some(message)) => send(&message, out),
         Ok(None) => Ok(false),
         Err(error) => Err(error),
     }
@@ -87,7 +87,7 @@ pub(crate) fn next(world: &mut World, number: u64, out: &mut Vec<u8>) -> Result<
     };
     out.push(b'\n')?;
     for _ in 0..u64::MAX {
-        if !tell_next(world, client, out)? {
+        if !send_next(world, client, out)? {
             return Ok(());
         }
     }

@@ -32,7 +32,7 @@ fn has(mask: u64, channel: u32) -> bool
 }
 
 /// A message is sent to the client of a channel. The answer is its number.
-fn tell(
+fn print_message(
     alloc: Global,
     channel: u32,
     message: &Message,
@@ -45,13 +45,13 @@ fn tell(
 }
 
 /// The next message of a client is sent to it. The answer is its number, where there is one.
-fn tell_next(
+fn send_next(
     started: &mut Started,
     client: Client,
     out: &mut Vec<u8>,
 ) -> Result<Option<u64>, AllocError> {
     match started.live.next(client) {
-        Ok(Some(message)) => tell(started.alloc, client.channel(), &message, out),
+        Ok(Some(message)) => print_message(started.alloc, client.channel(), &message, out),
         Ok(None) => Ok(None),
         Err(error) => Err(error),
     }
@@ -65,7 +65,7 @@ fn send_to(
     out: &mut Vec<u8>,
 ) -> Result<(), AllocError> {
     for _ in 0..u64::MAX {
-        let Some(seq) = tell_next(started, client, out)? else {
+        let Some(seq) = send_next(started, client, out)? else {
             return Ok(());
         };
         if client != started.idle && started.live.finish(now, client, seq).is_err() {
@@ -88,7 +88,7 @@ fn send(started: &mut Started, now: Moment, out: &mut Vec<u8>) -> Result<(), All
     Ok(())
 }
 
-/// The clock is at a moment: what is due is done, and who does not respond is told.
+/// The clock is at a moment: what is due is done, and who does not respond is sent.
 fn advance(started: &mut Started, now: Moment, out: &mut Vec<u8>) -> Result<(), AllocError> {
     let late = started.live.advance(now)?;
     for channel in 1..=64u32 {

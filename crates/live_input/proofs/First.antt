@@ -1,7 +1,7 @@
 -- A service before its first call.
 use Rattle.std.proofs.Common.{◌≡◌, ℕ, zero, suc, ◌-◌, ◌≤◌, true, List, [], length, replicate, slice_index_or, None, refl, sym, ap, ◌∙◌, arith}
 use Rattle.std.proofs.lemmas.Bool.{true≢false}
-use Rattle.dispatcher.specs.Access.{gone, namings_gone}
+use Rattle.dispatcher.specs.Access.{gone, anrs_released}
 use Rattle.dispatcher.specs.Dispatching.{StandsFor}
 use Rattle.live_input.specs.Seats.{is_held, seat_of, vacant}
 use Rattle.live_input.specs.Standing.{LiveIs}
@@ -14,8 +14,8 @@ same_at x (suc n) (suc i) = same_at x n i
 
 pub live_first : (ds : List ℕ) (s : LiveState) → StandsFor [] s.dispatcher → s.dispatcher.displays ≡ ds → s.windows ≡ []
     → s.requested ≡ replicate 4 None → s.asked ≡ 0 → s.seats ≡ replicate 64 vacant
-    → ((c : ℕ) → 1 ≤ c → gone s.dispatcher c ≡ 0) → namings_gone s.dispatcher ≡ 0 → LiveIs ds [] s
-live_first ds s stands displays windows requested asked seats gone namings =
+    → ((c : ℕ) → 1 ≤ c → gone s.dispatcher c ≡ 0) → anrs_released s.dispatcher ≡ 0 → LiveIs ds [] s
+live_first ds s stands displays windows requested asked seats gone anrs =
     record {
       stands = stands;
       displays_are = displays;
@@ -40,7 +40,7 @@ live_first ds s stands displays windows requested asked seats gone namings =
             left = λ c low high is. absurd (omega (arith, low, high));
             begun = λ c held. absurd (none c held.2);
           };
-      let_go = record { messages_are = gone; namings_are = namings };
+      release = record { messages_are = gone; anrs_are = anrs };
     }
   where
     none : (c : ℕ) → is_held (seat_of s.seats c) ≡ true → ⊥

@@ -6,7 +6,7 @@ use Rattle.dispatch_calls.specs.declared.call.Call.TheVariants.{Pump, Tick, Rece
 use Rattle.dispatch_history.specs.Delivery.{is_named_by, oldest}
 use Rattle.dispatch_history.specs.Effect.{Effect, past_of, stream}
 use Rattle.dispatch_history.specs.History.{received}
-use Rattle.dispatch_history.specs.KeyTold.{repeat_due}
+use Rattle.dispatch_history.specs.KeySent.{repeat_due}
 use Rattle.dispatch_history.specs.Legal.{answered}
 use Rattle.dispatch_history.specs.Ordered.{extend}
 use Rattle.dispatch_history.specs.Reply.{reply_to}
@@ -133,7 +133,7 @@ or_more false b c = refl
 -- what is noted of names does not matter
 pub live_noted : (ds : List ℕ) (es : List Effect) (s : LiveState) (n : ℕ) → LiveIs ds es s → LiveIs ds es (record s { named = n })
 live_noted ds es s n h =
-    record { stands = h.stands; displays_are = h.displays_are; windows_are = h.windows_are; requests_are = h.requests_are; seats_are = h.seats_are; tenants_are = h.tenants_are; let_go = h.let_go }
+    record { stands = h.stands; displays_are = h.displays_are; windows_are = h.windows_are; requests_are = h.requests_are; seats_are = h.seats_are; tenants_are = h.tenants_are; release = h.release }
 
 -- nothing that is due was done yet
 pub advances_first : (ds : List ℕ) (now : ℕ) (es : List Effect) (s : LiveState) → LiveIs ds es s → Advances ds now es s s
@@ -157,7 +157,7 @@ advances_more ds now es old s t call a e h n =
           ∙ ap (λ b. mask_has old.named c || b) (sym (named_last ds es a.calls call c));
     }
 
--- all was done, and the names are told
+-- all was done, and the names are sent
 pub advanced : (ds : List ℕ) (now : ℕ) (es : List Effect) (old s t : LiveState) (mask : ℕ) → (a : Advances ds now es old s)
     → next_due now (extend ds es a.calls) ≡ None → mask ≡ s.named → LiveIs ds (extend ds es a.calls) t → t.named ≡ 0
     → Advanced ds now es mask old t
@@ -168,5 +168,5 @@ advanced ds now es old s t mask a e m h z =
       done = e;
       is = h;
       named_are = λ c. ap (λ n. mask_has n c) m ∙ a.named_are c;
-      told = z;
+      outgoing = z;
     }

@@ -54,7 +54,7 @@ beside_goes ds es s h devices pending =
       requests_are = h.requests_are;
       seats_are = h.seats_are;
       tenants_are = h.tenants_are;
-      let_go = h.let_go;
+      release = h.release;
     }
 
 -- some of what was to be handed in is, all of which was taken or not; what is left comes to the same as all
@@ -142,5 +142,5 @@ advanced_from ds now es mask s t new e a =
       done = a.done;
       is = a.is;
       named_are = λ c. a.named_are c ∙ ap (λ n. mask_has n c || is_named_in ds es a.calls c) e;
-      told = a.told;
+      outgoing = a.outgoing;
     }

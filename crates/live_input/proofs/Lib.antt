@@ -4,12 +4,12 @@ pub mod Vacant
 pub mod Unshown
 pub mod Fewer
 pub mod Silence
-pub mod Untold
+pub mod Unsent
 pub mod Tenants
-pub mod LettingGo
+pub mod Releasing
 pub mod Stepping
 pub mod Opened
-pub mod Told
+pub mod Outgoing
 pub mod Worked
 pub mod Emptied
 pub mod Shown

@@ -20,7 +20,7 @@ use Rattle.dispatch_tables.proofs.Lawfuls.{lawful_last}
 use Rattle.dispatcher.specs.Dispatching.{Dispatching, StandsFor}
 use Rattle.live_input.specs.declared.client.Seat.{Seat}
 use Rattle.live_input.specs.Seats.{IsHeld, with_seat}
-use Rattle.live_input.specs.Standing.{AreLetGo, AreRequested, AreSeated, AreTenants, IsOfHeld, IsOfSome, LiveIs, is_plain}
+use Rattle.live_input.specs.Standing.{AreReleased, AreRequested, AreSeated, AreTenants, IsOfHeld, IsOfSome, LiveIs, is_plain}
 use Rattle.live_input.specs.State.{LiveState}
 use Rattle.live_input.proofs.Tenants.{done_new, part_none, tenants_more}
 use Rattle.live_input.proofs.Vacant.{seated}
@@ -76,17 +76,17 @@ module _ (ds : List ℕ) (es : List Effect) (s : LiveState) (h : LiveIs ds es s)
   stands_more call answer stands =
       let there : StandsFor (step ds call answer es) d = subst (λ ys. StandsFor (step ys call answer es) d) h.displays_are stands in
       let l : Lawful ds (step ds call answer es) = subst (λ ys. Lawful ys (step ds call answer es)) (same ∙ h.displays_are) there.lawful in
-      let told : answer ≡ reply_to es call = (lawful_last ds call answer es l).0 in
-      (told, subst (λ a. StandsFor (step ds call a es) d) told there)
+      let outgoing : answer ≡ reply_to es call = (lawful_last ds call answer es l).0 in
+      (outgoing, subst (λ a. StandsFor (step ds call a es) d) outgoing there)
 
   lawful_of : {fs : List Effect} → StandsFor fs d → Lawful ds fs
   lawful_of {fs} stands = subst (λ ys. Lawful ys fs) (same ∙ h.displays_are) stands.lawful
 
   -- a plain call leaves all that is kept beside the dispatcher
   pub plain_goes : (call : Call) → is_plain call ≡ true → IsOfHeld s.seats call
-      → StandsFor (answered ds call es) d → AreLetGo (answered ds call es) d
+      → StandsFor (answered ds call es) d → AreReleased (answered ds call es) d
       → LiveIs ds (answered ds call es) (record s { dispatcher = d })
-  plain_goes call plain own stands let_go =
+  plain_goes call plain own stands release =
       let h0 = past_of es in
       let r = reply_to es call in
       record {
@@ -107,14 +107,14 @@ module _ (ds : List ℕ) (es : List Effect) (s : LiveState) (h : LiveIs ds es s)
             (λ y low. subst (λ o. IsOfSome o s.seats) (sym (plain_requested call y (requested h0 y) plain)) (h.tenants_are.asked y low))
             (λ c low high none. part_none s.seats call r c own none (λ limit k e f. absurd (true≢false (sym plain ∙ ap is_plain e))))
             (λ c lt le silent. let same_count = plain_opened call r (opened h0) plain in absurd (omega (arith, lt, le, same_count)));
-        let_go = let_go;
+        release = release;
       }
 
   -- windows are shown
   pub windows_go : (now : ℕ) (ws : List Window) (answer : Reply) → ((c : ℕ) → is_named ws c ≡ true → IsHeld c s.seats)
-      → StandsFor (step s.dispatcher.displays (Windows now ws) answer es) d → AreLetGo (answered ds (Windows now ws) es) d
+      → StandsFor (step s.dispatcher.displays (Windows now ws) answer es) d → AreReleased (answered ds (Windows now ws) es) d
       → (kept : List Window) → kept ≡ ws → LiveIs ds (answered ds (Windows now ws) es) (record s { dispatcher = d; windows = kept })
-  windows_go now ws answer own stands let_go kept is =
+  windows_go now ws answer own stands release kept is =
       let h0 = past_of es in
       let r = reply_to es (Windows now ws) in
       let there = (stands_more (Windows now ws) answer stands).1 in
@@ -127,15 +127,15 @@ module _ (ds : List ℕ) (es : List Effect) (s : LiveState) (h : LiveIs ds es s)
         tenants_are =
             tenants_more ds (Windows now ws) r es s.seats (lawful_of there) h.tenants_are own h.tenants_are.asked (λ c low high none. refl)
             (λ c lt le silent. absurd (omega (arith, lt, le)));
-        let_go = let_go;
+        release = release;
       }
 
   -- the focus is requested
   request_goes : (now y : ℕ) (channel : Option ℕ) (answer : Reply) → y < 4 → IsOfSome channel s.seats
-      → StandsFor (step s.dispatcher.displays (FocusOn now y channel) answer es) d → AreLetGo (answered ds (FocusOn now y channel) es) d
+      → StandsFor (step s.dispatcher.displays (FocusOn now y channel) answer es) d → AreReleased (answered ds (FocusOn now y channel) es) d
       → LiveIs ds (answered ds (FocusOn now y channel) es)
       (record s { dispatcher = d; requested = slice_set s.requested y channel; asked = y })
-  request_goes now y channel answer low own stands let_go =
+  request_goes now y channel answer low own stands release =
       let h0 = past_of es in
       let r = reply_to es (FocusOn now y channel) in
       let there = (stands_more (FocusOn now y channel) answer stands).1 in
@@ -156,7 +156,7 @@ module _ (ds : List ℕ) (es : List Effect) (s : LiveState) (h : LiveIs ds es s)
             (λ z zt. of_some s.seats (z == y) channel (requested h0 z) own (h.tenants_are.asked z zt))
             (λ c from high none. refl)
             (λ c lt le silent. absurd (omega (arith, lt, le)));
-        let_go = let_go;
+        release = release;
       }
     where
       by_display : (z : ℕ) → z < 4 → slice_index_or (slice_set s.requested y channel) z None ≡ cond (z == y) channel (requested (past_of es) z)
@@ -174,25 +174,25 @@ module _ (ds : List ℕ) (es : List Effect) (s : LiveState) (h : LiveIs ds es s)
 
   -- by the place of the display among those that are kept
   pub request_goes_at : (now y : ℕ) (channel : Option ℕ) (answer : Reply) (place : ℕ) → place ≡ y → y < 4 → IsOfSome channel s.seats
-      → StandsFor (step s.dispatcher.displays (FocusOn now y channel) answer es) d → AreLetGo (answered ds (FocusOn now y channel) es) d
+      → StandsFor (step s.dispatcher.displays (FocusOn now y channel) answer es) d → AreReleased (answered ds (FocusOn now y channel) es) d
       → LiveIs ds (answered ds (FocusOn now y channel) es)
       (record s { dispatcher = d; requested = slice_set s.requested place channel; asked = y })
-  request_goes_at now y channel answer place at low own stands let_go =
+  request_goes_at now y channel answer place at low own stands release =
       subst (λ n. LiveIs ds (answered ds (FocusOn now y channel) es) (record s { dispatcher = d; requested = slice_set s.requested n channel; asked = y }))
-      (sym at) (request_goes now y channel answer low own stands let_go)
+      (sym at) (request_goes now y channel answer low own stands release)
 
   -- the first channel that was not opened yet is opened
   pub open_goes : (limit : ℕ) (answer : Reply) → opened (past_of es) < 64
-      → StandsFor (step s.dispatcher.displays (Open limit) answer es) d → AreLetGo (answered ds (Open limit) es) d
+      → StandsFor (step s.dispatcher.displays (Open limit) answer es) d → AreReleased (answered ds (Open limit) es) d
       → (opened (past_of (answered ds (Open limit) es)) ≡ suc (opened (past_of es)))
       × LiveIs ds (answered ds (Open limit) es) (record s { dispatcher = d })
-  open_goes limit answer few stands let_go =
+  open_goes limit answer few stands release =
       let h0 = past_of es in
       let n = opened h0 in
       let there = stands_more (Open limit) answer stands in
       let fits : open_reply n ≡ Opened (n + 1) = ap (λ b. cond b (Opened (n + 1)) Full) (lt-ltb n 64 few) in
-      let P : Reply → Type 0 = λ r. StandsFor (step ds (Open limit) r es) d → AreLetGo (step ds (Open limit) r es) d → (opened ((Open limit, r) ∷ h0) ≡ suc n) × LiveIs ds (step ds (Open limit) r es) (record s { dispatcher = d }) in
-      subst P (sym fits) by_opened there.1 let_go
+      let P : Reply → Type 0 = λ r. StandsFor (step ds (Open limit) r es) d → AreReleased (step ds (Open limit) r es) d → (opened ((Open limit, r) ∷ h0) ≡ suc n) × LiveIs ds (step ds (Open limit) r es) (record s { dispatcher = d }) in
+      subst P (sym fits) by_opened there.1 release
     where
       opens : (c : ℕ) → 1 ≤ c → c ≤ suc (opened (past_of es)) → live ((Open limit, Opened (opened (past_of es) + 1)) ∷ past_of es) c ≡ true
       opens c low high =
@@ -206,9 +206,9 @@ module _ (ds : List ℕ) (es : List Effect) (s : LiveState) (h : LiveIs ds es s)
               elim (cases_lt n c) [ inl gt ↦ absurd (ne (omega (arith, high, gt))) | inr le ↦ le ]
 
       by_opened : StandsFor (step ds (Open limit) (Opened (opened (past_of es) + 1)) es) d
-          → AreLetGo (step ds (Open limit) (Opened (opened (past_of es) + 1)) es) d
+          → AreReleased (step ds (Open limit) (Opened (opened (past_of es) + 1)) es) d
           → (suc (opened (past_of es)) ≡ suc (opened (past_of es))) × LiveIs ds (step ds (Open limit) (Opened (opened (past_of es) + 1)) es) (record s { dispatcher = d })
-      by_opened stands let_go = (
+      by_opened stands release = (
         refl,
         record {
           stands = stands;
@@ -228,7 +228,7 @@ module _ (ds : List ℕ) (es : List Effect) (s : LiveState) (h : LiveIs ds es s)
               h.tenants_are.asked
               (λ c low high none. ap (λ b. cond b (Opens limit) Untouched) (ne_eqb c (opened (past_of es) + 1) (λ e. absurd (omega (arith, high, e)))))
               (λ c lt le silent. done_new ds limit (opened (past_of es) + 1) es c (lawful_of stands) silent lt);
-          let_go = let_go;
+          release = release;
         },
       )
 
@@ -244,5 +244,5 @@ seat_goes ds es s h c seat from to high tenants n seats same =
       requests_are = h.requests_are;
       seats_are = subst (AreSeated (past_of es)) (sym same) (seated (past_of es) s.seats c seat h.seats_are from to high);
       tenants_are = subst (AreTenants es) (sym same) tenants;
-      let_go = h.let_go;
+      release = h.release;
     }

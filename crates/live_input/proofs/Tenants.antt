@@ -13,8 +13,8 @@ use Rattle.dispatch_calls.specs.declared.call.Call.TheVariants.{Open, Receive, F
 use Rattle.dispatch_calls.specs.declared.reply.Reply.{Reply}
 use Rattle.dispatch_calls.specs.declared.reply.Reply.TheVariants.{Opened, Done, Got}
 use Rattle.dispatch_history.specs.Delivery.{unfinished}
-use Rattle.dispatch_history.specs.Effect.{Effect, past_of, stream, told_on, told_to}
-use Rattle.dispatch_history.specs.Effects.{step, said_at, told_by}
+use Rattle.dispatch_history.specs.Effect.{Effect, past_of, stream, sent_on, sent_to}
+use Rattle.dispatch_history.specs.Effects.{step, said_at, sent_by}
 use Rattle.dispatch_history.specs.Focus.{requested, requested_after}
 use Rattle.dispatch_history.specs.History.{clock, opened, opened_after, received, received_after, snapshot, windows_after}
 use Rattle.dispatch_history.specs.PointerOf.{AllRise}
@@ -27,16 +27,16 @@ use Rattle.dispatch_tables.proofs.Unopened.{unopened_law}
 use Rattle.live_input.specs.declared.client.Seat.{Seat}
 use Rattle.live_input.specs.Seats.{IsHeld, is_held, seat_of, with_seat}
 use Rattle.live_input.specs.Standing.{AreSeated, AreTenants, Begins, IsDone, IsOfHeld, IsOfSome}
-use Rattle.live_input.proofs.Silence.{told_nothing}
-use Rattle.live_input.proofs.Untold.{untold_law}
+use Rattle.live_input.proofs.Silence.{sent_nothing}
+use Rattle.live_input.proofs.Unsent.{unsent_law}
 use Rattle.live_input.proofs.Vacant.{seat_set, seat_stays}
 
 -- a step tells something more
-told_more : (now : ℕ) (bs : List Body) (ms : List Message) → (new : List Message) × (told_on now bs ms ≡ new ++ ms)
-told_more now [] ms = ([], refl)
-told_more now (b ∷ bs) ms =
+sent_more : (now : ℕ) (bs : List Body) (ms : List Message) → (new : List Message) × (sent_on now bs ms ≡ new ++ ms)
+sent_more now [] ms = ([], refl)
+sent_more now (b ∷ bs) ms =
     let m : Message = record { seq = 1 + length ms; moment = now; body = b } in
-    let more = told_more now bs (m ∷ ms) in
+    let more = sent_more now bs (m ∷ ms) in
     (more.0 ++ m ∷ [], more.1 ∙ sym (append_assoc more.0 (m ∷ []) ms))
 
 received_more : (call : Call) (answer : Reply) (c n : ℕ) → n ≤ received_after call answer c n
@@ -47,10 +47,10 @@ received_more (Receive k) (Got m) c n = by_channel (c == k)
     by_channel false = omega arith
 received_more call answer c n = omega arith
 
--- what a client is told later stands before what its channel had
+-- what a client is sent later stands before what its channel had
 pub begins_more : (ds : List ℕ) (call : Call) (answer : Reply) (es : List Effect) (c n : ℕ) → Begins es c n → Begins (step ds call answer es) c n
 begins_more ds call answer es c n b =
-    let more = told_more (clock ((call, answer) ∷ past_of es)) (told_to (told_by (said_at ds call answer es) (opened ((call, answer) ∷ past_of es))) c) (stream es c) in
+    let more = sent_more (clock ((call, answer) ∷ past_of es)) (sent_to (sent_by (said_at ds call answer es) (opened ((call, answer) ∷ past_of es))) c) (stream es c) in
     let grown = received_more call answer c (received (past_of es) c) in
     let taken = b.taken in
     record {
@@ -75,7 +75,7 @@ done_by es c s e all none =
       finished_all = map_none _ (unfinished es c) (ap (λ (x : ChannelState). x.unfinished) e ∙ none);
     }
 
--- a channel that is told nothing, and that nobody receives from or finishes of, stays done
+-- a channel that is sent nothing, and that nobody receives from or finishes of, stays done
 pub done_more : (ds : List ℕ) (call : Call) (answer : Reply) (es : List Effect) (c : ℕ) → Lawful ds (step ds call answer es)
     → said_at ds call answer es c ≡ [] → part_of call answer c ≡ Untouched → IsDone es c → IsDone (step ds call answer es) c
 done_more ds call answer es c l none untouched d =
@@ -142,7 +142,7 @@ tenants_more ds call answer es seats l t shown asked untouched new =
       shown = shown;
       asked = asked;
       left = λ c low high none.
-          let silent = told_nothing ds call answer es c l (not_shown es seats (snapshot (past_of es)) c t.shown none)
+          let silent = sent_nothing ds call answer es c l (not_shown es seats (snapshot (past_of es)) c t.shown none)
           (not_shown es seats (windows_after call (snapshot (past_of es))) c shown none) in
           elim (cases_lt (opened (past_of es)) c) [
             | inl lt ↦ new c lt high silent
@@ -227,6 +227,6 @@ tenants_new ds es seats c generation l r a t from to high none =
           older = stream es c;
           stream_is = refl;
           before_is = refl;
-          ended = untold_law ds es c l r (a.lives c from high) (not_shown es seats (snapshot (past_of es)) c t.shown none);
+          ended = unsent_law ds es c l r (a.lives c from high) (not_shown es seats (snapshot (past_of es)) c t.shown none);
           taken = omega (arith, all);
         }

@@ -1,4 +1,4 @@
--- A channel whose window is not shown: it has no focus, holds nothing, and is told nothing.
+-- A channel whose window is not shown: it has no focus, holds nothing, and is sent nothing.
 use Rattle.std.proofs.Common.{◌≡◌, ℕ, zero, suc, ℤ, ◌==◌, ◌&&◌, ◌||◌, Bool, true, false, not, cond, is_some, List, [], ◌∷◌, filter, take, Option, Some, None, refl, sym, ap, ap₂, ◌∙◌, subst, inl, inr}
 use Rattle.std.specs.List.{prefix_len}
 use Rattle.std.proofs.lemmas.Bool.{cases_Bool, cases_eq, both_ways, ne_eqb, or_parts, and_right}

@@ -1,4 +1,4 @@
--- Two clients of one channel, one after the other: what the second one is told, by hand.
+-- Two clients of one channel, one after the other: what the second one is sent, by hand.
 use Rattle.std.proofs.Common.{◌≡◌, List, [], ◌∷◌, ◌++◌, reverse, Some, refl}
 use Rattle.input_types.specs.declared.motion.MotionAction.TheVariants.{Down, Up}
 use Rattle.window_snapshot.specs.declared.window.Window.{Window}
@@ -7,7 +7,7 @@ use Rattle.dispatch_calls.specs.declared.call.Call.TheVariants.{Open, Windows, R
 use Rattle.dispatch_history.specs.Effect.{stream}
 use Rattle.dispatch_history.specs.Legal.{run}
 use Rattle.dispatch_history.proofs.Worked.{at, motion, moved, one_display, says, window}
-use Rattle.live_input.specs.Told.{told_since}
+use Rattle.live_input.specs.Outgoing.{sent_since}
 
 abbrev shown : Window
 shown = window 1 0 0 0 1080 2400
@@ -21,6 +21,6 @@ closed_under_a_finger =
     ++ moved 4000 Up 0 (at 0 540 1200 ∷ []) ++ moved 5000 Down 0 (at 0 100 200 ∷ [])
 
 the_second_client_gets_its_own_finger_alone :
-    told_since (record { holder = Some 2; before = 2 }) (stream (run one_display (reverse closed_under_a_finger)) 1)
+    sent_since (record { holder = Some 2; before = 2 }) (stream (run one_display (reverse closed_under_a_finger)) 1)
     ≡ says 1 5000 (motion Down 0 (at 0 100 200 ∷ [])) ∷ []
 the_second_client_gets_its_own_finger_alone = refl

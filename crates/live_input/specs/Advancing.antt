@@ -22,4 +22,4 @@ pub record Advanced (displays : List ℕ) (now : ℕ) (es : List Effect) (mask :
   pub done : next_due now (extend displays es calls) ≡ None
   pub is : LiveIs displays (extend displays es calls) new
   pub named_are : (c : ℕ) → mask_has mask c ≡ (mask_has old.named c || is_named_in displays es calls c)
-  pub told : new.named ≡ 0
+  pub outgoing : new.named ≡ 0

@@ -1,7 +1,7 @@
 -- What is proved of channels and of their clients. Each law is the clause of a function of its own.
 use Rattle.std.specs.Prelude.{ℕ, ◌≡◌, ◌≤◌, ◌<◌, false, true, List, [], ◌∷◌, ◌++◌, drop, length, reverse, slice_get, Some}
 use Rattle.input_types.specs.declared.message.Message.{Message}
-use Rattle.input_types.specs.StreamRule.{stream_state, untold}
+use Rattle.input_types.specs.StreamRule.{stream_state, unsent}
 use Rattle.focus_resolver.specs.Resolver.{is_at}
 use Rattle.window_snapshot.specs.Named.{is_named}
 use Rattle.dispatch_calls.specs.declared.call.Call.{Call}
@@ -9,7 +9,7 @@ use Rattle.dispatch_calls.specs.declared.call.Call.TheVariants.{Receive}
 use Rattle.dispatch_calls.specs.declared.reply.Reply.{Reply}
 use Rattle.dispatch_history.specs.Effect.{Effect, past_of, stream}
 use Rattle.dispatch_history.specs.Delivery.{unfinished}
-use Rattle.dispatch_history.specs.Due.{namings}
+use Rattle.dispatch_history.specs.Due.{anrs}
 use Rattle.dispatch_history.specs.Effects.{step, said_at}
 use Rattle.dispatch_history.specs.Focus.{requested}
 use Rattle.dispatch_history.specs.History.{clock, live, opened, received, snapshot}
@@ -18,15 +18,15 @@ use Rattle.dispatch_history.specs.Legal.{answered}
 use Rattle.dispatch_history.specs.PointerOf.{AllRise}
 use Rattle.dispatch_history.specs.Reply.{reply_to}
 use Rattle.dispatch_tables.specs.Lawful.{Lawful}
-use Rattle.dispatcher.specs.Access.{got, messages_of, namings_gone}
+use Rattle.dispatcher.specs.Access.{got, messages_of, anrs_released}
 use Rattle.live_input.specs.declared.client.Client.{Client}
 use Rattle.live_input.specs.Answers.{handed}
 use Rattle.live_input.specs.Seats.{is_held, is_open, seat_of}
 use Rattle.live_input.specs.Standing.{LiveIs}
 use Rattle.live_input.specs.State.{LiveState}
-use Rattle.live_input.specs.Told.{taken, told_since}
+use Rattle.live_input.specs.Outgoing.{taken, sent_since}
 
--- A channel whose window is shown neither before a step nor after it is told nothing at it.
+-- A channel whose window is shown neither before a step nor after it is sent nothing at it.
 abbrev pub SilenceLaw : Type 0
 SilenceLaw =
     (displays : List ℕ) (call : Call) (answer : Reply) (es : List Effect) (c : ℕ)
@@ -36,31 +36,31 @@ SilenceLaw =
     → said_at displays call answer es c ≡ []
 
 -- The owner of a live channel whose window is not shown knows from all of its messages of nothing that is down, and of no focus.
-abbrev pub UntoldLaw : Type 0
-UntoldLaw =
+abbrev pub UnsentLaw : Type 0
+UnsentLaw =
     (displays : List ℕ) (es : List Effect) (c : ℕ)
     → Lawful displays es → AllRise (past_of es) → live (past_of es) c ≡ true → is_named (snapshot (past_of es)) c ≡ false
-    → stream_state (stream es c) ≡ Some untold
+    → stream_state (stream es c) ≡ Some unsent
 
 -- Messages behind others after which nothing is known say what they say by themselves.
 abbrev pub AloneLaw : Type 0
-AloneLaw = (newer older : List Message) → stream_state older ≡ Some untold → stream_state (newer ++ older) ≡ stream_state newer
+AloneLaw = (newer older : List Message) → stream_state older ≡ Some unsent → stream_state (newer ++ older) ≡ stream_state newer
 
--- What a client was told since it was opened is well-formed by itself, from the empty state: it was never told what belongs to a client
+-- What a client was sent since it was opened is well-formed by itself, from the empty state: it was never told what belongs to a client
 -- before it. And while it is open, it knows from that just what its window holds.
 abbrev pub OwnLaw : Type 0
 OwnLaw =
     (displays : List ℕ) (es : List Effect) (s : LiveState) (k : Client)
     → LiveIs displays es s → is_open s.seats k ≡ true
-    → stream_state (told_since (seat_of s.seats k.channel) (stream es k.channel)) ≡ Some (known_state es k.channel)
+    → stream_state (sent_since (seat_of s.seats k.channel) (stream es k.channel)) ≡ Some (known_state es k.channel)
 
 -- These messages are numbered from 1, their moments do not fall, and all that its channel had before it was received before it.
 abbrev pub OwnNumbersLaw : Type 0
 OwnNumbersLaw =
     (displays : List ℕ) (es : List Effect) (s : LiveState) (k : Client)
     → LiveIs displays es s → is_open s.seats k ≡ true
-    → IsNumbered (told_since (seat_of s.seats k.channel) (stream es k.channel))
-    × NeverFalls (clock (past_of es)) (told_since (seat_of s.seats k.channel) (stream es k.channel))
+    → IsNumbered (sent_since (seat_of s.seats k.channel) (stream es k.channel))
+    × NeverFalls (clock (past_of es)) (sent_since (seat_of s.seats k.channel) (stream es k.channel))
     × ((seat_of s.seats k.channel).before ≤ received (past_of es) k.channel)
 
 -- What it takes is the next one of these, in their order.
@@ -69,7 +69,7 @@ NextLaw =
     (displays : List ℕ) (es : List Effect) (s : LiveState) (k : Client) (m : Message)
     → LiveIs displays es s → is_open s.seats k ≡ true
     → let seat = seat_of s.seats k.channel in handed seat (got (reply_to es (Receive k.channel))) ≡ Some m
-    → slice_get (reverse (told_since seat (stream es k.channel))) (taken seat es k.channel) ≡ Some m
+    → slice_get (reverse (sent_since seat (stream es k.channel))) (taken seat es k.channel) ≡ Some m
 
 -- A channel that was opened, and on which nobody is open, has no window, and the focus of no display was requested last for it; none of its
 -- messages is unfinished, and none is kept.
@@ -81,7 +81,7 @@ VacantLaw =
     × ((y : ℕ) → y < 4 → is_at (requested (past_of es) y) c ≡ false)
     × (unfinished es c ≡ []) × (messages_of es s.dispatcher c ≡ Some [])
 
--- It is told nothing by any call, as long as nobody is opened on it.
+-- It is sent nothing by any call, as long as nobody is opened on it.
 abbrev pub ClosedLaw : Type 0
 ClosedLaw =
     (displays : List ℕ) (call : Call) (es : List Effect) (s t : LiveState) (c : ℕ)
@@ -98,7 +98,7 @@ KeptLaw =
     × (length (unfinished es c) ≤ 64)
 
 -- No naming of a timeout is kept.
-abbrev pub NamingsLaw : Type 0
-NamingsLaw =
+abbrev pub AnrsLaw : Type 0
+AnrsLaw =
     (displays : List ℕ) (es : List Effect) (s : LiveState)
-    → LiveIs displays es s → drop (namings_gone s.dispatcher) (namings es) ≡ []
+    → LiveIs displays es s → drop (anrs_released s.dispatcher) (anrs es) ≡ []

@@ -1,11 +1,11 @@
 pub mod Seats
 pub mod State
-pub mod Letting
+pub mod Releases
 pub mod Standing
 pub mod Settling
 pub mod Advancing
 pub mod Answers
-pub mod Told
+pub mod Outgoing
 pub mod Giving
 pub mod Plugging
 pub mod Asking

@@ -6,7 +6,7 @@ use Rattle.dispatch_history.specs.Delivery.{is_named_by, oldest}
 use Rattle.dispatch_history.specs.Due.{first_due}
 use Rattle.dispatch_history.specs.Effect.{Effect, past_of, stream}
 use Rattle.dispatch_history.specs.History.{received}
-use Rattle.dispatch_history.specs.KeyTold.{repeat_due}
+use Rattle.dispatch_history.specs.KeySent.{repeat_due}
 use Rattle.dispatch_history.specs.Legal.{answered}
 use Rattle.dispatch_history.specs.Ordered.{extend}
 use Rattle.dispatch_history.specs.Reply.{reply_to}

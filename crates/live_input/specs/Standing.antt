@@ -1,17 +1,17 @@
 -- Which histories a live service stands for.
 use Rattle.std.specs.Prelude.{ℕ, ◌≡◌, ◌≤◌, ◌<◌, Bool, true, false, List, [], ◌++◌, length, slice_index_or, Option, Some, None}
 use Rattle.input_types.specs.declared.message.Message.{Message}
-use Rattle.input_types.specs.StreamRule.{stream_state, untold}
+use Rattle.input_types.specs.StreamRule.{stream_state, unsent}
 use Rattle.window_snapshot.specs.declared.window.Window.{Window}
 use Rattle.window_snapshot.specs.Named.{is_named}
 use Rattle.dispatch_calls.specs.declared.call.Call.{Call}
 use Rattle.dispatch_calls.specs.declared.call.Call.TheVariants.{Open, Windows, FocusOn, Receive, Finish, Remove}
 use Rattle.dispatch_history.specs.Delivery.{unfinished}
-use Rattle.dispatch_history.specs.Due.{namings}
+use Rattle.dispatch_history.specs.Due.{anrs}
 use Rattle.dispatch_history.specs.Effect.{Effect, past_of, stream}
 use Rattle.dispatch_history.specs.Focus.{requested, asked}
 use Rattle.dispatch_history.specs.History.{History, live, opened, received, snapshot}
-use Rattle.dispatcher.specs.Access.{gone, namings_gone}
+use Rattle.dispatcher.specs.Access.{gone, anrs_released}
 use Rattle.dispatcher.specs.Dispatching.{Dispatching, StandsFor}
 use Rattle.live_input.specs.declared.client.Seat.{Seat}
 use Rattle.live_input.specs.Seats.{IsHeld, is_held, seat_of}
@@ -41,7 +41,7 @@ pub record Begins (es : List Effect) (c before : ℕ) : Type 0 where
   pub older : List Message
   pub stream_is : stream es c ≡ newer ++ older
   pub before_is : length older ≡ before
-  pub ended : stream_state older ≡ Some untold
+  pub ended : stream_state older ≡ Some unsent
   pub taken : before ≤ received (past_of es) c
 
 -- these are windows of clients that are open
@@ -62,9 +62,9 @@ pub record AreTenants (es : List Effect) (seats : List Seat) : Type 0 where
   pub begun : (c : ℕ) → IsHeld c seats → Begins es c (seat_of seats c).before
 
 -- of each channel just the messages that were received are let go, and all namings are
-pub record AreLetGo (es : List Effect) (d : Dispatching) : Type 0 where
+pub record AreReleased (es : List Effect) (d : Dispatching) : Type 0 where
   pub messages_are : (c : ℕ) → 1 ≤ c → gone d c ≡ received (past_of es) c
-  pub namings_are : namings_gone d ≡ length (namings es)
+  pub anrs_are : anrs_released d ≡ length (anrs es)
 
 -- The service, whose devices are on these displays, stands for a history with these effects: its dispatcher does, and what is kept beside
 -- that is what the history says.
@@ -75,7 +75,7 @@ pub record LiveIs (displays : List ℕ) (es : List Effect) (s : LiveState) : Typ
   pub requests_are : AreRequested (past_of es) s.requested s.asked
   pub seats_are : AreSeated (past_of es) s.seats
   pub tenants_are : AreTenants es s.seats
-  pub let_go : AreLetGo es s.dispatcher
+  pub release : AreReleased es s.dispatcher
 
 -- it stands for some history
 abbrev pub IsLive : List ℕ → LiveState → Type 0

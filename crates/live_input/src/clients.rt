@@ -45,7 +45,7 @@ impl Live {
 
     /// A client more, on the first channel on which nobody is open.
     ///
-    /// A channel that was used is used again; what it was told before is none of the new client's. Its generation is
+    /// A channel that was used is used again; what it was sent before is none of the new client's. Its generation is
     /// one that no client had before.
     pub fn open(&mut self) -> Result<Client, OpenRefused>
         ensures full { (result ≡ Err OpenRefused.Full) ↔ (is_full self.old.seats ≡ true) }

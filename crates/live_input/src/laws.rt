@@ -1,19 +1,19 @@
 //! What is proved of channels and of their clients. Each function has the laws as its clauses, and does nothing.
-ghost use Rattle.live_input.specs.Laws.{SilenceLaw, UntoldLaw, AloneLaw, OwnLaw, OwnNumbersLaw, NextLaw, VacantLaw, ClosedLaw, KeptLaw, NamingsLaw};
+ghost use Rattle.live_input.specs.Laws.{SilenceLaw, UnsentLaw, AloneLaw, OwnLaw, OwnNumbersLaw, NextLaw, VacantLaw, ClosedLaw, KeptLaw, AnrsLaw};
 
-/// A channel whose window is not shown is told nothing more.
+/// A channel whose window is not shown is sent nothing more.
 pub fn silence()
     ensures { SilenceLaw }
 {}
 
-/// All that was told to a channel whose window is not shown ends in nothing: so what is told on it later is a stream by
+/// All that was sent to a channel whose window is not shown ends in nothing: so what is sent on it later is a stream by
 /// itself, from the empty state.
 pub fn endings()
-    ensures untold { UntoldLaw }
+    ensures unsent { UnsentLaw }
     ensures alone { AloneLaw }
 {}
 
-/// What each client is told: from its opening on a stream by itself, numbered from 1, from which it knows what its
+/// What each client is sent: from its opening on a stream by itself, numbered from 1, from which it knows what its
 /// window holds, and which it takes in its order. After it is closed nothing comes.
 pub fn clients()
     ensures own { OwnLaw }
@@ -26,6 +26,6 @@ pub fn clients()
 /// no naming.
 pub fn memory()
     ensures messages { KeptLaw }
-    ensures namings { NamingsLaw }
+    ensures anrs { AnrsLaw }
     ensures vacant { VacantLaw }
 {}

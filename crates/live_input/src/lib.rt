@@ -9,7 +9,7 @@
 //! windows [its window]
 //! args Motion(1 Down 0@540,1200)
 //! next, of the first client                1 1000 Motion(1 Down 0@540,1200)
-//! close, of the first client               it is told a CANCEL, which it does not get any more
+//! close, of the first client               it is sent a CANCEL, which it does not get any more
 //! open                                     channel 1, generation 2
 //! next, of the second client               nothing: the finger was never its own
 //! finish 1, of the first client            NotOpen
@@ -18,9 +18,9 @@
 //! A [`Live`] is a dispatcher with the seats of 64 channels. What it keeps stands for a history of the dispatcher's
 //! calls (`LiveIs` of specs/Standing), as the dispatcher does: each call of the service is a stated list of those, and
 //! after it the service stands for the same history with these calls more (specs/Opening, Closing, Settling and
-//! Showing). So all that the history's definitions say of what windows are told holds here.
+//! Showing). So all that the history's definitions say of what windows are sent holds here.
 //!
-//! Why a channel can be used again: a channel whose window is not shown is told nothing, and all that it was told
+//! Why a channel can be used again: a channel whose window is not shown is sent nothing, and all that it was sent
 //! leaves nothing known (`laws`).
 #![tactic(auto)]
 
@@ -31,11 +31,11 @@ mod closing;
 mod driving;
 mod giving;
 pub mod laws;
-mod letting;
 mod live;
 mod messages;
 mod plugging;
 mod refused;
+mod releasing;
 mod settling;
 mod showing;
 mod windows;

@@ -9,7 +9,7 @@ ghost use Rattle.live_input.specs.Seats.{vacant};
 ghost use Rattle.live_input.specs.Standing.{IsOfHeld, LiveIs, is_plain};
 
 use crate::client::Seat;
-use crate::letting::let_go_after;
+use crate::releasing::release_after;
 use device_table::DeviceTable;
 use dispatch_calls::{Call, Reply};
 use dispatcher::Dispatcher;
@@ -108,7 +108,7 @@ impl Live {
     {
         match self.dispatcher.apply(call) {
             Ok(reply) => {
-                let_go_after(&mut self.dispatcher, call);
+                release_after(&mut self.dispatcher, call);
                 Ok(reply)
             }
             Err(error) => Err(error),

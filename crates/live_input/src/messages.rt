@@ -11,7 +11,7 @@ ghost use Rattle.window_snapshot.specs.Mask.{mask_has, mask_with, is_channel};
 ghost use Rattle.live_input.specs.Answers.{SameClients, Finishes, Pilfers, handed, is_done, is_no_spy};
 ghost use Rattle.live_input.specs.Seats.{is_open, seat_of, number_of};
 ghost use Rattle.live_input.specs.Standing.{LiveIs};
-ghost use Rattle.live_input.specs.Told.{taken};
+ghost use Rattle.live_input.specs.Outgoing.{taken};
 
 use crate::client::{Client, is_open, seat_of};
 use crate::live::Live;

@@ -20,7 +20,7 @@ pub struct ClientWindow {
     pub client: Client,
     /// The display that it is on. Its pixels are those of this display.
     pub display: DisplayId,
-    /// Where the window is, in display pixels: its left and top edges are the origin of what its client is told.
+    /// Where the window is, in display pixels: its left and top edges are the origin of what its client is sent.
     pub frame: Rect,
     /// Where the window can be touched, in display pixels.
     pub region: Region,

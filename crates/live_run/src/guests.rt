@@ -107,7 +107,7 @@ impl Guests {
         Some(now)
     }
 
-    /// Both clients take what they were told, and the guest is done with it.
+    /// Both clients take what they were sent, and the guest is done with it.
     fn take_all(&mut self, now: Moment, guest: Client) -> Option<()> {
         let finished = self.service.take_all(now, guest, true)?;
         self.finished = self.finished.saturating_add(finished);

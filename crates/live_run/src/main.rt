@@ -46,7 +46,7 @@ fn rounded(alloc: Global, word: &str, count: u64) -> Result<String, AllocError> 
 }
 
 /// What all visits up to now gave.
-fn told(alloc: Global, guests: &Guests) -> Result<String, AllocError> {
+fn outgoing(alloc: Global, guests: &Guests) -> Result<String, AllocError> {
     let events = guests.events();
     format!(in alloc;
         "{} in all, {events} events, {} messages finished, {} never, {} named",
@@ -58,8 +58,8 @@ fn told(alloc: Global, guests: &Guests) -> Result<String, AllocError> {
 fn visited(alloc: Global, guests: &mut Guests, count: u64) -> Result<String, AllocError> {
     match guests.visits(count) {
         Some(()) => {
-            let told = told(alloc, guests)?;
-            format!(in alloc; "visits {count}: {}", told.as_str())
+            let outgoing = outgoing(alloc, guests)?;
+            format!(in alloc; "visits {count}: {}", outgoing.as_str())
         }
         None => format!(in alloc; "visits {count}: refused"),
     }

@@ -1,4 +1,4 @@
-//! A service with a panel: packets go in, and clients take what they are told.
+//! A service with a panel: packets go in, and clients take what they are sent.
 use input_types::{Axis, DeviceId, DisplayId, Displays, Limit, Message, Moment, Rotation};
 use live_input::{Client, ClientWindow, Live};
 use raw_events::codes::{

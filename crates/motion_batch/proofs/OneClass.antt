@@ -9,7 +9,7 @@ use Rattle.input_types.specs.declared.message.Body.TheVariants.{Motion as Motion
 use Rattle.input_types.specs.declared.message.Message.{Message}
 use Rattle.input_types.specs.declared.motion.Motion.{Motion}
 use Rattle.input_types.specs.Gestures.{after_motion, allowed, differ}
-use Rattle.input_types.specs.StreamRule.{StreamState, after_body, after_key, is_well_formed, stream_state, untold, with_ids, with_repeat}
+use Rattle.input_types.specs.StreamRule.{StreamState, after_body, after_key, is_well_formed, stream_state, unsent, with_ids, with_repeat}
 use Rattle.motion_batch.specs.Rule.{class_of}
 use Rattle.motion_batch.specs.Unbatch.{of_class}
 
@@ -115,7 +115,7 @@ known_step k m past t s false c known e =
 
 known_of : (k : ℕ) (past : List Message) (s : StreamState) → stream_state past ≡ Some s → Known k past s
 unfolding Known
-known_of k [] s e = let same : untold ≡ s = cc in (untold, refl, record { ids = ap (λ (x : StreamState). x.ids k) same; repeats = λ z. ap (λ (x : StreamState). x.repeats) same; focus = λ z. ap (λ (x : StreamState). x.focus) same })
+known_of k [] s e = let same : unsent ≡ s = cc in (unsent, refl, record { ids = ap (λ (x : StreamState). x.ids k) same; repeats = λ z. ap (λ (x : StreamState). x.repeats) same; focus = λ z. ap (λ (x : StreamState). x.focus) same })
 known_of k (m ∷ past) s e =
     let step = some_then (λ t. after_body t m.body) (stream_state past) s e in
     known_step k m past step.0 s (class_of m.body == k) refl (known_of k past step.0 step.1) step.2

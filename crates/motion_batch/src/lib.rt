@@ -13,7 +13,7 @@
 //!
 //! A move waits until a frame at its moment or later, a message of its device that does not go on with it, or a batch
 //! of 256 samples. A message goes on with the moves before it where it is a move of the same pointers. So no move is
-//! lost, none is told twice, and no order within a device changes: as messages, the items of a device are what was
+//! lost, none is sent twice, and no order within a device changes: as messages, the items of a device are what was
 //! taken of it.
 #![tactic(auto)]
 

@@ -7,7 +7,7 @@
 //! Each of them logs what passed through it: a source the bytes that it gave and whether its end was
 //! told, files their readings one after another, a sink the bytes that it took and the writes that it
 //! was asked for. Contracts see that of every object, and what a file holds where the object tells it.
-//! [`MemFiles`] always does, and fails, as [`MemSink`], at the calls that it is told to. [`HostFiles`]
+//! [`MemFiles`] always does, and fails, as [`MemSink`], at the calls that it is sent to. [`HostFiles`]
 //! and [`HostSink`] stand over the machine's files and streams: they log what its reads gave and its
 //! writes took, and tell nothing of what the files hold. The form of the traits is this project's own
 //! choice.

@@ -82,7 +82,7 @@ fn key(number: u8, down: bool, repeat: u32) -> Result<KeyMsg, Fail> {
     })
 }
 
-/// What a window has that was told this.
+/// What a window has that was sent this.
 fn tracked(alloc: Global, bodies: &[Body]) -> Result<InputState, Fail> {
     let mut state = InputState::new(alloc);
     for body in bodies {
@@ -150,10 +150,10 @@ fn a_spy_takes_two_of_three(rt: HostRuntime) -> Result<(), Fail> {
     state.reserve(1)?;
     state.track(&Body::Key(key(1, true, 0)?))?;
     state.track(&Body::Motion(motion(1, MotionAction::PointerDown, 2, &[0, 1, 2])?))?;
-    let told = state.cancel_pointers(device(1)?, two_ids())?;
+    let outgoing = state.cancel_pointers(device(1)?, two_ids())?;
     let first = cancelled(motion(1, MotionAction::PointerUp, 0, &[0, 1, 2])?);
     let second = cancelled(motion(1, MotionAction::PointerUp, 1, &[1, 2])?);
-    assert_eq!(rt; told.as_slice(), [first, second].as_slice());
+    assert_eq!(rt; outgoing.as_slice(), [first, second].as_slice());
     let mut up = key(1, false, 0)?;
     up.flags = FLAG_CANCELED;
     let mut ups = Vec::new(rt.alloc());

@@ -102,7 +102,7 @@ fn later_messages_may_be_finished_first(rt: HostRuntime) -> Result<(), Fail> {
     assert_eq!(rt; channel.finish(2), Err(UnknownSeq));
     let _first = channel.receive().ok_or("a message")?;
     let _second = channel.receive().ok_or("a message")?;
-    channel.let_go();
+    channel.release();
     assert_eq!(rt; channel.messages().len(), 0);
     assert_eq!(rt; channel.finish(2), Ok(()));
     assert_eq!(rt; channel.oldest_unfinished(), Some((1, Moment::zero())));

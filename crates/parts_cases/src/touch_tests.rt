@@ -96,7 +96,7 @@ fn after(calls: &[Call]) -> Result<TouchState, Fail> {
 }
 
 /// What the windows 1, 2 and 64 hold, as bits, and the masks of those that hold something and of those that pilfer.
-fn told(state: &TouchState) -> [u64; 5] {
+fn outgoing(state: &TouchState) -> [u64; 5] {
     [
         u64::from(state.held(1).bits()),
         u64::from(state.held(2).bits()),
@@ -110,11 +110,11 @@ fn told(state: &TouchState) -> [u64; 5] {
 fn windows_hold_what_they_are_given(rt: HostRuntime) -> Result<(), Fail> {
     let fresh = TouchState::new(DeviceId::new(3).ok_or("a device")?);
     assert_eq!(rt; fresh.device().get(), 3);
-    assert_eq!(rt; told(&fresh), [0, 0, 0, 0, 0]);
+    assert_eq!(rt; outgoing(&fresh), [0, 0, 0, 0, 0]);
     let down = after(&[])?;
-    assert_eq!(rt; told(&down), [0b101, 0b10, 0b10, 3 | LAST, 0]);
+    assert_eq!(rt; outgoing(&down), [0b101, 0b10, 0b10, 3 | LAST, 0]);
     let up = after(&[Call::Up { id: 1 }, Call::Up { id: 3 }])?;
-    assert_eq!(rt; told(&up), [0b101, 0, 0, 1, 0]);
+    assert_eq!(rt; outgoing(&up), [0b101, 0, 0, 1, 0]);
     let first = Call::Moved {
         id: 1,
         from: 2,
@@ -126,7 +126,7 @@ fn windows_hold_what_they_are_given(rt: HostRuntime) -> Result<(), Fail> {
         to: 2,
     };
     let moved = after(&[first, second])?;
-    assert_eq!(rt; told(&moved), [0b111, 0b10, 0, 3, 0]);
+    assert_eq!(rt; outgoing(&moved), [0b111, 0b10, 0, 3, 0]);
     Ok(())
 }
 
@@ -178,7 +178,7 @@ fn a_window_loses_pointers(rt: HostRuntime) -> Result<(), Fail> {
             ids: [1, 1],
         },
     ])?;
-    assert_eq!(rt; told(&some), [0b1, 0b10, 0, 3, 1]);
+    assert_eq!(rt; outgoing(&some), [0b1, 0b10, 0, 3, 1]);
     // With its last pointer it pilfers no longer, also when it gets one again.
     let all = after(&[
         Call::StartPilfer { window: 1 },
@@ -188,9 +188,9 @@ fn a_window_loses_pointers(rt: HostRuntime) -> Result<(), Fail> {
         },
         Call::Down { id: 4, to: 1 },
     ])?;
-    assert_eq!(rt; told(&all), [0b10000, 0b10, 0b10, 3 | LAST, 0]);
+    assert_eq!(rt; outgoing(&all), [0b10000, 0b10, 0b10, 3 | LAST, 0]);
     let reset = after(&[Call::StartPilfer { window: 2 }, Call::Reset])?;
-    assert_eq!(rt; told(&reset), [0, 0, 0, 0, 0]);
+    assert_eq!(rt; outgoing(&reset), [0, 0, 0, 0, 0]);
     assert_eq!(rt; reset.earliest(ALL), 0);
     Ok(())
 }
@@ -217,8 +217,8 @@ fn a_spy_pilfers(rt: HostRuntime) -> Result<(), Fail> {
             to: 2 | LAST,
         },
     ])?;
-    assert_eq!(rt; told(&state), [0b101, 0b111, 0b110, 3 | LAST, 0]);
+    assert_eq!(rt; outgoing(&state), [0b101, 0b111, 0b110, 3 | LAST, 0]);
     assert_eq!(rt; pilfered(&mut state), [0, 0b101, 0b100]);
-    assert_eq!(rt; told(&state), [0b101, 0b10, 0b10, 3 | LAST, 1]);
+    assert_eq!(rt; outgoing(&state), [0b101, 0b10, 0b10, 3 | LAST, 1]);
     Ok(())
 }

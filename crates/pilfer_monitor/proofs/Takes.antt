@@ -51,9 +51,9 @@ unchanged t takes within free place =
     alike false a f = sym (and_false a)
 
 -- the same change, told otherwise
-pub retold : (a b : Touches) (takes others : ℕ → ℕ → Bool) (place : ℕ) (p : ℕ → Bool) → ((w i : ℕ) → holds a w i ≡ true → takes w i ≡ others w i)
+pub resent : (a b : Touches) (takes others : ℕ → ℕ → Bool) (place : ℕ) (p : ℕ → Bool) → ((w i : ℕ) → holds a w i ≡ true → takes w i ≡ others w i)
     → Changes a b none takes place p → Changes a b none others place p
-retold a b takes others place p same c =
+resent a b takes others place p same c =
     record { device = c.device; hold = λ w i. c.hold w i ∙ alike (holds a w i) (takes w i) (others w i) (same w i); began = c.began; pilfer = c.pilfer }
   where
     alike : (h t u : Bool) → (h ≡ true → t ≡ u) → (h && not t) ≡ (h && not u)

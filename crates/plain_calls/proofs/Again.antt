@@ -1,4 +1,4 @@
--- Messages that are told in numbers and read again.
+-- Messages that are sent in numbers and read again.
 use Rattle.std.proofs.Common.{◌≡◌, ◌∙◌, ℕ, ◌+◌, ◌≤◌, ◌^◌, ◌&&◌, nat_eq, nat_le, Bool, true, false, List, [], ◌∷◌, map, take, drop, length, slice_get, Option, Some, None, refl, sym, ap, arith}
 use Rattle.std.specs.Prelude.{cond, replicate}
 use Rattle.std.specs.Option.{option_map, option_and_then}
@@ -79,15 +79,15 @@ body_again (Key k) seq moment h = ap (option_map Key) (key_again k (numbered seq
 body_again (Focus true) seq moment h = refl
 body_again (Focus false) seq moment h = refl
 
-moment_told : (b : Body) (seq moment : ℕ) → (with_body b (numbered seq moment)).moment_us ≡ moment
-moment_told (MotionBody m) seq moment = refl
-moment_told (Key k) seq moment = refl
-moment_told (Focus has) seq moment = refl
+moment_sent : (b : Body) (seq moment : ℕ) → (with_body b (numbered seq moment)).moment_us ≡ moment
+moment_sent (MotionBody m) seq moment = refl
+moment_sent (Key k) seq moment = refl
+moment_sent (Focus has) seq moment = refl
 
-seq_told : (b : Body) (seq moment : ℕ) → (with_body b (numbered seq moment)).seq ≡ seq
-seq_told (MotionBody m) seq moment = refl
-seq_told (Key k) seq moment = refl
-seq_told (Focus has) seq moment = refl
+seq_sent : (b : Body) (seq moment : ℕ) → (with_body b (numbered seq moment)).seq ≡ seq
+seq_sent (MotionBody m) seq moment = refl
+seq_sent (Key k) seq moment = refl
+seq_sent (Focus has) seq moment = refl
 
 -- a message by its number, its moment and what it says, as they were read
 abbrev message_by : ℕ → Option ℕ → Option Body → Option Message
@@ -96,7 +96,7 @@ message_by seq t b = option_and_then (λ us. option_map (λ said. record { seq =
 pub read_again : ReadAgainLaw
 read_again m h =
     let p = plain_message m in
-    ap (λ s. message_by s (cond (nat_le p.moment_us (10 ^ 18)) (Some p.moment_us) None) (body_of p)) (seq_told m.body m.seq m.moment)
-    ∙ ap (λ t. message_by m.seq (cond (nat_le t (10 ^ 18)) (Some t) None) (body_of p)) (moment_told m.body m.seq m.moment)
+    ap (λ s. message_by s (cond (nat_le p.moment_us (10 ^ 18)) (Some p.moment_us) None) (body_of p)) (seq_sent m.body m.seq m.moment)
+    ∙ ap (λ t. message_by m.seq (cond (nat_le t (10 ^ 18)) (Some t) None) (body_of p)) (moment_sent m.body m.seq m.moment)
     ∙ ap (λ b. message_by m.seq (cond b (Some m.moment) None) (body_of p)) (le_test m.moment (10 ^ 18) h.moment)
     ∙ ap (message_by m.seq (Some m.moment)) (body_again m.body m.seq m.moment h.body)

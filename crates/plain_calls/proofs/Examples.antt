@@ -59,7 +59,7 @@ one_pointer = refl
 twice : pointers_from 0 (plain ∷ plain ∷ []) ≡ None
 twice = refl
 
--- of a layout that is refused the line alone is told
+-- of a layout that is refused the line alone is sent
 small_letters : by_line (Err (BadName 2)) ≡ Err 2
 small_letters = refl
 

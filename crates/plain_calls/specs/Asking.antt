@@ -13,7 +13,7 @@ use Rattle.live_input.specs.Asking.{client_of_some, responds}
 use Rattle.live_input.specs.Seats.{is_open, client_at}
 use Rattle.live_input.specs.Standing.{LiveIs}
 use Rattle.live_input.specs.State.{LiveState}
-use Rattle.plain_calls.specs.Calling.{told_status, written}
+use Rattle.plain_calls.specs.Calling.{answer_status, written}
 use Rattle.plain_calls.specs.Clients.{plain_client}
 use Rattle.plain_calls.specs.Numbers.{flag}
 use Rattle.plain_calls.specs.declared.client.PlainClient.{PlainClient}
@@ -22,9 +22,9 @@ use Rattle.plain_calls.specs.declared.client.PlainClient.{PlainClient}
 abbrev pub client_on : LiveState → ℕ → Option Client
 client_on s c = if is_channel c then client_at s.seats c else None
 
--- a client that may be there is told
-abbrev pub TellsClient : ℕ → Option Client → (before after : PlainClient) → Type 0
-TellsClient status r before after = (status ≡ told_status r) × (after ≡ written plain_client r before)
+-- a client that may be there is sent
+abbrev pub AnswersClient : ℕ → Option Client → (before after : PlainClient) → Type 0
+AnswersClient status r before after = (status ≡ answer_status r) × (after ≡ written plain_client r before)
 
 -- the client that has the focus of a display
 abbrev pub HasFocus : LiveState → (display : ℕ) → Option Client → Type 0
@@ -37,7 +37,7 @@ GetsKeys s r = (ds : List ℕ) (es : List Effect) → LiveIs ds es s → r ≡ c
 -- whether a client is open and responds, as a number
 pub record Responds (s : LiveState) (client : Client) (told : ℕ) : Type 0 where
   pub answer : Bool
-  pub told_is : told ≡ flag answer
+  pub sent_is : told ≡ flag answer
   pub stale : is_open s.seats client ≡ false → answer ≡ false
   pub while_open :
       (ds : List ℕ) (es : List Effect) → LiveIs ds es s → is_open s.seats client ≡ true → answer ≡ responds es client.channel

@@ -16,12 +16,12 @@ abbrev pub ok_of : {A E : Type 0} → Result A E → Option A
 ok_of (Ok a) = Some a
 ok_of (Err e) = None
 
--- what stands behind a pointer: what was told there, or what was there before
+-- what stands behind a pointer: what was sent there, or what was there before
 abbrev pub written : {A B : Type 0} → (A → B) → Option A → B → B
 written plain None before = before
 written plain (Some a) before = plain a
 
--- the status where something may be told
-abbrev pub told_status : {A : Type 0} → Option A → ℕ
-told_status None = is_nothing
-told_status (Some a) = is_ok
+-- the status where something may be sent
+abbrev pub answer_status : {A : Type 0} → Option A → ℕ
+answer_status None = is_nothing
+answer_status (Some a) = is_ok

@@ -18,7 +18,7 @@ use Rattle.live_input.specs.Answers.{SameClients, Finishes, Pilfers, handed}
 use Rattle.live_input.specs.Seats.{is_open, seat_of, number_of}
 use Rattle.live_input.specs.Standing.{LiveIs}
 use Rattle.live_input.specs.State.{LiveState}
-use Rattle.live_input.specs.Told.{taken}
+use Rattle.live_input.specs.Outgoing.{taken}
 
 -- what the next message of a client comes to
 pub record Received (client : Client) (old new : LiveState) (r : Result (Option Message) AllocError) : Type 0 where

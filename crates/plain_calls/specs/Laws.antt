@@ -1,4 +1,4 @@
--- What is told in numbers is read again.
+-- What is sent in numbers is read again.
 use Rattle.std.specs.Prelude.{◌≡◌, ℕ, ◌+◌, ◌≤◌, ◌^◌, true, List, [], ◌∷◌, length, Some, ⊤}
 use Rattle.input_types.specs.declared.message.Body.{Body}
 use Rattle.input_types.specs.declared.message.Body.TheVariants.{Motion as MotionBody, Key, Focus}
@@ -31,6 +31,6 @@ pub record IsMessage (m : Message) : Type 0 where
   pub moment : m.moment ≤ 10 ^ 18
   pub body : IsBody m.body
 
--- A message that was told in numbers, and handed in again, is the same message: nothing of it is lost, and no two are told alike.
+-- A message that was sent in numbers, and handed in again, is the same message: nothing of it is lost, and no two are sent alike.
 abbrev pub ReadAgainLaw : Type 0
 ReadAgainLaw = (m : Message) → IsMessage m → message_of (plain_message m) ≡ Some m

@@ -34,7 +34,7 @@ IsLayout (Ok codes) due = due ≡ Ok codes
 IsLayout (Err (Line n)) due = due ≡ Err n
 IsLayout (Err Memory) due = Unit {0}
 
--- What a device with keys comes to, by whether memory was wanting. Where it was, nothing changes; else its text is no layout, and the line is told,
+-- What a device with keys comes to, by whether memory was wanting. Where it was, nothing changes; else its text is no layout, and the line is sent,
 -- or it is plugged in.
 abbrev pub AddsKeys :
     Bool → Result Codes ℕ → ℕ → (display : ℕ) → (old new : LiveState) → (device device_after line line_after : ℕ) → Type 0

@@ -19,7 +19,7 @@ use Rattle.live_input.specs.declared.refused.PilferRefused.{PilferRefused}
 use Rattle.live_input.specs.declared.refused.PilferRefused.TheVariants as pilfer
 use Rattle.live_input.specs.declared.refused.WindowsRefused.{WindowsRefused}
 use Rattle.live_input.specs.declared.refused.WindowsRefused.TheVariants as windows
-use Rattle.plain_calls.specs.Calling.{told_status}
+use Rattle.plain_calls.specs.Calling.{answer_status}
 use Rattle.plain_calls.specs.Status as status
 
 -- the status of an opening
@@ -85,7 +85,7 @@ args_status (Err args.Waits) = status.it_waits
 
 -- the status of the next message
 abbrev pub next_status : Result (Option Message) AllocError → ℕ
-next_status (Ok message) = told_status message
+next_status (Ok message) = answer_status message
 next_status (Err error) = status.no_memory
 
 -- the message of an answer, where there is one

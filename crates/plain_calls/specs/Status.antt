@@ -25,7 +25,7 @@ out_of_range = 4
 abbrev pub is_broken : ℕ
 is_broken = 5
 
--- there is no room for all that is to be told
+-- there is no room for all that is to be sent
 abbrev pub no_room : ℕ
 no_room = 6
 

@@ -23,7 +23,7 @@ no_pointer = record { x = pos 0; y = pos 0; id = 0 }
 abbrev pub places_of : List Pointer → List PlainPointer
 places_of ps = map plain_pointer ps ++ drop (length ps) (replicate 16 no_pointer)
 
--- a message of which only its number and its moment are told so far
+-- a message of which only its number and its moment are sent so far
 abbrev pub numbered : (seq moment : ℕ) → PlainMessage
 numbered seq moment = record {
   seq = seq;

@@ -1,8 +1,8 @@
 //! What can be asked of clients.
 ghost use Rattle.std.specs.Prelude.{◌≡◌};
 ghost use Rattle.live_input.specs.Seats.{is_open};
-ghost use Rattle.plain_calls.specs.Asking.{client_on, TellsClient, HasFocus, GetsKeys, Responds, Holds, IsClock};
-ghost use Rattle.plain_calls.specs.Calling.{Reads, Replies, told_status, written};
+ghost use Rattle.plain_calls.specs.Asking.{client_on, AnswersClient, HasFocus, GetsKeys, Responds, Holds, IsClock};
+ghost use Rattle.plain_calls.specs.Calling.{Reads, Replies, answer_status, written};
 ghost use Rattle.plain_calls.specs.Clients.{client_of, plain_client};
 ghost use Rattle.plain_calls.specs.Numbers.{device_of, display_of, flag};
 ghost use Rattle.plain_calls.specs.Status.{is_ok};
@@ -13,8 +13,8 @@ use crate::status::{NOTHING, OK, RANGE};
 use live_input::{Client, Live};
 
 /// A client is told where there is one. `NOTHING` where there is none; `client` then stays as it was.
-fn tell(found: Option<Client>, client: &mut PlainClient) -> u32
-    ensures { TellsClient result found client.old client.new }
+fn send(found: Option<Client>, client: &mut PlainClient) -> u32
+    ensures { AnswersClient result found client.old client.new }
 {
     match found {
         Some(found) => {
@@ -34,29 +34,29 @@ pub fn is_open(live: &Live, client: &PlainClient) -> u8
 
 /// The client that is open on a channel. `NOTHING` where none is.
 pub fn client_at(live: &Live, channel: u32, client: &mut PlainClient) -> u32
-    ensures { TellsClient result (client_on live.now channel) client.old client.new }
+    ensures { AnswersClient result (client_on live.now channel) client.old client.new }
 {
-    tell(live.client_at(channel), client)
+    send(live.client_at(channel), client)
 }
 
 /// The client that has the focus of a display. `NOTHING` where none has.
 pub fn focused(live: &Live, display: u8, client: &mut PlainClient) -> u32
     ensures { Reads (display_of display) result (client.new ≡ client.old)
-        (λ y. Replies told_status result
+        (λ y. Replies answer_status result
         (λ r. HasFocus live.now y r × (client.new ≡ written plain_client r client.old))) }
 {
     let Some(display) = display_of(display) else {
         return RANGE;
     };
-    tell(live.focused(display), client)
+    send(live.focused(display), client)
 }
 
 /// The client that keys go to. `NOTHING` where there is none.
 pub fn key_target(live: &Live, client: &mut PlainClient) -> u32
-    ensures { Replies told_status result
+    ensures { Replies answer_status result
         (λ r. GetsKeys live.now r × (client.new ≡ written plain_client r client.old)) }
 {
-    tell(live.key_target(), client)
+    send(live.key_target(), client)
 }
 
 /// Whether a client is open and responds: 1 or 0.

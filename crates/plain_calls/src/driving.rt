@@ -1,6 +1,6 @@
 //! What is due, and what devices give.
 ghost use Rattle.std.specs.Prelude.{◌≡◌};
-ghost use Rattle.plain_calls.specs.Calling.{Reads, Replies, ok_of, told_status, written};
+ghost use Rattle.plain_calls.specs.Calling.{Reads, Replies, ok_of, answer_status, written};
 ghost use Rattle.plain_calls.specs.Driving.{IsDue, CaughtUp, Happened, HandedIn, Removed, event};
 ghost use Rattle.plain_calls.specs.Numbers.{moment_of, device_of};
 ghost use Rattle.plain_calls.specs.Plain.{args_of};
@@ -14,7 +14,7 @@ use live_input::Live;
 
 /// The first moment at which something is due. `NOTHING` where nothing is; `moment` then stays as it was.
 pub fn due(live: &Live, moment_us: &mut u64) -> u32
-    ensures { Replies told_status result
+    ensures { Replies answer_status result
         (λ r. IsDue live.now r × (moment_us.new ≡ written (λ t. t) r moment_us.old)) }
 {
     match live.due() {

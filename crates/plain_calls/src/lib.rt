@@ -12,7 +12,7 @@
 //! getting::finish   1, of generation 7, channel 1           8, NOT_OPEN
 //! ```
 //!
-//! A number that is out of its range is told before anything changes (`Reads` of specs/Calling). A clause says what the
+//! A number that is out of its range is sent before anything changes (`Reads` of specs/Calling). A clause says what the
 //! reply behind the status is, and that all holds of it that `live_input` says of its call (`Replies`).
 #![tactic(auto)]
 

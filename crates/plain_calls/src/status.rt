@@ -18,7 +18,7 @@ pub const RANGE: u32 = 4;
 /// The message may not come where it came. The judge is as it was.
 pub const BROKEN: u32 = 5;
 
-/// There is no room for all that is to be told. Its length is told, and of a text the front; of a list no element.
+/// There is no room for all that is to be sent. Its length is sent, and of a text the front; of a list no element.
 pub const ROOM: u32 = 6;
 
 /// The client is not open, or not any more. Nothing changed.
@@ -57,7 +57,7 @@ pub const TWICE: u32 = 18;
 /// A touch device has 1 to 16 slots. Nothing changed.
 pub const BAD_SLOTS: u32 = 19;
 
-/// The text is no key layout. Nothing changed, and its first refused line is told.
+/// The text is no key layout. Nothing changed, and its first refused line is sent.
 pub const BAD_LAYOUT: u32 = 20;
 
 /// The words are those of `race`, which starts threads. Nothing ran.

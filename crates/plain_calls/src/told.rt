@@ -14,11 +14,11 @@ impl PlainMessage {
         ensures { result ≡ plain_message message.now }
     {
         let mut plain = PlainMessage::numbered(message.seq, message.moment);
-        plain.tell(&message.body);
+        plain.send(&message.body);
         plain
     }
 
-    /// A message of which only its number and its moment are told so far.
+    /// A message of which only its number and its moment are sent so far.
     fn numbered(seq: u64, moment: Moment) -> PlainMessage
         ensures { result ≡ numbered seq moment }
     {
@@ -41,13 +41,13 @@ impl PlainMessage {
         }
     }
 
-    /// What the message says is told too.
-    fn tell(&mut self, body: &Body)
+    /// What the message says is sent too.
+    fn send(&mut self, body: &Body)
         ensures { self.new ≡ with_body body.now self.old }
     {
         match body {
-            Body::Motion(motion) => self.tell_motion(motion),
-            Body::Key(key) => self.tell_key(key),
+            Body::Motion(motion) => self.send_motion(motion),
+            Body::Key(key) => self.send_key(key),
             Body::Focus(has) => {
                 self.kind = 2;
                 self.focus = flag(*has);
@@ -55,7 +55,7 @@ impl PlainMessage {
         }
     }
 
-    fn tell_motion(&mut self, motion: &Motion)
+    fn send_motion(&mut self, motion: &Motion)
         ensures { self.new ≡ with_motion motion.now self.old }
     {
         self.kind = 0;
@@ -68,7 +68,7 @@ impl PlainMessage {
         write_pointers(&mut self.pointers, motion.pointers.as_slice());
     }
 
-    fn tell_key(&mut self, told: &KeyMsg)
+    fn send_key(&mut self, told: &KeyMsg)
         ensures { self.new ≡ with_key told.now self.old }
     {
         self.kind = 1;

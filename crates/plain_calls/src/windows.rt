@@ -26,7 +26,7 @@ pub struct PlainRect {
 #[derive(Clone, Copy, Debug)]
 pub struct PlainWindow {
     pub client: PlainClient,
-    /// Its left and top edges are the origin of what the client is told.
+    /// Its left and top edges are the origin of what the client is sent.
     pub frame: PlainRect,
     /// As `WindowFlags` has them.
     pub flags: u32,

@@ -34,14 +34,14 @@ pub record RunsTo (words : List (List ℕ)) (files : List Entry) (text line : Li
   pub wrote : Writing
   pub write_faults : ℕ
   pub told : Writing
-  pub tell_faults : ℕ
+  pub send_faults : ℕ
   pub text_is : text ≡ wrote.took
   pub line_is : line ≡ told.took
   pub ends :
-      Ends (asked words (Some files) [] readings 0 faults) (sink_ends 0 write_faults unwritten wrote) (sink_ends 0 tell_faults unwritten told) status
+      Ends (asked words (Some files) [] readings 0 faults) (sink_ends 0 write_faults unwritten wrote) (sink_ends 0 send_faults unwritten told) status
   pub usage : (form_of words ≡ None) ↔ (status ≡ 2)
 
--- A text goes to a buffer: its front, as much as there is room for. Behind it the buffer is as it was, and the length of the text is told.
+-- A text goes to a buffer: its front, as much as there is room for. Behind it the buffer is as it was, and the length of the text is sent.
 abbrev pub Fills : (text before after : List ℕ) → (len : ℕ) → Type 0
 Fills text before after len =
     (len ≡ length text) × (after ≡ take (min (length before) (length text)) text ++ drop (min (length before) (length text)) before)
@@ -52,7 +52,7 @@ pub record Places : Type 0 where
   pub err : List ℕ
   pub ran : PlainRan
 
--- these buffers, and this is told
+-- these buffers, and this is sent
 abbrev pub places : (out err : List ℕ) → PlainRan → Places
 places out err ran = record { out = out; err = err; ran = ran }
 

@@ -4,8 +4,8 @@
 //! The words stand one on a line, and name the files `1`, `2` and `3`:
 //!
 //! ```text
-//! verify --stream 1    one file, and room for 100 bytes and 100    0: the status is 0, and `well formed 1 2` is told
-//! the same             room for 10 bytes and 100                   6, ROOM: `well forme` is told, of 16 bytes
+//! verify --stream 1    one file, and room for 100 bytes and 100    0: the status is 0, and `well formed 1 2` is sent
+//! the same             room for 10 bytes and 100                   6, ROOM: `well forme` is sent, of 16 bytes
 //! verify --stream 2    one file, and room for 100 bytes and 100    0: the status is 4, and the line `read failed`
 //! race ..              two files                                   21, NO_THREADS: nothing ran
 //! ```

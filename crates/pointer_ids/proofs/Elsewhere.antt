@@ -15,7 +15,7 @@ use Rattle.pointer_ids.specs.Following.{are_same, moved_to}
 use Rattle.pointer_ids.specs.PointerIds.{has_id, held, joined, by_id}
 use Rattle.pointer_ids.proofs.Following.{first_same}
 use Rattle.pointer_ids.proofs.Moving.{AllDiffer, has_at, moved_here, moved_not}
-use Rattle.pointer_ids.proofs.Naming.{drop_at}
+use Rattle.pointer_ids.proofs.Anr.{drop_at}
 use Rattle.pointer_ids.proofs.RisingId.{found_id}
 
 -- ---- the pointer of a finger

@@ -1,5 +1,5 @@
 pub mod Taken
-pub mod Naming
+pub mod Anr
 pub mod RisingId
 pub mod Moving
 pub mod Elsewhere

@@ -16,7 +16,7 @@ use Rattle.std.specs.Ordering.{int_eq}
 use Rattle.std.proofs.lemmas.Bool.Decides.{Decides-int_eq}
 use Rattle.std.proofs.lemmas.List.{take_more}
 use Rattle.pointer_ids.proofs.Following.{both_so}
-use Rattle.pointer_ids.proofs.Naming.{eqb_sym}
+use Rattle.pointer_ids.proofs.Anr.{eqb_sym}
 use Rattle.pointer_ids.proofs.RisingId.{found_id, one_here, one_le, few_below, lower_le}
 
 -- no finger has the id of another one

@@ -1,6 +1,6 @@
 //! The pointers that are down on one device, as a set of ids, after each of its motions.
 //!
-//! One table says which motion may come next, both of what a device does and of what a window is told. A second finger
+//! One table says which motion may come next, both of what a device does and of what a window is sent. A second finger
 //! goes down while pointer 0 is, and then the first one goes up:
 //!
 //! ```text

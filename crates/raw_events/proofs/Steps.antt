@@ -22,7 +22,7 @@ going_on_long n begun h = rw (lt-ltb 4096 (length begun) h) refl
 pub going_on_short : (n : ℕ) (begun : List ℕ) → length begun ≤ 4096 → going_on (Ok n) begun ≡ Ok (n, begun)
 going_on_short n begun h = rw (le-ltb 4096 (length begun) h) refl
 
--- lines were told, and the line behind them goes on
+-- lines were sent, and the line behind them goes on
 pub step_on : (told : Told) (n : ℕ) (begun keeps kept : List ℕ) (before after : List RawEvent) → record { events = after; next = Ok n } ≡ behind before told → length begun ≤ 4096 → keeps ≡ begun
     → ReadsPiece (Ok n) (step_of told begun) before after kept keeps
 step_on told n begun keeps kept before after t h k =

@@ -42,7 +42,7 @@ pub line_told : (devices : Known) (line : List ℕ) (lines : List (List ℕ)) (n
     → behind after (tell devices next lines) ≡ behind mid (tell devices n (line ∷ lines))
 line_told devices line lines next n mid after t = rw (t.0) (t.1 (tell devices (next_number n) lines))
 
--- a line that is refused, or for which memory ran out, behind lines that were told
+-- a line that is refused, or for which memory ran out, behind lines that were sent
 pub line_stopped : (devices : Known) (line : List ℕ) (lines : List (List ℕ)) (error : LineError) (n : ℕ) (all : Told) (before mid after : List RawEvent)
     → TellsLine (Err error) (judged devices line) n mid after → behind mid (tell devices n (line ∷ lines)) ≡ behind before all → take (length before) mid ≡ before
     → TellsLines (Err error) all before after
@@ -51,7 +51,7 @@ line_stopped devices line lines (errors.NoMoment m) n all before mid after t sam
 line_stopped devices line lines (errors.TooLong m) n all before mid after t same h = t (tell devices (next_number n) lines) ∙ same
 line_stopped devices line lines errors.Memory n all before mid after t same h = rw t h
 
--- lines that were told up to a refusal, behind lines that were told
+-- lines that were sent up to a refusal, behind lines that were sent
 pub front_stopped : (error : LineError) (told all : Told) (before mid after : List RawEvent) → TellsLines (Err error) told mid after → behind mid told ≡ behind before all → take (length before) mid ≡ before
     → TellsLines (Err error) all before after
 front_stopped (errors.BadLine m) told all before mid after t same h = t ∙ same

@@ -25,7 +25,7 @@ abbrev pub place_of : ℕ → List ℕ → Option LineError → Place
 place_of n kept None = Ok (n, kept)
 place_of n kept (Some error) = Err error
 
--- events that were told before
+-- events that were sent before
 abbrev pub behind : List RawEvent → Told → Told
 behind before told = record { events = before ++ told.events; next = told.next }
 
@@ -36,18 +36,18 @@ pub record TakesLine (devices : Known) (bytes : List ℕ) (line : Line) (after :
   pub says : line ≡ judged devices text
   pub shorter : length after < length bytes
 
--- A line was told: what the lines behind it tell is still to come. After want of memory nothing was added.
+-- A line was sent: what the lines behind it tell is still to come. After want of memory nothing was added.
 abbrev pub TellsLine : Result ℕ LineError → Line → ℕ → List RawEvent → List RawEvent → Type 0
 TellsLine (Ok next) line n before after = (next ≡ next_number n) × ((told : Told) → behind after told ≡ behind before (with_told line n told))
 TellsLine (Err errors.Memory) line n before after = after ≡ before
 TellsLine (Err error) line n before after = (told : Told) → record { events = after; next = Err error } ≡ behind before (with_told line n told)
 
--- Lines were told up to where the next one begins. After want of memory some events may have been added.
+-- Lines were sent up to where the next one begins. After want of memory some events may have been added.
 abbrev pub TellsLines : Result ℕ LineError → Told → List RawEvent → List RawEvent → Type 0
 TellsLines (Err errors.Memory) told before after = take (length before) after ≡ before
 TellsLines next told before after = record { events = after; next = next } ≡ behind before told
 
--- Lines in front were told, and these bytes stand behind them. After want of memory some events may have been added.
+-- Lines in front were sent, and these bytes stand behind them. After want of memory some events may have been added.
 abbrev pub TellsFront : Known → Result (ℕ × List ℕ) LineError → ℕ → List ℕ → List RawEvent → List RawEvent → Type 0
 TellsFront devices (Ok read) n bytes before after =
     (behind after (tell devices read.0 (parts read.1).ended) ≡ behind before (tell devices n (parts bytes).ended)) × ((parts read.1).begun ≡ (parts bytes).begun)

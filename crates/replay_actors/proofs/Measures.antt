@@ -14,11 +14,11 @@ use Rattle.dispatch_calls.specs.declared.reply.Reply.TheVariants.{Dispatched, Re
 use Rattle.dispatch_history.specs.History.{History, clock, live, received}
 use Rattle.dispatch_history.specs.Queue.{inbound, accepted, dispatches}
 use Rattle.dispatch_history.specs.Delivery.{able, published}
-use Rattle.dispatch_history.specs.Effect.{Effect, past_of, stream, told_on}
+use Rattle.dispatch_history.specs.Effect.{Effect, past_of, stream, sent_on}
 use Rattle.dispatch_history.specs.Effects.{effects}
 use Rattle.dispatch_history.specs.Focus.{is_target}
 use Rattle.dispatch_history.specs.Keys.{loses_all, keys, same_key}
-use Rattle.dispatch_history.specs.KeyTold.{keys_told, last_key, repeat_due, repeat_told, while_held}
+use Rattle.dispatch_history.specs.KeySent.{keys_sent, last_key, repeat_due, repeat_sent, while_held}
 use Rattle.dispatch_history.specs.Legal.{Legal}
 use Rattle.dispatch_history.specs.Reply.{pump_reply, is_due}
 use Rattle.dispatch_history.proofs.LegalLaws.{effects_law}
@@ -29,7 +29,7 @@ use Rattle.dispatch_tables.specs.Silent.{is_silent}
 use Rattle.key_tables.specs.Held.{key_messages}
 use Rattle.key_tables.specs.Repeats.{repeat_after, repeat_next}
 use Rattle.key_tables.proofs.Repeating.{repeat_step}
-use Rattle.key_tables.proofs.Telling.{repeat_read}
+use Rattle.key_tables.proofs.Sending.{repeat_read}
 use Rattle.replay_actors.proofs.Numbers.{got_at}
 use Rattle.replay_actors.proofs.Staying.{received_published}
 use Rattle.replay_actors.specs.Came.{pumps_left, unreceived}
@@ -65,9 +65,9 @@ repeat_gone ds h l due = by_last (while_held es (last_key es)) refl due
     same : clock ((Pump 0, Repeated) ∷ past_of (effects ds h)) ≡ clock ((Pump 0, Repeated) ∷ h)
     same = ap (λ g. clock ((Pump 0, Repeated) ∷ g)) (effects_law ds h)
 
-    told_last : (o : Option Sent) (s : Sent) → while_held (effects ds h) o ≡ Some s → o ≡ Some s
-    told_last None s e = absurd (cc)
-    told_last (Some x) s e =
+    sent_last : (o : Option Sent) (s : Sent) → while_held (effects ds h) o ≡ Some s → o ≡ Some s
+    sent_last None s e = absurd (cc)
+    sent_last (Some x) s e =
         (elim (list_any (same_key x.key.key) (keys (effects ds h) x.channel)) as (λ b. cond b (Some x) None ≡ Some s → Some x ≡ Some s) [
           | true ↦ λ f. f
           | false ↦ λ f. absurd (cc)
@@ -85,19 +85,19 @@ repeat_gone ds h l due = by_last (while_held es (last_key es)) refl due
         hears = is_target (past_of (effects ds h)) s.channel && able (effects ds h) s.channel
 
         messages : key_messages (Pump 0) Repeated (effects ds h) s.channel
-            ≡ keys_told None hears (loses_all ((Pump 0, Repeated) ∷ past_of (effects ds h)) (past_of (effects ds h)) s.channel) (keys (effects ds h) s.channel) ++ repeated s.key ∷ []
+            ≡ keys_sent None hears (loses_all ((Pump 0, Repeated) ∷ past_of (effects ds h)) (past_of (effects ds h)) s.channel) (keys (effects ds h) s.channel) ++ repeated s.key ∷ []
         messages =
-            ap (λ o. keys_told None hears (loses_all ((Pump 0, Repeated) ∷ past_of (effects ds h)) (past_of (effects ds h)) s.channel) (keys (effects ds h) s.channel) ++ repeat_told (Pump 0) Repeated o s.channel)
-            (told_last (last_key (effects ds h)) s e)
-            ∙ ap (λ b. keys_told None hears (loses_all ((Pump 0, Repeated) ∷ past_of (effects ds h)) (past_of (effects ds h)) s.channel) (keys (effects ds h) s.channel) ++ cond b (repeated s.key ∷ []) [])
+            ap (λ o. keys_sent None hears (loses_all ((Pump 0, Repeated) ∷ past_of (effects ds h)) (past_of (effects ds h)) s.channel) (keys (effects ds h) s.channel) ++ repeat_sent (Pump 0) Repeated o s.channel)
+            (sent_last (last_key (effects ds h)) s e)
+            ∙ ap (λ b. keys_sent None hears (loses_all ((Pump 0, Repeated) ∷ past_of (effects ds h)) (past_of (effects ds h)) s.channel) (keys (effects ds h) s.channel) ++ cond b (repeated s.key ∷ []) [])
             (eq-eqb s.channel s.channel refl)
 
         by_live : (now : ℕ) → s.key.key.down ≡ true → (b : Bool) → is_due (due_of (repeat_next b now s.channel (key_messages (Pump 0) Repeated (effects ds h) s.channel) (Some s))) now ≡ false
         by_live now down false = refl
         by_live now down true =
-            let told = keys_told None hears (loses_all ((Pump 0, Repeated) ∷ past_of (effects ds h)) (past_of (effects ds h)) s.channel) (keys (effects ds h) s.channel) in
+            let outgoing = keys_sent None hears (loses_all ((Pump 0, Repeated) ∷ past_of (effects ds h)) (past_of (effects ds h)) s.channel) (keys (effects ds h) s.channel) in
             ap (λ ms. is_due (due_of (repeat_after now s.channel ms (Some s))) now) messages
-            ∙ ap (λ o. is_due (due_of o) now) (last_kept now s.channel told (repeated s.key) (Some s) down)
+            ∙ ap (λ o. is_due (due_of o) now) (last_kept now s.channel outgoing (repeated s.key) (Some s) down)
             ∙ later_due now s.channel (repeated s.key)
 
         by_repeat : (b : Bool) → is_repeated s.key ≡ b → is_due (cond b (Some (s.clock + delay_after s.key.repeat)) None) (max 0 (clock (past_of (effects ds h)))) ≡ true
@@ -157,7 +157,7 @@ pump_less ds answer h l busy = by_waiting (inbound (past_of (effects ds h))) ref
 stream_stays : (ds : List ℕ) (call : Call) (answer : Reply) (h : History) (c : ℕ) → Legal ds ((call, answer) ∷ h) → is_silent call answer c ≡ true
     → stream (effects ds ((call, answer) ∷ h)) c ≡ stream (effects ds h) c
 stream_stays ds call answer h c l silent =
-    stream_step ds call answer h c l ∙ ap (λ bs. told_on (clock ((call, answer) ∷ h)) bs (stream (effects ds h) c)) (silent_calls ds call answer (effects ds h) c silent)
+    stream_step ds call answer h c l ∙ ap (λ bs. sent_on (clock ((call, answer) ∷ h)) bs (stream (effects ds h) c)) (silent_calls ds call answer (effects ds h) c silent)
 
 -- a message that is taken is one less
 pub receive_less : (ds : List ℕ) (c : ℕ) (m : Message) (h : History) → Legal ds ((Receive c, Got m) ∷ h) → unreceived ds ((Receive c, Got m) ∷ h) c < unreceived ds h c

@@ -27,7 +27,7 @@ order_is seats (e ∷ es) =
     ∙ flat_map-append f (reverse es) (e ∷ [])
     ∙ ap₂ (λ xs ys. xs ++ ys) (order_is seats es) (append-nil (f e))
 
--- a channel that was never opened was told nothing
+-- a channel that was never opened was sent nothing
 pub stream_none : (r : Recorded) (c : ℕ) → Legal r.displays (history_of r.entries) → 1 ≤ c → None ≡ stream_of r c → [] ≡ reverse (stream (effects_of r) c)
 stream_none r c l one none =
     elim (cases_Bool (is_opened (effects_of r) c)) [

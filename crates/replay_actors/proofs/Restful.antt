@@ -14,7 +14,7 @@ use Rattle.dispatch_history.specs.Effects.{step}
 use Rattle.dispatch_history.specs.Delivery.{able}
 use Rattle.dispatch_history.specs.Focus.{is_target, key_target}
 use Rattle.dispatch_history.specs.Keys.{ends, loses_all, keys}
-use Rattle.dispatch_history.specs.KeyTold.{key_cancelled, keys_told, last_key, repeat_by, repeat_due, while_held}
+use Rattle.dispatch_history.specs.KeySent.{key_cancelled, keys_sent, last_key, repeat_by, repeat_due, while_held}
 use Rattle.dispatch_tables.specs.Lawful.{Lawful}
 use Rattle.key_tables.specs.Held.{key_messages}
 use Rattle.key_tables.specs.Repeats.{repeat_after, repeat_next}
@@ -27,13 +27,13 @@ cancelled now t (k ∷ ks) last =
     elim (cancelled now t ks None) [ inl e ↦ inl e | inr e ↦ inl e ]
 
 -- a step that dispatches no args and repeats no key tells of keys only that they are cancelled
-told_cancels : (call : Call) (answer : Reply) (es : List Effect) (w : ℕ) → args_of call answer (inbound (past_of es)) ≡ None
+sent_cancels : (call : Call) (answer : Reply) (es : List Effect) (w : ℕ) → args_of call answer (inbound (past_of es)) ≡ None
     → repeat_by ((call, answer) ∷ past_of es) (last_key es) w ≡ [] → (ks : List KeyArgs) × (key_messages call answer es w ≡ map key_cancelled ks)
-told_cancels call answer es w no_args no_repeat =
+sent_cancels call answer es w no_args no_repeat =
     let hears = is_target (past_of es) w && able es w in
     let loses = loses_all ((call, answer) ∷ past_of es) (past_of es) w in (
       cond loses (keys es w) (filter (ends None) (keys es w)),
-      ap₂ (λ o ms. keys_told o hears loses (keys es w) ++ ms) no_args no_repeat ∙ nothing (keys_told None hears loses (keys es w)),
+      ap₂ (λ o ms. keys_sent o hears loses (keys es w) ++ ms) no_args no_repeat ∙ nothing (keys_sent None hears loses (keys es w)),
     )
   where
     nothing : (ms : List KeyMsg) → ms ++ [] ≡ ms
@@ -61,8 +61,8 @@ due_after ds call answer es l no_args no_repeat = by_target (key_target (past_of
     by_target (Some t) e =
         let at : is_target (past_of es) t ≡ true = ap (λ o. is_at o t) e ∙ eq-eqb t t refl in
         let now = clock (past_of next) in
-        let told = told_cancels call answer es t no_args (no_repeat t) in
-        kept (repeat_next (live (past_of next) t) now t (key_messages call answer es t) last) (repeat_step ds call answer es t last l at refl) (by_live now told.0 told.1 (live (past_of next) t))
+        let outgoing = sent_cancels call answer es t no_args (no_repeat t) in
+        kept (repeat_next (live (past_of next) t) now t (key_messages call answer es t) last) (repeat_step ds call answer es t last l at refl) (by_live now outgoing.0 outgoing.1 (live (past_of next) t))
       where
         by_live : (now : ℕ) (ks : List KeyArgs) → key_messages call answer es t ≡ map key_cancelled ks → (b : Bool)
             → (repeat_next b now t (key_messages call answer es t) last ≡ None) ⊎ (repeat_next b now t (key_messages call answer es t) last ≡ last)

@@ -15,7 +15,7 @@ use Rattle.dispatch_history.specs.Queue.{inbound, args_of}
 use Rattle.dispatch_history.specs.Delivery.{published}
 use Rattle.dispatch_history.specs.Effect.{Effect, past_of, stream}
 use Rattle.dispatch_history.specs.Effects.{effects}
-use Rattle.dispatch_history.specs.KeyTold.{last_key, repeat_by, repeat_due}
+use Rattle.dispatch_history.specs.KeySent.{last_key, repeat_by, repeat_due}
 use Rattle.dispatch_history.specs.Legal.{Legal, reply}
 use Rattle.dispatch_history.specs.Reply.{pump_reply, got_reply, is_due}
 use Rattle.dispatch_history.proofs.LegalLaws.{effects_law}

@@ -18,7 +18,7 @@
 //! (specs/Lanes), and once all lanes have ended the caller does what is left to do ([`settle`]). Whatever the order
 //! was, [`run_lanes`] says what holds of the whole history: each lane's calls are there in the lane's order, no others
 //! are, and nothing is left to do (`IsRace` of specs/Race). [`race_text`] prints the order, and then what each channel
-//! was told; who follows the printed order comes to the printed streams ([`laws`]).
+//! was sent; who follows the printed order comes to the printed streams ([`laws`]).
 #![tactic(auto)]
 
 mod acts;

@@ -6,14 +6,14 @@ ghost use Rattle.dispatch_history.specs.Due.{counts};
 ghost use Rattle.dispatch_history.specs.Effect.{stream};
 ghost use Rattle.dispatch_history.specs.Legal.{Legal};
 ghost use Rattle.stream_text.specs.Spelling.{channel_section};
-ghost use Rattle.stream_text.specs.StreamsHistory.{naming_lines, sections_of, streams_text, unopened};
+ghost use Rattle.stream_text.specs.StreamsHistory.{anr_lines, sections_of, streams_text, unopened};
 ghost use Rattle.replay_actors.specs.Texts.{names_of};
 
-use dispatch_calls::{Counts, Naming};
+use dispatch_calls::{Anr, Counts};
 use dispatch_core::Core;
 use session_plan::ChannelPlan;
 use std::alloc::AllocError;
-use stream_text::{channel_text, naming_text};
+use stream_text::{anr_text, channel_text};
 
 /// How far a channel has come; of one that was never opened nothing.
 fn counts_of(core: &Core, channel: u32) -> Counts
@@ -62,12 +62,12 @@ fn add_sections(core: &Core, channels: &[ChannelPlan], out: &mut Vec<u8>) -> Res
 }
 
 /// Appends a line for each time that a channel was named unresponsive.
-fn add_namings(namings: &[Naming], out: &mut Vec<u8>) -> Result<(), AllocError>
-    ensures ok { OnOk result (out.new.items ≡ out.old.items ++ naming_lines namings.now) }
+fn add_anrs(anrs: &[Anr], out: &mut Vec<u8>) -> Result<(), AllocError>
+    ensures ok { OnOk result (out.new.items ≡ out.old.items ++ anr_lines anrs.now) }
     ensures err { OnErr result ((more : List ℕ) × (out.new.items ≡ out.old.items ++ more)) }
 {
-    for naming in namings {
-        naming_text(naming.clock, naming.channel, naming.seq, out)?;
+    for anr in anrs {
+        anr_text(anr.clock, anr.channel, anr.seq, out)?;
     }
     Ok(())
 }
@@ -85,5 +85,5 @@ pub(crate) fn add_streams(
     ensures err { OnErr result ((more : List ℕ) × (out.new.items ≡ out.old.items ++ more)) }
 {
     add_sections(core, channels, out)?;
-    add_namings(core.namings(), out)
+    add_anrs(core.anrs(), out)
 }

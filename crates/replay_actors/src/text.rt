@@ -1,4 +1,4 @@
-//! What a race prints: the order of its calls, and then what each channel was told.
+//! What a race prints: the order of its calls, and then what each channel was sent.
 //!
 //! The caller opened channel 1. The reader handed in one args, which the script lane 1 had a window for, and the owner
 //! of the channel was given its message:
@@ -44,7 +44,7 @@ fn add_all(
 }
 
 /// Appends what is printed of the end of a race: the order of the calls of its core, and then what each of these
-/// channels was told. There are at most 64 channels, those that were opened, and at most 8 scripts. After want of
+/// channels was sent. There are at most 64 channels, those that were opened, and at most 8 scripts. After want of
 /// memory `out` is as before.
 pub fn race_text(
     channels: &[ChannelPlan],

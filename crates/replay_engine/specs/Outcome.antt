@@ -30,7 +30,7 @@ LendsNames told lends (Some (compare want got us pixels)) = IsTrue (lends want) 
 LendsNames told lends (Some (inspect files)) = IsTrue (lends files.session) × (IsAccepted told files.session → IsTrue (lends files.events))
 LendsNames told lends (Some (why files)) = IsTrue (lends files.session) × (IsAccepted told files.session → IsTrue (lends files.events))
 
--- What the program was asked: its words, the files where they are told, and the log of the readings and the count of faults of the
+-- What the program was asked: its words, the files where they are sent, and the log of the readings and the count of faults of the
 -- files, before and now.
 pub record Asked : Type 0 where
   pub words : List (List ℕ)
@@ -54,7 +54,7 @@ files_in (Some command) = files_of command
 abbrev pub ReadsInTurn : Asked → (List Reading → Type 0) → Type 0
 ReadsInTurn q Holds = Logged q.told q.before q.now (files_in (form_of q.words)) Holds
 
--- This is what the program answers to the words, by what was read of their files; and by the files, where they are told.
+-- This is what the program answers to the words, by what was read of their files; and by the files, where they are sent.
 abbrev pub ComesTo : Asked → Answer → Type 0
 ComesTo q a = ReadsInTurn q (λ readings. IsAnswer (by_log readings) q.words a) × IfTold q.told (λ entries. IsAnswer (by_name entries) q.words a)
 
@@ -90,7 +90,7 @@ pub record Writes (q : Asked) (before now : Writing) (status : ℕ) : Type 0 whe
   pub front : status ≡ 5 → WroteFront q before now
   pub nothing : status ≢ 0 → status ≢ 5 → now ≡ before
 
--- What the error sink was told, by the status. On 1, 2, 3 and 7 that is the line of a refusal with this status, which is the program's
+-- What the error sink was sent, by the status. On 1, 2, 3 and 7 that is the line of a refusal with this status, which is the program's
 -- answer; on 4, 5 and 6 that of a fault or of want of memory; on 0 nothing.
 pub record Tells (q : Asked) (faults_before faults_now : ℕ) (before now : Writing) (status : ℕ) : Type 0 where
   pub judged : status ≡ 1 → RefusedBy q 1 (TellsLine faults_before faults_now before now)

@@ -14,7 +14,7 @@ use Rattle.window_snapshot.specs.Hits.{takes_touch, touched}
 use Rattle.routing_rules.specs.Pairs.{has}
 use Rattle.routing_rules.specs.Taking.{Taking, Nothing, Lifted, Emptied, Slipped, Pilfered, Dropped, takes}
 use Rattle.routing_rules.specs.Marks.{kept}
-use Rattle.routing_rules.specs.Scene.{Scene, Step, Moves, Resets, Pilfers, Shows, Mutes, Removes, Rests}
+use Rattle.routing_rules.specs.Scene.{Scene, Step, Moves, Resets, Pilfers, Shows, Mutes, Removes, NoOp}
 use Rattle.routing_rules.specs.Choice.{is_candidate, is_target, chosen, takers}
 use Rattle.routing_rules.specs.Slip.{Slip, only, holders_of, slips_to, slip_of, slip}
 use Rattle.routing_rules.specs.Given.{given, taken, given_by, taken_by, pairs, slips_in, slips_out, changed}
@@ -164,7 +164,7 @@ given_good s (Pilfers v x) w d i h = absurd (true≢false (sym h))
 given_good s (Shows stays) w d i h = absurd (true≢false (sym h))
 given_good s (Mutes muted) w d i h = absurd (true≢false (sym h))
 given_good s (Removes v) w d i h = absurd (true≢false (sym h))
-given_good s Rests w d i h = absurd (true≢false (sym h))
+given_good s NoOp w d i h = absurd (true≢false (sym h))
 
 -- what is not taken is of no window that loses all
 not_dropped : (t : Taking) (w d i : ℕ) → takes t w d i ≡ false → drops t w ≡ false
@@ -196,7 +196,7 @@ still_named s (Resets v) w d i t h = h
 still_named s (Pilfers v x) w d i t h = h
 still_named s (Mutes muted) w d i t h = h
 still_named s (Removes v) w d i t h = h
-still_named s Rests w d i t h = h
+still_named s NoOp w d i t h = h
 
 pub named_law : NamedLaw
 named_law st s e named w d i h =
@@ -223,7 +223,7 @@ last_is (Pilfers v x) last d n r o = refl
 last_is (Shows stays) last d n r o = refl
 last_is (Mutes muted) last d n r o = refl
 last_is (Removes v) last d n r o = refl
-last_is Rests last d n r o = refl
+last_is NoOp last d n r o = refl
 
 turned : (b t g : Bool) → (not t && b || g) ≡ (g || b && not t)
 turned true true true = refl

@@ -126,7 +126,7 @@ nothing_moves_after_the_last_palm :
 unfolding said_up_to
 nothing_moves_after_the_last_palm = refl
 
--- a finger on each of two windows, of which that on the right one becomes a palm: its window is told a Cancel, the
+-- a finger on each of two windows, of which that on the right one becomes a palm: its window is sent a Cancel, the
 -- other one a Move
 a_palm_is_its_windows_last :
     said_after side_by_side 3

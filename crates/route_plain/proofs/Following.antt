@@ -14,7 +14,7 @@ use Rattle.window_snapshot.specs.Mask.{mask_has}
 use Rattle.routing_rules.specs.Pairs.{Pair, has, has_any}
 use Rattle.routing_rules.specs.Taking.{Taking, takes, pilfers}
 use Rattle.routing_rules.specs.Marks.{Mark, kept, held, begins, since, pilfering}
-use Rattle.routing_rules.specs.Scene.{Scene, Step, Moves, Resets, Pilfers, Shows, Mutes, Removes, Rests}
+use Rattle.routing_rules.specs.Scene.{Scene, Step, Moves, Resets, Pilfers, Shows, Mutes, Removes, NoOp}
 use Rattle.routing_rules.specs.Slip.{Slip, slip}
 use Rattle.routing_rules.specs.Given.{given, taken, taken_by, slips_out, mark, changed}
 use Rattle.route_plain.specs.declared.hold.Hold.{Hold}
@@ -169,7 +169,7 @@ noted_at s (Resets e) ps w d = refl
 noted_at s (Shows stays) ps w d = refl
 noted_at s (Mutes muted) ps w d = refl
 noted_at s (Removes v) ps w d = refl
-noted_at s Rests ps w d = refl
+noted_at s NoOp ps w d = refl
 
 pilfers_after : (s : Scene) (e : Step) (after : List Hold) (ps : List Pilferer) (w d : ℕ)
     → is_pilfering (pilferers_after e after ps) w d ≡ (has_any (pairs_of after) w d && (pilfers (taken s e) w d || is_pilfering ps w d))
@@ -189,7 +189,7 @@ length-last_after (Pilfers w d) last = refl
 length-last_after (Shows stays) last = refl
 length-last_after (Mutes muted) last = refl
 length-last_after (Removes w) last = refl
-length-last_after Rests last = refl
+length-last_after NoOp last = refl
 
 pub start_law : StartLaw
 start_law = record { turns = refl; holds = refl; began = tt; pilfers = λ w d. refl; devices = refl }

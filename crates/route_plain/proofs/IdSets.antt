@@ -10,7 +10,7 @@ use Rattle.routing_rules.specs.Pairs.{has}
 use Rattle.route_plain.specs.declared.hold.Hold.{Hold}
 use Rattle.route_plain.specs.Holds.{pairs_of, is_of, ids_with}
 
--- two numbers are told equal either way
+-- two numbers are sent equal either way
 pub either_way : (i j : ℕ) → (i == j) ≡ (j == i)
 either_way i j =
     elim (cases_eq i j) [

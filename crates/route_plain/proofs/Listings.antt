@@ -3,7 +3,7 @@ use Rattle.std.proofs.Common.{◌≡◌, ℕ, zero, suc, ◌+◌, ◌<◌, ◌�
 use Rattle.input_types.specs.declared.pointer.Pointer.{Pointer}
 use Rattle.input_types.specs.declared.motion.Motion.{Motion}
 use Rattle.input_types.specs.Pointers.{IsRising, EndsBelow}
-use Rattle.routing_rules.specs.Told.{listing, or_else}
+use Rattle.routing_rules.specs.Outgoing.{listing, or_else}
 
 -- each id of a list is below a number
 abbrev AllBelow : List Pointer → ℕ → Type 0

@@ -8,9 +8,9 @@ use Rattle.input_types.specs.declared.motion.Motion.{Motion}
 use Rattle.input_types.specs.declared.motion.MotionAction.TheVariants.{Outside}
 use Rattle.window_snapshot.specs.declared.window.Window.{Window}
 use Rattle.routing_rules.specs.Marks.{Mark}
-use Rattle.routing_rules.specs.Scene.{Scene, Step, Moves, Resets, Pilfers, Shows, Mutes, Removes, Rests}
+use Rattle.routing_rules.specs.Scene.{Scene, Step, Moves, Resets, Pilfers, Shows, Mutes, Removes, NoOp}
 use Rattle.routing_rules.specs.Given.{given, mark, changed}
-use Rattle.routing_rules.specs.Told.{devices, listing, plain, opening, closing, cancels, moves, is_up, is_cancelled, or_else, told_motion, told_with, told_all, after}
+use Rattle.routing_rules.specs.Outgoing.{devices, listing, plain, opening, closing, cancels, moves, is_up, is_cancelled, or_else, sent_motion, sent_with, sent_all, after}
 use Rattle.route_plain.specs.declared.hold.Hold.{Hold}
 use Rattle.route_plain.specs.declared.loss.Loss.{Loss}
 use Rattle.route_plain.specs.declared.turn.Said.{Said}
@@ -19,7 +19,7 @@ use Rattle.route_plain.specs.declared.turn.Turn.TheVariants.{Pointers, Reset, Pi
 use Rattle.route_plain.specs.Holds.{pairs_of}
 use Rattle.route_plain.specs.Loss.{mark_of}
 use Rattle.route_plain.specs.Route.{step_of, to_channel, said_up_to, said_at}
-use Rattle.route_plain.specs.Telling.{told_moved, told_lost, told_losses}
+use Rattle.route_plain.specs.Sending.{sent_moved, sent_lost, sent_losses}
 use Rattle.routing_rules.specs.Watching.{is_watching, outside_of}
 use Rattle.route_plain.specs.Changing.{IsChange}
 use Rattle.route_plain.proofs.Gains.{pairs_of-gained}
@@ -41,7 +41,7 @@ said_step f k out new ms e i m =
     e ∙ ap₂ (λ xs ys. xs ++ to_channel (k + 1) ys) i m ∙ ap (λ n. said_up_to f k ++ to_channel n (f n)) (add-one k) ∙ sym (said_more f k)
     ∙ ap (said_up_to f) (sym (add-one k))
 
--- where each channel is told nothing, nothing is said
+-- where each channel is sent nothing, nothing is said
 pub said_nothing : (f : ℕ → List Motion) (n : ℕ) → ((c : ℕ) → f c ≡ []) → said_up_to f n ≡ []
 said_nothing f zero e = said_none f
 said_nothing f (suc n) e = said_more f n ∙ ap₂ (λ xs ms. xs ++ to_channel (suc n) ms) (said_nothing f n e) (e (suc n))
@@ -65,7 +65,7 @@ devices_from (suc (suc (suc (suc (suc (suc (suc (suc k)))))))) lt = absurd (omeg
 pub losses_step : (f : ℕ → List Motion) (k : ℕ) → k < 8 → flat_map f (drop k devices) ≡ f (k + 1) ++ flat_map f (drop (k + 1) devices)
 losses_step f k lt = ap (flat_map f) (devices_from k lt)
 
--- of the devices one alone is told something
+-- of the devices one alone is sent something
 one_device : (f : ℕ → List Motion) (e : ℕ) → 1 ≤ e → e ≤ 8 → flat_map (λ d. if e == d then f d else []) devices ≡ f e
 one_device f zero p q = absurd (omega (arith, p))
 one_device f (suc zero) p q = append-nil (f 1)
@@ -84,29 +84,29 @@ outside_by true d p = refl
 outside_by false d p = refl
 
 pub row_unchanged : (s : Scene) (m : Motion) (w : ℕ) (b l : ℕ → Bool)
-    → or_else (cancels m.device (s.last m.device) b l) (or_else (moves m.device (listing l m.pointers)) (outside_of m.device None)) ≡ told_motion s m None w b l
+    → or_else (cancels m.device (s.last m.device) b l) (or_else (moves m.device (listing l m.pointers)) (outside_of m.device None)) ≡ sent_motion s m None w b l
 row_unchanged s m w b l = ap (or_else (cancels m.device (s.last m.device) b l)) (or_else-nil (moves m.device (listing l m.pointers)))
 
 pub row_given : (s : Scene) (m : Motion) (p : Pointer) (w : ℕ) (b l : ℕ → Bool) → (l p.id && not (b p.id)) ≡ true
-    → opening m.device p.id (listing l m.pointers) ∷ [] ≡ told_motion s m (Some p) w b l
+    → opening m.device p.id (listing l m.pointers) ∷ [] ≡ sent_motion s m (Some p) w b l
 row_given s m p w b l e = rw e refl
 
 pub row_up : (s : Scene) (m : Motion) (p : Pointer) (w : ℕ) (b l : ℕ → Bool) → (l p.id && not (b p.id)) ≡ false → (is_up m.action && b p.id) ≡ true
-    → closing m.device p.id (is_cancelled m.action m.flags) (listing b m.pointers) ∷ [] ≡ told_motion s m (Some p) w b l
+    → closing m.device p.id (is_cancelled m.action m.flags) (listing b m.pointers) ∷ [] ≡ sent_motion s m (Some p) w b l
 row_up s m p w b l e f = rw (e, f) refl
 
 pub row_rest : (s : Scene) (m : Motion) (p : Pointer) (w : ℕ) (b l : ℕ → Bool) → (l p.id && not (b p.id)) ≡ false → (is_up m.action && b p.id) ≡ false
     → or_else (cancels m.device (s.last m.device) b l)
     (or_else (moves m.device (listing l m.pointers)) (outside_of m.device (if is_watching s m (Some p) w then Some p else None)))
-    ≡ told_motion s m (Some p) w b l
+    ≡ sent_motion s m (Some p) w b l
 row_rest s m p w b l e f =
     rw (e, f)
     (ap (λ ys. or_else (cancels m.device (s.last m.device) b l) (or_else (moves m.device (listing l m.pointers)) ys))
     (sym (outside_by (is_watching s m (Some p) w) m.device p)))
 
--- what is told, by what is held before and later
-pub same_told : (s : Scene) (m : Motion) (w : ℕ) (b b' l l' : ℕ → Bool) → b ≡ b' → l ≡ l' → told_motion s m (changed m) w b l ≡ told_motion s m (changed m) w b' l'
-same_told s m w b b' l l' e f = λ k. told_motion s m (changed m) w (e k) (f k)
+-- what is sent, by what is held before and later
+pub same_sent : (s : Scene) (m : Motion) (w : ℕ) (b b' l l' : ℕ → Bool) → b ≡ b' → l ≡ l' → sent_motion s m (changed m) w b l ≡ sent_motion s m (changed m) w b' l'
+same_sent s m w b b' l l' e f = λ k. sent_motion s m (changed m) w (e k) (f k)
 
 pub same_cancels : (d : ℕ) (last last' : List Pointer) (b b' l l' : ℕ → Bool) → last ≡ last' → b ≡ b' → l ≡ l' → cancels d last b l ≡ cancels d last' b' l'
 same_cancels d last last' b b' l l' e f g = λ k. cancels d (e k) (f k) (g k)
@@ -120,39 +120,39 @@ mark_is s e n hs gained loss x =
 -- what is said of a motion is what the rules say
 pub said_of_motion_is : (s : Scene) (m : Motion) (n : ℕ) (hs gained : List Hold) (loss : Loss)
     → IsChange s (Moves m) n hs gained loss → 1 ≤ m.device → m.device ≤ 8
-    → said_up_to (told_moved s (mark_of s.windows gained loss) m) 64 ≡ said_at s (Moves m)
+    → said_up_to (sent_moved s (mark_of s.windows gained loss) m) 64 ≡ said_at s (Moves m)
 said_of_motion_is s m n hs gained loss x p q =
-    ap (λ (k : Mark). said_up_to (told_moved s k m) 64) (mark_is s (Moves m) n hs gained loss x)
+    ap (λ (k : Mark). said_up_to (sent_moved s k m) 64) (mark_is s (Moves m) n hs gained loss x)
     ∙ ap (λ f. said_up_to f 64)
     (fun_ext
-    (λ c. sym (one_device (λ d. told_motion s m (changed m) c (s.holds c d) (after s (mark s (Moves m)) c d)) m.device p q)))
+    (λ c. sym (one_device (λ d. sent_motion s m (changed m) c (s.holds c d) (after s (mark s (Moves m)) c d)) m.device p q)))
 
 -- what is said where a channel is removed is nothing
 pub said_of_removal : (s : Scene) (c : ℕ) → said_at s (Removes c) ≡ []
-said_of_removal s c = said_nothing (told_all s (Removes c)) 64 (λ w. refl)
+said_of_removal s c = said_nothing (sent_all s (Removes c)) 64 (λ w. refl)
 
 -- the step is none but a loss
 abbrev pub IsLoss : Step → Type 0
 IsLoss (Moves m) = ⊥
 IsLoss (Removes c) = ⊥
-IsLoss Rests = ⊥
+IsLoss NoOp = ⊥
 IsLoss e = Unit {0}
 
-lost_told : (s : Scene) (e : Step) → IsLoss e → (k : Mark) (c d : ℕ) → told_lost s k c d ≡ told_with s e k c d
-lost_told s (Moves m) i k c d = absurd i
-lost_told s (Removes v) i k c d = absurd i
-lost_told s Rests i k c d = absurd i
-lost_told s (Resets e) i k c d = refl
-lost_told s (Pilfers w e) i k c d = refl
-lost_told s (Shows stays) i k c d = refl
-lost_told s (Mutes muted) i k c d = refl
+lost_sent : (s : Scene) (e : Step) → IsLoss e → (k : Mark) (c d : ℕ) → sent_lost s k c d ≡ sent_with s e k c d
+lost_sent s (Moves m) i k c d = absurd i
+lost_sent s (Removes v) i k c d = absurd i
+lost_sent s NoOp i k c d = absurd i
+lost_sent s (Resets e) i k c d = refl
+lost_sent s (Pilfers w e) i k c d = refl
+lost_sent s (Shows stays) i k c d = refl
+lost_sent s (Mutes muted) i k c d = refl
 
 -- what is said of a loss is what the rules say
 pub said_of_loss_is : (s : Scene) (e : Step) (n : ℕ) (hs gained : List Hold) (loss : Loss) → IsLoss e → IsChange s e n hs gained loss
-    → said_up_to (told_losses s (mark_of s.windows gained loss)) 64 ≡ said_at s e
+    → said_up_to (sent_losses s (mark_of s.windows gained loss)) 64 ≡ said_at s e
 said_of_loss_is s e n hs gained loss i x =
-    ap (λ (k : Mark). said_up_to (told_losses s k) 64) (mark_is s e n hs gained loss x)
-    ∙ ap (λ f. said_up_to f 64) (fun_ext (λ c. ap (λ f. flat_map f devices) (fun_ext (lost_told s e i (mark s e) c))))
+    ap (λ (k : Mark). said_up_to (sent_losses s k) 64) (mark_is s e n hs gained loss x)
+    ∙ ap (λ f. said_up_to f 64) (fun_ext (λ c. ap (λ f. flat_map f devices) (fun_ext (lost_sent s e i (mark s e) c))))
 
 -- a turn that is no motion and no removal is a loss
 pub is_loss : (turn : Turn) (windows : List Window) → ((m : Motion) → turn ≡ Pointers m → ⊥) → ((c : ℕ) → turn ≡ Forget c → ⊥) → IsLoss (step_of turn windows)

@@ -4,7 +4,7 @@ use Rattle.std.specs.List.{list_any}
 use Rattle.input_types.specs.declared.pointer.Pointer.{Pointer}
 use Rattle.input_types.specs.declared.motion.Motion.{Motion}
 use Rattle.input_types.specs.declared.motion.MotionAction.TheVariants.{Move, Cancel, PointerUp}
-use Rattle.routing_rules.specs.Told.{listing, index_in, plain, cancelled_ups, cancels_of, cancels, moves, or_else}
+use Rattle.routing_rules.specs.Outgoing.{listing, index_in, plain, cancelled_ups, cancels_of, cancels, moves, or_else}
 use Rattle.route_plain.specs.declared.turn.Said.{Said}
 use Rattle.route_plain.specs.Route.{to_channel}
 use Rattle.route_plain.proofs.Listings.{listing-less}
@@ -23,12 +23,12 @@ from_here ps k p lt e = rw (add-one) (go ps k lt e)
 abbrev pub up_of : ℕ → ℕ → List Pointer → Motion
 up_of d i ps = record { device = d; action = PointerUp; index = index_in i ps; flags = 32; pointers = ps }
 
--- a pointer that is lost is told, and the rest of them after it
-pub up_told : (d : ℕ) (ids left lost : ℕ → Bool) (last : List Pointer) (k : ℕ) (p : Pointer) → k < length last → p ≡ get_or last k p
+-- a pointer that is lost is sent, and the rest of them after it
+pub up_sent : (d : ℕ) (ids left lost : ℕ → Bool) (last : List Pointer) (k : ℕ) (p : Pointer) → k < length last → p ≡ get_or last k p
     → lost p.id ≡ true → left ≡ (λ j. ids j && not (j == p.id))
     → cancelled_ups d (listing ids last) (listing lost (drop k last))
     ≡ up_of d p.id (listing ids last) ∷ cancelled_ups d (listing left last) (listing lost (drop (k + 1) last))
-up_told d ids left lost last k p lt e l f =
+up_sent d ids left lost last k p lt e l f =
     ap (λ xs. cancelled_ups d (listing ids last) (listing lost xs)) (from_here last k p lt e)
     ∙ ap (λ b. cancelled_ups d (listing ids last) (cond b (p ∷ listing lost (drop (k + 1) last)) (listing lost (drop (k + 1) last)))) l
     ∙ ap (λ qs. up_of d p.id (listing ids last) ∷ cancelled_ups d qs (listing lost (drop (k + 1) last)))
@@ -92,7 +92,7 @@ some_lost d last b l e f = by_lists (listing (lost_ids b l) last) (listing l las
     by_lists (x ∷ xs) [] n o = absurd o
     by_lists (x ∷ xs) (k ∷ ks) n o = refl
 
--- where something is lost, that alone is told
+-- where something is lost, that alone is sent
 pub lost_first : (d : ℕ) (last : List Pointer) (b l : ℕ → Bool) (ys : List Motion) → list_any (λ p. lost_ids b l p.id) last ≡ true
     → or_else (cancels d last b l) ys ≡ cancels d last b l
 lost_first d last b l ys e = by_lost (listing (lost_ids b l) last) (listing l last) (some_listed (lost_ids b l) last e)

@@ -1,4 +1,4 @@
--- A channel that neither watches nor holds or is given anything is told nothing of a motion.
+-- A channel that neither watches nor holds or is given anything is sent nothing of a motion.
 use Rattle.std.proofs.Common.{◌≡◌, ℕ, ◌+◌, ◌<◌, Bool, true, false, not, ◌&&◌, ◌||◌, ◌==◌, cond, List, [], ◌∷◌, Option, Some, None, refl, ap, ap₂, sym, ◌∙◌, arith}
 use Rattle.std.specs.Prelude.{if◌then◌else◌}
 use Rattle.std.proofs.lemmas.Bool.{and_from, and_right, lt-ltb, le-leb}
@@ -11,12 +11,12 @@ use Rattle.routing_rules.specs.Pairs.{has}
 use Rattle.routing_rules.specs.Taking.{takes}
 use Rattle.routing_rules.specs.Scene.{Scene}
 use Rattle.routing_rules.specs.Given.{changed}
-use Rattle.routing_rules.specs.Told.{listing, cancels, cancels_of, moves, outside, is_up, or_else, told_motion, after}
+use Rattle.routing_rules.specs.Outgoing.{listing, cancels, cancels_of, moves, outside, is_up, or_else, sent_motion, after}
 use Rattle.route_plain.specs.declared.hold.Hold.{Hold}
 use Rattle.route_plain.specs.declared.loss.Loss.{Loss}
 use Rattle.route_plain.specs.Holds.{pairs_of, channels_with}
 use Rattle.route_plain.specs.Loss.{mark_of}
-use Rattle.route_plain.specs.Telling.{told_moved}
+use Rattle.route_plain.specs.Sending.{sent_moved}
 use Rattle.routing_rules.specs.Watching.{is_watching}
 
 listing_none : (f : ℕ → Bool) (ps : List Pointer) → ((i : ℕ) → f i ≡ false) → listing f ps ≡ []
@@ -32,12 +32,12 @@ nothing_else m last b l ys n o =
     ap₂ (λ xs zs. or_else (cancels_of m.device (listing b last) (listing l last) xs) (or_else (moves m.device zs) ys))
     (listing_none (λ i. b i && not (l i)) last (λ i. ap (λ c. c && not (l i)) (n i))) (listing_none l m.pointers o)
 
-nothing_told : (s : Scene) (m : Motion) (p : Option Pointer) (w : ℕ) (b l : ℕ → Bool) → is_watching s m p w ≡ false
-    → ((i : ℕ) → b i ≡ false) → ((i : ℕ) → l i ≡ false) → told_motion s m p w b l ≡ []
-nothing_told s m None w b l e n o =
+nothing_sent : (s : Scene) (m : Motion) (p : Option Pointer) (w : ℕ) (b l : ℕ → Bool) → is_watching s m p w ≡ false
+    → ((i : ℕ) → b i ≡ false) → ((i : ℕ) → l i ≡ false) → sent_motion s m p w b l ≡ []
+nothing_sent s m None w b l e n o =
     ap₂ (λ xs zs. or_else (cancels_of m.device (listing b (s.last m.device)) (listing l (s.last m.device)) xs) (moves m.device zs))
     (listing_none (λ i. b i && not (l i)) (s.last m.device) (λ i. ap (λ c. c && not (l i)) (n i))) (listing_none l m.pointers o)
-nothing_told s m (Some p) w b l e n o =
+nothing_sent s m (Some p) w b l e n o =
     none_then (l p.id && not (b p.id)) (ap (λ c. c && not (b p.id)) (o p.id)) _ _
     ∙ none_then (is_up m.action && b p.id) (and_right (is_up m.action) (b p.id) (n p.id)) _ _
     ∙ nothing_else m (s.last m.device) b l (outside s m p w) n o
@@ -58,12 +58,12 @@ unheld (h ∷ hs) mask c k e =
 
 pub unconcerned : (s : Scene) (m : Motion) (ws : List Window) (gained : List Hold) (loss : Loss) (hs : List Hold) (watching c : ℕ) → s.holds ≡ has (pairs_of hs) → is_channel c ≡ true
     → mask_has watching c ≡ is_watching s m (changed m) c → mask_has (channels_with (channels_with watching hs) gained) c ≡ false
-    → told_moved s (mark_of ws gained loss) m c ≡ []
+    → sent_moved s (mark_of ws gained loss) m c ≡ []
 unconcerned s m ws gained loss hs watching c h k w e =
     let given = unheld gained (channels_with watching hs) c k e in
     let held = unheld hs watching c k given.0 in
     let none : (i : ℕ) → s.holds c m.device i ≡ false = λ i. ap (λ f. f c m.device i) h ∙ held.1 m.device i in
-    nothing_told s m (changed m) c (s.holds c m.device) (after s (mark_of ws gained loss) c m.device) (sym w ∙ held.0) none
+    nothing_sent s m (changed m) c (s.holds c m.device) (after s (mark_of ws gained loss) c m.device) (sym w ∙ held.0) none
     (λ i. ap₂ (λ a b. a || b && not (takes (mark_of ws gained loss).taken c m.device i)) (given.1 m.device i) (none i))
 
 -- a number above one of 0 to 63 is that of a channel

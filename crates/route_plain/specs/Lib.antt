@@ -2,7 +2,7 @@ pub mod Holds
 pub mod State
 pub mod Loss
 pub mod Route
-pub mod Telling
+pub mod Sending
 pub mod Seen
 pub mod Slipping
 pub mod Changing

@@ -1,4 +1,4 @@
--- What a turn takes, as the router keeps it until the turn is told, and the mark that the turn leaves with it.
+-- What a turn takes, as the router keeps it until the turn is sent, and the mark that the turn leaves with it.
 use Rattle.std.specs.Prelude.{not, ◌==◌, List}
 use Rattle.bits32.specs.Set.{is_in}
 use Rattle.window_snapshot.specs.declared.window.Window.{Window}

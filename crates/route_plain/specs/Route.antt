@@ -9,7 +9,7 @@ use Rattle.routing_rules.specs.Pairs.{Pair, has_any}
 use Rattle.routing_rules.specs.Taking.{Taking, takes}
 use Rattle.routing_rules.specs.Scene.{Scene, Step, Moves, Resets, Pilfers, Shows, Mutes, Removes}
 use Rattle.routing_rules.specs.Given.{given, taken}
-use Rattle.routing_rules.specs.Told.{told_all}
+use Rattle.routing_rules.specs.Outgoing.{sent_all}
 use Rattle.route_plain.specs.declared.hold.Hold.{Hold}
 use Rattle.route_plain.specs.declared.hold.Pilferer.{Pilferer}
 use Rattle.route_plain.specs.declared.turn.Turn.{Turn}
@@ -27,18 +27,18 @@ step_of Windows windows = Shows (is_named windows)
 step_of (Mute channels) windows = Mutes (mask_has channels)
 step_of (Forget channel) windows = Removes channel
 
--- the motions that a channel is told, with its number
+-- the motions that a channel is sent, with its number
 abbrev pub to_channel : ℕ → List Motion → List Said
 to_channel c ms = map (λ m. record { channel = c; motion = m }) ms
 
--- what the channels from 1 up to a number are told, each by what is told to it, in rising channel
+-- what the channels from 1 up to a number are sent, each by what is sent to it, in rising channel
 unfoldable pub said_up_to : (ℕ → List Motion) → ℕ → List Said
-said_up_to told zero = []
-said_up_to told (suc c) = said_up_to told c ++ to_channel (suc c) (told (suc c))
+said_up_to outgoing zero = []
+said_up_to outgoing (suc c) = said_up_to outgoing c ++ to_channel (suc c) (outgoing (suc c))
 
--- what is said at a step: to each of the 64 channels, in rising channel, what it is told
+-- what is said at a step: to each of the 64 channels, in rising channel, what it is sent
 abbrev pub said_at : Scene → Step → List Said
-said_at s e = said_up_to (told_all s e) 64
+said_at s e = said_up_to (sent_all s e) 64
 
 -- what is left of the holds after a step that takes this
 abbrev pub holds_left : Taking → List Hold → List Hold

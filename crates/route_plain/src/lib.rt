@@ -2,7 +2,7 @@
 //!
 //! [`Plain`] keeps a list of holds: which window holds which pointer of which device, in the order in which it was
 //! given, and since which turn the window holds something of the device. Each [`Turn`] changes the list by the rules of
-//! `routing_rules`, and answers what each channel is told. It is slow and easy to believe; a faster router is held
+//! `routing_rules`, and answers what each channel is sent. It is slow and easy to believe; a faster router is held
 //! against it.
 //!
 //! Two windows stand side by side, 1 on the left and 2 on the right, both live and responsive. The turns are those of
@@ -28,8 +28,8 @@ mod loss;
 mod plain;
 mod said;
 mod seen;
+mod sending;
 mod slip;
-mod telling;
 mod turn;
 
 pub use hold::{Hold, Pilferer};

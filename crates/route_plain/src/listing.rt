@@ -3,7 +3,7 @@ ghost use Rattle.std.specs.Prelude.{◌≡◌, ◌<◌, ◌==◌, ◌++◌, [], 
 ghost use Rattle.bits32.specs.Set.{is_in};
 ghost use Rattle.input_types.specs.Gestures.{flag_canceled};
 ghost use Rattle.input_types.specs.Pointers.{EndsBelow};
-ghost use Rattle.routing_rules.specs.Told.{listing, index_in, plain, opening, closing, is_up, is_cancelled};
+ghost use Rattle.routing_rules.specs.Outgoing.{listing, index_in, plain, opening, closing, is_up, is_cancelled};
 
 use crate::hold::has_id;
 use bits32::Bits32;

@@ -61,7 +61,7 @@ impl Plain {
         }
     }
 
-    /// Takes a turn, and answers what is said: in rising channel, and to one channel in the order in which it is told
+    /// Takes a turn, and answers what is said: in rising channel, and to one channel in the order in which it is sent
     /// it. Places are display pixels; whoever sends the motions takes off the origins of the windows. There is one
     /// display: each device reaches each live window.
     ///

@@ -1,4 +1,4 @@
-//! What all channels are told.
+//! What all channels are sent.
 ghost use Rattle.std.specs.Prelude.{◌≡◌, ◌++◌, ◌≤◌, ◌&&◌, not, ℕ, length, IfOk, OnOk};
 ghost use Rattle.bits32.specs.Set.{is_in};
 ghost use Rattle.window_snapshot.specs.Hits.{is_watcher_at};
@@ -6,20 +6,20 @@ ghost use Rattle.window_snapshot.specs.Mask.{mask_has};
 ghost use Rattle.routing_rules.specs.Given.{changed};
 ghost use Rattle.routing_rules.specs.Pairs.{has};
 ghost use Rattle.routing_rules.specs.Taking.{takes};
-ghost use Rattle.routing_rules.specs.Told.{after};
+ghost use Rattle.routing_rules.specs.Outgoing.{after};
 ghost use Rattle.route_plain.specs.Changing.{IsChange};
 ghost use Rattle.route_plain.specs.Holds.{pairs_of, ids_with};
 ghost use Rattle.route_plain.specs.Loss.{taking_of, mark_of};
 ghost use Rattle.route_plain.specs.Seen.{scene_at};
 ghost use Rattle.route_plain.specs.Route.{to_channel, said_up_to, said_at, holds_left, step_of};
-ghost use Rattle.route_plain.specs.Telling.{told_moved, told_lost, told_losses};
+ghost use Rattle.route_plain.specs.Sending.{sent_moved, sent_lost, sent_losses};
 ghost use Rattle.routing_rules.specs.Watching.{is_watching};
 
 use crate::change::{Change, changed};
 use crate::hold::{Hold, channels_with, ids_with, is_of, with_id};
 use crate::loss::{Loss, is_taken};
 use crate::seen::{Seen, last_of};
-use crate::telling::{Held, tell_cancels, tell_motion};
+use crate::sending::{Held, send_cancels, send_motion};
 use crate::turn::{Said, Turn};
 use bits32::Bits32;
 use input_types::{DeviceId, Motion, MotionAction, Pixel, Pointer};
@@ -56,7 +56,7 @@ fn said_of_motion(
     requires { length seen.now.last.now ≡ 8 }
     ensures said { let s = scene_at seen.now in
         IfOk result (λ v. v.items
-        ≡ said_up_to (told_moved s (mark_of s.windows change.now.gained.items change.now.loss) motion.now) 64) }
+        ≡ said_up_to (sent_moved s (mark_of s.windows change.now.gained.items change.now.loss) motion.now) 64) }
     ensures device { (1 ≤ motion.now.device) × (motion.now.device ≤ 8) }
 {
     let mut out = Vec::new(alloc);
@@ -68,14 +68,14 @@ fn said_of_motion(
         let channel = below + 1;
         if mask_has(concerned, channel) {
             let watches = mask_has(watching, channel);
-            tell_channel(&mut out, channel, seen, motion, change, watches)?;
+            send_channel(&mut out, channel, seen, motion, change, watches)?;
         }
     }
     Ok(out)
 }
 
 /// Says to a channel what a motion is to it.
-fn tell_channel(
+fn send_channel(
     out: &mut Vec<Said>,
     channel: u32,
     seen: &Seen,
@@ -89,10 +89,10 @@ fn tell_channel(
         OnOk result (out.new.items
         ≡ out.old.items
         ++ to_channel channel
-        (told_moved s (mark_of s.windows change.now.gained.items change.now.loss) motion.now channel)) }
+        (sent_moved s (mark_of s.windows change.now.gained.items change.now.loss) motion.now channel)) }
 {
     let held = held_around(seen, change, channel, motion.device);
-    tell_motion(out, channel, seen, motion, &held, watches)
+    send_motion(out, channel, seen, motion, &held, watches)
 }
 
 /// What is said of a loss.
@@ -100,17 +100,17 @@ fn said_of_loss(alloc: Global, seen: &Seen, change: &Change) -> Result<Vec<Said>
     requires { length seen.now.last.now ≡ 8 }
     ensures { let s = scene_at seen.now in
         IfOk result (λ v. v.items
-        ≡ said_up_to (told_losses s (mark_of s.windows change.now.gained.items change.now.loss)) 64) }
+        ≡ said_up_to (sent_losses s (mark_of s.windows change.now.gained.items change.now.loss)) 64) }
 {
     let mut out = Vec::new(alloc);
     for below in 0..64 {
-        tell_losses(&mut out, below + 1, seen, change)?;
+        send_losses(&mut out, below + 1, seen, change)?;
     }
     Ok(out)
 }
 
 /// Says to a channel what it loses, device by device.
-fn tell_losses(
+fn send_losses(
     out: &mut Vec<Said>,
     channel: u32,
     seen: &Seen,
@@ -120,19 +120,19 @@ fn tell_losses(
     ensures { let s = scene_at seen.now in
         OnOk result (out.new.items
         ≡ out.old.items
-        ++ to_channel channel (told_losses s (mark_of s.windows change.now.gained.items change.now.loss) channel)) }
+        ++ to_channel channel (sent_losses s (mark_of s.windows change.now.gained.items change.now.loss) channel)) }
 {
     for below in 0..8 {
         let Some(device) = DeviceId::new(below + 1) else {
             unreachable!();
         };
-        tell_loss(out, channel, seen, change, device)?;
+        send_loss(out, channel, seen, change, device)?;
     }
     Ok(())
 }
 
 /// Says to a channel what it loses of a device.
-fn tell_loss(
+fn send_loss(
     out: &mut Vec<Said>,
     channel: u32,
     seen: &Seen,
@@ -144,11 +144,11 @@ fn tell_loss(
         OnOk result (out.new.items
         ≡ out.old.items
         ++ to_channel channel
-        (told_lost s (mark_of s.windows change.now.gained.items change.now.loss) channel device)) }
+        (sent_lost s (mark_of s.windows change.now.gained.items change.now.loss) channel device)) }
 {
     let held = held_around(seen, change, channel, device);
     let last = last_of(seen.last, device);
-    tell_cancels(out, channel, device, last, &held)
+    send_cancels(out, channel, device, last, &held)
 }
 
 /// What a window holds of a device before and after a turn that changes this.

@@ -23,14 +23,14 @@ pub enum Turn {
         /// The mask of these channels.
         channels: u64,
     },
-    /// A channel is removed: it loses all that it holds, and is told nothing.
+    /// A channel is removed: it loses all that it holds, and is sent nothing.
     Forget {
         /// That channel.
         channel: u32,
     },
 }
 
-/// What a channel is told, in display pixels.
+/// What a channel is sent, in display pixels.
 #[derive(Clone, Copy, Debug, PartialEq, Eq)]
 pub struct Said {
     /// The channel, 1 to 64.

@@ -11,7 +11,7 @@ use Rattle.touch_state.specs.Rows.{no_row}
 use Rattle.touch_state.specs.Touches.{Touches, Changes, held, holds, any, since, pilfering, none, nobody}
 use Rattle.touch_state.proofs.Sets.{and_false, not_empty}
 use Rattle.touch_state.proofs.Steps.{mask_has-and}
-use Rattle.pilfer_monitor.proofs.Takes.{unchanged, retold, two_changes, one_reached}
+use Rattle.pilfer_monitor.proofs.Takes.{unchanged, resent, two_changes, one_reached}
 use Rattle.route_split.specs.Tables.{is_device, no_table, table_of, IsTables, IsFresh, ChangesAll}
 
 -- the same change, told otherwise
@@ -150,7 +150,7 @@ pub all_emptied : (old ts : List Touches) (m : ℕ → Bool) (k : ℕ) → 8 ≤
     → ((place : ℕ) → ChangesAll old ts (λ w d i. none w i) (λ w d i. nat_le d k && m w) place (λ w d. nobody w))
     → (place : ℕ) → ChangesAll old ts (λ w d i. none w i) (λ w d i. m w) place (λ w d. nobody w)
 all_emptied old ts m k le c place d =
-    retold (table_of old d) (table_of ts d) (λ w i. nat_le d k && m w) (λ w i. m w) place nobody
+    resent (table_of old d) (table_of ts d) (λ w i. nat_le d k && m w) (λ w i. m w) place nobody
     (λ w i h. let p = held_device old w d i h in ap (λ b. b && m w) (le-leb d k (omega (arith, le, p.1)))) (c place d)
 
 -- who holds something is a channel
@@ -168,7 +168,7 @@ pub emptied_by : (old ts : List Touches) (mask : ℕ) (m : ℕ → Bool) (place 
     → ChangesAll old ts (λ w d i. none w i) (λ w d i. mask_has mask w) place (λ w d. nobody w)
     → ChangesAll old ts (λ w d i. none w i) (λ w d i. m w) place (λ w d. nobody w)
 emptied_by old ts mask m place same c d =
-    retold (table_of old d) (table_of ts d) (λ w i. mask_has mask w) (λ w i. m w) place nobody
+    resent (table_of old d) (table_of ts d) (λ w i. mask_has mask w) (λ w i. m w) place nobody
     (λ w i h. same w (held_channel (table_of old d) w i h)) (c d)
 
 -- windows from which nothing is taken, as none of them holds anything

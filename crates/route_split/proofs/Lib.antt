@@ -8,6 +8,6 @@ pub mod Firsts
 pub mod Found
 pub mod Near
 pub mod Steps
-pub mod TellingLaws
-pub mod ToldBy
+pub mod SendingLaws
+pub mod SentBy
 pub mod Quiet

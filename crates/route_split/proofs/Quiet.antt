@@ -1,4 +1,4 @@
--- Who holds nothing and is given nothing is told nothing.
+-- Who holds nothing and is given nothing is sent nothing.
 use Rattle.std.proofs.Common.{ℕ, Bool, true, false, not, ◌&&◌, ◌||◌, ◌==◌, ◌≡◌, ◌≢◌, ◌⊎◌, if◌then◌else◌, [], ◌∷◌, Option, Some, None, refl, sym, ap, ap₂, ◌∙◌, inl, inr}
 use Rattle.std.proofs.lemmas.Bool.{cases_Bool, cases_eq, eq-eqb, ne_eqb, both_ways, and_right}
 use Rattle.input_types.specs.declared.motion.Motion.{Motion}
@@ -6,21 +6,21 @@ use Rattle.input_types.specs.declared.pointer.Pointer.{Pointer}
 use Rattle.window_snapshot.specs.Mask.{is_channel, mask_has}
 use Rattle.routing_rules.specs.Scene.{Scene, Step, Moves}
 use Rattle.routing_rules.specs.Given.{mark, changed}
-use Rattle.routing_rules.specs.Told.{after, told, told_motion, moves, or_else, is_up, plain}
+use Rattle.routing_rules.specs.Outgoing.{after, outgoing, sent_motion, moves, or_else, is_up, plain}
 use Rattle.routing_rules.specs.Taking.{takes}
-use Rattle.routing_rules.proofs.ToldLaws.{quiet_cancels}
+use Rattle.routing_rules.proofs.SentLaws.{quiet_cancels}
 use Rattle.input_types.specs.declared.motion.MotionAction.TheVariants.{Outside}
 use Rattle.touch_state.specs.Touches.{Touches, held, holds, any}
 use Rattle.touch_state.proofs.Sets.{not_empty, and_false}
 use Rattle.route_split.specs.declared.mark.Mark.{Mark}
-use Rattle.route_split.specs.declared.mark.Mark.TheVariants.{Rests, Give, Lift, Slip, Empty, Pilfer, Unnamed, Mute, Forget}
+use Rattle.route_split.specs.declared.mark.Mark.TheVariants.{NoOp, Give, Lift, Slip, Empty, Pilfer, Unnamed, Mute, Forget}
 use Rattle.route_split.specs.Tables.{table_of, any_at}
 use Rattle.route_split.specs.Marking.{gives, taking, holds_after, is_given_some, is_forget, IsWhole, IsMark, IsStepOf}
-use Rattle.route_split.specs.Telling.{QuietLaw}
+use Rattle.route_split.specs.Sending.{QuietLaw}
 use Rattle.routing_rules.specs.Watching.{is_watching}
 use Rattle.route_split.proofs.Steps.{other_law}
-use Rattle.route_split.proofs.TellingLaws.{none_listed}
-use Rattle.route_split.proofs.ToldBy.{after_is, told_cancels, nothing_told}
+use Rattle.route_split.proofs.SendingLaws.{none_listed}
+use Rattle.route_split.proofs.SentBy.{after_is, sent_cancels, nothing_sent}
 
 neither : (a b : Bool) → (a || b) ≡ false → (a ≡ false) × (b ≡ false)
 neither true b e = absurd (both_ways true e refl)
@@ -46,7 +46,7 @@ nothing_given (Slip device id from to) w d i h e =
     true_right : (b : Bool) → (b && true) ≡ b
     true_right true = refl
     true_right false = refl
-nothing_given Rests w d i h e = refl
+nothing_given NoOp w d i h e = refl
 nothing_given (Lift device id) w d i h e = refl
 nothing_given (Empty device) w d i h e = refl
 nothing_given (Pilfer device window) w d i h e = refl
@@ -64,7 +64,7 @@ nothing_held t w i n =
 
 -- a motion about nothing of it
 silent : (s : Scene) (m : Motion) (o : Option Pointer) (w : ℕ) (before later : ℕ → Bool) → ((i : ℕ) → before i ≡ false) → ((i : ℕ) → later i ≡ false)
-    → is_watching s m o w ≡ false → told_motion s m o w before later ≡ []
+    → is_watching s m o w ≡ false → sent_motion s m o w before later ≡ []
 silent s m None w before later b l e =
     ap₂ or_else (quiet_cancels m.device (s.last m.device) before later (λ i. l i ∙ sym (b i)))
     (ap (moves m.device) (none_listed later m.pointers l))
@@ -87,16 +87,16 @@ quiet_law s ts k w d f whole none = (
         ap₂ (λ g h. g || h && not (takes (taking ts k) w d i)) (nothing_given k w d i whole (neither (any_at ts w d) (is_given_some k w d) none).1)
         (nothing_held (table_of ts d) w i (neither (any_at ts w d) (is_given_some k w d) none).0)
 
-    by_device : (m : Motion) → IsMark ts k (mark s (Moves m)) → is_watching s m (changed m) w ≡ false → (m.device ≡ d) ⊎ (m.device ≢ d) → told s (Moves m) w d ≡ []
+    by_device : (m : Motion) → IsMark ts k (mark s (Moves m)) → is_watching s m (changed m) w ≡ false → (m.device ≡ d) ⊎ (m.device ≢ d) → outgoing s (Moves m) w d ≡ []
     by_device m is e (inl q) =
-        ap (λ b. if b then told_motion s m (changed m) w (s.holds w d) (after s (mark s (Moves m)) w d) else []) (eq-eqb m.device d q)
+        ap (λ b. if b then sent_motion s m (changed m) w (s.holds w d) (after s (mark s (Moves m)) w d) else []) (eq-eqb m.device d q)
         ∙ silent s m (changed m) w (s.holds w d) (after s (mark s (Moves m)) w d) held_none (λ i. after_is s ts k (mark s (Moves m)) f is w d i ∙ later_none i) e
     by_device m is e (inr n) =
-        ap (λ b. if b then told_motion s m (changed m) w (s.holds w d) (after s (mark s (Moves m)) w d) else []) (ne_eqb m.device d n)
+        ap (λ b. if b then sent_motion s m (changed m) w (s.holds w d) (after s (mark s (Moves m)) w d) else []) (ne_eqb m.device d n)
 
-    by_forget : (e : Step) → IsStepOf k e → (b : Bool) → is_forget k ≡ b → told s e w d ≡ []
-    by_forget e h true q = nothing_told s k e w d h q
+    by_forget : (e : Step) → IsStepOf k e → (b : Bool) → is_forget k ≡ b → outgoing s e w d ≡ []
+    by_forget e h true q = nothing_sent s k e w d h q
     by_forget e h false q =
-        told_cancels s k e w d h q
+        sent_cancels s k e w d h q
         ∙ quiet_cancels d (s.last d) (s.holds w d) (after s (mark s e) w d)
         (λ i. after_is s ts k (mark s e) f (other_law s ts k e f h) w d i ∙ later_none i ∙ sym (held_none i))

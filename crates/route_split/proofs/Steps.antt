@@ -1,7 +1,7 @@
 -- The marks of steps that are no motions.
 use Rattle.std.proofs.Common.{ℕ, Bool, not, ◌==◌, ◌&&◌, refl, ap, ap₂, ◌∙◌}
-use Rattle.routing_rules.specs.Scene.{Resets, Pilfers, Shows, Mutes, Removes, Rests as Resting}
-use Rattle.route_split.specs.declared.mark.Mark.TheVariants.{Rests, Empty, Pilfer, Unnamed, Mute, Forget}
+use Rattle.routing_rules.specs.Scene.{Resets, Pilfers, Shows, Mutes, Removes, NoOp as NoOps}
+use Rattle.route_split.specs.declared.mark.Mark.TheVariants.{NoOp, Empty, Pilfer, Unnamed, Mute, Forget}
 use Rattle.route_split.specs.Marking.{OtherLaw}
 
 pub other_law : OtherLaw
@@ -36,7 +36,7 @@ other_law s ts (Forget window) (Removes v) f h =
       taken_are = λ w e i c. ap (λ x. w == x) h;
       pilfers_are = λ w e. refl;
     }
-other_law s ts Rests Resting f h =
+other_law s ts NoOp NoOps f h =
     record {
       given_are = λ w e i. refl;
       taken_are = λ w e i c. refl;

@@ -3,4 +3,4 @@ pub mod Marking
 pub mod Following
 pub mod Seen
 pub mod Slipping
-pub mod Telling
+pub mod Sending

@@ -5,13 +5,13 @@ use Rattle.window_snapshot.specs.Mask.{is_channel, mask_has}
 use Rattle.routing_rules.specs.Pairs.{has}
 use Rattle.routing_rules.specs.Taking.{Taking, Nothing, Lifted, Emptied, Slipped, Pilfered, Dropped, takes, pilfers}
 use Rattle.routing_rules.specs.Marks.{Mark as RuleMark}
-use Rattle.routing_rules.specs.Scene.{Scene, Step, Moves, Resets, Pilfers, Shows, Mutes, Removes, Rests as Resting}
+use Rattle.routing_rules.specs.Scene.{Scene, Step, Moves, Resets, Pilfers, Shows, Mutes, Removes, NoOp as NoOps}
 use Rattle.routing_rules.specs.Given.{given, taken, mark}
 use Rattle.bits32.specs.Set.{is_in}
 use Rattle.touch_state.specs.Touches.{Touches, holds, of_mask, one}
 use Rattle.pilfer_monitor.specs.Pilfer.{pilfered, set_of}
 use Rattle.route_split.specs.declared.mark.Mark.{Mark}
-use Rattle.route_split.specs.declared.mark.Mark.TheVariants.{Rests, Give, Lift, Slip, Empty, Pilfer, Unnamed, Mute, Forget}
+use Rattle.route_split.specs.declared.mark.Mark.TheVariants.{NoOp, Give, Lift, Slip, Empty, Pilfer, Unnamed, Mute, Forget}
 use Rattle.route_split.specs.Tables.{table_of, holds_at, any_at, Stands}
 
 -- what a mark gives: a pointer that goes down, or that slips to a window
@@ -22,7 +22,7 @@ gives _ w d i = false
 
 -- what it takes, from windows that hold what these tables say
 abbrev pub taking : List Touches → Mark → Taking
-taking ts Rests = Nothing
+taking ts NoOp = Nothing
 taking ts (Give device id windows) = Nothing
 taking ts (Lift device id) = Lifted device id
 taking ts (Slip device id from to) = Slipped from device id
@@ -81,7 +81,7 @@ IsStepOf (Pilfer device window) (Pilfers w d) = (w ≡ window) × (d ≡ device)
 IsStepOf (Unnamed stays) (Shows names) = (w : ℕ) → is_channel w ≡ true → names w ≡ mask_has stays w
 IsStepOf (Mute channels) (Mutes muted) = (w : ℕ) → is_channel w ≡ true → muted w ≡ mask_has channels w
 IsStepOf (Forget window) (Removes w) = w ≡ window
-IsStepOf Rests Resting = Unit {0}
+IsStepOf NoOp NoOps = Unit {0}
 IsStepOf _ _ = ⊥
 
 -- with the step a channel is removed
@@ -99,6 +99,6 @@ is_given_some (Give device id windows) w d = d == device && mask_has windows w
 is_given_some (Slip device id from to) w d = d == device && (is_channel w && w == to)
 is_given_some _ w d = false
 
--- a window may be told something of a device at a step with this mark: it holds something of it, or is given something
-abbrev pub may_be_told : List Touches → Mark → (window device : ℕ) → Bool
-may_be_told ts k w d = any_at ts w d || is_given_some k w d
+-- a window may be sent something of a device at a step with this mark: it holds something of it, or is given something
+abbrev pub may_be_sent : List Touches → Mark → (window device : ℕ) → Bool
+may_be_sent ts k w d = any_at ts w d || is_given_some k w d

@@ -2,7 +2,7 @@
 //! does nothing.
 ghost use Rattle.route_split.specs.Following.{StartLaw, StepLaw, SceneLaw};
 ghost use Rattle.route_split.specs.Marking.{OtherLaw};
-ghost use Rattle.route_split.specs.Telling.{QuietLaw};
+ghost use Rattle.route_split.specs.Sending.{QuietLaw};
 
 /// The tables follow the steps that were taken: a window holds a pointer where some step gave it and no later one took
 /// it; it holds something of a device since the step with which it last went from nothing to something; it is pilfering
@@ -14,7 +14,7 @@ pub fn following()
     ensures scene { SceneLaw }
 {}
 
-/// Where a step concerns no pointer of a window, the window is told nothing at it, unless it watches for touches
+/// Where a step concerns no pointer of a window, the window is sent nothing at it, unless it watches for touches
 /// outside of it.
 pub fn quiet()
     ensures { QuietLaw }

@@ -10,8 +10,8 @@
 //! ```
 //!
 //! [`Touches::mark_of`] finds what a motion gives and takes; the marks of all other steps are named by [`Mark`] itself.
-//! [`Touches::concerned`] says which windows can be told anything at the step. [`Touches::change`] changes the tables
-//! by the mark, and answers what each window lost where one pilfers. Then [`Touches::tells`] says what a window is told
+//! [`Touches::concerned`] says which windows can be sent anything at the step. [`Touches::change`] changes the tables
+//! by the mark, and answers what each window lost where one pilfers. Then [`Touches::sends`] says what a window is sent
 //! of a motion, by what it held before and holds now. None of these takes memory or fails.
 //!
 //! The tables stand for a scene of the rules (`Stands` of specs/Tables), and for the marks of all steps so far
@@ -26,15 +26,15 @@ mod mark;
 mod marking;
 mod motion;
 mod seen;
+mod sending;
+mod sends;
 mod sets;
 mod slip;
-mod telling;
-mod tells;
 mod touches;
 mod watching;
 
 pub use mark::Mark;
+pub use sends::Sends;
 pub use slip::Way;
-pub use tells::Tells;
 pub use touches::Touches;
 pub use watching::watchers;

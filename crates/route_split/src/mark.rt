@@ -6,7 +6,7 @@ use input_types::{DeviceId, PointerId};
 #[derive(Clone, Copy, Debug)]
 pub enum Mark {
     /// A step that changes nothing.
-    Rests,
+    NoOp,
     /// A pointer goes down in these windows.
     Give {
         device: DeviceId,

@@ -65,7 +65,7 @@ pub(crate) fn change_plain(states: &mut [TouchState], mark: &Mark, place: u64)
         (pilfers (taking states.old mark.now)) }
 {
     match *mark {
-        Mark::Rests => {}
+        Mark::NoOp => {}
         Mark::Give {
             device,
             id,

@@ -41,7 +41,7 @@ pub(crate) fn mark_of(seen: &Seen, motion: &Motion) -> Mark
 {
     let device = motion.device;
     let Some(pointer) = changed(motion) else {
-        return Mark::Rests;
+        return Mark::NoOp;
     };
     match motion.action {
         MotionAction::Down | MotionAction::PointerDown => give(seen, device, pointer),
@@ -56,8 +56,8 @@ pub(crate) fn mark_of(seen: &Seen, motion: &Motion) -> Mark
                 from: way.from,
                 to: way.to,
             },
-            None => Mark::Rests,
+            None => Mark::NoOp,
         },
-        MotionAction::Outside => Mark::Rests,
+        MotionAction::Outside => Mark::NoOp,
     }
 }

@@ -7,16 +7,16 @@ ghost use Rattle.routing_rules.specs.Choice.{choice_at, takers};
 ghost use Rattle.routing_rules.specs.Taking.{takes, pilfers};
 ghost use Rattle.routing_rules.specs.Scene.{Scene, Moves};
 ghost use Rattle.routing_rules.specs.Given.{changed, mark as rule_mark};
-ghost use Rattle.routing_rules.specs.Told.{after, listing, plain, told};
+ghost use Rattle.routing_rules.specs.Outgoing.{after, listing, plain, outgoing};
 ghost use Rattle.input_types.specs.declared.motion.MotionAction.TheVariants.{Move};
 ghost use Rattle.routing_rules.specs.Slip.{slip};
 ghost use Rattle.route_split.specs.Seen.{Sees};
 ghost use Rattle.route_split.specs.Slipping.{rule_slip};
-ghost use Rattle.route_split.specs.Telling.{IsTold, IsListed};
+ghost use Rattle.route_split.specs.Sending.{IsSent, IsListed};
 ghost use Rattle.routing_rules.specs.Watching.{is_watching};
 ghost use Rattle.route_split.specs.Tables.{table_of, any_at, holds_at, pilfering_at, Stands, IsFresh, ChangesAll};
-ghost use Rattle.route_split.specs.declared.mark.Mark.TheVariants.{Rests};
-ghost use Rattle.route_split.specs.Marking.{gives, taking, is_pilfer, IsWhole, IsMark, AreLosses, may_be_told};
+ghost use Rattle.route_split.specs.declared.mark.Mark.TheVariants.{NoOp};
+ghost use Rattle.route_split.specs.Marking.{gives, taking, is_pilfer, IsWhole, IsMark, AreLosses, may_be_sent};
 
 use crate::choice::{choice_at, takers};
 use crate::concern::given_windows;
@@ -25,9 +25,9 @@ use crate::mark::Mark;
 use crate::marking::{change_by, change_plain, fresh_states, index_of};
 use crate::motion::mark_of;
 use crate::seen::Seen;
+use crate::sending::{moving_of, sends_of};
+use crate::sends::Sends;
 use crate::slip::{Way, slip_of};
-use crate::telling::{moving_of, tells_of};
-use crate::tells::Tells;
 use bits32::Bits32;
 use input_types::{DeviceId, Motion, Pixel, PointerId};
 use pilfer_monitor::Losses;
@@ -171,10 +171,10 @@ impl Touches {
         holding(&self.states[index_of(device)], id)
     }
 
-    /// The mask of the windows that may be told something of a device at the step of a mark: those that hold something
-    /// of it, and those that are given something. At a motion its `watchers` may be told something besides.
+    /// The mask of the windows that may be sent something of a device at the step of a mark: those that hold something
+    /// of it, and those that are given something. At a motion its `watchers` may be sent something besides.
     pub fn concerned(&self, mark: &Mark, device: DeviceId) -> u64
-        ensures { (w : ℕ) → mask_has result w ≡ may_be_told self.now mark.now w device }
+        ensures { (w : ℕ) → mask_has result w ≡ may_be_sent self.now mark.now w device }
     {
         self.holders(device) | given_windows(mark, device)
     }
@@ -182,7 +182,7 @@ impl Touches {
     /// What a window is told of a motion, once the tables have changed by its mark; `before` are the ids that it held
     /// of the motion's device before, and `watches` says whether the window is one of the motion's `watchers`. What
     /// windows held has to be listed in the last motion of the device.
-    pub fn tells(&self, motion: &Motion, window: u32, before: Bits32, watches: bool) -> Tells
+    pub fn sends(&self, motion: &Motion, window: u32, before: Bits32, watches: bool) -> Sends
         requires { is_channel window ≡ true }
         ensures { (s : Scene)
             → ((i : ℕ) → s.holds window motion.now.device i ≡ is_in i before)
@@ -190,15 +190,15 @@ impl Touches {
             ≡ holds_at self.now window motion.now.device i)
             → IsListed s motion.now.device
             → watches ≡ is_watching s motion.now (changed motion.now) window
-            → IsTold result (told s (Moves motion.now) window motion.now.device) motion.now.device
+            → IsSent result (outgoing s (Moves motion.now) window motion.now.device) motion.now.device
             (s.last motion.now.device) (s.holds window motion.now.device) }
     {
         let later = self.held(window, motion.device);
-        tells_of(motion, before, later, watches)
+        sends_of(motion, before, later, watches)
     }
 
-    /// The ids that move in a window, where it is told just that of the motion: it held them before the step, as these
-    /// are, and holds them still. None says nothing of what it is told.
+    /// The ids that move in a window, where it is sent just that of the motion: it held them before the step, as these
+    /// are, and holds them still. None says nothing of what it is sent.
     #[inline(always)]
     pub fn moving(&self, motion: &Motion, window: u32, before: Bits32) -> Option<Bits32>
         requires { is_channel window ≡ true }
@@ -206,7 +206,7 @@ impl Touches {
             → ((i : ℕ) → s.holds window motion.now.device i ≡ is_in i before)
             → ((i : ℕ) → after s (rule_mark s (Moves motion.now)) window motion.now.device i
             ≡ holds_at self.now window motion.now.device i)
-            → told s (Moves motion.now) window motion.now.device
+            → outgoing s (Moves motion.now) window motion.now.device
             ≡ plain motion.now.device Move (listing (λ i. is_in i ids) motion.now.pointers) ∷ []) }
     {
         moving_of(motion, before, self.held(window, motion.device))
@@ -238,8 +238,8 @@ impl Touches {
     /// With a step that gives and takes nothing the tables stay as they are. It does nothing, and its clause says so.
     #[inline(always)]
     pub fn rest(&self)
-        ensures { (place : ℕ) → ChangesAll self.now self.now (gives Rests) (takes (taking self.now Rests)) place
-            (pilfers (taking self.now Rests)) }
+        ensures { (place : ℕ) → ChangesAll self.now self.now (gives NoOp) (takes (taking self.now NoOp)) place
+            (pilfers (taking self.now NoOp)) }
     {
         // Read for its clause alone: what always holds of the tables is not seen before.
         let _count = self.states.len();

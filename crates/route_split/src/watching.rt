@@ -4,7 +4,7 @@ ghost use Rattle.window_snapshot.specs.Hits.{is_watcher_at};
 ghost use Rattle.window_snapshot.specs.Mask.{mask_has};
 ghost use Rattle.routing_rules.specs.Scene.{Scene};
 ghost use Rattle.routing_rules.specs.Given.{changed};
-ghost use Rattle.routing_rules.specs.Told.{is_first};
+ghost use Rattle.routing_rules.specs.Outgoing.{is_first};
 ghost use Rattle.route_split.specs.Seen.{Sees};
 ghost use Rattle.routing_rules.specs.Watching.{is_watching};
 

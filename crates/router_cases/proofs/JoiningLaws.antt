@@ -7,17 +7,17 @@ use Rattle.input_types.specs.declared.pointer.Pointer.{Pointer}
 use Rattle.input_types.specs.Gestures.{ids_of}
 use Rattle.window_snapshot.specs.Mask.{is_channel}
 use Rattle.routing_rules.specs.Taking.{takes, pilfers}
-use Rattle.routing_rules.specs.Scene.{Scene, Step, Moves, Resets, Pilfers, Shows, Mutes, Removes, Rests}
+use Rattle.routing_rules.specs.Scene.{Scene, Step, Moves, Resets, Pilfers, Shows, Mutes, Removes, NoOp}
 use Rattle.routing_rules.specs.Given.{mark}
-use Rattle.routing_rules.specs.Told.{told, told_all}
+use Rattle.routing_rules.specs.Outgoing.{outgoing, sent_all}
 use Rattle.route_plain.specs.State.{scene_before}
 use Rattle.route_plain.specs.Route.{to_channel, said_up_to}
 use Rattle.route_plain.proofs.Following.{start_law as plain_start, turn_law as plain_turn, scene_law as plain_scene}
-use Rattle.route_split.specs.declared.tells.Tells.{Tells}
-use Rattle.route_split.specs.declared.tells.Tells.TheVariants.{Nothing, One, Cancels}
+use Rattle.route_split.specs.declared.sends.Sends.{Sends}
+use Rattle.route_split.specs.declared.sends.Sends.TheVariants.{Nothing, One, Cancels}
 use Rattle.route_split.specs.Tables.{is_device, ChangesAll}
 use Rattle.route_split.specs.Marking.{gives, taking}
-use Rattle.route_split.specs.Telling.{IsTold}
+use Rattle.route_split.specs.Sending.{IsSent}
 use Rattle.route_split.proofs.FollowingLaws.{start_law as split_start, step_law as split_step, scene_law as split_scene}
 use Rattle.router_cases.specs.Joining.{StartLaw, SceneLaw, StepLaw, ListedLaw, Answers, motions_of, is_asked, word, words}
 
@@ -36,7 +36,7 @@ scene_law n st ts windows live able j =
     })
 
 -- an answer stands for its motions
-motions_are : (r : Tells) (ms : List Motion) (d : ℕ) (last : List Pointer) (before : ℕ → Bool) → IsTold r ms d last before → ms ≡ motions_of r d last before
+motions_are : (r : Sends) (ms : List Motion) (d : ℕ) (last : List Pointer) (before : ℕ → Bool) → IsSent r ms d last before → ms ≡ motions_of r d last before
 motions_are Nothing ms d last before h = h
 motions_are (One m) ms d last before h = h
 motions_are (Cancels lost) ms d last before h = h
@@ -46,28 +46,28 @@ one_asked : (b : Bool) (ms ns : List Motion) → (b ≡ true → ms ≡ ns) → 
 one_asked true ms ns f g = f refl
 one_asked false ms ns f g = g refl
 
-not_asked : (s : Scene) (e : Step) (w d : ℕ) → is_asked e d ≡ false → told s e w d ≡ []
+not_asked : (s : Scene) (e : Step) (w d : ℕ) → is_asked e d ≡ false → outgoing s e w d ≡ []
 not_asked s (Moves m) w d h = rw h refl
 not_asked s (Resets c) w d h = absurd (both_ways true h refl)
 not_asked s (Pilfers v c) w d h = absurd (both_ways true h refl)
 not_asked s (Shows stays) w d h = absurd (both_ways true h refl)
 not_asked s (Mutes muted) w d h = absurd (both_ways true h refl)
 not_asked s (Removes v) w d h = absurd (both_ways true h refl)
-not_asked s Rests w d h = absurd (both_ways true h refl)
+not_asked s NoOp w d h = absurd (both_ways true h refl)
 
-word_is : (s : Scene) (e : Step) (answer : ℕ → ℕ → Tells) (w d : ℕ) → Answers s e answer → is_channel w ≡ true → is_device d ≡ true → told s e w d ≡ word s e answer w d
+word_is : (s : Scene) (e : Step) (answer : ℕ → ℕ → Sends) (w d : ℕ) → Answers s e answer → is_channel w ≡ true → is_device d ≡ true → outgoing s e w d ≡ word s e answer w d
 word_is s e answer w d a c v =
-    one_asked (is_asked e d) (told s e w d) (motions_of (answer w d) d (s.last d) (s.holds w d))
-    (λ h. motions_are (answer w d) (told s e w d) d (s.last d) (s.holds w d) (a w d c v h))
+    one_asked (is_asked e d) (outgoing s e w d) (motions_of (answer w d) d (s.last d) (s.holds w d))
+    (λ h. motions_are (answer w d) (outgoing s e w d) d (s.last d) (s.holds w d) (a w d c v h))
     (not_asked s e w d)
 
--- what a window is told, device by device
-words_are : (s : Scene) (e : Step) (answer : ℕ → ℕ → Tells) (w : ℕ) → Answers s e answer → is_channel w ≡ true → told_all s e w ≡ words s e answer w
+-- what a window is sent, device by device
+words_are : (s : Scene) (e : Step) (answer : ℕ → ℕ → Sends) (w : ℕ) → Answers s e answer → is_channel w ≡ true → sent_all s e w ≡ words s e answer w
 words_are s e answer w a c =
-    let same : (d : ℕ) → is_device d ≡ true → told s e w d ≡ word s e answer w d = λ d v. word_is s e answer w d a c v in
+    let same : (d : ℕ) → is_device d ≡ true → outgoing s e w d ≡ word s e answer w d = λ d v. word_is s e answer w d a c v in
     rw (same 1 refl, same 2 refl, same 3 refl, same 4 refl, same 5 refl, same 6 refl, same 7 refl, same 8 refl) refl
 
--- what windows are told up to one
+-- what windows are sent up to one
 said_same : (f g : ℕ → List Motion) (n : ℕ) → n ≤ 64 → ((w : ℕ) → is_channel w ≡ true → f w ≡ g w) → said_up_to f n ≡ said_up_to g n
 unfolding said_up_to
 said_same f g zero le same = refl
@@ -80,7 +80,7 @@ said_same f g (suc c) le same =
 pub step_law : StepLaw
 step_law n st ts us windows live able e k answer j lt m ch a =
     let s = scene_before st windows live able in (
-      said_same (told_all s e) (words s e answer) 64 (omega arith) (λ w c. words_are s e answer w a c),
+      said_same (sent_all s e) (words s e answer) 64 (omega arith) (λ w c. words_are s e answer w a c),
       record {
         marks = mark s e ∷ j.marks;
         count = ap suc j.count;

@@ -9,18 +9,18 @@ use Rattle.routing_rules.specs.Taking.{takes, pilfers}
 use Rattle.routing_rules.specs.Marks.{Mark as RuleMark}
 use Rattle.routing_rules.specs.Scene.{Scene, Step, Moves}
 use Rattle.routing_rules.specs.Given.{mark}
-use Rattle.routing_rules.specs.Told.{cancels, told, devices}
+use Rattle.routing_rules.specs.Outgoing.{cancels, outgoing, devices}
 use Rattle.routing_rules.specs.Fits.{Fits}
 use Rattle.touch_state.specs.Touches.{Touches}
 use Rattle.route_plain.specs.State.{State, fresh, scene_before}
 use Rattle.route_plain.specs.Route.{said_up_to, said_at, state_after}
 use Rattle.route_plain.specs.Laws.{Follows as FollowsPlain}
 use Rattle.route_split.specs.declared.mark.Mark.{Mark}
-use Rattle.route_split.specs.declared.tells.Tells.{Tells}
-use Rattle.route_split.specs.declared.tells.Tells.TheVariants.{Nothing, One, Cancels}
+use Rattle.route_split.specs.declared.sends.Sends.{Sends}
+use Rattle.route_split.specs.declared.sends.Sends.TheVariants.{Nothing, One, Cancels}
 use Rattle.route_split.specs.Tables.{is_device, table_of, Stands, IsFresh, ChangesAll}
 use Rattle.route_split.specs.Marking.{gives, taking, IsMark}
-use Rattle.route_split.specs.Telling.{IsTold, IsListed}
+use Rattle.route_split.specs.Sending.{IsSent, IsListed}
 use Rattle.route_split.specs.Following.{Follows as FollowsSplit}
 
 -- both routers followed the same steps, of which there were so many
@@ -40,7 +40,7 @@ abbrev pub SceneLaw : Type 0
 SceneLaw = (n : ℕ) (st : State) (ts : List Touches) (windows : List Window) (live able : ℕ) → Joined n st ts → Stands (scene_before st windows live able) ts
 
 -- the motions of an answer of the split router, where the window holds these ids of the device, whose last places these are
-abbrev pub motions_of : Tells → (d : ℕ) → (last : List Pointer) → (before : ℕ → Bool) → List Motion
+abbrev pub motions_of : Sends → (d : ℕ) → (last : List Pointer) → (before : ℕ → Bool) → List Motion
 motions_of Nothing d last before = []
 motions_of (One m) d last before = m ∷ []
 motions_of (Cancels lost) d last before = cancels d last before (λ i. before i && not (is_in i lost))
@@ -51,23 +51,23 @@ is_asked (Moves m) d = m.device == d
 is_asked e d = true
 
 -- it answers as its calls say, in this scene
-abbrev pub Answers : Scene → Step → ((window device : ℕ) → Tells) → Type 0
+abbrev pub Answers : Scene → Step → ((window device : ℕ) → Sends) → Type 0
 Answers s e answer =
-    (w d : ℕ) → is_channel w ≡ true → is_device d ≡ true → is_asked e d ≡ true → IsTold (answer w d) (told s e w d) d (s.last d) (s.holds w d)
+    (w d : ℕ) → is_channel w ≡ true → is_device d ≡ true → is_asked e d ≡ true → IsSent (answer w d) (outgoing s e w d) d (s.last d) (s.holds w d)
 
 -- what it tells a window of a device
-abbrev pub word : Scene → Step → ((window device : ℕ) → Tells) → (window device : ℕ) → List Motion
+abbrev pub word : Scene → Step → ((window device : ℕ) → Sends) → (window device : ℕ) → List Motion
 word s e answer w d = if is_asked e d then motions_of (answer w d) d (s.last d) (s.holds w d) else []
 
 -- what it tells a window: device by device
-abbrev pub words : Scene → Step → ((window device : ℕ) → Tells) → (window : ℕ) → List Motion
+abbrev pub words : Scene → Step → ((window device : ℕ) → Sends) → (window : ℕ) → List Motion
 words s e answer w = flat_map (word s e answer w) devices
 
 -- Whatever the step: where the split router finds its mark, changes its tables by it and answers, both routers tell each of the 64
 -- windows the same, word for word, and they followed the same steps again.
 abbrev pub StepLaw : Type 0
 StepLaw =
-    (n : ℕ) (st : State) (ts us : List Touches) (windows : List Window) (live able : ℕ) (e : Step) (k : Mark) (answer : (window device : ℕ) → Tells)
+    (n : ℕ) (st : State) (ts us : List Touches) (windows : List Window) (live able : ℕ) (e : Step) (k : Mark) (answer : (window device : ℕ) → Sends)
     → let s = scene_before st windows live able in
     Joined n st ts → n < 2 ^ 64 - 1 → IsMark ts k (mark s e)
     → ChangesAll ts us (gives k) (takes (taking ts k)) n (pilfers (taking ts k)) → Answers s e answer

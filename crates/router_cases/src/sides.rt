@@ -9,7 +9,7 @@ use std::alloc::Global;
 use std::test::Fail;
 use window_snapshot::Snapshot;
 
-/// Both routers, two snapshots, and the actions that were told so far.
+/// Both routers, two snapshots, and the actions that were sent so far.
 #[derive(Drop)]
 struct Sides {
     plain: Plain,
@@ -35,11 +35,11 @@ impl Sides {
         let turn = scenery.next()?;
         let windows = shown(&self.first, &self.second, scenery.shows_second);
         let said = self.plain.turn(&turn, windows, scenery.live, scenery.able)?;
-        let told = self
+        let outgoing = self
             .split
             .turn(&turn, windows, (scenery.live, scenery.able), number)?;
         note(&mut self.actions, said.as_slice());
-        Ok(said.as_slice() == told.as_slice() && self.hold_same()?)
+        Ok(said.as_slice() == outgoing.as_slice() && self.hold_same()?)
     }
 
     /// Whether each window holds the same of each device.
@@ -61,7 +61,7 @@ fn shown<'a>(first: &'a Snapshot, second: &'a Snapshot, is_second: bool) -> &'a 
     if is_second { second } else { first }
 }
 
-/// Notes the actions that are told.
+/// Notes the actions that are sent.
 fn note(actions: &mut Bits32, said: &[Said]) {
     for one in said {
         actions.mark(one.motion.action.number());
@@ -69,7 +69,7 @@ fn note(actions: &mut Bits32, said: &[Said]) {
 }
 
 /// Takes so many turns, which this seed makes. Answered are the number of the first one at which the routers differ,
-/// and the actions that were told, as bits.
+/// and the actions that were sent, as bits.
 pub(crate) fn run(alloc: Global, seed: u32, turns: u64) -> Result<(Option<u64>, u32), Fail> {
     let mut scenery = Scenery::new(seed)?;
     let mut sides = Sides::new(alloc)?;

@@ -1,4 +1,4 @@
-//! The split router with what its windows were told, as the plain one is used.
+//! The split router with what its windows were sent, as the plain one is used.
 ghost use Rattle.std.specs.Prelude.{◌≡◌, true};
 ghost use Rattle.window_snapshot.specs.Mask.{is_channel};
 ghost use Rattle.route_split.specs.Marking.{IsWhole};
@@ -8,7 +8,7 @@ use cancel_synthesis::InputState;
 use input_types::{Body, DeviceId, Motion};
 use pilfer_monitor::Losses;
 use route_plain::{Said, Turn};
-use route_split::{Mark, Tells, Touches, watchers};
+use route_split::{Mark, Sends, Touches, watchers};
 use std::alloc::Global;
 use std::test::Fail;
 use window_snapshot::{Snapshot, is_channel, mask_has};
@@ -58,19 +58,19 @@ impl SplitSide {
                 let mark = self.touches.mark_of(motion, windows, masks.0, masks.1);
                 let watching = watchers(motion, windows, masks.0, masks.1);
                 let _none_lost = self.touches.change(&mark, number);
-                self.tell_motion(&mut said, motion, watching)?;
+                self.send_motion(&mut said, motion, watching)?;
             }
             _ => {
                 let mark = mark_of(turn, windows);
                 let losses = self.touches.change(&mark, number);
-                self.tell_losses(&mut said, &mark, losses.as_ref())?;
+                self.send_losses(&mut said, &mark, losses.as_ref())?;
                 self.forget(turn);
             }
         }
         Ok(said)
     }
 
-    /// A channel that is removed is told nothing any more, and what it was told is forgotten.
+    /// A channel that is removed is sent nothing any more, and what it was sent is forgotten.
     fn forget(&mut self, turn: &Turn) {
         if let Turn::Forget { channel } = turn {
             if let Some(state) = self.states.get_mut(place_of(*channel)) {
@@ -80,7 +80,7 @@ impl SplitSide {
     }
 
     /// Tells each window of a motion, by which the tables have changed.
-    fn tell_motion(
+    fn send_motion(
         &mut self,
         said: &mut Vec<Said>,
         motion: &Motion,
@@ -89,16 +89,16 @@ impl SplitSide {
         for channel in 1..65 {
             if is_channel(channel) {
                 let watches = mask_has(watching, channel);
-                let before = self.told_ids(channel, motion.device);
-                let tells = self.touches.tells(motion, channel, before, watches);
-                self.tell(said, channel, motion.device, &tells)?;
+                let before = self.sent_ids(channel, motion.device);
+                let sends = self.touches.sends(motion, channel, before, watches);
+                self.send(said, channel, motion.device, &sends)?;
             }
         }
         Ok(())
     }
 
     /// The ids of a device that a window was told of and is not told the end of.
-    fn told_ids(&self, channel: u32, device: DeviceId) -> Bits32 {
+    fn sent_ids(&self, channel: u32, device: DeviceId) -> Bits32 {
         let mut ids = Bits32::empty();
         if let Some(state) = self.states.get(place_of(channel)) {
             for pointer in state.pointers(device).as_slice() {
@@ -108,8 +108,8 @@ impl SplitSide {
         ids
     }
 
-    /// Tells each window what it lost of each device; of a channel that is removed nobody is told.
-    fn tell_losses(
+    /// Tells each window what it lost of each device; of a channel that is removed nobody is sent.
+    fn send_losses(
         &mut self,
         said: &mut Vec<Said>,
         mark: &Mark,
@@ -145,7 +145,7 @@ impl SplitSide {
         requires { is_channel channel ≡ true }
     {
         let held = self.touches.held(channel, device);
-        let mut lost = self.told_ids(channel, device);
+        let mut lost = self.sent_ids(channel, device);
         for id in 0..32 {
             if held.has(id) {
                 lost.clear(id);
@@ -155,17 +155,17 @@ impl SplitSide {
     }
 
     /// Tells a window what the router answered, and adds it to what is said.
-    fn tell(
+    fn send(
         &mut self,
         said: &mut Vec<Said>,
         channel: u32,
         device: DeviceId,
-        tells: &Tells,
+        sends: &Sends,
     ) -> Result<(), Fail> {
-        match tells {
-            Tells::Nothing => Ok(()),
-            Tells::One(motion) => self.say(said, channel, motion),
-            Tells::Cancels { lost } => self.cancel(said, channel, device, *lost),
+        match sends {
+            Sends::Nothing => Ok(()),
+            Sends::One(motion) => self.say(said, channel, motion),
+            Sends::Cancels { lost } => self.cancel(said, channel, device, *lost),
         }
     }
 
@@ -224,7 +224,7 @@ fn mark_of(turn: &Turn, windows: &Snapshot) -> Mark
     ensures { IsWhole result }
 {
     match *turn {
-        Turn::Pointers(_) => Mark::Rests,
+        Turn::Pointers(_) => Mark::NoOp,
         Turn::Reset(device) => Mark::Empty { device },
         Turn::Pilfer { channel, device } => pilfer_mark(channel, device),
         Turn::Windows => Mark::Unnamed {
@@ -245,6 +245,6 @@ fn pilfer_mark(channel: u32, device: DeviceId) -> Mark
             window: channel,
         }
     } else {
-        Mark::Rests
+        Mark::NoOp
     }
 }

@@ -11,7 +11,7 @@ use Rattle.routing_rules.specs.Scene.{Scene, Moves}
 use Rattle.routing_rules.specs.Choice.{takers}
 use Rattle.routing_rules.specs.Slip.{Slip, slip}
 use Rattle.routing_rules.specs.Given.{pairs, slips_in, slips_out, given_by, taken_by, mark, changed}
-use Rattle.routing_rules.specs.Told.{after, is_up}
+use Rattle.routing_rules.specs.Outgoing.{after, is_up}
 
 -- one of two numbers is another one
 abbrev pub Apart_from : (d i e j : ℕ) → Type 0

@@ -8,15 +8,15 @@ use Rattle.input_types.specs.declared.pointer.Pointer.{Pointer}
 use Rattle.input_types.specs.DeviceRule.{is_of_device}
 use Rattle.input_types.specs.Gestures.{ids_of, after_motion}
 use Rattle.input_types.specs.Pointers.{IsRising}
-use Rattle.routing_rules.specs.Scene.{Scene, Moves, Resets, Pilfers, Shows, Mutes, Removes, Rests}
+use Rattle.routing_rules.specs.Scene.{Scene, Moves, Resets, Pilfers, Shows, Mutes, Removes, NoOp}
 use Rattle.routing_rules.specs.Given.{changed, mark}
-use Rattle.routing_rules.specs.Told.{after}
+use Rattle.routing_rules.specs.Outgoing.{after}
 use Rattle.routing_rules.specs.Fits.{Fits}
 use Rattle.routing_rules.specs.Laws.{FitsStep}
 use Rattle.routing_rules.proofs.Listings.{apart_rising, id_at, any-ids_of, ids_of-listing, filter-filter_sub}
 use Rattle.routing_rules.proofs.MotionKind.{Kind, opens, moves, closes, kind_at}
 use Rattle.routing_rules.proofs.Changes.{other_way, after_apart, after_none, after_up}
-use Rattle.routing_rules.proofs.ToldLaws.{Lies, lies, fresh_id, filter_none, other_motion}
+use Rattle.routing_rules.proofs.SentLaws.{Lies, lies, fresh_id, filter_none, other_motion}
 
 -- an id among others
 abbrev pub among : ℕ → List ℕ → Bool
@@ -164,6 +164,6 @@ fits_step s t (Mutes muted) d down next f r n same e =
 fits_step s t (Removes v) d down next f r n same e =
     let z : down ≡ next = cc in
     subst (Fits t d) z (smaller_fits s t d down f (λ w i h. kept_held (s.holds w d i) (w == v) (t.holds w d i) (same w i) h) e)
-fits_step s t Rests d down next f r n same e =
+fits_step s t NoOp d down next f r n same e =
     let z : down ≡ next = cc in
     subst (Fits t d) z (smaller_fits s t d down f (λ w i h. kept_held (s.holds w d i) false (t.holds w d i) (same w i) h) e)

@@ -5,9 +5,9 @@ pub mod Worked
 pub mod Examples
 pub mod ChoiceRows
 pub mod Listings
-pub mod ToldRows
-pub mod ToldMotion
+pub mod SentRows
+pub mod SentMotion
 pub mod Changes
 pub mod MotionKind
-pub mod ToldLaws
+pub mod SentLaws
 pub mod FitsLaws

@@ -6,7 +6,7 @@ use Rattle.std.proofs.lemmas.Map.Views.{any-filter_same}
 use Rattle.input_types.specs.declared.pointer.Pointer.{Pointer}
 use Rattle.input_types.specs.Gestures.{ids_of, same_ids}
 use Rattle.input_types.specs.Pointers.{IsRising}
-use Rattle.routing_rules.specs.Told.{listing, index_in}
+use Rattle.routing_rules.specs.Outgoing.{listing, index_in}
 
 -- a pointer of the list has this id
 abbrev pub has_id : ℕ → List Pointer → Bool

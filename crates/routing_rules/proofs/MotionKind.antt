@@ -8,7 +8,7 @@ use Rattle.input_types.specs.declared.pointer.Pointer.{Pointer}
 use Rattle.input_types.specs.DeviceRule.{is_of_device}
 use Rattle.input_types.specs.Gestures.{ids_of, same_ids, after_action, allowed}
 use Rattle.routing_rules.specs.Given.{changed}
-use Rattle.routing_rules.specs.Told.{is_up, is_down}
+use Rattle.routing_rules.specs.Outgoing.{is_up, is_down}
 use Rattle.routing_rules.proofs.Listings.{some_at, same_ids_is, length-ids_of}
 
 -- what is allowed comes only where it is

@@ -1,4 +1,4 @@
--- How what a window is told of a device fits what it was told before.
+-- How what a window is told of a device fits what it was sent before.
 use Rattle.std.specs.Prelude.{ℕ, Bool, true, false, ◌==◌, ◌≡◌, List, [], ◌∷◌, length, filter, Option, Some, None, if◌then◌else◌}
 use Rattle.std.specs.List.{list_any}
 use Rattle.std.specs.Option.{option_and_then}
@@ -9,10 +9,10 @@ use Rattle.input_types.specs.Gestures.{after_motion, ids_of}
 use Rattle.input_types.specs.Pointers.{IsRising}
 use Rattle.routing_rules.specs.Scene.{Scene, Step, Moves, Resets, Removes}
 
--- the ids of a device that a window knows to be down after it is told these motions, where each of them may come
-abbrev pub told_ids : List ℕ → List Motion → Option (List ℕ)
-told_ids ids [] = Some ids
-told_ids ids (m ∷ ms) = option_and_then (λ next. told_ids next ms) (after_motion ids m)
+-- the ids of a device that a window knows to be down after it is sent these motions, where each of them may come
+abbrev pub sent_ids : List ℕ → List Motion → Option (List ℕ)
+sent_ids ids [] = Some ids
+sent_ids ids (m ∷ ms) = option_and_then (λ next. sent_ids next ms) (after_motion ids m)
 
 -- the ids that are down on a device after a step, where its motion may come then
 abbrev pub down_after : Step → ℕ → List ℕ → Option (List ℕ)

@@ -7,7 +7,7 @@ use Rattle.input_types.specs.declared.pointer.Pointer.{Pointer}
 use Rattle.routing_rules.specs.Pairs.{Pair}
 use Rattle.routing_rules.specs.Taking.{Taking, Nothing, Lifted, Emptied, Slipped, Pilfered, Dropped}
 use Rattle.routing_rules.specs.Marks.{Mark}
-use Rattle.routing_rules.specs.Scene.{Scene, Step, Moves, Resets, Pilfers, Shows, Mutes, Removes, Rests}
+use Rattle.routing_rules.specs.Scene.{Scene, Step, Moves, Resets, Pilfers, Shows, Mutes, Removes, NoOp}
 use Rattle.routing_rules.specs.Choice.{takers}
 use Rattle.routing_rules.specs.Slip.{Slip, slip}
 
@@ -58,7 +58,7 @@ taken s (Pilfers w d) = Pilfered w d (s.holds w d)
 taken s (Shows stays) = Dropped (λ w. not (stays w))
 taken s (Mutes muted) = Dropped muted
 taken s (Removes w) = Dropped (λ v. v == w)
-taken s Rests = Nothing
+taken s NoOp = Nothing
 
 -- both together are the mark that the step leaves
 abbrev pub mark : Scene → Step → Mark

@@ -5,8 +5,8 @@ use Rattle.routing_rules.specs.Taking.{takes, pilfers}
 use Rattle.routing_rules.specs.Marks.{Mark, held, since, pilfering}
 use Rattle.routing_rules.specs.Scene.{Scene, Step}
 use Rattle.routing_rules.specs.Given.{taken, mark}
-use Rattle.routing_rules.specs.Told.{after, told}
-use Rattle.routing_rules.specs.Fits.{Fits, Rises, Leaves, down_after, told_ids, is_motion_of, last_then}
+use Rattle.routing_rules.specs.Outgoing.{after, outgoing}
+use Rattle.routing_rules.specs.Fits.{Fits, Rises, Leaves, down_after, sent_ids, is_motion_of, last_then}
 use Rattle.routing_rules.specs.Places.{Holds, HoldsAny, Begins, IsSince, IsPilfering}
 
 -- After a step a window holds a pointer exactly where the step gives it, or it held it before and the step does not take it.
@@ -52,19 +52,19 @@ PilferingStep =
 abbrev pub PilferingLaw : Type 0
 PilferingLaw = (ms : List Mark) (w d : ℕ) → IsTrue (pilfering ms w d) ↔ IsPilfering ms w d
 
--- What a window is told of a device at a step may come after what it was told before, and leaves it knowing to be down what it
+-- What a window is told of a device at a step may come after what it was sent before, and leaves it knowing to be down what it
 -- holds then: of the ids that are down on the device after the step, those that it holds.
-abbrev pub ToldLaw : Type 0
-ToldLaw =
+abbrev pub SentLaw : Type 0
+SentLaw =
     (s : Scene) (e : Step) (w d : ℕ) (down next : List ℕ)
     → Fits s d down → Rises e → Leaves e w → down_after e d down ≡ Some next
-    → told_ids (filter (s.holds w d) down) (told s e w d) ≡ Some (filter (after s (mark s e) w d) next)
+    → sent_ids (filter (s.holds w d) down) (outgoing s e w d) ≡ Some (filter (after s (mark s e) w d) next)
 
 -- A step that is no motion of a device, and takes nothing of it from a window, tells the window nothing of it.
 abbrev pub QuietLaw : Type 0
 QuietLaw =
     (s : Scene) (e : Step) (w d : ℕ)
-    → is_motion_of e d ≡ false → ((i : ℕ) → takes (taken s e) w d i ≡ false) → told s e w d ≡ []
+    → is_motion_of e d ≡ false → ((i : ℕ) → takes (taken s e) w d i ≡ false) → outgoing s e w d ≡ []
 
 -- A scene that fits what is down on a device is followed by one that does: windows hold in it what they hold after the step, and the
 -- last places are those after the step.

@@ -7,6 +7,6 @@ pub mod Scene
 pub mod Choice
 pub mod Slip
 pub mod Given
-pub mod Told
+pub mod Outgoing
 pub mod Watching
 pub mod Fits

@@ -41,7 +41,7 @@ pub data Step : Type 0 where
   -- a channel is removed
   Removes : (window : ℕ) → Step
   -- anything else
-  Rests : Step
+  NoOp : Step
 
 -- a window is missed at the next snapshot where that does not have it on the display on which the one before has it
 abbrev pub is_missed : (before next : List Window) → ℕ → Bool

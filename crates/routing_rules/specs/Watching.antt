@@ -5,7 +5,7 @@ use Rattle.input_types.specs.declared.motion.MotionAction.TheVariants.{Outside}
 use Rattle.input_types.specs.declared.pointer.Pointer.{Pointer}
 use Rattle.window_snapshot.specs.Hits.{is_watcher_at}
 use Rattle.routing_rules.specs.Scene.{Scene}
-use Rattle.routing_rules.specs.Told.{plain, is_first}
+use Rattle.routing_rules.specs.Outgoing.{plain, is_first}
 
 -- the window watches for touches outside of it, where this pointer begins a gesture
 abbrev pub is_watching : Scene → Motion → Option Pointer → ℕ → Bool

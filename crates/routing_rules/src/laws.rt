@@ -1,6 +1,6 @@
-//! What is proved of who holds what, and of what windows are told. Each function has the laws as its clauses, and does
+//! What is proved of who holds what, and of what windows are sent. Each function has the laws as its clauses, and does
 //! nothing.
-ghost use Rattle.routing_rules.specs.Laws.{HoldsStep, HeldStep, HeldLaw, HeldAnyLaw, SinceStep, SinceLaw, PilferingStep, PilferingLaw, ToldLaw, QuietLaw, FitsStep};
+ghost use Rattle.routing_rules.specs.Laws.{HoldsStep, HeldStep, HeldLaw, HeldAnyLaw, SinceStep, SinceLaw, PilferingStep, PilferingLaw, SentLaw, QuietLaw, FitsStep};
 
 /// Who holds a pointer: some step gave it, and no later one took it. The list of pairs that is computed step by step
 /// tells exactly this.
@@ -24,11 +24,11 @@ pub fn pilfering()
     ensures test { PilferingLaw }
 {}
 
-/// What a window is told at a step may come after what it was told before, by the rule of streams; it then knows to be
+/// What a window is sent at a step may come after what it was sent before, by the rule of streams; it then knows to be
 /// down just what it holds. So each motion lists what the window holds, and its index is right. A step that is no
 /// motion of a device and takes nothing of it tells nothing of it.
-pub fn telling()
-    ensures fits { ToldLaw }
+pub fn sending()
+    ensures fits { SentLaw }
     ensures quiet { QuietLaw }
     ensures next { FitsStep }
 {}

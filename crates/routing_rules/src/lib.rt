@@ -3,7 +3,7 @@
 //! Two windows stand side by side, 1 on the left and 2 on the right. A finger, pointer 0, is down on the left one, so
 //! window 1 holds the pair (device 1, pointer 0). Now a second finger goes down on the right one. The touched window is
 //! 2, no holder prevents splitting, so 2 is chosen: the step gives pointer 1 to window 2 and takes nothing. Window 2
-//! held nothing and is told `DOWN 1@700,400`; window 1 holds what it held and is told `MOVE 0@100,200`. Had window 1
+//! held nothing and is sent `DOWN 1@700,400`; window 1 holds what it held and is sent `MOVE 0@100,200`. Had window 1
 //! the flag PREVENT_SPLITTING, it would have been chosen as the earliest holder, and told `POINTER_DOWN:1 0@100,200
 //! 1@700,400`, and window 2 nothing.
 //!
@@ -20,13 +20,13 @@
 //! - `Choice`, `Slip`, `Given`: which window is chosen for a pointer that goes down and by which row of the table
 //!   ([`Choice`]), which windows get it (`takers`), when a pointer slips from one window to another, and so what a step
 //!   gives and takes (`given`, `taken`, both together `mark`).
-//! - `Told`: what a window is told of a device at a step (`told`), and of all devices (`told_all`). Where a device
-//!   cancels a pointer itself, as that of a palm, its windows are told a cancelled up of it.
-//! - `Fits`: what a scene and a step have to meet for what is told to fit what was told before; that it does is proved
+//! - `Outgoing`: what a window is sent of a device at a step (`outgoing`), and of all devices (`sent_all`). Where a
+//!   device cancels a pointer itself, as that of a palm, its windows are sent a cancelled up of it.
+//! - `Fits`: what a scene and a step have to meet for what is sent to fit what was sent before; that it does is proved
 //!   too.
 //!
 //! The rules follow Android's input dispatcher in idea. Which window is chosen for a later finger, what the earliest
-//! holder is, when touches outside are told and when a pointer slips are this project's own choices, and claim nothing
+//! holder is, when touches outside are sent and when a pointer slips are this project's own choices, and claim nothing
 //! of any release.
 #![tactic(auto)]
 

@@ -35,7 +35,7 @@ const WHY: &str = "why --session session --events events";
 const COMPARE: &str = "compare --want stream --got other --us 0 --pixels 0";
 
 /// A run that comes to a text: each read and each write fails in turn.
-fn told<'a>(name: &'a str, words: &'a str, files: Files<'a>) -> Case<'a> {
+fn outgoing<'a>(name: &'a str, words: &'a str, files: Files<'a>) -> Case<'a> {
     Case {
         name,
         words,
@@ -52,7 +52,7 @@ fn refused<'a>(name: &'a str, words: &'a str, files: Files<'a>) -> Case<'a> {
         words,
         files,
         taken: 8,
-        failing: &[Call::Read, Call::Tell],
+        failing: &[Call::Read, Call::Send],
     }
 }
 
@@ -63,7 +63,7 @@ fn stopped<'a>(name: &'a str, words: &'a str, files: Files<'a>) -> Case<'a> {
         words,
         files,
         taken: 8,
-        failing: &[Call::Tell],
+        failing: &[Call::Send],
     }
 }
 
@@ -81,7 +81,7 @@ fn add_each<R: Threads + Wait + Sync>(
 
 /// Adds a tap, by reads of any length, and what stands behind it.
 fn add_taps<R: Threads + Wait + Sync>(rt: &R, text: &mut Vec<u8>) -> io::Result<()> {
-    let tap = told(
+    let tap = outgoing(
         "a tap",
         REPLAY,
         &[("session", &[SESSION, STEP]), ("events", &[TAP, "\r\n"])],
@@ -92,12 +92,12 @@ fn add_taps<R: Threads + Wait + Sync>(rt: &R, text: &mut Vec<u8>) -> io::Result<
     add_pieces(rt, text, &tap, 65536)?;
     add_twice(rt, text, &tap)?;
     let cases = [
-        told(
+        outgoing(
             "no last newline",
             REPLAY,
             &[("session", &[SESSION, STEP]), ("events", &[TAP])],
         ),
-        told(
+        outgoing(
             "a finger behind it",
             REPLAY,
             &[("session", &[SESSION, STEP]), ("events", &[TAP, FINGER])],
@@ -109,7 +109,7 @@ fn add_taps<R: Threads + Wait + Sync>(rt: &R, text: &mut Vec<u8>) -> io::Result<
 /// Adds replays without an event, and those that come to no text.
 fn add_nothing<R: Threads + Wait + Sync>(rt: &R, text: &mut Vec<u8>) -> io::Result<()> {
     let cases = [
-        told(
+        outgoing(
             "nothing recorded",
             REPLAY,
             &[("session", &[SESSION]), ("events", &[])],
@@ -139,11 +139,11 @@ fn add_nothing<R: Threads + Wait + Sync>(rt: &R, text: &mut Vec<u8>) -> io::Resu
 /// Adds commands on a stream file.
 fn add_streams<R: Threads + Wait + Sync>(rt: &R, text: &mut Vec<u8>) -> io::Result<()> {
     let cases = [
-        told("two fingers judged", VERIFY, &[("stream", &[TWO_FINGERS])]),
+        outgoing("two fingers judged", VERIFY, &[("stream", &[TWO_FINGERS])]),
         refused("two downs judged", VERIFY, &[("stream", &[TWO_DOWNS])]),
-        told("moves in batches", BATCH, &[("stream", &[MOVES])]),
+        outgoing("moves in batches", BATCH, &[("stream", &[MOVES])]),
         refused("two downs in batches", BATCH, &[("stream", &[TWO_DOWNS])]),
-        told("two fingers written", EMIT, &[("stream", &[TWO_FINGERS])]),
+        outgoing("two fingers written", EMIT, &[("stream", &[TWO_FINGERS])]),
         refused(
             "a replaced finger written",
             EMIT,
@@ -156,9 +156,9 @@ fn add_streams<R: Threads + Wait + Sync>(rt: &R, text: &mut Vec<u8>) -> io::Resu
 /// Adds streams that are judged to be whole, and that are compared.
 fn add_judged<R: Threads + Wait + Sync>(rt: &R, text: &mut Vec<u8>) -> io::Result<()> {
     let cases = [
-        told("two fingers whole", JUDGE, &[("stream", &[TWO_FINGERS])]),
+        outgoing("two fingers whole", JUDGE, &[("stream", &[TWO_FINGERS])]),
         refused("a finger still down", JUDGE, &[("stream", &[REPLACED])]),
-        told(
+        outgoing(
             "two fingers compared",
             COMPARE,
             &[("stream", &[TWO_FINGERS]), ("other", &[TWO_FINGERS])],
@@ -174,7 +174,7 @@ fn add_judged<R: Threads + Wait + Sync>(rt: &R, text: &mut Vec<u8>) -> io::Resul
 
 /// Adds what a session and a recording hold, by reads of any length.
 fn add_inspected<R: Threads + Wait + Sync>(rt: &R, text: &mut Vec<u8>) -> io::Result<()> {
-    let tap = told(
+    let tap = outgoing(
         "a tap inspected",
         INSPECT,
         &[("session", &[SESSION, STEP]), ("events", &[TAP, "\r\n"])],
@@ -199,7 +199,7 @@ fn add_inspected<R: Threads + Wait + Sync>(rt: &R, text: &mut Vec<u8>) -> io::Re
 
 /// Adds why a finger went where it went, by reads of any length.
 fn add_explained<R: Threads + Wait + Sync>(rt: &R, text: &mut Vec<u8>) -> io::Result<()> {
-    let tap = told(
+    let tap = outgoing(
         "a tap explained",
         WHY,
         &[("session", &[SESSION, STEP]), ("events", &[TAP, "\r\n"])],
@@ -221,7 +221,7 @@ fn add_explained<R: Threads + Wait + Sync>(rt: &R, text: &mut Vec<u8>) -> io::Re
 /// Adds runs of an order, of a number, and of a mouse.
 fn add_runs<R: Threads + Wait + Sync>(rt: &R, text: &mut Vec<u8>) -> io::Result<()> {
     let cases = [
-        told(
+        outgoing(
             "an order",
             CHECK,
             &[
@@ -239,8 +239,8 @@ fn add_runs<R: Threads + Wait + Sync>(rt: &R, text: &mut Vec<u8>) -> io::Result<
                 ("order", &[FOURTH]),
             ],
         ),
-        told("a generated packet", WORK, &[]),
-        told(
+        outgoing("a generated packet", WORK, &[]),
+        outgoing(
             "a mouse",
             HOVER,
             &[("session", &[HALVES, ONE_HALF]), ("events", &[MOUSE])],
@@ -260,7 +260,7 @@ fn add_race<R: Threads + Wait + Sync>(rt: &R, text: &mut Vec<u8>) -> io::Result<
     let files: Files = &[("session", &[DISPLAY]), ("events", &[])];
     let race = Case {
         taken: 4096,
-        ..told("a race of nothing", RACE, files)
+        ..outgoing("a race of nothing", RACE, files)
     };
     add_case(rt, text, &race)
 }

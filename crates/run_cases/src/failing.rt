@@ -37,7 +37,7 @@ fn is_wanted(whole: &Ran, taken: usize, fault: Fault, ran: &Ran) -> bool
                 && is_front(&ran.out, &whole.out, taken, fault.number)
                 && ran.err.as_slice() == b"write failed\n".as_slice()
         }
-        Call::Tell => {
+        Call::Send => {
             ran.status == whole.status
                 && ran.out == whole.out
                 && is_front(&ran.err, &whole.err, taken, fault.number)
@@ -50,7 +50,7 @@ fn name_of(call: Call) -> &'static str {
     match call {
         Call::Read => "reads",
         Call::Write => "writes",
-        Call::Tell => "tellings",
+        Call::Send => "tellings",
     }
 }
 
@@ -70,11 +70,11 @@ fn add_again(text: &mut Vec<u8>, again: u64) -> Result<(), AllocError> {
     add_line(text, line.as_str())
 }
 
-/// Adds a text, of which a line that comes again and again is told once, and then how often more.
-fn add_told(text: &mut Vec<u8>, told: &[u8]) -> Result<(), AllocError> {
+/// Adds a text, of which a line that comes again and again is sent once, and then how often more.
+fn add_sent(text: &mut Vec<u8>, outgoing: &[u8]) -> Result<(), AllocError> {
     let mut last: &[u8] = &[];
     let mut again = 0u64;
-    for line in told.split_inclusive(|byte| *byte == b'\n') {
+    for line in outgoing.split_inclusive(|byte| *byte == b'\n') {
         if line == last {
             again = again.saturating_add(1);
         } else {
@@ -91,8 +91,8 @@ fn add_told(text: &mut Vec<u8>, told: &[u8]) -> Result<(), AllocError> {
 fn add_ran(text: &mut Vec<u8>, name: &str, ran: &Ran) -> Result<(), AllocError> {
     let line = format!(in *text.allocator(); "{name}: status {}", ran.status)?;
     add_line(text, line.as_str())?;
-    add_told(text, &ran.out)?;
-    add_told(text, &ran.err)
+    add_sent(text, &ran.out)?;
+    add_sent(text, &ran.err)
 }
 
 /// Makes each call of a kind fail in turn, and adds how many there were, or the first run that came to something else.

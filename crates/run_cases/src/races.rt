@@ -31,10 +31,10 @@ fn race<R: Threads + Wait + Sync, G: Gate + Sync>(
 
 /// The text of a race.
 fn text_of(ran: &Ran) -> io::Result<&str> {
-    let Ok(told) = str::from_utf8(&ran.out) else {
+    let Ok(outgoing) = str::from_utf8(&ran.out) else {
         return Err(ErrorKind::InvalidData.into());
     };
-    Ok(told)
+    Ok(outgoing)
 }
 
 /// Adds whether a gate made the lanes wait, and the status.
@@ -44,9 +44,9 @@ fn add_held(text: &mut Vec<u8>, name: &str, held: bool, ran: &Ran) -> Result<(),
 }
 
 /// Adds the first two lines of args and of steps.
-fn add_first(text: &mut Vec<u8>, told: &str) -> Result<(), AllocError> {
+fn add_first(text: &mut Vec<u8>, outgoing: &str) -> Result<(), AllocError> {
     let mut left = 2u8;
-    for line in told.lines() {
+    for line in outgoing.lines() {
         if 0 < left && (line == "r" || line.starts_with("s ")) {
             add_line(text, line)?;
             left -= 1;
@@ -56,8 +56,8 @@ fn add_first(text: &mut Vec<u8>, told: &str) -> Result<(), AllocError> {
 }
 
 /// Adds the lines that tell how many messages each channel was sent.
-fn add_ends(text: &mut Vec<u8>, told: &str) -> Result<(), AllocError> {
-    for line in told.lines() {
+fn add_ends(text: &mut Vec<u8>, outgoing: &str) -> Result<(), AllocError> {
+    for line in outgoing.lines() {
         if line.starts_with("end ") {
             add_line(text, line)?;
         }
@@ -83,14 +83,14 @@ fn add_reader_first<R: Threads + Wait + Sync>(rt: &R, text: &mut Vec<u8>) -> io:
 }
 
 /// Adds a race in which the reader is held until the script has made two steps. So all args find windows, whose
-/// applications are told all there is.
+/// applications are sent all there is.
 fn add_script_first<R: Threads + Wait + Sync>(rt: &R, text: &mut Vec<u8>) -> io::Result<()> {
     let gate = Until::new(Place { lane: 0, turn: 0 }, Place { lane: 2, turn: 2 });
     let ran = race(rt, *text.allocator(), &gate)?;
     add_held(text, "the reader waits for two steps", gate.held(), &ran)?;
-    let told = text_of(&ran)?;
-    add_first(text, told)?;
-    add_ends(text, told)?;
+    let outgoing = text_of(&ran)?;
+    add_first(text, outgoing)?;
+    add_ends(text, outgoing)?;
     Ok(())
 }
 

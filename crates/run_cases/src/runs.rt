@@ -40,7 +40,7 @@ impl<'a> Case<'a> {
 pub(crate) enum Call {
     Read,
     Write,
-    Tell,
+    Send,
 }
 
 /// The one call that fails: the first of its kind has number 1.
@@ -130,7 +130,7 @@ fn made_for(alloc: Global, case: &Case, piece: usize, fault: Option<Fault>) -> i
         err: MemSink::new(
             zeros(alloc, room)?,
             taken,
-            listed(alloc, fault, Call::Tell)?,
+            listed(alloc, fault, Call::Send)?,
         ),
     })
 }

@@ -6,7 +6,7 @@ use Rattle.dispatch_calls.specs.declared.call.Call.{Call}
 use Rattle.dispatch_calls.specs.declared.call.Call.TheVariants.{Open, Windows, FocusOn, Notify, Pump, Tick, Receive, Finish, Pilfer, Remove}
 use Rattle.dispatch_calls.specs.declared.reply.Reply.{Reply}
 use Rattle.dispatch_calls.specs.declared.reply.Reply.TheVariants.{Opened}
-use Rattle.dispatch_history.specs.Effect.{Effect, past_of, stream, told_to}
+use Rattle.dispatch_history.specs.Effect.{Effect, past_of, stream, sent_to}
 use Rattle.dispatch_history.specs.Effects.{channels, effect_of}
 use Rattle.dispatch_history.specs.History.{clock, opened, opened_after}
 use Rattle.dispatch_history.specs.Legal.{answered}
@@ -14,7 +14,7 @@ use Rattle.dispatch_history.specs.Reply.{reply_to}
 use Rattle.dispatch_history.specs.Queue.{args_of, inbound}
 use Rattle.dispatch_history.specs.Plan.{Plan}
 use Rattle.dispatch_history.specs.Ordered.{Candidate, chosen, extend, receives, round, Rounds, rounds_with, rounds, ordered, Ordered}
-use Rattle.dispatch_tables.proofs.Numbering.{length-told_on}
+use Rattle.dispatch_tables.proofs.Numbering.{length-sent_on}
 use Rattle.schedule.specs.Run.{messages_in}
 use Rattle.run_laws.specs.Laws.{OneOutcome}
 use Rattle.dispatch_history.proofs.OrderedLaws.{reached, stays}
@@ -50,7 +50,7 @@ then es fs gs g h =
     }
 
 one_step : (x : Effect) (es : List Effect) (c : ℕ) → length (stream es c) ≤ length (stream (x ∷ es) c)
-one_step x es c = omega (arith, length-told_on (clock x.past) (told_to x.told c) (stream es c))
+one_step x es c = omega (arith, length-sent_on (clock x.past) (sent_to x.outgoing c) (stream es c))
 
 one_call : (ds : List ℕ) (es : List Effect) (call : Call) → Grown es (answered ds call es)
 one_call ds es call =

@@ -6,7 +6,7 @@ use Rattle.input_types.specs.declared.message.Message.{Message}
 use Rattle.window_snapshot.specs.Window.{is_spy}
 use Rattle.routing_rules.specs.Pairs.{has_any}
 use Rattle.routing_rules.specs.Marks.{held}
-use Rattle.dispatch_history.specs.KeyTold.{repeat_due}
+use Rattle.dispatch_history.specs.KeySent.{repeat_due}
 use Rattle.dispatch_history.specs.Step.{marks}
 use Rattle.std.proofs.lemmas.Bool.{true≢false, eq-eqb}
 use Rattle.std.proofs.lemmas.List.{reverse-append, map-append}

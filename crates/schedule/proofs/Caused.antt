@@ -8,19 +8,19 @@ use Rattle.dispatch_history.specs.Effect.{Effect, past_of}
 use Rattle.dispatch_history.specs.Effects.{effect_of, step}
 use Rattle.dispatch_history.specs.Queue.{args_of, inbound}
 use Rattle.why_text.specs.Text.{why_text}
-use Rattle.why_text.proofs.RestLaws.{silent_law}
+use Rattle.why_text.proofs.NoOpLaws.{silent_law}
 use Rattle.schedule.specs.declared.keeping.Lines.{Lines}
 use Rattle.schedule.specs.declared.keeping.Lines.TheVariants.{Kept, Counted, Causes}
 use Rattle.dispatcher.specs.Dispatching.{Dispatching, IsAfter}
-use Rattle.why_lines.specs.Telling.{TellsAfter}
-use Rattle.schedule.specs.Causes.{Applies, and_more, causes_of, told_of}
+use Rattle.why_lines.specs.Explaining.{ExplainsAfter}
+use Rattle.schedule.specs.Causes.{Applies, and_more, causes_of, sent_of}
 
 -- those of the step come behind those before
 pub causes_next : (how : Lines) (ds : List ℕ) (call : Call) (answer : Reply) (es : List Effect) (old new : Option (List ℕ)) → old ≡ causes_of how ds es
-    → new ≡ and_more (told_of ds call answer es) old → new ≡ causes_of how ds (step ds call answer es)
-causes_next how ds call answer es old new before more = more ∙ ap (and_more (told_of ds call answer es)) before ∙ by_way how
+    → new ≡ and_more (sent_of ds call answer es) old → new ≡ causes_of how ds (step ds call answer es)
+causes_next how ds call answer es old new before more = more ∙ ap (and_more (sent_of ds call answer es)) before ∙ by_way how
   where
-    by_way : (h : Lines) → and_more (told_of ds call answer es) (causes_of h ds es) ≡ causes_of h ds (step ds call answer es)
+    by_way : (h : Lines) → and_more (sent_of ds call answer es) (causes_of h ds es) ≡ causes_of h ds (step ds call answer es)
     by_way Kept = refl
     by_way Counted = refl
     by_way Causes = refl
@@ -33,9 +33,9 @@ causes_stay Causes ds c answer es =
     let x = effect_of ds (Receive c) answer (args_of (Receive c) answer (inbound (past_of es))) es in
     ap Some (sym (append-nil (why_text ds es)) ∙ ap (λ more. why_text ds es ++ more) (sym (silent_law ds x es (Receive c) answer refl refl)))
 
--- a call that was told
-pub applies_told : (call : Call) (es : List Effect) (ds old new : List ℕ) (d : Dispatching) → TellsAfter call es ds old new d → Applies call es ds (Some old) (Some new) d
-applies_told call es ds old new d t = record { answer = t.answer; stands = t.stands; causes = ap (λ text. Some text) t.text_is }
+-- a call that was sent
+pub applies_sent : (call : Call) (es : List Effect) (ds old new : List ℕ) (d : Dispatching) → ExplainsAfter call es ds old new d → Applies call es ds (Some old) (Some new) d
+applies_sent call es ds old new d t = record { answer = t.answer; stands = t.stands; causes = ap (λ text. Some text) t.text_is }
 
 -- a call of a run that tells no causes
 pub applies_alone : (call : Call) (es : List Effect) (ds : List ℕ) (d : Dispatching) → (answer : Reply) × IsAfter (step ds call answer es) d

@@ -7,7 +7,7 @@ use Rattle.input_types.specs.declared.message.Args.{Args}
 use Rattle.dispatch_history.specs.History.{moment_of}
 use Rattle.dispatch_history.specs.Queue.{inbound}
 use Rattle.dispatch_history.specs.Effect.{Effect, past_of}
-use Rattle.dispatch_history.specs.KeyTold.{repeat_due}
+use Rattle.dispatch_history.specs.KeySent.{repeat_due}
 use Rattle.dispatch_history.specs.Due.{Due, first_due}
 use Rattle.dispatch_history.specs.Plan.{Plan, ScriptStep}
 use Rattle.dispatch_history.specs.Ordered.{Candidate, sooner_of, soonest, all_finishes, due_tick, due_repeat, next_step, scripted}

@@ -9,7 +9,7 @@ use Rattle.dispatch_history.specs.Effects.{channels}
 use Rattle.dispatch_history.specs.History.{History, live, received, moment_of}
 use Rattle.dispatch_history.specs.Delivery.{is_finished}
 use Rattle.dispatch_history.specs.Due.{Due, first_due}
-use Rattle.dispatch_history.specs.KeyTold.{repeat_due}
+use Rattle.dispatch_history.specs.KeySent.{repeat_due}
 use Rattle.dispatch_history.specs.Ordered.{Candidate, notified, sooner_of, soonest, finishes_of, all_finishes, due_tick, due_repeat, next_step, next_cooked, candidates, received_at, scripted}
 use Rattle.dispatch_history.specs.Plan.{Plan, ChannelOf, Cooked, ScriptStep}
 use Rattle.dispatch_history.specs.Queue.{inbound}

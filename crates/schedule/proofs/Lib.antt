@@ -5,8 +5,8 @@ pub mod More
 pub mod Finishes
 pub mod Opening
 pub mod Rounds
-pub mod Heard
-pub mod Letting
+pub mod Drained
+pub mod Releases
 pub mod Caused
 pub mod Stepping
 pub mod Taking

@@ -10,7 +10,7 @@ use Rattle.dispatch_history.specs.Ordered.{extend}
 use Rattle.dispatcher.specs.Dispatching.{Dispatching, IsAfter}
 use Rattle.dispatch_tables.specs.Lawful.{Lawful}
 use Rattle.dispatch_tables.proofs.Lawfuls.{lawful_last}
-use Rattle.why_lines.specs.Telling.{MayMake}
+use Rattle.why_lines.specs.Explaining.{MayMake}
 use Rattle.schedule.specs.More.{ComesTo}
 use Rattle.schedule.proofs.Receiving.{extend_append}
 

@@ -7,7 +7,7 @@ use Rattle.dispatch_calls.specs.declared.call.Call.TheVariants.{Finish, Receive}
 use Rattle.dispatch_calls.specs.declared.reply.Reply.{Reply}
 use Rattle.dispatch_calls.specs.declared.reply.Reply.TheVariants.{Done}
 use Rattle.dispatch_history.specs.History.{History, clock, live, opened, received, finished}
-use Rattle.dispatch_history.specs.Effect.{Effect, past_of, stream, told_on}
+use Rattle.dispatch_history.specs.Effect.{Effect, past_of, stream, sent_on}
 use Rattle.dispatch_history.specs.Delivery.{published}
 use Rattle.dispatch_history.specs.Legal.{answered}
 use Rattle.dispatch_history.specs.Ordered.{extend, received_all}
@@ -55,10 +55,10 @@ module _ (ds : List ℕ) (es : List Effect) (t c seq : ℕ) (l : Lawful ds es) w
   stream_same : (d : ℕ) → stream (answered ds (Finish t c seq) es) d ≡ stream es d
   stream_same d =
       (stepped ds (Finish t c seq) (reply_to es (Finish t c seq)) es d lawful_mid (sound ds es d l)).stream_is
-      ∙ ap told (silent_calls ds (Finish t c seq) (reply_to es (Finish t c seq)) es d refl)
+      ∙ ap outgoing (silent_calls ds (Finish t c seq) (reply_to es (Finish t c seq)) es d refl)
     where
-      told : List Body → List Message
-      told bs = told_on (clock (past_of (answered ds (Finish t c seq) es))) bs (stream es d)
+      outgoing : List Body → List Message
+      outgoing bs = sent_on (clock (past_of (answered ds (Finish t c seq) es))) bs (stream es d)
 
   published_same : (d : ℕ) → (d ≡ c → ⊥) → published (answered ds (Finish t c seq) es) d ≡ published es d
   published_same d ne =

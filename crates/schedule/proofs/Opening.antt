@@ -1,4 +1,4 @@
--- After channels were opened nobody was told anything.
+-- After channels were opened nobody was sent anything.
 use Rattle.std.proofs.Common.{◌≡◌, ℕ, suc, ◌+◌, ◌<◌, ◌≤◌, min, nat_lt, not, Bool, true, false, cond, List, [], ◌∷◌, ◌++◌, length, map, filter, None, refl, sym, ap, ap₂, ◌∙◌, subst, arith}
 use Rattle.std.proofs.lemmas.Bool.Decides.{nat_tests}
 use Rattle.input_types.specs.declared.key.KeyArgs.{KeyArgs}
@@ -8,12 +8,12 @@ use Rattle.input_types.specs.declared.message.Message.{Message}
 use Rattle.dispatch_calls.specs.declared.call.Call.TheVariants.{Open}
 use Rattle.dispatch_calls.specs.declared.reply.Reply.{Reply}
 use Rattle.dispatch_history.specs.History.{History, clock, live, opened, received, finished}
-use Rattle.dispatch_history.specs.Effect.{Effect, past_of, stream, told_on}
+use Rattle.dispatch_history.specs.Effect.{Effect, past_of, stream, sent_on}
 use Rattle.dispatch_history.specs.Effects.{step, said_at}
 use Rattle.dispatch_history.specs.Delivery.{published}
 use Rattle.dispatch_history.specs.Focus.{requested, has_focus}
 use Rattle.dispatch_history.specs.Keys.{keys, ends, loses_all}
-use Rattle.dispatch_history.specs.KeyTold.{key_cancelled}
+use Rattle.dispatch_history.specs.KeySent.{key_cancelled}
 use Rattle.dispatch_history.specs.Legal.{answered}
 use Rattle.dispatch_history.specs.Reply.{open_reply}
 use Rattle.dispatch_history.specs.Plan.{Plan, ChannelOf}
@@ -70,7 +70,7 @@ fresh_step ds es n limit h lt =
       no_stream =
           λ c.
           (stepped ds (Open limit) (open_reply (opened (past_of es))) es c l (sound ds es c h.lawful)).stream_is
-          ∙ ap₂ (λ (bs : List Body) (ms : List Message). told_on (clock (past_of (answered ds (Open limit) es))) bs ms) (nothing_said ds es n limit c (open_reply (opened (past_of es))) h) (h.no_stream c);
+          ∙ ap₂ (λ (bs : List Body) (ms : List Message). sent_on (clock (past_of (answered ds (Open limit) es))) bs ms) (nothing_said ds es n limit c (open_reply (opened (past_of es))) h) (h.no_stream c);
       none_received = h.none_received;
       none_scripted = omega (arith, h.none_scripted);
       none_notified = omega (arith, h.none_notified);

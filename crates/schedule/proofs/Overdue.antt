@@ -98,7 +98,7 @@ module _ (t : ℕ) (es : List Effect) (h : Caught es) where
   late_all c (p ∷ ps) timely =
       both_late t (finishes_of (past_of es) c p) (all_finishes (past_of es) (c + 1) ps) (late_one c p timely.0) (late_all (c + 1) ps timely.1)
 
--- before anyone was told anything nothing is to be finished
+-- before anyone was sent anything nothing is to be finished
 fresh_timely : (ds : List ℕ) (t : ℕ) (es : List Effect) (n c : ℕ) (ps : List ChannelOf) → Fresh ds es n → AllTimely t es c ps
 fresh_timely ds t es n c [] h = tt
 fresh_timely ds t es n c (p ∷ ps) h = (λ y f k low high undone. absurd (omega (arith, low, high, none)), fresh_timely ds t es n (c + 1) ps h)

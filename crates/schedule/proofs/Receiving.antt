@@ -12,7 +12,7 @@ use Rattle.dispatch_calls.specs.declared.call.Call.TheVariants.{Receive}
 use Rattle.dispatch_calls.specs.declared.reply.Reply.{Reply}
 use Rattle.dispatch_calls.specs.declared.reply.Reply.TheVariants.{Got}
 use Rattle.dispatch_history.specs.History.{clock, live, opened, received, finished}
-use Rattle.dispatch_history.specs.Effect.{Effect, past_of, stream, told_on}
+use Rattle.dispatch_history.specs.Effect.{Effect, past_of, stream, sent_on}
 use Rattle.dispatch_history.specs.Effects.{step, channels}
 use Rattle.dispatch_history.specs.Delivery.{published}
 use Rattle.dispatch_history.specs.Legal.{answered}
@@ -72,15 +72,15 @@ one_later ds es c l =
       stream_is =
           λ d.
           (stepped ds (Receive c) (receive_reply es c) es d lawful (sound ds es d l)).stream_is
-          ∙ ap (λ bs. told bs d) (silent_calls ds (Receive c) (receive_reply es c) es d refl);
+          ∙ ap (λ bs. outgoing bs d) (silent_calls ds (Receive c) (receive_reply es c) es d refl);
       finished_is = λ d. refl;
       scripted_is = omega arith;
       notified_is = omega arith;
       behind = λ d b. behind_step ds (Receive c) (receive_reply es c) es d lawful b (inr (omega arith));
     }
   where
-    told : List Body → ℕ → List Message
-    told bs d = told_on (clock (past_of (step ds (Receive c) (receive_reply es c) es))) bs (stream es d)
+    outgoing : List Body → ℕ → List Message
+    outgoing bs d = sent_on (clock (past_of (step ds (Receive c) (receive_reply es c) es))) bs (stream es d)
 
 -- a list has an element at each place below its length
 some_at : (i : ℕ) (ms : List Message) → i < length ms → (m : Message) × (slice_get ms i ≡ Some m)

@@ -14,7 +14,7 @@ pub lines_taken : {plan : Plan} {es : List Effect} {s : ScheduleState} (c : ℕ)
     → is_opened es c ≡ true → c ≤ length plan.channels → (1 ≤ c → lines ≡ lines_at s.lines c) → lines ≡ lines_first es c (gone s.dispatcher c)
 lines_taken {es = es} c lines r there_is within taken =
     let at = opened_bounds es c there_is in
-    taken at.0 ∙ r.heard c at.0 (omega arith) (omega (arith, within, r.as_many))
+    taken at.0 ∙ r.drained c at.0 (omega arith) (omega (arith, within, r.as_many))
 
 -- the first part of a section was appended
 pub first_part : (text now section part rest : List ℕ) → now ≡ text ++ part → section ≡ part ++ rest → WithFront text now section

@@ -9,18 +9,18 @@ use Rattle.dispatch_history.specs.Effects.{step}
 use Rattle.dispatch_history.specs.Legal.{answered}
 use Rattle.dispatch_history.specs.Plan.{Plan}
 use Rattle.dispatch_history.specs.Ordered.{is_scripted, scripted}
-use Rattle.dispatcher.specs.Access.{gone, namings_gone}
+use Rattle.dispatcher.specs.Access.{gone, anrs_released}
 use Rattle.dispatcher.specs.Dispatching.{Dispatching, IsAfter}
 use Rattle.dispatch_tables.specs.Lawful.{Lawful}
 use Rattle.dispatch_tables.proofs.Lawfuls.{lawful_last}
 use Rattle.schedule.specs.declared.keeping.Lines.{Lines}
-use Rattle.schedule.specs.Causes.{Applies, and_more, told_of}
+use Rattle.schedule.specs.Causes.{Applies, and_more, sent_of}
 use Rattle.schedule.specs.Kinds.{is_receiving}
-use Rattle.schedule.specs.Lines.{Heard, lines_first}
+use Rattle.schedule.specs.Lines.{Drained, lines_first}
 use Rattle.schedule.specs.State.{ScheduleState, HasWith, counted}
 use Rattle.schedule.proofs.Caused.{causes_next, causes_stay}
-use Rattle.schedule.proofs.Heard.{first_stays}
-use Rattle.schedule.proofs.Letting.{gone_few}
+use Rattle.schedule.proofs.Drained.{first_stays}
+use Rattle.schedule.proofs.Releases.{gone_few}
 
 -- the effects are lawful for the displays of the plan
 pub lawful_of : (how : Lines) (plan : Plan) (es : List Effect) (s : ScheduleState) → HasWith how plan es s → Lawful plan.displays es
@@ -38,13 +38,13 @@ one_more : (n k : ℕ) → k ≡ counted n → counted (k + 1) ≡ counted (suc 
 one_more n k e = omega (arith, e)
 
 module _ (how : Lines) (plan : Plan) (es : List Effect) (s t : ScheduleState) (h : HasWith how plan es s) (same : t.dispatcher.displays ≡ s.dispatcher.displays)
-    (kept : (c : ℕ) → 1 ≤ c → gone t.dispatcher c ≡ gone s.dispatcher c) (named : namings_gone t.dispatcher ≡ namings_gone s.dispatcher) where
-  heard_on : (call : Call) (answer : Reply) → Lawful plan.displays (step plan.displays call answer es) → t.lines ≡ s.lines
-      → Heard (step plan.displays call answer es) t.dispatcher t.lines
-  heard_on call answer l lines =
-      subst (Heard (step plan.displays call answer es) t.dispatcher) (sym lines)
+    (kept : (c : ℕ) → 1 ≤ c → gone t.dispatcher c ≡ gone s.dispatcher c) (named : anrs_released t.dispatcher ≡ anrs_released s.dispatcher) where
+  drained_on : (call : Call) (answer : Reply) → Lawful plan.displays (step plan.displays call answer es) → t.lines ≡ s.lines
+      → Drained (step plan.displays call answer es) t.dispatcher t.lines
+  drained_on call answer l lines =
+      subst (Drained (step plan.displays call answer es) t.dispatcher) (sym lines)
       (λ c low high.
-      h.heard c low high
+      h.drained c low high
       ∙ sym (first_stays plan.displays call answer es c (gone s.dispatcher c) l (gone_few es s.dispatcher c h.stands low))
       ∙ ap (λ n. lines_first (step plan.displays call answer es) c n) (sym (kept c low)))
 
@@ -54,7 +54,7 @@ module _ (how : Lines) (plan : Plan) (es : List Effect) (s t : ScheduleState) (h
   has_step call applies never lines next calls =
       let answer = applies.answer in
       let stands = applies.stands in
-      let causes = subst (λ ds. t.causes ≡ and_more (told_of ds call answer es) s.causes) h.displays_are applies.causes in
+      let causes = subst (λ ds. t.causes ≡ and_more (sent_of ds call answer es) s.causes) h.displays_are applies.causes in
       let there : IsAfter (step plan.displays call answer es) t.dispatcher = stands_plan how plan call answer es s t.dispatcher h stands in
       let l : Lawful plan.displays (step plan.displays call answer es) = lawful_plan plan (step plan.displays call answer es) t.dispatcher (same ∙ h.displays_are) there in
       subst (λ a. HasWith how plan (step plan.displays call a es) t) (lawful_last plan.displays call answer es l).0
@@ -62,7 +62,7 @@ module _ (how : Lines) (plan : Plan) (es : List Effect) (s t : ScheduleState) (h
         stands = there;
         displays_are = same ∙ h.displays_are;
         noted = named ∙ h.noted;
-        heard = heard_on call answer l lines;
+        drained = drained_on call answer l lines;
         as_many = ap length lines ∙ h.as_many;
         causes_are = causes_next how plan.displays call answer es s.causes t.causes h.causes_are causes;
         next_is = next;
@@ -80,7 +80,7 @@ module _ (how : Lines) (plan : Plan) (es : List Effect) (s t : ScheduleState) (h
         stands = there;
         displays_are = same ∙ h.displays_are;
         noted = named ∙ h.noted;
-        heard = heard_on (Receive c) answer l lines;
+        drained = drained_on (Receive c) answer l lines;
         as_many = ap length lines ∙ h.as_many;
         causes_are = causes ∙ h.causes_are ∙ causes_stay how plan.displays c answer es;
         next_is = next ∙ h.next_is ∙ omega arith;

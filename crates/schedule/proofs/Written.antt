@@ -3,10 +3,10 @@ use Rattle.std.proofs.Common.{◌≡◌, ℕ, ◌+◌, ◌<◌, List, [], ◌∷
 use Rattle.std.proofs.Math.Seq.{take-append_seam}
 use Rattle.std.proofs.lemmas.List.{take-append-drop}
 use Rattle.input_types.specs.declared.message.Message.{Message}
-use Rattle.dispatch_calls.specs.declared.counts.Naming.{Naming}
-use Rattle.stream_text.specs.Spelling.{message_line, message_lines, naming_line}
-use Rattle.stream_text.specs.StreamsHistory.{naming_lines}
-use Rattle.schedule.proofs.Heard.{lines_next}
+use Rattle.dispatch_calls.specs.declared.counts.Anr.{Anr}
+use Rattle.stream_text.specs.Spelling.{message_line, message_lines, anr_line}
+use Rattle.stream_text.specs.StreamsHistory.{anr_lines}
+use Rattle.schedule.proofs.Drained.{lines_next}
 
 pub lines_append : (ms ns : List Message) → message_lines (ms ++ ns) ≡ message_lines ms ++ message_lines ns
 lines_append [] ns = refl
@@ -28,20 +28,20 @@ message_more text before now ms i m within is so_far one =
     ∙ append_assoc text (message_lines (take i ms)) (message_line m)
     ∙ ap (λ ls. text ++ ls) (sym (lines_next (take i ms) m) ∙ ap message_lines (sym (next_of_take ms i m within is)))
 
-names_next : (ns : List Naming) (n : Naming) → naming_lines (ns ++ n ∷ []) ≡ naming_lines ns ++ naming_line n.clock n.channel n.seq
-names_next [] n = append-nil (naming_line n.clock n.channel n.seq)
+names_next : (ns : List Anr) (n : Anr) → anr_lines (ns ++ n ∷ []) ≡ anr_lines ns ++ anr_line n.clock n.channel n.seq
+names_next [] n = append-nil (anr_line n.clock n.channel n.seq)
 names_next (x ∷ xs) n =
-    ap (λ ls. naming_line x.clock x.channel x.seq ++ ls) (names_next xs n)
-    ∙ sym (append_assoc (naming_line x.clock x.channel x.seq) (naming_lines xs) (naming_line n.clock n.channel n.seq))
+    ap (λ ls. anr_line x.clock x.channel x.seq ++ ls) (names_next xs n)
+    ∙ sym (append_assoc (anr_line x.clock x.channel x.seq) (anr_lines xs) (anr_line n.clock n.channel n.seq))
 
 -- one naming more
-pub naming_more : (text before now : List ℕ) (ns : List Naming) (i : ℕ) (n : Naming) → i < length ns → n ≡ get_or ns i n
-    → before ≡ text ++ naming_lines (take i ns) → now ≡ before ++ naming_line n.clock n.channel n.seq → now ≡ text ++ naming_lines (take (i + 1) ns)
-naming_more text before now ns i n within is so_far one =
+pub anr_more : (text before now : List ℕ) (ns : List Anr) (i : ℕ) (n : Anr) → i < length ns → n ≡ get_or ns i n
+    → before ≡ text ++ anr_lines (take i ns) → now ≡ before ++ anr_line n.clock n.channel n.seq → now ≡ text ++ anr_lines (take (i + 1) ns)
+anr_more text before now ns i n within is so_far one =
     one
-    ∙ ap (λ ls. ls ++ naming_line n.clock n.channel n.seq) so_far
-    ∙ append_assoc text (naming_lines (take i ns)) (naming_line n.clock n.channel n.seq)
-    ∙ ap (λ ls. text ++ ls) (sym (names_next (take i ns) n) ∙ ap naming_lines (sym (next_of_take ns i n within is)))
+    ∙ ap (λ ls. ls ++ anr_line n.clock n.channel n.seq) so_far
+    ∙ append_assoc text (anr_lines (take i ns)) (anr_line n.clock n.channel n.seq)
+    ∙ ap (λ ls. text ++ ls) (sym (names_next (take i ns) n) ∙ ap anr_lines (sym (next_of_take ns i n within is)))
 
 -- a section, part by part
 pub section_is : (text t1 t2 t3 t4 head lines left all end : List ℕ) → t1 ≡ text ++ head → t2 ≡ t1 ++ lines → t3 ≡ t2 ++ left → t4 ≡ t3 ++ end → lines ++ left ≡ all

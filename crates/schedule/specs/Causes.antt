@@ -1,4 +1,4 @@
--- The causes of the calls of a run, as far as they are told.
+-- The causes of the calls of a run, as far as they are sent.
 use Rattle.std.specs.Prelude.{◌≡◌, ℕ, List, ◌++◌, Option, Some, None, option_map}
 use Rattle.dispatch_calls.specs.declared.call.Call.{Call}
 use Rattle.dispatch_calls.specs.declared.reply.Reply.{Reply}
@@ -21,11 +21,11 @@ abbrev pub and_more : List ℕ → Option (List ℕ) → Option (List ℕ)
 and_more more text = option_map (λ t. t ++ more) text
 
 -- the text of a step with this call and reply
-abbrev pub told_of : (displays : List ℕ) → Call → Reply → List Effect → List ℕ
-told_of displays call answer es = step_text displays (effect_of displays call answer (args_of call answer (inbound (past_of es))) es) es
+abbrev pub sent_of : (displays : List ℕ) → Call → Reply → List Effect → List ℕ
+sent_of displays call answer es = step_text displays (effect_of displays call answer (args_of call answer (inbound (past_of es))) es) es
 
 -- A call is answered: the dispatcher is as after one step more, and where there is a text of causes, just that of the step is put behind it.
 pub record Applies (call : Call) (es : List Effect) (displays : List ℕ) (old new : Option (List ℕ)) (d : Dispatching) : Type 0 where
   pub answer : Reply
   pub stands : IsAfter (step displays call answer es) d
-  pub causes : new ≡ and_more (told_of displays call answer es) old
+  pub causes : new ≡ and_more (sent_of displays call answer es) old

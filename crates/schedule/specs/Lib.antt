@@ -10,7 +10,7 @@ pub mod DueView
 pub mod Receives
 pub mod Kinds
 pub mod Choosing
-pub mod Hearing
+pub mod Draining
 pub mod Handing
 pub mod Ends
 pub mod Laws

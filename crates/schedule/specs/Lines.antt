@@ -1,4 +1,4 @@
--- The lines of what each channel was told, as far as they are kept.
+-- The lines of what each channel was sent, as far as they are kept.
 use Rattle.std.specs.Prelude.{◌≡◌, ℕ, ◌-◌, ◌≤◌, List, [], length, reverse, take, slice_index_or}
 use Rattle.dispatch_history.specs.Effect.{Effect, stream}
 use Rattle.dispatcher.specs.Access.{gone}
@@ -22,5 +22,5 @@ abbrev pub lines_first : List Effect → (channel count : ℕ) → List ℕ
 lines_first es c n = message_lines (take n (reverse (stream es c)))
 
 -- of each channel the lines of what the dispatcher let go, whether its owner received that or not
-abbrev pub Heard : List Effect → Dispatching → List (List ℕ) → Type 0
-Heard es d lines = (c : ℕ) → 1 ≤ c → c ≤ length lines → lines_at lines c ≡ lines_first es c (gone d c)
+abbrev pub Drained : List Effect → Dispatching → List (List ℕ) → Type 0
+Drained es d lines = (c : ℕ) → 1 ≤ c → c ≤ length lines → lines_at lines c ≡ lines_first es c (gone d c)

@@ -5,7 +5,7 @@ use Rattle.dispatch_history.specs.History.{live}
 use Rattle.dispatch_history.specs.Queue.{inbound}
 use Rattle.dispatch_history.specs.Effect.{Effect, past_of}
 use Rattle.dispatch_history.specs.Delivery.{delivery, oldest}
-use Rattle.dispatch_history.specs.KeyTold.{repeat_due}
+use Rattle.dispatch_history.specs.KeySent.{repeat_due}
 use Rattle.dispatch_history.specs.Due.{first_due}
 use Rattle.dispatch_history.specs.Plan.{Plan, ChannelOf}
 use Rattle.schedule.specs.declared.plan.Channel.{Channel}

@@ -16,7 +16,7 @@ end_of c k = end_line c k.sent k.received k.finished
 -- It is as after these effects, but for the lines of the channels below channel k, which were taken out.
 pub record Prints (plan : Plan) (es : List Effect) (k : ℕ) (s : ScheduleState) : Type 0 where
   pub stands : IsAfter es s.dispatcher
-  pub heard : (c : ℕ) → 1 ≤ c → k ≤ c → c ≤ length s.lines → lines_at s.lines c ≡ lines_first es c (gone s.dispatcher c)
+  pub drained : (c : ℕ) → 1 ≤ c → k ≤ c → c ≤ length s.lines → lines_at s.lines c ≡ lines_first es c (gone s.dispatcher c)
   pub as_many : length s.lines ≡ length plan.channels
 
 -- a text with a front part of a section more

@@ -9,7 +9,7 @@ use Rattle.dispatch_history.specs.Plan.{Plan, Cooked}
 abbrev pub with_cooked : Plan → List Cooked → Plan
 with_cooked plan cooked = record plan { cooked = cooked }
 
--- how many messages all channels were told together
+-- how many messages all channels were sent together
 abbrev pub messages_in : List Effect → ℕ
 messages_in es = sum_by (λ c. length (stream es c)) (channels (opened (past_of es)))
 

@@ -5,15 +5,15 @@ use Rattle.dispatch_history.specs.Effect.{Effect, past_of}
 use Rattle.dispatch_history.specs.Delivery.{published, delivery}
 use Rattle.dispatch_history.specs.Plan.{Plan, Cooked}
 use Rattle.dispatch_history.specs.Ordered.{Rounds, Ordered, received_at, scripted, notified}
-use Rattle.dispatcher.specs.Access.{namings_gone}
+use Rattle.dispatcher.specs.Access.{anrs_released}
 use Rattle.dispatcher.specs.Dispatching.{Dispatching, IsAfter}
 use Rattle.schedule.specs.declared.keeping.Lines.{Lines}
 use Rattle.schedule.specs.declared.keeping.Lines.TheVariants.{Kept}
 use Rattle.schedule.specs.Causes.{causes_of}
-use Rattle.schedule.specs.Lines.{Heard, texts}
+use Rattle.schedule.specs.Lines.{Drained, texts}
 use Rattle.schedule.specs.Run.{with_cooked, messages_in, IsWithin}
 
--- a run: the dispatcher, the lines of what each channel was told and let go, the causes of the calls where they are told, how many steps were
+-- a run: the dispatcher, the lines of what each channel was sent and let go, the causes of the calls where they are sent, how many steps were
 -- made, how many calls, how many messages there are, and the latest moment of args
 pub record ScheduleState : Type 0 where
   pub dispatcher : Dispatching
@@ -37,8 +37,8 @@ is_over s = nat_lt 4000000 s.calls || nat_lt 4000000 s.messages
 pub record HasWith (how : Lines) (plan : Plan) (es : List Effect) (s : ScheduleState) : Type 0 where
   pub stands : IsAfter es s.dispatcher
   pub displays_are : s.dispatcher.displays ≡ plan.displays
-  pub noted : namings_gone s.dispatcher ≡ 0
-  pub heard : Heard es s.dispatcher s.lines
+  pub noted : anrs_released s.dispatcher ≡ 0
+  pub drained : Drained es s.dispatcher s.lines
   pub as_many : length s.lines ≡ texts how (length plan.channels)
   pub causes_are : s.causes ≡ causes_of how plan.displays es
   pub next_is : s.next ≡ scripted (past_of es)

@@ -1,4 +1,4 @@
-//! The calls of which a run has the most. Where no causes are told, none of them is put together.
+//! The calls of which a run has the most. Where no causes are sent, none of them is put together.
 ghost use Rattle.std.specs.Prelude.{◌≡◌, ◌+◌, ◌-◌, List, OnOk};
 ghost use Rattle.dispatch_calls.specs.declared.call.Call.{Call as CallView};
 ghost use Rattle.dispatch_history.specs.Effect.{Effect};

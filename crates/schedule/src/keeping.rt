@@ -27,7 +27,7 @@ impl Lines {
         }
     }
 
-    /// The text of the causes before the first call, where they are told.
+    /// The text of the causes before the first call, where they are sent.
     pub(crate) fn causes(self, alloc: Global) -> Option<Vec<u8>>
         ensures { (displays : List ℕ) → option_map (λ v. v.items) result ≡ causes_of self displays [] }
     {

@@ -28,8 +28,8 @@
 mod advance;
 mod choose;
 mod direct;
+mod draining;
 mod due;
-mod hearing;
 mod keeping;
 pub mod laws;
 mod open;
@@ -43,4 +43,4 @@ mod text;
 pub use keeping::Lines;
 pub use plan::{Channel, Plan, Step};
 pub use schedule::Schedule;
-pub use text::add_all_namings;
+pub use text::add_all_anrs;

@@ -1,4 +1,4 @@
-//! The streams text of a run in pieces: the lines of what channels were told are moved out of the run, and not copied.
+//! The streams text of a run in pieces: the lines of what channels were sent are moved out of the run, and not copied.
 ghost use Rattle.std.specs.Prelude.{◌≡◌, ◌≢◌, ◌≤◌, ◌+◌, ◌++◌, ℕ, true, List, drop, IfOk, OnErr, OnOk, reverse, length};
 ghost use Rattle.std.specs.Option.{unwrap_or};
 ghost use Rattle.dispatcher.specs.Access.{gone, is_opened};
@@ -68,7 +68,7 @@ fn add_end(dispatcher: &Dispatcher, channel: u32, text: &mut Vec<u8>) -> Result<
 }
 
 impl Schedule {
-    /// Takes out the section of a channel with this name: what it was told, and how far its owner has come. After want
+    /// Takes out the section of a channel with this name: what it was sent, and how far its owner has come. After want
     /// of memory a front part of the section is behind the text, and the run may have lost the lines of this channel.
     pub fn take_section(
         &mut self,

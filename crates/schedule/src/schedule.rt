@@ -5,7 +5,7 @@ ghost use Rattle.dispatch_history.specs.Effect.{Effect, past_of, stream};
 ghost use Rattle.dispatch_history.specs.Legal.{answered};
 ghost use Rattle.dispatch_history.specs.Ordered.{extend, is_scripted, scripted, received_all};
 ghost use Rattle.dispatch_history.specs.Plan.{Plan as PlanView};
-ghost use Rattle.dispatcher.specs.Access.{gone, is_opened, namings_gone};
+ghost use Rattle.dispatcher.specs.Access.{gone, is_opened, anrs_released};
 ghost use Rattle.dispatcher.specs.Dispatching.{IsAfter};
 ghost use Rattle.schedule.specs.declared.keeping.Lines.{Lines};
 ghost use Rattle.schedule.specs.declared.keeping.Lines.TheVariants.{Causes};
@@ -30,7 +30,7 @@ use std::mem;
 pub struct Schedule {
     pub(crate) dispatcher: Dispatcher,
     pub(crate) streams: Vec<Stream>,
-    /// The causes of the calls so far as a text, where they are told.
+    /// The causes of the calls so far as a text, where they are sent.
     pub(crate) causes: Option<Vec<u8>>,
     /// How many steps were made.
     pub(crate) next: usize,
@@ -89,7 +89,7 @@ impl Schedule {
         ensures latest { self.new.latest ≡ self.old.latest }
     {
         self.make(call, next)?;
-        self.hear_told()
+        self.drain_sent()
     }
 
     /// One call that is no receive, after which so many steps were made. Of a channel that it removes nothing is kept
@@ -106,7 +106,7 @@ impl Schedule {
     {
         self.apply(call, next)?;
         match call {
-            Call::Remove { channel, .. } => self.hear_removed(*channel),
+            Call::Remove { channel, .. } => self.drain_removed(*channel),
             _ => Ok(()),
         }
     }
@@ -192,9 +192,9 @@ impl Schedule {
         Ok(counts.sent)
     }
 
-    /// The same, and what the channel was told comes to the lines, and is let go.
+    /// The same, and what the channel was sent comes to the lines, and is let go.
     #[inline(always)]
-    fn take_told(&mut self, channel: u32) -> Result<u64, AllocError>
+    fn take_sent(&mut self, channel: u32) -> Result<u64, AllocError>
         ensures after { (how : Lines) (plan : PlanView) (es : List Effect) → HasWith how plan es self.old
             → OnOk result (HasWith how plan (extend plan.displays es (receives_of es channel)) self.new) }
         ensures sent { (how : Lines) (plan : PlanView) (es : List Effect) → HasWith how plan es self.old
@@ -206,11 +206,11 @@ impl Schedule {
         ensures latest { self.new.latest ≡ self.old.latest }
     {
         let sent = self.receive(channel)?;
-        self.hear_some(channel)?;
+        self.drain_some(channel)?;
         Ok(sent)
     }
 
-    /// The owners of all live channels take all that is published. What all channels were told comes to the lines, and
+    /// The owners of all live channels take all that is published. What all channels were sent comes to the lines, and
     /// is let go.
     pub(crate) fn receive_all(&mut self) -> Result<(), AllocError>
         ensures after { (how : Lines) (plan : PlanView) (es : List Effect) → HasWith how plan es self.old
@@ -223,7 +223,7 @@ impl Schedule {
     {
         let mut messages: u64 = 0;
         for place in 0..self.dispatcher.opened() {
-            messages = messages.saturating_add(self.take_told(place + 1)?);
+            messages = messages.saturating_add(self.take_sent(place + 1)?);
         }
         self.messages = messages;
         Ok(())
@@ -241,7 +241,7 @@ fn apply_call(
         (option_map (λ text. text.items) causes.old) (option_map (λ text. text.items) causes.new) dispatcher.new) }
     ensures displays { dispatcher.new.displays ≡ dispatcher.old.displays }
     ensures gone { (c : ℕ) → 1 ≤ c → gone dispatcher.new c ≡ gone dispatcher.old c }
-    ensures namings { namings_gone dispatcher.new ≡ namings_gone dispatcher.old }
+    ensures anrs { anrs_released dispatcher.new ≡ anrs_released dispatcher.old }
     ensures more { (es : List Effect) → ComesTo es dispatcher.old → ComesTo es dispatcher.new }
 {
     match causes {

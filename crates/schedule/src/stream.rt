@@ -1,10 +1,10 @@
-//! The lines of what a channel was told.
+//! The lines of what a channel was sent.
 ghost use Rattle.std.specs.Prelude.{◌≡◌, [], ◌++◌, ℕ, true, List, OnOk, OnErr, IfOk, vec_len, drop, reverse};
 ghost use Rattle.dispatch_history.specs.Effect.{Effect, stream};
 ghost use Rattle.dispatcher.specs.Access.{gone, is_opened};
 ghost use Rattle.dispatcher.specs.Dispatching.{IsAfter};
 ghost use Rattle.stream_text.specs.Spelling.{message_line, message_lines};
-ghost use Rattle.schedule.specs.Hearing.{WithMore};
+ghost use Rattle.schedule.specs.Draining.{WithMore};
 ghost use Rattle.schedule.specs.Lines.{lines_at};
 
 use dispatcher::Dispatcher;
@@ -14,7 +14,7 @@ use std::marker::Model;
 use std::mem;
 use stream_text::LineWriter;
 
-/// The messages that a channel was told and let go. Their lines alone are kept, which are far shorter than they are.
+/// The messages that a channel was sent and let go. Their lines alone are kept, which are far shorter than they are.
 #[derive(Drop)]
 pub(crate) struct Stream {
     lines: Vec<u8>,
@@ -49,7 +49,7 @@ impl Stream {
     }
 
     /// One message more.
-    fn hear(&mut self, message: &Message) -> Result<(), AllocError>
+    fn drain(&mut self, message: &Message) -> Result<(), AllocError>
         ensures ok { OnOk result (self.new ≡ self.old ++ message_line message.now) }
         ensures err { OnErr result (self.new ≡ self.old) }
     {
@@ -57,11 +57,11 @@ impl Stream {
     }
 
     /// Some messages more.
-    fn hear_all(&mut self, messages: &[Message]) -> Result<(), AllocError>
+    fn drain_all(&mut self, messages: &[Message]) -> Result<(), AllocError>
         ensures { OnOk result (self.new ≡ self.old ++ message_lines messages.now) }
     {
         for message in messages {
-            self.hear(message)?;
+            self.drain(message)?;
         }
         Ok(())
     }
@@ -79,19 +79,23 @@ pub(crate) fn empty_streams(alloc: Global, count: usize) -> Result<Vec<Stream>, 
     Ok(streams)
 }
 
-/// A channel was told these messages more.
-fn hear_all(streams: &mut Vec<Stream>, channel: u32, messages: &[Message]) -> Result<(), AllocError>
+/// A channel was sent these messages more.
+fn drain_all(
+    streams: &mut Vec<Stream>,
+    channel: u32,
+    messages: &[Message],
+) -> Result<(), AllocError>
     ensures { OnOk result (WithMore (message_lines messages.now) channel streams.old.items streams.new.items) }
 {
     let place = channel as usize;
     if 1 <= place && place <= streams.len() {
-        streams[place - 1].hear_all(messages)?;
+        streams[place - 1].drain_all(messages)?;
     }
     Ok(())
 }
 
 /// Puts the messages of a channel that were not let go to its lines.
-pub(crate) fn hear_left(
+pub(crate) fn drain_left(
     streams: &mut Vec<Stream>,
     dispatcher: &Dispatcher,
     channel: u32,
@@ -101,7 +105,7 @@ pub(crate) fn hear_left(
         channel streams.old.items streams.new.items) }
 {
     match dispatcher.messages(channel) {
-        Some(messages) => hear_all(streams, channel, messages),
+        Some(messages) => drain_all(streams, channel, messages),
         None => Ok(()),
     }
 }

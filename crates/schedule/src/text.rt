@@ -3,20 +3,20 @@ ghost use Rattle.std.specs.Prelude.{◌≡◌, ◌++◌, true, List, OnOk, OnErr
 ghost use Rattle.std.specs.Option.{unwrap_or};
 ghost use Rattle.dispatcher.specs.Access.{gone, is_opened};
 ghost use Rattle.dispatcher.specs.Dispatching.{IsAfter};
-ghost use Rattle.dispatch_history.specs.Due.{counts, namings};
+ghost use Rattle.dispatch_history.specs.Due.{counts, anrs};
 ghost use Rattle.dispatch_history.specs.Effect.{Effect, stream};
 ghost use Rattle.dispatch_history.specs.Plan.{Plan as PlanView};
 ghost use Rattle.schedule.specs.declared.keeping.Lines.{Lines};
 ghost use Rattle.schedule.specs.State.{HasWith};
 ghost use Rattle.stream_text.specs.Spelling.{message_lines};
-ghost use Rattle.stream_text.specs.StreamsHistory.{naming_lines, unopened};
+ghost use Rattle.stream_text.specs.StreamsHistory.{anr_lines, unopened};
 
 use crate::schedule::Schedule;
-use dispatch_calls::{Counts, Naming};
+use dispatch_calls::{Anr, Counts};
 use dispatcher::Dispatcher;
 use input_types::Message;
 use std::alloc::AllocError;
-use stream_text::{message_text, naming_text};
+use stream_text::{anr_text, message_text};
 
 /// Appends the lines of messages.
 fn add_messages(messages: &[Message], text: &mut Vec<u8>) -> Result<(), AllocError>
@@ -61,23 +61,23 @@ pub(crate) fn counts_of(dispatcher: &Dispatcher, channel: u32) -> Counts
 }
 
 /// Appends the lines of namings, or as many of them as memory serves for.
-fn append_namings(namings: &[Naming], text: &mut Vec<u8>) -> Result<(), AllocError>
-    ensures ok { OnOk result (text.new.items ≡ text.old.items ++ naming_lines namings.now) }
+fn append_anrs(anrs: &[Anr], text: &mut Vec<u8>) -> Result<(), AllocError>
+    ensures ok { OnOk result (text.new.items ≡ text.old.items ++ anr_lines anrs.now) }
     ensures front { take (length text.old.items) text.new.items ≡ text.old.items }
 {
-    for naming in namings {
-        naming_text(naming.clock, naming.channel, naming.seq, text)?;
+    for anr in anrs {
+        anr_text(anr.clock, anr.channel, anr.seq, text)?;
     }
     Ok(())
 }
 
 /// Appends the lines of namings. After want of memory `text` is as before.
-pub fn add_all_namings(namings: &[Naming], text: &mut Vec<u8>) -> Result<(), AllocError>
-    ensures ok { OnOk result (text.new.items ≡ text.old.items ++ naming_lines namings.now) }
+pub fn add_all_anrs(anrs: &[Anr], text: &mut Vec<u8>) -> Result<(), AllocError>
+    ensures ok { OnOk result (text.new.items ≡ text.old.items ++ anr_lines anrs.now) }
     ensures err { OnErr result (text.new.items ≡ text.old.items) }
 {
     let start = text.len();
-    if let Err(error) = append_namings(namings, text) {
+    if let Err(error) = append_anrs(anrs, text) {
         text.truncate(start);
         return Err(error);
     }
@@ -86,10 +86,10 @@ pub fn add_all_namings(namings: &[Naming], text: &mut Vec<u8>) -> Result<(), All
 
 impl Schedule {
     /// The times that a channel was named unresponsive, the first one first.
-    pub fn namings(&self) -> &[Naming]
+    pub fn anrs(&self) -> &[Anr]
         ensures { (how : Lines) (plan : PlanView) (es : List Effect) → HasWith how plan es self.now
-            → result.now ≡ namings es }
+            → result.now ≡ anrs es }
     {
-        self.dispatcher.namings()
+        self.dispatcher.anrs()
     }
 }

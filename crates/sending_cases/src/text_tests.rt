@@ -7,9 +7,7 @@ use input_types::{
 };
 use std::alloc::Global;
 use std::test::Fail;
-use stream_text::{
-    Order, OrderError, OrderLine, StreamReader, channel_text, naming_text, order_text,
-};
+use stream_text::{Order, OrderError, OrderLine, StreamReader, anr_text, channel_text, order_text};
 
 /// A script lane, a finish and a tick.
 fn three_calls(alloc: Global) -> Result<Order, Fail> {
@@ -92,7 +90,7 @@ fn key_up() -> Result<Message, Fail> {
 }
 
 /// The section of channel 64, with both messages, and a naming of it behind.
-fn section_and_naming(alloc: Global) -> Result<Vec<u8>, Fail> {
+fn section_and_anr(alloc: Global) -> Result<Vec<u8>, Fail> {
     let counts = Counts {
         sent: 2,
         received: 1,
@@ -103,13 +101,13 @@ fn section_and_naming(alloc: Global) -> Result<Vec<u8>, Fail> {
     let mut out = Vec::new(alloc);
     let stream = [pointer_up()?, key_up()?];
     channel_text(64, "main", &stream, counts, &mut out)?;
-    naming_text(Moment::new(6000000).ok_or("a moment")?, 64, 1, &mut out)?;
+    anr_text(Moment::new(6000000).ok_or("a moment")?, 64, 1, &mut out)?;
     Ok(out)
 }
 
 #[test]
 fn a_section_is_written(rt: HostRuntime) -> Result<(), Fail> {
-    let text = section_and_naming(rt.alloc())?;
+    let text = section_and_anr(rt.alloc())?;
     assert_eq!(rt;
         text.as_slice(),
         b"channel 64 main\n\
@@ -125,7 +123,7 @@ fn a_section_is_written(rt: HostRuntime) -> Result<(), Fail> {
 #[test]
 fn a_section_behind_an_order_is_read(rt: HostRuntime) -> Result<(), Fail> {
     let mut text = Vec::from_slice(rt.alloc(), b"order 1\np\n")?;
-    text.extend_from_slice(section_and_naming(rt.alloc())?.as_slice())?;
+    text.extend_from_slice(section_and_anr(rt.alloc())?.as_slice())?;
     let Ok(file) = StreamReader::read(rt.alloc(), text.as_slice()) else {
         return Err(Fail::new("it is read"));
     };

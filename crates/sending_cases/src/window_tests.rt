@@ -118,7 +118,7 @@ fn a_mouse_goes_from_one_window_to_another(rt: HostRuntime) -> Result<(), Fail> 
     assert_eq!(rt; told(&cursor, 1), Some(2));
     assert_eq!(rt; told(&cursor, 2), Some(1));
     assert_eq!(rt; told(&cursor, 3), None);
-    cursor.let_go(1);
+    cursor.release(1);
     assert_eq!(rt; told(&cursor, 1), Some(0));
     assert_eq!(rt; told(&cursor, 2), Some(1));
     Ok(())

@@ -12,7 +12,7 @@ use Rattle.bits32.proofs.Members.{in_below}
 use Rattle.input_types.specs.declared.pointer.Pointer.{Pointer}
 use Rattle.input_types.specs.Gestures.{ids_of}
 use Rattle.input_types.specs.Pointers.{IsRising}
-use Rattle.routing_rules.specs.Told.{listing}
+use Rattle.routing_rules.specs.Outgoing.{listing}
 use Rattle.routing_rules.proofs.Listings.{has_id, id_at, listing_same, length-ids_of}
 use Rattle.split_motion.proofs.Parts.{rest_rises}
 use Rattle.split_motion.proofs.LeastBit.{is_in_and, is_in_zero, least_in, trailing_least}

@@ -28,8 +28,8 @@ a_second_finger_is_the_first_of_another_window = refl
 and_a_move_in_the_one_that_holds_the_first : split_of (motion PointerDown 1 0 both) (only 0) ≡ Some (motion Move 0 0 (at 0 100 200 ∷ []))
 and_a_move_in_the_one_that_holds_the_first = refl
 
-one_window_is_told_it_as_it_is : split_of (motion PointerDown 1 0 both) all ≡ Some (motion PointerDown 1 0 both)
-one_window_is_told_it_as_it_is = refl
+one_window_is_sent_it_as_it_is : split_of (motion PointerDown 1 0 both) all ≡ Some (motion PointerDown 1 0 both)
+one_window_is_sent_it_as_it_is = refl
 
 an_up_of_one_of_two_is_the_last_one_of_its_window : split_of (motion PointerUp 0 0 both) (only 0) ≡ Some (motion Up 0 0 (at 0 100 200 ∷ []))
 an_up_of_one_of_two_is_the_last_one_of_its_window = refl
@@ -44,5 +44,5 @@ and_a_move_in_the_other = refl
 a_cancelled_up_keeps_its_flag_in_a_window_with_both : split_of (motion PointerUp 1 32 both) all ≡ Some (motion PointerUp 1 32 both)
 a_cancelled_up_keeps_its_flag_in_a_window_with_both = refl
 
-a_window_with_none_of_them_is_told_nothing : split_of (motion Move 0 0 both) (only 2) ≡ None
-a_window_with_none_of_them_is_told_nothing = refl
+a_window_with_none_of_them_is_sent_nothing : split_of (motion Move 0 0 both) (only 2) ≡ None
+a_window_with_none_of_them_is_sent_nothing = refl

@@ -12,11 +12,11 @@ use Rattle.routing_rules.specs.Taking.{takes}
 use Rattle.routing_rules.specs.Scene.{Scene}
 use Rattle.routing_rules.specs.Slip.{slip}
 use Rattle.routing_rules.specs.Given.{changed, given_by, taken_by, slips_in, slips_out}
-use Rattle.routing_rules.specs.Told.{is_up, is_down}
+use Rattle.routing_rules.specs.Outgoing.{is_up, is_down}
 use Rattle.routing_rules.proofs.Listings.{apart_rising}
 use Rattle.routing_rules.proofs.MotionKind.{Kind, opens, moves, closes, kind_at}
 use Rattle.routing_rules.proofs.Changes.{other_way, after_apart, after_up}
-use Rattle.routing_rules.proofs.ToldLaws.{fresh_id}
+use Rattle.routing_rules.proofs.SentLaws.{fresh_id}
 use Rattle.split_motion.specs.Laws.{KeepsLaw}
 use Rattle.split_motion.proofs.SplitLaws.{up_not_down}
 

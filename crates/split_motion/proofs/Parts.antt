@@ -2,7 +2,7 @@
 use Rattle.std.proofs.Common.{◌≡◌, ℕ, zero, suc, ◌<◌, ◌≤◌, Bool, true, false, cond, List, [], ◌∷◌, length, take, get_or, sym, subst, arith}
 use Rattle.input_types.specs.declared.pointer.Pointer.{Pointer}
 use Rattle.input_types.specs.Pointers.{IsRising, EndsBelow}
-use Rattle.routing_rules.specs.Told.{listing}
+use Rattle.routing_rules.specs.Outgoing.{listing}
 
 -- each id of a list is below a number
 abbrev pub AllBelow : List Pointer → ℕ → Type 0

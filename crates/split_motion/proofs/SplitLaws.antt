@@ -7,17 +7,17 @@ use Rattle.input_types.specs.declared.motion.MotionAction.TheVariants.{Down, Up,
 use Rattle.input_types.specs.declared.pointer.Pointer.{Pointer}
 use Rattle.routing_rules.specs.Scene.{Scene}
 use Rattle.routing_rules.specs.Given.{changed}
-use Rattle.routing_rules.specs.Told.{listing, plain, opening, closing, moves, is_up, is_down, is_cancelled, outside, or_else, told_motion}
+use Rattle.routing_rules.specs.Outgoing.{listing, plain, opening, closing, moves, is_up, is_down, is_cancelled, outside, or_else, sent_motion}
 use Rattle.routing_rules.proofs.Listings.{has_id, has_id-listing, listing_same, id_at}
-use Rattle.routing_rules.proofs.ToldLaws.{quiet_cancels}
+use Rattle.routing_rules.proofs.SentLaws.{quiet_cancels}
 use Rattle.split_motion.specs.Split.{part_about, part_of, as_down}
 use Rattle.split_motion.specs.Laws.{if_some, Keeps, SplitLaw, GivenLaw, NoneLaw}
 
--- a list with some id is not empty, and then its window is told something
-told_part : (m : Motion) (o : Option Pointer) (held : ℕ → Bool) (i : ℕ) (ps : List Pointer) → has_id i ps ≡ true
+-- a list with some id is not empty, and then its window is sent something
+sent_part : (m : Motion) (o : Option Pointer) (held : ℕ → Bool) (i : ℕ) (ps : List Pointer) → has_id i ps ≡ true
     → if_some (part_of m o held ps) ≡ part_about m o held ps ∷ []
-told_part m o held i [] h = absurd (true≢false (sym h))
-told_part m o held i (q ∷ qs) h = refl
+sent_part m o held i [] h = absurd (true≢false (sym h))
+sent_part m o held i (q ∷ qs) h = refl
 
 -- it has the changed pointer, where the window holds that
 in_part : (m : Motion) (p : Pointer) (held : ℕ → Bool) → changed m ≡ Some p → held p.id ≡ true → has_id p.id (listing held m.pointers) ≡ true
@@ -45,11 +45,11 @@ agree l b i others e j =
     elim (cases_Bool (j == i)) [ inl t ↦ subst (λ x. l x ≡ b x) (sym (eqb-true j i t)) e | inr n ↦ others j n ]
 
 -- where a window holds what it held, and its pointer neither goes down nor up
-same_told : (s : Scene) (m : Motion) (p : Pointer) (w : ℕ) (before later held : ℕ → Bool) → ((j : ℕ) → later j ≡ before j)
+same_sent : (s : Scene) (m : Motion) (p : Pointer) (w : ℕ) (before later held : ℕ → Bool) → ((j : ℕ) → later j ≡ before j)
     → ((j : ℕ) → held j ≡ later j) → (later p.id && not (before p.id)) ≡ false → (is_up m.action && before p.id) ≡ false
     → (held p.id && is_down m.action) ≡ false → (held p.id && is_up m.action) ≡ false
-    → told_motion s m (Some p) w before later ≡ or_else (if_some (part_of m (Some p) held (listing held m.pointers))) (outside s m p w)
-same_told s m p w before later held same is given upped down up =
+    → sent_motion s m (Some p) w before later ≡ or_else (if_some (part_of m (Some p) held (listing held m.pointers))) (outside s m p w)
+same_sent s m p w before later held same is given upped down up =
     rw (given, upped)
     (ap (λ xs. or_else xs (or_else (moves m.device (listing later m.pointers)) (outside s m p w))) (quiet_cancels m.device (s.last m.device) before later same)
     ∙ ap (λ ps. or_else (moves m.device ps) (outside s m p w)) (sym (listing_same held later m.pointers (λ i h. is i)))
@@ -60,19 +60,19 @@ same_told s m p w before later held same is given upped down up =
     still ps = rw (down, up) refl
 
 -- a pointer that is given
-given_told : (s : Scene) (m : Motion) (n : Motion) (p : Pointer) (w : ℕ) (before later : ℕ → Bool) → changed m ≡ Some p
+given_sent : (s : Scene) (m : Motion) (n : Motion) (p : Pointer) (w : ℕ) (before later : ℕ → Bool) → changed m ≡ Some p
     → n.device ≡ m.device → n.pointers ≡ m.pointers → is_down n.action ≡ true → before p.id ≡ false → later p.id ≡ true
-    → told_motion s m (Some p) w before later ≡ if_some (part_of n (Some p) later (listing later n.pointers))
-given_told s m n p w before later c d same down b l =
+    → sent_motion s m (Some p) w before later ≡ if_some (part_of n (Some p) later (listing later n.pointers))
+given_sent s m n p w before later c d same down b l =
     rw (l, b)
     (sym
     (ap (λ ps. if_some (part_of n (Some p) later (listing later ps))) same
-    ∙ told_part n (Some p) later p.id (listing later m.pointers) (in_part m p later c l)
+    ∙ sent_part n (Some p) later p.id (listing later m.pointers) (in_part m p later c l)
     ∙ (rw (l, down) (ap (λ e. opening e p.id (listing later m.pointers) ∷ []) d))))
 
 pub given_law : GivenLaw
 given_law s m p w before later c b l =
-    given_told s m (as_down m) p w before later c refl refl refl b l
+    given_sent s m (as_down m) p w before later c refl refl refl b l
     ∙ ap (λ o. if_some (part_of (as_down m) o later (listing later m.pointers))) (sym c)
 
 pub none_law : NoneLaw
@@ -88,7 +88,7 @@ both false = refl
 -- by what the motion is
 by_kind : (s : Scene) (m : Motion) (p : Pointer) (w : ℕ) (before later : ℕ → Bool) → changed m ≡ Some p → Keeps m p before later
     → (u d : Bool) → is_up m.action ≡ u → is_down m.action ≡ d
-    → told_motion s m (Some p) w before later
+    → sent_motion s m (Some p) w before later
     ≡ or_else (if_some (part_of m (Some p) (if u then before else later) (listing (if u then before else later) m.pointers))) (outside s m p w)
 by_kind s m p w before later c k true d up down = lifted (before p.id) refl
   where
@@ -96,16 +96,16 @@ by_kind s m p w before later c k true d up down = lifted (before p.id) refl
     gone = k.gone up
 
     lifted : (b : Bool) → before p.id ≡ b
-        → told_motion s m (Some p) w before later ≡ or_else (if_some (part_of m (Some p) before (listing before m.pointers))) (outside s m p w)
+        → sent_motion s m (Some p) w before later ≡ or_else (if_some (part_of m (Some p) before (listing before m.pointers))) (outside s m p w)
     lifted true b =
         let part : List Pointer = listing before m.pointers in
         let up_of : Motion = closing m.device p.id (is_cancelled m.action m.flags) part in
         let is : part_about m (Some p) before part ≡ up_of = rw (b, up_not_down m.action up, up) refl in
         let one : if_some (part_of m (Some p) before part) ≡ up_of ∷ [] =
-        told_part m (Some p) before p.id part (in_part m p before c b) ∙ ap (λ x. x ∷ []) is in
+        sent_part m (Some p) before p.id part (in_part m p before c b) ∙ ap (λ x. x ∷ []) is in
         rw (gone, up, b) (sym (ap (λ xs. or_else xs (outside s m p w)) one))
     lifted false b =
-        same_told s m p w before later before (agree later before p.id k.others (gone ∙ sym b)) (λ j. sym (agree later before p.id k.others (gone ∙ sym b) j))
+        same_sent s m p w before later before (agree later before p.id k.others (gone ∙ sym b)) (λ j. sym (agree later before p.id k.others (gone ∙ sym b) j))
         (rw gone refl) (rw (up, b) refl) (rw b refl) (rw b refl)
 by_kind s m p w before later c k false true up down = given (later p.id) refl
   where
@@ -113,18 +113,18 @@ by_kind s m p w before later c k false true up down = given (later p.id) refl
     fresh = k.fresh down
 
     given : (l : Bool) → later p.id ≡ l
-        → told_motion s m (Some p) w before later ≡ or_else (if_some (part_of m (Some p) later (listing later m.pointers))) (outside s m p w)
+        → sent_motion s m (Some p) w before later ≡ or_else (if_some (part_of m (Some p) later (listing later m.pointers))) (outside s m p w)
     given true l =
         let part : List Pointer = listing later m.pointers in
         let one : if_some (part_of m (Some p) later part) ≡ part_about m (Some p) later part ∷ [] =
-        told_part m (Some p) later p.id part (in_part m p later c l) in
-        given_told s m m p w before later c refl refl down fresh l ∙ one ∙ sym (ap (λ xs. or_else xs (outside s m p w)) one)
+        sent_part m (Some p) later p.id part (in_part m p later c l) in
+        given_sent s m m p w before later c refl refl down fresh l ∙ one ∙ sym (ap (λ xs. or_else xs (outside s m p w)) one)
     given false l =
-        same_told s m p w before later later (agree later before p.id k.others (l ∙ sym fresh)) (λ j. refl)
+        same_sent s m p w before later later (agree later before p.id k.others (l ∙ sym fresh)) (λ j. refl)
         (rw l refl) (rw up refl) (rw l refl) (rw l refl)
 by_kind s m p w before later c k false false up down =
     let still : later p.id ≡ before p.id = k.still down up in
-    same_told s m p w before later later (agree later before p.id k.others still) (λ j. refl)
+    same_sent s m p w before later later (agree later before p.id k.others still) (λ j. refl)
     (ap (λ b. b && not (before p.id)) still ∙ both (before p.id)) (rw up refl)
     (and_right (later p.id) (is_down m.action) down) (and_right (later p.id) (is_up m.action) up)
 

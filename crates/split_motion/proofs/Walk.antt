@@ -7,7 +7,7 @@ use Rattle.std.proofs.lemmas.List.{length_push}
 use Rattle.bits32.specs.Set.{is_in, members}
 use Rattle.input_types.specs.declared.pointer.Pointer.{Pointer}
 use Rattle.input_types.specs.Pointers.{IsRising, EndsBelow}
-use Rattle.routing_rules.specs.Told.{listing}
+use Rattle.routing_rules.specs.Outgoing.{listing}
 use Rattle.routing_rules.proofs.Listings.{has_id, listing_same}
 use Rattle.split_motion.proofs.Parts.{AllBelow, ends_below}
 use Rattle.split_motion.proofs.LeastBit.{without_least, IsLeast, is_in_less, is_in_and, is_in_zero, least_in, least_first, trailing_least}

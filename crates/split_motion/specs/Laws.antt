@@ -6,7 +6,7 @@ use Rattle.routing_rules.specs.Scene.{Scene, Moves}
 use Rattle.routing_rules.specs.Slip.{slip}
 use Rattle.routing_rules.specs.Given.{changed, mark}
 use Rattle.routing_rules.specs.Fits.{Fits, Rises, down_after}
-use Rattle.routing_rules.specs.Told.{after, is_up, is_down, outside, or_else, told_motion}
+use Rattle.routing_rules.specs.Outgoing.{after, is_up, is_down, outside, or_else, sent_motion}
 use Rattle.split_motion.specs.Split.{split_of, as_down}
 
 -- the motion, where there is one
@@ -22,28 +22,28 @@ pub record Keeps (m : Motion) (p : Pointer) (before later : ℕ → Bool) : Type
   pub gone : is_up m.action ≡ true → later p.id ≡ false
   pub still : is_down m.action ≡ false → is_up m.action ≡ false → later p.id ≡ before p.id
 
--- A window is told the motion split to what it holds, before an up and after all else; where that is nothing, it may
+-- A window is sent the motion split to what it holds, before an up and after all else; where that is nothing, it may
 -- be told that the touch was outside of it.
 abbrev pub SplitLaw : Type 0
 SplitLaw =
     (s : Scene) (m : Motion) (p : Pointer) (w : ℕ) (before later : ℕ → Bool)
     → changed m ≡ Some p → Keeps m p before later
-    → told_motion s m (Some p) w before later
+    → sent_motion s m (Some p) w before later
     ≡ or_else (if_some (split_of m (if is_up m.action then before else later))) (outside s m p w)
 
--- A window that a pointer slips to, or goes down in, is told the motion, as a down, split to what it holds afterwards.
+-- A window that a pointer slips to, or goes down in, is sent the motion, as a down, split to what it holds afterwards.
 abbrev pub GivenLaw : Type 0
 GivenLaw =
     (s : Scene) (m : Motion) (p : Pointer) (w : ℕ) (before later : ℕ → Bool)
     → changed m ≡ Some p → before p.id ≡ false → later p.id ≡ true
-    → told_motion s m (Some p) w before later ≡ if_some (split_of (as_down m) later)
+    → sent_motion s m (Some p) w before later ≡ if_some (split_of (as_down m) later)
 
--- A motion about no pointer is told split to what is held.
+-- A motion about no pointer is sent split to what is held.
 abbrev pub NoneLaw : Type 0
 NoneLaw =
     (s : Scene) (m : Motion) (w : ℕ) (before later : ℕ → Bool)
     → changed m ≡ None → ((i : ℕ) → later i ≡ before i)
-    → told_motion s m None w before later ≡ if_some (split_of m later)
+    → sent_motion s m None w before later ≡ if_some (split_of m later)
 
 -- A motion that may come, and with which nothing slips, leaves a window so.
 abbrev pub KeepsLaw : Type 0

@@ -1,10 +1,10 @@
--- A motion of a device, as a window is told it that holds some of its pointers.
+-- A motion of a device, as a window is sent it that holds some of its pointers.
 use Rattle.std.specs.Prelude.{ℕ, Bool, ◌&&◌, List, [], ◌∷◌, Option, Some, None, if◌then◌else◌}
 use Rattle.input_types.specs.declared.motion.Motion.{Motion}
 use Rattle.input_types.specs.declared.motion.MotionAction.TheVariants.{Down, Move}
 use Rattle.input_types.specs.declared.pointer.Pointer.{Pointer}
 use Rattle.routing_rules.specs.Given.{changed}
-use Rattle.routing_rules.specs.Told.{listing, plain, opening, closing, is_up, is_down, is_cancelled}
+use Rattle.routing_rules.specs.Outgoing.{listing, plain, opening, closing, is_up, is_down, is_cancelled}
 
 -- What a window is told that has these pointers of the motion, of which the set holds: the changed pointer goes down
 -- in it, where the motion is a down and the window holds that; it goes up, where the motion is an up of it, cancelled

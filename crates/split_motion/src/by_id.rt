@@ -2,7 +2,7 @@
 ghost use Rattle.std.specs.Prelude.{◌≡◌, ℕ, ◌==◌};
 ghost use Rattle.std.specs.List.{list_any};
 ghost use Rattle.bits32.specs.Set.{is_in};
-ghost use Rattle.routing_rules.specs.Told.{listing};
+ghost use Rattle.routing_rules.specs.Outgoing.{listing};
 
 use bits32::Bits32;
 use input_types::Pointers;

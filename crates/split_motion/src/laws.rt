@@ -3,7 +3,7 @@
 ghost use Rattle.split_motion.specs.Laws.{SplitLaw, GivenLaw, NoneLaw, KeepsLaw};
 
 /// What a window is told of a motion of its device is the motion, split to what it holds.
-pub fn telling()
+pub fn sending()
     ensures split { SplitLaw }
     ensures given { GivenLaw }
     ensures none { NoneLaw }

@@ -4,12 +4,12 @@
 //!
 //! ```text
 //! the device says                    POINTER_UP:1 0@100,200 1@700,400
-//! the window that holds {0} is told  MOVE 0@100,200
-//! the window that holds {1} is told  UP 1@700,400
+//! the window that holds {0} is sent  MOVE 0@100,200
+//! the window that holds {1} is sent  UP 1@700,400
 //! ```
 //!
-//! Had finger 1 become a palm, the latter would be told a `CANCEL`. A window that holds both is told the motion as it
-//! is, and one that holds neither is told nothing.
+//! Had finger 1 become a palm, the latter would be sent a `CANCEL`. A window that holds both is sent the motion as it
+//! is, and one that holds neither is sent nothing.
 //!
 //! Which window holds what is not known here. What is proved, besides what the motion is, is that it is what the
 //! rules of routing tell a window of the motion ([`laws`]).

@@ -1,7 +1,7 @@
 //! Some of the pointers of a motion, and motions that list them.
 ghost use Rattle.std.specs.Prelude.{◌≡◌, not};
 ghost use Rattle.bits32.specs.Set.{is_in};
-ghost use Rattle.routing_rules.specs.Told.{listing, index_in, plain};
+ghost use Rattle.routing_rules.specs.Outgoing.{listing, index_in, plain};
 
 use bits32::Bits32;
 use input_types::{DeviceId, Motion, MotionAction, PointerId, Pointers};

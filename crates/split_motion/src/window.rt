@@ -2,7 +2,7 @@
 ghost use Rattle.std.specs.Prelude.{◌≡◌};
 ghost use Rattle.bits32.specs.Set.{is_in};
 ghost use Rattle.routing_rules.specs.Given.{changed};
-ghost use Rattle.routing_rules.specs.Told.{opening, closing, is_up, is_down, is_cancelled};
+ghost use Rattle.routing_rules.specs.Outgoing.{opening, closing, is_up, is_down, is_cancelled};
 ghost use Rattle.split_motion.specs.Split.{part_about, split_of};
 
 use crate::listed::{about, part, plain};

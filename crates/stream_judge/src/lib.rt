@@ -1,7 +1,7 @@
 //! Whether the messages of a stream file may come as they stand there.
 //!
 //! A stream file is judged in two steps: each line has to be of the grammar, and each message has to be one that its
-//! window may be told after those before it in its section. In
+//! window may be sent after those before it in its section. In
 //!
 //! ```text
 //! channel 1 main

@@ -18,9 +18,9 @@ pub still_moves : (least r e at front device : ℕ) (new old text : List ℕ) (l
 still_moves least r e at front device new old text list long before first behind inside written moves =
     λ some. let (later, within, told) = moves some in (omega arith, within, stays r e front new old text (omega arith) later (omega arith) behind written ∙ told)
 
-pub motion_told : (m : Motion) (rest : List ℕ) → head m ++ (pointers m.pointers ++ rest) ≡ motion m ++ rest
+pub motion_sent : (m : Motion) (rest : List ℕ) → head m ++ (pointers m.pointers ++ rest) ≡ motion m ++ rest
 unfolding motion
-motion_told m rest = sym (append_assoc (head m) (pointers m.pointers) rest)
+motion_sent m rest = sym (append_assoc (head m) (pointers m.pointers) rest)
 
 -- no Move is kept for device 0
 pub none_moves : (least device at front : ℕ) (line : List ℕ) (list : List Pointer) → device ≡ 0 → Moves least line device list at front
@@ -47,7 +47,7 @@ unfolding motion
 plain_move m is plain = rw (is, plain) refl
 
 -- the Move of a motion's device and pointers is spelled as the motion, where that is a Move with flags 0
-pub move_told : (m : Motion) (device : ℕ) (list : List Pointer) (rest : List ℕ) → device ≡ m.device → list ≡ m.pointers → m.action ≡ Move → m.flags ≡ 0
+pub move_sent : (m : Motion) (device : ℕ) (list : List Pointer) (rest : List ℕ) → device ≡ m.device → list ≡ m.pointers → m.action ≡ Move → m.flags ≡ 0
     → motion (move_of device list) ++ rest ≡ motion m ++ rest
-move_told m device list rest same pointed is plain =
+move_sent m device list rest same pointed is plain =
     ap (λ d. motion (move_of d list) ++ rest) same ∙ ap (λ ps. motion (move_of m.device ps) ++ rest) pointed ∙ ap (λ t. t ++ rest) (plain_move m is plain)

@@ -12,11 +12,11 @@ use Rattle.std.proofs.lemmas.Str.Parse.{digit_from_value}
 use Rattle.std.specs.Str.Parse.{AllDigits}
 use Rattle.input_types.specs.declared.message.Message.{Message as Told}
 use Rattle.stream_text.specs.declared.stream_line.StreamLine.{StreamLine}
-use Rattle.stream_text.specs.declared.stream_line.StreamLine.TheVariants.{Channel, Message, End, Naming}
+use Rattle.stream_text.specs.declared.stream_line.StreamLine.TheVariants.{Channel, Message, End, Anr}
 use Rattle.stream_text.specs.Number.{◌>>=◌, after, number_at, NoDigit}
 use Rattle.stream_text.specs.Spelling.{body, labeled, numbered}
 use Rattle.stream_text.specs.MessageLine.{labeled_at, message_of, message_words, HasSpelling}
-use Rattle.stream_text.specs.StreamLine.{CanSay, channel_at, channel_of, channel_words, end_of, end_words, is_name, line_of, naming_of, naming_words, IsId, SpellsLine}
+use Rattle.stream_text.specs.StreamLine.{CanSay, channel_at, channel_of, channel_words, end_of, end_words, is_name, line_of, anr_of, anr_words, IsId, SpellsLine}
 use Rattle.stream_text.proofs.Numbers.{after_only, bind_some, number_again, number_only}
 use Rattle.stream_text.proofs.PartTexts.{by_word, labeled_again, labeled_front, labeled_only, none_of, not_zero, regroup, whole_only}
 use Rattle.stream_text.proofs.MessageTexts.{message_again, message_only}
@@ -106,8 +106,8 @@ regroup_three : (a b c d : List ℕ) → a ++ b ++ c ++ d ≡ a ++ (b ++ (c ++ d
 regroup_three a b c d = simp append_assoc
 
 -- a naming
-name_words : (clock id seq : ℕ) → naming_words clock id seq ≡ codes "anr " ++ (decimal clock ++ (codes " " ++ (decimal id ++ (codes " " ++ (decimal seq ++ [])))))
-unfolding naming_words
+name_words : (clock id seq : ℕ) → anr_words clock id seq ≡ codes "anr " ++ (decimal clock ++ (codes " " ++ (decimal id ++ (codes " " ++ (decimal seq ++ [])))))
+unfolding anr_words
 name_words clock id seq =
     sym (append-nil (labeled (codes "anr ") clock ++ labeled (codes " ") id ++ labeled (codes " ") seq))
     ∙ regroup_three (labeled (codes "anr ") clock) (labeled (codes " ") id) (labeled (codes " ") seq) []
@@ -115,19 +115,19 @@ name_words clock id seq =
     ∙ ap (λ t. codes "anr " ++ (decimal clock ++ t))
     (labeled_front (codes " ") id (labeled (codes " ") seq ++ []) ∙ ap (λ t. codes " " ++ (decimal id ++ t)) (labeled_front (codes " ") seq []))
 
-name_again : (clock id seq : ℕ) → clock ≤ 1000000000000000000 → IsId id → seq < 2 ^ 64 → line_of (naming_words clock id seq) ≡ Some (Naming clock id seq)
-unfolding line_of naming_of
+name_again : (clock id seq : ℕ) → clock ≤ 1000000000000000000 → IsId id → seq < 2 ^ 64 → line_of (anr_words clock id seq) ≡ Some (Anr clock id seq)
+unfolding line_of anr_of
 name_again clock id seq c h s =
     rw (name_words clock id seq, number_again 1000000000000000000 clock (codes " " ++ (decimal id ++ (codes " " ++ (decimal seq ++ [])))) c (omega arith) refl, channel_again id (codes " " ++ (decimal seq ++ [])) h refl, labeled_again (codes " ") (2 ^ 64 - 1) seq [] (omega arith) (omega arith) tt) refl
 
-name_only : (bs : List ℕ) (line : StreamLine) → naming_of bs ≡ Some line → SpellsLine (codes "anr " ++ bs) line
-unfolding naming_of
+name_only : (bs : List ℕ) (line : StreamLine) → anr_of bs ≡ Some line → SpellsLine (codes "anr " ++ bs) line
+unfolding anr_of
 name_only bs line h =
     let (clock, found_clock, h1) = bind_some (number_at 1000000000000000000 bs) _ line h in
     let (to_id, found_space, h2) = bind_some (after (codes " ") clock.1) _ line h1 in
     let (id, found_id, h3) = bind_some (channel_at to_id) _ line h2 in
     let (seq, found_seq, h4) = bind_some (labeled_at (codes " ") (2 ^ 64 - 1) id.1) _ line h3 in
-    let (nothing, same) = whole_only (Naming clock.0 id.0 seq.0) line seq.1 h4 in
+    let (nothing, same) = whole_only (Anr clock.0 id.0 seq.0) line seq.1 h4 in
     let (split_clock, c) = number_only 1000000000000000000 clock.0 bs clock.1 (omega arith) found_clock in
     let (split_id, fits) = channel_only to_id id found_id in
     let (split_seq, s) = labeled_only (codes " ") (2 ^ 64 - 1) id.1 seq (omega arith) found_seq in
@@ -156,30 +156,30 @@ no_word word n rest small w ws e m =
     let (numeral, value) = decimal_is_IsNumeral n small in
     other_word word (decimal n) rest numeral.0 numeral.1 w ws e m
 
-told_words : (m : Told) → message_words m ≡ decimal m.seq ++ (codes " " ++ (decimal m.moment ++ (codes " " ++ body m.body)))
+sent_words : (m : Told) → message_words m ≡ decimal m.seq ++ (codes " " ++ (decimal m.moment ++ (codes " " ++ body m.body)))
 unfolding message_words numbered
-told_words m = simp append_assoc
+sent_words m = simp append_assoc
 
-told_again : (m : Told) → HasSpelling m → line_of (message_words m) ≡ Some (Message m)
+sent_again : (m : Told) → HasSpelling m → line_of (message_words m) ≡ Some (Message m)
 unfolding line_of
-told_again m h =
+sent_again m h =
     let rest = codes " " ++ (decimal m.moment ++ (codes " " ++ body m.body)) in
-    let channel : after (codes "channel ") (message_words m) ≡ None = ap (after (codes "channel ")) (told_words m) ∙ no_word (codes "channel ") m.seq rest h.seq 99 (codes "hannel ") refl (omega arith) in
-    let end : after (codes "end ") (message_words m) ≡ None = ap (after (codes "end ")) (told_words m) ∙ no_word (codes "end ") m.seq rest h.seq 101 (codes "nd ") refl (omega arith) in
-    let anr : after (codes "anr ") (message_words m) ≡ None = ap (after (codes "anr ")) (told_words m) ∙ no_word (codes "anr ") m.seq rest h.seq 97 (codes "nr ") refl (omega arith) in
+    let channel : after (codes "channel ") (message_words m) ≡ None = ap (after (codes "channel ")) (sent_words m) ∙ no_word (codes "channel ") m.seq rest h.seq 99 (codes "hannel ") refl (omega arith) in
+    let end : after (codes "end ") (message_words m) ≡ None = ap (after (codes "end ")) (sent_words m) ∙ no_word (codes "end ") m.seq rest h.seq 101 (codes "nd ") refl (omega arith) in
+    let anr : after (codes "anr ") (message_words m) ≡ None = ap (after (codes "anr ")) (sent_words m) ∙ no_word (codes "anr ") m.seq rest h.seq 97 (codes "nr ") refl (omega arith) in
     rw (channel, end, anr, message_again m h) refl
 
-told_only : (bs : List ℕ) (line : StreamLine) → (message_of bs >>= λ m. Some (Message m)) ≡ Some line → SpellsLine bs line
-told_only bs line h =
+sent_only : (bs : List ℕ) (line : StreamLine) → (message_of bs >>= λ m. Some (Message m)) ≡ Some line → SpellsLine bs line
+sent_only bs line h =
     let (m, read, made) = bind_some (message_of bs) _ line h in
     subst (SpellsLine bs) (same_Some (Message m) line made) (message_only bs m read)
 
 -- a line that is spelled is read again
 pub line_again : (bs : List ℕ) (line : StreamLine) → SpellsLine bs line → line_of bs ≡ Some line
 line_again bs (Channel id) h = ap line_of h.1 ∙ first_again id h.0 h.2 h.3
-line_again bs (Message m) h = ap line_of h.0 ∙ told_again m h.1
+line_again bs (Message m) h = ap line_of h.0 ∙ sent_again m h.1
 line_again bs (End id sent received finished) h = ap line_of h.0 ∙ last_again id sent received finished h.1 h.2 h.3 h.4
-line_again bs (Naming clock id seq) h = ap line_of h.0 ∙ name_again clock id seq h.1 h.2 h.3
+line_again bs (Anr clock id seq) h = ap line_of h.0 ∙ name_again clock id seq h.1 h.2 h.3
 
 at_word : (word rest bs : List ℕ) (line : StreamLine) → after word bs ≡ Some rest → SpellsLine (word ++ rest) line → SpellsLine bs line
 at_word word rest bs line found h = let P : List ℕ → Type 0 = λ t. SpellsLine t line in subst P (sym (after_only word bs rest found)) h
@@ -194,7 +194,7 @@ line_only bs line h =
         | inl w ↦ at_word (codes "end ") w.0 bs line w.1 (last_only w.0 line w.2)
         | inr h2 ↦ elim (by_word (after (codes "anr ") bs) _ _ line h2) [
           | inl w ↦ at_word (codes "anr ") w.0 bs line w.1 (name_only w.0 line w.2)
-          | inr h3 ↦ told_only bs line h3
+          | inr h3 ↦ sent_only bs line h3
         ]
       ]
     ]
@@ -204,7 +204,7 @@ pub can_say : (bs : List ℕ) (line : StreamLine) → SpellsLine bs line → Can
 can_say bs (Channel id) h = h.2
 can_say bs (Message m) h = h.1
 can_say bs (End id sent received finished) h = tt
-can_say bs (Naming clock id seq) h = tt
+can_say bs (Anr clock id seq) h = tt
 
 -- the same of a line that was read into a place
 pub can_say_where : (bs : List ℕ) (line : StreamLine) (read : Bool) → read ≡ true → cond read (Some line) None ≡ line_of bs → CanSay line

@@ -15,7 +15,7 @@ use Rattle.input_types.specs.declared.message.Message.{Message}
 use Rattle.stream_text.specs.Number.{IsI32}
 use Rattle.stream_text.specs.Spelling.{action, body, canceled, indexed, key, key_end, labeled, motion, numbered, pointer, pointers}
 use Rattle.stream_text.specs.MessageLine.{message_words, HasFlag, HasIndex, HasKeyFlag, HasSpelling, HavePlaces, SpelledBody, SpelledMotion}
-use Rattle.stream_text.specs.StreamLine.{channel_words, end_words, is_name, is_name_byte, naming_words, IsId}
+use Rattle.stream_text.specs.StreamLine.{channel_words, end_words, is_name, is_name_byte, anr_words, IsId}
 use Rattle.stream_text.proofs.OrderTexts.{NoNewline, decimal_no_newline, no_newline_append}
 
 join : (cs bs : List ℕ) → NoNewline cs → NoNewline bs → NoNewline (cs ++ bs)
@@ -148,8 +148,8 @@ last_ok id sent received finished h s r f =
     (labeled_ok (codes " received ") received (refl, (refl, (refl, (refl, (refl, (refl, (refl, (refl, (refl, (refl, tt)))))))))) r))
     (labeled_ok (codes " finished ") finished (refl, (refl, (refl, (refl, (refl, (refl, (refl, (refl, (refl, (refl, tt)))))))))) f)
 
-pub name_ok : (clock id seq : ℕ) → clock < 2 ^ 64 → IsId id → seq < 2 ^ 64 → NoNewline (naming_words clock id seq)
-unfolding naming_words
+pub name_ok : (clock id seq : ℕ) → clock < 2 ^ 64 → IsId id → seq < 2 ^ 64 → NoNewline (anr_words clock id seq)
+unfolding anr_words
 name_ok clock id seq c h s =
     join (labeled (codes "anr ") clock ++ labeled (codes " ") id) (labeled (codes " ") seq)
     (join (labeled (codes "anr ") clock) (labeled (codes " ") id) (labeled_ok (codes "anr ") clock (refl, (refl, (refl, (refl, tt)))) c) (labeled_ok (codes " ") id space (omega (arith, h.1))))

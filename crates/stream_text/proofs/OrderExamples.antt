@@ -129,7 +129,7 @@ unfolding head_of number_alone number_at
 no_order = refl
 
 -- a channel is opened, and then a step of lane 1 is made by seat 7, args come in, and the dispatcher takes them
-pub told_in_order :
+pub sent_in_order :
     order_of_history (7 ∷ []) (
     record { seat = 0; call = calls.Finish 0 1 2; reply = replies.Done }
     ∷ record { seat = 0; call = calls.Pump 0; reply = replies.Dispatched }
@@ -138,4 +138,4 @@ pub told_in_order :
     ∷ []
     )
     ≡ Script 1 ∷ Pump ∷ Finish 1 2 ∷ []
-told_in_order = refl
+sent_in_order = refl

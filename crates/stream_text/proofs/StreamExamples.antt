@@ -7,10 +7,10 @@ use Rattle.stream_text.specs.Number.{integer_at, negative_at, number_at, positiv
 use Rattle.stream_text.specs.Order.{finish_line, number_alone}
 use Rattle.stream_text.specs.OrderText.{head_of}
 use Rattle.stream_text.specs.MessageLine.{action_at, body_of, codes_at, device_at, flags_at, focus_of, indexed_at, key_of, labeled_at, message_of, motion_of, pointer_at, pointers_at, way_at}
-use Rattle.stream_text.specs.StreamLine.{channel_at, channel_of, end_of, line_of, naming_of}
+use Rattle.stream_text.specs.StreamLine.{channel_at, channel_of, end_of, line_of, anr_of}
 use Rattle.stream_text.specs.StreamFile.{Stream, events_of, streams_in}
 
--- two pointers that go down as if each were alone: such a file is read, whether or not a window may be told so
+-- two pointers that go down as if each were alone: such a file is read, whether or not a window may be sent so
 pub two_downs : streams_in (events_of (codes "channel 1 main\n1 0 motion 1 DOWN 0@1,1\n2 0 motion 1 DOWN 1@2,2\nend 1 sent 2 received 2 finished 2\n"))
     ≡ Ok (record {
       id = 1;
@@ -28,14 +28,14 @@ pub two_downs : streams_in (events_of (codes "channel 1 main\n1 0 motion 1 DOWN 
           ∷ [];
     }
     ∷ [])
-unfolding events_of head_of number_alone line_of channel_of channel_at end_of naming_of message_of body_of motion_of key_of focus_of device_at action_at indexed_at flags_at pointer_at pointers_at labeled_at number_at integer_at negative_at positive_at codes_at way_at
+unfolding events_of head_of number_alone line_of channel_of channel_at end_of anr_of message_of body_of motion_of key_of focus_of device_at action_at indexed_at flags_at pointer_at pointers_at labeled_at number_at integer_at negative_at positive_at codes_at way_at
 two_downs = refl
 
 -- an order in front, a section without messages twice, and a naming
-pub order_and_naming : streams_in (events_of (codes "order 2\nr\nf 1 7\nchannel 64 a\n1 5 focus 1\nend 64 sent 1 received 0 finished 0\nchannel 64 a\nend 64 sent 0 received 9 finished 9\nanr 6 64 1\n"))
+pub order_and_anr : streams_in (events_of (codes "order 2\nr\nf 1 7\nchannel 64 a\n1 5 focus 1\nend 64 sent 1 received 0 finished 0\nchannel 64 a\nend 64 sent 0 received 9 finished 9\nanr 6 64 1\n"))
     ≡ Ok (record { id = 64; first_line = 5; messages = record { seq = 1; moment = 5; body = Focus true } ∷ [] } ∷ record { id = 64; first_line = 8; messages = [] } ∷ [])
-unfolding events_of head_of number_alone finish_line line_of channel_of channel_at end_of naming_of message_of body_of focus_of labeled_at number_at
-order_and_naming = refl
+unfolding events_of head_of number_alone finish_line line_of channel_of channel_at end_of anr_of message_of body_of focus_of labeled_at number_at
+order_and_anr = refl
 
 -- lines that have none of the four forms
 pub bad_lines : list_all (λ line. is_none (line_of line))
@@ -83,7 +83,7 @@ pub bad_lines : list_all (λ line. is_none (line_of line))
     ∷ []
     ∷ [])
     ≡ true
-unfolding line_of channel_of channel_at end_of naming_of message_of body_of motion_of key_of focus_of device_at action_at indexed_at flags_at pointer_at pointers_at labeled_at number_at integer_at negative_at positive_at codes_at way_at
+unfolding line_of channel_of channel_at end_of anr_of message_of body_of motion_of key_of focus_of device_at action_at indexed_at flags_at pointer_at pointers_at labeled_at number_at integer_at negative_at positive_at codes_at way_at
 bad_lines = refl
 
 -- the number of the first bad line, and 0 for a file that has none
@@ -112,12 +112,12 @@ pub bad_files : map (λ text. bad_line (streams_in (events_of text)))
     ∷ []
     ∷ [])
     ≡ 1 ∷ 2 ∷ 3 ∷ 3 ∷ 3 ∷ 3 ∷ 3 ∷ 2 ∷ 2 ∷ 1 ∷ 2 ∷ 1 ∷ 2 ∷ 2 ∷ 2 ∷ 1 ∷ 0 ∷ []
-unfolding events_of head_of number_alone line_of channel_of channel_at end_of naming_of message_of body_of focus_of labeled_at number_at
+unfolding events_of head_of number_alone line_of channel_of channel_at end_of anr_of message_of body_of focus_of labeled_at number_at
 bad_files = refl
 
 -- ` canceled` may stand behind each action of a motion, and behind the up of a key
 pub canceled_anywhere : list_all (λ line. is_some (line_of line))
     (codes "1 0 motion 1 DOWN canceled 0@1,1" ∷ codes "1 0 motion 1 POINTER_UP:0 canceled 0@1,1 1@2,2" ∷ codes "1 0 key 1 0 0 0 UP canceled 0" ∷ [])
     ≡ true
-unfolding line_of channel_of channel_at end_of naming_of message_of body_of motion_of key_of focus_of device_at action_at indexed_at flags_at pointer_at pointers_at labeled_at number_at integer_at negative_at positive_at codes_at way_at
+unfolding line_of channel_of channel_at end_of anr_of message_of body_of motion_of key_of focus_of device_at action_at indexed_at flags_at pointer_at pointers_at labeled_at number_at integer_at negative_at positive_at codes_at way_at
 canceled_anywhere = refl

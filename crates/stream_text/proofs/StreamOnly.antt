@@ -11,23 +11,23 @@ use Rattle.std.proofs.lemmas.List.Elements.{All-from_recursion}
 use Rattle.input_types.specs.declared.message.Message.{Message as Told}
 use Rattle.stream_text.specs.declared.order_line.OrderLine.{OrderLine}
 use Rattle.stream_text.specs.declared.stream_line.StreamLine.{StreamLine}
-use Rattle.stream_text.specs.declared.stream_line.StreamLine.TheVariants.{Channel, Message, End, Naming as NamingLine}
+use Rattle.stream_text.specs.declared.stream_line.StreamLine.TheVariants.{Channel, Message, End, Anr as AnrLine}
 use Rattle.stream_text.specs.declared.stream_lines.Place.{Place}
-use Rattle.stream_text.specs.declared.stream_lines.Place.TheVariants.{Between, Section as InSection, Namings}
+use Rattle.stream_text.specs.declared.stream_lines.Place.TheVariants.{Between, Section as InSection, Anrs}
 use Rattle.stream_text.specs.Number.{◌>>=◌}
 use Rattle.stream_text.specs.Order.{IsLine, head_spelling, line_spelling, lines_spelling, order_spelling, order_line_of}
 use Rattle.stream_text.specs.OrderText.{head_of, lines_passed, order_passed, passed_behind}
 use Rattle.text_lines.specs.Lines.{Line, lines_of, with_front}
 use Rattle.stream_text.specs.Spelling.{end_line, message_lines}
 use Rattle.stream_text.specs.MessageLine.{message_words}
-use Rattle.stream_text.specs.StreamLine.{channel_words, end_words, line_of, naming_words, SpellsLine}
+use Rattle.stream_text.specs.StreamLine.{channel_words, end_words, line_of, anr_words, SpellsLine}
 use Rattle.stream_text.specs.StreamFile.{Event, events_behind, events_from, events_of, follow, numbered_line, told, with_event}
-use Rattle.stream_text.specs.StreamText.{AreNamings, AreNumbered, AreSections, IsStreamFile, MayBeOrder, Naming, Section, front_text, namings_text, section_text, sections_text, stream_text}
+use Rattle.stream_text.specs.StreamText.{AreAnrs, AreNumbered, AreSections, IsStreamFile, MayBeOrder, Anr, Section, front_text, anrs_text, section_text, sections_text, stream_text}
 use Rattle.stream_text.proofs.LineTexts.{line_only}
 use Rattle.stream_text.proofs.Numbers.{bind_some, chosen}
 use Rattle.stream_text.proofs.OrderLines.{head_only, line_only as order_line_only}
 use Rattle.stream_text.proofs.OrderTexts.{closed}
-use Rattle.stream_text.proofs.StreamTexts.{end_text, first_text, message_text, naming_text}
+use Rattle.stream_text.proofs.StreamTexts.{end_text, first_text, message_text, anr_text}
 
 -- a newline ends each line
 abbrev AllEnded : List Line → Type 0
@@ -61,19 +61,19 @@ record Left (id told : ℕ) (text : List ℕ) : Type 0 where
   received : ℕ
   finished : ℕ
   sections : List Section
-  namings : List Naming
+  anrs : List Anr
   numbered : AreNumbered (told + 1) messages
   count : told + length messages ≡ sent
   fits : (sent < 2 ^ 64) × (received < 2 ^ 64) × (finished < 2 ^ 64)
   are_sections : AreSections sections
-  are_namings : AreNamings namings
-  is : text ≡ message_lines messages ++ (end_line id sent received finished ++ (sections_text sections ++ namings_text namings))
+  are_anrs : AreAnrs anrs
+  is : text ≡ message_lines messages ++ (end_line id sent received finished ++ (sections_text sections ++ anrs_text anrs))
 
 -- what is left of a file at each place
 abbrev Shape : Place → List ℕ → Type 0
-Shape Between t = (ss : List Section) × (ns : List Naming) × (AreSections ss × AreNamings ns × (t ≡ sections_text ss ++ namings_text ns))
+Shape Between t = (ss : List Section) × (ns : List Anr) × (AreSections ss × AreAnrs ns × (t ≡ sections_text ss ++ anrs_text ns))
 Shape (InSection id told) t = Left id told t
-Shape Namings t = (ns : List Naming) × (AreNamings ns × (t ≡ namings_text ns))
+Shape Anrs t = (ns : List Anr) × (AreAnrs ns × (t ≡ anrs_text ns))
 
 from_next : (next other : Place) (t : List ℕ) → other ≡ next → Shape next t → Shape other t
 from_next next other t e s = let P : Place → Type 0 = λ p. Shape p t in subst P (sym e) s
@@ -82,15 +82,15 @@ section_begins : (words t : List ℕ) (id : ℕ) → SpellsLine words (Channel i
 section_begins words t id (name, is, fits, named) left =
     let s : Section = record { id = id; name = name; messages = left.messages; received = left.received; finished = left.finished } in
     let count : left.sent ≡ length left.messages = omega (arith, left.count) in
-    let rest = sections_text left.sections ++ namings_text left.namings in (
+    let rest = sections_text left.sections ++ anrs_text left.anrs in (
       s ∷ left.sections,
-      left.namings,
+      left.anrs,
       (
         (record { id = fits; name = named; messages = left.numbered; sent = omega (arith, count, left.fits.0); received = left.fits.1; finished = left.fits.2 }, left.are_sections),
-        left.are_namings,
+        left.are_anrs,
         ap (λ w. w ++ 10 ∷ t) is
             ∙ ap (λ u. channel_words id name ++ 10 ∷ u) (left.is ∙ ap (λ (k : ℕ). message_lines left.messages ++ (end_line id k left.received left.finished ++ rest)) count)
-            ∙ sym (append_assoc (section_text s) (sections_text left.sections) (namings_text left.namings) ∙ first_text s rest),
+            ∙ sym (append_assoc (section_text s) (sections_text left.sections) (anrs_text left.anrs) ∙ first_text s rest),
       ),
     )
 
@@ -101,54 +101,54 @@ message_goes words t id told m (is, spelled) place left = record {
   received = left.received;
   finished = left.finished;
   sections = left.sections;
-  namings = left.namings;
+  anrs = left.anrs;
   numbered = (place, spelled, left.numbered);
   count = omega (arith, left.count);
   fits = left.fits;
   are_sections = left.are_sections;
-  are_namings = left.are_namings;
+  are_anrs = left.are_anrs;
   is =
       ap (λ w. w ++ 10 ∷ t) is
       ∙ ap (λ u. message_words m ++ 10 ∷ u) left.is
-      ∙ sym (message_text m left.messages (end_line id left.sent left.received left.finished ++ (sections_text left.sections ++ namings_text left.namings)));
+      ∙ sym (message_text m left.messages (end_line id left.sent left.received left.finished ++ (sections_text left.sections ++ anrs_text left.anrs)));
 }
 
 section_ends : (words t : List ℕ) (id told e sent received finished : ℕ) → SpellsLine words (End e sent received finished) → e ≡ id → sent ≡ told → Shape Between t
     → Left id told (words ++ 10 ∷ t)
-section_ends words t id told e sent received finished (is, fits, s, r, f) same count (ss, ns, (are_sections, are_namings, text)) = record {
+section_ends words t id told e sent received finished (is, fits, s, r, f) same count (ss, ns, (are_sections, are_anrs, text)) = record {
   messages = [];
   sent = sent;
   received = received;
   finished = finished;
   sections = ss;
-  namings = ns;
+  anrs = ns;
   numbered = tt;
   count = omega (arith, count);
   fits = (s, r, f);
   are_sections = are_sections;
-  are_namings = are_namings;
+  are_anrs = are_anrs;
   is =
       ap (λ w. w ++ 10 ∷ t) is
       ∙ ap (λ u. end_words e sent received finished ++ 10 ∷ u) text
-      ∙ sym (end_text e sent received finished (sections_text ss ++ namings_text ns))
-      ∙ ap (λ (k : ℕ). end_line k sent received finished ++ (sections_text ss ++ namings_text ns)) same;
+      ∙ sym (end_text e sent received finished (sections_text ss ++ anrs_text ns))
+      ∙ ap (λ (k : ℕ). end_line k sent received finished ++ (sections_text ss ++ anrs_text ns)) same;
 }
 
-naming_goes : (words t : List ℕ) (clock id seq : ℕ) → SpellsLine words (NamingLine clock id seq) → Shape Namings t → Shape Namings (words ++ 10 ∷ t)
-naming_goes words t clock id seq (is, c, i, s) (ns, (are_namings, text)) =
-    let x : Naming = record { clock = clock; id = id; seq = seq } in
-    (x ∷ ns, ((c, i, s, are_namings), ap (λ w. w ++ 10 ∷ t) is ∙ ap (λ u. naming_words clock id seq ++ 10 ∷ u) text ∙ sym (naming_text x (namings_text ns))))
+anr_goes : (words t : List ℕ) (clock id seq : ℕ) → SpellsLine words (AnrLine clock id seq) → Shape Anrs t → Shape Anrs (words ++ 10 ∷ t)
+anr_goes words t clock id seq (is, c, i, s) (ns, (are_anrs, text)) =
+    let x : Anr = record { clock = clock; id = id; seq = seq } in
+    (x ∷ ns, ((c, i, s, are_anrs), ap (λ w. w ++ 10 ∷ t) is ∙ ap (λ u. anr_words clock id seq ++ 10 ∷ u) text ∙ sym (anr_text x (anrs_text ns))))
 
-first_of_namings : (t : List ℕ) → Shape Namings t → Shape Between t
-first_of_namings t (ns, (are_namings, text)) = ([], ns, (tt, are_namings, text))
+first_of_anrs : (t : List ℕ) → Shape Anrs t → Shape Between t
+first_of_anrs t (ns, (are_anrs, text)) = ([], ns, (tt, are_anrs, text))
 
 -- a line in front of what may follow it
 shape_step : (place next : Place) (words t : List ℕ) (says : StreamLine) → SpellsLine words says → follow place says ≡ Some next → Shape next t → Shape place (words ++ 10 ∷ t)
 shape_step Between next words t (Channel id) h f s = section_begins words t id h (from_next next (InSection id 0) t (same_Some (InSection id 0) next f) s)
 shape_step Between next words t (Message m) h f s = absurd (none-some next f)
 shape_step Between next words t (End e sent received finished) h f s = absurd (none-some next f)
-shape_step Between next words t (NamingLine clock id seq) h f s =
-    first_of_namings (words ++ 10 ∷ t) (naming_goes words t clock id seq h (from_next next Namings t (same_Some Namings next f) s))
+shape_step Between next words t (AnrLine clock id seq) h f s =
+    first_of_anrs (words ++ 10 ∷ t) (anr_goes words t clock id seq h (from_next next Anrs t (same_Some Anrs next f) s))
 shape_step (InSection id told) next words t (Channel other) h f s = absurd (none-some next f)
 shape_step (InSection id told) next words t (Message m) h f s =
     let (test, same) = cond_some (eqb m.seq (told + 1)) (InSection id (told + 1)) next f in
@@ -157,11 +157,11 @@ shape_step (InSection id told) next words t (End e sent received finished) h f s
     let (test, same) = cond_some (eqb e id && eqb sent told) Between next f in
     let (id_test, sent_test) = and_parts (eqb e id) (eqb sent told) test in
     section_ends words t id told e sent received finished h (eqb-true e id id_test) (eqb-true sent told sent_test) (from_next next Between t same s)
-shape_step (InSection id told) next words t (NamingLine clock other seq) h f s = absurd (none-some next f)
-shape_step Namings next words t (Channel id) h f s = absurd (none-some next f)
-shape_step Namings next words t (Message m) h f s = absurd (none-some next f)
-shape_step Namings next words t (End e sent received finished) h f s = absurd (none-some next f)
-shape_step Namings next words t (NamingLine clock id seq) h f s = naming_goes words t clock id seq h (from_next next Namings t (same_Some Namings next f) s)
+shape_step (InSection id told) next words t (AnrLine clock other seq) h f s = absurd (none-some next f)
+shape_step Anrs next words t (Channel id) h f s = absurd (none-some next f)
+shape_step Anrs next words t (Message m) h f s = absurd (none-some next f)
+shape_step Anrs next words t (End e sent received finished) h f s = absurd (none-some next f)
+shape_step Anrs next words t (AnrLine clock id seq) h f s = anr_goes words t clock id seq h (from_next next Anrs t (same_Some Anrs next f) s)
 
 event_ok : (event : Event) (r : Result (List Event) ℕ) (events : List Event) → with_event event r ≡ Ok events → (rest : List Event) × (r ≡ Ok rest)
 event_ok event (Ok rest) events h = (rest, refl)
@@ -172,9 +172,9 @@ numbered_ok : (n : ℕ) (o : Option (StreamLine × Place)) (behind : Place → R
 numbered_ok n None behind events h = (cc)
 numbered_ok n (Some says) behind events h = let (rest, e) = event_ok (n, says.0) (behind says.1) events h in (says, rest, (refl, e))
 
-told_parts : (place : Place) (line : Line) (says : StreamLine × Place) → told place line ≡ Some says
+sent_parts : (place : Place) (line : Line) (says : StreamLine × Place) → told place line ≡ Some says
     → (line.1 ≡ true) × (line_of line.0 ≡ Some says.0) × (follow place says.0 ≡ Some says.1)
-told_parts place line says h =
+sent_parts place line says h =
     elim (chosen line.1 (line_of line.0 >>= λ s. follow place s >>= λ x. Some (s, x)) None (Some says) h) [
       | inl ended ↦
           let (said, read, h1) = bind_some (line_of line.0) _ says ended.1 in
@@ -187,13 +187,13 @@ told_parts place line says h =
 no_lines : (place : Place) (n : ℕ) (events : List Event) → events_from place n [] ≡ Ok events → Shape place []
 no_lines Between n events h = ([], [], (tt, tt, refl))
 no_lines (InSection id told) n events h = (cc)
-no_lines Namings n events h = ([], (tt, refl))
+no_lines Anrs n events h = ([], (tt, refl))
 
 lines_shape : (place : Place) (n : ℕ) (lines : List Line) (events : List Event) → events_from place n lines ≡ Ok events → AllEnded lines × Shape place (closed lines)
 lines_shape place n [] events h = (tt, no_lines place n events h)
 lines_shape place n (line ∷ lines) events h =
     let (says, rest, (said, behind)) = numbered_ok n (told place line) (λ next. events_from next (n + 1) lines) events h in
-    let (ended, read, follows) = told_parts place line says said in
+    let (ended, read, follows) = sent_parts place line says said in
     let (others, shape) = lines_shape says.1 (n + 1) lines rest behind in
     ((ended, others), shape_step place says.1 line.0 (closed lines) says.0 (line_only line.0 says.0 read) follows shape)
 
@@ -280,6 +280,6 @@ pub stream_only : (bytes : List ℕ) (events : List Event) → events_of bytes �
 unfolding events_of stream_text
 stream_only bytes events h =
     let (front, (passed, read)) = behind_ok (order_passed (lines_of bytes)) events h in
-    let (ended, (ss, ns, (are_sections, are_namings, text))) = lines_shape Between front.0 front.1 events read in
+    let (ended, (ss, ns, (are_sections, are_anrs, text))) = lines_shape Between front.0 front.1 events read in
     let (order, (is_order, all_ended, begins)) = front_of front.0 (lines_of bytes) front.1 passed in
-    (order, ss, ns, (is_order, are_sections, are_namings, ended_text bytes (all_ended ended) ∙ begins ∙ ap (λ t. front_text order ++ t) text))
+    (order, ss, ns, (is_order, are_sections, are_anrs, ended_text bytes (all_ended ended) ∙ begins ∙ ap (λ t. front_text order ++ t) text))

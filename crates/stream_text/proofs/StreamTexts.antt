@@ -8,18 +8,18 @@ use Rattle.std.proofs.lemmas.List.{append_assoc, append-nil}
 use Rattle.input_types.specs.declared.message.Message.{Message as Told}
 use Rattle.stream_text.specs.declared.order_line.OrderLine.{OrderLine}
 use Rattle.stream_text.specs.declared.stream_line.StreamLine.{StreamLine}
-use Rattle.stream_text.specs.declared.stream_line.StreamLine.TheVariants.{Channel, Message, End, Naming as NamingLine}
+use Rattle.stream_text.specs.declared.stream_line.StreamLine.TheVariants.{Channel, Message, End, Anr as AnrLine}
 use Rattle.stream_text.specs.declared.stream_lines.Place.{Place}
-use Rattle.stream_text.specs.declared.stream_lines.Place.TheVariants.{Between, Section as InSection, Namings}
+use Rattle.stream_text.specs.declared.stream_lines.Place.TheVariants.{Between, Section as InSection, Anrs}
 use Rattle.stream_text.specs.Number.{◌>>=◌}
 use Rattle.stream_text.specs.OrderText.{head_of, order_passed, passed_behind}
 use Rattle.text_lines.specs.Lines.{Line, lines_of}
-use Rattle.stream_text.specs.Spelling.{channel_line, end_line, labeled, message_line, message_lines, naming_line, numbered, body}
+use Rattle.stream_text.specs.Spelling.{channel_line, end_line, labeled, message_line, message_lines, anr_line, numbered, body}
 use Rattle.stream_text.specs.MessageLine.{message_words}
-use Rattle.stream_text.specs.StreamLine.{channel_words, end_words, naming_words, IsId, SpellsLine}
+use Rattle.stream_text.specs.StreamLine.{channel_words, end_words, anr_words, IsId, SpellsLine}
 use Rattle.stream_text.specs.StreamFile.{Stream, events_behind, events_from, events_of, follow, numbered_line, streams_in, with_event}
 use Rattle.stream_text.specs.StreamAnswer.{opened, with_stream}
-use Rattle.stream_text.specs.StreamText.{AreNamings, AreNumbered, AreSections, IsSection, MayBeOrder, Naming, Section, line_behind, namings_text, section_text, sections_text, stream_text, streams_from}
+use Rattle.stream_text.specs.StreamText.{AreAnrs, AreNumbered, AreSections, IsSection, MayBeOrder, Anr, Section, line_behind, anrs_text, section_text, sections_text, stream_text, streams_from}
 use Rattle.stream_text.proofs.LineTexts.{line_again}
 use Rattle.stream_text.proofs.NoNewlines.{first_ok, last_ok, message_ok, name_ok}
 use Rattle.stream_text.proofs.OrderPassed.{order_over}
@@ -100,34 +100,34 @@ section_again n s rest h =
     ∙ channel_opens s.id n (Channel s.id) left refl
     ∙ section_rest s.id (n + 1) 0 (n + 1) (length s.messages) s.received s.finished [] s.messages rest h.id h.messages (omega arith) h.sent h.received h.finished
 
-pub naming_text : (x : Naming) (rest : List ℕ) → naming_line x.clock x.id x.seq ++ rest ≡ naming_words x.clock x.id x.seq ++ 10 ∷ rest
-unfolding naming_line naming_words
-naming_text x rest = append_assoc (labeled (codes "anr ") x.clock ++ labeled (codes " ") x.id ++ labeled (codes " ") x.seq) (codes "\n") rest
+pub anr_text : (x : Anr) (rest : List ℕ) → anr_line x.clock x.id x.seq ++ rest ≡ anr_words x.clock x.id x.seq ++ 10 ∷ rest
+unfolding anr_line anr_words
+anr_text x rest = append_assoc (labeled (codes "anr ") x.clock ++ labeled (codes " ") x.id ++ labeled (codes " ") x.seq) (codes "\n") rest
 
-naming_step : (place : Place) (n : ℕ) (x : Naming) (rest : List ℕ) → x.clock ≤ 1000000000000000000 → IsId x.id → x.seq < 2 ^ 64
-    → follow place (NamingLine x.clock x.id x.seq) ≡ Some Namings
-    → streams_in (events_from place n (lines_of (naming_line x.clock x.id x.seq ++ rest))) ≡ streams_in (events_from Namings (n + 1) (lines_of rest))
-naming_step place n x rest c i s follows =
-    let says : StreamLine = NamingLine x.clock x.id x.seq in
-    ap (λ t. streams_in (events_from place n (lines_of t))) (naming_text x rest)
-    ∙ ap streams_in (step place Namings n (naming_words x.clock x.id x.seq) rest says (name_ok x.clock x.id x.seq (omega (arith, c)) i s) (refl, c, i, s) follows)
-    ∙ others_add_none n says (events_from Namings (n + 1) (lines_of rest)) refl
+anr_step : (place : Place) (n : ℕ) (x : Anr) (rest : List ℕ) → x.clock ≤ 1000000000000000000 → IsId x.id → x.seq < 2 ^ 64
+    → follow place (AnrLine x.clock x.id x.seq) ≡ Some Anrs
+    → streams_in (events_from place n (lines_of (anr_line x.clock x.id x.seq ++ rest))) ≡ streams_in (events_from Anrs (n + 1) (lines_of rest))
+anr_step place n x rest c i s follows =
+    let says : StreamLine = AnrLine x.clock x.id x.seq in
+    ap (λ t. streams_in (events_from place n (lines_of t))) (anr_text x rest)
+    ∙ ap streams_in (step place Anrs n (anr_words x.clock x.id x.seq) rest says (name_ok x.clock x.id x.seq (omega (arith, c)) i s) (refl, c, i, s) follows)
+    ∙ others_add_none n says (events_from Anrs (n + 1) (lines_of rest)) refl
 
-namings_again : (n : ℕ) (ns : List Naming) → AreNamings ns → streams_in (events_from Namings n (lines_of (namings_text ns))) ≡ Ok []
-namings_again n [] h = refl
-namings_again n (x ∷ xs) h = naming_step Namings n x (namings_text xs) h.0 h.1 h.2 refl ∙ namings_again (n + 1) xs h.3
+anrs_again : (n : ℕ) (ns : List Anr) → AreAnrs ns → streams_in (events_from Anrs n (lines_of (anrs_text ns))) ≡ Ok []
+anrs_again n [] h = refl
+anrs_again n (x ∷ xs) h = anr_step Anrs n x (anrs_text xs) h.0 h.1 h.2 refl ∙ anrs_again (n + 1) xs h.3
 
-first_naming : (n : ℕ) (ns : List Naming) → AreNamings ns → streams_in (events_from Between n (lines_of (namings_text ns))) ≡ Ok []
-first_naming n [] h = refl
-first_naming n (x ∷ xs) h = naming_step Between n x (namings_text xs) h.0 h.1 h.2 refl ∙ namings_again (n + 1) xs h.3
+first_anr : (n : ℕ) (ns : List Anr) → AreAnrs ns → streams_in (events_from Between n (lines_of (anrs_text ns))) ≡ Ok []
+first_anr n [] h = refl
+first_anr n (x ∷ xs) h = anr_step Between n x (anrs_text xs) h.0 h.1 h.2 refl ∙ anrs_again (n + 1) xs h.3
 
-sections_again : (n : ℕ) (ss : List Section) (ns : List Naming) → AreSections ss → AreNamings ns
-    → streams_in (events_from Between n (lines_of (sections_text ss ++ namings_text ns))) ≡ Ok (streams_from n ss)
-sections_again n [] ns h i = first_naming n ns i
+sections_again : (n : ℕ) (ss : List Section) (ns : List Anr) → AreSections ss → AreAnrs ns
+    → streams_in (events_from Between n (lines_of (sections_text ss ++ anrs_text ns))) ≡ Ok (streams_from n ss)
+sections_again n [] ns h i = first_anr n ns i
 sections_again n (s ∷ ss) ns h i =
     let stream : Stream = record { id = s.id; first_line = n + 1; messages = s.messages } in
-    ap (λ t. streams_in (events_from Between n (lines_of t))) (append_assoc (section_text s) (sections_text ss) (namings_text ns))
-    ∙ section_again n s (sections_text ss ++ namings_text ns) h.0
+    ap (λ t. streams_in (events_from Between n (lines_of t))) (append_assoc (section_text s) (sections_text ss) (anrs_text ns))
+    ∙ section_again n s (sections_text ss ++ anrs_text ns) h.0
     ∙ ap (with_stream stream) (sections_again (n + 1 + length s.messages + 1) ss ns h.1 i)
 
 -- no order in front
@@ -142,27 +142,27 @@ no_head_channel : (id : ℕ) (name : List ℕ) → head_of (channel_words id nam
 unfolding head_of channel_words
 no_head_channel id name = refl
 
-no_head_naming : (clock id seq : ℕ) → head_of (naming_words clock id seq) ≡ None
-unfolding head_of naming_words labeled
-no_head_naming clock id seq = refl
+no_head_anr : (clock id seq : ℕ) → head_of (anr_words clock id seq) ≡ None
+unfolding head_of anr_words labeled
+no_head_anr clock id seq = refl
 
-no_order : (ss : List Section) (ns : List Naming) → AreSections ss → AreNamings ns
-    → order_passed (lines_of (sections_text ss ++ namings_text ns)) ≡ Ok (1, lines_of (sections_text ss ++ namings_text ns))
+no_order : (ss : List Section) (ns : List Anr) → AreSections ss → AreAnrs ns
+    → order_passed (lines_of (sections_text ss ++ anrs_text ns)) ≡ Ok (1, lines_of (sections_text ss ++ anrs_text ns))
 no_order [] [] h i = refl
 no_order [] (x ∷ xs) h i =
     let Front : List ℕ → Type 0 = λ t. order_passed (lines_of t) ≡ Ok (1, lines_of t) in
-    subst Front (sym (naming_text x (namings_text xs)))
-    (other_front (naming_words x.clock x.id x.seq) (namings_text xs) (name_ok x.clock x.id x.seq (omega (arith, i.0)) i.1 i.2) (no_head_naming x.clock x.id x.seq))
+    subst Front (sym (anr_text x (anrs_text xs)))
+    (other_front (anr_words x.clock x.id x.seq) (anrs_text xs) (name_ok x.clock x.id x.seq (omega (arith, i.0)) i.1 i.2) (no_head_anr x.clock x.id x.seq))
 no_order (s ∷ ss) ns h i =
     let Front : List ℕ → Type 0 = λ t. order_passed (lines_of t) ≡ Ok (1, lines_of t) in
-    let rest = sections_text ss ++ namings_text ns in
-    subst Front (sym (append_assoc (section_text s) (sections_text ss) (namings_text ns) ∙ first_text s rest))
+    let rest = sections_text ss ++ anrs_text ns in
+    subst Front (sym (append_assoc (section_text s) (sections_text ss) (anrs_text ns) ∙ first_text s rest))
     (other_front (channel_words s.id s.name) (message_lines s.messages ++ (end_line s.id (length s.messages) s.received s.finished ++ rest)) (first_ok s.id s.name h.0.id h.0.name) (no_head_channel s.id s.name))
 
 -- a stream file that was written is read again as its streams
-pub stream_again : (order : Option (List OrderLine)) (ss : List Section) (ns : List Naming) → MayBeOrder order → AreSections ss → AreNamings ns
+pub stream_again : (order : Option (List OrderLine)) (ss : List Section) (ns : List Anr) → MayBeOrder order → AreSections ss → AreAnrs ns
     → streams_in (events_of (stream_text order ss ns)) ≡ Ok (streams_from (line_behind order) ss)
 unfolding events_of stream_text
 stream_again None ss ns o h i = ap (λ p. streams_in (events_behind p)) (no_order ss ns h i) ∙ sections_again 1 ss ns h i
 stream_again (Some order) ss ns o h i =
-    ap (λ p. streams_in (events_behind p)) (order_over order (sections_text ss ++ namings_text ns) o) ∙ sections_again (length order + 2) ss ns h i
+    ap (λ p. streams_in (events_behind p)) (order_over order (sections_text ss ++ anrs_text ns) o) ∙ sections_again (length order + 2) ss ns h i

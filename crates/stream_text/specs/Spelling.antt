@@ -88,5 +88,5 @@ abbrev pub channel_section : ℕ → List ℕ → List Message → Counts → Li
 channel_section id name stream counts = channel_line id name ++ message_lines stream ++ end_line id counts.sent counts.received counts.finished
 
 -- the line of a naming: the clock, the channel and its oldest unfinished message
-unfoldable pub naming_line : ℕ → ℕ → ℕ → List ℕ
-naming_line clock channel seq = labeled (codes "anr ") clock ++ labeled (codes " ") channel ++ labeled (codes " ") seq ++ codes "\n"
+unfoldable pub anr_line : ℕ → ℕ → ℕ → List ℕ
+anr_line clock channel seq = labeled (codes "anr ") clock ++ labeled (codes " ") channel ++ labeled (codes " ") seq ++ codes "\n"

@@ -41,14 +41,14 @@ Finds old (Err Memory) new = ⊥
 Finds old (Err (BadLine bad)) new = old ≡ Err bad
 
 -- the message that a line is
-abbrev pub message_told : Option Event → Option Told
-message_told (Some (n, Message m)) = Some m
-message_told _ = None
+abbrev pub message_sent : Option Event → Option Told
+message_sent (Some (n, Message m)) = Some m
+message_sent _ = None
 
 -- the channel whose section a line begins
-abbrev pub channel_told : StreamLine → Option ℕ
-channel_told (Channel id) = Some id
-channel_told _ = None
+abbrev pub channel_sent : StreamLine → Option ℕ
+channel_sent (Channel id) = Some id
+channel_sent _ = None
 
 -- a stream in front of others
 abbrev pub with_stream : Stream → Result (List Stream) ℕ → Result (List Stream) ℕ

@@ -2,9 +2,9 @@
 use Rattle.std.specs.Prelude.{◌≡◌, ◌<◌, ℕ, ◌+◌, ◌==◌, ◌&&◌, Bool, true, false, if◌then◌else◌, List, [], ◌∷◌, Option, Some, None, Result, Ok, Err}
 use Rattle.input_types.specs.declared.message.Message.{Message as Told}
 use Rattle.stream_text.specs.declared.stream_line.StreamLine.{StreamLine}
-use Rattle.stream_text.specs.declared.stream_line.StreamLine.TheVariants.{Channel, Message, End, Naming}
+use Rattle.stream_text.specs.declared.stream_line.StreamLine.TheVariants.{Channel, Message, End, Anr}
 use Rattle.stream_text.specs.declared.stream_lines.Place.{Place}
-use Rattle.stream_text.specs.declared.stream_lines.Place.TheVariants.{Between, Section, Namings}
+use Rattle.stream_text.specs.declared.stream_lines.Place.TheVariants.{Between, Section, Anrs}
 use Rattle.stream_text.specs.Number.{◌>>=◌}
 use Rattle.text_lines.specs.Lines.{Line, lines_of}
 use Rattle.stream_text.specs.OrderText.{order_passed}
@@ -14,17 +14,17 @@ use Rattle.stream_text.specs.StreamLine.{line_of}
 -- and the end of a section repeats its channel and tells how many messages it has. Namings stand behind all sections.
 abbrev pub follow : Place → StreamLine → Option Place
 follow Between (Channel id) = Some (Section id 0)
-follow Between (Naming clock id seq) = Some Namings
+follow Between (Anr clock id seq) = Some Anrs
 follow (Section id told) (Message m) = if m.seq == told + 1 then Some (Section id (told + 1)) else None
 follow (Section id told) (End e sent received finished) = if (e == id) && (sent == told) then Some Between else None
-follow Namings (Naming clock id seq) = Some Namings
+follow Anrs (Anr clock id seq) = Some Anrs
 follow _ _ = None
 
 -- a file may end anywhere but inside a section
 abbrev pub may_end : Place → Bool
 may_end Between = true
 may_end (Section id told) = false
-may_end Namings = true
+may_end Anrs = true
 
 -- a line with its number
 abbrev pub Event : Type 0

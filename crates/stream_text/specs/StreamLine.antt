@@ -7,7 +7,7 @@ use Rattle.input_types.specs.declared.message.Body.{Body}
 use Rattle.input_types.specs.declared.message.Body.TheVariants.{Motion as MotionBody}
 use Rattle.input_types.specs.declared.message.Message.{Message as Told}
 use Rattle.stream_text.specs.declared.stream_line.StreamLine.{StreamLine}
-use Rattle.stream_text.specs.declared.stream_line.StreamLine.TheVariants.{Channel, Message, End, Naming}
+use Rattle.stream_text.specs.declared.stream_line.StreamLine.TheVariants.{Channel, Message, End, Anr}
 use Rattle.stream_text.specs.Number.{◌>>=◌, after, number_at, whole}
 use Rattle.stream_text.specs.MessageLine.{chosen_by, labeled_at, message_of, message_words, HasSpelling}
 use Rattle.stream_text.specs.Spelling.{labeled}
@@ -43,28 +43,28 @@ end_of bs = do
   whole (End id.0 sent.0 received.0 finished.0, finished.1)
 
 -- behind `anr `: the clock, the channel that is named, and its oldest unfinished message
-unfoldable pub naming_of : List ℕ → Option StreamLine
-naming_of bs = do
+unfoldable pub anr_of : List ℕ → Option StreamLine
+anr_of bs = do
   clock ← number_at 1000000000000000000 bs
   to_id ← after (codes " ") clock.1
   id ← channel_at to_id
   seq ← labeled_at (codes " ") (2 ^ 64 - 1) id.1
-  whole (Naming clock.0 id.0 seq.0, seq.1)
+  whole (Anr clock.0 id.0 seq.0, seq.1)
 
 -- what a line says; None where it has none of the four forms
 unfoldable pub line_of : List ℕ → Option StreamLine
 line_of bs =
     chosen_by (after (codes "channel ") bs) channel_of
     (chosen_by (after (codes "end ") bs) end_of
-    (chosen_by (after (codes "anr ") bs) naming_of (message_of bs >>= λ m. Some (Message m))))
+    (chosen_by (after (codes "anr ") bs) anr_of (message_of bs >>= λ m. Some (Message m))))
 
 -- the line of a message, where there is one
-abbrev pub line_that_tells : Option Told → Option StreamLine
-line_that_tells told = told >>= λ m. Some (Message m)
+abbrev pub line_that_sends : Option Told → Option StreamLine
+line_that_sends told = told >>= λ m. Some (Message m)
 
 -- the line of a message of this number and moment, where it says something
 abbrev pub line_that_says : ℕ → ℕ → Option Body → Option StreamLine
-line_that_says seq moment says = line_that_tells (says >>= λ body. Some (record { seq = seq; moment = moment; body = body }))
+line_that_says seq moment says = line_that_sends (says >>= λ body. Some (record { seq = seq; moment = moment; body = body }))
 
 -- the line of a motion of this number and moment, where there is one
 abbrev pub line_that_moves : ℕ → ℕ → Option Motion → Option StreamLine
@@ -80,8 +80,8 @@ end_words id sent received finished =
     labeled (codes "end ") id ++ labeled (codes " sent ") sent ++ labeled (codes " received ") received ++ labeled (codes " finished ") finished
 
 -- the line of a naming, without its newline
-unfoldable pub naming_words : ℕ → ℕ → ℕ → List ℕ
-naming_words clock id seq = labeled (codes "anr ") clock ++ labeled (codes " ") id ++ labeled (codes " ") seq
+unfoldable pub anr_words : ℕ → ℕ → ℕ → List ℕ
+anr_words clock id seq = labeled (codes "anr ") clock ++ labeled (codes " ") id ++ labeled (codes " ") seq
 
 -- the number of a channel
 abbrev pub IsId : ℕ → Type 0
@@ -93,11 +93,11 @@ SpellsLine bs (Channel id) = (name : List ℕ) × (bs ≡ channel_words id name)
 SpellsLine bs (Message m) = (bs ≡ message_words m) × HasSpelling m
 SpellsLine bs (End id sent received finished) =
     (bs ≡ end_words id sent received finished) × IsId id × (sent < 2 ^ 64) × (received < 2 ^ 64) × (finished < 2 ^ 64)
-SpellsLine bs (Naming clock id seq) = (bs ≡ naming_words clock id seq) × (clock ≤ 1000000000000000000) × IsId id × (seq < 2 ^ 64)
+SpellsLine bs (Anr clock id seq) = (bs ≡ anr_words clock id seq) × (clock ≤ 1000000000000000000) × IsId id × (seq < 2 ^ 64)
 
 -- what a line can say: a section is of one of the channels 1 to 64, and a message has a spelling
 abbrev pub CanSay : StreamLine → Type 0
 CanSay (Channel id) = IsId id
 CanSay (Message m) = HasSpelling m
 CanSay (End id sent received finished) = Unit {0}
-CanSay (Naming clock id seq) = Unit {0}
+CanSay (Anr clock id seq) = Unit {0}

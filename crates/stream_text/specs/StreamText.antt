@@ -4,7 +4,7 @@ use Rattle.input_types.specs.declared.message.Message.{Message}
 use Rattle.stream_text.specs.declared.order_line.OrderLine.{OrderLine}
 use Rattle.stream_text.specs.Order.{order_spelling}
 use Rattle.stream_text.specs.OrderText.{IsOrder}
-use Rattle.stream_text.specs.Spelling.{channel_line, end_line, message_lines, naming_line}
+use Rattle.stream_text.specs.Spelling.{channel_line, end_line, message_lines, anr_line}
 use Rattle.stream_text.specs.MessageLine.{HasSpelling}
 use Rattle.stream_text.specs.StreamLine.{IsId, is_name}
 use Rattle.stream_text.specs.StreamFile.{Stream}
@@ -18,7 +18,7 @@ pub record Section : Type 0 where
   pub finished : ℕ
 
 -- a naming: the clock, the channel and its oldest unfinished message
-pub record Naming : Type 0 where
+pub record Anr : Type 0 where
   pub clock : ℕ
   pub id : ℕ
   pub seq : ℕ
@@ -33,9 +33,9 @@ sections_text [] = []
 sections_text (s ∷ ss) = section_text s ++ sections_text ss
 
 -- the lines of namings, one after the other
-abbrev pub namings_text : List Naming → List ℕ
-namings_text [] = []
-namings_text (n ∷ ns) = naming_line n.clock n.id n.seq ++ namings_text ns
+abbrev pub anrs_text : List Anr → List ℕ
+anrs_text [] = []
+anrs_text (n ∷ ns) = anr_line n.clock n.id n.seq ++ anrs_text ns
 
 -- the text of an order that may be absent
 abbrev pub front_text : Option (List OrderLine) → List ℕ
@@ -43,8 +43,8 @@ front_text None = []
 front_text (Some order) = order_spelling order
 
 -- the text of a stream file: an order that may be absent, the sections, the namings
-unfoldable pub stream_text : Option (List OrderLine) → List Section → List Naming → List ℕ
-stream_text order sections namings = front_text order ++ (sections_text sections ++ namings_text namings)
+unfoldable pub stream_text : Option (List OrderLine) → List Section → List Anr → List ℕ
+stream_text order sections anrs = front_text order ++ (sections_text sections ++ anrs_text anrs)
 
 -- messages that have a spelling, with the numbers k, k + 1 and so on
 abbrev pub AreNumbered : ℕ → List Message → Type 0
@@ -66,9 +66,9 @@ AreSections [] = Unit {0}
 AreSections (s ∷ ss) = IsSection s × AreSections ss
 
 -- the numbers of each of these namings are in their ranges
-abbrev pub AreNamings : List Naming → Type 0
-AreNamings [] = Unit {0}
-AreNamings (n ∷ ns) = (n.clock ≤ 1000000000000000000) × IsId n.id × (n.seq < 2 ^ 64) × AreNamings ns
+abbrev pub AreAnrs : List Anr → Type 0
+AreAnrs [] = Unit {0}
+AreAnrs (n ∷ ns) = (n.clock ≤ 1000000000000000000) × IsId n.id × (n.seq < 2 ^ 64) × AreAnrs ns
 
 -- no order, or one that has a text
 abbrev pub MayBeOrder : Option (List OrderLine) → Type 0
@@ -88,5 +88,5 @@ line_behind (Some order) = length order + 2
 -- the bytes are the text of a stream file
 abbrev pub IsStreamFile : List ℕ → Type 0
 IsStreamFile bytes =
-    (order : Option (List OrderLine)) × (sections : List Section) × (namings : List Naming)
-    × (MayBeOrder order × AreSections sections × AreNamings namings × (bytes ≡ stream_text order sections namings))
+    (order : Option (List OrderLine)) × (sections : List Section) × (anrs : List Anr)
+    × (MayBeOrder order × AreSections sections × AreAnrs anrs × (bytes ≡ stream_text order sections anrs))

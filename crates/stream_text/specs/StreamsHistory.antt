@@ -1,11 +1,11 @@
--- The streams text of a history: what each channel of a session was told, and who was named unresponsive.
+-- The streams text of a history: what each channel of a session was sent, and who was named unresponsive.
 use Rattle.std.specs.Prelude.{ℕ, ◌+◌, List, [], ◌∷◌, ◌++◌, reverse, false}
 use Rattle.std.specs.Option.{unwrap_or}
 use Rattle.dispatch_calls.specs.declared.counts.Counts.{Counts}
-use Rattle.dispatch_calls.specs.declared.counts.Naming.{Naming}
+use Rattle.dispatch_calls.specs.declared.counts.Anr.{Anr}
 use Rattle.dispatch_history.specs.Effect.{Effect, stream}
-use Rattle.dispatch_history.specs.Due.{counts, namings}
-use Rattle.stream_text.specs.Spelling.{channel_section, naming_line}
+use Rattle.dispatch_history.specs.Due.{counts, anrs}
+use Rattle.stream_text.specs.Spelling.{channel_section, anr_line}
 
 -- nothing was sent on a channel that was never opened
 abbrev pub unopened : Counts
@@ -17,11 +17,11 @@ sections_of k [] es = []
 sections_of k (name ∷ names) es = channel_section k name (reverse (stream es k)) (unwrap_or (counts es k) unopened) ++ sections_of (k + 1) names es
 
 -- the lines of namings, one after the other
-abbrev pub naming_lines : List Naming → List ℕ
-naming_lines [] = []
-naming_lines (n ∷ ns) = naming_line n.clock n.channel n.seq ++ naming_lines ns
+abbrev pub anr_lines : List Anr → List ℕ
+anr_lines [] = []
+anr_lines (n ∷ ns) = anr_line n.clock n.channel n.seq ++ anr_lines ns
 
 -- the streams text of a history with these effects, for a session whose channels have these names: the section of each channel, in the
 -- order of their numbers, and then the namings, in the order of the history
 abbrev pub streams_text : List (List ℕ) → List Effect → List ℕ
-streams_text names es = sections_of 1 names es ++ naming_lines (namings es)
+streams_text names es = sections_of 1 names es ++ anr_lines (anrs es)

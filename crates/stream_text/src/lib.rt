@@ -1,4 +1,4 @@
-//! The texts of the service: what windows were told, and in which order the calls were made.
+//! The texts of the service: what windows were sent, and in which order the calls were made.
 //!
 //! The second message of channel 1, told at 2,000 microseconds, that pointer 0 moved to (110, 200) while pointer 1
 //! stayed, is the line
@@ -47,7 +47,7 @@ pub use message::{LineWriter, message_text};
 pub use order::{Order, order_text};
 pub use order_error::OrderError;
 pub use order_line::OrderLine;
-pub use section::{channel_line_text, channel_text, end_line_text, naming_text};
+pub use section::{anr_text, channel_line_text, channel_text, end_line_text};
 pub use stream_error::StreamError;
 pub use stream_file::{StreamChannel, StreamFile, StreamReader};
 pub use stream_line::StreamLine;

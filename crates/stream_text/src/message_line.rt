@@ -2,7 +2,7 @@
 ghost use Rattle.std.specs.Prelude.{◌≡◌, ◌≤◌, codes, cond, Some, None, option_map, IfSome};
 ghost use Rattle.stream_text.specs.Number.{after};
 ghost use Rattle.stream_text.specs.MessageLine.{action_at, body_of, codes_at, device_at, flags_at, focus_of, indexed_at, key_of, labeled_at, message_of, motion_of, pointer_at, pointers_at, way_at};
-ghost use Rattle.stream_text.specs.StreamLine.{line_that_moves, line_that_says, line_that_tells};
+ghost use Rattle.stream_text.specs.StreamLine.{line_that_moves, line_that_says, line_that_sends};
 
 use crate::number::{integer, number, past};
 use crate::stream_line::StreamLine;
@@ -263,7 +263,7 @@ fn body(seq: u64, moment: Moment, bytes: &[u8], says: &mut StreamLine) -> bool
 #[inline(always)]
 #[tactic(auto, unfolding(crate::specs::MessageLine::message_of))]
 pub(crate) fn message(bytes: &[u8], says: &mut StreamLine) -> bool
-    ensures { cond result (Some says.new) None ≡ line_that_tells (message_of bytes.now) }
+    ensures { cond result (Some says.new) None ≡ line_that_sends (message_of bytes.now) }
 {
     let Some((seq, rest)) = number(u64::MAX, bytes) else {
         return false;

@@ -1,6 +1,6 @@
 //! Sections of channels, and namings.
 ghost use Rattle.std.specs.Prelude.{◌≡◌, ◌++◌, IfOk, OnOk, OnErr};
-ghost use Rattle.stream_text.specs.Spelling.{channel_line, channel_section, end_line, naming_line};
+ghost use Rattle.stream_text.specs.Spelling.{channel_line, channel_section, end_line, anr_line};
 
 use crate::message::add_messages;
 use dispatch_calls::Counts;
@@ -36,9 +36,9 @@ fn add_end(
     add_word(text, "\n")
 }
 
-#[tactic(auto, unfolding(crate::specs::Spelling::naming_line))]
-fn add_naming(text: &mut Vec<u8>, clock: u64, channel: u32, seq: u64) -> Result<(), AllocError>
-    ensures { IfOk result (λ _. text.new.items ≡ text.old.items ++ naming_line clock channel seq) }
+#[tactic(auto, unfolding(crate::specs::Spelling::anr_line))]
+fn add_anr(text: &mut Vec<u8>, clock: u64, channel: u32, seq: u64) -> Result<(), AllocError>
+    ensures { IfOk result (λ _. text.new.items ≡ text.old.items ++ anr_line clock channel seq) }
 {
     add_labeled(text, "anr ", clock)?;
     add_labeled(text, " ", u64::from(channel))?;
@@ -94,16 +94,11 @@ pub fn end_line_text(
 
 /// Appends the line of a naming: at `clock` the channel was named unresponsive for its message `seq`. After want of
 /// memory `out` is as before.
-pub fn naming_text(
-    clock: Moment,
-    channel: u32,
-    seq: u64,
-    out: &mut Vec<u8>,
-) -> Result<(), AllocError>
-    ensures ok { OnOk result (out.new.items ≡ out.old.items ++ naming_line clock channel seq) }
+pub fn anr_text(clock: Moment, channel: u32, seq: u64, out: &mut Vec<u8>) -> Result<(), AllocError>
+    ensures ok { OnOk result (out.new.items ≡ out.old.items ++ anr_line clock channel seq) }
     ensures err { OnErr result (out.new.items ≡ out.old.items) }
 {
     let mut text = Vec::new(*out.allocator());
-    add_naming(&mut text, clock.get(), channel, seq)?;
+    add_anr(&mut text, clock.get(), channel, seq)?;
     out.extend_from_slice(&text)
 }

@@ -1,10 +1,10 @@
 //! The streams of a stream file.
 ghost use Rattle.std.specs.Prelude.{◌≡◌, ◌+◌, ◌^◌, ◌<◌, ◌≤◌, IfOk, IfSome, OnOk, Ok, Err};
 ghost use Rattle.stream_text.specs.StreamFile.{events_of, streams_in};
-ghost use Rattle.stream_text.specs.StreamAnswer.{Answers, Begins, Finds, channel_told, message_told, pending};
+ghost use Rattle.stream_text.specs.StreamAnswer.{Answers, Begins, Finds, channel_sent, message_sent, pending};
 ghost use Rattle.std.specs.Prelude.{List, Option};
 ghost use Rattle.stream_text.specs.declared.order_line.OrderLine.{OrderLine};
-ghost use Rattle.stream_text.specs.StreamText.{AreNamings, AreSections, IsStreamFile, MayBeOrder, Naming, Section, line_behind, stream_text, streams_from};
+ghost use Rattle.stream_text.specs.StreamText.{AreAnrs, AreSections, IsStreamFile, MayBeOrder, Anr, Section, line_behind, stream_text, streams_from};
 
 use crate::stream_error::StreamError;
 use crate::stream_line::StreamLine;
@@ -46,7 +46,7 @@ fn next_line(lines: &mut StreamLines<'_>) -> Result<Option<(u64, StreamLine)>, S
 
 /// The message that a line is.
 fn message_of(line: &Option<(u64, StreamLine)>) -> Option<Message>
-    ensures { result ≡ message_told line.now }
+    ensures { result ≡ message_sent line.now }
 {
     match line {
         Some((_, StreamLine::Message(message))) => Some(*message),
@@ -56,7 +56,7 @@ fn message_of(line: &Option<(u64, StreamLine)>) -> Option<Message>
 
 /// The channel whose section a line begins.
 fn channel_of(says: &StreamLine) -> Option<u32>
-    ensures { result ≡ channel_told says.now }
+    ensures { result ≡ channel_sent says.now }
 {
     match says {
         StreamLine::Channel { id } => Some(*id),
@@ -113,15 +113,15 @@ impl StreamReader {
     /// The streams of a stream file: an order text that may be absent and is passed over, sections of channels, and
     /// namings.
     ///
-    /// It accepts just the texts that `order_text`, `channel_text` and `naming_text` append one after another, where
+    /// It accepts just the texts that `order_text`, `channel_text` and `anr_text` append one after another, where
     /// the k-th message of a section has number k and the end of a section tells how many there are. The refusal is
     /// that of the first line that has not its form, does not fit there, or is missing. The last line has to end in a
     /// newline.
     pub fn read(alloc: Global, bytes: &[u8]) -> Result<StreamFile, StreamError>
         ensures exact { Answers result (streams_in (events_of bytes.now)) }
-        ensures again { (order : Option (List OrderLine)) → (sections : List Section) → (namings : List Naming)
-            → MayBeOrder order → AreSections sections → AreNamings namings
-            → bytes.now ≡ stream_text order sections namings
+        ensures again { (order : Option (List OrderLine)) → (sections : List Section) → (anrs : List Anr)
+            → MayBeOrder order → AreSections sections → AreAnrs anrs
+            → bytes.now ≡ stream_text order sections anrs
             → Answers result (Ok (streams_from (line_behind order) sections)) }
         ensures only { OnOk result (IsStreamFile bytes.now) }
     {

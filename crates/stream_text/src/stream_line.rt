@@ -1,6 +1,6 @@
 //! The lines of a stream file.
 ghost use Rattle.std.specs.Prelude.{◌≡◌, cond, Some, None, option_map, IfSome};
-ghost use Rattle.stream_text.specs.StreamLine.{channel_at, channel_of, end_of, is_name, is_name_byte, line_of, naming_of, SpellsLine};
+ghost use Rattle.stream_text.specs.StreamLine.{channel_at, channel_of, end_of, is_name, is_name_byte, line_of, anr_of, SpellsLine};
 ghost use Rattle.stream_text.specs.declared.stream_line.StreamLine.{StreamLine};
 ghost use Rattle.std.specs.List.{list_all};
 
@@ -25,7 +25,7 @@ pub enum StreamLine {
         finished: u64,
     },
     /// At `clock` a channel was named unresponsive, and `seq` was its oldest unfinished message.
-    Naming {
+    Anr {
         clock: Moment,
         id: u32,
         seq: u64,
@@ -93,9 +93,9 @@ fn end(bytes: &[u8]) -> Option<StreamLine>
     })
 }
 
-#[tactic(auto, unfolding(crate::specs::StreamLine::naming_of))]
-fn naming(bytes: &[u8]) -> Option<StreamLine>
-    ensures { result ≡ naming_of bytes.now }
+#[tactic(auto, unfolding(crate::specs::StreamLine::anr_of))]
+fn anr(bytes: &[u8]) -> Option<StreamLine>
+    ensures { result ≡ anr_of bytes.now }
 {
     let (clock, rest) = number(Moment::MAX_US, bytes)?;
     let rest = past(" ", rest)?;
@@ -105,7 +105,7 @@ fn naming(bytes: &[u8]) -> Option<StreamLine>
         return None;
     }
     let clock = Moment::new(clock)?;
-    Some(StreamLine::Naming { clock, id, seq })
+    Some(StreamLine::Anr { clock, id, seq })
 }
 
 impl StreamLine {
@@ -153,7 +153,7 @@ pub(crate) fn read_line(line: &[u8], says: &mut StreamLine) -> bool
         return put(end(rest), says);
     }
     if let Some(rest) = past("anr ", line) {
-        return put(naming(rest), says);
+        return put(anr(rest), says);
     }
     message(line, says)
 }

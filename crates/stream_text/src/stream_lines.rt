@@ -16,7 +16,7 @@ pub(crate) enum Place {
     /// In the section of a channel, behind so many of its messages.
     Section { id: u32, told: u64 },
     /// Behind a naming.
-    Namings,
+    Anrs,
 }
 
 impl Place {
@@ -29,7 +29,7 @@ impl Place {
                 id: *id,
                 told: 0,
             }),
-            (Place::Between | Place::Namings, StreamLine::Naming { .. }) => Some(Place::Namings),
+            (Place::Between | Place::Anrs, StreamLine::Anr { .. }) => Some(Place::Anrs),
             (Place::Section { id, told }, StreamLine::Message(message)) => {
                 if message.seq > told && message.seq - 1 == told {
                     Some(Place::Section {
@@ -70,7 +70,7 @@ impl Place {
 }
 
 /// Reads what a line says that may stand at this place, and answers the place behind it.
-fn tell(place: Place, line: FirstLine<'_>, says: &mut StreamLine) -> Option<Place>
+fn send(place: Place, line: FirstLine<'_>, says: &mut StreamLine) -> Option<Place>
     ensures value { option_map (λ next. (says.new, next)) result ≡ told place (line.entry.text.now, line.entry.ended) }
     ensures says { IfSome result (λ _. CanSay says.new) }
 {
@@ -162,7 +162,7 @@ impl<'a> StreamLines<'a> {
         }
         let number = self.number;
         let line = first_line(self.rest);
-        let Some(next) = tell(self.place, line, says) else {
+        let Some(next) = send(self.place, line, says) else {
             return Err(number);
         };
         self.place = next;

@@ -55,7 +55,7 @@ pub record StopsWithin (before now : Writing) (text : List ℕ) : Type 0 where
   pub took : now.took ≡ until.took
   pub writes : now.writes ≡ until.writes ++ record { handed = rest; count = 0 } ∷ []
 
--- a line is told: the sink takes it, or it has a fault and takes a front part of it
+-- a line is sent: the sink takes it, or it has a fault and takes a front part of it
 abbrev pub Tells : ℕ → ℕ → Writing → Writing → List ℕ → Type 0
 Tells faults_before faults_now before now line =
     WritesAll before now line ⊎ (Rose faults_before faults_now × StopsWithin before now line)

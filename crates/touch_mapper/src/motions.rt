@@ -4,9 +4,9 @@ ghost use Rattle.input_types.specs.declared.motion.Motion.{Motion as MotionView}
 
 use input_types::{Args, Motion};
 
-/// What a motion can be told as: as itself, or as args of a device.
+/// What a motion can be sent as: as itself, or as args of a device.
 pub trait FromMotion: Copy {
-    /// What a motion is told as.
+    /// What a motion is sent as.
     ghost of_motion: { MotionView → Self };
 
     /// Tells a motion.

@@ -1,4 +1,4 @@
-//! Cooking gives back what a writer of packets was told to write.
+//! Cooking gives back what a writer of packets was sent to write.
 //!
 //! A writer is asked for contact 0 at (100, 200), then for contacts 0 and 1, then for contact 1 alone:
 //!

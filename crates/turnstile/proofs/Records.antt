@@ -42,7 +42,7 @@ module _ {C R : Type 0} where
   each_append h made [] qs f g = g
   each_append h made (r ∷ rs) qs f g = (f.0, each_append h made rs qs f.1 g)
 
-  -- what the rule says of a record is what its seat is told
+  -- what the rule says of a record is what its seat is sent
   pub owns : (h : List (Entry C R)) (made : ℕ) → ((k : ℕ) → made < k → calls_by k h ≡ []) → (r : Record C R) → Fits h made r → Owns h r
   owns h made none_above r f = record { own = f.own; above = λ z k a. none_above k (subst (λ m. m < k) (f.zero_made z) a) }
 

@@ -28,7 +28,7 @@ module _ {M T C R : Type 0} (legal : T → List (Entry C R) → Type 0) (setup :
       × H (record { words = set words i (f (get_or words i 0)); homes = homes_after s.homes c a; views = set s.views id w })
       × tells (get_or words i 0) (w, carried_after c a)
 
-  -- what the rule says of a seat that has drawn nothing is what it is told
+  -- what the rule says of a seat that has drawn nothing is what it is sent
   finds : (s : St) (h : H s) (id : ℕ) (v : View T C R) → v.spent ≡ false → v.drawn ≡ false → get_elem? s.views id ≡ some v → Finds legal v h.log
   finds s h id v live undrawn at =
       let l = (h.fits id v at).live live in

@@ -1,4 +1,4 @@
--- What the seats are told at each kind of step.
+-- What the seats are sent at each kind of step.
 use Rattle.std.specs.Prelude.{◌≡◌, ◌≢◌, ℕ, ◌<◌, ◌≤◌, List, [], ◌∷◌, length, Option, Some}
 use Rattle.atomic_table.specs.Table.{Me, rest}
 use Rattle.turnstile.specs.History.{Entry, calls_by, IsStart}

@@ -93,7 +93,7 @@ fn beside<M: Machine<Setup = u64, Call = u64, Reply = u64>, R: Print>(
     try_call(rt, turnstile, two, 7)?;
     try_split(rt, turnstile, zero)?;
     println!(rt; "length {}", turnstile.look(zero))?;
-    flags.let_go();
+    flags.release();
     Ok(())
 }
 
@@ -104,12 +104,12 @@ fn held_open<R: Threads + Wait + Print + Sync>(rt: &R, alloc: Global) -> io::Res
     let (turnstile, mut zero) = Turnstile::new(alloc, held)?;
     let mut one = try_split(rt, &turnstile, &mut zero)?;
     let mut two = try_split(rt, &turnstile, &mut zero)?;
-    let (first, told) = join_mut(
+    let (first, outgoing) = join_mut(
         rt,
         &mut || turnstile.step(rt, &mut one, 5),
         &mut || beside(rt, &flags, &turnstile, &mut zero, &mut two),
     );
-    told?;
+    outgoing?;
     let first = first?;
     println!(rt; "seat 1: place {}, total {}", first.place, first.reply)?;
     try_call(rt, &turnstile, &mut two, 7)

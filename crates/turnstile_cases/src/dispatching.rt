@@ -32,7 +32,7 @@ fn beside<'a, R: Print>(
 {
     println!(rt; "a call is held open: {}", flags.wait_inside())?;
     let answer = turnstile.try_step(one, press()?);
-    flags.let_go();
+    flags.release();
     match answer {
         Err(TryRefused::Busy(call)) => {
             println!(rt; "seat 1: busy, {} comes back", name_of(&call))?;
@@ -84,14 +84,14 @@ fn held_open<R: Threads + Wait + Print + Sync>(rt: &R, alloc: Global) -> io::Res
     let (turnstile, mut zero) = Turnstile::new(alloc, HeldCore::new(core, &flags))?;
     try_step(rt, alloc, &turnstile, &mut zero, open()?)?;
     let mut one = turnstile.try_split(&mut zero)?;
-    let (first, told) = join_mut(
+    let (first, outgoing) = join_mut(
         rt,
         &mut || step_windows(rt, alloc, &turnstile, &mut zero),
         &mut || beside(rt, &flags, &turnstile, &mut one),
     );
     let first = first?;
     print_reply(rt, alloc, 0, first.place, &first.reply)?;
-    if let Some(call) = told? {
+    if let Some(call) = outgoing? {
         try_step(rt, alloc, &turnstile, &mut one, call)?;
     }
     try_step(rt, alloc, &turnstile, &mut one, pump())?;

@@ -23,7 +23,7 @@ impl Flags {
     }
 
     /// Lets all steps through.
-    pub(crate) fn let_go(&self) {
+    pub(crate) fn release(&self) {
         self.open.store(1, Ordering::SeqCst);
     }
 

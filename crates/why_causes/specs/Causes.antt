@@ -6,7 +6,7 @@ use Rattle.input_types.specs.Pointers.{IsRising}
 use Rattle.window_snapshot.specs.Mask.{is_channel, mask_has}
 use Rattle.routing_rules.specs.Scene.{Scene, Moves}
 use Rattle.routing_rules.specs.Given.{changed}
-use Rattle.routing_rules.specs.Told.{is_down}
+use Rattle.routing_rules.specs.Outgoing.{is_down}
 use Rattle.routing_rules.specs.Fits.{Fits, down_after}
 use Rattle.route_split.specs.Tables.{Stands}
 use Rattle.route_split.specs.Seen.{Sees}

@@ -8,7 +8,7 @@ use Rattle.window_snapshot.specs.Mask.{is_channel}
 use Rattle.dispatch_calls.specs.declared.call.Call.TheVariants.{Remove}
 use Rattle.dispatch_calls.specs.declared.reply.Reply.{Reply}
 use Rattle.dispatch_calls.specs.declared.reply.Reply.TheVariants.{Done, Gone}
-use Rattle.routing_rules.specs.Told.{devices}
+use Rattle.routing_rules.specs.Outgoing.{devices}
 use Rattle.dispatch_history.specs.Delivery.{able, unresponsive}
 use Rattle.dispatch_history.specs.Effect.{Effect, past_of}
 use Rattle.dispatch_history.specs.Effects.{effect_of, step}

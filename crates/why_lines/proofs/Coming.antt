@@ -11,7 +11,7 @@ use Rattle.dispatch_history.specs.History.{clock, snapshot}
 use Rattle.dispatch_history.specs.Queue.{inbound, args_of}
 use Rattle.dispatch_history.specs.Effect.{Effect, past_of, down_ids}
 use Rattle.dispatch_history.specs.Effects.{step}
-use Rattle.dispatch_history.specs.KeyTold.{repeat_due}
+use Rattle.dispatch_history.specs.KeySent.{repeat_due}
 use Rattle.dispatch_history.specs.PointerOf.{AllRise}
 use Rattle.dispatch_history.specs.Reply.{pump_reply, reply_to}
 use Rattle.dispatch_history.specs.Step.{scene, step_of}

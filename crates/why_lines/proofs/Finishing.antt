@@ -19,8 +19,8 @@ abbrev done : List ℕ → List Effect → (now c seq : ℕ) → Reply → Effec
 done ds es now c seq answer = effect_of ds (Finish now c seq) answer (args_of (Finish now c seq) answer (inbound (past_of es))) es
 
 -- its line is that of a channel that becomes able
-abbrev Told : List ℕ → List Effect → (now c seq : ℕ) → Reply → Type 0
-Told ds es now c seq answer =
+abbrev Outgoing : List ℕ → List Effect → (now c seq : ℕ) → Reply → Type 0
+Outgoing ds es now c seq answer =
     let x = done ds es now c seq answer in
     call_words ds (Finish now c seq) answer x es ≡ again_words (not (able es c) && able (x ∷ es) c) c
 
@@ -40,38 +40,38 @@ as_it_was : (u : Bool) → (u && true) ≡ u
 as_it_was true = refl
 as_it_was false = refl
 
-told_gone : (ds : List ℕ) (es : List Effect) (now c seq : ℕ) → live (past_of es) c ≡ false → Told ds es now c seq Gone
-told_gone ds es now c seq dead =
+sent_gone : (ds : List ℕ) (es : List Effect) (now c seq : ℕ) → live (past_of es) c ≡ false → Outgoing ds es now c seq Gone
+sent_gone ds es now c seq dead =
     let x = done ds es now c seq Gone in
     sym
     (ap (λ b. again_words b c)
     (ap (λ b. not (able es c) && b) (ap (λ b. b && not (unresponsive (x ∷ es) c)) dead) ∙ never (not (able es c))))
 
-told_done : (ds : List ℕ) (es : List Effect) (now c seq : ℕ) → live (past_of es) c ≡ true → Told ds es now c seq Done
-told_done ds es now c seq lives =
+sent_done : (ds : List ℕ) (es : List Effect) (now c seq : ℕ) → live (past_of es) c ≡ true → Outgoing ds es now c seq Done
+sent_done ds es now c seq lives =
     let x = done ds es now c seq Done in
     sym
     (ap (λ b. again_words b c)
     (ap₂ (λ a b. not a && b) (ap (λ b. b && not (unresponsive es c)) lives) (ap (λ b. b && not (unresponsive (x ∷ es) c)) lives)
     ∙ turned (unresponsive es c) (unresponsive (x ∷ es) c)))
 
-told_unknown : (ds : List ℕ) (es : List Effect) (now c seq : ℕ) → Told ds es now c seq UnknownSeq
-told_unknown ds es now c seq =
+sent_unknown : (ds : List ℕ) (es : List Effect) (now c seq : ℕ) → Outgoing ds es now c seq UnknownSeq
+sent_unknown ds es now c seq =
     let x = done ds es now c seq UnknownSeq in
     let same : able (x ∷ es) c ≡ able es c =
     ap (λ b. live (past_of es) c && not b) (unresponsive_step x es c ∙ as_it_was (unresponsive es c)) in
     sym (ap (λ b. again_words b c) (ap (λ b. not (able es c) && b) same ∙ stays (able es c)))
 
 pub finish_law : FinishLaw
-finish_law ds es now c seq answer l = subst (Told ds es now c seq) (sym (lawful_last ds (Finish now c seq) answer es l).0) (by_live (live (past_of es) c) refl)
+finish_law ds es now c seq answer l = subst (Outgoing ds es now c seq) (sym (lawful_last ds (Finish now c seq) answer es l).0) (by_live (live (past_of es) c) refl)
   where
     known : Bool
     known = nat_le 1 seq && nat_le seq (received (past_of es) c) && not (is_finished (past_of es) c seq)
 
-    by_known : (b k : Bool) → live (past_of es) c ≡ b → Told ds es now c seq (cond (not b) Gone (cond k Done UnknownSeq))
-    by_known false k e = told_gone ds es now c seq e
-    by_known true true e = told_done ds es now c seq e
-    by_known true false e = told_unknown ds es now c seq
+    by_known : (b k : Bool) → live (past_of es) c ≡ b → Outgoing ds es now c seq (cond (not b) Gone (cond k Done UnknownSeq))
+    by_known false k e = sent_gone ds es now c seq e
+    by_known true true e = sent_done ds es now c seq e
+    by_known true false e = sent_unknown ds es now c seq
 
-    by_live : (b : Bool) → live (past_of es) c ≡ b → Told ds es now c seq (cond (not b) Gone (cond known Done UnknownSeq))
+    by_live : (b : Bool) → live (past_of es) c ≡ b → Outgoing ds es now c seq (cond (not b) Gone (cond known Done UnknownSeq))
     by_live b e = by_known b known e

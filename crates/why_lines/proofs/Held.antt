@@ -5,7 +5,7 @@ use Rattle.std.proofs.lemmas.Bool.{eqb-true}
 use Rattle.std.proofs.lemmas.List.Concat.{flat_map-append}
 use Rattle.focus_resolver.specs.Resolver.{is_at}
 use Rattle.input_types.specs.declared.key.KeyArgs.{KeyArgs}
-use Rattle.routing_rules.specs.Told.{devices}
+use Rattle.routing_rules.specs.Outgoing.{devices}
 use Rattle.dispatch_history.specs.Effect.{Effect, past_of}
 use Rattle.dispatch_history.specs.Effects.{channels}
 use Rattle.dispatch_history.specs.Focus.{key_target}

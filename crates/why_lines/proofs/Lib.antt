@@ -18,5 +18,5 @@ pub mod Still
 pub mod Streaming
 pub mod Targets
 pub mod Ticking
-pub mod Told
+pub mod Outgoing
 pub mod Worked

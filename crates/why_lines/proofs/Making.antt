@@ -7,16 +7,16 @@ use Rattle.dispatch_history.specs.Effects.{step}
 use Rattle.dispatch_history.specs.Legal.{answered}
 use Rattle.dispatch_history.specs.Reply.{reply_to}
 use Rattle.dispatch_tables.proofs.Lawfuls.{lawful_last}
-use Rattle.dispatcher.specs.Access.{gone, namings_gone}
+use Rattle.dispatcher.specs.Access.{gone, anrs_released}
 use Rattle.dispatcher.specs.Dispatching.{Dispatching, IsAfter, StandsFor}
 use Rattle.dispatcher.proofs.Standing.{after_of, stands_on}
-use Rattle.why_lines.specs.Telling.{MayMake, Tells, TellsAfter}
-use Rattle.why_lines.proofs.Told.{stands_lawful}
+use Rattle.why_lines.specs.Explaining.{MayMake, Explains, ExplainsAfter}
+use Rattle.why_lines.proofs.Outgoing.{stands_lawful}
 
 -- nothing was done
 pub nothing_made : (call : Call) (d : Dispatching) → MayMake call d d
 nothing_made call d =
-    record { displays_are = refl; gone_is = λ c low. refl; namings_are = refl; stands = λ es st. (false, st); known = λ es st. (false, st) }
+    record { displays_are = refl; gone_is = λ c low. refl; anrs_are = refl; stands = λ es st. (false, st); known = λ es st. (false, st) }
 
 -- what is answered is what is to be answered
 answered_so : (call : Call) (old new : Dispatching) (es : List Effect) → new.displays ≡ old.displays
@@ -41,27 +41,27 @@ made_with call old new es (Ok x) st same kept after err = (
 made_with call old new es (Err x) st same kept after err = (false, subst (StandsFor es) (sym err) st)
 
 pub made_by : {T E : Type 0} (call : Call) (old new : Dispatching) (r : Result T E) → new.displays ≡ old.displays
-    → ((c : ℕ) → 1 ≤ c → gone new c ≡ gone old c) → namings_gone new ≡ namings_gone old
+    → ((c : ℕ) → 1 ≤ c → gone new c ≡ gone old c) → anrs_released new ≡ anrs_released old
     → ((es : List Effect) → IsAfter es old → OnOk r ((answer : Reply) × IsAfter (step old.displays call answer es) new)) → OnErr r (new ≡ old)
     → MayMake call old new
-made_by call old new r displays gone_is namings after err =
+made_by call old new r displays gone_is anrs after err =
     record {
       displays_are = displays;
       gone_is = gone_is;
-      namings_are = namings;
+      anrs_are = anrs;
       stands = λ es st. made_with call old new es r st displays gone_is (after es (after_of es old st)) err;
       known = λ es st. known_with call old new es r st displays (after es st) err;
     }
 
 -- the call was answered
 pub made_now : (call : Call) (old new : Dispatching) → new.displays ≡ old.displays → ((c : ℕ) → 1 ≤ c → gone new c ≡ gone old c)
-    → namings_gone new ≡ namings_gone old
+    → anrs_released new ≡ anrs_released old
     → ((es : List Effect) → IsAfter es old → (answer : Reply) × IsAfter (step old.displays call answer es) new) → MayMake call old new
-made_now call old new displays gone_is namings after = made_by {T = Unit {0}} {E = Unit {0}} call old new (Ok tt) displays gone_is namings after tt
+made_now call old new displays gone_is anrs after = made_by {T = Unit {0}} {E = Unit {0}} call old new (Ok tt) displays gone_is anrs after tt
 
 -- where the dispatcher stood for a history, it stands for it with one step more, and tells the same
-pub tells_of : {T E : Type 0} (call : Call) (r : Result T E) (es : List Effect) (text told : List ℕ) (old new : Dispatching) → StandsFor es old → MayMake call old new
-    → OnOk r (TellsAfter call es old.displays text told new) → OnOk r (Tells call es old.displays text told new)
-tells_of call (Ok x) es text told old new st made t =
+pub sends_of : {T E : Type 0} (call : Call) (r : Result T E) (es : List Effect) (text outgoing : List ℕ) (old new : Dispatching) → StandsFor es old → MayMake call old new
+    → OnOk r (ExplainsAfter call es old.displays text outgoing new) → OnOk r (Explains call es old.displays text outgoing new)
+sends_of call (Ok x) es text outgoing old new st made t =
     record { answer = t.answer; stands = stands_on call t.answer es old new st made.displays_are made.gone_is t.stands; text_is = t.text_is }
-tells_of call (Err x) es text told old new st made t = tt
+sends_of call (Err x) es text outgoing old new st made t = tt

@@ -94,7 +94,7 @@ pub is_done : (lives spies holds : Bool) → lives ≡ true → spies ≡ true �
 is_done lives spies holds e f g = ap₂ (λ a b. reply_by a b true) (sym e) (sym f) ∙ ap (reply_by lives spies) (sym g)
 
 -- a pilfer that is refused tells why
-pub refused_told : (r : PilferRefused) (s : Scene) (c d : ℕ) → pilfer_word c d (refusal_word (answer_of r)) ≡ pilfer_words (answer_of r) s c d
-refused_told IsGone s c d = refl
-refused_told IsNotSpy s c d = refl
-refused_told HoldsNothing s c d = refl
+pub refused_sent : (r : PilferRefused) (s : Scene) (c d : ℕ) → pilfer_word c d (refusal_word (answer_of r)) ≡ pilfer_words (answer_of r) s c d
+refused_sent IsGone s c d = refl
+refused_sent IsNotSpy s c d = refl
+refused_sent HoldsNothing s c d = refl

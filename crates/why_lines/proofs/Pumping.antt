@@ -11,7 +11,7 @@ use Rattle.dispatch_history.specs.Effect.{Effect, past_of}
 use Rattle.dispatch_history.specs.Effects.{effect_of}
 use Rattle.dispatch_history.specs.History.{clock}
 use Rattle.dispatch_history.specs.Keys.{keys, same_key}
-use Rattle.dispatch_history.specs.KeyTold.{last_key, repeat_due, while_held}
+use Rattle.dispatch_history.specs.KeySent.{last_key, repeat_due, while_held}
 use Rattle.dispatch_history.specs.Queue.{args_of, inbound}
 use Rattle.dispatch_history.specs.Reply.{is_due, pump_reply}
 use Rattle.dispatcher.specs.Access.{any_waits, is_waiting}
@@ -47,9 +47,9 @@ abbrev pub next_words : Option (ℕ × KeyMsg) → List (List ℕ)
 next_words None = []
 next_words (Some n) = repeat_word n.1 n.0 ∷ []
 
--- where a repeat is due, it is told as it is made
-pub next_told : (es : List Effect) → is_some (repeat_due es) ≡ true → repeat_words (last_key es) ≡ next_words (next_of (while_held es (last_key es)))
-next_told es e = by_last (last_key es) e
+-- where a repeat is due, it is sent as it is made
+pub next_sent : (es : List Effect) → is_some (repeat_due es) ≡ true → repeat_words (last_key es) ≡ next_words (next_of (while_held es (last_key es)))
+next_sent es e = by_last (last_key es) e
   where
     by_repeat : (s : Sent) (b : Bool) → is_repeated s.key ≡ b → is_some (due_of (Some s)) ≡ true
         → repeat_words (Some s) ≡ next_words (cond b (Some (s.channel, repeated s.key)) None)

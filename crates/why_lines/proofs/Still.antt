@@ -7,7 +7,7 @@ use Rattle.dispatch_history.specs.Effect.{Effect, past_of}
 use Rattle.dispatch_history.specs.History.{clock}
 use Rattle.why_text.specs.Lines.{call_words}
 use Rattle.why_text.specs.Text.{focus_words, line, step_text, step_words}
-use Rattle.why_text.proofs.RestLaws.{focus_law}
+use Rattle.why_text.proofs.NoOpLaws.{focus_law}
 use Rattle.why_lines.specs.Laws.{StillLaw}
 
 -- the lines of its call, and then those of the focus

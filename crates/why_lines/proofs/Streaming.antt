@@ -19,22 +19,22 @@ use Rattle.routing_rules.specs.Fits.{is_motion_of}
 use Rattle.routing_rules.specs.Given.{mark}
 use Rattle.routing_rules.specs.Marks.{Mark}
 use Rattle.routing_rules.specs.Scene.{Scene, Step, Moves}
-use Rattle.routing_rules.specs.Told.{devices, is_down, told, told_with}
+use Rattle.routing_rules.specs.Outgoing.{devices, is_down, outgoing, sent_with}
 use Rattle.dispatch_history.specs.Delivery.{able}
 use Rattle.dispatch_history.specs.Effect.{Effect, past_of}
-use Rattle.dispatch_history.specs.Focus.{focus_told, has_focus, is_target}
+use Rattle.dispatch_history.specs.Focus.{focus_sent, has_focus, is_target}
 use Rattle.dispatch_history.specs.History.{History, live, origin, snapshot}
-use Rattle.dispatch_history.specs.KeyTold.{keys_told, last_key, repeat_by}
+use Rattle.dispatch_history.specs.KeySent.{keys_sent, last_key, repeat_by}
 use Rattle.dispatch_history.specs.Keys.{keys, loses_all}
 use Rattle.dispatch_history.specs.Queue.{args_of, inbound}
 use Rattle.dispatch_history.specs.Said.{keys_said, motion_from, motions_said, said}
 use Rattle.dispatch_history.specs.Step.{scene, step_of}
-use Rattle.why_text.specs.Laws.{tells_down}
+use Rattle.why_text.specs.Laws.{sends_down}
 use Rattle.why_text.proofs.GivenLaws.{given_law, others_law}
 use Rattle.why_lines.specs.Laws.{DownLaw, NoDownLaw, is_motion, says_down}
 use Rattle.why_lines.proofs.Coming.{may_come}
 
-motions_say : (o : Pixel) (ms : List Motion) → list_any says_down (map (λ m. MotionBody (motion_from o m)) ms) ≡ tells_down ms
+motions_say : (o : Pixel) (ms : List Motion) → list_any says_down (map (λ m. MotionBody (motion_from o m)) ms) ≡ sends_down ms
 motions_say o [] = refl
 motions_say o (m ∷ ms) = ap (λ b. is_down m.action || b) (motions_say o ms)
 
@@ -45,9 +45,9 @@ no_key (k ∷ ks) = no_key ks
 keys_say : (after : History) (args : Option Args) (es : List Effect) (w : ℕ) → list_any says_down (keys_said after args es w) ≡ false
 keys_say after args es w =
     no_key
-    (keys_told args (is_target (past_of es) w && able es w) (loses_all after (past_of es) w) (keys es w) ++ repeat_by after (last_key es) w)
+    (keys_sent args (is_target (past_of es) w && able es w) (loses_all after (past_of es) w) (keys es w) ++ repeat_by after (last_key es) w)
 
-focus_says : (before later : Bool) → list_any says_down (focus_told before later) ≡ false
+focus_says : (before later : Bool) → list_any says_down (focus_sent before later) ≡ false
 focus_says true true = refl
 focus_says true false = refl
 focus_says false true = refl
@@ -57,43 +57,43 @@ or_false : (b : Bool) → ((b || false) || false) ≡ b
 or_false true = refl
 or_false false = refl
 
--- what a window is told of pointers that go down is told in motions, device by device
+-- what a window is told of pointers that go down is sent in motions, device by device
 said_down : (after : History) (args : Option Args) (s : Scene) (e : Step) (k : Mark) (es : List Effect) (w : ℕ) → live after w ≡ true
-    → list_any says_down (said after args s e k es w) ≡ tells_down (flat_map (told_with s e k w) devices)
+    → list_any says_down (said after args s e k es w) ≡ sends_down (flat_map (sent_with s e k w) devices)
 said_down after args s e k es w lives =
     let o = origin (past_of es) w in
     let pressed = keys_said after args es w in
-    let focus = focus_told (has_focus (past_of es) w) (has_focus after w) in
+    let focus = focus_sent (has_focus (past_of es) w) (has_focus after w) in
     ap (λ b. list_any says_down (cond b (motions_said s e k o w ++ pressed ++ focus) [])) lives
     ∙ list_any-append says_down (motions_said s e k o w ++ pressed) focus
     ∙ ap₂ (λ a b. a || b)
     (list_any-append says_down (motions_said s e k o w) pressed
-    ∙ ap₂ (λ a b. a || b) (motions_say o (flat_map (told_with s e k w) devices)) (keys_say after args es w))
+    ∙ ap₂ (λ a b. a || b) (motions_say o (flat_map (sent_with s e k w) devices)) (keys_say after args es w))
     (focus_says (has_focus (past_of es) w) (has_focus after w))
-    ∙ or_false (tells_down (flat_map (told_with s e k w) devices))
+    ∙ or_false (sends_down (flat_map (sent_with s e k w) devices))
 
 absorbs : (t r : Bool) → (t || (r && t)) ≡ t
 absorbs true r = refl
 absorbs false true = refl
 absorbs false false = refl
 
--- where one device alone may tell of such a pointer, that is all that is told
-one_device : (f : ℕ → List Motion) (d : ℕ) (ds : List ℕ) → ((e : ℕ) → (e == d) ≡ false → tells_down (f e) ≡ false)
-    → tells_down (flat_map f ds) ≡ (list_any (λ e. e == d) ds && tells_down (f d))
+-- where one device alone may tell of such a pointer, that is all that is sent
+one_device : (f : ℕ → List Motion) (d : ℕ) (ds : List ℕ) → ((e : ℕ) → (e == d) ≡ false → sends_down (f e) ≡ false)
+    → sends_down (flat_map f ds) ≡ (list_any (λ e. e == d) ds && sends_down (f d))
 one_device f d [] others = refl
 one_device f d (e ∷ es) others =
-    list_any-append (λ n. is_down n.action) (f e) (flat_map f es) ∙ ap (λ b. tells_down (f e) || b) (one_device f d es others) ∙ by_device (e == d) refl
+    list_any-append (λ n. is_down n.action) (f e) (flat_map f es) ∙ ap (λ b. sends_down (f e) || b) (one_device f d es others) ∙ by_device (e == d) refl
   where
     rest : Bool
     rest = list_any (λ n. n == d) es
 
-    by_device : (b : Bool) → (e == d) ≡ b → (tells_down (f e) || (rest && tells_down (f d))) ≡ ((b || rest) && tells_down (f d))
-    by_device true same = ap (λ n. tells_down (f n) || (rest && tells_down (f d))) (eqb-true e d same) ∙ absorbs (tells_down (f d)) rest
-    by_device false other = ap (λ b. b || (rest && tells_down (f d))) (others e other)
+    by_device : (b : Bool) → (e == d) ≡ b → (sends_down (f e) || (rest && sends_down (f d))) ≡ ((b || rest) && sends_down (f d))
+    by_device true same = ap (λ n. sends_down (f n) || (rest && sends_down (f d))) (eqb-true e d same) ∙ absorbs (sends_down (f d)) rest
+    by_device false other = ap (λ b. b || (rest && sends_down (f d))) (others e other)
 
-none_tells : (f : ℕ → List Motion) (ds : List ℕ) → ((e : ℕ) → tells_down (f e) ≡ false) → tells_down (flat_map f ds) ≡ false
-none_tells f [] none = refl
-none_tells f (e ∷ es) none = list_any-append (λ n. is_down n.action) (f e) (flat_map f es) ∙ ap₂ (λ a b. a || b) (none e) (none_tells f es none)
+none_sends : (f : ℕ → List Motion) (ds : List ℕ) → ((e : ℕ) → sends_down (f e) ≡ false) → sends_down (flat_map f ds) ≡ false
+none_sends f [] none = refl
+none_sends f (e ∷ es) none = list_any-append (λ n. is_down n.action) (f e) (flat_map f es) ∙ ap₂ (λ a b. a || b) (none e) (none_sends f es none)
 
 is_a_device : (d : ℕ) → 1 ≤ d → d ≤ 8 → list_any (λ e. e == d) devices ≡ true
 is_a_device d low high = grind (arith, nat_tests)
@@ -111,8 +111,8 @@ down_law ds es now m w l r e low high lives =
     (λ o. list_any says_down (said after o s (step_of (snapshot h) (Pump now) Dispatched o) (mark s (step_of (snapshot h) (Pump now) Dispatched o)) es w))
     e
     ∙ said_down after (Some (MotionArgs m)) s (Moves m) (mark s (Moves m)) es w lives
-    ∙ one_device (told s (Moves m) w) m.device devices (λ d other. others_law s (Moves m) w d (other_device m d other))
-    ∙ ap (λ b. b && tells_down (told s (Moves m) w m.device)) (is_a_device m.device low high)
+    ∙ one_device (outgoing s (Moves m) w) m.device devices (λ d other. others_law s (Moves m) w d (other_device m d other))
+    ∙ ap (λ b. b && sends_down (outgoing s (Moves m) w m.device)) (is_a_device m.device low high)
     ∙ given_law s m w may.down may.next may.fits may.rises may.comes
 
 -- a step that dispatches no motion is a motion of no device
@@ -152,12 +152,12 @@ no_down_law ds call answer es w none = by_life (live after w) refl
     by_life : (b : Bool) → live after w ≡ b → list_any says_down (said after args s e (mark s e) es w) ≡ false
     by_life true lives =
         said_down after args s e (mark s e) es w lives
-        ∙ none_tells (told s e w) devices (λ d. others_law s e w d (no_motion (snapshot (past_of es)) call answer args d none))
+        ∙ none_sends (outgoing s e w) devices (λ d. others_law s e w d (no_motion (snapshot (past_of es)) call answer args d none))
     by_life false dead =
         ap
         (λ b. list_any says_down
         (cond b
         (motions_said s e (mark s e) (origin (past_of es) w) w ++ keys_said after args es w
-        ++ focus_told (has_focus (past_of es) w) (has_focus after w))
+        ++ focus_sent (has_focus (past_of es) w) (has_focus after w))
         []))
         dead

@@ -11,8 +11,8 @@ use Rattle.why_text.specs.Words.{channels_that, ids_that}
 use Rattle.why_lines.specs.Pumping.{pump_words}
 
 -- what a pump at a moment tells after some calls, which stand in order
-abbrev next_told : ℕ → List Call → List (List ℕ)
-next_told now calls = pump_words one_display now (run one_display (reverse calls))
+abbrev next_sent : ℕ → List Call → List (List ℕ)
+next_sent now calls = pump_words one_display now (run one_display (reverse calls))
 
 -- Windows 1 and 2 side by side, and a finger is down on the left one.
 abbrev one_finger : List Call
@@ -22,10 +22,10 @@ one_finger =
 
 -- A second finger on the right one waits.
 a_finger_that_waits :
-    next_told 1010000 (one_finger ++ Notify 1010000 (MotionArgs (motion PointerDown 1 (at 0 100 200 ∷ at 1 700 400 ∷ []))) ∷ [])
+    next_sent 1010000 (one_finger ++ Notify 1010000 (MotionArgs (motion PointerDown 1 (at 0 100 200 ∷ at 1 700 400 ∷ []))) ∷ [])
     ≡ codes "down 1 1 700,400 touched 2 row split chosen 2 spies - pilfering - given 2 mute - outside -" ∷ []
 unfolding digits channels_that ids_that
 a_finger_that_waits = refl
 
-nothing_waits : next_told 1010000 one_finger ≡ []
+nothing_waits : next_sent 1010000 one_finger ≡ []
 nothing_waits = refl

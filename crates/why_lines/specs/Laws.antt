@@ -12,7 +12,7 @@ use Rattle.dispatch_calls.specs.declared.call.Call.TheVariants.{Finish, Pump}
 use Rattle.dispatch_calls.specs.declared.reply.Reply.{Reply}
 use Rattle.dispatch_calls.specs.declared.reply.Reply.TheVariants.{Dispatched}
 use Rattle.routing_rules.specs.Given.{changed}
-use Rattle.routing_rules.specs.Told.{is_down}
+use Rattle.routing_rules.specs.Outgoing.{is_down}
 use Rattle.dispatch_history.specs.Delivery.{able}
 use Rattle.dispatch_history.specs.Effect.{Effect, past_of}
 use Rattle.dispatch_history.specs.Effects.{effect_of, said_at, step}

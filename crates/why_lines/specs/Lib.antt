@@ -8,5 +8,5 @@ pub mod Losing
 pub mod Owners
 pub mod Pumping
 pub mod Rows
-pub mod Telling
+pub mod Explaining
 pub mod Laws

@@ -4,7 +4,7 @@ ghost use Rattle.dispatch_calls.specs.declared.reply.Reply.{Reply as Answer};
 ghost use Rattle.dispatch_history.specs.Effect.{Effect};
 ghost use Rattle.dispatcher.specs.Dispatching.{IsAfter, StandsFor};
 ghost use Rattle.why_text.specs.Laws.{is_silent};
-ghost use Rattle.why_lines.specs.Telling.{MayMake, Tells, TellsAfter};
+ghost use Rattle.why_lines.specs.Explaining.{MayMake, Explains, ExplainsAfter};
 
 use crate::requests::focus_on;
 use crate::snapshots::windows;
@@ -16,10 +16,10 @@ use std::alloc::AllocError;
 /// Makes a call that tells nothing, whatever it is answered.
 fn make(dispatcher: &mut Dispatcher, call: &Call) -> Result<(), AllocError>
     requires { (answer : Answer) → is_silent call.now answer ≡ true }
-    ensures told { (es : List Effect) (text : List ℕ) → StandsFor es dispatcher.old
-        → OnOk result (Tells call.now es dispatcher.old.displays text text dispatcher.new) }
+    ensures outgoing { (es : List Effect) (text : List ℕ) → StandsFor es dispatcher.old
+        → OnOk result (Explains call.now es dispatcher.old.displays text text dispatcher.new) }
     ensures known { (es : List Effect) (text : List ℕ) → IsAfter es dispatcher.old
-        → OnOk result (TellsAfter call.now es dispatcher.old.displays text text dispatcher.new) }
+        → OnOk result (ExplainsAfter call.now es dispatcher.old.displays text text dispatcher.new) }
     ensures made { MayMake call.now dispatcher.old dispatcher.new }
 {
     dispatcher.apply_unread(call)
@@ -29,12 +29,12 @@ fn make(dispatcher: &mut Dispatcher, call: &Call) -> Result<(), AllocError>
 ///
 /// After want of memory the call was made or it was not, and a part of its lines may have been added.
 pub fn apply(text: &mut Vec<u8>, dispatcher: &mut Dispatcher, call: &Call) -> Result<(), AllocError>
-    ensures told { (es : List Effect) → StandsFor es dispatcher.old
+    ensures outgoing { (es : List Effect) → StandsFor es dispatcher.old
         → OnOk result
-        (Tells call.now es dispatcher.old.displays text.old.items text.new.items dispatcher.new) }
+        (Explains call.now es dispatcher.old.displays text.old.items text.new.items dispatcher.new) }
     ensures known { (es : List Effect) → IsAfter es dispatcher.old
         → OnOk result
-        (TellsAfter call.now es dispatcher.old.displays text.old.items text.new.items dispatcher.new) }
+        (ExplainsAfter call.now es dispatcher.old.displays text.old.items text.new.items dispatcher.new) }
     ensures made { MayMake call.now dispatcher.old dispatcher.new }
 {
     match call {

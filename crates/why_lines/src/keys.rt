@@ -5,7 +5,7 @@ ghost use Rattle.input_types.specs.declared.message.Args.TheVariants.{Key as Key
 ghost use Rattle.window_snapshot.specs.Mask.{is_channel, mask_has};
 ghost use Rattle.dispatch_history.specs.Effect.{Effect};
 ghost use Rattle.dispatch_history.specs.Keys.{keys};
-ghost use Rattle.dispatch_history.specs.KeyTold.{last_key, repeat_due};
+ghost use Rattle.dispatch_history.specs.KeySent.{last_key, repeat_due};
 ghost use Rattle.dispatch_history.specs.Reply.{is_due};
 ghost use Rattle.dispatch_history.specs.Step.{scene};
 ghost use Rattle.dispatcher.specs.Access.{is_waiting};

@@ -7,7 +7,7 @@ pub fn finishing()
 {}
 
 /// A step that cannot move the focus tells just the lines of its call, each with the clock after the step in front.
-pub fn telling()
+pub fn sending()
     ensures { StillLaw }
 {}
 

@@ -1,7 +1,7 @@
 //! What a window loses that is not able to take input any more: all that it holds.
 ghost use Rattle.std.specs.Prelude.{◌≡◌, ◌++◌, ◌==◌, List, [], true, map, flat_map, if◌then◌else◌, IfOk};
 ghost use Rattle.window_snapshot.specs.Mask.{is_channel};
-ghost use Rattle.routing_rules.specs.Told.{devices};
+ghost use Rattle.routing_rules.specs.Outgoing.{devices};
 ghost use Rattle.dispatch_calls.specs.declared.reply.Reply.TheVariants.{Done, Gone};
 ghost use Rattle.dispatch_history.specs.Effect.{Effect, past_of};
 ghost use Rattle.dispatch_history.specs.History.{live};

@@ -3,7 +3,7 @@ ghost use Rattle.std.specs.Prelude.{◌≡◌, ◌++◌, Some, IfOk};
 ghost use Rattle.routing_rules.specs.Given.{changed};
 ghost use Rattle.routing_rules.specs.Scene.{Scene};
 ghost use Rattle.routing_rules.specs.Slip.{slip};
-ghost use Rattle.routing_rules.specs.Told.{is_cancelled, is_down, is_up};
+ghost use Rattle.routing_rules.specs.Outgoing.{is_cancelled, is_down, is_up};
 ghost use Rattle.why_text.specs.Down.{down_of};
 ghost use Rattle.why_text.specs.Lines.{down_words, motion_words, slip_words, up_words};
 ghost use Rattle.why_text.specs.Text.{line};

@@ -5,7 +5,7 @@ ghost use Rattle.dispatch_history.specs.Effect.{Effect};
 ghost use Rattle.dispatcher.specs.Dispatching.{IsAfter, StandsFor};
 ghost use Rattle.why_lines.specs.Gone.{target_line};
 ghost use Rattle.why_lines.specs.Growing.{with_lines};
-ghost use Rattle.why_lines.specs.Telling.{MayMake, Tells, TellsAfter};
+ghost use Rattle.why_lines.specs.Explaining.{MayMake, Explains, ExplainsAfter};
 
 use crate::focuses::{add_changes, all_focused};
 use crate::gone::{add_gone, keys_gone, target_keys};
@@ -45,12 +45,13 @@ pub fn focus_on(
     display: DisplayId,
     channel: Option<u32>,
 ) -> Result<(), AllocError>
-    ensures told { (es : List Effect) → StandsFor es dispatcher.old
+    ensures outgoing { (es : List Effect) → StandsFor es dispatcher.old
         → OnOk result
-        (Tells (FocusOn now display channel) es dispatcher.old.displays text.old.items text.new.items dispatcher.new) }
+        (Explains (FocusOn now display channel) es dispatcher.old.displays text.old.items text.new.items
+        dispatcher.new) }
     ensures known { (es : List Effect) → IsAfter es dispatcher.old
         → OnOk result
-        (TellsAfter (FocusOn now display channel) es dispatcher.old.displays
+        (ExplainsAfter (FocusOn now display channel) es dispatcher.old.displays
         text.old.items text.new.items dispatcher.new) }
     ensures made { MayMake (FocusOn now display channel) dispatcher.old dispatcher.new }
 {

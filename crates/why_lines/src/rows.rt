@@ -2,7 +2,7 @@
 ghost use Rattle.std.specs.Prelude.{◌≡◌, ◌≤◌, ◌<◌, ◌+◌, ◌-◌, ◌&&◌, ◌==◌, ℕ, Bool, [], true, not, flat_map, slice_index_or, if◌then◌else◌};
 ghost use Rattle.bits32.specs.Set.{is_in};
 ghost use Rattle.window_snapshot.specs.Mask.{is_channel};
-ghost use Rattle.routing_rules.specs.Told.{devices};
+ghost use Rattle.routing_rules.specs.Outgoing.{devices};
 ghost use Rattle.route_split.specs.Tables.{holds_at};
 ghost use Rattle.why_text.specs.Lost.{ids_item};
 ghost use Rattle.why_text.specs.Words.{ids_that};
@@ -54,7 +54,7 @@ pub(crate) fn rows_of(touches: &Touches) -> [[Bits32; 8]; 64]
     rows
 }
 
-/// The set without a number, where that is told to go.
+/// The set without a number, where that is sent to go.
 fn less_one(set: Bits32, id: u8, goes: bool) -> Bits32
     requires { id < 32 }
     ensures { (i : ℕ) → is_in i result ≡ (if goes then not (i == id) && is_in i set else is_in i set) }

@@ -8,7 +8,7 @@ ghost use Rattle.why_text.specs.Lost.{lost_items};
 ghost use Rattle.why_lines.specs.Gone.{gone_line};
 ghost use Rattle.why_lines.specs.Growing.{with_lines};
 ghost use Rattle.why_lines.specs.Held.{HoldThis, IsQuiet, held_keys};
-ghost use Rattle.why_lines.specs.Telling.{MayMake, Tells, TellsAfter};
+ghost use Rattle.why_lines.specs.Explaining.{MayMake, Explains, ExplainsAfter};
 
 use crate::focuses::{add_changes, all_focused};
 use crate::gone::{add_gone, is_at, keys_gone, target_keys};
@@ -87,12 +87,12 @@ pub fn windows(
     snapshot: &Snapshot,
 ) -> Result<(), AllocError>
     requires { call.now ≡ Windows now snapshot.now }
-    ensures told { (es : List Effect) → StandsFor es dispatcher.old
+    ensures outgoing { (es : List Effect) → StandsFor es dispatcher.old
         → OnOk result
-        (Tells (Windows now snapshot.now) es dispatcher.old.displays text.old.items text.new.items dispatcher.new) }
+        (Explains (Windows now snapshot.now) es dispatcher.old.displays text.old.items text.new.items dispatcher.new) }
     ensures known { (es : List Effect) → IsAfter es dispatcher.old
         → OnOk result
-        (TellsAfter (Windows now snapshot.now) es dispatcher.old.displays
+        (ExplainsAfter (Windows now snapshot.now) es dispatcher.old.displays
         text.old.items text.new.items dispatcher.new) }
     ensures made { MayMake (Windows now snapshot.now) dispatcher.old dispatcher.new }
 {

@@ -4,7 +4,7 @@ ghost use Rattle.std.specs.Prelude.{List, OnOk};
 ghost use Rattle.dispatch_calls.specs.declared.call.Call.TheVariants.{Finish, Open, Pilfer, Pump, Remove, Tick};
 ghost use Rattle.dispatch_history.specs.Effect.{Effect};
 ghost use Rattle.dispatcher.specs.Dispatching.{IsAfter, StandsFor};
-ghost use Rattle.why_lines.specs.Telling.{MayMake, Tells, TellsAfter};
+ghost use Rattle.why_lines.specs.Explaining.{MayMake, Explains, ExplainsAfter};
 
 use crate::focuses::{add_changes, all_focused};
 use crate::losing::add_removal;
@@ -18,12 +18,12 @@ use std::alloc::AllocError;
 
 /// Makes a pump, and adds what it tells.
 pub fn pump(text: &mut Vec<u8>, dispatcher: &mut Dispatcher, now: Moment) -> Result<(), AllocError>
-    ensures told { (es : List Effect) → StandsFor es dispatcher.old
+    ensures outgoing { (es : List Effect) → StandsFor es dispatcher.old
         → OnOk result
-        (Tells (Pump now) es dispatcher.old.displays text.old.items text.new.items dispatcher.new) }
+        (Explains (Pump now) es dispatcher.old.displays text.old.items text.new.items dispatcher.new) }
     ensures known { (es : List Effect) → IsAfter es dispatcher.old
         → OnOk result
-        (TellsAfter (Pump now) es dispatcher.old.displays text.old.items text.new.items dispatcher.new) }
+        (ExplainsAfter (Pump now) es dispatcher.old.displays text.old.items text.new.items dispatcher.new) }
     ensures made { MayMake (Pump now) dispatcher.old dispatcher.new }
 {
     let clock = now.later(dispatcher.clock());
@@ -33,12 +33,12 @@ pub fn pump(text: &mut Vec<u8>, dispatcher: &mut Dispatcher, now: Moment) -> Res
 
 /// Makes a tick, and adds what it tells: of each window that it names, what that loses.
 pub fn tick(text: &mut Vec<u8>, dispatcher: &mut Dispatcher, now: Moment) -> Result<(), AllocError>
-    ensures told { (es : List Effect) → StandsFor es dispatcher.old
+    ensures outgoing { (es : List Effect) → StandsFor es dispatcher.old
         → OnOk result
-        (Tells (Tick now) es dispatcher.old.displays text.old.items text.new.items dispatcher.new) }
+        (Explains (Tick now) es dispatcher.old.displays text.old.items text.new.items dispatcher.new) }
     ensures known { (es : List Effect) → IsAfter es dispatcher.old
         → OnOk result
-        (TellsAfter (Tick now) es dispatcher.old.displays text.old.items text.new.items dispatcher.new) }
+        (ExplainsAfter (Tick now) es dispatcher.old.displays text.old.items text.new.items dispatcher.new) }
     ensures made { MayMake (Tick now) dispatcher.old dispatcher.new }
 {
     let clock = now.later(dispatcher.clock());
@@ -54,12 +54,12 @@ pub fn pilfer(
     channel: u32,
     device: DeviceId,
 ) -> Result<(), AllocError>
-    ensures told { (es : List Effect) → StandsFor es dispatcher.old
+    ensures outgoing { (es : List Effect) → StandsFor es dispatcher.old
         → OnOk result
-        (Tells (Pilfer now channel device) es dispatcher.old.displays text.old.items text.new.items dispatcher.new) }
+        (Explains (Pilfer now channel device) es dispatcher.old.displays text.old.items text.new.items dispatcher.new) }
     ensures known { (es : List Effect) → IsAfter es dispatcher.old
         → OnOk result
-        (TellsAfter (Pilfer now channel device) es dispatcher.old.displays
+        (ExplainsAfter (Pilfer now channel device) es dispatcher.old.displays
         text.old.items text.new.items dispatcher.new) }
     ensures made { MayMake (Pilfer now channel device) dispatcher.old dispatcher.new }
 {
@@ -80,12 +80,13 @@ pub fn finish(
     channel: u32,
     seq: u64,
 ) -> Result<(), AllocError>
-    ensures told { (es : List Effect) → StandsFor es dispatcher.old
+    ensures outgoing { (es : List Effect) → StandsFor es dispatcher.old
         → OnOk result
-        (Tells (Finish now channel seq) es dispatcher.old.displays text.old.items text.new.items dispatcher.new) }
+        (Explains (Finish now channel seq) es dispatcher.old.displays text.old.items text.new.items dispatcher.new) }
     ensures known { (es : List Effect) → IsAfter es dispatcher.old
         → OnOk result
-        (TellsAfter (Finish now channel seq) es dispatcher.old.displays text.old.items text.new.items dispatcher.new) }
+        (ExplainsAfter (Finish now channel seq) es dispatcher.old.displays text.old.items text.new.items
+        dispatcher.new) }
     ensures made { MayMake (Finish now channel seq) dispatcher.old dispatcher.new }
 {
     let clock = now.later(dispatcher.clock());
@@ -102,12 +103,12 @@ pub fn remove(
     now: Moment,
     channel: u32,
 ) -> Result<(), AllocError>
-    ensures told { (es : List Effect) → StandsFor es dispatcher.old
+    ensures outgoing { (es : List Effect) → StandsFor es dispatcher.old
         → OnOk result
-        (Tells (Remove now channel) es dispatcher.old.displays text.old.items text.new.items dispatcher.new) }
+        (Explains (Remove now channel) es dispatcher.old.displays text.old.items text.new.items dispatcher.new) }
     ensures known { (es : List Effect) → IsAfter es dispatcher.old
         → OnOk result
-        (TellsAfter (Remove now channel) es dispatcher.old.displays text.old.items text.new.items dispatcher.new) }
+        (ExplainsAfter (Remove now channel) es dispatcher.old.displays text.old.items text.new.items dispatcher.new) }
     ensures made { MayMake (Remove now channel) dispatcher.old dispatcher.new }
 {
     let clock = now.later(dispatcher.clock());
@@ -120,12 +121,12 @@ pub fn remove(
 
 /// Opens a channel with a limit, and adds what that tells: the changes of the focus.
 pub fn open(text: &mut Vec<u8>, dispatcher: &mut Dispatcher, limit: Limit) -> Result<(), AllocError>
-    ensures told { (es : List Effect) → StandsFor es dispatcher.old
+    ensures outgoing { (es : List Effect) → StandsFor es dispatcher.old
         → OnOk result
-        (Tells (Open limit) es dispatcher.old.displays text.old.items text.new.items dispatcher.new) }
+        (Explains (Open limit) es dispatcher.old.displays text.old.items text.new.items dispatcher.new) }
     ensures known { (es : List Effect) → IsAfter es dispatcher.old
         → OnOk result
-        (TellsAfter (Open limit) es dispatcher.old.displays text.old.items text.new.items dispatcher.new) }
+        (ExplainsAfter (Open limit) es dispatcher.old.displays text.old.items text.new.items dispatcher.new) }
     ensures made { MayMake (Open limit) dispatcher.old dispatcher.new }
 {
     let clock = Moment::zero().later(dispatcher.clock());

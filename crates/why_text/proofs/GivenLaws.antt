@@ -15,61 +15,61 @@ use Rattle.window_snapshot.specs.Window.{is_spy, is_hit, is_slippery}
 use Rattle.window_snapshot.specs.Hits.{touched, takes_touch, is_watcher_at}
 use Rattle.routing_rules.specs.Pairs.{has}
 use Rattle.routing_rules.specs.Taking.{takes}
-use Rattle.routing_rules.specs.Scene.{Scene, Moves, Resets, Pilfers, Shows, Mutes, Removes, Rests, shows}
+use Rattle.routing_rules.specs.Scene.{Scene, Moves, Resets, Pilfers, Shows, Mutes, Removes, NoOp, shows}
 use Rattle.routing_rules.specs.Choice.{takers}
 use Rattle.routing_rules.specs.Slip.{Slip, slip, slip_of, slips_to, only, holders_of}
 use Rattle.routing_rules.specs.Given.{changed, given, given_by, pairs, slips_in, taken, mark}
-use Rattle.routing_rules.specs.Told.{after, cancelled_ups, cancels, cancels_of, closing, is_cancelled, is_down, is_first, is_up, listing, moves as moved, opening, or_else, outside, plain, told_motion}
+use Rattle.routing_rules.specs.Outgoing.{after, cancelled_ups, cancels, cancels_of, closing, is_cancelled, is_down, is_first, is_up, listing, moves as moved, opening, or_else, outside, plain, sent_motion}
 use Rattle.routing_rules.specs.Fits.{Fits}
 use Rattle.routing_rules.proofs.Listings.{apart_rising}
 use Rattle.routing_rules.proofs.MotionKind.{Kind, opens, moves, closes, kind_at}
-use Rattle.routing_rules.proofs.ToldLaws.{fresh_id}
+use Rattle.routing_rules.proofs.SentLaws.{fresh_id}
 use Rattle.why_text.specs.Down.{down_of}
-use Rattle.why_text.specs.Laws.{GivenLaw, OthersLaw, is_given, is_to, tells_down}
+use Rattle.why_text.specs.Laws.{GivenLaw, OthersLaw, is_given, is_to, sends_down}
 
--- nothing of what is told otherwise tells of a pointer that goes down
-no_ups : (d : ℕ) (ps lost : List Pointer) → tells_down (cancelled_ups d ps lost) ≡ false
+-- nothing of what is sent otherwise tells of a pointer that goes down
+no_ups : (d : ℕ) (ps lost : List Pointer) → sends_down (cancelled_ups d ps lost) ≡ false
 no_ups d ps [] = refl
 no_ups d ps (p ∷ lost) = no_ups d (filter (λ q. not (q.id == p.id)) ps) lost
 
-no_cancels_of : (d : ℕ) (had kept lost : List Pointer) → tells_down (cancels_of d had kept lost) ≡ false
+no_cancels_of : (d : ℕ) (had kept lost : List Pointer) → sends_down (cancels_of d had kept lost) ≡ false
 no_cancels_of d had kept [] = refl
 no_cancels_of d had [] (p ∷ lost) = refl
 no_cancels_of d had (q ∷ kept) (p ∷ lost) = no_ups d had (p ∷ lost)
 
-no_cancels : (d : ℕ) (last : List Pointer) (b l : ℕ → Bool) → tells_down (cancels d last b l) ≡ false
+no_cancels : (d : ℕ) (last : List Pointer) (b l : ℕ → Bool) → sends_down (cancels d last b l) ≡ false
 no_cancels d last b l = no_cancels_of d (listing b last) (listing l last) (listing (λ i. b i && not (l i)) last)
 
-no_moves : (d : ℕ) (ps : List Pointer) → tells_down (moved d ps) ≡ false
+no_moves : (d : ℕ) (ps : List Pointer) → sends_down (moved d ps) ≡ false
 no_moves d [] = refl
 no_moves d (p ∷ ps) = refl
 
-no_outside : (s : Scene) (m : Motion) (p : Pointer) (w : ℕ) → tells_down (outside s m p w) ≡ false
+no_outside : (s : Scene) (m : Motion) (p : Pointer) (w : ℕ) → sends_down (outside s m p w) ≡ false
 no_outside s m p w = by_test (is_first m.action && s.able w && is_watcher_at s.windows (s.reach m.device) p.at.x p.at.y w)
   where
-    by_test : (c : Bool) → tells_down (cond c (plain m.device Outside (p ∷ []) ∷ []) []) ≡ false
+    by_test : (c : Bool) → sends_down (cond c (plain m.device Outside (p ∷ []) ∷ []) []) ≡ false
     by_test true = refl
     by_test false = refl
 
-no_either : (xs ys : List Motion) → tells_down xs ≡ false → tells_down ys ≡ false → tells_down (or_else xs ys) ≡ false
+no_either : (xs ys : List Motion) → sends_down xs ≡ false → sends_down ys ≡ false → sends_down (or_else xs ys) ≡ false
 no_either [] ys a b = b
 no_either (x ∷ xs) ys a b = a
 
-no_closing : (d i : ℕ) (c : Bool) (ps : List Pointer) → tells_down (closing d i c ps ∷ []) ≡ false
+no_closing : (d i : ℕ) (c : Bool) (ps : List Pointer) → sends_down (closing d i c ps ∷ []) ≡ false
 no_closing d i c [] = refl
 no_closing d i true (p ∷ []) = refl
 no_closing d i false (p ∷ []) = refl
 no_closing d i c (p ∷ q ∷ ps) = refl
 
 -- an opening does
-an_opening : (d i : ℕ) (ps : List Pointer) → tells_down (opening d i ps ∷ []) ≡ true
+an_opening : (d i : ℕ) (ps : List Pointer) → sends_down (opening d i ps ∷ []) ≡ true
 an_opening d i [] = refl
 an_opening d i (p ∷ []) = refl
 an_opening d i (p ∷ q ∷ ps) = refl
 
 -- of the rows of what a window is told of a motion, the first one alone
 by_rows : (s : Scene) (m : Motion) (p : Pointer) (w : ℕ) (b l : ℕ → Bool) (gained upped : Bool)
-    → tells_down
+    → sends_down
     (cond gained (opening m.device p.id (listing l m.pointers) ∷ [])
     (cond upped (closing m.device p.id (is_cancelled m.action m.flags) (listing b m.pointers) ∷ [])
     (or_else (cancels m.device (s.last m.device) b l) (or_else (moved m.device (listing l m.pointers)) (outside s m p w)))))
@@ -90,10 +90,10 @@ new_is_given false true false = refl
 new_is_given false false t = refl
 
 -- what the window is told of the motion, where one of its pointers changes
-told_of : (s : Scene) (m : Motion) (p : Pointer) (w : ℕ)
-    → tells_down (told_motion s m (Some p) w (s.holds w m.device) (after s (mark s (Moves m)) w m.device))
+sent_of : (s : Scene) (m : Motion) (p : Pointer) (w : ℕ)
+    → sends_down (sent_motion s m (Some p) w (s.holds w m.device) (after s (mark s (Moves m)) w m.device))
     ≡ (has (given s (Moves m)) w m.device p.id && not (s.holds w m.device p.id))
-told_of s m p w =
+sent_of s m p w =
     let b : ℕ → Bool = s.holds w m.device in
     let l : ℕ → Bool = after s (mark s (Moves m)) w m.device in
     by_rows s m p w b l (l p.id && not (b p.id)) (is_up m.action && b p.id)
@@ -236,20 +236,20 @@ by_action s m p w down next f r c k Outside e = ap (λ x. is_to (slip_of s m.dev
 
 by_changed : (s : Scene) (m : Motion) (w : ℕ) (down next : List ℕ) → Fits s m.device down → IsRising m.pointers → Kind m down next
     → (o : Option Pointer) → changed m ≡ o
-    → tells_down (told_motion s m o w (s.holds w m.device) (after s (mark s (Moves m)) w m.device)) ≡ is_given s m o w
+    → sends_down (sent_motion s m o w (s.holds w m.device) (after s (mark s (Moves m)) w m.device)) ≡ is_given s m o w
 by_changed s m w down next f r k None c =
     no_either (cancels m.device (s.last m.device) (s.holds w m.device) (after s (mark s (Moves m)) w m.device))
     (moved m.device (listing (after s (mark s (Moves m)) w m.device) m.pointers))
     (no_cancels m.device (s.last m.device) (s.holds w m.device) (after s (mark s (Moves m)) w m.device))
     (no_moves m.device (listing (after s (mark s (Moves m)) w m.device) m.pointers))
 by_changed s m w down next f r k (Some p) c =
-    told_of s m p w
+    sent_of s m p w
     ∙ ap (λ o. has (given_by s m m.action o) w m.device p.id && not (s.holds w m.device p.id)) c
     ∙ by_action s m p w down next f r c k m.action refl
 
 own_motion : (s : Scene) (m : Motion) (w : ℕ) (down next : List ℕ) → Fits s m.device down → IsRising m.pointers
     → (if is_of_device m.action (length m.pointers) then after_motion down m else None) ≡ Some next
-    → tells_down (told_motion s m (changed m) w (s.holds w m.device) (after s (mark s (Moves m)) w m.device)) ≡ is_given s m (changed m) w
+    → sends_down (sent_motion s m (changed m) w (s.holds w m.device) (after s (mark s (Moves m)) w m.device)) ≡ is_given s m (changed m) w
 own_motion s m w down next f r e =
     let p = came (is_of_device m.action (length m.pointers)) e in
     by_changed s m w down next f r (kind_at m down next m.action refl p.0 p.1) (changed m) refl
@@ -262,7 +262,7 @@ pub given_law : GivenLaw
 given_law s m w down next f r e = by_device (m.device == m.device) (eq-eqb m.device m.device refl) e
   where
     by_device : (b : Bool) → b ≡ true → (if b then (if is_of_device m.action (length m.pointers) then after_motion down m else None) else Some down) ≡ Some next
-        → tells_down (if b then told_motion s m (changed m) w (s.holds w m.device) (after s (mark s (Moves m)) w m.device) else []) ≡ is_given s m (changed m) w
+        → sends_down (if b then sent_motion s m (changed m) w (s.holds w m.device) (after s (mark s (Moves m)) w m.device) else []) ≡ is_given s m (changed m) w
     by_device true t e = own_motion s m w down next f r e
     by_device false t e = absurd (true≢false (sym t))
 
@@ -270,7 +270,7 @@ pub others_law : OthersLaw
 others_law s (Moves m) w d n = by_device (m.device == d) n
   where
     by_device : (b : Bool) → b ≡ false
-        → tells_down (if b then told_motion s m (changed m) w (s.holds w d) (after s (mark s (Moves m)) w d) else []) ≡ false
+        → sends_down (if b then sent_motion s m (changed m) w (s.holds w d) (after s (mark s (Moves m)) w d) else []) ≡ false
     by_device true t = absurd (true≢false t)
     by_device false t = refl
 others_law s (Resets v) w d n = no_cancels d (s.last d) (s.holds w d) (after s (mark s (Resets v)) w d)
@@ -278,4 +278,4 @@ others_law s (Pilfers v x) w d n = no_cancels d (s.last d) (s.holds w d) (after 
 others_law s (Shows names) w d n = no_cancels d (s.last d) (s.holds w d) (after s (mark s (Shows names)) w d)
 others_law s (Mutes muted) w d n = no_cancels d (s.last d) (s.holds w d) (after s (mark s (Mutes muted)) w d)
 others_law s (Removes v) w d n = refl
-others_law s Rests w d n = refl
+others_law s NoOp w d n = refl

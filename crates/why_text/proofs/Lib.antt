@@ -2,5 +2,5 @@ pub mod RowLaws
 pub mod PartLaws
 pub mod GivenLaws
 pub mod OutsideLaws
-pub mod RestLaws
+pub mod NoOpLaws
 pub mod Rows

@@ -14,33 +14,33 @@ use Rattle.routing_rules.specs.Pairs.{has}
 use Rattle.routing_rules.specs.Scene.{Scene, Moves}
 use Rattle.routing_rules.specs.Choice.{takers}
 use Rattle.routing_rules.specs.Given.{changed, pairs, mark}
-use Rattle.routing_rules.specs.Told.{after, is_down, is_first, is_up, listing, moves as moved, opening, or_else, outside, plain, told_motion}
+use Rattle.routing_rules.specs.Outgoing.{after, is_down, is_first, is_up, listing, moves as moved, opening, or_else, outside, plain, sent_motion}
 use Rattle.routing_rules.specs.Watching.{is_watching}
 use Rattle.routing_rules.specs.Fits.{Fits}
 use Rattle.routing_rules.proofs.Listings.{length-ids_of}
 use Rattle.routing_rules.proofs.MotionKind.{kind_at, allowed_parts}
-use Rattle.routing_rules.proofs.ToldLaws.{quiet_cancels}
+use Rattle.routing_rules.proofs.SentLaws.{quiet_cancels}
 use Rattle.why_text.specs.Down.{down_of, is_outside}
 use Rattle.why_text.specs.Laws.{OutsideLaw}
 use Rattle.why_text.proofs.GivenLaws.{fresh_at, own_pair}
 
 -- the motions tell of a touch outside
-abbrev tells_outside : List Motion → Bool
-tells_outside ms = list_any (λ n. is_outside n.action) ms
+abbrev sends_outside : List Motion → Bool
+sends_outside ms = list_any (λ n. is_outside n.action) ms
 
 -- an opening does not
-not_opening : (d i : ℕ) (ps : List Pointer) → tells_outside (opening d i ps ∷ []) ≡ false
+not_opening : (d i : ℕ) (ps : List Pointer) → sends_outside (opening d i ps ∷ []) ≡ false
 not_opening d i [] = refl
 not_opening d i (p ∷ []) = refl
 not_opening d i (p ∷ q ∷ ps) = refl
 
--- where a test fails nothing is told, and else just this
-told_if : (d : ℕ) (p : Pointer) (c : Bool) → tells_outside (cond c (plain d Outside (p ∷ []) ∷ []) []) ≡ c
-told_if d p true = refl
-told_if d p false = refl
+-- where a test fails nothing is sent, and else just this
+sent_if : (d : ℕ) (p : Pointer) (c : Bool) → sends_outside (cond c (plain d Outside (p ∷ []) ∷ []) []) ≡ c
+sent_if d p true = refl
+sent_if d p false = refl
 
 -- a motion that moves does not, and where it moves nothing what stands behind it decides
-moved_or : (d : ℕ) (ps : List Pointer) (xs : List Motion) (c : Bool) → tells_outside xs ≡ c → (ps ≡ [] ⊎ (c ≡ false)) → tells_outside (or_else (moved d ps) xs) ≡ c
+moved_or : (d : ℕ) (ps : List Pointer) (xs : List Motion) (c : Bool) → sends_outside xs ≡ c → (ps ≡ [] ⊎ (c ≡ false)) → sends_outside (or_else (moved d ps) xs) ≡ c
 moved_or d [] xs c e h = e
 moved_or d (p ∷ ps) xs c e (inl n) = absurd (cc n)
 moved_or d (p ∷ ps) xs c e (inr n) = sym n
@@ -105,7 +105,7 @@ no_up Outside h = absurd (true≢false (sym h))
 by_rows : (s : Scene) (m : Motion) (p : Pointer) (w : ℕ) (down next : List ℕ) (given : Bool) → changed m ≡ Some p → is_down m.action ≡ true
     → s.holds w m.device p.id ≡ false → list_any (λ v. v == w) (takers s m.device p.at) ≡ given
     → after_motion down m ≡ Some next
-    → tells_outside (told_motion s m (Some p) w (s.holds w m.device) (after s (mark s (Moves m)) w m.device)) ≡ (is_watching s m (Some p) w && not given)
+    → sends_outside (sent_motion s m (Some p) w (s.holds w m.device) (after s (mark s (Moves m)) w m.device)) ≡ (is_watching s m (Some p) w && not given)
 by_rows s m p w down next true c h fresh g e =
     let l : ℕ → Bool = after s (mark s (Moves m)) w m.device in
     let got : l p.id ≡ true = after_down s m p w p.id c h ∙ ap (λ b. b || s.holds w m.device p.id && true) (own_pair m.device p.id (takers s m.device p.at) w ∙ g) in
@@ -121,7 +121,7 @@ by_rows s m p w down next false c h fresh g e =
     λ j. after_down s m p w j c h ∙ ap (λ x. x || b j && true) (pair_of m.device p.id (takers s m.device p.at) w j g) ∙ and_true (b j) in
     let none : l p.id ≡ false = same p.id ∙ fresh in
     rw (none, no_up m.action h, quiet_cancels m.device (s.last m.device) b l same)
-    (moved_or m.device (listing l m.pointers) (outside s m p w) (is_watching s m (Some p) w) (told_if m.device p (is_watching s m (Some p) w)) (first (is_first m.action) refl)
+    (moved_or m.device (listing l m.pointers) (outside s m p w) (is_watching s m (Some p) w) (sent_if m.device p (is_watching s m (Some p) w)) (first (is_first m.action) refl)
     ∙ sym (and_true (is_watching s m (Some p) w)))
   where
     and_true : (x : Bool) → (x && true) ≡ x
@@ -138,11 +138,11 @@ by_rows s m p w down next false c h fresh g e =
 
 own_motion : (s : Scene) (m : Motion) (p : Pointer) (w : ℕ) (down next : List ℕ) → Fits s m.device down → IsRising m.pointers
     → (if is_of_device m.action (length m.pointers) then after_motion down m else None) ≡ Some next → changed m ≡ Some p → is_down m.action ≡ true
-    → tells_outside (told_motion s m (changed m) w (s.holds w m.device) (after s (mark s (Moves m)) w m.device))
+    → sends_outside (sent_motion s m (changed m) w (s.holds w m.device) (after s (mark s (Moves m)) w m.device))
     ≡ (is_watching s m (Some p) w && not ((down_of s m p).given w))
 own_motion s m p w down next f r e c h =
     let x = came (is_of_device m.action (length m.pointers)) e in
-    ap (λ o. tells_outside (told_motion s m o w (s.holds w m.device) (after s (mark s (Moves m)) w m.device))) c
+    ap (λ o. sends_outside (sent_motion s m o w (s.holds w m.device) (after s (mark s (Moves m)) w m.device))) c
     ∙ by_rows s m p w down next ((down_of s m p).given w) c h (fresh_at s m p w down next f r c h (kind_at m down next m.action refl x.0 x.1)) refl x.1
   where
     came : (b : Bool) → cond b (after_motion down m) None ≡ Some next → (b ≡ true) × (after_motion down m ≡ Some next)
@@ -153,7 +153,7 @@ pub outside_law : OutsideLaw
 outside_law s m p w down next f r e c h = by_device (m.device == m.device) (eq-eqb m.device m.device refl) e
   where
     by_device : (b : Bool) → b ≡ true → (if b then (if is_of_device m.action (length m.pointers) then after_motion down m else None) else Some down) ≡ Some next
-        → tells_outside (if b then told_motion s m (changed m) w (s.holds w m.device) (after s (mark s (Moves m)) w m.device) else [])
+        → sends_outside (if b then sent_motion s m (changed m) w (s.holds w m.device) (after s (mark s (Moves m)) w m.device) else [])
         ≡ (is_watching s m (Some p) w && not ((down_of s m p).given w))
     by_device true t e = own_motion s m p w down next f r e c h
     by_device false t e = absurd (true≢false (sym t))

@@ -9,7 +9,7 @@ use Rattle.window_snapshot.specs.Hits.{touched, is_spy_at}
 use Rattle.routing_rules.specs.declared.choice.Choice.{Choice}
 use Rattle.routing_rules.specs.Scene.{Scene, Moves}
 use Rattle.routing_rules.specs.Choice.{choice_at, is_candidate, is_target, takers}
-use Rattle.routing_rules.specs.Told.{told}
+use Rattle.routing_rules.specs.Outgoing.{outgoing}
 
 -- The causes of a down: the window under the place, the choice with its row, the spies at the place, the candidates that are
 -- pilfering the device, the windows that get the pointer, the targets that are not able to, and the windows that are told of a
@@ -47,5 +47,5 @@ down_of s m p =
       pilfering = λ w. may_get s m p w && s.pilfering w d;
       given = λ w. list_any (λ v. v == w) (takers s d p.at);
       mute = λ w. targets s m p w && not (s.able w);
-      outside = λ w. list_any (λ n. is_outside n.action) (told s (Moves m) w d);
+      outside = λ w. list_any (λ n. is_outside n.action) (outgoing s (Moves m) w d);
     }

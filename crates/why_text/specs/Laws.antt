@@ -18,7 +18,7 @@ use Rattle.routing_rules.specs.Scene.{Scene, Step, Moves}
 use Rattle.routing_rules.specs.Choice.{is_holder, is_alone, choice_at}
 use Rattle.routing_rules.specs.Slip.{Slip, slip}
 use Rattle.routing_rules.specs.Given.{changed}
-use Rattle.routing_rules.specs.Told.{is_down, told}
+use Rattle.routing_rules.specs.Outgoing.{is_down, outgoing}
 use Rattle.routing_rules.specs.Watching.{is_watching}
 use Rattle.routing_rules.specs.Fits.{Fits, down_after, is_motion_of}
 use Rattle.dispatch_history.specs.History.{History}
@@ -56,8 +56,8 @@ PartsLaw =
     → ((down_of s m p).given w && (down_of s m p).mute w ≡ false) × (((down_of s m p).given w || (down_of s m p).mute w) ≡ targets s m p w)
 
 -- the motions tell of a pointer that goes down
-abbrev pub tells_down : List Motion → Bool
-tells_down ms = list_any (λ n. is_down n.action) ms
+abbrev pub sends_down : List Motion → Bool
+sends_down ms = list_any (λ n. is_down n.action) ms
 
 -- the window is the one that a pointer slips to
 abbrev pub is_to : Option Slip → ℕ → Bool
@@ -74,11 +74,11 @@ abbrev pub GivenLaw : Type 0
 GivenLaw =
     (s : Scene) (m : Motion) (w : ℕ) (down next : List ℕ)
     → Fits s m.device down → IsRising m.pointers → down_after (Moves m) m.device down ≡ Some next
-    → tells_down (told s (Moves m) w m.device) ≡ is_given s m (changed m) w
+    → sends_down (outgoing s (Moves m) w m.device) ≡ is_given s m (changed m) w
 
 -- No other step tells that of the device, and no motion of another device.
 abbrev pub OthersLaw : Type 0
-OthersLaw = (s : Scene) (e : Step) (w d : ℕ) → is_motion_of e d ≡ false → tells_down (told s e w d) ≡ false
+OthersLaw = (s : Scene) (e : Step) (w d : ℕ) → is_motion_of e d ≡ false → sends_down (outgoing s e w d) ≡ false
 
 -- A window is told of a touch outside of it exactly where it watches for such touches, and is not given the pointer.
 abbrev pub OutsideLaw : Type 0

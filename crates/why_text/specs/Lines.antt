@@ -20,12 +20,12 @@ use Rattle.routing_rules.specs.Taking.{takes, Pilfered}
 use Rattle.routing_rules.specs.Scene.{Scene}
 use Rattle.routing_rules.specs.Slip.{Slip, slip}
 use Rattle.routing_rules.specs.Given.{changed}
-use Rattle.routing_rules.specs.Told.{is_up, is_down, is_cancelled}
+use Rattle.routing_rules.specs.Outgoing.{is_up, is_down, is_cancelled}
 use Rattle.dispatch_history.specs.Effect.{Effect, past_of}
 use Rattle.dispatch_history.specs.Delivery.{oldest, unresponsive}
 use Rattle.dispatch_history.specs.Focus.{key_target}
 use Rattle.dispatch_history.specs.Keys.{keys, same_key}
-use Rattle.dispatch_history.specs.KeyTold.{last_key}
+use Rattle.dispatch_history.specs.KeySent.{last_key}
 use Rattle.dispatch_history.specs.Step.{scene}
 use Rattle.why_text.specs.Words.{set_word, channel_word, channels_that, windows_word, ids_that, row_word}
 use Rattle.why_text.specs.Down.{Down, down_of}

@@ -5,7 +5,7 @@ use Rattle.std.specs.Fmt.{decimal}
 use Rattle.input_types.specs.declared.key.KeyArgs.{KeyArgs}
 use Rattle.routing_rules.specs.Pairs.{has}
 use Rattle.routing_rules.specs.Marks.{held}
-use Rattle.routing_rules.specs.Told.{devices}
+use Rattle.routing_rules.specs.Outgoing.{devices}
 use Rattle.dispatch_history.specs.Effect.{Effect}
 use Rattle.dispatch_history.specs.Step.{marks}
 use Rattle.dispatch_history.specs.Keys.{keys, same_key}

@@ -54,11 +54,11 @@ spy_behind_sees_nothing = refl
 abbrev pub watched_app : List Window
 watched_app = window 1 (rect 0 0 100 100) 4 ∷ window 2 (rect 0 100 1080 2000) 0 ∷ window 3 (rect 0 0 1080 2000) 4 ∷ []
 
-pub front_watcher_is_told : channels (watchers watched_app all_live (pos 500) (pos 500)) ≡ 1 ∷ []
-front_watcher_is_told = refl
+pub front_watcher_is_sent : channels (watchers watched_app all_live (pos 500) (pos 500)) ≡ 1 ∷ []
+front_watcher_is_sent = refl
 
-pub watcher_behind_is_not_told : is_watcher_at watched_app all_live (pos 500) (pos 500) 3 ≡ false
-watcher_behind_is_not_told = refl
+pub watcher_behind_is_not_sent : is_watcher_at watched_app all_live (pos 500) (pos 500) 3 ≡ false
+watcher_behind_is_not_sent = refl
 
 pub nobody_watches_a_miss : watchers watched_app all_live (pos 500) (pos 2200) ≡ []
 nobody_watches_a_miss = refl
@@ -76,8 +76,8 @@ untouchable_is_passed = refl
 pub untouchable_spy_sees_nothing : spies untouchable_front all_live (pos 5) (pos 5) ≡ []
 untouchable_spy_sees_nothing = refl
 
-pub untouchable_watcher_is_told : channels (watchers untouchable_front all_live (pos 5) (pos 5)) ≡ 2 ∷ []
-untouchable_watcher_is_told = refl
+pub untouchable_watcher_is_sent : channels (watchers untouchable_front all_live (pos 5) (pos 5)) ≡ 2 ∷ []
+untouchable_watcher_is_sent = refl
 
 pub unfocusable_is_left_out : is_focusable_on untouchable_front 0 3 ≡ false
 unfocusable_is_left_out = refl

@@ -1,6 +1,6 @@
 pub mod Examples
 pub mod Fronts
 pub mod Masks
-pub mod Naming
+pub mod Anr
 pub mod Parts
 pub mod Told

@@ -16,7 +16,7 @@ pub struct Window {
     /// The display that it is on. Its pixels are those of this display.
     pub display: DisplayId,
     /// Where the window is, in display pixels. Its left and top edges alone matter: they are the origin of what the
-    /// window is told.
+    /// window is sent.
     pub frame: Rect,
     /// Where the window can be touched, in display pixels.
     pub region: Region,

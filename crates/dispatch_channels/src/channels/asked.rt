@@ -8,7 +8,7 @@ ghost use Rattle.dispatch_channels.specs.Changes.{counts_in};
 
 use crate::channels::Channels;
 use cancel_synthesis::InputState;
-use dispatch_calls::{Counts, Naming};
+use dispatch_calls::{Anr, Counts};
 use input_types::{Message, Moment};
 use window_snapshot::mask_has;
 
@@ -64,7 +64,7 @@ impl Channels {
         self.channels[channel as usize - 1].messages()
     }
 
-    /// What the window of a channel was told and is not told the end of, from which cancels are made.
+    /// What the window of a channel was sent and is not told the end of, from which cancels are made.
     pub fn input(&self, channel: u32) -> &InputState
         requires { IsOpened self.now channel }
         ensures { result.now ≡ input_of self.now channel }
@@ -73,9 +73,9 @@ impl Channels {
     }
 
     /// The namings so far but for those that were let go, the first one first.
-    pub fn namings(&self) -> &[Naming]
-        ensures { result.now ≡ self.now.namings.left }
+    pub fn anrs(&self) -> &[Anr]
+        ensures { result.now ≡ self.now.anrs.left }
     {
-        self.namings.left()
+        self.anrs.left()
     }
 }

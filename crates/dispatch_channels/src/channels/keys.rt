@@ -4,18 +4,18 @@ ghost use Rattle.input_types.specs.declared.axis.Pixel.{Pixel};
 ghost use Rattle.input_types.specs.declared.message.Body.TheVariants.{Key as KeyBody};
 ghost use Rattle.window_snapshot.specs.Mask.{mask_has};
 ghost use Rattle.dispatch_channels.specs.Table.{channel_of, input_of};
-ghost use Rattle.dispatch_channels.specs.Changes.{Tells};
+ghost use Rattle.dispatch_channels.specs.Changes.{Sends};
 
 use super::Channels;
 use input_types::{KeyMsg, Moment};
 
 impl Channels {
-    /// A live channel is told a key message, as `tell` would tell it, without a body. Takes no memory.
-    pub fn tell_key(&mut self, channel: u32, message: &KeyMsg, clock: Moment)
+    /// A live channel is sent a key message, as `send` would tell it, without a body. Takes no memory.
+    pub fn send_key(&mut self, channel: u32, message: &KeyMsg, clock: Moment)
         requires live { mask_has self.old.live channel ≡ true }
         requires room { 1 ≤ (channel_of self.old channel).spare }
         requires track_room { 1 ≤ (input_of self.old channel).spare }
-        ensures { (origin : Pixel) → Tells channel (KeyBody message.now) origin clock self.old self.new }
+        ensures { (origin : Pixel) → Sends channel (KeyBody message.now) origin clock self.old self.new }
     {
         let place = channel as usize - 1;
         self.channels[place].enqueue_key(message, clock);

@@ -6,7 +6,7 @@ use super::Channels;
 use std::alloc::AllocError;
 
 impl Channels {
-    /// Makes room, so that the channel can be told the next `n` bodies, and counts all the room that there is then.
+    /// Makes room, so that the channel can be sent the next `n` bodies, and counts all the room that there is then.
     /// Where it has enough already, nothing is done. Without memory nothing changes but the room that it has.
     #[inline(always)]
     pub fn make_ready(&mut self, channel: u32, n: u32) -> Result<(), AllocError>

@@ -8,7 +8,7 @@ ghost use Rattle.dispatch_history.specs.Delivery.{able};
 ghost use Rattle.dispatch_history.specs.Effect.{Effect, past_of};
 ghost use Rattle.dispatch_history.specs.Focus.{focus, key_target};
 ghost use Rattle.dispatch_history.specs.History.{clock, snapshot};
-ghost use Rattle.dispatch_history.specs.KeyTold.{last_key, while_held};
+ghost use Rattle.dispatch_history.specs.KeySent.{last_key, while_held};
 ghost use Rattle.dispatch_history.specs.Queue.{inbound};
 ghost use Rattle.dispatch_history.specs.Step.{reach};
 ghost use Rattle.dispatcher.specs.Dispatching.{IsAfter};
@@ -67,7 +67,7 @@ impl Dispatcher {
         self.tables.routing.focus.target()
     }
 
-    /// The channel that the key message that was told last is repeated for, and the repeat; None exactly where its
+    /// The channel that the key message that was sent last is repeated for, and the repeat; None exactly where its
     /// window does not hold the key any more, or it is not repeated.
     pub fn repeat(&self) -> Option<(u32, KeyMsg)>
         ensures { (es : List Effect) → IsAfter es self.now

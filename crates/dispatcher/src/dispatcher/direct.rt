@@ -5,7 +5,7 @@ ghost use Rattle.dispatch_calls.specs.declared.call.Call.{Call};
 ghost use Rattle.dispatch_calls.specs.declared.reply.Reply.{Reply as Answer};
 ghost use Rattle.dispatch_history.specs.Effect.{Effect};
 ghost use Rattle.dispatch_history.specs.Effects.{step};
-ghost use Rattle.dispatcher.specs.Access.{gone, namings_gone};
+ghost use Rattle.dispatcher.specs.Access.{gone, anrs_released};
 ghost use Rattle.dispatcher.specs.Dispatching.{IsAfter, StandsFor};
 ghost use Rattle.dispatcher.specs.Memory.{IsCalm, MayCount};
 
@@ -25,7 +25,7 @@ impl Dispatcher {
             ((answer : Answer) × IsAfter (step self.old.displays (Call.Notify now args.now) answer es) self.new) }
         ensures displays { self.new.displays ≡ self.old.displays }
         ensures gone { (c : ℕ) → 1 ≤ c → gone self.new c ≡ gone self.old c }
-        ensures namings { namings_gone self.new ≡ namings_gone self.old }
+        ensures anrs { anrs_released self.new ≡ anrs_released self.old }
         ensures err { OnErr result (self.new ≡ self.old) }
         ensures reserved { (es : List Effect) → IsAfter es self.old → MayCount es
             → 1 ≤ self.old.queue.spare → IsOk result }
@@ -45,7 +45,7 @@ impl Dispatcher {
             ((answer : Answer) × IsAfter (step self.old.displays (Call.Pump now) answer es) self.new) }
         ensures displays { self.new.displays ≡ self.old.displays }
         ensures gone { (c : ℕ) → 1 ≤ c → gone self.new c ≡ gone self.old c }
-        ensures namings { namings_gone self.new ≡ namings_gone self.old }
+        ensures anrs { anrs_released self.new ≡ anrs_released self.old }
         ensures err { OnErr result (self.new ≡ self.old) }
         ensures calm { (es : List Effect) → IsAfter es self.old → MayCount es
             → IsCalm es (Call.Pump now) → IsOk result }
@@ -67,7 +67,7 @@ impl Dispatcher {
             ((answer : Answer) × IsAfter (step self.old.displays (Call.Finish now channel seq) answer es) self.new) }
         ensures displays { self.new.displays ≡ self.old.displays }
         ensures gone { (c : ℕ) → 1 ≤ c → gone self.new c ≡ gone self.old c }
-        ensures namings { namings_gone self.new ≡ namings_gone self.old }
+        ensures anrs { anrs_released self.new ≡ anrs_released self.old }
         ensures err { OnErr result (self.new ≡ self.old) }
         ensures calm { (es : List Effect) → IsAfter es self.old → MayCount es → IsOk result }
         ensures room { self.old.queue.spare ≤ self.new.queue.spare }
@@ -86,7 +86,7 @@ impl Dispatcher {
             ((answer : Answer) × IsAfter (step self.old.displays (Call.Receive channel) answer es) self.new) }
         ensures displays { self.new.displays ≡ self.old.displays }
         ensures gone { (c : ℕ) → 1 ≤ c → gone self.new c ≡ gone self.old c }
-        ensures namings { namings_gone self.new ≡ namings_gone self.old }
+        ensures anrs { anrs_released self.new ≡ anrs_released self.old }
         ensures err { OnErr result (self.new ≡ self.old) }
         ensures calm { (es : List Effect) → IsAfter es self.old → MayCount es → IsOk result }
         ensures room { self.old.queue.spare ≤ self.new.queue.spare }

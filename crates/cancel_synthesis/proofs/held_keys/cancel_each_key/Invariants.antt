@@ -1,6 +1,6 @@
 use Rattle.std.proofs.Common.{◌≡◌, ◌++◌, drop}
-use Rattle.cancel_synthesis.specs.Ends.{keys_told}
+use Rattle.cancel_synthesis.specs.Ends.{keys_sent}
 use Rattle.cancel_synthesis.proofs.held_keys.cancel_each_key.Given as goal
 
 abbrev pub invariant-loop-kept : goal.invariant-loop-kept
-invariant-loop-kept l = l.out.items ++ keys_told (drop l.kept-index l.keys) ≡ l.initial.out.items ++ keys_told l.keys
+invariant-loop-kept l = l.out.items ++ keys_sent (drop l.kept-index l.keys) ≡ l.initial.out.items ++ keys_sent l.keys

@@ -2,7 +2,7 @@
 use Rattle.std.proofs.Common.{length, ap, arith}
 use Rattle.std.proofs.lemmas.Result.{err_from_is_err_and}
 use Rattle.command_answers.specs.Emit.{EmitAnswers}
-use Rattle.command_answers.proofs.Streams.{stream_refused, stream_stops, stream_told}
+use Rattle.command_answers.proofs.Streams.{stream_refused, stream_stops, stream_sent}
 use Rattle.command_answers.proofs.emit.answer_emit.Goals as goal
 
 pub emitted-requires : goal.emitted-requires
@@ -17,7 +17,7 @@ returns-in_err-bytes-clause-err g c =
 
 pub returns-clause-ok : goal.returns-clause-ok
 returns-clause-ok g c =
-    stream_told (g.F.Files.entries c.args.files.now) (g.F.Files.readings c.args.files.now) (g.F.Files.readings c.read_stream.new.files) c.args.name.now _
+    stream_sent (g.F.Files.entries c.args.files.now) (g.F.Files.readings c.args.files.now) (g.F.Files.readings c.read_stream.new.files) c.args.name.now _
     c.deref.result.now (EmitAnswers c.args.channel c.args.device) c.emitted.result c.deref.ensures.value c.in_ok-bytes.ensures.ok c.emitted.ensures.ok
 
 pub returns-clause-err : goal.returns-clause-err

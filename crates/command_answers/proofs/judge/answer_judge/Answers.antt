@@ -1,7 +1,7 @@
 -- A stream file that is accepted, and what is answered of its bytes.
 use Rattle.std.proofs.lemmas.Result.{err_from_is_err_and}
 use Rattle.command_answers.specs.Judge.{JudgeAnswers}
-use Rattle.command_answers.proofs.Streams.{stream_refused, stream_stops, stream_told}
+use Rattle.command_answers.proofs.Streams.{stream_refused, stream_stops, stream_sent}
 use Rattle.command_answers.proofs.judge.answer_judge.Goals as goal
 
 pub returns-in_err-bytes-clause-err : goal.returns-in_err-bytes-clause-err
@@ -13,7 +13,7 @@ returns-in_err-bytes-clause-err g c =
 
 pub returns-clause-ok : goal.returns-clause-ok
 returns-clause-ok g c =
-    stream_told (g.F.Files.entries c.args.files.now) (g.F.Files.readings c.args.files.now) (g.F.Files.readings c.read_stream.new.files) c.args.name.now _
+    stream_sent (g.F.Files.entries c.args.files.now) (g.F.Files.readings c.args.files.now) (g.F.Files.readings c.read_stream.new.files) c.args.name.now _
     c.deref.result.now JudgeAnswers c.judged.result c.deref.ensures.value c.in_ok-bytes.ensures.ok c.judged.ensures.ok
 
 pub returns-clause-err : goal.returns-clause-err

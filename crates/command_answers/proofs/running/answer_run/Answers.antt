@@ -10,7 +10,7 @@ use Rattle.command_files.specs.Logged.{Logged, RefusesBy}
 use Rattle.command_files.proofs.Logs.{any_log, file_by, file_goes, then_by}
 use Rattle.command_files.proofs.Outcomes.{if_err_map, if_ok_map}
 use Rattle.command_answers.specs.Begun.{BeginsWith}
-use Rattle.command_answers.specs.Running.{RecordingTells}
+use Rattle.command_answers.specs.Running.{RecordingSends}
 use Rattle.command_answers.proofs.running.answer_run.Goals as goal
 
 pub returns-in_err-plan-clause-err : goal.returns-in_err-plan-clause-err
@@ -23,7 +23,7 @@ returns-in_err-plan-clause-err g c =
     let events = c.args.names.events.now in
     let p = err_from_is_err_and c.from_residual.result c.from_residual.ensures.1 in
     rw (p.1, p.2)
-    (file_by told before now c.args.names.session.now session_file ((events, recording_limit) ∷ []) (RecordingTells c.args.telling events) fb fn c.in_err-plan.field-0.0 c.in_err-plan.ensures.err)
+    (file_by told before now c.args.names.session.now session_file ((events, recording_limit) ∷ []) (RecordingSends c.args.sending events) fb fn c.in_err-plan.field-0.0 c.in_err-plan.ensures.err)
 
 pub returns-in_err-begun-clause-err : goal.returns-in_err-begun-clause-err
 returns-in_err-begun-clause-err g c =
@@ -42,9 +42,9 @@ returns-clause-ok g c =
     let plan = plan_view c.in_ok-plan.plan in
     let events = c.args.names.events.now in
     if_ok_map c.recording_text.result _ _
-    (λ text log. file_goes told before mid now c.args.names.session.now session_file ((events, recording_limit) ∷ []) plan (RecordingTells c.args.telling events) (Ok text)
+    (λ text log. file_goes told before mid now c.args.names.session.now session_file ((events, recording_limit) ∷ []) plan (RecordingSends c.args.sending events) (Ok text)
     c.in_ok-plan.ensures.ok
-    (subst (λ (o : Option (List Entry)). Logged o mid now ((events, recording_limit) ∷ []) (λ rs. RecordingTells c.args.telling events (by_log rs) plan (Ok text)))
+    (subst (λ (o : Option (List Entry)). Logged o mid now ((events, recording_limit) ∷ []) (λ rs. RecordingSends c.args.sending events (by_log rs) plan (Ok text)))
     c.in_ok-plan.ensures.entries log))
     (c.recording_text.ensures.ok plan (subst (λ (how : Lines). BeginsWith how plan c.in_ok-begun.begun) c.lines.ensures c.in_ok-begun.ensures))
 
@@ -60,8 +60,8 @@ returns-clause-err g c =
     let plan = plan_view c.in_ok-plan.plan in
     let events = c.args.names.events.now in
     if_err_map c.recording_text.result _ _
-    (λ r h. then_by told before mid now c.args.names.session.now session_file ((events, recording_limit) ∷ []) plan (RecordingTells c.args.telling events) fb fm fn r
+    (λ r h. then_by told before mid now c.args.names.session.now session_file ((events, recording_limit) ∷ []) plan (RecordingSends c.args.sending events) fb fm fn r
     c.in_ok-plan.ensures.later c.in_ok-plan.ensures.ok
-    (subst (λ (o : Option (List Entry)). RefusesBy (λ x. Logged o mid now ((events, recording_limit) ∷ []) (λ rs. RecordingTells c.args.telling events (by_log rs) plan (Err x)))
+    (subst (λ (o : Option (List Entry)). RefusesBy (λ x. Logged o mid now ((events, recording_limit) ∷ []) (λ rs. RecordingSends c.args.sending events (by_log rs) plan (Err x)))
     (Logged o mid now ((events, recording_limit) ∷ []) (λ rs. Unit {0})) fm fn r) c.in_ok-plan.ensures.entries h))
     (c.recording_text.ensures.err plan (subst (λ (how : Lines). BeginsWith how plan c.in_ok-begun.begun) c.lines.ensures c.in_ok-begun.ensures))

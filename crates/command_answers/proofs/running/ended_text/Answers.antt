@@ -9,15 +9,15 @@ use Rattle.command_answers.proofs.running.ended_text.Goals as goal
 
 pub returns-in-Ok-clause-ok : goal.returns-in-Ok-clause-ok
 returns-in-Ok-clause-ok c = λ p bytes same script taken.
-    let ended = c.in-Ok.ensures.ok (lines_of c.args.telling) p bytes script taken
-    in if_ok_map c.done_text.result _ _ (λ text r. judged c.args.telling p bytes c.in-Ok.schedule (Ok text) ended r)
+    let ended = c.in-Ok.ensures.ok (lines_of c.args.sending) p bytes script taken
+    in if_ok_map c.done_text.result _ _ (λ text r. judged c.args.sending p bytes c.in-Ok.schedule (Ok text) ended r)
     (c.done_text.ensures.ok p ended.past (ap (map channel_view) c.deref.ensures.value ∙ same) ended.completed)
 
 pub returns-in-Ok-clause-err : goal.returns-in-Ok-clause-err
 returns-in-Ok-clause-err c = λ p bytes same script taken.
-    let ended = c.in-Ok.ensures.ok (lines_of c.args.telling) p bytes script taken
-    in if_err_map c.done_text.result _ _ (λ r h. so_map _ _ r (λ x. judged c.args.telling p bytes c.in-Ok.schedule (Err x) ended) h)
+    let ended = c.in-Ok.ensures.ok (lines_of c.args.sending) p bytes script taken
+    in if_err_map c.done_text.result _ _ (λ r h. so_map _ _ r (λ x. judged c.args.sending p bytes c.in-Ok.schedule (Err x) ended) h)
     (c.done_text.ensures.err p ended.past (ap (map channel_view) c.deref.ensures.value ∙ same) ended.completed)
 
 pub returns-clause-err : goal.returns-clause-err
-returns-clause-err c = λ p bytes same script taken. refuses_events c.args.telling p bytes c.in-Err.refusal (c.in-Err.ensures.err (lines_of c.args.telling) p bytes taken)
+returns-clause-err c = λ p bytes same script taken. refuses_events c.args.sending p bytes c.in-Err.refusal (c.in-Err.ensures.err (lines_of c.args.sending) p bytes taken)

@@ -1,6 +1,6 @@
 -- One line more.
 use Rattle.std.proofs.Common.{◌≡◌, ◌∙◌, ap, sym, arith, Some, []}
-use Rattle.command_answers.specs.Judging.{judged_on, told_after}
+use Rattle.command_answers.specs.Judging.{judged_on, sent_after}
 use Rattle.command_answers.proofs.Ties.{IsFresh, after_line, at_start, one_channel, one_message, one_read}
 use Rattle.command_answers.proofs.verify.verdict_text.Goals as goal
 
@@ -23,7 +23,7 @@ lines-preserved c =
     in let read = one_read c.lines.lines c.next_into.new.self c.in-Ok-Some.field-0 c.in-Ok-Some.number line is c.in-Ok-Some.ensures.lines
     in record {
       known = (
-        told_after past line,
+        sent_after past line,
         judges.knows,
         sym (after_line past c.in-Ok-Some.number line c.lines.judge c.judge_line.new.self c.next_into.new.self.events judges)
             ∙ ap (judged_on c.lines.judge past) (sym read.0)

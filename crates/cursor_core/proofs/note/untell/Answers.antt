@@ -1,4 +1,4 @@
--- What was told is taken back.
+-- What was sent is taken back.
 use Rattle.std.proofs.Common.{◌≡◌, ◌⊎◌, ◌+◌, ◌-◌, ◌≤◌, ◌<◌, length, get_or, slice_set, Option, sym, ◌∙◌, ap, arith, inl, inr}
 use Rattle.cursor_core.specs.declared.note.Note.{Note}
 use Rattle.cursor_core.specs.Kept.{Row}

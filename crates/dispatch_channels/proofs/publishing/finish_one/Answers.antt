@@ -1,4 +1,4 @@
-use Rattle.dispatch_channels.proofs.Told.{none_after_without}
+use Rattle.dispatch_channels.proofs.Outgoing.{none_after_without}
 use Rattle.dispatch_channels.proofs.publishing.finish_one.Goals as goal
 
 pub publish-requires : goal.publish-requires

@@ -3,10 +3,10 @@ use mathlib.Core.Path.{fun_ext}
 use Rattle.bits32.specs.Set.{is_in}
 use Rattle.input_types.specs.declared.message.Body.TheVariants.{Motion as MotionBody}
 use Rattle.input_types.specs.declared.motion.Motion.{Motion}
-use Rattle.cancel_synthesis.specs.Cancelling.{still_told}
+use Rattle.cancel_synthesis.specs.Cancelling.{still_sent}
 use Rattle.cancel_synthesis.specs.Ends.{pointers_cancelled}
 use Rattle.cancel_synthesis.specs.Tracked.{Tracked, pointers_of}
-use Rattle.dispatch_round.specs.Saying.{TellsOne}
+use Rattle.dispatch_round.specs.Saying.{SendsOne}
 use Rattle.dispatch_round.proofs.Stepping.{few_cancels}
 use Rattle.dispatch_round.proofs.motions.say_loss.Goals as goal
 
@@ -14,7 +14,7 @@ pub say_cancels-requires : goal.say_cancels-requires
 say_cancels-requires c =
     let d = c.args.device in
     let same = ap (λ i. length (pointers_of i d)) c.input.ensures in
-    few_cancels d (λ i. not (is_in i c.held-held.result)) c.args.to.now.window (still_told c.cancels_but-cancels.result) (pointers_of c.input.result.now d) _ c.args.channels.now
+    few_cancels d (λ i. not (is_in i c.held-held.result)) c.args.to.now.window (still_sent c.cancels_but-cancels.result) (pointers_of c.input.result.now d) _ c.args.channels.now
     c.cancels_but-cancels.ensures
     (omega (arith, same))
     c.requires
@@ -22,7 +22,7 @@ say_cancels-requires c =
 pub returns : goal.returns
 returns c =
     let d = c.args.device in
-    subst (λ (ms : List Motion). TellsOne c.args.to.now (map MotionBody ms) c.args.channels.now c.say_cancels.new.channels)
+    subst (λ (ms : List Motion). SendsOne c.args.to.now (map MotionBody ms) c.args.channels.now c.say_cancels.new.channels)
     (c.cancels_but-cancels.ensures
     ∙ ap₂ (λ (f : ℕ → Bool) (i : Tracked). pointers_cancelled d f (pointers_of i d)) (fun_ext (λ i. ap not (c.held-held.ensures i))) c.input.ensures)
     c.say_cancels.ensures

@@ -1,6 +1,6 @@
 use Rattle.std.proofs.Common.{ℕ, List, map, flat_map, refl, arith}
 use Rattle.input_types.specs.declared.message.Body.TheVariants.{Motion as MotionBody}
-use Rattle.routing_rules.specs.Told.{devices}
+use Rattle.routing_rules.specs.Outgoing.{devices}
 use Rattle.dispatch_channels.specs.Table.{input_of}
 use Rattle.dispatch_round.specs.Saying.{losses}
 use Rattle.dispatch_round.proofs.Stepping.{say_rest, room_for_device, losses_next}

@@ -2,16 +2,16 @@ use Rattle.std.proofs.Common.{◌≤◌, refl, ap, sym, ◌∙◌, subst}
 use Rattle.bits32.specs.Set.{is_in}
 use Rattle.window_snapshot.specs.Mask.{mask_has}
 use Rattle.input_types.specs.declared.motion.MotionAction.TheVariants.{Move}
-use Rattle.routing_rules.specs.Told.{listing, plain}
-use Rattle.route_split.specs.declared.tells.Tells.TheVariants.{One}
+use Rattle.routing_rules.specs.Outgoing.{listing, plain}
+use Rattle.route_split.specs.declared.sends.Sends.TheVariants.{One}
 use Rattle.std.specs.Option.{option_copied}
 use Rattle.cancel_synthesis.specs.Tracked.{pointers_of}
 use Rattle.routing_rules.proofs.Listings.{has_id}
 use Rattle.dispatch_round.proofs.Hearing.{of_some, hears_found, hears_lost, hears_pilfered, hears_none}
 use Rattle.dispatch_round.proofs.motions.say_motions.Goals as goal
 
-pub say_told-requires-clause-before : goal.say_told-requires-clause-before
-say_told-requires-clause-before c i =
+pub say_sent-requires-clause-before : goal.say_sent-requires-clause-before
+say_sent-requires-clause-before c i =
     c.ids_of-before.ensures i ∙ ap (has_id i) (c.pointers.ensures ∙ ap (λ t. pointers_of t c.in-Some.motion.now.device) c.input.ensures)
 
 pub returns-in-Some-moving : goal.returns-in-Some-moving

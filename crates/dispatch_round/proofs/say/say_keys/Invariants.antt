@@ -1,13 +1,13 @@
 use Rattle.std.proofs.Common.{◌-◌, length, drop, map}
 use Rattle.input_types.specs.declared.message.Body.TheVariants.{Key}
 use Rattle.dispatch_channels.specs.Table.{Table}
-use Rattle.dispatch_round.specs.Saying.{CanHear, TellsOne}
+use Rattle.dispatch_round.specs.Saying.{CanHear, SendsOne}
 use Rattle.dispatch_round.proofs.say.say_keys.Given as goal
 
--- once the rest is told, all are
+-- once the rest is sent, all are
 abbrev pub invariant-loop-message : goal.invariant-loop-message
 invariant-loop-message l =
     CanHear l.to.window (length l.keys - l.message-index) l.channels
     × ((u : Table)
-    → TellsOne l.to (map Key (drop l.message-index l.keys)) l.channels u
-    → TellsOne l.to (map Key l.keys) l.initial.channels u)
+    → SendsOne l.to (map Key (drop l.message-index l.keys)) l.channels u
+    → SendsOne l.to (map Key l.keys) l.initial.channels u)

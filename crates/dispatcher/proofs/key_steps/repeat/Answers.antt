@@ -20,21 +20,21 @@ returns-in_default-clause-ok c =
 pub returns-clause-ok : goal.returns-clause-ok
 returns-clause-ok c =
     let due = ap (λ o. is_due o c.args.clock) (sym c.due.ensures) ∙ sym c.is_due.ensures ∙ c.if-not-is_due.false in
-    repeat_pump c.args.routing.now c.tell_key.new.routing c.args.place c.args.clock (c.in-Some.field-0-0, c.in-Some.message) 0 0
+    repeat_pump c.args.routing.now c.send_key.new.routing c.args.place c.args.clock (c.in-Some.field-0-0, c.in-Some.message) 0 0
     refl
     refl
     due
     (sym c.next.ensures ∙ ap (λ o. option_map (λ n. (n.0, n.1)) o) c.in-Some.is)
-    c.in_ok-tell_key.ensures.ok
+    c.in_ok-send_key.ensures.ok
 
-pub returns-in_err-tell_key-clause-roomy : goal.returns-in_err-tell_key-clause-roomy
-returns-in_err-tell_key-clause-roomy c n roomy =
-    absurd (true≢false (sym (c.in_err-tell_key.ensures.roomy n _ roomy (modest_one _ c.in-Some.message c.args.routing.now.channels)).0))
+pub returns-in_err-send_key-clause-roomy : goal.returns-in_err-send_key-clause-roomy
+returns-in_err-send_key-clause-roomy c n roomy =
+    absurd (true≢false (sym (c.in_err-send_key.ensures.roomy n _ roomy (modest_one _ c.in-Some.message c.args.routing.now.channels)).0))
 
 pub returns-clause-roomy : goal.returns-clause-roomy
 returns-clause-roomy c n roomy =
-    let told = c.in_ok-tell_key.ensures.roomy n _ roomy (modest_one _ c.in-Some.message c.args.routing.now.channels) in
-    (refl, still_list n c.args.routing.now c.tell_key.new.routing c.in_ok-tell_key.ensures.list told.1)
+    let outgoing = c.in_ok-send_key.ensures.roomy n _ roomy (modest_one _ c.in-Some.message c.args.routing.now.channels) in
+    (refl, still_list n c.args.routing.now c.send_key.new.routing c.in_ok-send_key.ensures.list outgoing.1)
 
 pub returns-then-not-is_due-clause-roomy : goal.returns-then-not-is_due-clause-roomy
 returns-then-not-is_due-clause-roomy c n roomy = (refl, fewer n c.args.routing.now.cancelled c.args.routing.now.channels roomy)
@@ -42,6 +42,6 @@ returns-then-not-is_due-clause-roomy c n roomy = (refl, fewer n c.args.routing.n
 pub returns-in_default-clause-roomy : goal.returns-in_default-clause-roomy
 returns-in_default-clause-roomy c n roomy = (refl, fewer n c.args.routing.now.cancelled c.args.routing.now.channels roomy)
 
-pub returns-in_err-tell_key-clause-calm : goal.returns-in_err-tell_key-clause-calm
-returns-in_err-tell_key-clause-calm c =
+pub returns-in_err-send_key-clause-calm : goal.returns-in_err-send_key-clause-calm
+returns-in_err-send_key-clause-calm c =
     on_err _ c.from_residual.result (ap (λ o. is_due o c.args.clock) (sym c.due.ensures) ∙ sym c.is_due.ensures ∙ c.if-not-is_due.false)

@@ -2,8 +2,8 @@ use Rattle.std.proofs.Common.{◌∷◌, [], refl, sym, ap, ◌∙◌}
 use Rattle.input_types.specs.declared.message.Args.TheVariants.{Key as KeyOfDevice}
 use Rattle.window_snapshot.specs.Mask.{mask_has}
 use Rattle.focus_resolver.specs.Resolver.{target_of}
-use Rattle.key_tables.specs.Held.{key_heard, one_told}
-use Rattle.route_split.specs.declared.mark.Mark.TheVariants.{Rests}
+use Rattle.key_tables.specs.Held.{key_heard, one_sent}
+use Rattle.route_split.specs.declared.mark.Mark.TheVariants.{NoOp}
 use Rattle.dispatcher.proofs.Roomy.{modest_one, still_list, fewer}
 use Rattle.dispatcher.proofs.Stepping.{other_steps}
 use Rattle.dispatcher.specs.Tables.{kept}
@@ -26,14 +26,14 @@ returns-in-Some-key_heard-clause-ok c =
     ∙ c.key_heard.ensures
     ∙ ap (λ b. key_heard c.args.key.now b c.keys.result.now) (c.mask_has-hears.ensures ∙ ap (λ m. mask_has m t) c.able.ensures.value)
     ∙ ap (λ ks. key_heard c.args.key.now (mask_has old.channels.able t) ks) (c.keys.ensures ∙ ap (λ i. i.keys) c.input.ensures) in
-    on_ok _ _ c.tell_key.result c.tell_key.ensures.ok
+    on_ok _ _ c.send_key.result c.send_key.ensures.ok
     (λ some.
-    args_pump old c.tell_key.new.routing c.args.place c.args.clock (KeyOfDevice c.args.key.now) Rests (c.in-Some-key_heard.message ∷ []) 0 0
+    args_pump old c.send_key.new.routing c.args.place c.args.clock (KeyOfDevice c.args.key.now) NoOp (c.in-Some-key_heard.message ∷ []) 0 0
     refl
     refl
     some
     (λ es now w queue stands first. (other_steps old.displays es (kept queue old) stands).keys now w c.args.key.now first)
-    (λ now. keyed_one (target_of old.focus) old.channels.live _ t _ (sym c.in-Some.is ∙ c.listening.ensures.value) (ap one_told heard)))
+    (λ now. keyed_one (target_of old.focus) old.channels.live _ t _ (sym c.in-Some.is ∙ c.listening.ensures.value) (ap one_sent heard)))
 
 pub returns-in-None-clause-ok : goal.returns-in-None-clause-ok
 returns-in-None-clause-ok c =
@@ -45,12 +45,12 @@ returns-in-None-clause-ok c =
     ∙ ap (λ b. key_heard c.args.key.now b c.keys.result.now) (c.mask_has-hears.ensures ∙ ap (λ m. mask_has m t) c.able.ensures.value)
     ∙ ap (λ ks. key_heard c.args.key.now (mask_has old.channels.able t) ks) (c.keys.ensures ∙ ap (λ i. i.keys) c.input.ensures) in
     nobody_pump old c.args.place c.args.clock c.args.key.now
-    (λ now. keyed_one (target_of old.focus) old.channels.live _ t _ (sym c.in-Some.is ∙ c.listening.ensures.value) (ap one_told heard))
+    (λ now. keyed_one (target_of old.focus) old.channels.live _ t _ (sym c.in-Some.is ∙ c.listening.ensures.value) (ap one_sent heard))
 
 pub returns-in-Some-key_heard-clause-roomy : goal.returns-in-Some-key_heard-clause-roomy
 returns-in-Some-key_heard-clause-roomy c n roomy =
-    let told = c.tell_key.ensures.roomy n _ roomy (modest_one _ c.in-Some-key_heard.message c.args.routing.now.channels) in
-    (told.0, still_list n c.args.routing.now c.tell_key.new.routing c.tell_key.ensures.list told.1)
+    let outgoing = c.send_key.ensures.roomy n _ roomy (modest_one _ c.in-Some-key_heard.message c.args.routing.now.channels) in
+    (outgoing.0, still_list n c.args.routing.now c.send_key.new.routing c.send_key.ensures.list outgoing.1)
 
 pub returns-in_default-clause-roomy : goal.returns-in_default-clause-roomy
 returns-in_default-clause-roomy c n roomy = (refl, fewer n c.args.routing.now.cancelled c.args.routing.now.channels roomy)

@@ -30,7 +30,7 @@ returns-then-not-mask_has-2-clause-ok c =
 pub returns-clause-ok : goal.returns-clause-ok
 returns-clause-ok c =
     pilfers c.args.channel c.args.device c.args.place c.args.clock c.no_change-change.result.lost c.no_change-change.result.gained c.args.routing.now
-    c.tell_still.new.routing
+    c.send_still.new.routing
     c.no_change-change.ensures.0
     c.no_change-change.ensures.1
     (ap (λ m. mask_has m c.args.channel) (sym c.live.ensures.value) ∙ sym c.mask_has.ensures ∙ c.if-not-mask_has.false)
@@ -38,4 +38,4 @@ returns-clause-ok c =
     ∙ sym c.has_spy.ensures
     ∙ c.if-not-has_spy.false)
     (sym (c.holders.ensures c.args.channel) ∙ sym c.mask_has-2.ensures ∙ c.if-not-mask_has-2.false)
-    c.in_ok-tell_still.ensures.ok
+    c.in_ok-send_still.ensures.ok

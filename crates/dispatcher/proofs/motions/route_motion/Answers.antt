@@ -1,15 +1,15 @@
 use Rattle.std.proofs.Common.{refl, ap, ◌∙◌, unwrap_or}
 use Rattle.dispatcher.proofs.Roomy.{modest_none, still_list}
 use Rattle.dispatcher.proofs.Oks.{on_ok}
-use Rattle.dispatcher.proofs.Motioning.{motion_told}
+use Rattle.dispatcher.proofs.Motioning.{motion_sent}
 use Rattle.dispatcher.proofs.motions.route_motion.Goals as goal
 
 pub returns-clause-ok : goal.returns-clause-ok
 returns-clause-ok c =
     let old = c.args.routing.now in
-    on_ok _ _ c.tell.result c.tell.ensures.ok
+    on_ok _ _ c.send.result c.send.ensures.ok
     (λ from.
-    motion_told old c.tell.new.routing c.args.place c.args.clock c.args.motion.now _ c.mark_of.result c.live.result c.on.result c.able-able.result
+    motion_sent old c.send.new.routing c.args.place c.args.clock c.args.motion.now _ c.mark_of.result c.live.result c.on.result c.able-able.result
     c.windows-windows.result.now
     c.of.result
     (record {
@@ -31,5 +31,5 @@ returns-clause-ok c =
 
 pub returns-clause-roomy : goal.returns-clause-roomy
 returns-clause-roomy c n roomy =
-    let told = c.tell.ensures.roomy n _ roomy (modest_none _ c.args.routing.now.channels) in
-    (told.0, still_list n c.args.routing.now c.tell.new.routing c.tell.ensures.list told.1)
+    let outgoing = c.send.ensures.roomy n _ roomy (modest_none _ c.args.routing.now.channels) in
+    (outgoing.0, still_list n c.args.routing.now c.send.new.routing c.send.ensures.list outgoing.1)

@@ -1,11 +1,11 @@
 use Rattle.std.proofs.Common.{refl, ap, ◌∙◌, unwrap_or}
 use Rattle.dispatcher.proofs.Roomy.{modest_none, still_list}
 use Rattle.dispatcher.proofs.Oks.{on_ok}
-use Rattle.dispatcher.proofs.Moved.{move_told}
+use Rattle.dispatcher.proofs.Moved.{move_sent}
 use Rattle.dispatcher.proofs.motions.route_move.Goals as goal
 
-pub tell_lightly-requires-clause-light : goal.tell_lightly-requires-clause-light
-tell_lightly-requires-clause-light c = record {
+pub send_lightly-requires-clause-light : goal.send_lightly-requires-clause-light
+send_lightly-requires-clause-light c = record {
   mark_is = refl;
   motion_is = c.requires.moves;
   watchers_is = refl;
@@ -16,9 +16,9 @@ tell_lightly-requires-clause-light c = record {
 pub returns-clause-ok : goal.returns-clause-ok
 returns-clause-ok c =
     let old = c.args.routing.now in
-    on_ok _ _ c.tell_lightly.result c.tell_lightly.ensures.ok
+    on_ok _ _ c.send_lightly.result c.send_lightly.ensures.ok
     (λ from.
-    move_told old c.tell_lightly.new.routing c.args.place c.args.clock c.args.motion.now _
+    move_sent old c.send_lightly.new.routing c.args.place c.args.clock c.args.motion.now _
     (record {
       mark_is = refl;
       motion_is = refl;
@@ -34,5 +34,5 @@ returns-clause-ok c =
 
 pub returns-clause-roomy : goal.returns-clause-roomy
 returns-clause-roomy c n roomy =
-    let told = c.tell_lightly.ensures.roomy n _ roomy (modest_none _ c.args.routing.now.channels) in
-    (told.0, still_list n c.args.routing.now c.tell_lightly.new.routing c.tell_lightly.ensures.list told.1)
+    let outgoing = c.send_lightly.ensures.roomy n _ roomy (modest_none _ c.args.routing.now.channels) in
+    (outgoing.0, still_list n c.args.routing.now c.send_lightly.new.routing c.send_lightly.ensures.list outgoing.1)

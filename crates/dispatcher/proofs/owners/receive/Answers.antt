@@ -4,7 +4,7 @@ use Rattle.input_channel.specs.State.{next_of}
 use Rattle.dispatch_calls.specs.declared.reply.Reply.TheVariants.{Gone}
 use Rattle.dispatch_history.specs.Reply.{got_reply}
 use Rattle.dispatch_channels.specs.Table.{channel_of}
-use Rattle.dispatcher.proofs.Resting.{hands_gone, hands_live}
+use Rattle.dispatcher.proofs.NoOps.{hands_gone, hands_live}
 use Rattle.dispatcher.proofs.owners.receive.Goals as goal
 
 pub returns-then-not-mask_has-clause-goes : goal.returns-then-not-mask_has-clause-goes

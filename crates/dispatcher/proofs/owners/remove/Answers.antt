@@ -1,7 +1,7 @@
 use Rattle.std.proofs.Common.{None, refl, sym, ap, ◌∙◌, if◌then◌else◌}
 use Rattle.focus_resolver.specs.Resolver.{is_at}
 use Rattle.window_snapshot.specs.Mask.{mask_has}
-use Rattle.dispatcher.proofs.Resting.{remove_gone, removes}
+use Rattle.dispatcher.proofs.NoOps.{remove_gone, removes}
 use Rattle.dispatcher.proofs.Refocused.{refocuses_by}
 use Rattle.dispatcher.proofs.owners.remove.Goals as goal
 
@@ -17,7 +17,7 @@ returns c =
     let old = c.args.routing.now in
     removes c.args.channel c.args.place clock old _
     (ap (λ m. mask_has m c.args.channel) (sym c.live.ensures.value) ∙ sym c.mask_has.ensures ∙ c.if-not-mask_has.false)
-    c.change-not_told.ensures.changes
+    c.change-not_sent.ensures.changes
     refl
     refl
     c.remove.ensures

@@ -1,6 +1,6 @@
 -- One line more.
 use Rattle.std.proofs.Common.{◌≡◌, ◌∙◌, ap, sym, arith, [], Some}
-use Rattle.judge_text.specs.Judging.{judged_on, told_after}
+use Rattle.judge_text.specs.Judging.{judged_on, sent_after}
 use Rattle.judge_text.proofs.Ties.{IsFresh, after_line, at_start, one_message, one_read, one_section}
 use Rattle.judge_text.proofs.text.judge_text.Goals as goal
 
@@ -27,7 +27,7 @@ lines-preserved c =
     in let read = one_read c.lines.lines c.next.new.self c.in-Ok-Some.field-0 (c.in-Ok-Some.number, line) is c.in-Ok-Some.ensures.lines
     in record {
       known = (
-        told_after past line,
+        sent_after past line,
         takes.knows,
         sym (after_line past c.in-Ok-Some.number line c.lines.judge c.take.new.self c.next.new.self.events takes)
             ∙ ap (judged_on c.lines.judge past) (sym read.0)

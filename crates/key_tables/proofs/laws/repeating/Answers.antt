@@ -1,4 +1,4 @@
-use Rattle.key_tables.proofs.Telling.{repeat_read}
+use Rattle.key_tables.proofs.Sending.{repeat_read}
 use Rattle.key_tables.proofs.Repeating.{repeat_step, repeat_left}
 use Rattle.key_tables.proofs.laws.repeating.Goals as goal
 

@@ -1,4 +1,4 @@
-use Rattle.live_input.proofs.Told.{closed_law, next_law, own_law, own_numbers}
+use Rattle.live_input.proofs.Outgoing.{closed_law, next_law, own_law, own_numbers}
 use Rattle.live_input.proofs.laws.clients.Goals as goal
 
 pub returns : goal.returns

@@ -1,5 +1,5 @@
-use Rattle.live_input.proofs.Told.{kept_law, namings_law, vacant_law}
+use Rattle.live_input.proofs.Outgoing.{kept_law, anrs_law, vacant_law}
 use Rattle.live_input.proofs.laws.memory.Goals as goal
 
 pub returns : goal.returns
-returns c = record { messages = kept_law; namings = namings_law; vacant = vacant_law }
+returns c = record { messages = kept_law; anrs = anrs_law; vacant = vacant_law }

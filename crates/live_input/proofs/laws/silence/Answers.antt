@@ -1,5 +1,5 @@
-use Rattle.live_input.proofs.Silence.{told_nothing}
+use Rattle.live_input.proofs.Silence.{sent_nothing}
 use Rattle.live_input.proofs.laws.silence.Goals as goal
 
 pub returns : goal.returns
-returns c = told_nothing
+returns c = sent_nothing

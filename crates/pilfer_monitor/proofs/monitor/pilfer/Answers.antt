@@ -2,13 +2,13 @@ use Rattle.std.proofs.Common.{◌&&◌, ◌||◌, ◌==◌, ◌+◌, not, nat_le
 use Rattle.bits32.specs.Set.{is_in}
 use Rattle.touch_state.specs.Touches.{none}
 use Rattle.pilfer_monitor.specs.Pilfer.{pilfered, set_of}
-use Rattle.pilfer_monitor.proofs.Takes.{retold, two_changes, none_reached, all_reached, one_reached, nothing_lost, one_lost, all_lost}
+use Rattle.pilfer_monitor.proofs.Takes.{resent, two_changes, none_reached, all_reached, one_reached, nothing_lost, one_lost, all_lost}
 use Rattle.pilfer_monitor.proofs.monitor.pilfer.Goals as goal
 
 pub loop-k-init : goal.loop-k-init
 loop-k-init c = (
   λ place.
-      retold c.args.state.now c.start_pilfer.new.self none (λ w i. nat_le w 0 && pilfered c.args.state.now c.args.channel w i) place (λ w. w == c.args.channel)
+      resent c.args.state.now c.start_pilfer.new.self none (λ w i. nat_le w 0 && pilfered c.args.state.now c.args.channel w i) place (λ w. w == c.args.channel)
       (λ w i h. none_reached c.args.state.now w i (pilfered c.args.state.now c.args.channel w i) h) (c.start_pilfer.ensures place),
   λ w i. nothing_lost c.empty-lost.result 64 c.empty-lost.ensures c.args.state.now w i (pilfered c.args.state.now c.args.channel w i),
 )
@@ -27,7 +27,7 @@ loop-k-preserved c = (
 
 pub returns-clause-state : goal.returns-clause-state
 returns-clause-state c place =
-    retold c.args.state.now c.loop-k.state (λ w i. nat_le w c.loop-k.k && pilfered c.args.state.now c.args.channel w i) (pilfered c.args.state.now c.args.channel) place
+    resent c.args.state.now c.loop-k.state (λ w i. nat_le w c.loop-k.k && pilfered c.args.state.now c.args.channel w i) (pilfered c.args.state.now c.args.channel) place
     (λ w. w == c.args.channel)
     (λ w i h. all_reached c.args.state.now w i c.loop-k.k (pilfered c.args.state.now c.args.channel w i) c.loop-k-test.false h) (c.loop-k.invariant.0 place)
 

@@ -1,7 +1,7 @@
 -- The message that the service gives, number by number.
 use Rattle.std.proofs.Common.{◌∙◌, Option, Ok, sym, ap, subst}
 use Rattle.input_types.specs.declared.message.Message.{Message}
-use Rattle.plain_calls.specs.Calling.{told_status, written}
+use Rattle.plain_calls.specs.Calling.{answer_status, written}
 use Rattle.plain_calls.specs.Getting.{Received}
 use Rattle.plain_calls.specs.Told.{plain_message}
 use Rattle.plain_calls.proofs.getting.next.Goals as goal
@@ -11,7 +11,7 @@ returns-in-Ok-Some c =
     let is = sym c.in-Ok-Some.field-0-is in let all = c.in-Ok-Some.ensures in (
       Ok c.in-Ok-Some.field-0,
       (
-        ap (λ (o : Option Message). told_status o) is,
+        ap (λ (o : Option Message). answer_status o) is,
         (
           subst (λ k. Received k c.args.live.now c.next.new.self (Ok c.in-Ok-Some.field-0)) c.read.ensures
               (record { stale = all.stale; message = all.message; after = all.after; numbers = all.numbers; kept = all.kept; clients = all.clients; named = all.named; err = all.err }),
@@ -25,7 +25,7 @@ returns-in-Ok-None c =
     let is = sym c.in-Ok-None.field-0-is in let all = c.in-Ok-None.ensures in (
       Ok c.in-Ok-None.field-0,
       (
-        ap (λ (o : Option Message). told_status o) is,
+        ap (λ (o : Option Message). answer_status o) is,
         (
           subst (λ k. Received k c.args.live.now c.next.new.self (Ok c.in-Ok-None.field-0)) c.read.ensures
               (record { stale = all.stale; message = all.message; after = all.after; numbers = all.numbers; kept = all.kept; clients = all.clients; named = all.named; err = all.err }),

@@ -7,4 +7,4 @@ loop-below-init c = c.new-out.ensures.items ∙ sym (said_none _)
 
 pub loop-below-preserved : goal.loop-below-preserved
 loop-below-preserved c =
-    said_step _ c.loop-below.below c.loop-below.out.items c.tell_losses.new.out.items _ c.in_ok-tell_losses.ensures c.loop-below.invariant refl
+    said_step _ c.loop-below.below c.loop-below.out.items c.send_losses.new.out.items _ c.in_ok-send_losses.ensures c.loop-below.invariant refl

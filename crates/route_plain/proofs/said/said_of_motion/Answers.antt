@@ -7,7 +7,7 @@ use Rattle.routing_rules.specs.Watching.{is_watching}
 use Rattle.route_plain.proofs.Silence.{unconcerned, one_of_64}
 use Rattle.route_plain.proofs.SaidLaws.{said_none, said_step}
 use Rattle.route_plain.proofs.said.said_of_motion.Goals as goal
-use Rattle.route_plain.proofs.said.said_of_motion.Goals.{then-mask_has+in_ok-tell_channel, else-mask_has}
+use Rattle.route_plain.proofs.said.said_of_motion.Goals.{then-mask_has+in_ok-send_channel, else-mask_has}
 
 pub loop-below-init : goal.loop-below-init
 loop-below-init c = c.new-out.ensures.items ∙ sym (said_none _)
@@ -22,9 +22,9 @@ loop-below-preserved c =
     in
     let concerned = c.channels_with-concerned.ensures ∙ ap₂ (λ m g. channels_with m g) c.channels_with.ensures c.deref.ensures.value in
     elim c.if-mask_has.branch [
-      | then-mask_has+in_ok-tell_channel w ↦
+      | then-mask_has+in_ok-send_channel w ↦
           ap (λ o. o.items) w.out-is
-          ∙ said_step _ c.loop-below.below c.loop-below.out.items w.tell_channel.new.out.items _ w.in_ok-tell_channel.ensures c.loop-below.invariant refl
+          ∙ said_step _ c.loop-below.below c.loop-below.out.items w.send_channel.new.out.items _ w.in_ok-send_channel.ensures c.loop-below.invariant refl
       | else-mask_has w ↦
           let lt : c.loop-below.below < 64 = omega arith in
           ap (λ o. o.items) w.out-is

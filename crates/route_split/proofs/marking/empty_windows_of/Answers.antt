@@ -1,7 +1,7 @@
 use Rattle.std.proofs.Common.{◌&&◌, ◌||◌, ◌==◌, ◌+◌, nat_le, ap, sym, ◌∙◌}
 use Rattle.window_snapshot.specs.Mask.{mask_has}
 use Rattle.touch_state.specs.Touches.{nobody}
-use Rattle.pilfer_monitor.proofs.Takes.{unchanged, retold, two_changes, none_reached, all_reached}
+use Rattle.pilfer_monitor.proofs.Takes.{unchanged, resent, two_changes, none_reached, all_reached}
 use Rattle.route_split.proofs.Changing.{none_hit, one_window}
 use Rattle.route_split.proofs.marking.empty_windows_of.Goals as goal
 
@@ -26,5 +26,5 @@ loop-k-preserved c =
 
 pub returns : goal.returns
 returns c place =
-    retold c.args.state.now c.loop-k.state (λ w i. nat_le w c.loop-k.k && mask_has c.args.emptied w) (λ w i. mask_has c.args.emptied w) place nobody
+    resent c.args.state.now c.loop-k.state (λ w i. nat_le w c.loop-k.k && mask_has c.args.emptied w) (λ w i. mask_has c.args.emptied w) place nobody
     (λ w i h. all_reached c.args.state.now w i c.loop-k.k (mask_has c.args.emptied w) c.loop-k-test.false h) (c.loop-k.invariant place)

@@ -1,6 +1,6 @@
 use Rattle.std.proofs.Common.{◌≡◌, ◌&&◌, true, sym, ap, ap₂, ◌∙◌}
 use Rattle.window_snapshot.specs.Hits.{is_watcher_at}
-use Rattle.routing_rules.specs.Told.{is_first}
+use Rattle.routing_rules.specs.Outgoing.{is_first}
 use Rattle.touch_state.proofs.Steps.{mask_has-and}
 use Rattle.routing_rules.specs.Watching.{is_watching}
 use Rattle.route_split.proofs.watching.watchers.Goals as goal

@@ -10,8 +10,8 @@ pub returns-clause-has : goal.returns-clause-has
 returns-clause-has c = record {
   stands = after_of [] _ c.in_ok-dispatcher.ensures.start;
   displays_are = c.in_ok-dispatcher.ensures.displays;
-  noted = c.in_ok-dispatcher.ensures.namings;
-  heard = λ c' from to. c.in_ok-streams.ensures.empty c' ∙ ap (λ n. lines_first [] c' n) (sym (c.in_ok-dispatcher.ensures.gone c' from));
+  noted = c.in_ok-dispatcher.ensures.anrs;
+  drained = λ c' from to. c.in_ok-streams.ensures.empty c' ∙ ap (λ n. lines_first [] c' n) (sym (c.in_ok-dispatcher.ensures.gone c' from));
   as_many = sym c.in_ok-streams.streams.ok.0 ∙ c.in_ok-streams.ensures.len ∙ c.texts.ensures ∙ ap (texts c.args.lines) (c.len.ensures ∙ c.args.plan.now.channels.ok.0 ∙ sym (length-map c.args.plan.now.channels.items channel_of));
   causes_are = c.causes.ensures c.args.plan.now.displays;
   next_is = refl;

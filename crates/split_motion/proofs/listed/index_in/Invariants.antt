@@ -1,5 +1,5 @@
 use Rattle.std.proofs.Common.{◌≡◌, ◌+◌, drop}
-use Rattle.routing_rules.specs.Told.{index_in}
+use Rattle.routing_rules.specs.Outgoing.{index_in}
 use Rattle.split_motion.proofs.listed.index_in.Given as goal
 
 abbrev pub invariant-loop-place : goal.invariant-loop-place

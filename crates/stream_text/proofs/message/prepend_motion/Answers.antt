@@ -1,6 +1,6 @@
 use Rattle.std.proofs.Common.{[], ◌∷◌, ◌++◌, drop, ap, ◌∙◌, arith}
 use Rattle.stream_text.specs.Spelling.{head, pointers}
-use Rattle.stream_text.proofs.Held.{motion_told, still_held}
+use Rattle.stream_text.proofs.Held.{motion_sent, still_held}
 use Rattle.stream_text.proofs.message.prepend_motion.Goals as goal
 
 pub returns-clause-holds : goal.returns-clause-holds
@@ -19,4 +19,4 @@ returns-clause-written c =
     ∙ put.ensures.holds.3
     ∙ ap (λ ps. pointers ps ++ 10 ∷ []) put.ensures.list
     )
-    ∙ motion_told c.args.told.now (10 ∷ [])
+    ∙ motion_sent c.args.told.now (10 ∷ [])

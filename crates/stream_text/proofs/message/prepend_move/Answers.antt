@@ -1,5 +1,5 @@
 use Rattle.std.proofs.Common.{rules, ◌≡◌, ◌≤◌, [], ◌∷◌, ◌++◌, codes, decimal, arith, ◌∙◌}
-use Rattle.stream_text.proofs.Held.{move_put, move_told, still_held}
+use Rattle.stream_text.proofs.Held.{move_put, move_sent, still_held}
 use Rattle.stream_text.proofs.message.prepend_move.Goals as goal
 
 pub returns-then-has-clause-written : goal.returns-then-has-clause-written
@@ -9,7 +9,7 @@ returns-then-has-clause-written c =
     let some : 1 ≤ kept.moves = omega (arith, c.if-kept-device.true, c.get-device.ensures.range) in
     let pointed : kept.list ≡ told.pointers = search rules in
     (c.requires.moves some).2
-    ∙ move_told told kept.moves kept.list (10 ∷ []) (c.if-kept-device.true ∙ c.get-device.ensures.value) pointed c.requires.plain.0 c.requires.plain.1
+    ∙ move_sent told kept.moves kept.list (10 ∷ []) (c.if-kept-device.true ∙ c.get-device.ensures.value) pointed c.requires.plain.0 c.requires.plain.1
 
 pub returns-clause-holds : goal.returns-clause-holds
 returns-clause-holds c =
@@ -42,4 +42,4 @@ returns-clause-written c =
     let front = c.prepend_device-at in
     move_put c.get-device.result kept.at front.result word.result put.result front.new.line word.new.line put.new.line kept.list
     front.ensures.written word.ensures.written put.ensures.at put.ensures.holds
-    ∙ move_told c.args.told.now c.get-device.result kept.list (10 ∷ []) c.get-device.ensures.value put.ensures.list c.requires.plain.0 c.requires.plain.1
+    ∙ move_sent c.args.told.now c.get-device.result kept.list (10 ∷ []) c.get-device.ensures.value put.ensures.list c.requires.plain.0 c.requires.plain.1

@@ -1,6 +1,6 @@
 use Rattle.std.proofs.Common.{◌≡◌, Some, arith, sym, ◌∙◌, ap}
 use Rattle.std.proofs.lemmas.Result.{err_from_is_err_and}
-use Rattle.stream_text.specs.StreamAnswer.{message_told, opened}
+use Rattle.stream_text.specs.StreamAnswer.{message_sent, opened}
 use Rattle.stream_text.proofs.Streams.{begins_bad, opened_more}
 use Rattle.stream_text.proofs.stream_file.section.Goals as goal
 
@@ -14,7 +14,7 @@ returns-in_err-line-clause-section c =
 
 pub messages-preserved : goal.messages-preserved
 messages-preserved c =
-    let told : message_told c.in_ok-line.line ≡ Some c.in-Some.message = sym c.message_of.ensures ∙ c.in-Some.is in
+    let told : message_sent c.in_ok-line.line ≡ Some c.in-Some.message = sym c.message_of.ensures ∙ c.in-Some.is in
     record {
       read = λ id first.
           rw c.in_ok-push.ensures.items

@@ -1,5 +1,5 @@
 use Rattle.std.proofs.Common.{◌≡◌, true, false, cond, [], None, sym, ap, ◌∙◌}
-use Rattle.dispatch_history.specs.KeyTold.{last_key, repeat_due}
+use Rattle.dispatch_history.specs.KeySent.{last_key, repeat_due}
 use Rattle.dispatch_history.specs.Reply.{is_due}
 use Rattle.why_text.specs.Lines.{repeat_words}
 use Rattle.why_lines.specs.Growing.{with_lines}

@@ -1,6 +1,6 @@
 use Rattle.std.proofs.Common.{ℕ, List, flat_map, ap, ◌∙◌}
 use Rattle.std.proofs.Math.Path.{fun_ext}
-use Rattle.routing_rules.specs.Told.{devices}
+use Rattle.routing_rules.specs.Outgoing.{devices}
 use Rattle.route_split.specs.Tables.{holds_at}
 use Rattle.why_text.specs.Lost.{ids_item}
 use Rattle.why_text.specs.Words.{ids_that}

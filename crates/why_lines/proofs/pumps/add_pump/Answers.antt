@@ -3,7 +3,7 @@ use Rattle.dispatch_calls.specs.declared.call.Call.TheVariants.{Pump}
 use Rattle.dispatch_calls.specs.declared.reply.Reply.TheVariants.{Dispatched}
 use Rattle.dispatch_history.specs.Effect.{past_of}
 use Rattle.dispatch_history.specs.Effects.{effect_of}
-use Rattle.dispatch_history.specs.KeyTold.{last_key, repeat_due}
+use Rattle.dispatch_history.specs.KeySent.{last_key, repeat_due}
 use Rattle.dispatch_history.specs.Queue.{inbound}
 use Rattle.dispatch_history.specs.Reply.{is_due}
 use Rattle.why_text.specs.Lines.{repeat_words}

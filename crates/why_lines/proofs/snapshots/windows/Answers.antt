@@ -11,11 +11,11 @@ use Rattle.why_text.specs.Lines.{gone_words, snapshot_words}
 use Rattle.why_text.specs.Text.{focus_words, line}
 use Rattle.dispatcher.proofs.Standing.{after_of}
 use Rattle.why_lines.specs.Growing.{with_lines}
-use Rattle.why_lines.specs.Telling.{MayMake}
+use Rattle.why_lines.specs.Explaining.{MayMake}
 use Rattle.why_lines.proofs.Growing.{more_lines, one_line}
 use Rattle.why_lines.proofs.Held.{keys_there}
-use Rattle.why_lines.proofs.Making.{made_now, tells_of}
-use Rattle.why_lines.proofs.Told.{from_if, tells_moved}
+use Rattle.why_lines.proofs.Making.{made_now, sends_of}
+use Rattle.why_lines.proofs.Outgoing.{from_if, sends_moved}
 use Rattle.why_lines.proofs.snapshots.windows.Goals as goal
 
 pub returns-clause-known : goal.returns-clause-known
@@ -50,7 +50,7 @@ returns-clause-known c es st =
     from_if c.add_changes.result _ _
     (c.add_changes.ensures (past_of es) (past_of fs) (c.all_focused-before.ensures es st) (c.all_focused-after.ensures fs stands))
     (λ grown.
-    tells_moved ds call es p.0 later t (shown ∷ gone) text c.add_changes.new.text.items stands c.in_ok-apply_unread.ensures.displays at
+    sends_moved ds call es p.0 later t (shown ∷ gone) text c.add_changes.new.text.items stands c.in_ok-apply_unread.ensures.displays at
     (grown
     ∙ ap (with_lines t (focus_words (past_of es) (past_of fs)))
     (lost
@@ -63,17 +63,17 @@ pub returns-clause-made : goal.returns-clause-made
 returns-clause-made c =
     subst (λ k. MayMake k c.args.dispatcher.now c.apply_unread.new.self) c.requires
     (made_now c.args.call.now c.args.dispatcher.now c.apply_unread.new.self c.in_ok-apply_unread.ensures.displays c.in_ok-apply_unread.ensures.gone
-    c.in_ok-apply_unread.ensures.namings
+    c.in_ok-apply_unread.ensures.anrs
     c.in_ok-apply_unread.ensures.known)
 
 pub returns-in_err-add_all_lost-clause-made : goal.returns-in_err-add_all_lost-clause-made
 returns-in_err-add_all_lost-clause-made c =
     subst (λ k. MayMake k c.args.dispatcher.now c.apply_unread.new.self) c.requires
     (made_now c.args.call.now c.args.dispatcher.now c.apply_unread.new.self c.in_ok-apply_unread.ensures.displays c.in_ok-apply_unread.ensures.gone
-    c.in_ok-apply_unread.ensures.namings
+    c.in_ok-apply_unread.ensures.anrs
     c.in_ok-apply_unread.ensures.known)
 
-pub returns-clause-told : goal.returns-clause-told
-returns-clause-told c es st =
-    tells_of (Windows c.args.now c.args.snapshot.now) c.add_changes.result es _ _ c.args.dispatcher.now c.apply_unread.new.self st (returns-clause-made c)
+pub returns-clause-sent : goal.returns-clause-sent
+returns-clause-sent c es st =
+    sends_of (Windows c.args.now c.args.snapshot.now) c.add_changes.result es _ _ c.args.dispatcher.now c.apply_unread.new.self st (returns-clause-made c)
     (returns-clause-known c es (after_of es c.args.dispatcher.now st))

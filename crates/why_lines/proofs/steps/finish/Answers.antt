@@ -7,8 +7,8 @@ use Rattle.dispatch_history.specs.History.{clock}
 use Rattle.dispatcher.proofs.Standing.{after_of}
 use Rattle.why_lines.specs.Owners.{again_words}
 use Rattle.why_lines.proofs.Finishing.{finish_law}
-use Rattle.why_lines.proofs.Making.{made_now, tells_of}
-use Rattle.why_lines.proofs.Told.{from_if, stands_lawful, tells}
+use Rattle.why_lines.proofs.Making.{made_now, sends_of}
+use Rattle.why_lines.proofs.Outgoing.{from_if, stands_lawful, sends}
 use Rattle.why_lines.proofs.steps.finish.Goals as goal
 
 pub returns-clause-known : goal.returns-clause-known
@@ -24,7 +24,7 @@ returns-clause-known c es st =
     let lawful = stands_lawful ds (step ds call p.0 es) later p.1 c.in_ok-apply_unread.ensures.displays in
     from_if c.add_finish.result _ _ c.add_finish.ensures
     (λ grown.
-    tells ds call es p.0 later c.later-clock.result
+    sends ds call es p.0 later c.later-clock.result
     (again_words (not (mask_has c.able-before.result w) && mask_has c.able-after.result w) w)
     c.args.text.now.items
     c.add_finish.new.text.items
@@ -41,10 +41,10 @@ returns-clause-known c es st =
 pub returns-clause-made : goal.returns-clause-made
 returns-clause-made c =
     made_now (Finish c.args.now c.args.channel c.args.seq) c.args.dispatcher.now c.apply_unread.new.self c.in_ok-apply_unread.ensures.displays c.in_ok-apply_unread.ensures.gone
-    c.in_ok-apply_unread.ensures.namings
+    c.in_ok-apply_unread.ensures.anrs
     c.in_ok-apply_unread.ensures.known
 
-pub returns-clause-told : goal.returns-clause-told
-returns-clause-told c es st =
-    tells_of (Finish c.args.now c.args.channel c.args.seq) c.add_finish.result es _ _ c.args.dispatcher.now c.apply_unread.new.self st (returns-clause-made c)
+pub returns-clause-sent : goal.returns-clause-sent
+returns-clause-sent c es st =
+    sends_of (Finish c.args.now c.args.channel c.args.seq) c.add_finish.result es _ _ c.args.dispatcher.now c.apply_unread.new.self st (returns-clause-made c)
     (returns-clause-known c es (after_of es c.args.dispatcher.now st))

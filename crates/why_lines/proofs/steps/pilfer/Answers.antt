@@ -7,8 +7,8 @@ use Rattle.dispatch_history.specs.Step.{scene}
 use Rattle.why_text.specs.Lines.{pilfer_words}
 use Rattle.dispatcher.proofs.Standing.{after_of}
 use Rattle.why_lines.proofs.Growing.{one_line}
-use Rattle.why_lines.proofs.Making.{made_by, tells_of}
-use Rattle.why_lines.proofs.Told.{on_ok, tells}
+use Rattle.why_lines.proofs.Making.{made_by, sends_of}
+use Rattle.why_lines.proofs.Outgoing.{on_ok, sends}
 use Rattle.why_lines.proofs.steps.pilfer.Goals as goal
 
 pub returns-clause-known : goal.returns-clause-known
@@ -21,7 +21,7 @@ returns-clause-known c es st =
     let at : c.later-clock.result ≡ max now (clock (past_of es)) = c.later-clock.ensures ∙ ap (max now) (c.clock.ensures es st) in
     on_ok c.apply_unread.result _ _ (c.apply_unread.ensures.known es st)
     (λ p.
-    tells ds (Pilfer now w d) es p.0 c.apply_unread.new.self c.later-clock.result (words ∷ []) c.args.text.now.items c.add_pilfer.new.text.items p.1
+    sends ds (Pilfer now w d) es p.0 c.apply_unread.new.self c.later-clock.result (words ∷ []) c.args.text.now.items c.add_pilfer.new.text.items p.1
     c.apply_unread.ensures.displays
     at
     refl
@@ -31,11 +31,11 @@ returns-clause-known c es st =
 pub returns-clause-made : goal.returns-clause-made
 returns-clause-made c =
     made_by (Pilfer c.args.now c.args.channel c.args.device) c.args.dispatcher.now c.apply_unread.new.self c.apply_unread.result c.apply_unread.ensures.displays c.apply_unread.ensures.gone
-    c.apply_unread.ensures.namings
+    c.apply_unread.ensures.anrs
     c.apply_unread.ensures.known
     c.apply_unread.ensures.err
 
-pub returns-clause-told : goal.returns-clause-told
-returns-clause-told c es st =
-    tells_of (Pilfer c.args.now c.args.channel c.args.device) c.apply_unread.result es _ _ c.args.dispatcher.now c.apply_unread.new.self st (returns-clause-made c)
+pub returns-clause-sent : goal.returns-clause-sent
+returns-clause-sent c es st =
+    sends_of (Pilfer c.args.now c.args.channel c.args.device) c.apply_unread.result es _ _ c.args.dispatcher.now c.apply_unread.new.self st (returns-clause-made c)
     (returns-clause-known c es (after_of es c.args.dispatcher.now st))

@@ -4,8 +4,8 @@ use Rattle.dispatch_history.specs.Effect.{past_of}
 use Rattle.dispatch_history.specs.History.{clock}
 use Rattle.dispatcher.proofs.Standing.{after_of}
 use Rattle.why_lines.specs.Pumping.{pump_words}
-use Rattle.why_lines.proofs.Making.{made_by, tells_of}
-use Rattle.why_lines.proofs.Told.{answered_words, on_ok, tells}
+use Rattle.why_lines.proofs.Making.{made_by, sends_of}
+use Rattle.why_lines.proofs.Outgoing.{answered_words, on_ok, sends}
 use Rattle.why_lines.proofs.steps.pump.Goals as goal
 
 pub returns-clause-known : goal.returns-clause-known
@@ -15,7 +15,7 @@ returns-clause-known c es st =
     let at : c.later-clock.result ≡ max now (clock (past_of es)) = c.later-clock.ensures ∙ ap (max now) (c.clock.ensures es st) in
     on_ok c.apply_unread.result _ _ (c.apply_unread.ensures.known es st)
     (λ p.
-    tells ds (Pump now) es p.0 c.apply_unread.new.self c.later-clock.result (pump_words ds now es) c.args.text.now.items c.add_pump.new.text.items p.1
+    sends ds (Pump now) es p.0 c.apply_unread.new.self c.later-clock.result (pump_words ds now es) c.args.text.now.items c.add_pump.new.text.items p.1
     c.apply_unread.ensures.displays
     at
     refl
@@ -25,11 +25,11 @@ returns-clause-known c es st =
 pub returns-clause-made : goal.returns-clause-made
 returns-clause-made c =
     made_by (Pump c.args.now) c.args.dispatcher.now c.apply_unread.new.self c.apply_unread.result c.apply_unread.ensures.displays c.apply_unread.ensures.gone
-    c.apply_unread.ensures.namings
+    c.apply_unread.ensures.anrs
     c.apply_unread.ensures.known
     c.apply_unread.ensures.err
 
-pub returns-clause-told : goal.returns-clause-told
-returns-clause-told c es st =
-    tells_of (Pump c.args.now) c.apply_unread.result es _ _ c.args.dispatcher.now c.apply_unread.new.self st (returns-clause-made c)
+pub returns-clause-sent : goal.returns-clause-sent
+returns-clause-sent c es st =
+    sends_of (Pump c.args.now) c.apply_unread.result es _ _ c.args.dispatcher.now c.apply_unread.new.self st (returns-clause-made c)
     (returns-clause-known c es (after_of es c.args.dispatcher.now st))

@@ -9,9 +9,9 @@ use Rattle.dispatch_tables.specs.Dues.{due_moment}
 use Rattle.why_text.specs.Lines.{timeout_words}
 use Rattle.why_text.specs.Words.{channels_that}
 use Rattle.dispatcher.proofs.Standing.{after_of}
-use Rattle.why_lines.proofs.Making.{made_by, tells_of}
+use Rattle.why_lines.proofs.Making.{made_by, sends_of}
 use Rattle.why_lines.proofs.Ticking.{named_loses, named_words}
-use Rattle.why_lines.proofs.Told.{on_ok, stands_lawful, tells}
+use Rattle.why_lines.proofs.Outgoing.{on_ok, stands_lawful, sends}
 use Rattle.why_lines.proofs.steps.tick.Goals as goal
 
 pub returns-clause-known : goal.returns-clause-known
@@ -26,7 +26,7 @@ returns-clause-known c es st =
     (λ p.
     let x = effect_of ds call p.0 (args_of call p.0 (inbound (past_of es))) es in
     let lawful = stands_lawful ds (step ds call p.0 es) later p.1 c.apply_unread.ensures.displays in
-    tells ds call es p.0 later t (map (timeout_words x es) (channels_that (λ w. is_due (due_moment es w) t))) c.args.text.now.items c.add_tick.new.text.items p.1
+    sends ds call es p.0 later t (map (timeout_words x es) (channels_that (λ w. is_due (due_moment es w) t))) c.args.text.now.items c.add_tick.new.text.items p.1
     c.apply_unread.ensures.displays
     at
     refl
@@ -38,11 +38,11 @@ returns-clause-known c es st =
 pub returns-clause-made : goal.returns-clause-made
 returns-clause-made c =
     made_by (Tick c.args.now) c.args.dispatcher.now c.apply_unread.new.self c.apply_unread.result c.apply_unread.ensures.displays c.apply_unread.ensures.gone
-    c.apply_unread.ensures.namings
+    c.apply_unread.ensures.anrs
     c.apply_unread.ensures.known
     c.apply_unread.ensures.err
 
-pub returns-clause-told : goal.returns-clause-told
-returns-clause-told c es st =
-    tells_of (Tick c.args.now) c.apply_unread.result es _ _ c.args.dispatcher.now c.apply_unread.new.self st (returns-clause-made c)
+pub returns-clause-sent : goal.returns-clause-sent
+returns-clause-sent c es st =
+    sends_of (Tick c.args.now) c.apply_unread.result es _ _ c.args.dispatcher.now c.apply_unread.new.self st (returns-clause-made c)
     (returns-clause-known c es (after_of es c.args.dispatcher.now st))

@@ -1,4 +1,4 @@
-use Rattle.why_text.proofs.RestLaws.{focus_law}
+use Rattle.why_text.proofs.NoOpLaws.{focus_law}
 use Rattle.why_text.proofs.laws.focusing.Goals as goal
 
 pub returns : goal.returns

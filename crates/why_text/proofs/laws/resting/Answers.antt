@@ -1,4 +1,4 @@
-use Rattle.why_text.proofs.RestLaws.{silent_law}
+use Rattle.why_text.proofs.NoOpLaws.{silent_law}
 use Rattle.why_text.proofs.laws.resting.Goals as goal
 
 pub returns : goal.returns

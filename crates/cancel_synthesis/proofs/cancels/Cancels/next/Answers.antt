@@ -1,6 +1,6 @@
 use Rattle.std.proofs.Common.{◌≡◌, ◌+◌, ◌<◌, List, drop, get_or, length, sym, ap, ◌∙◌, arith}
 use Rattle.input_types.specs.declared.pointer.Pointer.{Pointer}
-use Rattle.cancel_synthesis.specs.Cancelling.{still_told, told_from}
+use Rattle.cancel_synthesis.specs.Cancelling.{still_sent, sent_from}
 use Rattle.cancel_synthesis.proofs.CancelSteps.{up_left}
 use Rattle.cancel_synthesis.proofs.cancels.Cancels.next.Goals as goal
 
@@ -8,7 +8,7 @@ pub returns-clause-others : goal.returns-clause-others
 returns-clause-others c =
     let i = c.self.inside in
     let p = c.index-as_slice-self.result in
-    let within : i.told < length i.gone = omega (arith, c.if-count-self.false, c.len-count.ensures.value) in
-    let at : p ≡ get_or i.gone i.told p = c.index-as_slice-self.is ∙ ap (λ (ps : List Pointer). get_or ps i.told p) c.as_slice.ensures.value in
-    ap (λ (ps : List Pointer). told_from i.device i.ends ps (drop (i.told + 1) i.gone)) c.without-self-inside.ensures
-    ∙ sym (ap (drop 1) (sym (ap still_told c.self.view_is) ∙ up_left i.device i.ends i.left i.gone i.told p c.if-self.false within at))
+    let within : i.outgoing < length i.gone = omega (arith, c.if-count-self.false, c.len-count.ensures.value) in
+    let at : p ≡ get_or i.gone i.outgoing p = c.index-as_slice-self.is ∙ ap (λ (ps : List Pointer). get_or ps i.outgoing p) c.as_slice.ensures.value in
+    ap (λ (ps : List Pointer). sent_from i.device i.ends ps (drop (i.outgoing + 1) i.gone)) c.without-self-inside.ensures
+    ∙ sym (ap (drop 1) (sym (ap still_sent c.self.view_is) ∙ up_left i.device i.ends i.left i.gone i.outgoing p c.if-self.false within at))

@@ -1,14 +1,14 @@
 use Rattle.std.proofs.Common.{◌≡◌, ◌++◌, length}
 use Rattle.bits32.specs.Set.{is_in}
-use Rattle.cancel_synthesis.specs.Cancelling.{still_told}
+use Rattle.cancel_synthesis.specs.Cancelling.{still_sent}
 use Rattle.cancel_synthesis.specs.Tracked.{pointers_of}
 use Rattle.cancel_synthesis.specs.Ends.{pointers_cancelled}
 use Rattle.cancel_synthesis.proofs.state.InputState.cancel_pointers.Given as goal
 
--- those so far, and those that are still to be told, are all
+-- those so far, and those that are still to be sent, are all
 abbrev pub invariant-loop-cancel : goal.invariant-loop-cancel
 invariant-loop-cancel l =
-    l.told.items ++ still_told l.cancels ≡ pointers_cancelled l.fn.device (λ i. is_in i l.fn.lost) (pointers_of l.fn.self l.fn.device)
+    l.outgoing.items ++ still_sent l.cancels ≡ pointers_cancelled l.fn.device (λ i. is_in i l.fn.lost) (pointers_of l.fn.self l.fn.device)
 
 abbrev pub decreases-loop-cancel : goal.decreases-loop-cancel
-decreases-loop-cancel l = length (still_told l.cancels)
+decreases-loop-cancel l = length (still_sent l.cancels)

@@ -1,6 +1,6 @@
 use Rattle.std.proofs.Common.{not, sym, ap, ap₂, ◌∙◌}
 use Rattle.bits32.specs.Set.{is_in}
-use Rattle.routing_rules.specs.Told.{cancels_of}
+use Rattle.routing_rules.specs.Outgoing.{cancels_of}
 use Rattle.cancel_synthesis.specs.Ends.{pointers_cancelled}
 use Rattle.cancel_synthesis.specs.Tracked.{pointers_of}
 use Rattle.cancel_synthesis.proofs.CancelSteps.{as_kept}

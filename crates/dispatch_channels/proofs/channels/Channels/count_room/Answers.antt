@@ -4,9 +4,9 @@ use Rattle.std.proofs.lemmas.Result.{on_ok_weaker}
 use Rattle.input_channel.specs.State.{ChannelState}
 use Rattle.cancel_synthesis.specs.Tracked.{Tracked}
 use Rattle.dispatch_tables.specs.Dues.{due_in}
-use Rattle.dispatch_channels.specs.Table.{Table, untold}
+use Rattle.dispatch_channels.specs.Table.{Table, unsent}
 use Rattle.dispatch_channels.proofs.Wholes.{channel_set_same, whole_kept}
-use Rattle.dispatch_channels.proofs.Told.{spare_in_channel, spare_in_both, more_in_channel, more_in_both}
+use Rattle.dispatch_channels.proofs.Outgoing.{spare_in_channel, spare_in_both, more_in_channel, more_in_both}
 use Rattle.dispatch_channels.proofs.channels.Channels.count_room.Goals as goal
 
 pub invariant_of-self : goal.invariant_of-self
@@ -49,7 +49,7 @@ returns-in_err-make_ready-clause-room c =
       inputs = c.self.inside.inputs.items;
       live = c.self.inside.live;
       able = c.self.inside.able;
-      namings = c.self.inside.namings;
+      anrs = c.self.inside.anrs;
     } in
     rw (← c.self.view_is)
     (more_in_channel before c.args.channel c.index_mut.result.now c.make_ready.new.self (c.index_mut.ensures.value ∙ get_or_default _ _ _ _ at) c.make_ready.ensures.more)
@@ -61,7 +61,7 @@ returns-clause-ok c =
     on_ok_weaker c.make_ready-2.result
     (λ more. (
       subst (λ (s : ChannelState). c.args.n ≤ s.spare) (sym (channel_set_same c.self.inside.channels.items c.args.channel c.make_ready.new.self opened.0 opened.1)) c.in_ok-make_ready.ensures.ok,
-      subst (λ (i : Tracked). c.args.n ≤ i.spare) (sym (get_or-set_same c.self.inside.inputs.items (c.args.channel - 1) c.make_ready-2.new.self untold input_at)) more,
+      subst (λ (i : Tracked). c.args.n ≤ i.spare) (sym (get_or-set_same c.self.inside.inputs.items (c.args.channel - 1) c.make_ready-2.new.self unsent input_at)) more,
     ))
     c.make_ready-2.ensures.ok
 
@@ -87,7 +87,7 @@ returns-clause-room c =
       inputs = c.self.inside.inputs.items;
       live = c.self.inside.live;
       able = c.self.inside.able;
-      namings = c.self.inside.namings;
+      anrs = c.self.inside.anrs;
     } in
     rw (← c.self.view_is)
     (more_in_both before c.args.channel c.index_mut.result.now c.make_ready.new.self c.index_mut-2.result.now c.make_ready-2.new.self

@@ -40,5 +40,5 @@ returns c =
       inputs_are = refl;
       live_is = refl;
       able_is = refl;
-      namings_are = refl;
+      anrs_are = refl;
     })

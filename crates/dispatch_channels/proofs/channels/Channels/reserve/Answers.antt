@@ -1,7 +1,7 @@
 use Rattle.std.proofs.Common.{◌<◌, ◌-◌, length, ◌∙◌, arith}
 use Rattle.std.proofs.lemmas.List.{get_or_default}
 use Rattle.std.proofs.lemmas.Result.{on_err_weaker}
-use Rattle.dispatch_channels.proofs.Told.{only_room}
+use Rattle.dispatch_channels.proofs.Outgoing.{only_room}
 use Rattle.dispatch_channels.proofs.channels.Channels.reserve.Goals as goal
 
 pub returns-clause-err : goal.returns-clause-err

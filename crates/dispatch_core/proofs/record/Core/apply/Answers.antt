@@ -17,7 +17,7 @@ entry c = record { seat = c.args.seat; call = c.args.call; reply = c.in-Ok.reply
 newest : (c : goal.After-self-in-Ok-1) → IsRecorded (entry c ∷ reverse c.self.inside.entries.items) c.apply.new.self
 newest c =
     recorded_more (entry c) _ c.self.inside.dispatcher c.apply.new.self c.self.invariant.0 (c.in-Ok.ensures.after _ c.self.invariant.0.stands) c.in-Ok.ensures.displays c.in-Ok.ensures.gone
-    c.in-Ok.ensures.namings
+    c.in-Ok.ensures.anrs
 
 all : (c : goal.After-self-in-Ok-1) → IsRecorded (reverse c.note.new.entries.items) c.apply.new.self
 all c = recorded_behind (entry c) c.self.inside.entries.items c.note.new.entries.items c.apply.new.self (c.note.ensures.items ∙ ap (λ (xs : List Entry). xs ++ entry c ∷ []) c.in_ok-make_sure.ensures.items) (newest c)

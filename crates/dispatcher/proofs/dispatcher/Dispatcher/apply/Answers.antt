@@ -1,5 +1,5 @@
 use Rattle.std.proofs.Common.{◌≤◌, ◌+◌, sym, ap, ◌∙◌, subst}
-use Rattle.dispatcher.specs.Access.{gone, namings_gone}
+use Rattle.dispatcher.specs.Access.{gone, anrs_released}
 use Rattle.dispatcher.specs.Dispatching.{IsAfter}
 use Rattle.dispatcher.proofs.Gone.{answered_gone}
 use Rattle.dispatcher.proofs.Standing.{stands_answered}
@@ -57,12 +57,12 @@ returns-clause-gone c =
     low
     ∙ ap (λ d. gone d k) c.self.view_is
 
-pub returns-clause-namings : goal.returns-clause-namings
-returns-clause-namings c =
+pub returns-clause-anrs : goal.returns-clause-anrs
+returns-clause-anrs c =
     (answered_gone c.args.call.now c.apply.result c.self.inside.tables c.apply.new.tables
     (answers_somehow c.args.call.now c.apply.result c.self.inside.tables c.apply.new.tables c.apply.ensures.ok)
-    c.apply.ensures.err).of_namings
-    ∙ ap namings_gone c.self.view_is
+    c.apply.ensures.err).of_anrs
+    ∙ ap anrs_released c.self.view_is
 
 pub returns-clause-reserved : goal.returns-clause-reserved
 returns-clause-reserved c =

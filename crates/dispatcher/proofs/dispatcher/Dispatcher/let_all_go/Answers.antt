@@ -1,16 +1,16 @@
 use Rattle.std.proofs.Common.{◌≡◌, ◌≤◌, false, sym, ap, ◌∙◌, subst, arith}
 use Rattle.window_snapshot.specs.Mask.{mask_has}
-use Rattle.input_channel.specs.State.{all_let_go}
+use Rattle.input_channel.specs.State.{all_released}
 use Rattle.dispatch_channels.specs.Table.{channel_of, opened}
 use Rattle.dispatch_history.specs.Effect.{past_of}
 use Rattle.dispatch_history.specs.History.{live}
-use Rattle.dispatcher.specs.Access.{gone, namings_gone}
+use Rattle.dispatcher.specs.Access.{gone, anrs_released}
 use Rattle.dispatcher.specs.Dispatching.{IsAfter, StandsFor}
 use Rattle.std.proofs.lemmas.Bool.{true≢false}
-use Rattle.dispatcher.proofs.RoomMade.{let_go_room}
+use Rattle.dispatcher.proofs.RoomMade.{release_room}
 use Rattle.dispatcher.proofs.Applying.{seen, raw, bare}
 use Rattle.dispatcher.proofs.Standing.{after_of, stands_but, may_of_all}
-use Rattle.dispatcher.proofs.LettingGo.{all_go_stands, stream_gone, others_gone, not_live, is_live}
+use Rattle.dispatcher.proofs.Releasing.{all_go_stands, stream_gone, others_gone, not_live, is_live}
 use Rattle.dispatcher.proofs.dispatcher.Dispatcher.let_all_go.Goals as goal
 
 pub invariant_of-self : goal.invariant_of-self
@@ -28,7 +28,7 @@ invariant_of-self c =
             c.let_all_go.ensures),
       ),
       λ some.
-          let_go_room _ c.args.channel r c.let_all_go.new.self (all_let_go (channel_of r.channels c.args.channel)) c.let_all_go.ensures
+          release_room _ c.args.channel r c.let_all_go.new.self (all_released (channel_of r.channels c.args.channel)) c.let_all_go.ensures
           (omega (arith, c.if-channel-gt0.true))
           (omega (arith, c.if-channel-opened.true, c.opened.ensures.value))
           (λ lives. absurd (true≢false (sym lives ∙ removed)))
@@ -63,11 +63,11 @@ pub returns-then-channel-opened-clause-others : goal.returns-then-channel-opened
 returns-then-channel-opened-clause-others c =
     λ k from other.
     others_gone c.self.inside.tables.routing.channels c.let_all_go.new.self c.args.channel k
-    (all_let_go (channel_of c.self.inside.tables.routing.channels c.args.channel)) c.let_all_go.ensures (omega (arith, c.if-channel-gt0.true)) from other
+    (all_released (channel_of c.self.inside.tables.routing.channels c.args.channel)) c.let_all_go.ensures (omega (arith, c.if-channel-gt0.true)) from other
     ∙ ap (λ d. gone d k) c.self.view_is
 
-pub returns-then-channel-opened-clause-namings : goal.returns-then-channel-opened-clause-namings
-returns-then-channel-opened-clause-namings c = ap (λ t. t.namings.gone) c.let_all_go.ensures ∙ ap namings_gone c.self.view_is
+pub returns-then-channel-opened-clause-anrs : goal.returns-then-channel-opened-clause-anrs
+returns-then-channel-opened-clause-anrs c = ap (λ t. t.anrs.gone) c.let_all_go.ensures ∙ ap anrs_released c.self.view_is
 
 pub returns-then-mask_has-clause-gone : goal.returns-then-mask_has-clause-gone
 returns-then-mask_has-clause-gone c =
@@ -94,5 +94,5 @@ returns-then-channel-opened-clause-stays c =
     (may_of_all es c.args.channel (gone (seen new) c.args.channel) dead
     (stream_gone es old c.let_all_go.new.self c.args.channel tables low high c.let_all_go.ensures))
     (λ k from other.
-    others_gone old.routing.channels c.let_all_go.new.self c.args.channel k (all_let_go (channel_of old.routing.channels c.args.channel)) c.let_all_go.ensures low from other)
+    others_gone old.routing.channels c.let_all_go.new.self c.args.channel k (all_released (channel_of old.routing.channels c.args.channel)) c.let_all_go.ensures low from other)
     (bare es new (all_go_stands es old c.let_all_go.new.self c.args.channel tables low high c.let_all_go.ensures))

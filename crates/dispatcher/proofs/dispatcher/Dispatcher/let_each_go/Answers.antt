@@ -1,11 +1,11 @@
 use Rattle.std.proofs.Common.{sym, ap, ◌∙◌, subst, refl, arith}
-use Rattle.input_channel.specs.State.{each_let_go}
+use Rattle.input_channel.specs.State.{each_released}
 use Rattle.dispatch_channels.specs.Table.{channel_of}
-use Rattle.dispatcher.specs.Access.{gone, namings_gone}
+use Rattle.dispatcher.specs.Access.{gone, anrs_released}
 use Rattle.dispatcher.specs.Dispatching.{IsAfter}
-use Rattle.dispatcher.proofs.RoomMade.{let_go_room}
+use Rattle.dispatcher.proofs.RoomMade.{release_room}
 use Rattle.dispatcher.proofs.Applying.{raw, bare}
-use Rattle.dispatcher.proofs.LettingGo.{each_go_stands, each_gone, others_gone}
+use Rattle.dispatcher.proofs.Releasing.{each_go_stands, each_gone, others_gone}
 use Rattle.dispatcher.proofs.dispatcher.Dispatcher.let_each_go.Goals as goal
 
 pub invariant_of-self : goal.invariant_of-self
@@ -21,7 +21,7 @@ invariant_of-self c =
             c.let_each_go.ensures),
       ),
       λ some.
-          let_go_room _ c.args.channel r c.let_each_go.new.self (each_let_go (channel_of r.channels c.args.channel)) c.let_each_go.ensures
+          release_room _ c.args.channel r c.let_each_go.new.self (each_released (channel_of r.channels c.args.channel)) c.let_each_go.ensures
           (omega (arith, c.if-channel-gt0.true))
           (omega (arith, c.if-channel-opened.true, c.opened.ensures.value))
           (λ _. refl)
@@ -49,8 +49,8 @@ pub returns-then-channel-opened-clause-others : goal.returns-then-channel-opened
 returns-then-channel-opened-clause-others c =
     λ k from other.
     others_gone c.self.inside.tables.routing.channels c.let_each_go.new.self c.args.channel k
-    (each_let_go (channel_of c.self.inside.tables.routing.channels c.args.channel)) c.let_each_go.ensures (omega (arith, c.if-channel-gt0.true)) from other
+    (each_released (channel_of c.self.inside.tables.routing.channels c.args.channel)) c.let_each_go.ensures (omega (arith, c.if-channel-gt0.true)) from other
     ∙ ap (λ d. gone d k) c.self.view_is
 
-pub returns-then-channel-opened-clause-namings : goal.returns-then-channel-opened-clause-namings
-returns-then-channel-opened-clause-namings c = ap (λ t. t.namings.gone) c.let_each_go.ensures ∙ ap namings_gone c.self.view_is
+pub returns-then-channel-opened-clause-anrs : goal.returns-then-channel-opened-clause-anrs
+returns-then-channel-opened-clause-anrs c = ap (λ t. t.anrs.gone) c.let_each_go.ensures ∙ ap anrs_released c.self.view_is

@@ -1,6 +1,6 @@
 use Rattle.std.proofs.Common.{◌≤◌, ◌+◌, sym, ap, ◌∙◌, subst, arith}
 use Rattle.dispatch_calls.specs.declared.call.Call.TheVariants.{Receive}
-use Rattle.dispatcher.specs.Access.{gone, namings_gone}
+use Rattle.dispatcher.specs.Access.{gone, anrs_released}
 use Rattle.dispatcher.specs.Dispatching.{IsAfter}
 use Rattle.dispatcher.proofs.Gone.{answered_gone}
 use Rattle.dispatcher.proofs.Standing.{after_of, stands_if}
@@ -37,10 +37,10 @@ returns-clause-gone c =
     (answered_gone (Receive c.args.channel) c.pass_on.result c.self.inside.tables c.pass_on.new.tables c.pass_on.ensures.ok c.pass_on.ensures.err).of_channels k low
     ∙ ap (λ d. gone d k) c.self.view_is
 
-pub returns-clause-namings : goal.returns-clause-namings
-returns-clause-namings c =
-    (answered_gone (Receive c.args.channel) c.pass_on.result c.self.inside.tables c.pass_on.new.tables c.pass_on.ensures.ok c.pass_on.ensures.err).of_namings
-    ∙ ap namings_gone c.self.view_is
+pub returns-clause-anrs : goal.returns-clause-anrs
+returns-clause-anrs c =
+    (answered_gone (Receive c.args.channel) c.pass_on.result c.self.inside.tables c.pass_on.new.tables c.pass_on.ensures.ok c.pass_on.ensures.err).of_anrs
+    ∙ ap anrs_released c.self.view_is
 
 pub returns-clause-calm : goal.returns-clause-calm
 returns-clause-calm c =

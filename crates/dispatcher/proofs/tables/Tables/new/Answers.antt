@@ -20,7 +20,7 @@ returns-clause-start c =
       count_is = ap opened c.new-4.ensures;
       live_is = ap (λ t. t.live) c.new-4.ensures;
       able_is = ap (λ t. t.able) c.new-4.ensures;
-      noted_is = ap (λ t. t.namings) c.new-4.ensures;
+      noted_is = ap (λ t. t.anrs) c.new-4.ensures;
       focus_is = c.new-5.ensures;
       repeat_is = c.new-6.ensures;
     })

@@ -3,7 +3,7 @@ use Rattle.std.proofs.Common.{sym, ap, ◌∙◌, subst}
 use Rattle.dispatch_history.specs.Legal.{answered}
 use Rattle.live_input.specs.Standing.{IsOfHeld, LiveIs}
 use Rattle.live_input.specs.State.{LiveState}
-use Rattle.live_input.proofs.LettingGo.{from_live, let_go_but}
+use Rattle.live_input.proofs.Releasing.{from_live, release_but}
 use Rattle.live_input.proofs.Stepping.{plain_goes, stands_more}
 use Rattle.live_input.proofs.live.Live.apply.Goals as goal
 
@@ -14,10 +14,10 @@ returns-in-Ok-clause-after c = λ ds es h plain own.
     let fs = answered ds call es in
     let there = (stands_more ds es _ before c.apply.new.self c.apply.ensures.displays call c.in-Ok.reply (c.in-Ok.ensures.after es before.stands)).1 in
     let held = subst (λ ss. IsOfHeld ss call) (sym (ap (λ (s : LiveState). s.seats) c.self.view_is)) own in
-    let but = let_go_but ds es call c.self.inside.dispatcher c.apply.new.self before.let_go c.apply.ensures.gone c.apply.ensures.namings in
-    plain_goes ds es _ before c.let_go_after.new.dispatcher (c.let_go_after.ensures.displays ∙ c.apply.ensures.displays) call plain held
-    (c.let_go_after.ensures.stays fs there)
-    (c.let_go_after.ensures.all fs there (from_live ds es _ call before.seats_are held) but)
+    let but = release_but ds es call c.self.inside.dispatcher c.apply.new.self before.release c.apply.ensures.gone c.apply.ensures.anrs in
+    plain_goes ds es _ before c.release_after.new.dispatcher (c.release_after.ensures.displays ∙ c.apply.ensures.displays) call plain held
+    (c.release_after.ensures.stays fs there)
+    (c.release_after.ensures.all fs there (from_live ds es _ call before.seats_are held) but)
 
 pub returns-in-Ok-clause-reply : goal.returns-in-Ok-clause-reply
 returns-in-Ok-clause-reply c = λ ds es h.

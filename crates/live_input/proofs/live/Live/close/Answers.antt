@@ -8,7 +8,7 @@ use Rattle.live_input.proofs.Opened.{open_held}
 use Rattle.live_input.proofs.Stepping.{seat_goes}
 use Rattle.live_input.proofs.Emptied.{left_none}
 use Rattle.live_input.proofs.Tenants.{tenants_less}
-use Rattle.live_input.proofs.Told.{live_lawful}
+use Rattle.live_input.proofs.Outgoing.{live_lawful}
 use Rattle.focus_resolver.specs.Resolver.{is_at}
 use Rattle.window_snapshot.specs.Named.{is_named}
 use Rattle.live_input.proofs.live.Live.close.Goals as goal

@@ -4,9 +4,9 @@ use Rattle.std.specs.Prelude.{IfSome}
 use Rattle.dispatcher.specs.Access.{got}
 use Rattle.live_input.specs.Answers.{handed}
 use Rattle.live_input.specs.Seats.{seat_of}
-use Rattle.live_input.specs.Told.{taken}
+use Rattle.live_input.specs.Outgoing.{taken}
 use Rattle.live_input.proofs.Opened.{open_held}
-use Rattle.live_input.proofs.Told.{handed_number, live_lawful}
+use Rattle.live_input.proofs.Outgoing.{handed_number, live_lawful}
 use Rattle.live_input.proofs.live.Live.next.Goals as goal
 
 pub returns-in-Ok-clause-message : goal.returns-in-Ok-clause-message
@@ -31,4 +31,4 @@ returns-in-Ok-clause-numbers c = λ ds es h is.
 pub returns-in-Ok-clause-kept : goal.returns-in-Ok-clause-kept
 returns-in-Ok-clause-kept c = λ ds es h is.
     let held = open_held c.args.self.now.seats c.args.client is in
-    (c.in-Ok.ensures.after ds es h refl held).let_go.messages_are c.args.client.channel held.0
+    (c.in-Ok.ensures.after ds es h refl held).release.messages_are c.args.client.channel held.0

@@ -7,7 +7,7 @@ use Rattle.live_input.specs.State.{LiveState}
 use Rattle.live_input.proofs.Opened.{full_by_none, not_full}
 use Rattle.live_input.proofs.Stepping.{seat_goes}
 use Rattle.live_input.proofs.Tenants.{tenants_new}
-use Rattle.live_input.proofs.Told.{live_lawful}
+use Rattle.live_input.proofs.Outgoing.{live_lawful}
 use Rattle.live_input.proofs.Vacant.{seat_set, vacant_known, vacant_next}
 use Rattle.live_input.proofs.live.Live.open.Goals as goal
 

@@ -4,7 +4,7 @@ use Rattle.dispatch_calls.specs.declared.call.Call.TheVariants.{Windows}
 use Rattle.dispatch_history.specs.History.{windows_after}
 use Rattle.live_input.specs.Standing.{AreOfHeld, LiveIs}
 use Rattle.live_input.specs.State.{LiveState}
-use Rattle.live_input.proofs.LettingGo.{let_go_same}
+use Rattle.live_input.proofs.Releasing.{release_same}
 use Rattle.live_input.proofs.Stepping.{windows_go}
 use Rattle.live_input.proofs.live.Live.show.Goals as goal
 
@@ -12,6 +12,6 @@ pub returns-in-Windows-clause-after : goal.returns-in-Windows-clause-after
 returns-in-Windows-clause-after c = λ ds es h own.
     let before = subst (LiveIs ds es) (sym c.self.view_is) h in
     let held = subst (λ ss. AreOfHeld c.args.snapshot ss) (sym (ap (λ (s : LiveState). s.seats) c.self.view_is)) own in
-    let let_go = let_go_same ds es (Windows c.args.now c.args.snapshot) c.self.inside.dispatcher c.apply.new.self refl refl before.let_go c.apply.ensures.gone c.apply.ensures.namings in
-    windows_go ds es _ before c.apply.new.self c.apply.ensures.displays c.args.now c.args.snapshot c.in-Ok.field-0 held (c.in-Ok.ensures.after es before.stands) let_go
+    let release = release_same ds es (Windows c.args.now c.args.snapshot) c.self.inside.dispatcher c.apply.new.self refl refl before.release c.apply.ensures.gone c.apply.ensures.anrs in
+    windows_go ds es _ before c.apply.new.self c.apply.ensures.displays c.args.now c.args.snapshot c.in-Ok.field-0 held (c.in-Ok.ensures.after es before.stands) release
     c.in-Windows.snapshot (sym (ap (λ call. windows_after call []) c.in-Windows.is))

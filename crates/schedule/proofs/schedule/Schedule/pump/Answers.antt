@@ -19,7 +19,7 @@ pub returns-in-Ok-clause-after : goal.returns-in-Ok-clause-after
 returns-in-Ok-clause-after c = λ how plan es h.
     let before = subst (HasWith how plan es) (sym c.self.view_is) h in
     let there = (rw c.in-Ok.is at c.pump.ensures.known) es before.stands in
-    has_step how plan es _ _ before c.pump.ensures.displays c.pump.ensures.gone c.pump.ensures.namings (Pump c.args.now)
+    has_step how plan es _ _ before c.pump.ensures.displays c.pump.ensures.gone c.pump.ensures.anrs (Pump c.args.now)
     (applies_silent (Pump c.args.now) es _ c.self.inside.causes (λ text. text.items) _ (sym c.is_some.ensures ∙ c.if-is_some.false) there) refl
     refl (let n : c.self.inside.next ≡ 0 + scripted (past_of es) = omega (arith, before.next_is) in n)
     c.saturating_add-self-inside.ensures

@@ -11,9 +11,9 @@ use Rattle.schedule.proofs.schedule.Schedule.receive.Goals.{else-left-gt0-via-th
 pub returns-in_ok-receive_many-clause-after : goal.returns-in_ok-receive_many-clause-after
 returns-in_ok-receive_many-clause-after c = λ how plan es h.
     let before = subst (HasWith how plan es) (sym c.self.view_is) h in
-    let told = sym (c.counts.ensures es before.stands) ∙ c.in-Some.is in
+    let outgoing = sym (c.counts.ensures es before.stands) ∙ c.in-Some.is in
     let are : c.in-Some.counts ≡ count_of es c.args.channel =
-    counts_are es c.args.channel c.in-Some.counts (counts_opened es c.args.channel c.in-Some.counts told) told in
+    counts_are es c.args.channel c.in-Some.counts (counts_opened es c.args.channel c.in-Some.counts outgoing) outgoing in
     subst (λ calls. HasWith how plan (extend plan.displays es calls) c.receive_many.new.self)
     (receives_are es c.args.channel c.saturating_sub-left.result c.in-Some.counts are c.if-counts.true c.saturating_sub-left.ensures)
     (c.in_ok-receive_many.ensures.after how plan es h)
@@ -27,9 +27,9 @@ returns-in_default-clause-after c = λ how plan es h.
 pub returns-else-left-gt0-clause-after : goal.returns-else-left-gt0-clause-after
 returns-else-left-gt0-clause-after c = λ how plan es h.
     let before = subst (HasWith how plan es) (sym c.self.view_is) h in
-    let told = sym (c.counts.ensures es before.stands) ∙ c.in-Some.is in
+    let outgoing = sym (c.counts.ensures es before.stands) ∙ c.in-Some.is in
     let are : c.in-Some.counts ≡ count_of es c.args.channel =
-    counts_are es c.args.channel c.in-Some.counts (counts_opened es c.args.channel c.in-Some.counts told) told in
+    counts_are es c.args.channel c.in-Some.counts (counts_opened es c.args.channel c.in-Some.counts outgoing) outgoing in
     let rest : receives_of es c.args.channel ≡ [] =
     elim c.else-left-gt0.branch [
       | else-left-gt0-via-then-left-gt0+else-counts w ↦ counts_dead es c.args.channel c.in-Some.counts are w.if-counts.false

@@ -11,18 +11,18 @@ pub loop-place-preserved : goal.loop-place-preserved
 loop-place-preserved c =
     record {
       has = λ how plan es h.
-          channel_more how plan es c.args.self.now c.loop-place.place h c.take_told.new.self
-          (c.in_ok-take_told.ensures.after how plan _ (c.loop-place.invariant.has how plan es h));
+          channel_more how plan es c.args.self.now c.loop-place.place h c.take_sent.new.self
+          (c.in_ok-take_sent.ensures.after how plan _ (c.loop-place.invariant.has how plan es h));
       messages = λ how plan es h.
           let before = subst (HasWith how plan es) (sym c.self.view_is) h in
           let count = c.opened-place-end.ensures.value es before.stands in
           c.saturating_add-messages.ensures
-          ∙ messages_more how plan es c.args.self.now c.loop-place.place h c.loop-place.messages c.in_ok-take_told.field-0 (c.loop-place.invariant.messages how plan es h)
-          (c.in_ok-take_told.ensures.sent how plan _ (c.loop-place.invariant.has how plan es h)
+          ∙ messages_more how plan es c.args.self.now c.loop-place.place h c.loop-place.messages c.in_ok-take_sent.field-0 (c.loop-place.invariant.messages how plan es h)
+          (c.in_ok-take_sent.ensures.sent how plan _ (c.loop-place.invariant.has how plan es h)
           (is_opened_next how plan es c.args.self.now c.loop-place.place h c.opened-place-end.result count c.loop-place-test.true));
-      calls = omega (arith, c.loop-place.invariant.calls, c.in_ok-take_told.ensures.calls);
-      more = λ es k. c.take_told.ensures.more es (c.loop-place.invariant.more es k);
-      latest = c.take_told.ensures.latest ∙ c.loop-place.invariant.latest;
+      calls = omega (arith, c.loop-place.invariant.calls, c.in_ok-take_sent.ensures.calls);
+      more = λ es k. c.take_sent.ensures.more es (c.loop-place.invariant.more es k);
+      latest = c.take_sent.ensures.latest ∙ c.loop-place.invariant.latest;
     }
 
 pub returns-clause-after : goal.returns-clause-after

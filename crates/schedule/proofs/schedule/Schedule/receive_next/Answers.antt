@@ -11,7 +11,7 @@ pub returns-in-Ok-clause-after : goal.returns-in-Ok-clause-after
 returns-in-Ok-clause-after c = λ how plan es h.
     let before = subst (HasWith how plan es) (sym c.self.view_is) h in
     let there = (rw c.in-Ok.is at c.pass.ensures.known) es before.stands in
-    has_received how plan es _ _ before c.pass.ensures.displays c.pass.ensures.gone c.pass.ensures.namings there.0 c.args.channel there.1 refl refl refl
+    has_received how plan es _ _ before c.pass.ensures.displays c.pass.ensures.gone c.pass.ensures.anrs there.0 c.args.channel there.1 refl refl refl
     c.saturating_add-self-inside.ensures
 
 pub returns-in-Ok-clause-more : goal.returns-in-Ok-clause-more

@@ -2,7 +2,7 @@ use Rattle.std.proofs.Common.{length, arith, ap, sym, refl, ◌∙◌}
 use Rattle.std.specs.Int.{w32, trailing_zeros}
 use Rattle.std.proofs.lemmas.Option.{slice_get_read}
 use Rattle.bits32.specs.Set.{is_in}
-use Rattle.routing_rules.specs.Told.{listing}
+use Rattle.routing_rules.specs.Outgoing.{listing}
 use Rattle.routing_rules.proofs.Listings.{has_id}
 use Rattle.split_motion.proofs.ById.{AreIds, place_within}
 use Rattle.split_motion.proofs.Walk.{IsNext, none_yet, next_is_id, next_at, put_fits, put_rises, put_listed, all_done}

@@ -10,8 +10,8 @@ use Rattle.stream_text.proofs.StreamTexts.{stream_again}
 use Rattle.stream_text.proofs.stream_file.StreamReader.read.Goals as goal
 
 pub returns-clause-again : goal.returns-clause-again
-returns-clause-again c = λ order sections namings o h i e.
-    subst (Answers c.streams.result) (ap (λ t. streams_in (events_of t)) e ∙ stream_again order sections namings o h i) c.streams.ensures
+returns-clause-again c = λ order sections anrs o h i e.
+    subst (Answers c.streams.result) (ap (λ t. streams_in (events_of t)) e ∙ stream_again order sections anrs o h i) c.streams.ensures
 
 some_events : (r : Result (List Event) ℕ) (streams : List Stream) → streams_in r ≡ Ok streams → (events : List Event) × (r ≡ Ok events)
 some_events (Ok events) streams h = (events, refl)

@@ -1,0 +1,18 @@
+-- What naming windows unresponsive makes of the tables.
+use Rattle.std.specs.Prelude.{◌≡◌, ℕ, List, None}
+use Rattle.input_types.specs.declared.key.KeyMsg.{KeyMsg}
+use Rattle.route_split.specs.declared.mark.Mark.TheVariants.{Mute}
+use Rattle.dispatch_channels.specs.Table.{Table, but_for_room}
+use Rattle.dispatch_channels.specs.Changes.{named_in}
+use Rattle.dispatch_round.specs.declared.round.Round.{Round}
+use Rattle.dispatcher.specs.declared.tables.Routing.{Routing}
+use Rattle.dispatcher.specs.Carrying.{IsOf, CarriesOut}
+use Rattle.dispatcher.specs.Keying.{target_number}
+
+-- the channels of a mask are named, and then the round is carried out in which all is taken from them, and the key target is sent these keys
+pub record Names (mask : ℕ) (keys : List KeyMsg) (place clock : ℕ) (old new : Routing) : Type 0 where
+  pub round : Round
+  pub is : IsOf (Mute mask) None (target_number old.focus) keys 0 0 round
+  pub mid : Table
+  pub same : but_for_room mid ≡ but_for_room old.channels
+  pub carries : CarriesOut round place clock (record old { channels = named_in mask clock mid }) new

@@ -1,0 +1,130 @@
+-- What a window is told of a device at a step.
+use Rattle.std.specs.Prelude.{ℕ, Bool, true, false, not, ◌==◌, ◌&&◌, ◌||◌, suc, if◌then◌else◌, List, [], ◌∷◌, filter, flat_map, Option, Some, None}
+use Rattle.input_types.specs.declared.motion.Motion.{Motion}
+use Rattle.input_types.specs.declared.motion.MotionAction.{MotionAction}
+use Rattle.input_types.specs.declared.motion.MotionAction.TheVariants.{Down, Up, Move, Cancel, Outside, PointerDown, PointerUp}
+use Rattle.input_types.specs.declared.pointer.Pointer.{Pointer}
+use Rattle.input_types.specs.Gestures.{flag_canceled}
+use Rattle.window_snapshot.specs.Hits.{is_watcher_at}
+use Rattle.routing_rules.specs.Pairs.{has}
+use Rattle.routing_rules.specs.Taking.{takes}
+use Rattle.routing_rules.specs.Marks.{Mark}
+use Rattle.routing_rules.specs.Scene.{Scene, Step, Moves, Removes, NoOp}
+use Rattle.routing_rules.specs.Given.{mark, changed}
+
+-- the ids that window w holds of device d after a step with this mark
+abbrev pub after : Scene → Mark → ℕ → ℕ → ℕ → Bool
+after s m w d i = has m.given w d i || s.holds w d i && not (takes m.taken w d i)
+
+-- those of the pointers whose ids are in the set
+abbrev pub listing : (ℕ → Bool) → List Pointer → List Pointer
+listing set ps = filter (λ p. set p.id) ps
+
+-- the place of an id among pointers
+abbrev pub index_in : ℕ → List Pointer → ℕ
+index_in i [] = 0
+index_in i (p ∷ ps) = if p.id == i then 0 else suc (index_in i ps)
+
+-- a motion of a device without flags and without an index
+abbrev pub plain : ℕ → MotionAction → List Pointer → Motion
+plain d action ps = record { device = d; action = action; index = 0; flags = 0; pointers = ps }
+
+-- the pointer goes down in a window that then has these: its first one, or a further one
+abbrev pub opening : ℕ → ℕ → List Pointer → Motion
+opening d i (p ∷ []) = plain d Down (p ∷ [])
+opening d i ps = record { device = d; action = PointerDown; index = index_in i ps; flags = 0; pointers = ps }
+
+-- the pointer goes up in a window that had these: its last one, or one of several; a cancelled up of the last one is a Cancel, and
+-- one of several has the flag
+abbrev pub closing : ℕ → ℕ → Bool → List Pointer → Motion
+closing d i cancelled (p ∷ []) = plain d (if cancelled then Cancel else Up) (p ∷ [])
+closing d i cancelled ps =
+    record { device = d; action = PointerUp; index = index_in i ps; flags = if cancelled then flag_canceled else 0; pointers = ps }
+
+-- lost pointers, one cancelled up after the other, each listing what is still held with it
+abbrev pub cancelled_ups : ℕ → List Pointer → List Pointer → List Motion
+cancelled_ups d ps [] = []
+cancelled_ups d ps (p ∷ lost) =
+    record { device = d; action = PointerUp; index = index_in p.id ps; flags = flag_canceled; pointers = ps }
+    ∷ cancelled_ups d (filter (λ q. not (q.id == p.id)) ps) lost
+
+-- pointers that are taken: of the ones that a window had, with what is lost of them and what it keeps,
+-- nothing where nothing is lost, one cancel where nothing is kept, and else a cancelled up for each lost one
+abbrev pub cancels_of : ℕ → (had kept lost : List Pointer) → List Motion
+cancels_of d had kept [] = []
+cancels_of d had [] (p ∷ lost) = plain d Cancel had ∷ []
+cancels_of d had (q ∷ kept) (p ∷ lost) = cancelled_ups d had (p ∷ lost)
+
+-- the window held the ids `before` and holds the ids `later`, its pointers being at their last places
+abbrev pub cancels : ℕ → List Pointer → (before later : ℕ → Bool) → List Motion
+cancels d last before later =
+    cancels_of d (listing before last) (listing later last) (listing (λ i. before i && not (later i)) last)
+
+-- a motion that moves what the window holds, where it holds something
+abbrev pub moves : ℕ → List Pointer → List Motion
+moves d [] = []
+moves d (p ∷ ps) = plain d Move (p ∷ ps) ∷ []
+
+-- the motion is one with which a pointer goes up, or is cancelled
+abbrev pub is_up : MotionAction → Bool
+is_up Up = true
+is_up PointerUp = true
+is_up Cancel = true
+is_up _ = false
+
+-- the motion cancels what goes up with it: it is a Cancel, or has FLAG_CANCELED
+abbrev pub is_cancelled : MotionAction → ℕ → Bool
+is_cancelled Cancel flags = true
+is_cancelled _ flags = flags == flag_canceled
+
+-- the motion is one with which a pointer goes down
+abbrev pub is_down : MotionAction → Bool
+is_down Down = true
+is_down PointerDown = true
+is_down _ = false
+
+-- the motion is one that begins a gesture
+abbrev pub is_first : MotionAction → Bool
+is_first Down = true
+is_first _ = false
+
+-- what a window that watches for touches outside of it is told of a gesture that begins
+abbrev pub outside : Scene → Motion → Pointer → ℕ → List Motion
+outside s m p w =
+    if is_first m.action && s.able w && is_watcher_at s.windows (s.reach m.device) p.at.x p.at.y w then plain m.device Outside (p ∷ []) ∷ [] else []
+
+-- the first of two lists that has something
+abbrev pub or_else : List Motion → List Motion → List Motion
+or_else [] ys = ys
+or_else (x ∷ xs) ys = x ∷ xs
+
+-- What window w is told of a motion of its device, with the ids that it holds before and later. The first row that fits:
+-- the pointer is given to it: it goes down; an up is of a pointer that it held: it goes up, cancelled where that is; pointers are
+-- taken from it otherwise: they are cancelled; it holds something: that moves; it watches: the touch was outside.
+abbrev pub sent_motion : Scene → Motion → Option Pointer → ℕ → (before later : ℕ → Bool) → List Motion
+sent_motion s m None w before later = or_else (cancels m.device (s.last m.device) before later) (moves m.device (listing later m.pointers))
+sent_motion s m (Some p) w before later =
+    if later p.id && not (before p.id) then opening m.device p.id (listing later m.pointers) ∷ []
+    else if is_up m.action && before p.id then closing m.device p.id (is_cancelled m.action m.flags) (listing before m.pointers) ∷ []
+    else or_else (cancels m.device (s.last m.device) before later)
+    (or_else (moves m.device (listing later m.pointers)) (outside s m p w))
+
+-- What window w is told of device d at a step with this mark: of a motion of the device by those rows, and nothing of one of
+-- another device; nobody is sent anything where a channel is removed; and else what is taken is cancelled.
+abbrev pub sent_with : Scene → Step → Mark → ℕ → ℕ → List Motion
+sent_with s (Moves m) k w d = if m.device == d then sent_motion s m (changed m) w (s.holds w d) (after s k w d) else []
+sent_with s (Removes v) k w d = []
+sent_with s NoOp k w d = []
+sent_with s _ k w d = cancels d (s.last d) (s.holds w d) (after s k w d)
+
+-- what window w is told of device d at a step
+abbrev pub outgoing : Scene → Step → ℕ → ℕ → List Motion
+outgoing s e w d = sent_with s e (mark s e) w d
+
+-- the numbers of devices, in rising order
+abbrev pub devices : List ℕ
+devices = 1 ∷ 2 ∷ 3 ∷ 4 ∷ 5 ∷ 6 ∷ 7 ∷ 8 ∷ []
+
+-- what a window is sent at a step: device by device
+abbrev pub sent_all : Scene → Step → ℕ → List Motion
+sent_all s e w = let k = mark s e in flat_map (sent_with s e k w) devices

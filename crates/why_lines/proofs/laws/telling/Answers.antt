@@ -1,5 +1,0 @@
-use Rattle.why_lines.proofs.Still.{still_law}
-use Rattle.why_lines.proofs.laws.telling.Goals as goal
-
-pub returns : goal.returns
-returns c = still_law
