@@ -1,7 +1,7 @@
 -- Worked examples of the definitions.
 use Rattle.std.proofs.Common.{◌≡◌, ℕ, List, [], ◌∷◌, None, Some, Err, true, ap, get_or, refl, inl, arith, codes}
 use Rattle.std.specs.Fmt.{digits}
-use Rattle.io_trace.specs.Trace.{Reading}
+use Rattle.outside_io.specs.Trace.{Reading}
 use Rattle.command_words.specs.Command.{compare, verify}
 use Rattle.command_files.specs.Judged.{Answer, by_log}
 use Rattle.command_answers.specs.Inspect.{looked_at}

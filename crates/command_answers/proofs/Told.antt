@@ -1,6 +1,6 @@
 -- The answer by what was read is that by the files, where these are sent.
 use Rattle.std.proofs.Common.{List, Option, None, Some}
-use Rattle.io_trace.specs.Trace.{Reading}
+use Rattle.outside_io.specs.Trace.{Reading}
 use Rattle.outside_io.specs.Outside.{Entry}
 use Rattle.command_words.specs.Command.{Command, replay, race, check, verify, work, batch, hover, emit, judge, compare, inspect, why}
 use Rattle.command_files.specs.Devices.{devices_of}

@@ -1,6 +1,6 @@
 -- The program as a relation of what it answers to its words and to the files.
 use Rattle.std.specs.Prelude.{codes, ◌≡◌, List, [], ◌∷◌, Option, Some, None, Err, ℕ, ⊤}
-use Rattle.io_trace.specs.Trace.{Reading}
+use Rattle.outside_io.specs.Trace.{Reading}
 use Rattle.outside_io.specs.Outside.{Entry}
 use Rattle.command_words.specs.Command.{Command, replay, race, check, verify, work, batch, hover, emit, judge, compare, inspect, why}
 use Rattle.command_words.specs.Forms.{form_of}

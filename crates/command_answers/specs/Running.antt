@@ -1,6 +1,6 @@
 -- A run as `replay` and `why` answer it.
 use Rattle.std.specs.Prelude.{reverse, ℕ, List, [], ◌∷◌, Option, Err, ⊤}
-use Rattle.io_trace.specs.Trace.{Reading}
+use Rattle.outside_io.specs.Trace.{Reading}
 use Rattle.outside_io.specs.Outside.{Entry}
 use Rattle.raw_events.specs.declared.event.RawEvent.{RawEvent}
 use Rattle.dispatch_history.specs.Effect.{Effect}

@@ -1,6 +1,6 @@
 -- Worked examples of the definitions.
 use Rattle.std.proofs.Common.{◌≡◌, ℕ, List, [], ◌∷◌, true, false, Some, Ok, Err, ap, get_or, length, refl, inl, inr, arith, codes}
-use Rattle.io_trace.specs.Trace.{Reading}
+use Rattle.outside_io.specs.Trace.{Reading}
 use Rattle.command_files.specs.Judged.{Answer, Ends, FileKind, IsEnough, Reads, by_log, by_name, judged, with_more}
 use Rattle.command_files.specs.Logged.{Agrees, InTurn}
 use Rattle.command_files.specs.Refused.{too_long}

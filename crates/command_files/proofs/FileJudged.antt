@@ -2,7 +2,7 @@
 use Rattle.std.proofs.Common.{◌≡◌, ◌∙◌, ◌+◌, ◌<◌, ◌≤◌, ℕ, Bool, true, false, List, [], ◌∷◌, ◌++◌, length, nat_le, cond, Option, None, Some, IsSomeAnd, Result, Err, refl, sym, ap, subst, append-nil, inl, inr, arith}
 use Rattle.std.proofs.lemmas.Bool.{le-leb, leb-true}
 use Rattle.std.proofs.lemmas.List.{length-append}
-use Rattle.io_trace.specs.Trace.{Reading}
+use Rattle.outside_io.specs.Trace.{Reading}
 use Rattle.outside_io.specs.Outside.{Entry, Rose, begun, bytes_of}
 use Rattle.outside_io.specs.declared.outside.SourceRefused.{SourceRefused}
 use Rattle.outside_io.specs.declared.outside.SourceRefused.TheVariants as refused

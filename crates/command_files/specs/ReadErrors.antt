@@ -1,6 +1,6 @@
 -- Why a file was not read.
 use Rattle.std.specs.Prelude.{◌≡◌, true, ℕ, ◌≤◌, List, length, Option, ⊤}
-use Rattle.io_trace.specs.Trace.{Reading}
+use Rattle.outside_io.specs.Trace.{Reading}
 use Rattle.outside_io.specs.Outside.{Entry, Rose}
 use Rattle.outside_io.specs.declared.outside.SourceRefused.{SourceRefused}
 use Rattle.outside_io.specs.declared.outside.SourceRefused.TheVariants as refused

@@ -1,7 +1,7 @@
 -- What reading a file says.
 use Rattle.std.specs.Prelude.{◌≡◌, true, ℕ, List, ◌++◌, length, Option}
 use Rattle.std.specs.Io.KnownBytes.{Consumes, IsAtEnd}
-use Rattle.io_trace.specs.Trace.{Reading}
+use Rattle.outside_io.specs.Trace.{Reading}
 
 -- More was read of a file: what it gave was taken from the front of what was left, and where its end was sent nothing is left.
 pub record GivesMore (left_before left_now : Option (List ℕ)) (before now : Reading) : Type 0 where

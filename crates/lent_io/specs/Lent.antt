@@ -1,6 +1,6 @@
 -- What contracts see of files that are lent, and of a sink that keeps its text.
 use Rattle.std.specs.Prelude.{ℕ, Bool, List}
-use Rattle.io_trace.specs.Trace.{Reading, Writing}
+use Rattle.outside_io.specs.Trace.{Reading, Writing}
 use Rattle.outside_io.specs.Outside.{Entry}
 
 -- the files, whether a source is out, how often a name was not there, and how files were read

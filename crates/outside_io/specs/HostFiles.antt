@@ -1,6 +1,6 @@
 -- Files and streams of the machine, as contracts see them: nothing is told of what they hold, but what was read and written.
 use Rattle.std.specs.Prelude.{ℕ, Bool, List}
-use Rattle.io_trace.specs.Trace.{Reading, Writing}
+use Rattle.outside_io.specs.Trace.{Reading, Writing}
 
 -- how often the machine failed, whether a source is out, and how files were read
 pub record HostState : Type 0 where

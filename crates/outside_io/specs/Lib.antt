@@ -3,3 +3,4 @@ pub mod HostFiles
 pub mod MemFiles
 pub mod MemSink
 pub mod Outside
+pub mod Trace

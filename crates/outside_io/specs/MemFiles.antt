@@ -2,7 +2,7 @@
 use Rattle.std.specs.Prelude.{ℕ, Bool, true, false, ◌&&◌, List, [], ◌∷◌, ◌++◌, Option, None, is_none, String, string_bytes, Vec, if◌then◌else◌}
 use Rattle.std.specs.declared.alloc.Global.{Global}
 use Rattle.outside_io.specs.Calls.{is_listed, next_number}
-use Rattle.io_trace.specs.Trace.{Reading}
+use Rattle.outside_io.specs.Trace.{Reading}
 use Rattle.outside_io.specs.Outside.{raised, Entry, begun, bytes_of}
 
 -- the bytes that are left, the most that one read gives, the numbers of the calls, which go on from those of the files, and how it was read

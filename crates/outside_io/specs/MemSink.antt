@@ -1,6 +1,6 @@
 -- A sink in memory, as contracts see it.
 use Rattle.std.specs.Prelude.{ℕ, Bool, ◌&&◌, ◌||◌, List, nat_eq, nat_lt}
-use Rattle.io_trace.specs.Trace.{Write, Writing}
+use Rattle.outside_io.specs.Trace.{Write, Writing}
 use Rattle.outside_io.specs.Calls.{is_listed}
 
 -- what it took, how many bytes it has room for, the most that one call takes, the numbers of its calls, and the writes so far

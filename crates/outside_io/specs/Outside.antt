@@ -1,6 +1,6 @@
 -- What the outside may do: how a count of faults and a reading go on, and what a set of files tells of its names.
 use Rattle.std.specs.Prelude.{◌≡◌, ℕ, ◌+◌, ◌-◌, ◌^◌, ◌≤◌, min, nat_eq, nat_lt, Bool, false, ◌&&◌, if◌then◌else◌, List, [], ◌∷◌, ◌++◌, length, take, Option, None, Some, Result, Ok, Err, ⊤, IsSomeAnd, bytes_eq}
-use Rattle.io_trace.specs.Trace.{Reading, Writing}
+use Rattle.outside_io.specs.Trace.{Reading, Writing}
 
 -- a count that is raised by `more` stands still at the greatest number of 64 bits
 abbrev pub raised : ℕ → ℕ → ℕ

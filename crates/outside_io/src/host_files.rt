@@ -5,8 +5,9 @@ ghost use Rattle.outside_io.specs.Calls.{faults_after};
 ghost use Rattle.outside_io.specs.HostFiles.{HostState, HostReading};
 
 use crate::outside::{Failed, Files, Source, SourceRefused};
+use crate::reading::ReadingTrace;
+use crate::readings::FilesTrace;
 use crate::tracing::{note_read, opened};
-use io_trace::{FilesTrace, ReadingTrace};
 use std::io::Read;
 use std::marker::Model;
 use std::{fs, rt};

@@ -5,7 +5,7 @@ ghost use Rattle.outside_io.specs.Calls.{faults_after};
 ghost use Rattle.outside_io.specs.HostFiles.{HostWriting};
 
 use crate::outside::{Failed, Sink};
-use io_trace::SinkTrace;
+use crate::writing::SinkTrace;
 use std::io::Write;
 use std::marker::Model;
 

@@ -7,10 +7,14 @@
 //! Each of them logs what passed through it: a source the bytes that it gave and whether its end was
 //! told, files their readings one after another, a sink the bytes that it took and the writes that it
 //! was asked for. Contracts see that of every object, and what a file holds where the object tells it.
-//! [`MemFiles`] always does, and fails, as [`MemSink`], at the calls that it is sent to. [`HostFiles`]
+//! [`MemFiles`] always does; as [`MemSink`], it fails at the calls that its maker named. [`HostFiles`]
 //! and [`HostSink`] stand over the machine's files and streams: they log what its reads gave and its
 //! writes took, and tell nothing of what the files hold. The form of the traits is this project's own
 //! choice.
+//!
+//! The logs exist in proofs alone: a [`ReadingTrace`] of one file, a [`FilesTrace`] of one file after
+//! another, a [`SinkTrace`] of a sink. A trace takes no room, its calls do nothing when they run, and it
+//! says no more than the calls that note it.
 //!
 //! For example, with the file `greeting` of the five bytes `hello`, a piece of 3, and call 3 to fail:
 //!
@@ -31,10 +35,16 @@ mod host_sink;
 mod mem_files;
 mod mem_sink;
 mod outside;
+mod reading;
+mod readings;
 mod tracing;
+mod writing;
 
 pub use host_files::{HostFiles, HostSource};
 pub use host_sink::HostSink;
 pub use mem_files::{MemFiles, MemSource, names_differ};
 pub use mem_sink::MemSink;
 pub use outside::{Failed, Files, Sink, Source, SourceRefused};
+pub use reading::ReadingTrace;
+pub use readings::FilesTrace;
+pub use writing::SinkTrace;

@@ -7,8 +7,9 @@ ghost use Rattle.outside_io.specs.MemFiles.{SourceState, FilesState, entry, name
 
 use crate::copying::copy_front;
 use crate::outside::{Failed, Files, Source, SourceRefused};
+use crate::reading::ReadingTrace;
+use crate::readings::FilesTrace;
 use crate::tracing::{note_read, opened};
-use io_trace::{FilesTrace, ReadingTrace};
 use std::alloc::Global;
 use std::marker::Model;
 use std::mem;

@@ -6,7 +6,7 @@ ghost use Rattle.outside_io.specs.MemSink.{SinkState, write_fails, written};
 
 use crate::copying::copy_front;
 use crate::outside::{Failed, Sink};
-use io_trace::SinkTrace;
+use crate::writing::SinkTrace;
 use std::marker::Model;
 
 /// A sink in memory, for tests: it takes a few bytes a call, has a limited room, and fails at the

@@ -1,7 +1,7 @@
 ghost use Rattle.std.specs.Prelude.{◌≡◌, ℕ, ◌<◌, ◌≤◌, ◌++◌, Bool, false, List, [], ◌∷◌, length, Option, IfOk, OnOk, OnErr, IsErrOf, IsTrue};
 ghost use Rattle.std.specs.Io.{ReadsAtMost, WritesAtMost};
 ghost use Rattle.std.specs.Io.KnownBytes.{ReadConsumes};
-ghost use Rattle.io_trace.specs.Trace.{Reading, Writing};
+ghost use Rattle.outside_io.specs.Trace.{Reading, Writing};
 ghost use Rattle.outside_io.specs.Outside.{raised, Rose, Entry, GivesBytes, begun, read_on, wrote_on};
 ghost use Rattle.outside_io.specs.declared.outside.SourceRefused.TheVariants.{Memory};
 

@@ -1,7 +1,7 @@
 ghost use Rattle.std.specs.Prelude.{◌≡◌, ◌≤◌, false, length};
 ghost use Rattle.outside_io.specs.Outside.{begun, gave};
 
-use io_trace::ReadingTrace;
+use crate::reading::ReadingTrace;
 
 /// The trace of a file that is opened under this name.
 pub fn opened(name: &str) -> ReadingTrace

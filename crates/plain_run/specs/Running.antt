@@ -1,6 +1,6 @@
 -- What a run of the program inside another one comes to.
 use Rattle.std.specs.Prelude.{codes, ◌≡◌, ◌↔◌, ℕ, nat_le, ◌&&◌, min, if◌then◌else◌, Bool, true, false, List, [], ◌∷◌, ◌++◌, length, take, drop, Option, Some, None}
-use Rattle.io_trace.specs.Trace.{Reading, Writing}
+use Rattle.outside_io.specs.Trace.{Reading, Writing}
 use Rattle.outside_io.specs.Outside.{Entry}
 use Rattle.command_words.specs.Command.{Command, race}
 use Rattle.command_words.specs.Forms.{form_of}

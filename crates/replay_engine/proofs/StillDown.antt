@@ -2,7 +2,7 @@
 use Rattle.std.proofs.Common.{◌≡◌, ◌∙◌, ◌<◌, ◌+◌, ℕ, suc, List, [], ◌∷◌, ◌++◌, codes, decimal, length, map, get_or, drop, sym, ap, subst, add-one, append_assoc, append-nil, drop-cons}
 use Rattle.bits32.specs.Set.{members}
 use Rattle.gesture_verifier.specs.declared.held.HeldKey.{HeldKey}
-use Rattle.io_trace.specs.Trace.{Writing}
+use Rattle.outside_io.specs.Trace.{Writing}
 use Rattle.judge_text.specs.declared.down.HeldIds.{HeldIds}
 use Rattle.judge_text.specs.declared.error.JudgeError.TheVariants.{StillDown}
 use Rattle.judge_text.specs.Down.{Down}

@@ -1,6 +1,6 @@
 -- What a run comes to: how its status, its text and its line go with what the program answers.
 use Rattle.std.specs.Prelude.{codes, ◌≡◌, ◌≢◌, ℕ, nat_eq, ◌||◌, Bool, List, [], Option, Some, None, Ok, Err, ⊤, IsTrue, ◌⊎◌}
-use Rattle.io_trace.specs.Trace.{Reading, Writing}
+use Rattle.outside_io.specs.Trace.{Reading, Writing}
 use Rattle.outside_io.specs.Outside.{Entry, Rose}
 use Rattle.text_output.specs.Passing.{StopsWithin, WritesAll, Tells as TellsLine}
 use Rattle.command_words.specs.Command.{Command, replay, race, check, verify, work, batch, hover, emit, judge, compare, inspect, why}

@@ -1,6 +1,6 @@
 -- What is written of a race.
 use Rattle.std.specs.Prelude.{List, ℕ}
-use Rattle.io_trace.specs.Trace.{Writing}
+use Rattle.outside_io.specs.Trace.{Writing}
 use Rattle.text_output.specs.Passing.{WritesAll}
 use Rattle.replay_actors.specs.declared.part.RaceEnd.{RaceEnd}
 use Rattle.command_answers.specs.RaceEnds.{PrintsEnd}

@@ -1,6 +1,6 @@
 -- Worked examples of the definitions.
 use Rattle.std.proofs.Common.{◌≡◌, [], ◌∷◌, refl, arith}
-use Rattle.io_trace.specs.Trace.{Write}
+use Rattle.outside_io.specs.Trace.{Write}
 use Rattle.text_output.specs.Passing.{PassAll, Passes}
 use Rattle.text_output.specs.Together.{together}
 

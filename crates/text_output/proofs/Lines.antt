@@ -1,6 +1,6 @@
 -- A line that is written part by part: some of it is written, and the rest of what was added is held.
 use Rattle.std.proofs.Common.{◌≡◌, ◌∙◌, ◌++◌, ℕ, List, [], ◌∷◌, sym, ap, subst, append_assoc, append-nil}
-use Rattle.io_trace.specs.Trace.{Writing}
+use Rattle.outside_io.specs.Trace.{Writing}
 use Rattle.text_output.specs.Passing.{StopsWithin, WritesAll, WritesUpTo}
 use Rattle.text_output.specs.Together.{together}
 use Rattle.text_output.proofs.Passing.{none_written, stops_more, stops_on, written_more, written_on}

@@ -2,7 +2,7 @@
 use Rattle.std.specs.Prelude.{Result, Ok, Err, OnOk, OnErr}
 use Rattle.std.proofs.Common.{◌≡◌, ◌∙◌, ◌<◌, ◌≤◌, ℕ, List, [], ◌∷◌, ◌++◌, length, take, drop, refl, sym, ap, subst, append_assoc, append-nil}
 use Rattle.std.proofs.lemmas.List.{take-append-drop}
-use Rattle.io_trace.specs.Trace.{Write, Writing}
+use Rattle.outside_io.specs.Trace.{Write, Writing}
 use Rattle.text_output.specs.Passing.{PassAll, Passes, StopsWithin, WritesAll, WritesPiece, WritesUpTo}
 use Rattle.text_output.specs.Together.{together}
 

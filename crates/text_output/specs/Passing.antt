@@ -1,6 +1,6 @@
 -- How a text is handed to a sink, write by write.
 use Rattle.std.specs.Prelude.{◌≡◌, ◌<◌, ◌≤◌, ℕ, List, [], ◌∷◌, ◌++◌, length, drop, ◌⊎◌}
-use Rattle.io_trace.specs.Trace.{Write, Writing}
+use Rattle.outside_io.specs.Trace.{Write, Writing}
 use Rattle.outside_io.specs.Outside.{Rose}
 use Rattle.text_output.specs.Together.{together}
 

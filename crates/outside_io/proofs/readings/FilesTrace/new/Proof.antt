@@ -9,11 +9,11 @@ use denote.Steps.{nothing}
 use denote.Triple.Entry.{on_entry}
 use denote.Triple.Walked.{says, ends_at}
 use Rattle.std.proofs.raw_atomic.Walks.{proved}
-use Rattle.io_trace.proofs.Walks.{blank, bare_made}
-use Rattle.io_trace.specs.declared.readings.FilesTrace.{FilesTrace}
-use Rattle.io_trace.specs.contracts.readings.FilesTrace.new as f
-use Rattle.io_trace.proofs.readings.FilesTrace.new.Statement.{statement}
-use Rattle.io_trace.proofs.readings.FilesTrace.new.Code as code
+use Rattle.outside_io.proofs.Walks.{blank, bare_made}
+use Rattle.outside_io.specs.declared.readings.FilesTrace.{FilesTrace}
+use Rattle.outside_io.specs.contracts.readings.FilesTrace.new as f
+use Rattle.outside_io.proofs.readings.FilesTrace.new.Statement.{statement}
+use Rattle.outside_io.proofs.readings.FilesTrace.new.Code as code
 
 abbrev made : FilesTrace
 made = record { readings = [] }

@@ -1,6 +1,6 @@
 ghost use Rattle.std.specs.Prelude.{◌≡◌, List, [], ◌∷◌, ◌++◌};
 ghost use Rattle.std.specs.Borrow.{ftrue};
-ghost use Rattle.io_trace.specs.Trace.{Reading};
+ghost use Rattle.outside_io.specs.Trace.{Reading};
 
 use crate::reading::ReadingTrace;
 use std::marker::Model;

@@ -1,4 +1,4 @@
--- The borrow is opened, and closed with these bytes behind those before.
+-- The borrow is opened, and closed with this reading behind those before.
 use Rattle.std.proofs.Common.{List, [], ◌∷◌, ◌++◌, refl}
 use mir.Syntax.{named}
 use mir.Val.{Val, vunit}
@@ -9,34 +9,33 @@ use types.Run.{enter, of_opd, unit_lit, returns}
 use types.ByLocal.{alloc_all, pass_all, free_all, look_at, sets}
 use denote.Exit.{yes}
 use denote.RattleType.{owns}
-use denote.Builtin.{u8}
-use denote.Slice.{ShrSlice, shr_slice_vals, shr_slice_Tells}
-use denote.Ref.{MutRef, mut_vals, mut_Tells}
+use denote.Ref.{MutRef, mut_vals, mut_Tells, ShrRef, shr_vals, shr_Tells}
 use denote.Signature.{plain}
 use denote.Steps.{opens, closes}
-use denote.Triple.Walked.{says, Stays, stay_ref, Goes-ref, ends_at, stay_none_slice, Goes-none_slice}
+use denote.Triple.Walked.{says, Stays, stay_ref, Goes-ref, ends_at, stay_none_ref, Goes-none_ref}
 use Rattle.std.proofs.raw_atomic.Walks.{proved}
-use Rattle.io_trace.specs.declared.reading.ReadingTrace.{ReadingTrace}
-use Rattle.io_trace.specs.contracts.reading.ReadingTrace as T
-use Rattle.io_trace.specs.contracts.reading.ReadingTrace.note as f
-use Rattle.io_trace.proofs.reading.ReadingTrace.note.Statement.{statement}
-use Rattle.io_trace.proofs.reading.ReadingTrace.note.Code as code
+use Rattle.outside_io.specs.contracts.reading.ReadingTrace as R
+use Rattle.outside_io.specs.declared.readings.FilesTrace.{FilesTrace}
+use Rattle.outside_io.specs.contracts.readings.FilesTrace as T
+use Rattle.outside_io.specs.contracts.readings.FilesTrace.note as f
+use Rattle.outside_io.proofs.readings.FilesTrace.note.Statement.{statement}
+use Rattle.outside_io.proofs.readings.FilesTrace.note.Code as code
 
 abbrev stayed : Stays f.ended.signature.params f.ended.kept
-stayed = (stay_ref (0 ∷ []) tt (plain (λ _. T.the_row)), (stay_none_slice (1 ∷ []) tt (plain (λ _. u8)) yes, tt))
+stayed = (stay_ref (0 ∷ []) tt (plain (λ _. T.the_row)), (stay_none_ref (1 ∷ []) tt (plain (λ _. R.the_row)) yes, tt))
 
 pub note_spec : {M : Type 1} → statement M
 note_spec 𝓤 𝓛 𝓜 𝓡 wired =
     let c = f.clauses 𝓛 𝓜.mem 𝓡.returns in
-    proved 𝓛 f.ended stayed c 𝓜 𝓡 (Goes-ref 𝓛 2 0 tt (plain (λ _. T.the_row)), (Goes-none_slice 𝓛 2 (1 ∷ []) tt (plain (λ _. u8)) yes, tt))
+    proved 𝓛 f.ended stayed c 𝓜 𝓡 (Goes-ref 𝓛 2 0 tt (plain (λ _. T.the_row)), (Goes-none_ref 𝓛 2 (1 ∷ []) tt (plain (λ _. R.the_row)) yes, tt))
     f.Key.name code.function (code.unfolded 𝓤 𝓛.H 𝓜 𝓡 wired)
-    (λ κs. (mut_vals, (shr_slice_vals, tt))) (λ κs. (mut_Tells (named 0) κs.0 T.the_row, (shr_slice_Tells (named 1) κs.1.0 u8, tt))) (λ κs qs bounds a _ are.
-    let b = a.0.ref_ptr.0 in let o = a.0.ref_ptr.1 in let h : ReadingTrace = a.0.now in
-    let h' : ReadingTrace = record { reading = record h.reading { given = h.reading.given ++ a.1.0.now } } in
-    let at : List Val × (List Val × Unit {0}) = (mut_vals a.0, (shr_slice_vals a.1.0, tt)) in
-    qed 𝓛 (((‵ (flft κs.0 qs.0) ⊛ (‵ (flft κs.1.0 qs.1.0) ⊛ ‵ ftrue)) ⊛ ‵ (owns (MutRef (named 0) κs.0 T.the_row ∷ ShrSlice (named 1) κs.1.0 u8 ∷ []) a at)) ∷ ‵ ftrue ∷ []) ∵
+    (λ κs. (mut_vals, (shr_vals, tt))) (λ κs. (mut_Tells (named 0) κs.0 T.the_row, (shr_Tells (named 1) κs.1.0 R.the_row, tt))) (λ κs qs bounds a _ are.
+    let b = a.0.ref_ptr.0 in let o = a.0.ref_ptr.1 in let h : FilesTrace = a.0.now in
+    let h' : FilesTrace = record { readings = h.readings ++ a.1.0.now.reading ∷ [] } in
+    let at : List Val × (List Val × Unit {0}) = (mut_vals a.0, (shr_vals a.1.0, tt)) in
+    qed 𝓛 (((‵ (flft κs.0 qs.0) ⊛ (‵ (flft κs.1.0 qs.1.0) ⊛ ‵ ftrue)) ⊛ ‵ (owns (MutRef (named 0) κs.0 T.the_row ∷ ShrRef (named 1) κs.1.0 R.the_row ∷ []) a at)) ∷ ‵ ftrue ∷ []) ∵
     keep ! (0 ∷ []) $ split ! $ split ! $ move ! (2 ∷ []) $ fsplit ! $ fsplit3 ! $ drop ! $ move ! (0 ∷ 1 ∷ 3 ∷ []) $
-    enter ! _ _ _ _ _ $ alloc_all ! (λ l. pass_all ! refl ((tt, tt), ((tt, (tt, (record { fits = are.1.0.0.1.0 }, tt))), tt)) $
+    enter ! _ _ _ _ _ $ alloc_all ! (λ l. pass_all ! refl ((tt, tt), ((tt, tt), tt)) $
     move ! (0 ∷ 1 ∷ 2 ∷ []) $ opens ! tt T.the_row {h = h} b o (λ us.
     sets ! (of_opd ! (unit_lit !)) refl (tt, tt) $
     move ! (1 ∷ []) $ use1 𝓛 (‵ ((T.the_row).own_val h' us)) (id⊢ 𝓤 _) $ move ! (1 ∷ 0 ∷ []) $ closes ! tt T.the_row h' us b o $

@@ -16,11 +16,11 @@ use denote.Signature.{plain}
 use denote.Steps.{opens, closes}
 use denote.Triple.Walked.{says, Stays, stay_ref, Goes-ref, ends_at, stay_none_slice, Goes-none_slice}
 use Rattle.std.proofs.raw_atomic.Walks.{proved}
-use Rattle.io_trace.specs.declared.reading.ReadingTrace.{ReadingTrace}
-use Rattle.io_trace.specs.contracts.reading.ReadingTrace as T
-use Rattle.io_trace.specs.contracts.reading.ReadingTrace.open as f
-use Rattle.io_trace.proofs.reading.ReadingTrace.open.Statement.{statement}
-use Rattle.io_trace.proofs.reading.ReadingTrace.open.Code as code
+use Rattle.outside_io.specs.declared.reading.ReadingTrace.{ReadingTrace}
+use Rattle.outside_io.specs.contracts.reading.ReadingTrace as T
+use Rattle.outside_io.specs.contracts.reading.ReadingTrace.open as f
+use Rattle.outside_io.proofs.reading.ReadingTrace.open.Statement.{statement}
+use Rattle.outside_io.proofs.reading.ReadingTrace.open.Code as code
 
 abbrev stayed : Stays f.ended.signature.params f.ended.kept
 stayed = (stay_ref (0 ∷ []) tt (plain (λ _. T.the_row)), (stay_none_slice (1 ∷ []) tt (plain (λ _. u8)) yes, tt))

@@ -1,6 +1,6 @@
 ghost use Rattle.std.specs.Prelude.{◌≡◌, [], ◌∷◌, ◌++◌, length};
 ghost use Rattle.std.specs.Borrow.{ftrue};
-ghost use Rattle.io_trace.specs.Trace.{Writing};
+ghost use Rattle.outside_io.specs.Trace.{Writing};
 
 use std::marker::Model;
 
