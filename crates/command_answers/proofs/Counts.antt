@@ -5,7 +5,7 @@ use Rattle.raw_events.specs.declared.event.LineError.{LineError}
 use Rattle.raw_events.specs.Recording.{lines_of}
 use Rattle.session_plan.specs.Plan.{PlanData}
 use Rattle.inspect_text.specs.Inspected.{inspected}
-use Rattle.recording_tally.specs.Counted.{IsCounted, TallyState}
+use Rattle.recording_counts.specs.RecordingTally.{IsCounted, TallyState}
 use Rattle.command_files.specs.declared.refusal.Refusal.{Refusal}
 use Rattle.command_files.specs.declared.refusal.Refusal.TheVariants.{Session, Recording, Order, Stream, ReadFailed, NoMemory, TooLong}
 use Rattle.command_files.specs.Cooked.{plans_of}

@@ -2,7 +2,7 @@
 ghost use Rattle.std.specs.Prelude.{◌≡◌, ℕ, ◌≤◌, List, [], ◌∷◌, ⊤, IsTrue, None, Ok, Err, IfOk, IfErr};
 ghost use Rattle.command_words.specs.Command.{inspect};
 ghost use Rattle.command_words.specs.CommandView.{recorded_view};
-ghost use Rattle.recording_tally.specs.Counted.{IsCounted};
+ghost use Rattle.recording_counts.specs.RecordingTally.{IsCounted};
 ghost use Rattle.session_plan.specs.Valid.{IsPlan};
 ghost use Rattle.session_plan.specs.View.{plan_view};
 ghost use Rattle.command_files.specs.Cooked.{plans_of};
@@ -22,7 +22,7 @@ use command_files::{
 use command_words::Recorded;
 use inspect_text::inspect_text;
 use outside_io::Files;
-use recording_tally::RecordingTally;
+use recording_counts::RecordingTally;
 use std::alloc::{AllocError, Global};
 use text_pieces::Pieces;
 

@@ -7,8 +7,8 @@ use Rattle.device_reader.specs.All.{AreNumbered}
 use Rattle.device_reader.specs.Cooked.{DevicePlan, DeviceStandsFor}
 use Rattle.device_reader.specs.CookedList.{AllStandFor}
 use Rattle.device_reader.specs.Reading.{Reading}
-use Rattle.event_counts.specs.declared.device.DeviceTally.{DeviceTally}
-use Rattle.event_counts.specs.Devices.{AllCounted, DeviceCounted}
+use Rattle.recording_counts.specs.declared.device.DeviceTally.{DeviceTally}
+use Rattle.recording_counts.specs.Devices.{AllCounted, DeviceCounted}
 use Rattle.session_plan.specs.declared.plan.Display.{Display}
 use Rattle.session_plan.specs.declared.plan.DevicePlan.{DevicePlan as Device}
 use Rattle.session_plan.specs.Plan.{DeviceData}

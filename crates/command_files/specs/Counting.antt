@@ -2,7 +2,7 @@
 use Rattle.std.specs.Prelude.{◌≡◌, ℕ, List, ◌++◌, Option, Some, None, Err}
 use Rattle.raw_events.specs.declared.event.LineError.{LineError}
 use Rattle.raw_events.specs.Recording.{recorded}
-use Rattle.recording_tally.specs.Counted.{HasCounted, TallyState}
+use Rattle.recording_counts.specs.RecordingTally.{HasCounted, TallyState}
 use Rattle.session_plan.specs.Plan.{PlanData}
 use Rattle.command_files.specs.Cooked.{plans_of}
 use Rattle.command_files.specs.Devices.{devices_of}

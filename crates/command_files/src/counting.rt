@@ -3,8 +3,8 @@ ghost use Rattle.std.specs.Prelude.{ℕ, [], List, length, IfOk, IfErr};
 ghost use Rattle.session_plan.specs.Plan.{PlanData};
 ghost use Rattle.session_plan.specs.Valid.{IsKind, IsPlan};
 ghost use Rattle.session_plan.specs.View.{plan_view};
-ghost use Rattle.event_counts.specs.Devices.{AllCounted, KindCounted};
-ghost use Rattle.recording_tally.specs.Counted.{IsCounted};
+ghost use Rattle.recording_counts.specs.Devices.{AllCounted, KindCounted};
+ghost use Rattle.recording_counts.specs.RecordingTally.{IsCounted};
 ghost use Rattle.command_files.specs.Cooked.{device_plan, plans_of};
 ghost use Rattle.command_files.specs.Counting.{CountsOn, HasTaken};
 ghost use Rattle.command_files.specs.Devices.{devices_of};
@@ -15,10 +15,10 @@ use crate::devices::{numbered_devices, readers_of};
 use crate::recording::{passed_over, recording_refusal};
 use crate::refusal::Refusal;
 use crate::taker::Taker;
-use event_counts::{DeviceTally, EventTally, TallyKind};
 use raw_events::{LineError, LineReader};
-use recording_counts::{KeysTally, LineTally, TouchTally};
-use recording_tally::RecordingTally;
+use recording_counts::{
+    DeviceTally, EventTally, KeysTally, LineTally, RecordingTally, TallyKind, TouchTally,
+};
 use session_plan::{DeviceKind, Display, Plan};
 use std::alloc::{AllocError, Global};
 use std::marker::Model;

@@ -5,8 +5,8 @@ use Rattle.raw_events.specs.declared.event.RawEvent.{RawEvent}
 use Rattle.device_reader.specs.Cooked.{DevicePlan}
 use Rattle.device_reader.specs.CookedList.{of_device}
 use Rattle.recording_counts.specs.Paths.{PathTable, PathsStandFor, times}
-use Rattle.event_counts.specs.declared.device.DeviceTally.{DeviceTally}
-use Rattle.event_counts.specs.Devices.{AllCounted, DeviceCounted}
+use Rattle.recording_counts.specs.declared.device.DeviceTally.{DeviceTally}
+use Rattle.recording_counts.specs.Devices.{AllCounted, DeviceCounted}
 use Rattle.inspect_text.specs.Inspected.{each_device}
 use Rattle.inspect_text.specs.Lines.{path_line}
 

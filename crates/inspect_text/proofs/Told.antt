@@ -11,8 +11,8 @@ use Rattle.recording_counts.specs.declared.key_tally.KeyCounts.{KeyCounts}
 use Rattle.recording_counts.specs.declared.key_tally.KeysTally.{KeysTally}
 use Rattle.recording_counts.specs.declared.touch.TouchCounts.{TouchCounts}
 use Rattle.recording_counts.specs.declared.touch.TouchTally.{TouchTally}
-use Rattle.event_counts.specs.declared.device.TallyKind.TheVariants.{Touch, Keys}
-use Rattle.event_counts.specs.Devices.{KindCounted}
+use Rattle.recording_counts.specs.declared.device.TallyKind.TheVariants.{Touch, Keys}
+use Rattle.recording_counts.specs.Devices.{KindCounted}
 use Rattle.inspect_text.specs.Inspected.{device_text, hint_text}
 use Rattle.inspect_text.specs.Lines.{keys_line, touch_line}
 

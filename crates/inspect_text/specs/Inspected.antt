@@ -11,8 +11,8 @@ use Rattle.recording_counts.specs.Lines.{is_blank_line, is_other_line, is_unknow
 use Rattle.recording_counts.specs.Paths.{firsts, times}
 use Rattle.recording_counts.specs.Touch.{ranges_of, touch_counts}
 use Rattle.session_plan.specs.declared.plan.Step.{Step}
-use Rattle.event_counts.specs.declared.moments.Span.{Span}
-use Rattle.event_counts.specs.Moments.{span_of}
+use Rattle.recording_counts.specs.declared.moments.Span.{Span}
+use Rattle.recording_counts.specs.Moments.{span_of}
 use Rattle.inspect_text.specs.Hints.{hint_at, hint_line}
 use Rattle.inspect_text.specs.Lines.{keys_line, lines_line, moments_line, path_line, steps_line, touch_line}
 

@@ -4,7 +4,7 @@ use Rattle.std.specs.Fmt.{decimal}
 use Rattle.recording_counts.specs.declared.events.EventCounts.{EventCounts}
 use Rattle.recording_counts.specs.declared.key_tally.KeyCounts.{KeyCounts}
 use Rattle.recording_counts.specs.declared.touch.TouchCounts.{TouchCounts}
-use Rattle.event_counts.specs.declared.moments.Span.{Span}
+use Rattle.recording_counts.specs.declared.moments.Span.{Span}
 
 -- the lines of a recording by what they are: blank ones, those of another form, those of a device that is not in the session, and
 -- those that give an event

@@ -2,12 +2,11 @@
 ghost use Rattle.std.specs.Prelude.{◌≡◌, ◌++◌, List, codes, decimal, IfOk};
 ghost use Rattle.raw_events.specs.declared.event.RawEvent.{RawEvent as Event};
 ghost use Rattle.device_reader.specs.Cooked.{DevicePlan};
-ghost use Rattle.event_counts.specs.Devices.{AllCounted, DeviceCounted};
+ghost use Rattle.recording_counts.specs.Devices.{AllCounted, DeviceCounted};
 ghost use Rattle.inspect_text.specs.Inspected.{device_text, each_device};
 ghost use Rattle.inspect_text.specs.Lines.{event_words, key_words, keys_line, touch_line, touch_words};
 
-use event_counts::{DeviceTally, TallyKind};
-use recording_counts::{EventCounts, KeyCounts, TouchCounts};
+use recording_counts::{DeviceTally, EventCounts, KeyCounts, TallyKind, TouchCounts};
 use std::alloc::AllocError;
 use text_lines::{add_labeled, add_word};
 

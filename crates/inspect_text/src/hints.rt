@@ -2,15 +2,16 @@
 ghost use Rattle.std.specs.Prelude.{◌≡◌, ◌++◌, List, map, option_map, Some, IfOk};
 ghost use Rattle.raw_events.specs.declared.event.RawEvent.{RawEvent as Event};
 ghost use Rattle.device_reader.specs.Cooked.{DevicePlan, Keys, KeysPlan, TouchPlan, Touches};
-ghost use Rattle.event_counts.specs.Devices.{AllCounted, DeviceCounted};
+ghost use Rattle.recording_counts.specs.Devices.{AllCounted, DeviceCounted};
 ghost use Rattle.recording_counts.specs.KeyTally.{KeysTallyStandsFor};
 ghost use Rattle.recording_counts.specs.Touch.{TouchTallyStandsFor};
 ghost use Rattle.inspect_text.specs.Hints.{GoesOn, behind_commas, hint_at, hint_front, hint_line, keys_word, scan_words, scans_down, still_down, touch_word};
 ghost use Rattle.inspect_text.specs.Inspected.{each_device, hint_text};
 
-use event_counts::{DeviceTally, TallyKind};
 use pointer_ids::Held;
-use recording_counts::{EventCounts, KeyCounts, KeysTally, TouchCounts, TouchTally};
+use recording_counts::{
+    DeviceTally, EventCounts, KeyCounts, KeysTally, TallyKind, TouchCounts, TouchTally,
+};
 use std::alloc::AllocError;
 use text_lines::{add_labeled, add_word};
 

@@ -24,7 +24,7 @@
 //! ```
 //!
 //! Each number is that of a list of lines, events, steps or args (specs/Inspected), and a hint says what looks as if
-//! it was not meant so. The counts come from `recording_counts` and `event_counts`, which keep no list.
+//! it was not meant so. The counts come from `recording_counts`, which keeps no list.
 #![tactic(auto, unfolding(text_lines::specs::Written::labeled))]
 
 mod devices;

@@ -4,8 +4,7 @@ ghost use Rattle.recording_counts.specs.Paths.{PathsStandFor};
 ghost use Rattle.inspect_text.specs.Inspected.{paths_text};
 ghost use Rattle.inspect_text.specs.Lines.{lines_line, moments_line, path_line};
 
-use event_counts::Span;
-use recording_counts::{LineCounts, UnknownPaths};
+use recording_counts::{LineCounts, Span, UnknownPaths};
 use std::alloc::AllocError;
 use text_lines::{add_labeled, add_number, add_word};
 

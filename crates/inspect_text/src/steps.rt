@@ -2,7 +2,7 @@
 ghost use Rattle.std.specs.Prelude.{◌≡◌, ◌++◌, length, filter, IfOk};
 ghost use Rattle.inspect_text.specs.Inspected.{is_after, is_before, is_within, late_steps_hint, steps_text};
 
-use event_counts::Span;
+use recording_counts::Span;
 use session_plan::Step;
 use std::alloc::AllocError;
 use text_lines::{add_labeled, add_word};

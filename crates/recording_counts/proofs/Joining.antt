@@ -6,7 +6,7 @@ use Rattle.raw_events.specs.Pieces.{Parts, parts, with_byte, last_line}
 use Rattle.raw_events.specs.Recording.{line_len, lines_of}
 use Rattle.raw_events.proofs.Parts.{lines_are, begun_unended}
 use Rattle.recording_counts.specs.declared.lines.LineCounts.{LineCounts}
-use Rattle.recording_counts.specs.Tally.{LineCountsStandFor, LineTallyStandsFor}
+use Rattle.recording_counts.specs.LineTally.{LineCountsStandFor, LineTallyStandsFor}
 use Rattle.recording_counts.proofs.Oks.{both_ok}
 
 -- these lines, and what a piece makes of the line that has begun

@@ -8,3 +8,7 @@ pub mod Noted
 pub mod Oks
 pub mod Raised
 pub mod Touches
+pub mod Counting
+pub mod AllRead
+pub mod TallySteps
+pub mod TallyExamples

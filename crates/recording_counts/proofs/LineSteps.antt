@@ -9,7 +9,7 @@ use Rattle.recording_counts.specs.declared.lines.LineCounts.{LineCounts}
 use Rattle.recording_counts.specs.Counted.{counted, risen}
 use Rattle.recording_counts.specs.Lines.{IsRead, given_by, is_blank_line, is_other_line, is_unknown_line, passes, path_in, path_named, text_of, unknown_paths}
 use Rattle.recording_counts.specs.Paths.{PathTable, PathsStandFor}
-use Rattle.recording_counts.specs.Tally.{LineCountsStandFor, SortsLines}
+use Rattle.recording_counts.specs.LineTally.{LineCountsStandFor, SortsLines}
 use Rattle.recording_counts.proofs.Forms.{formed_passes, read_formed}
 
 pub counted_more : {X : Type 0} (x : X) (xs : List X) → risen (counted xs) ≡ counted (x ∷ xs)

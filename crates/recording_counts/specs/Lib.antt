@@ -5,4 +5,9 @@ pub mod KeyTally
 pub mod Cut
 pub mod Lines
 pub mod Paths
-pub mod Tally
+pub mod LineTally
+pub mod Moments
+pub mod Devices
+pub mod EventTally
+pub mod RecordingTally
+pub mod Laws

@@ -12,23 +12,36 @@
 //!
 //! and a session with a touch device at `/dev/input/event2` alone, the first line is one of another form, the last one
 //! is of a path that is not in the session, and three lines give events. The device has one packet, with one finger at
-//! its end; its reader holds pointer 0.
+//! its end; its reader holds pointer 0, and gives one entry for the dispatcher.
+//!
+//! [`RecordingTally`] reads the pieces and counts what they are: the lines by a [`LineTally`], and the events of all
+//! devices by an [`EventTally`], one by one as their readers take them. Were the third line to end behind `0035`, `feed`
+//! would answer that line 3 is bad, and count nothing more.
 //!
 //! No list of lines or events is kept: the counts stand for all that came, and their memory does not grow with it.
 #![tactic(auto)]
 
 mod cut;
+mod device;
+mod event_tally;
 mod events;
 mod key_tally;
+pub mod laws;
+mod line_tally;
 mod lines;
+mod moments;
 mod number;
 mod paths;
-mod tally;
+mod recording_tally;
 mod touch;
 
+pub use device::{DeviceTally, TallyKind};
+pub use event_tally::EventTally;
 pub use events::EventCounts;
 pub use key_tally::{KeyCounts, KeysTally};
+pub use line_tally::LineTally;
 pub use lines::LineCounts;
+pub use moments::Span;
 pub use paths::UnknownPaths;
-pub use tally::LineTally;
+pub use recording_tally::RecordingTally;
 pub use touch::{TouchCounts, TouchTally};

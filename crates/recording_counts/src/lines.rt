@@ -7,7 +7,7 @@ ghost use Rattle.recording_counts.specs.Counted.{risen};
 ghost use Rattle.recording_counts.specs.Cut.{behind_bracket};
 ghost use Rattle.recording_counts.specs.Lines.{path_in, text_of};
 ghost use Rattle.recording_counts.specs.Paths.{PathsStandFor};
-ghost use Rattle.recording_counts.specs.Tally.{LineCountsStandFor};
+ghost use Rattle.recording_counts.specs.LineTally.{LineCountsStandFor};
 
 use crate::cut::next_line;
 use crate::number::risen_if;

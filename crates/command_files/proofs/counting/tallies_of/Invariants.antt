@@ -1,6 +1,6 @@
 use Rattle.std.proofs.Common.{map, take, []}
 use Rattle.session_plan.specs.View.{device_view}
-use Rattle.event_counts.specs.Devices.{AllCounted}
+use Rattle.recording_counts.specs.Devices.{AllCounted}
 use Rattle.command_files.specs.Cooked.{device_plans}
 use Rattle.command_files.proofs.counting.tallies_of.Given as goal
 

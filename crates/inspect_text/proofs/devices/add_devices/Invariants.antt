@@ -1,7 +1,7 @@
 use Rattle.std.proofs.Common.{◌≡◌, ◌+◌, ◌++◌, List, drop}
 use Rattle.raw_events.specs.declared.event.RawEvent.{RawEvent}
 use Rattle.device_reader.specs.Cooked.{DevicePlan}
-use Rattle.event_counts.specs.Devices.{AllCounted}
+use Rattle.recording_counts.specs.Devices.{AllCounted}
 use Rattle.inspect_text.specs.Inspected.{device_text, each_device}
 use Rattle.inspect_text.proofs.devices.add_devices.Given as goal
 

@@ -1,7 +1,7 @@
 use Rattle.std.proofs.Common.{◌≡◌, ◌++◌, List, filter, ap, ap₂, ◌∙◌, sym, subst}
-use Rattle.event_counts.specs.declared.device.DeviceTally.{DeviceTally}
-use Rattle.event_counts.specs.Devices.{AllCounted}
-use Rattle.event_counts.specs.Moments.{span_of}
+use Rattle.recording_counts.specs.declared.device.DeviceTally.{DeviceTally}
+use Rattle.recording_counts.specs.Devices.{AllCounted}
+use Rattle.recording_counts.specs.Moments.{span_of}
 use Rattle.recording_counts.specs.Counted.{counted}
 use Rattle.recording_counts.specs.Lines.{is_blank_line, is_other_line, is_unknown_line, unknown_paths}
 use Rattle.inspect_text.specs.Inspected.{device_text, each_device, lines_text, paths_text}

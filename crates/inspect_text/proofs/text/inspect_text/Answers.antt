@@ -1,7 +1,7 @@
 use Rattle.std.proofs.Common.{◌≡◌, ◌++◌, List, ap, ◌∙◌, sym, subst}
-use Rattle.event_counts.specs.declared.device.DeviceTally.{DeviceTally}
-use Rattle.event_counts.specs.Devices.{AllCounted}
-use Rattle.event_counts.specs.Moments.{span_of}
+use Rattle.recording_counts.specs.declared.device.DeviceTally.{DeviceTally}
+use Rattle.recording_counts.specs.Devices.{AllCounted}
+use Rattle.recording_counts.specs.Moments.{span_of}
 use Rattle.recording_counts.specs.Lines.{unknown_paths}
 use Rattle.inspect_text.specs.Inspected.{device_text, each_device, hint_text, inspected, late_steps_hint, lines_text, no_device_hint, paths_text, steps_text}
 use Rattle.inspect_text.specs.Lines.{moments_line}

@@ -4,7 +4,7 @@ use Rattle.std.proofs.Common.{sym, ◌∙◌, ap, subst, append_assoc}
 use Rattle.std.proofs.lemmas.List.{reverse-append}
 use Rattle.raw_events.specs.Line.{known}
 use Rattle.raw_events.specs.Pieces.{Parts, parts}
-use Rattle.recording_counts.specs.Tally.{LineCountsStandFor}
+use Rattle.recording_counts.specs.LineTally.{LineCountsStandFor}
 use Rattle.recording_counts.proofs.lines.count_lines.Goals as goal
 
 pub lines-preserved : goal.lines-preserved

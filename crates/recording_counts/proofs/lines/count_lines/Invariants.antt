@@ -1,7 +1,7 @@
 use Rattle.std.proofs.Common.{◌≡◌, ◌++◌, List, ℕ, length, reverse}
 use Rattle.raw_events.specs.Line.{known}
 use Rattle.raw_events.specs.Pieces.{parts}
-use Rattle.recording_counts.specs.Tally.{LineCountsStandFor}
+use Rattle.recording_counts.specs.LineTally.{LineCountsStandFor}
 use Rattle.recording_counts.proofs.lines.count_lines.Given as goal
 
 -- the lines so far, with those that are left, are all

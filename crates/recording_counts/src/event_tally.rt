@@ -1,0 +1,112 @@
+//! The events of all devices.
+ghost use Rattle.std.specs.Prelude.{◌≡◌, ◌∷◌, [], ◌++◌, List, reverse, None, OnOk};
+ghost use Rattle.raw_events.specs.declared.event.RawEvent.{RawEvent as Event};
+ghost use Rattle.device_reader.specs.Cooked.{DevicePlan};
+ghost use Rattle.device_reader.specs.CookedList.{ReadersStandFor, added};
+ghost use Rattle.recording_counts.specs.Devices.{AllCounted};
+ghost use Rattle.recording_counts.specs.EventTally.{EventTallyStandsFor};
+
+use crate::device::DeviceTally;
+use crate::moments::{Span, widened};
+use device_reader::Readers;
+use input_types::Args;
+use raw_events::RawEvent;
+use std::alloc::{AllocError, Global};
+use std::marker::Model;
+
+/// Counts the events of a recording, one by one, beside the readers of its devices. Its memory is that of the devices,
+/// whatever comes.
+///
+/// Contracts see the readers, the counts of each device in the order of their numbers, from which moment to which the
+/// events are, and how many they are.
+#[derive(Drop)]
+pub struct EventTally {
+    readers: Readers,
+    devices: Vec<DeviceTally>,
+    span: Option<Span>,
+    events: u64,
+    /// The args of an event.
+    args: Vec<Args>,
+}
+
+impl Model for EventTally {
+    ghost use Rattle.recording_counts.specs.EventTally.{EventsState};
+
+    ghost Value = { EventsState };
+
+    ghost view = { λ t. record { readers = t.readers; devices = t.devices.items; span = t.span; events = t.events } };
+}
+
+impl EventTally {
+    /// The devices before their first event, in the order of their numbers.
+    pub fn new(alloc: Global, readers: Readers, devices: Vec<DeviceTally>) -> EventTally
+        ensures { (plans : List DevicePlan) → ReadersStandFor plans [] readers → AllCounted plans [] devices.items
+            → EventTallyStandsFor plans [] result }
+    {
+        EventTally {
+            readers,
+            devices,
+            span: None,
+            events: 0,
+            args: Vec::new(alloc),
+        }
+    }
+
+    /// Takes the next event of the recording.
+    pub fn take(&mut self, event: RawEvent) -> Result<(), AllocError>
+        ensures { (plans : List DevicePlan) (past : List Event) → EventTallyStandsFor plans past self.old
+            → OnOk result (EventTallyStandsFor plans (event ∷ past) self.new) }
+    {
+        self.args.clear();
+        self.readers.take(event, &mut self.args)?;
+        self.span = widened(self.span, event.moment);
+        self.events = self.events.saturating_add(1);
+        take_any(&mut self.devices, &event, &self.args)
+    }
+
+    /// Takes the next events of the recording, in their order.
+    pub fn take_all(&mut self, events: &[RawEvent]) -> Result<(), AllocError>
+        ensures { (plans : List DevicePlan) (past : List Event) → EventTallyStandsFor plans past self.old
+            → OnOk result (EventTallyStandsFor plans (reverse events.now ++ past) self.new) }
+    {
+        for event in events {
+            self.take(*event)?;
+        }
+        Ok(())
+    }
+
+    /// The counts of each device, in the order of their numbers.
+    pub fn devices(&self) -> &[DeviceTally]
+        ensures { result.now ≡ self.now.devices }
+    {
+        &self.devices
+    }
+
+    /// The least and the greatest moment of the events; None exactly where there is no event.
+    pub fn span(&self) -> Option<Span>
+        ensures value { result ≡ self.now.span }
+        ensures none { (plans : List DevicePlan) → EventTallyStandsFor plans [] self.now → result ≡ None }
+    {
+        self.span
+    }
+
+    /// How many events there are.
+    pub fn events(&self) -> u64
+        ensures { result ≡ self.now.events }
+    {
+        self.events
+    }
+}
+
+/// Takes the next event by the counts of its device. An event of a device without counts is passed over.
+fn take_any(devices: &mut [DeviceTally], event: &RawEvent, args: &[Args]) -> Result<(), AllocError>
+    ensures { (plans : List DevicePlan) (past : List Event) → args.now ≡ added plans past event.now
+        → AllCounted plans past devices.old → OnOk result (AllCounted plans (event.now ∷ past) devices.new) }
+{
+    let i = usize::from(event.device.get() - 1);
+    if i < devices.len() {
+        devices[i].take(event, args)
+    } else {
+        Ok(())
+    }
+}

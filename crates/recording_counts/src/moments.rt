@@ -1,0 +1,35 @@
+//! From the first moment to the last.
+ghost use Rattle.std.specs.Prelude.{◌≡◌, min, Option, Some};
+ghost use Rattle.recording_counts.specs.Moments.{widened};
+
+use input_types::Moment;
+
+/// The least and the greatest moment of some events.
+#[derive(Clone, Copy, Debug, PartialEq, Eq)]
+pub struct Span {
+    pub first: Moment,
+    pub last: Moment,
+}
+
+/// The lesser of two moments.
+fn earlier(a: Moment, b: Moment) -> Moment
+    ensures { result ≡ min a b }
+{
+    if b.get() < a.get() { b } else { a }
+}
+
+/// The moments with one more.
+pub(crate) fn widened(span: Option<Span>, moment: Moment) -> Option<Span>
+    ensures { result ≡ Some (widened span moment) }
+{
+    match span {
+        None => Some(Span {
+            first: moment,
+            last: moment,
+        }),
+        Some(span) => Some(Span {
+            first: earlier(span.first, moment),
+            last: span.last.later(moment),
+        }),
+    }
+}

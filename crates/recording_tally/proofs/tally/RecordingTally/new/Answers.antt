@@ -1,8 +1,0 @@
-use Rattle.recording_tally.specs.Counted.{TallyState}
-use Rattle.recording_tally.proofs.Steps.{none_yet}
-use Rattle.recording_tally.proofs.tally.RecordingTally.new.Goals as goal
-
-pub returns : goal.returns
-returns c = λ devices plans is lines events.
-    let begun : TallyState = record { reader = c.args.reader; lines = c.args.lines; events = c.args.events } in
-    none_yet devices plans begun is lines events
