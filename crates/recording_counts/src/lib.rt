@@ -15,8 +15,8 @@
 //! its end; its reader holds pointer 0, and gives one entry for the dispatcher.
 //!
 //! [`RecordingTally`] reads the pieces and counts what they are: the lines by a [`LineTally`], and the events of all
-//! devices by an [`EventTally`], one by one as their readers take them. Were the third line to end behind `0035`, `feed`
-//! would answer that line 3 is bad, and count nothing more.
+//! devices by an [`EventTally`], one by one as their readers take them. Were the third line to end behind `0035`,
+//! `feed` would answer that line 3 is bad, and count nothing more.
 //!
 //! No list of lines or events is kept: the counts stand for all that came, and their memory does not grow with it.
 #![tactic(auto)]

@@ -20,3 +20,8 @@ pub mod Targets
 pub mod Ticking
 pub mod Outgoing
 pub mod Worked
+pub mod Passing
+pub mod Items
+pub mod Oks
+pub mod Masks
+pub mod Words

@@ -6,7 +6,7 @@ use Rattle.routing_rules.specs.Given.{changed}
 use Rattle.routing_rules.specs.Scene.{Scene}
 use Rattle.routing_rules.specs.Slip.{slip}
 use Rattle.routing_rules.specs.Outgoing.{is_cancelled, is_down, is_up}
-use Rattle.why_causes.specs.Causes.{Comes}
+use Rattle.why_lines.specs.Causes.{Comes}
 use Rattle.why_text.specs.Down.{down_of}
 use Rattle.why_text.specs.Lines.{down_words, motion_words, slip_words, up_words}
 use Rattle.why_lines.specs.Coming.{MayCome}

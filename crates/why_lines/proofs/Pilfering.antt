@@ -12,10 +12,10 @@ use Rattle.routing_rules.specs.Scene.{Scene}
 use Rattle.routing_rules.specs.Taking.{takes, Pilfered}
 use Rattle.why_text.specs.Lines.{pilfer_word, pilfer_words, refusal_word}
 use Rattle.why_text.specs.Words.{below, ids_that}
-use Rattle.why_writer.specs.declared.channels.PilferRefused.{PilferRefused}
-use Rattle.why_writer.specs.declared.channels.PilferRefused.TheVariants.{Gone as IsGone, NotSpy as IsNotSpy, NothingHeld as HoldsNothing}
-use Rattle.why_writer.specs.Refusals.{answer_of}
-use Rattle.why_writer.specs.Lost.{ids_in}
+use Rattle.why_lines.specs.declared.lines.channels.PilferRefused.{PilferRefused}
+use Rattle.why_lines.specs.declared.lines.channels.PilferRefused.TheVariants.{Gone as IsGone, NotSpy as IsNotSpy, NothingHeld as HoldsNothing}
+use Rattle.why_lines.specs.Refusals.{answer_of}
+use Rattle.why_lines.specs.Lost.{ids_in}
 
 -- some id of a set, of those below n, passes
 abbrev pub some_below : (ℕ → Bool) → (set n : ℕ) → Bool

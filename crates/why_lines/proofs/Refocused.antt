@@ -17,7 +17,7 @@ use Rattle.dispatch_tables.specs.Lawful.{Lawful}
 use Rattle.why_text.specs.Lines.{gone_word, gone_words}
 use Rattle.why_text.specs.Lost.{are_some, holds, ids_item, ids_lost, key_item, lost_items, lost_word}
 use Rattle.why_text.specs.Words.{ids_that}
-use Rattle.why_writer.proofs.Passing.{no_channel}
+use Rattle.why_lines.proofs.Passing.{no_channel}
 use Rattle.why_lines.specs.Gone.{gone_line, keys_gone, target_keys, target_line}
 use Rattle.why_lines.proofs.Losers.{all_pass, keys_lost_are}
 use Rattle.why_lines.proofs.KeyHolders.{untargeted}

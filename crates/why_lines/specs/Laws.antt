@@ -22,9 +22,13 @@ use Rattle.dispatch_history.specs.PointerOf.{AllRise}
 use Rattle.dispatch_history.specs.Step.{scene}
 use Rattle.dispatch_tables.specs.Lawful.{Lawful}
 use Rattle.why_text.specs.Laws.{is_given, may_move_focus}
-use Rattle.why_text.specs.Lines.{call_words}
+use Rattle.why_text.specs.Lines.{call_words, down_words}
 use Rattle.why_text.specs.Text.{line, step_text}
 use Rattle.why_lines.specs.Owners.{again_words}
+use Rattle.input_types.specs.declared.pointer.Pointer.{Pointer}
+use Rattle.why_text.specs.Down.{Down}
+use Rattle.why_lines.specs.declared.lines.downs.Causes.{Causes}
+use Rattle.why_lines.specs.Causes.{AreCauses, down_with}
 
 -- A finish tells that its channel answers again exactly where that is able after it and was not before it.
 abbrev pub FinishLaw : Type 0
@@ -66,3 +70,7 @@ NoDownLaw =
     (displays : List ℕ) (call : Call) (answer : Reply) (es : List Effect) (w : ℕ)
     → is_motion (args_of call answer (inbound (past_of es))) ≡ false
     → list_any says_down (said_at displays call answer es w) ≡ false
+
+-- The line of a pointer that goes down is the same.
+abbrev pub WordsLaw : Type 0
+WordsLaw = (d : ℕ) (p : Pointer) (c : Causes) (k : Down) → AreCauses c k → down_words d p (down_with c) ≡ down_words d p k

@@ -10,3 +10,6 @@ pub mod Pumping
 pub mod Rows
 pub mod Explaining
 pub mod Laws
+pub mod Lost
+pub mod Refusals
+pub mod Causes

@@ -3,8 +3,8 @@ use Rattle.std.specs.Prelude.{ℕ, Bool, List, [], ◌∷◌, Option, Some, None
 use Rattle.dispatch_calls.specs.declared.reply.Reply.{Reply}
 use Rattle.dispatch_calls.specs.declared.reply.Reply.TheVariants.{Done}
 use Rattle.why_text.specs.Lines.{responsive_word}
-use Rattle.why_writer.specs.declared.channels.PilferRefused.{PilferRefused}
-use Rattle.why_writer.specs.Refusals.{answer_of}
+use Rattle.why_lines.specs.declared.lines.channels.PilferRefused.{PilferRefused}
+use Rattle.why_lines.specs.Refusals.{answer_of}
 
 -- a pilfer is refused, or it is done
 abbrev pub answered : Option PilferRefused → Reply

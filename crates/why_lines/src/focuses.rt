@@ -62,7 +62,7 @@ fn add_change(
     let Some(display) = DisplayId::new(display) else {
         return Ok(());
     };
-    why_writer::focus(text, clock, display, before, after)
+    crate::lines::focus(text, clock, display, before, after)
 }
 
 /// Adds the lines of the changes of the focus, and of the window that keys go to, from one moment to another.
@@ -79,5 +79,5 @@ pub fn add_changes(
     add_change(text, clock, 1, before.second, after.second)?;
     add_change(text, clock, 2, before.third, after.third)?;
     add_change(text, clock, 3, before.fourth, after.fourth)?;
-    why_writer::target(text, clock, before.target, after.target)
+    crate::lines::target(text, clock, before.target, after.target)
 }

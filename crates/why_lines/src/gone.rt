@@ -3,15 +3,15 @@ ghost use Rattle.std.specs.Prelude.{◌≡◌, List, IfOk};
 ghost use Rattle.focus_resolver.specs.Resolver.{is_at};
 ghost use Rattle.dispatch_history.specs.Effect.{Effect};
 ghost use Rattle.dispatcher.specs.Dispatching.{IsAfter};
-ghost use Rattle.why_writer.specs.Lost.{items_of};
+ghost use Rattle.why_lines.specs.Lost.{items_of};
 ghost use Rattle.why_lines.specs.Gone.{gone_line, keys_gone, target_keys};
 ghost use Rattle.why_lines.specs.Growing.{with_lines};
 
+use crate::lines::{Lost, gone};
 use crate::losing::keys_held;
 use dispatcher::Dispatcher;
 use input_types::{KeyArgs, Moment};
 use std::alloc::{AllocError, Global};
-use why_writer::{Lost, gone};
 
 /// Adds the line of a window that loses this, where it is something.
 pub(crate) fn add_gone(

@@ -15,10 +15,10 @@ ghost use Rattle.why_text.specs.Text.{line};
 ghost use Rattle.why_lines.specs.Growing.{with_lines};
 
 use crate::holders::{KeyHolder, given_key, holder_of, key_holder};
+use crate::lines::{key_down, key_up, repeat, reset};
 use dispatcher::Dispatcher;
 use input_types::{DeviceId, KeyArgs, KeyMsg, Moment};
 use std::alloc::AllocError;
-use why_writer::{key_down, key_up, repeat, reset};
 use window_snapshot::mask_with;
 
 /// Adds the line of a key that goes down or up.

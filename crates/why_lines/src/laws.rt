@@ -1,5 +1,5 @@
 //! What is proved of the lines of a step. Each function has a law as its clause, and does nothing.
-ghost use Rattle.why_lines.specs.Laws.{DownLaw, FinishLaw, NoDownLaw, StillLaw};
+ghost use Rattle.why_lines.specs.Laws.{DownLaw, FinishLaw, NoDownLaw, StillLaw, WordsLaw};
 
 /// A finish tells that its channel answers again exactly where that is able after it and was not before it.
 pub fn finishing()
@@ -16,4 +16,9 @@ pub fn sending()
 pub fn streaming()
     ensures motions { DownLaw }
     ensures others { NoDownLaw }
+{}
+
+/// The line of a pointer that goes down is the same, whether its sets of windows are masks or those of the rules.
+pub fn words()
+    ensures { WordsLaw }
 {}

@@ -15,17 +15,21 @@
 //!   step.
 //! - [`pump`], [`tick`], [`finish`], [`pilfer`], [`windows`], [`focus_on`], [`open`], [`remove`]: the same, each of
 //!   one call.
+//! - `lines`: a function for each kind of line. `causes`: why a pointer that goes down went where it went, by what the
+//!   router itself asks; the causes are those of the rules (`down_of` of `why_text`), with sets of windows as masks.
 //! - [`add_pump`]: a pointer that goes down, slips or goes up, a palm, a key, a repeat, or a device that begins anew.
 //! - [`add_pilfer`], [`add_finish`]: what owners of channels do ([`laws`]).
 //! - [`all_focused`], [`add_changes`]: the changes of the focus, and of the window that keys go to.
 #![tactic(auto)]
 
 mod calls;
+mod causes;
 mod focuses;
 mod gone;
 mod holders;
 mod keys;
 pub mod laws;
+mod lines;
 mod losing;
 mod motions;
 mod owners;
@@ -33,6 +37,7 @@ mod pumps;
 mod requests;
 mod rows;
 mod seen;
+mod sight;
 mod snapshots;
 mod steps;
 mod ticks;

@@ -11,17 +11,17 @@ ghost use Rattle.why_text.specs.Lines.{removed_word, removed_words};
 ghost use Rattle.why_text.specs.Lost.{holds, ids_item, lost_word};
 ghost use Rattle.why_text.specs.Text.{line};
 ghost use Rattle.why_text.specs.Words.{ids_that};
-ghost use Rattle.why_writer.specs.Lost.{ids_from};
+ghost use Rattle.why_lines.specs.Lost.{ids_from};
 ghost use Rattle.why_lines.specs.Losing.{LosesAll};
 
 use crate::holders::{KeyHolder, key_holder};
+use crate::lines::{Lost, removed, removed_gone};
 use crate::owners::is_live;
 use crate::rows::row_of;
 use bits32::Bits32;
 use dispatcher::Dispatcher;
 use input_types::{KeyArgs, KeyMsg, Moment};
 use std::alloc::{AllocError, Global};
-use why_writer::{Lost, removed, removed_gone};
 use window_snapshot::is_channel;
 
 /// The ids of the pointers that a window holds, of each device.

@@ -7,14 +7,15 @@ ghost use Rattle.routing_rules.specs.Outgoing.{is_cancelled, is_down, is_up};
 ghost use Rattle.why_text.specs.Down.{down_of};
 ghost use Rattle.why_text.specs.Lines.{down_words, motion_words, slip_words, up_words};
 ghost use Rattle.why_text.specs.Text.{line};
-ghost use Rattle.why_causes.specs.Causes.{Comes, IsSeen};
+ghost use Rattle.why_lines.specs.Causes.{Comes, IsSeen};
 ghost use Rattle.why_lines.specs.Coming.{MayCome};
 ghost use Rattle.why_lines.specs.Growing.{with_lines};
 
+use crate::causes::down_causes;
+use crate::lines::{down, palm, slip, up};
+use crate::sight::Sight;
 use input_types::{FLAG_CANCELED, Moment, Motion, MotionAction, Pointer, PointerId};
 use std::alloc::AllocError;
-use why_causes::{Sight, down_causes};
-use why_writer::{down, palm, slip, up};
 
 /// The pointer that goes down or up with a motion, and the first one of a move.
 fn changed(motion: &Motion) -> Option<Pointer>

@@ -12,16 +12,16 @@ ghost use Rattle.dispatch_history.specs.Step.{scene};
 ghost use Rattle.dispatcher.specs.Dispatching.{IsAfter};
 ghost use Rattle.why_text.specs.Lines.{pilfer_done, pilfer_word, pilfer_words};
 ghost use Rattle.why_text.specs.Text.{line};
-ghost use Rattle.why_writer.specs.Lost.{ids_in};
+ghost use Rattle.why_lines.specs.Lost.{ids_in};
 ghost use Rattle.why_lines.specs.Growing.{with_lines};
 ghost use Rattle.why_lines.specs.Owners.{again_words, answered};
 
+use crate::lines::{PilferRefused, pilfer, pilfer_refused, responsive};
 use bits32::Bits32;
 use dispatcher::Dispatcher;
 use input_types::{DeviceId, Moment, PointerId};
 use route_split::Touches;
 use std::alloc::AllocError;
-use why_writer::{PilferRefused, pilfer, pilfer_refused, responsive};
 use window_snapshot::{Window, mask_has, mask_less, mask_without};
 
 /// Adds the line of a channel that answers again after a finish. The masks are those of the channels that were able to

@@ -9,11 +9,11 @@ ghost use Rattle.why_lines.specs.Explaining.{MayMake, Explains, ExplainsAfter};
 
 use crate::focuses::{add_changes, all_focused};
 use crate::gone::{add_gone, keys_gone, target_keys};
+use crate::lines::{Lost, request};
 use dispatch_calls::Call;
 use dispatcher::Dispatcher;
 use input_types::{DisplayId, KeyArgs, Moment};
 use std::alloc::AllocError;
-use why_writer::{Lost, request};
 
 /// Adds the line of the window which keys went to, where it loses the keys that it holds to another target.
 fn add_target(

@@ -6,7 +6,7 @@ ghost use Rattle.routing_rules.specs.Outgoing.{devices};
 ghost use Rattle.route_split.specs.Tables.{holds_at};
 ghost use Rattle.why_text.specs.Lost.{ids_item};
 ghost use Rattle.why_text.specs.Words.{ids_that};
-ghost use Rattle.why_writer.specs.Lost.{ids_from};
+ghost use Rattle.why_lines.specs.Lost.{ids_from};
 ghost use Rattle.why_lines.specs.Rows.{RowIs};
 
 use bits32::Bits32;

@@ -3,11 +3,11 @@ ghost use Rattle.std.specs.Prelude.{List};
 ghost use Rattle.dispatch_history.specs.Effect.{Effect};
 ghost use Rattle.dispatch_history.specs.Step.{scene};
 ghost use Rattle.dispatcher.specs.Dispatching.{IsAfter};
-ghost use Rattle.why_causes.specs.Causes.{IsSeen};
+ghost use Rattle.why_lines.specs.Causes.{IsSeen};
 
+use crate::sight::Sight;
 use dispatcher::Dispatcher;
 use input_types::DeviceId;
-use why_causes::Sight;
 
 /// What the rules see before a motion of a device.
 pub(crate) fn sight(dispatcher: &Dispatcher, device: DeviceId) -> Sight<'_>

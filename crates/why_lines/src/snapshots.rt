@@ -12,13 +12,13 @@ ghost use Rattle.why_lines.specs.Explaining.{MayMake, Explains, ExplainsAfter};
 
 use crate::focuses::{add_changes, all_focused};
 use crate::gone::{add_gone, is_at, keys_gone, target_keys};
+use crate::lines::Lost;
 use crate::rows::{row_gone, rows_of};
 use bits32::Bits32;
 use dispatch_calls::Call;
 use dispatcher::Dispatcher;
 use input_types::{KeyArgs, Moment};
 use std::alloc::AllocError;
-use why_writer::Lost;
 use window_snapshot::Snapshot;
 
 /// What windows hold before a step: the ids of the pointers of each, as a row, and the keys of the one which keys go
@@ -106,7 +106,7 @@ pub fn windows(
         target,
         keys: &keys,
     };
-    why_writer::windows(text, clock, snapshot.windows())?;
+    crate::lines::windows(text, clock, snapshot.windows())?;
     dispatcher.apply_unread(call)?;
     let after = all_focused(dispatcher);
     add_all_lost(text, clock, &held, dispatcher)?;

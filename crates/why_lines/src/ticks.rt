@@ -13,11 +13,11 @@ ghost use Rattle.why_lines.specs.Growing.{with_lines};
 ghost use Rattle.why_lines.specs.Losing.{LosesAll};
 
 use crate::keys::is_due;
+use crate::lines::{Lost, timeout};
 use crate::losing::{ids_of, keys_held};
 use dispatcher::Dispatcher;
 use input_types::Moment;
 use std::alloc::AllocError;
-use why_writer::{Lost, timeout};
 
 /// Adds the line of a window that is named, with the number of a message; it loses all that it holds.
 fn add_timeout(

@@ -1,5 +1,5 @@
 use Rattle.std.proofs.Common.{sym, ◌∙◌}
-use Rattle.why_writer.specs.Lost.{items_of}
+use Rattle.why_lines.specs.Lost.{items_of}
 use Rattle.why_lines.proofs.Losers.{nothing_gone, something_gone}
 use Rattle.why_lines.proofs.Growing.{same_after}
 use Rattle.why_lines.proofs.gone.add_gone.Goals as goal

@@ -6,7 +6,7 @@ use Rattle.window_snapshot.specs.Mask.{mask_has}
 use Rattle.dispatch_history.specs.Keys.{keys}
 use Rattle.dispatch_history.specs.Step.{scene}
 use Rattle.why_text.specs.Text.{line}
-use Rattle.why_causes.proofs.Words.{same_windows}
+use Rattle.why_lines.proofs.Words.{same_windows}
 use Rattle.why_lines.proofs.Growing.{same_after}
 use Rattle.why_lines.proofs.keys.add_reset.Goals as goal
 

@@ -1,7 +1,7 @@
 use Rattle.std.proofs.Common.{◌++◌, ap}
 use Rattle.why_text.specs.Down.{down_of}
 use Rattle.why_text.specs.Text.{line}
-use Rattle.why_causes.proofs.Words.{words_law}
+use Rattle.why_lines.proofs.Words.{words_law}
 use Rattle.why_lines.proofs.Growing.{same_after}
 use Rattle.why_lines.proofs.motions.add_down.Goals as goal
 

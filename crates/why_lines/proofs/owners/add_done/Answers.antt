@@ -6,7 +6,7 @@ use Rattle.dispatch_history.specs.Step.{scene}
 use Rattle.why_text.specs.Lines.{pilfer_word, taken_word}
 use Rattle.why_text.specs.Text.{line}
 use Rattle.why_text.specs.Words.{ids_that}
-use Rattle.why_writer.specs.Lost.{ids_in}
+use Rattle.why_lines.specs.Lost.{ids_in}
 use Rattle.why_lines.proofs.Growing.{same_after}
 use Rattle.why_lines.proofs.Pilfering.{losers_are, same_ids}
 use Rattle.why_lines.proofs.owners.add_done.Goals as goal

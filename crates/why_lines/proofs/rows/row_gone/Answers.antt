@@ -2,7 +2,7 @@ use Rattle.std.proofs.Common.{◌≡◌, ◌<◌, ◌+◌, ◌&&◌, not, ℕ, r
 use Rattle.bits32.specs.Set.{is_in}
 use Rattle.route_split.specs.Tables.{holds_at}
 use Rattle.why_text.specs.Words.{ids_that}
-use Rattle.why_writer.specs.Lost.{ids_in}
+use Rattle.why_lines.specs.Lost.{ids_in}
 use Rattle.why_lines.proofs.Pilfering.{same_ids}
 use Rattle.why_lines.proofs.rows.row_gone.Goals as goal
 

@@ -1,0 +1,92 @@
+//! A pointer that goes down, with the causes.
+ghost use Rattle.std.specs.Prelude.{◌≡◌, ◌++◌, IfOk};
+ghost use Rattle.window_snapshot.specs.Mask.{mask_has};
+ghost use Rattle.why_text.specs.Lines.{choice_words, down_words, sets_words};
+ghost use Rattle.why_text.specs.Text.{line};
+ghost use Rattle.why_text.specs.Words.{row_word, windows_word};
+ghost use Rattle.why_lines.specs.Causes.{down_with};
+
+use crate::lines::line::{add_clock, add_pointer};
+use crate::lines::sets::{add_channel, add_windows};
+use input_types::{DeviceId, Moment, Pointer};
+use routing_rules::{Choice, Row};
+use std::alloc::AllocError;
+use text_lines::add_word;
+
+/// The causes of a down: the window under the place, the choice with its row, and as masks the spies at the place, the
+/// candidates that are pilfering the device, the windows that get the pointer, the targets that are not able to, and
+/// the windows that are told of a touch outside of them.
+#[derive(Clone, Copy, Debug)]
+pub struct Causes {
+    pub touched: Option<u32>,
+    pub choice: Choice,
+    pub spies: u64,
+    pub pilfering: u64,
+    pub given: u64,
+    pub mute: u64,
+    pub outside: u64,
+}
+
+/// The word of a row.
+fn row_word(row: Row) -> &'static str
+    ensures { result.now ≡ row_word row }
+{
+    match row {
+        Row::First => "first",
+        Row::Unsplit => "unsplit",
+        Row::Nothing => "nothing",
+        Row::Whole => "whole",
+        Row::Split => "split",
+    }
+}
+
+/// Adds what is chosen, by which row.
+fn add_choice(text: &mut Vec<u8>, causes: &Causes) -> Result<(), AllocError>
+    ensures { IfOk result (λ _. text.new.items
+        ≡ text.old.items ++ choice_words (down_with causes.now)) }
+{
+    add_word(text, " touched ")?;
+    add_channel(text, causes.touched)?;
+    add_word(text, " row ")?;
+    add_word(text, row_word(causes.choice.row))?;
+    add_word(text, " chosen ")?;
+    add_channel(text, causes.choice.window)
+}
+
+/// Adds a set of windows behind some words.
+fn add_named(text: &mut Vec<u8>, words: &str, mask: u64) -> Result<(), AllocError>
+    ensures { IfOk result (λ _. text.new.items ≡ text.old.items ++ (words.now ++ windows_word (mask_has mask))) }
+{
+    add_word(text, words)?;
+    add_windows(text, mask)
+}
+
+/// Adds the sets of windows.
+fn add_sets(text: &mut Vec<u8>, causes: &Causes) -> Result<(), AllocError>
+    ensures { IfOk result (λ _. text.new.items
+        ≡ text.old.items ++ sets_words (down_with causes.now)) }
+{
+    add_named(text, " spies ", causes.spies)?;
+    add_named(text, " pilfering ", causes.pilfering)?;
+    add_named(text, " given ", causes.given)?;
+    add_named(text, " mute ", causes.mute)?;
+    add_named(text, " outside ", causes.outside)
+}
+
+/// Adds the line of a pointer of a device that goes down.
+pub fn down(
+    text: &mut Vec<u8>,
+    clock: Moment,
+    device: DeviceId,
+    pointer: Pointer,
+    causes: &Causes,
+) -> Result<(), AllocError>
+    ensures { IfOk result (λ _. text.new.items
+        ≡ text.old.items ++ line clock (down_words device pointer (down_with causes.now))) }
+{
+    add_clock(text, clock)?;
+    add_pointer(text, "down ", device, pointer)?;
+    add_choice(text, causes)?;
+    add_sets(text, causes)?;
+    add_word(text, "\n")
+}

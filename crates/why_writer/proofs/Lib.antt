@@ -1,3 +1,0 @@
-pub mod Passing
-pub mod Items
-pub mod Oks

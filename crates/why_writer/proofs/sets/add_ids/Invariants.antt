@@ -1,6 +1,0 @@
-use Rattle.why_writer.proofs.Passing.{Written}
-use Rattle.why_writer.proofs.sets.add_ids.Given as goal
-
--- the ids so far are written
-abbrev pub invariant-loop-id : goal.invariant-loop-id
-invariant-loop-id l = Written l.ids l.id l.initial.text.items l.text.items l.is_first
