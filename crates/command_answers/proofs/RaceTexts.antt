@@ -23,8 +23,8 @@ use Rattle.replay_actors.specs.Raced.{OnlyOpens}
 use Rattle.replay_actors.specs.Race.{IsRace, ScriptsMade, SeatsDiffer, has_seat}
 use Rattle.turnstile.specs.History.{Entry as Called}
 use Rattle.turnstile.specs.Seats.{view}
-use Rattle.lane_runner.specs.Starts.{MayRun}
-use Rattle.lane_runner.specs.declared.runner.Start.{Start}
+use Rattle.replay_actors.specs.Starts.{MayRun}
+use Rattle.replay_actors.specs.declared.runner.Start.{Start}
 use Rattle.replay_actors.proofs.Orders.{seat_lane, history_same}
 use Rattle.replay_actors.proofs.Spelled.{order_law}
 use Rattle.replay_actors.specs.Counting.{ticks, moves, idles}

@@ -26,3 +26,4 @@ pub mod RunEnds
 pub mod Reading
 pub mod Printing
 pub mod Examples
+pub mod Ends

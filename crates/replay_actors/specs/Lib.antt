@@ -16,3 +16,4 @@ pub mod Ends
 pub mod Orders
 pub mod Texts
 pub mod Laws
+pub mod Starts

@@ -19,6 +19,14 @@
 //! was, [`run_lanes`] says what holds of the whole history: each lane's calls are there in the lane's order, no others
 //! are, and nothing is left to do (`IsRace` of specs/Race). [`race_text`] prints the order, and then what each channel
 //! was sent; who follows the printed order comes to the printed streams ([`laws`]).
+//!
+//! A program that prints a race takes who runs its lanes as a function. Its contract can then say that its text is that
+//! of an end which this function answered: the order in the text is the one that the lanes took, and none that the
+//! program made up. [`run_start`] runs them as threads:
+//!
+//! ```text
+//! run_by(.., &|start| run_start(rt, alloc, start, gate))     the lanes are threads, at which a gate stands
+//! ```
 #![tactic(auto)]
 
 mod acts;
@@ -35,6 +43,7 @@ mod pumping;
 mod race;
 mod receiving;
 mod run;
+mod runner;
 mod scripts;
 mod settling;
 mod streams;
@@ -45,6 +54,7 @@ pub use gate::{Gate, NoGate};
 pub use opening::open_channels;
 pub use part::{Lanes, RaceEnd};
 pub use run::run_lanes;
+pub use runner::{Start, run_start};
 pub use scripts::scripts_of;
 pub use settling::settle;
 pub use text::race_text;

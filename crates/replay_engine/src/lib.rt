@@ -22,6 +22,5 @@ mod top;
 mod whole;
 
 pub use ending::no_memory;
-pub use lane_runner::Start;
-pub use replay_actors::{Gate, NoGate, RaceEnd, race_text};
+pub use replay_actors::{Gate, NoGate, RaceEnd, Start, race_text};
 pub use top::{is_alone, run, run_alone, run_by};

@@ -3,7 +3,7 @@ ghost use Rattle.std.specs.Prelude.{◌≡◌, ◌≤◌, ◌↔◌, true, map, 
 ghost use Rattle.command_words.specs.Command.{Recorded as Names, race};
 ghost use Rattle.command_words.specs.Forms.{form_of};
 ghost use Rattle.command_answers.specs.Program.{IsAlone};
-ghost use Rattle.lane_runner.specs.Starts.{EndBy, Left, MayRun, RunsRaces};
+ghost use Rattle.replay_actors.specs.Starts.{EndBy, Left, MayRun, RunsRaces};
 ghost use Rattle.replay_engine.specs.Outcome.{Ends, LendsNames, asked, sink_ends};
 ghost use Rattle.replay_engine.specs.Raced.{WroteEnd};
 
@@ -12,9 +12,8 @@ use crate::ending::{end_answered, end_with};
 use crate::statuses::USAGE;
 use command_answers::answer_race;
 use command_words::{Command, command_of};
-use lane_runner::{Start, run_start};
 use outside_io::{Files, Sink};
-use replay_actors::{Gate, RaceEnd};
+use replay_actors::{Gate, RaceEnd, Start, run_start};
 use std::alloc::{AllocError, Global};
 use std::sync::Wait;
 use std::thread::Threads;

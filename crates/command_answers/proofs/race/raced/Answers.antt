@@ -2,7 +2,7 @@
 use Rattle.std.proofs.Common.{◌≡◌, ◌∙◌, Some, ap, sym}
 use Rattle.dispatch_core.specs.Recorded.{Recorded}
 use Rattle.turnstile.specs.Seats.{view}
-use Rattle.lane_runner.specs.Starts.{MayRun}
+use Rattle.replay_actors.specs.Starts.{MayRun}
 use Rattle.command_answers.specs.RaceEnds.{raced_plan}
 use Rattle.command_answers.proofs.RaceTexts.{ended_by, ends_race, if_left, may_run}
 use Rattle.command_answers.proofs.race.raced.Goals as goal

@@ -5,7 +5,7 @@ use Rattle.command_words.specs.CommandView.{alone_view, recorded_view}
 use Rattle.replay_engine.specs.Outcome.{Asked, SinkEnds, asked, sink_ends}
 use Rattle.command_answers.specs.Program.{IsAlone}
 use Rattle.command_answers.specs.RaceEnds.{PrintsEnd}
-use Rattle.lane_runner.specs.Starts.{EndBy}
+use Rattle.replay_actors.specs.Starts.{EndBy}
 use Rattle.replay_engine.proofs.Answering.{alone_is, came_so, comes_usage, formed}
 use Rattle.replay_engine.proofs.Endings.{ends_usage}
 use Rattle.replay_engine.proofs.top.run_by.Goals as goal

@@ -10,7 +10,7 @@ use Rattle.replay_actors.specs.Race.{IsRace}
 use Rattle.replay_actors.specs.Ends.{IsSettledRace}
 use Rattle.replay_actors.specs.Plans.{scripted}
 use Rattle.replay_actors.specs.declared.part.RaceEnd.{RaceEnd}
-use Rattle.lane_runner.specs.declared.runner.Start.{Start}
+use Rattle.replay_actors.specs.declared.runner.Start.{Start}
 
 -- A race may begin so: the seat is the caller's, of number 0, which has opened as many channels as the lanes have, and made no other call.
 pub record MayRun (s : Start) : Type 0 where

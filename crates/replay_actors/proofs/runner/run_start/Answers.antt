@@ -1,7 +1,7 @@
 -- The lanes are run.
-use Rattle.lane_runner.specs.Starts.{Left}
-use Rattle.lane_runner.proofs.Ends.{if_ok_five}
-use Rattle.lane_runner.proofs.runner.run_start.Goals as goal
+use Rattle.replay_actors.specs.Starts.{Left}
+use Rattle.replay_actors.proofs.Ends.{if_ok_five}
+use Rattle.replay_actors.proofs.runner.run_start.Goals as goal
 
 pub returns : goal.returns
 returns g c =

@@ -1,9 +1,11 @@
-//! The lanes of a race, run by another.
+//! The lanes of a race, run from a start that holds all that they need.
 ghost use Rattle.std.specs.Prelude.{IfOk};
-ghost use Rattle.lane_runner.specs.Starts.{Left, MayRun};
+ghost use Rattle.replay_actors.specs.Starts.{Left, MayRun};
 
+use crate::gate::Gate;
+use crate::part::{Lanes, RaceEnd};
+use crate::run::run_lanes;
 use input_service::{Seat, Service};
-use replay_actors::{Gate, Lanes, RaceEnd, run_lanes};
 use std::alloc::{AllocError, Global};
 use std::sync::Wait;
 use std::thread::Threads;
