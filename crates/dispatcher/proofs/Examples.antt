@@ -6,7 +6,7 @@ use Rattle.input_types.specs.declared.key.KeyMsg.{KeyMsg}
 use Rattle.input_types.specs.declared.message.Args.{Args}
 use Rattle.input_types.specs.declared.message.Args.TheVariants.{Key, Reset}
 use Rattle.cancel_synthesis.specs.Tracked.{Tracked}
-use Rattle.device_down.specs.Kept.{Kept as Down}
+use Rattle.inbound.specs.Kept.{Kept as Down}
 use Rattle.input_channel.specs.State.{opened_with}
 use Rattle.key_repeat.specs.Due.{Sent}
 use Rattle.route_split.specs.Tables.{no_table}

@@ -4,9 +4,9 @@ use Rattle.std.proofs.lemmas.Bool.{cases_cond}
 use Rattle.std.proofs.lemmas.List.{reverse-append, length-reverse, drop-append-le}
 use Rattle.input_types.specs.declared.message.Args.{Args}
 use Rattle.input_types.specs.DeviceRule.{after_args, device_of}
-use Rattle.device_down.specs.Kept.{Kept}
-use Rattle.device_down.specs.Down.{DevicesStandFor}
-use Rattle.device_down.proofs.Accepting.{accepts}
+use Rattle.inbound.specs.Kept.{Kept}
+use Rattle.inbound.specs.Down.{DevicesStandFor}
+use Rattle.inbound.proofs.Accepting.{accepts}
 use Rattle.dispatch_calls.specs.declared.call.Call.{Call}
 use Rattle.dispatch_calls.specs.declared.call.Call.TheVariants.{Open, Windows, FocusOn, Notify, Pump, Tick, Receive, Finish, Pilfer, Remove}
 use Rattle.dispatch_calls.specs.declared.reply.Reply.{Reply}

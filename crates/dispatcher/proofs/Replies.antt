@@ -4,7 +4,7 @@ use Rattle.std.specs.List.{list_any}
 use Rattle.input_types.specs.DeviceRule.{device_of}
 use Rattle.window_snapshot.specs.Mask.{mask_has}
 use Rattle.window_snapshot.specs.Window.{is_spy}
-use Rattle.device_down.proofs.Accepting.{says_down}
+use Rattle.inbound.proofs.Accepting.{says_down}
 use Rattle.input_channel.specs.State.{next_of, may_finish}
 use Rattle.key_repeat.specs.Due.{due_of}
 use Rattle.dispatch_calls.specs.declared.call.Call.TheVariants.{Open, Windows, FocusOn, Notify, Pump, Tick, Receive, Finish, Pilfer, Remove}

@@ -1,6 +1,6 @@
 -- What is kept before the first call.
 use Rattle.std.specs.Prelude.{◌≡◌, ℕ, [], replicate, None}
-use Rattle.device_down.specs.Down.{DevicesStandFor}
+use Rattle.inbound.specs.Down.{DevicesStandFor}
 use Rattle.window_snapshot.specs.Origins.{corner}
 use Rattle.dispatch_tables.specs.Delivery.{none_noted}
 use Rattle.route_split.specs.Tables.{table_of, IsFresh}

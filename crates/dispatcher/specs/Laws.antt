@@ -2,9 +2,9 @@
 use Rattle.std.specs.Prelude.{◌≡◌, ◌≤◌, ◌<◌, ◌^◌, ℕ, max, true, false, List, [], length, Option, Ok, Err}
 use Rattle.input_types.specs.declared.message.Args.{Args}
 use Rattle.input_types.specs.DeviceRule.{device_of}
-use Rattle.device_down.specs.declared.change.Change.{Change}
-use Rattle.device_down.specs.declared.change.Inconsistent.{Inconsistent as Refusal}
-use Rattle.device_down.specs.Down.{PlansAt}
+use Rattle.inbound.specs.declared.change.Change.{Change}
+use Rattle.inbound.specs.declared.change.Inconsistent.{Inconsistent as Refusal}
+use Rattle.inbound.specs.Down.{PlansAt}
 use Rattle.cancel_synthesis.specs.Tracked.{Tracked, pointers_of}
 use Rattle.dispatch_history.specs.History.{live}
 use Rattle.dispatch_history.specs.PointerOf.{AllRise, RisesIn}

@@ -4,7 +4,7 @@ use Rattle.std.specs.List.{list_any}
 use Rattle.input_types.specs.DeviceRule.{device_of}
 use Rattle.window_snapshot.specs.Mask.{mask_has}
 use Rattle.window_snapshot.specs.Window.{is_spy}
-use Rattle.device_down.specs.Down.{state_at}
+use Rattle.inbound.specs.Down.{state_at}
 use Rattle.input_channel.specs.State.{next_of, may_finish}
 use Rattle.key_repeat.specs.Due.{due_of}
 use Rattle.route_split.specs.Tables.{any_at}

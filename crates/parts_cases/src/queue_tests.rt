@@ -1,9 +1,9 @@
 //! The reader's queue, a channel and the tracker of due moments, with values that are typed from the rules.
 
 use anr_tracker::Tracker;
+use inbound::Inbound;
 use input_channel::{Channel, UnknownSeq};
 use input_types::{Args, Body, DeviceId, Limit, Message, Moment};
-use reader_queue::Inbound;
 use std::alloc::Global;
 use std::test::Fail;
 

@@ -1,4 +1,0 @@
-pub mod Kept
-pub mod Keys
-pub mod Down
-pub mod Laws
