@@ -121,7 +121,7 @@ told_judged (Some es) name kind x r agrees named enough is =
     some_map (bytes_of es name) (λ bytes. judged kind bytes ≡ judged kind r.given) (λ bytes. judged kind bytes ≡ x) (λ bytes same. same ∙ is)
     (enough_told kind (bytes_of es name) r (subst (λ (n : List ℕ). Agrees (bytes_of es n) r) named agrees) enough)
 
--- where the files are sent, the file is judged as what was read of it
+-- where it is known what the files hold, the file is judged as what was read of it
 pub read_told : {A : Type 0} (told : Option (List Entry)) (before now : List Reading) (name : List ℕ) (kind : FileKind A) (x : Result A Refused)
     → IsRead told before now name kind x → IsJudged told name (judged kind) x
 read_told told before now name kind x one = told_judged told name kind x one.reading one.agrees one.named one.holds.0 one.holds.1

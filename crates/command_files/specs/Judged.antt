@@ -9,7 +9,7 @@ use Rattle.command_files.specs.Refused.{Refused, too_long}
 abbrev pub Answer : Type 0
 Answer = Result (List ℕ) Refused
 
--- where the files are sent, this holds of them
+-- where it is known what the files hold, this holds of them
 abbrev pub IfTold : Option (List Entry) → (List Entry → Type 0) → Type 0
 IfTold None Holds = ⊤
 IfTold (Some entries) Holds = Holds entries
@@ -68,7 +68,7 @@ abbrev pub Behind : {A : Type 0} → (A → Answer → Type 0) → Result A Refu
 Behind Next (Err refused) a = a ≡ Err refused
 Behind Next (Ok accepted) a = Next accepted a
 
--- where the files are sent, the file under a name is there and is judged so
+-- where it is known what the files hold, the file under a name is there and is judged so
 abbrev pub IsJudged : {A : Type 0} → Option (List Entry) → List ℕ → (List ℕ → Result A Refused) → Result A Refused → Type 0
 IsJudged None name rule r = ⊤
 IsJudged (Some entries) name rule r = IsSomeAnd (bytes_of entries name) (λ bytes. rule bytes ≡ r)

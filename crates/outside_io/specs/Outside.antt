@@ -19,7 +19,7 @@ abbrev pub bytes_of : List Entry → List ℕ → Option (List ℕ)
 bytes_of [] name = None
 bytes_of (entry ∷ entries) name = if bytes_eq entry.0 name then Some entry.1 else bytes_of entries name
 
--- where the files are sent, one of them has the name, and its bytes are those that the source has left
+-- where it is known what the files hold, one of them has the name, and its bytes are those that the source has left
 abbrev pub GivesBytes : Option (List Entry) → List ℕ → Option (List ℕ) → Type 0
 GivesBytes None name left = ⊤
 GivesBytes (Some entries) name left = IsSomeAnd (bytes_of entries name) (λ bytes. left ≡ Some bytes)

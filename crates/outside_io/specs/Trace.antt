@@ -1,7 +1,7 @@
 -- What passed between a program and the world around it.
 use Rattle.std.specs.Prelude.{ℕ, Bool, List}
 
--- the reading of a file: the name that was asked for, the bytes that were given, in their order, and whether the end was sent
+-- the reading of a file: the name that was asked for, the bytes that were given, in their order, and whether the end was reached
 pub record Reading : Type 0 where
   pub name : List ℕ
   pub given : List ℕ

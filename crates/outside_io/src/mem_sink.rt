@@ -10,7 +10,7 @@ use crate::writing::SinkTrace;
 use std::marker::Model;
 
 /// A sink in memory, for tests: it takes a few bytes a call, has a limited room, and fails at the
-/// calls that it is sent to. It takes no memory.
+/// calls that its maker named. It takes no memory.
 #[derive(Drop)]
 pub struct MemSink {
     room: Vec<u8>,

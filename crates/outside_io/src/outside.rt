@@ -76,7 +76,7 @@ impl From<AllocError> for SourceRefused {
 pub trait Files {
     type In: Source;
 
-    /// The files, where they are sent.
+    /// What the files hold, where that is known.
     ghost entries: { Self → Option (List Entry) };
 
     /// The readings so far: of each source that came back, and of each name for which the outside failed.

@@ -35,7 +35,7 @@ impl ReadingTrace {
         ensures { self.new.reading ≡ record self.old.reading { given = self.old.reading.given ++ _piece.now } }
     {}
 
-    /// The end is sent.
+    /// The end is reached.
     #[inline(always)]
     pub fn end(&mut self)
         ensures { self.new.reading ≡ record self.old.reading { ended = true } }

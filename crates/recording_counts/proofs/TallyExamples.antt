@@ -1,12 +1,12 @@
 -- Worked ends of recordings: one that is read, and one whose last line is cut.
-use Rattle.std.proofs.Common.{◌≡◌, ◌++◌, [], ◌∷◌, List, ℕ, Ok, Err, length, refl}
+use Rattle.std.proofs.Common.{◌++◌, [], ◌∷◌, List, ℕ, Err, refl}
 use Rattle.std.specs.Prelude.{codes}
 use Rattle.raw_events.specs.declared.event.LineError.TheVariants as errors
 use Rattle.raw_events.specs.Text.{number_at}
 use Rattle.raw_events.specs.Line.{Known, fields_of, formed, judged, judged_text, moment_at, path_at, seconds_at}
 use Rattle.raw_events.specs.Recording.{recorded}
 use Rattle.device_reader.specs.Cooked.{DevicePlan}
-use Rattle.recording_counts.specs.RecordingTally.{Counts, Ends, TallyState}
+use Rattle.recording_counts.specs.RecordingTally.{Ends, TallyState}
 
 -- one touch device
 touch : Known

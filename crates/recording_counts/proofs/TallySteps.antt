@@ -1,5 +1,5 @@
 -- One piece more of a recording, and its end.
-use Rattle.std.proofs.Common.{◌≡◌, ℕ, List, [], ◌++◌, Result, Ok, Err, refl, ap, sym, subst, reverse, ◌∙◌}
+use Rattle.std.proofs.Common.{◌≡◌, ℕ, List, [], ◌++◌, Ok, Err, refl, ap, sym, subst, reverse, ◌∙◌}
 use Rattle.std.proofs.lemmas.List.{append_assoc, append-nil, reverse-append}
 use Rattle.raw_events.specs.declared.event.RawEvent.{RawEvent}
 use Rattle.raw_events.specs.declared.event.LineError.{LineError}
@@ -11,7 +11,7 @@ use Rattle.raw_events.proofs.Reading.{nothing_in_front}
 use Rattle.raw_events.proofs.Cuts.{IsBegun, begun_there, end_read, end_refused, piece_read, piece_refused}
 use Rattle.device_reader.specs.Cooked.{DevicePlan}
 use Rattle.recording_counts.specs.Lines.{AreRead}
-use Rattle.recording_counts.specs.LineTally.{LineCountsStandFor, LineTallyStandsFor, TallyState as LinesState}
+use Rattle.recording_counts.specs.LineTally.{LineCountsStandFor, LineTallyStandsFor}
 use Rattle.recording_counts.proofs.AllRead.{all_read, read_back}
 use Rattle.recording_counts.specs.EventTally.{EventTallyStandsFor, EventsState}
 use Rattle.recording_counts.specs.RecordingTally.{HasBegun, HasCounted, IsCounted, TallyState}

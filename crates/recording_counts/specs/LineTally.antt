@@ -20,13 +20,13 @@ pub record LineCountsStandFor (devices : Known) (past : List (List ℕ)) (c : Li
   pub sorted : AreRead devices past → SortsLines devices past c
 
 -- what contracts see of a tally of lines: the devices of the session, the bytes of the line that has begun, and the counts
-pub record TallyState : Type 0 where
+pub record LinesState : Type 0 where
   pub devices : Known
   pub begun : List ℕ
   pub counts : LineCounts
 
 -- these bytes were counted: the lines that a newline ended, and what stands behind the last newline has begun
-pub record LineTallyStandsFor (devices : Known) (bytes : List ℕ) (t : TallyState) : Type 0 where
+pub record LineTallyStandsFor (devices : Known) (bytes : List ℕ) (t : LinesState) : Type 0 where
   pub devices_are : t.devices ≡ devices
   pub begun_is : t.begun ≡ (parts bytes).begun
   pub lines_stand : LineCountsStandFor devices (reverse (parts bytes).ended) t.counts

@@ -7,7 +7,7 @@ use Rattle.raw_events.specs.Recording.{Answers, line_len, lines_of, recorded}
 use Rattle.raw_events.specs.Pieces.{Place, Reader, still, with_events}
 use Rattle.device_reader.specs.Cooked.{DevicePlan}
 use Rattle.recording_counts.specs.Lines.{AreRead}
-use Rattle.recording_counts.specs.LineTally.{LineCountsStandFor, LineTallyStandsFor, TallyState as LinesState}
+use Rattle.recording_counts.specs.LineTally.{LineCountsStandFor, LineTallyStandsFor, LinesState}
 use Rattle.recording_counts.specs.EventTally.{EventTallyStandsFor, EventsState}
 
 -- what contracts see of a tally: where its reader stands, and the counts of lines and of events

@@ -25,9 +25,9 @@ pub struct LineTally {
 
 impl Model for LineTally {
     ghost use Rattle.raw_events.specs.Line.{known};
-    ghost use Rattle.recording_counts.specs.LineTally.{TallyState};
+    ghost use Rattle.recording_counts.specs.LineTally.{LinesState};
 
-    ghost Value = { TallyState };
+    ghost Value = { LinesState };
 
     ghost view = { λ t. record { devices = known t.devices.items; begun = t.begun.items; counts = t.counts } };
 }

@@ -9,7 +9,7 @@ use crate::number::risen_if;
 use std::alloc::{AllocError, Global};
 use std::marker::Model;
 
-/// How many paths are sent.
+/// How many paths are listed.
 const MOST: usize = 8;
 
 /// The first eight different paths of lines whose device is not in the session, and how many lines have each.

@@ -30,7 +30,7 @@ LendsNames told lends (Some (compare want got us pixels)) = IsTrue (lends want) 
 LendsNames told lends (Some (inspect files)) = IsTrue (lends files.session) × (IsAccepted told files.session → IsTrue (lends files.events))
 LendsNames told lends (Some (why files)) = IsTrue (lends files.session) × (IsAccepted told files.session → IsTrue (lends files.events))
 
--- What the program was asked: its words, the files where they are sent, and the log of the readings and the count of faults of the
+-- What the program was asked: its words, what the files hold where that is known, and the log of the readings and the count of faults of the
 -- files, before and now.
 pub record Asked : Type 0 where
   pub words : List (List ℕ)
@@ -54,7 +54,7 @@ files_in (Some command) = files_of command
 abbrev pub ReadsInTurn : Asked → (List Reading → Type 0) → Type 0
 ReadsInTurn q Holds = Logged q.told q.before q.now (files_in (form_of q.words)) Holds
 
--- This is what the program answers to the words, by what was read of their files; and by the files, where they are sent.
+-- This is what the program answers to the words, by what was read of their files; and by what the files hold, where that is known.
 abbrev pub ComesTo : Asked → Answer → Type 0
 ComesTo q a = ReadsInTurn q (λ readings. IsAnswer (by_log readings) q.words a) × IfTold q.told (λ entries. IsAnswer (by_name entries) q.words a)
 

@@ -5,13 +5,13 @@ use Rattle.raw_events.specs.Line.{Known, known}
 use Rattle.raw_events.specs.Pieces.{last_line, parts}
 use Rattle.raw_events.specs.Recording.{lines_of}
 use Rattle.device_reader.proofs.All.{on_ok}
-use Rattle.recording_counts.specs.LineTally.{LineCountsStandFor, TallyState, LineTallyStandsFor}
+use Rattle.recording_counts.specs.LineTally.{LineCountsStandFor, LinesState, LineTallyStandsFor}
 use Rattle.recording_counts.proofs.Joining.{all_lines}
 use Rattle.recording_counts.proofs.line_tally.LineTally.finish.Goals as goal
 
 pub returns : goal.returns
 returns c = λ devices bytes h.
-    let s = subst (λ (t : TallyState). LineTallyStandsFor devices bytes t) (sym c.self.view_is) h in
+    let s = subst (λ (t : LinesState). LineTallyStandsFor devices bytes t) (sym c.self.view_is) h in
     let lent = ap known c.deref.ensures.value ∙ s.devices_are in
     on_ok c.count_last.result
     (λ l. subst (λ (d : Known). LineCountsStandFor d (reverse (lines_of bytes)) c.count_last.new.counts) lent
