@@ -5,7 +5,7 @@ use Rattle.std.proofs.lemmas.Bool.{lt-leb, le-leb, leb-true, eqb-false, eqb-true
 use Rattle.std.proofs.lemmas.Option.{same_Some, none-some}
 use Rattle.std.specs.Fmt.{decimal, signed_decimal}
 use Rattle.std.proofs.lemmas.Fmt.{decimal_digit, decimal_is_IsNumeral, first_decimal, decimal-digits_value}
-use Rattle.std.proofs.lemmas.Str.Parse.{numerals_by_value, sends_digits}
+use Rattle.std.proofs.lemmas.Str.Parse.{numerals_by_value, tells_digits}
 use Rattle.std.specs.Char.{is_ascii_digit}
 use Rattle.std.proofs.Math.Dec.{eqb, leb}
 use Rattle.std.specs.Char.{digit_value}
@@ -132,7 +132,7 @@ digit_read max n b bs rest w digit other h =
     let value : digits_value 10 (b ∷ ds) ≡ n = ap (λ k. digits_value_after 10 k ds) (sym first) ∙ ap (λ p. p.0) parts in
     let within : n ≤ max = omega (arith, small, ap (λ p. p.0) same) in
     let again : decimal (digits_value 10 (b ∷ ds)) ≡ b ∷ ds =
-    decimal-digits_value (numerals_by_value (AllDigits 10) sends_digits) (b ∷ ds) (below, all) (omega arith) (λ e. absurd (eqb-false b 48 other e)) (omega (arith, value, within)) in
+    decimal-digits_value (numerals_by_value (AllDigits 10) tells_digits) (b ∷ ds) (below, all) (omega arith) (λ e. absurd (eqb-false b 48 other e)) (omega (arith, value, within)) in
     (ap (λ t. b ∷ t) split ∙ ap (λ t. t ++ behind) (sym again ∙ ap decimal value) ∙ ap (λ p. decimal n ++ p.1) parts, within)
 
 zero_read : (max n b : ℕ) (bs rest : List ℕ) → eqb b 48 ≡ true → ◌≡◌ {A = Option (ℕ × List ℕ)} (Some (0, bs)) (Some (n, rest)) → (b ∷ bs ≡ decimal n ++ rest) × (n ≤ max)

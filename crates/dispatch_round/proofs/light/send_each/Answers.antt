@@ -14,7 +14,7 @@ loop-rest-preserved c =
     let k = c.first_of-window.result in
     let has = c.first_of-window.ensures.has in
     let is = c.loop-rest.invariant.0 k has in
-    let within : k - 1 < length c.args.origins.now = omega (arith, c.first_of-window.ensures.from, c.first_of-window.ensures.to, c.sent-origins) in
+    let within : k - 1 < length c.args.origins.now = omega (arith, c.first_of-window.ensures.from, c.first_of-window.ensures.to, c.told-origins) in
     rw c.without-rest.ensures (
       rest_within c.args.outgoing c.loop-rest.rest k has c.loop-rest.invariant.0,
       each_next c.args.round.now c.args.touches.now None c.args.outgoing c.loop-rest.rest k _ c.args.origins.now c.args.clock c.args.channels.now c.loop-rest.channels c.send_one.new.channels

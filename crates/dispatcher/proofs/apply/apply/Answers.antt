@@ -23,8 +23,8 @@ returns-in-Finish-clause-ok c =
 
 pub returns-in-Pump-clause-ok : goal.returns-in-Pump-clause-ok
 returns-in-Pump-clause-ok c =
-    answers_if c.args.call.now c.sent-in-Pump.result c.args.tables.now c.pump.new.tables
-    (subst (λ r. IfOk r (λ answer. GoesOn c.args.call.now answer c.args.tables.now c.pump.new.tables)) (sym c.sent-in-Pump.ensures)
+    answers_if c.args.call.now c.outgoing-in-Pump.result c.args.tables.now c.pump.new.tables
+    (subst (λ r. IfOk r (λ answer. GoesOn c.args.call.now answer c.args.tables.now c.pump.new.tables)) (sym c.outgoing-in-Pump.ensures)
     (sent_ok _ c.pump.result
     (subst (λ call. IfOk c.pump.result (λ answer. GoesOn call (reply_of answer) c.args.tables.now c.pump.new.tables)) (sym c.in-Pump.is) c.pump.ensures.ok)))
 

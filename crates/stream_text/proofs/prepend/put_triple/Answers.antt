@@ -11,7 +11,7 @@ returns-clause-three c =
     let end = c.args.end in
     let behind : end - 3 + 3 ≡ end = omega arith in
     rw (
-      four_put c.args.line.now (end - 4) (end - 3) (end - 4 + 1) (end - 4 + 2) (end - 4 + 3) _ _ _ _ (omega arith) (omega arith) (omega arith) (omega arith) (omega (arith, c.sent-line)),
+      four_put c.args.line.now (end - 4) (end - 3) (end - 4 + 1) (end - 4 + 2) (end - 4 + 3) _ _ _ _ (omega arith) (omega arith) (omega arith) (omega arith) (omega (arith, c.told-line)),
       hundreds,
       tens,
       ones,

@@ -12,5 +12,5 @@ returns-clause-holds c =
       omega arith,
       c.prepend_pointers-at.ensures.written
           ∙ ap (λ ps. pointers ps ++ drop word.result word.new.line) c.as_slice.ensures.value
-          ∙ ap (λ t. pointers c.args.list.now ++ t) (newline_put word.new.line c.args.line.now word.result c.sent-line word.ensures.written),
+          ∙ ap (λ t. pointers c.args.list.now ++ t) (newline_put word.new.line c.args.line.now word.result c.told-line word.ensures.written),
     )

@@ -5,4 +5,4 @@ pub returns-clause-holds : goal.returns-clause-holds
 returns-clause-holds c =
     let word = c.prepend_word in
     none_held word.new.line c.none.result.list word.result c.none.result.at c.none.ensures.list c.none.ensures.at word.ensures.within
-    (newline_put word.new.line c.args.line.now word.result c.sent-line word.ensures.written)
+    (newline_put word.new.line c.args.line.now word.result c.told-line word.ensures.written)
