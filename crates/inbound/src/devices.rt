@@ -70,7 +70,7 @@ fn untouched(alloc: Global) -> Result<Vec<DeviceDown>, AllocError>
 }
 
 /// The device that some args are of.
-fn device_of(args: &Args) -> DeviceId
+pub fn device_of(args: &Args) -> DeviceId
     ensures { result ≡ device_of args.now }
 {
     match args {

@@ -39,5 +39,5 @@ pub mod laws;
 mod queue;
 
 pub use change::{Becomes, Change, Inconsistent};
-pub use devices::DevicesDown;
+pub use devices::{DevicesDown, device_of};
 pub use queue::Inbound;

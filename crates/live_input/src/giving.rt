@@ -15,6 +15,7 @@ ghost use Rattle.live_input.specs.Standing.{LiveIs};
 use crate::live::Live;
 use crate::refused::ArgsRefused;
 use dispatch_calls::{Call, Reply};
+use inbound::device_of;
 use input_types::{Args, DeviceId, Moment};
 use raw_events::RawEvent;
 use std::alloc::AllocError;
@@ -178,17 +179,6 @@ fn drop_first(args: &mut Vec<Args>)
 {
     if !args.as_slice().is_empty() {
         args.remove(0);
-    }
-}
-
-/// The device that some args are of.
-fn device_of(args: &Args) -> DeviceId
-    ensures { result ≡ device_of args.now }
-{
-    match args {
-        Args::Motion(motion) => motion.device,
-        Args::Key(key) => key.device,
-        Args::Reset(device) => *device,
     }
 }
 

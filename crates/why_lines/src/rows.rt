@@ -54,7 +54,7 @@ pub(crate) fn rows_of(touches: &Touches) -> [[Bits32; 8]; 64]
     rows
 }
 
-/// The set without a number, where that is sent to go.
+/// The set, and where `goes` says so, without a number.
 fn less_one(set: Bits32, id: u8, goes: bool) -> Bits32
     requires { id < 32 }
     ensures { (i : ℕ) → is_in i result ≡ (if goes then not (i == id) && is_in i set else is_in i set) }
