@@ -1,5 +1,5 @@
 -- A stream file that is judged line by line is judged as its streams are.
-use Rattle.std.proofs.Common.{◌≡◌, ℕ, suc, ◌+◌, ◌<◌, ◌≤◌, ◌==◌, ◌&&◌, Bool, true, false, if◌then◌else◌, List, ◌∷◌, length, Option, Some, None, Result, Ok, Err, ap, sym, ◌∙◌, refl, arith, []}
+use Rattle.std.proofs.Common.{◌≡◌, ℕ, suc, ◌+◌, ◌<◌, ◌==◌, ◌&&◌, Bool, true, false, if◌then◌else◌, List, ◌∷◌, length, Option, Some, None, Result, Ok, Err, ap, sym, ◌∙◌, refl, arith, []}
 use Rattle.std.specs.Option.{option_or}
 use Rattle.input_types.specs.declared.message.Message.{Message as Told}
 use Rattle.input_types.specs.StreamRule.{is_well_formed}
@@ -12,9 +12,11 @@ use Rattle.text_lines.specs.Lines.{Line, lines_of}
 use Rattle.stream_text.specs.StreamLine.{line_of}
 use Rattle.stream_text.specs.StreamFile.{Event, follow, may_end, told, with_event, numbered_line, events_from, events_behind, events_of, messages_of, streams_of, streams_in, next_line, Unread, Goes}
 use Rattle.stream_text.specs.OrderText.{order_passed}
-use Rattle.command_answers.specs.Verify.{messages_in, judged, verdict}
+use Rattle.command_answers.specs.Verify.{judged, verdict}
 use Rattle.stream_judge.specs.Breaks.{break_from, first_break}
-use Rattle.command_answers.specs.Judging.{sent_after, break_at, channels_at, messages_at, Known, Judges, breaks, channels_left, messages_left, judged_on}
+use Rattle.stream_judge.specs.Sections.{messages_at, messages_in, messages_left, sections_at, sections_left, sent_after}
+use Rattle.stream_judge.proofs.Sections.{or_again}
+use Rattle.command_answers.specs.Judging.{break_at, Known, Judges, breaks, judged_on}
 
 -- The lines that are left say of their streams what the streams say: behind these messages of the section that is open, or behind none.
 record Ties (found by_lines : Option ℕ) (messages by_line : ℕ) (channels sections : ℕ) : Type 0 where
@@ -23,12 +25,12 @@ record Ties (found by_lines : Option ℕ) (messages by_line : ℕ) (channels sec
   channels_are : sections ≡ channels
 
 abbrev Outside : List Told → List Event → Type 0
-Outside past es = Ties (first_break (streams_of es)) (breaks past es) (messages_in (streams_of es)) (messages_left es) (length (streams_of es)) (channels_left es)
+Outside past es = Ties (first_break (streams_of es)) (breaks past es) (messages_in (streams_of es)) (messages_left es) (length (streams_of es)) (sections_left es)
 
 abbrev Inside : List Told → ℕ → List Event → Type 0
 Inside past n es =
     Ties (option_or (break_from n past (messages_of es)) (first_break (streams_of es))) (breaks past es)
-    (length (messages_of es) + messages_in (streams_of es)) (messages_left es) (length (streams_of es)) (channels_left es)
+    (length (messages_of es) + messages_in (streams_of es)) (messages_left es) (length (streams_of es)) (sections_left es)
 
 abbrev TiesAt : Place → List Told → ℕ → List Event → Type 0
 TiesAt Between past n es = Outside past es
@@ -44,7 +46,7 @@ begins : (past : List Told) (n id : ℕ) (r : Result (List Event) ℕ) → TiesO
 begins past n id (Err bad) h = tt
 begins past n id (Ok es) h =
     let m : 0 + messages_left es ≡ length (messages_of es) + messages_in (streams_of es) = omega (arith, h.messages_are)
-    in let c : 1 + channels_left es ≡ suc (length (streams_of es)) = omega (arith, h.channels_are)
+    in let c : 1 + sections_left es ≡ suc (length (streams_of es)) = omega (arith, h.channels_are)
     in record { breaks_are = h.breaks_are; messages_are = m; channels_are = c }
 
 -- a naming, the first one or another
@@ -52,14 +54,14 @@ first_anr : (past : List Told) (n clock id seq : ℕ) (r : Result (List Event) �
 first_anr past n clock id seq (Err bad) h = tt
 first_anr past n clock id seq (Ok es) h =
     let m : 0 + messages_left es ≡ messages_in (streams_of es) = omega (arith, h.messages_are)
-    in let c : 0 + channels_left es ≡ length (streams_of es) = omega (arith, h.channels_are)
+    in let c : 0 + sections_left es ≡ length (streams_of es) = omega (arith, h.channels_are)
     in record { breaks_are = h.breaks_are; messages_are = m; channels_are = c }
 
 names : (past : List Told) (n clock id seq : ℕ) (r : Result (List Event) ℕ) → TiesOf Anrs past (n + 1) r → TiesOf Anrs past n (with_event (n, Anr clock id seq) r)
 names past n clock id seq (Err bad) h = tt
 names past n clock id seq (Ok es) h =
     let m : 0 + messages_left es ≡ messages_in (streams_of es) = omega (arith, h.messages_are)
-    in let c : 0 + channels_left es ≡ length (streams_of es) = omega (arith, h.channels_are)
+    in let c : 0 + sections_left es ≡ length (streams_of es) = omega (arith, h.channels_are)
     in record { breaks_are = h.breaks_are; messages_are = m; channels_are = c }
 
 -- a message, which may come or not
@@ -75,7 +77,7 @@ sends past n id count m (Ok es) h =
     let b : breaks past ((n, Message m) ∷ es) ≡ option_or (break_from n past (m ∷ messages_of es)) (first_break (streams_of es)) =
     one_break n (is_well_formed (m ∷ past)) (breaks (m ∷ past) es) (break_from (n + 1) (m ∷ past) (messages_of es)) (first_break (streams_of es)) h.breaks_are
     in let k : 1 + messages_left es ≡ suc (length (messages_of es)) + messages_in (streams_of es) = omega (arith, h.messages_are)
-    in let c : 0 + channels_left es ≡ length (streams_of es) = omega (arith, h.channels_are)
+    in let c : 0 + sections_left es ≡ length (streams_of es) = omega (arith, h.channels_are)
     in record { breaks_are = b; messages_are = k; channels_are = c }
 
 -- a section ends
@@ -84,7 +86,7 @@ ends : (past : List Told) (n id count e sent received finished : ℕ) (r : Resul
 ends past n id count e sent received finished (Err bad) h = tt
 ends past n id count e sent received finished (Ok es) h =
     let m : 0 + messages_left es ≡ 0 + messages_in (streams_of es) = omega (arith, h.messages_are)
-    in let c : 0 + channels_left es ≡ length (streams_of es) = omega (arith, h.channels_are)
+    in let c : 0 + sections_left es ≡ length (streams_of es) = omega (arith, h.channels_are)
     in record { breaks_are = h.breaks_are; messages_are = m; channels_are = c }
 
 -- the lines from here on
@@ -150,7 +152,7 @@ judged_lines : (j : Known) → IsFresh j → (r : Result (List Event) ℕ) → T
 judged_lines j fresh (Err bad) h = refl
 judged_lines j fresh (Ok es) h =
     let b : option_or j.broken (breaks [] es) ≡ first_break (streams_of es) = rw fresh.none h.breaks_are
-    in let c : j.channels + channels_left es ≡ length (streams_of es) = omega (arith, fresh.channels, h.channels_are)
+    in let c : j.channels + sections_left es ≡ length (streams_of es) = omega (arith, fresh.channels, h.channels_are)
     in let m : j.messages + messages_left es ≡ messages_in (streams_of es) = omega (arith, fresh.messages, h.messages_are)
     in rw (b, c, m) refl
 
@@ -164,17 +166,13 @@ unfolding events_of
 at_start j bytes fresh = judged_front j fresh (order_passed (lines_of bytes))
 
 -- one line more
-or_again : (a b c : Option ℕ) → option_or (option_or a b) c ≡ option_or a (option_or b c)
-or_again None b c = refl
-or_again (Some x) b c = refl
-
 pub after_line : (past : List Told) (n : ℕ) (line : StreamLine) (old new : Known) (r : Result (List Event) ℕ) → Judges past n line old new
     → judged_on old past (with_event (n, line) r) ≡ judged_on new (sent_after past line) r
 after_line past n line old new (Err bad) h = refl
 after_line past n line old new (Ok es) h =
     let b : option_or old.broken (option_or (break_at past n line) (breaks (sent_after past line) es)) ≡ option_or new.broken (breaks (sent_after past line) es) =
     sym (or_again old.broken (break_at past n line) (breaks (sent_after past line) es)) ∙ ap (λ o. option_or o (breaks (sent_after past line) es)) (sym h.broken)
-    in let c : old.channels + (channels_at line + channels_left es) ≡ new.channels + channels_left es = omega (arith, h.channels)
+    in let c : old.channels + (sections_at line + sections_left es) ≡ new.channels + sections_left es = omega (arith, h.channels)
     in let m : old.messages + (messages_at line + messages_left es) ≡ new.messages + messages_left es = omega (arith, h.messages)
     in rw (b, c, m) refl
 
@@ -182,16 +180,3 @@ after_line past n line old new (Ok es) h =
 pub one_read : (old new : Unread) (o : Option ℕ) (n : ℕ) (line : StreamLine) → o ≡ Some n → Goes old (next_line (Ok o) line) new
     → (old.events ≡ with_event (n, line) new.events) × (new.left < old.left)
 one_read old new o n line is goes = rw is at goes
-
--- a line is of one channel at most, and is one message at most
-pub one_channel : (line : StreamLine) → channels_at line ≤ 1
-one_channel (Channel id) = omega arith
-one_channel (Message m) = omega arith
-one_channel (End id sent received finished) = omega arith
-one_channel (Anr clock id seq) = omega arith
-
-pub one_message : (line : StreamLine) → messages_at line ≤ 1
-one_message (Channel id) = omega arith
-one_message (Message m) = omega arith
-one_message (End id sent received finished) = omega arith
-one_message (Anr clock id seq) = omega arith

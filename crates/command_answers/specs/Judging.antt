@@ -7,15 +7,9 @@ use Rattle.gesture_verifier.specs.Told.{Told as Tables, VerifierStandsFor}
 use Rattle.stream_text.specs.declared.stream_line.StreamLine.{StreamLine}
 use Rattle.stream_text.specs.declared.stream_line.StreamLine.TheVariants.{Channel, Message, End, Anr}
 use Rattle.stream_text.specs.StreamFile.{Event}
+use Rattle.stream_judge.specs.Sections.{messages_at, messages_left, sections_at, sections_left, sent_after}
 use Rattle.command_files.specs.Refused.{Refused, bad_stream_line}
 use Rattle.command_answers.specs.Verify.{said}
-
--- the messages of the open section behind a line, the newest first
-abbrev pub sent_after : List Told → StreamLine → List Told
-sent_after past (Channel id) = []
-sent_after past (Message m) = m ∷ past
-sent_after past (End id sent received finished) = past
-sent_after past (Anr clock id seq) = past
 
 -- the number of a line, where its message may not come behind those of its section
 abbrev pub break_at : List Told → ℕ → StreamLine → Option ℕ
@@ -23,20 +17,6 @@ break_at past n (Channel id) = None
 break_at past n (Message m) = if is_well_formed (m ∷ past) then None else Some n
 break_at past n (End id sent received finished) = None
 break_at past n (Anr clock id seq) = None
-
--- how many sections a line begins
-abbrev pub channels_at : StreamLine → ℕ
-channels_at (Channel id) = 1
-channels_at (Message m) = 0
-channels_at (End id sent received finished) = 0
-channels_at (Anr clock id seq) = 0
-
--- how many messages a line tells
-abbrev pub messages_at : StreamLine → ℕ
-messages_at (Channel id) = 0
-messages_at (Message m) = 1
-messages_at (End id sent received finished) = 0
-messages_at (Anr clock id seq) = 0
 
 -- what a judge knows: the tables of the open section, the line of the first break, and how many channels and messages there were
 pub record Known : Type 0 where
@@ -53,7 +33,7 @@ Knows past j = j.broken ≡ None → VerifierStandsFor past j.tables
 pub record Judges (past : List Told) (n : ℕ) (line : StreamLine) (old new : Known) : Type 0 where
   pub knows : Knows (sent_after past line) new
   pub broken : new.broken ≡ option_or old.broken (break_at past n line)
-  pub channels : new.channels ≡ old.channels + channels_at line
+  pub channels : new.channels ≡ old.channels + sections_at line
   pub messages : new.messages ≡ old.messages + messages_at line
 
 -- the line of the first break of the lines that are left
@@ -61,17 +41,7 @@ abbrev pub breaks : List Told → List Event → Option ℕ
 breaks past [] = None
 breaks past (e ∷ es) = option_or (break_at past e.0 e.1) (breaks (sent_after past e.1) es)
 
--- how many sections these lines begin
-abbrev pub channels_left : List Event → ℕ
-channels_left [] = 0
-channels_left (e ∷ es) = channels_at e.1 + channels_left es
-
--- how many messages these lines tell
-abbrev pub messages_left : List Event → ℕ
-messages_left [] = 0
-messages_left (e ∷ es) = messages_at e.1 + messages_left es
-
 -- what is said, with what is known and with the lines that are left
 abbrev pub judged_on : Known → List Told → Result (List Event) ℕ → Result (List ℕ) Refused
 judged_on j past (Err bad) = Err (bad_stream_line bad)
-judged_on j past (Ok es) = said (option_or j.broken (breaks past es)) (j.channels + channels_left es) (j.messages + messages_left es)
+judged_on j past (Ok es) = said (option_or j.broken (breaks past es)) (j.channels + sections_left es) (j.messages + messages_left es)

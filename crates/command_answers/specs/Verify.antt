@@ -1,15 +1,11 @@
 -- What `verify` says of a stream file.
-use Rattle.std.specs.Prelude.{◌≡◌, codes, ℕ, ◌+◌, List, ◌∷◌, ◌++◌, length, Option, Some, None, Result, Ok, Err, []}
+use Rattle.std.specs.Prelude.{◌≡◌, codes, ℕ, ◌+◌, List, ◌++◌, length, Option, Some, None, Result, Ok, Err}
 use Rattle.std.specs.Fmt.{decimal}
 use Rattle.stream_text.specs.StreamFile.{Stream, events_of, streams_in}
 use Rattle.command_files.specs.Refused.{Refused, bad_stream_line, not_well_formed}
 use Rattle.stream_judge.specs.Breaks.{first_break}
+use Rattle.stream_judge.specs.Sections.{messages_in}
 use Rattle.command_files.specs.Judged.{Answer}
-
--- how many messages these streams have
-abbrev pub messages_in : List Stream → ℕ
-messages_in [] = 0
-messages_in (s ∷ ss) = length s.messages + messages_in ss
 
 -- what is said of streams: how many channels and messages they have, or the line of the first message that may not come where it stands
 abbrev pub said : Option ℕ → ℕ → ℕ → Result (List ℕ) Refused

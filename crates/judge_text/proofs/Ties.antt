@@ -1,12 +1,14 @@
 -- A stream file that is judged line by line is judged as its streams are.
-use Rattle.std.proofs.Common.{◌≡◌, ℕ, suc, ◌+◌, ◌<◌, ◌≤◌, ◌==◌, ◌&&◌, Bool, true, false, if◌then◌else◌, List, [], ◌∷◌, ◌++◌, length, Option, Some, None, Result, Ok, Err, refl, sym, ap, ◌∙◌, arith, append_assoc}
+use Rattle.std.proofs.Common.{◌≡◌, ℕ, suc, ◌+◌, ◌<◌, ◌==◌, ◌&&◌, Bool, true, false, if◌then◌else◌, List, [], ◌∷◌, ◌++◌, length, Option, Some, None, Result, Ok, Err, refl, sym, ap, ◌∙◌, arith, append_assoc}
 use Rattle.std.proofs.lemmas.Bool.{eqb-true}
 use Rattle.std.specs.Option.{option_map, option_or}
 use Rattle.input_types.specs.declared.message.Message.{Message as Told}
 use Rattle.gesture_verifier.specs.declared.reason.Reason.{Reason}
 use Rattle.stream_judge.specs.Breaks.{past_from}
 use Rattle.stream_judge.specs.Placed.{ArePlaced, Places}
+use Rattle.stream_judge.specs.Sections.{messages_at, messages_in, messages_left, sections_at, sections_left, sent_after}
 use Rattle.stream_judge.proofs.Placed.{placed_of}
+use Rattle.stream_judge.proofs.Sections.{or_again}
 use Rattle.stream_text.specs.declared.stream_line.StreamLine.{StreamLine}
 use Rattle.stream_text.specs.declared.stream_line.StreamLine.TheVariants.{Channel, Message, End, Anr}
 use Rattle.stream_text.specs.declared.stream_lines.Place.{Place}
@@ -14,8 +16,8 @@ use Rattle.stream_text.specs.declared.stream_lines.Place.TheVariants.{Between, S
 use Rattle.stream_text.specs.StreamFile.{Event, Goes, Unread, events_of, follow, messages_of, streams_in, streams_of, with_event}
 use Rattle.judge_text.specs.Broken.{broken_from, first_broken, reason_behind}
 use Rattle.judge_text.specs.Down.{Down, down_after}
-use Rattle.judge_text.specs.Judged.{answer, first_left_down, judged, judged_streams, messages_in, something, whole_line, whole_lines}
-use Rattle.judge_text.specs.Judging.{Known, Takes, broken_at, broken_left, down_at, down_left, judged_on, lines_at, lines_left, messages_at, messages_left, sections_at, sections_left, sent_after}
+use Rattle.judge_text.specs.Judged.{answer, first_left_down, judged, judged_streams, something, whole_line, whole_lines}
+use Rattle.judge_text.specs.Judging.{Known, Takes, broken_at, broken_left, down_at, down_left, judged_on, lines_at, lines_left}
 
 -- What lines from line n on say of their streams, behind these messages of the section that is open.
 record Ties (past : List Told) (es : List Event) (broken : Option (ℕ × Reason)) (down : Option (ℕ × Down)) (messages : ℕ) (lines : List ℕ) : Type 0 where
@@ -43,10 +45,6 @@ TiesAt Anrs past n es = Outside past es
 -- the lines behind one are tied
 abbrev Behind : ℕ → List Event → Type 0
 Behind n es = (next : Place) (past : List Told) → ArePlaced next (n + 1) es → TiesAt next past (n + 1) es
-
-or_again : {A : Type 0} (a b c : Option A) → option_or (option_or a b) c ≡ option_or a (option_or b c)
-or_again None b c = refl
-or_again (Some x) b c = refl
 
 begins : (past : List Told) (n id : ℕ) (es : List Event) → Inside id 0 [] (n + 1) es → Outside past ((n, Channel id) ∷ es)
 begins past n id es h = record {
@@ -194,16 +192,3 @@ after_line past n line old new (Ok es) h =
 -- the line that a reader answered, and one byte at least for it
 pub one_read : (old new : Unread) (o : Option Event) (e : Event) → o ≡ Some e → Goes old (Ok o) new → (old.events ≡ with_event e new.events) × (new.left < old.left)
 one_read old new o e is goes = rw is at goes
-
--- a line begins one section at most, and is one message at most
-pub one_section : (line : StreamLine) → sections_at line ≤ 1
-one_section (Channel id) = omega arith
-one_section (Message m) = omega arith
-one_section (End id sent received finished) = omega arith
-one_section (Anr clock id seq) = omega arith
-
-pub one_message : (line : StreamLine) → messages_at line ≤ 1
-one_message (Channel id) = omega arith
-one_message (Message m) = omega arith
-one_message (End id sent received finished) = omega arith
-one_message (Anr clock id seq) = omega arith

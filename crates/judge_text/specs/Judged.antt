@@ -5,6 +5,7 @@ use Rattle.std.specs.Option.{option_or}
 use Rattle.gesture_verifier.specs.declared.reason.Reason.{Reason}
 use Rattle.stream_text.specs.StreamFile.{Stream, events_of, streams_in}
 use Rattle.stream_judge.specs.Breaks.{past_of}
+use Rattle.stream_judge.specs.Sections.{messages_in}
 use Rattle.judge_text.specs.declared.error.JudgeError.{JudgeError}
 use Rattle.judge_text.specs.declared.error.JudgeError.TheVariants.{BadLine, Broken, StillDown, Nothing, Memory}
 use Rattle.judge_text.specs.Broken.{first_broken}
@@ -22,11 +23,6 @@ left_down s = something (s.first_line + length s.messages) (down_after (past_of 
 abbrev pub first_left_down : List Stream → Option (ℕ × Down)
 first_left_down [] = None
 first_left_down (s ∷ ss) = option_or (left_down s) (first_left_down ss)
-
--- how many messages these streams have
-abbrev pub messages_in : List Stream → ℕ
-messages_in [] = 0
-messages_in (s ∷ ss) = length s.messages + messages_in ss
 
 -- the line of a section that is whole: its channel, and how many messages it has
 unfoldable pub whole_line : ℕ → ℕ → List ℕ

@@ -1,24 +1,18 @@
 -- A stream file judged line by line.
-use Rattle.std.specs.Prelude.{◌≡◌, ℕ, ◌+◌, List, [], ◌∷◌, ◌++◌, Option, Some, None, Result, Ok, Err}
+use Rattle.std.specs.Prelude.{◌≡◌, ℕ, ◌+◌, List, [], ◌∷◌, ◌++◌, Option, None, Result, Ok, Err}
 use Rattle.std.specs.Option.{option_map, option_or}
 use Rattle.input_types.specs.declared.message.Message.{Message as Told}
 use Rattle.gesture_verifier.specs.declared.reason.Reason.{Reason}
 use Rattle.gesture_verifier.specs.Told.{Told as Tables, VerifierStandsFor}
 use Rattle.stream_text.specs.declared.stream_line.StreamLine.{StreamLine}
-use Rattle.stream_text.specs.declared.stream_line.StreamLine.TheVariants.{Channel, Message, End, Anr}
+use Rattle.stream_text.specs.declared.stream_line.StreamLine.TheVariants.{Message, End}
 use Rattle.stream_text.specs.StreamFile.{Event}
+use Rattle.stream_judge.specs.Sections.{messages_at, messages_left, sections_at, sections_left, sent_after}
 use Rattle.judge_text.specs.declared.error.JudgeError.{JudgeError}
 use Rattle.judge_text.specs.declared.error.JudgeError.TheVariants.{BadLine}
 use Rattle.judge_text.specs.Broken.{reason_behind}
 use Rattle.judge_text.specs.Down.{Down, down_after}
 use Rattle.judge_text.specs.Judged.{answer, something, whole_line}
-
--- the messages of the open section behind a line, the newest first
-abbrev pub sent_after : List Told → StreamLine → List Told
-sent_after past (Channel id) = []
-sent_after past (Message m) = m ∷ past
-sent_after past (End id sent received finished) = past
-sent_after past (Anr clock id seq) = past
 
 -- the number of a line, where its message may not come behind those of its section, and why
 abbrev pub broken_at : List Told → ℕ → StreamLine → Option (ℕ × Reason)
@@ -29,16 +23,6 @@ broken_at past n _ = None
 abbrev pub down_at : List Told → ℕ → StreamLine → Option (ℕ × Down)
 down_at past n (End id sent received finished) = something n (down_after past)
 down_at past n _ = None
-
--- how many sections a line begins
-abbrev pub sections_at : StreamLine → ℕ
-sections_at (Channel id) = 1
-sections_at _ = 0
-
--- how many messages a line tells
-abbrev pub messages_at : StreamLine → ℕ
-messages_at (Message m) = 1
-messages_at _ = 0
 
 -- what is written of a section at its end
 abbrev pub lines_at : StreamLine → List ℕ
@@ -54,16 +38,6 @@ broken_left past (e ∷ es) = option_or (broken_at past e.0 e.1) (broken_left (s
 abbrev pub down_left : List Told → List Event → Option (ℕ × Down)
 down_left past [] = None
 down_left past (e ∷ es) = option_or (down_at past e.0 e.1) (down_left (sent_after past e.1) es)
-
--- how many sections they begin
-abbrev pub sections_left : List Event → ℕ
-sections_left [] = 0
-sections_left (e ∷ es) = sections_at e.1 + sections_left es
-
--- how many messages they tell
-abbrev pub messages_left : List Event → ℕ
-messages_left [] = 0
-messages_left (e ∷ es) = messages_at e.1 + messages_left es
 
 -- what is written of them
 abbrev pub lines_left : List Event → List ℕ

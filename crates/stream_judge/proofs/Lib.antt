@@ -1,3 +1,4 @@
 pub mod Snoc
 pub mod Placed
 pub mod Spelled
+pub mod Sections

@@ -1,7 +1,9 @@
 -- One line more.
 use Rattle.std.proofs.Common.{◌≡◌, ◌∙◌, ap, sym, arith, Some, []}
-use Rattle.command_answers.specs.Judging.{judged_on, sent_after}
-use Rattle.command_answers.proofs.Ties.{IsFresh, after_line, at_start, one_channel, one_message, one_read}
+use Rattle.stream_judge.specs.Sections.{sent_after}
+use Rattle.stream_judge.proofs.Sections.{one_message, one_section}
+use Rattle.command_answers.specs.Judging.{judged_on}
+use Rattle.command_answers.proofs.Ties.{IsFresh, after_line, at_start, one_read}
 use Rattle.command_answers.proofs.verify.verdict_text.Goals as goal
 
 pub lines-init : goal.lines-init
@@ -29,6 +31,6 @@ lines-preserved c =
             ∙ ap (judged_on c.lines.judge past) (sym read.0)
             ∙ c.lines.invariant.known.2,
       );
-      channels = omega (arith, c.lines.invariant.channels, judges.channels, one_channel line, read.1);
+      channels = omega (arith, c.lines.invariant.channels, judges.channels, one_section line, read.1);
       messages = omega (arith, c.lines.invariant.messages, judges.messages, one_message line, read.1);
     }

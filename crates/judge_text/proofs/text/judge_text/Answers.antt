@@ -1,7 +1,9 @@
 -- One line more.
 use Rattle.std.proofs.Common.{◌≡◌, ◌∙◌, ap, sym, arith, [], Some}
-use Rattle.judge_text.specs.Judging.{judged_on, sent_after}
-use Rattle.judge_text.proofs.Ties.{IsFresh, after_line, at_start, one_message, one_read, one_section}
+use Rattle.stream_judge.specs.Sections.{sent_after}
+use Rattle.stream_judge.proofs.Sections.{one_message, one_section}
+use Rattle.judge_text.specs.Judging.{judged_on}
+use Rattle.judge_text.proofs.Ties.{IsFresh, after_line, at_start, one_read}
 use Rattle.judge_text.proofs.text.judge_text.Goals as goal
 
 pub lines-init : goal.lines-init
