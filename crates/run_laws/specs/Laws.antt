@@ -34,7 +34,3 @@ StepsHandNone = (plan : RunPlan) → IsRun plan → HandNone (plan_of plan).step
 -- A plan whose ordered run is within the limits has no rounds that are too long: it comes to one of both, never to both.
 abbrev pub OneOutcome : Type 0
 OneOutcome = (plan : Plan) (es fs : List Effect) → Ordered plan es → IsWithin es → Rounds plan fs → IsTooLong fs → ⊥
-
--- A plan has at most one ordered run.
-abbrev pub OneRun : Type 0
-OneRun = (plan : Plan) (es fs : List Effect) → Ordered plan es → Ordered plan fs → es ≡ fs

@@ -1,5 +1,6 @@
 //! What is proved of the runs of a plan. Each function has the laws as its clauses, and does nothing.
-ghost use Rattle.run_laws.specs.Laws.{GivenTakes, HandedKeep, OneOutcome, OneRun, OrderedTakes, StepsHandNone};
+ghost use Rattle.dispatch_history.specs.Laws.{OrderedUnique};
+ghost use Rattle.run_laws.specs.Laws.{GivenTakes, HandedKeep, OneOutcome, OrderedTakes, StepsHandNone};
 
 /// Where the args of a plan keep the rule of each device, none of them is refused in its runs.
 pub fn taking()
@@ -17,6 +18,6 @@ pub fn fitting()
 /// A plan comes to one answer: at most one ordered run, and where that is within the limits no rounds of it are too
 /// long.
 pub fn answering()
-    ensures run { OneRun }
+    ensures run { OrderedUnique }
     ensures outcome { OneOutcome }
 {}
