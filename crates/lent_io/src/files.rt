@@ -8,7 +8,7 @@ ghost use Rattle.lent_io.specs.Entries.{entry_of};
 ghost use Rattle.lent_io.specs.Lent.{LentReading, LentState, no_faults};
 
 use crate::file::LentFile;
-use outside_io::{FilesTrace, ReadingTrace, Failed, Files, Source, SourceRefused};
+use outside_io::{Failed, Files, FilesTrace, ReadingTrace, Source, SourceRefused};
 use std::marker::Model;
 
 /// Files in the memory of a caller. A name that none of them has is a fault.

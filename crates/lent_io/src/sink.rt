@@ -5,7 +5,7 @@ ghost use Rattle.outside_io.specs.Calls.{faults_after};
 ghost use Rattle.outside_io.specs.Outside.{Rose, wrote_on};
 ghost use Rattle.lent_io.specs.Lent.{TextState};
 
-use outside_io::{SinkTrace, Failed, Sink};
+use outside_io::{Failed, Sink, SinkTrace};
 use std::alloc::Global;
 use std::marker::Model;
 
