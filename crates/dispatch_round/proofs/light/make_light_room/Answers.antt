@@ -13,7 +13,7 @@ pub make_room_in-requires : goal.make_room_in-requires
 make_room_in-requires c =
     let k = c.first_of-window.result in
     let is = c.loop-rest.invariant.0 k c.first_of-window.ensures.has in
-    let high : k ≤ opened c.args.channels.now = c.hearers-sent.ensures.opened k is in
+    let high : k ≤ opened c.args.channels.now = c.hearers-outgoing.ensures.opened k is in
     (c.first_of-window.ensures.from, omega (arith, high, c.loop-rest.invariant.3))
 
 pub loop-rest-smaller : goal.loop-rest-smaller
@@ -35,21 +35,21 @@ loop-rest-preserved c =
       light_next c.args.round.now _ c.loop-rest.rest k t c.make_room_in.new.channels has made.room made.ok c.loop-rest.invariant.6,
     )
 
-pub returns-clause-sent : goal.returns-clause-sent
-returns-clause-sent c = record {
-  are = λ w. c.hearers-sent.ensures.are w ∙ ap (λ n. is_concerned c.args.touches.now c.args.round.now w && mask_has n w) (sym c.loop-rest.invariant.2);
-  opened = λ w has. let high : w ≤ opened c.args.channels.now = c.hearers-sent.ensures.opened w has in omega (arith, high, c.loop-rest.invariant.3);
+pub returns-clause-outgoing : goal.returns-clause-outgoing
+returns-clause-outgoing c = record {
+  are = λ w. c.hearers-outgoing.ensures.are w ∙ ap (λ n. is_concerned c.args.touches.now c.args.round.now w && mask_has n w) (sym c.loop-rest.invariant.2);
+  opened = λ w has. let high : w ≤ opened c.args.channels.now = c.hearers-outgoing.ensures.opened w has in omega (arith, high, c.loop-rest.invariant.3);
 }
 
 pub returns-clause-enough : goal.returns-clause-enough
 returns-clause-enough c w has =
-    let outgoing = c.hearers-sent.result in
+    let outgoing = c.hearers-outgoing.result in
     c.loop-rest.invariant.6 w (ap (λ n. reached outgoing n w) c.loop-rest-test.false ∙ all_reached outgoing w ∙ has)
 
 pub returns-in_err-make_room_in-clause-roomy : goal.returns-in_err-make_room_in-clause-roomy
 returns-in_err-make_room_in-clause-roomy c small ready =
     let k = c.first_of-window.result in
     let has = c.first_of-window.ensures.has in
-    let both = and_parts (is_concerned c.args.touches.now c.args.round.now k) _ (sym (c.hearers-sent.ensures.are k) ∙ c.loop-rest.invariant.0 k has) in
+    let both = and_parts (is_concerned c.args.touches.now c.args.round.now k) _ (sym (c.hearers-outgoing.ensures.are k) ∙ c.loop-rest.invariant.0 k has) in
     let now = more_light c.args.round.now c.args.channels.now c.loop-rest.channels k c.loop-rest.invariant.5 (ready k both.1) in
     absurd (true≢false (sym (c.in_err-make_room_in.ensures.roomy small now)))

@@ -16,8 +16,8 @@ send_each-requires-clause-live c w has = (and_parts (is_concerned c.args.touches
 pub returns-clause-changes : goal.returns-clause-changes
 returns-clause-changes c = still_rests c.args.touches.now c.args.round.now c.args.place c.requires.light c.rest.ensures
 
-pub returns-clause-sent : goal.returns-clause-sent
-returns-clause-sent c s e h holds =
+pub returns-clause-outgoing : goal.returns-clause-outgoing
+returns-clause-outgoing c s e h holds =
     let r = c.args.round.now in
     let ts = c.args.touches.now in
     let by : IsChanged ts ts r.mark None = record {

@@ -14,7 +14,7 @@ pub make_room_in-requires : goal.make_room_in-requires
 make_room_in-requires c =
     let k = c.first_of-window.result in
     let is = c.loop-rest.invariant.0 k c.first_of-window.ensures.has in
-    let high : k ≤ opened c.args.channels.now = c.listeners-sent.ensures.opened k is in
+    let high : k ≤ opened c.args.channels.now = c.listeners-outgoing.ensures.opened k is in
     (c.first_of-window.ensures.from, omega (arith, high, c.loop-rest.invariant.3))
 
 pub loop-rest-smaller : goal.loop-rest-smaller
@@ -26,7 +26,7 @@ loop-rest-preserved c =
     let t = c.loop-rest.channels in
     let has = c.first_of-window.ensures.has in
     let is = c.loop-rest.invariant.0 k has in
-    let was : k ≤ opened c.args.channels.now = c.listeners-sent.ensures.opened k is in
+    let was : k ≤ opened c.args.channels.now = c.listeners-outgoing.ensures.opened k is in
     let high : k ≤ opened t = omega (arith, was, c.loop-rest.invariant.3) in
     rw (c.without-rest.ensures, c.in_ok-make_room_in.ensures.ok) (
       rest_within _ c.loop-rest.rest k has c.loop-rest.invariant.0,
@@ -41,17 +41,17 @@ loop-rest-preserved c =
       few_next c.args.round.now c.args.channels.now t _ c.loop-rest.rest k has is c.loop-rest.invariant.6 c.in_ok-make_room_in.ensures.most c.loop-rest.invariant.8,
     )
 
-pub returns-clause-sent : goal.returns-clause-sent
-returns-clause-sent c = record {
-  are = λ w. c.listeners-sent.ensures.are w ∙ ap (λ n. is_concerned c.args.touches.now c.args.round.now w && mask_has n w) (sym c.loop-rest.invariant.2);
-  opened = λ w has. let high : w ≤ opened c.args.channels.now = c.listeners-sent.ensures.opened w has in omega (arith, high, c.loop-rest.invariant.3);
+pub returns-clause-outgoing : goal.returns-clause-outgoing
+returns-clause-outgoing c = record {
+  are = λ w. c.listeners-outgoing.ensures.are w ∙ ap (λ n. is_concerned c.args.touches.now c.args.round.now w && mask_has n w) (sym c.loop-rest.invariant.2);
+  opened = λ w has. let high : w ≤ opened c.args.channels.now = c.listeners-outgoing.ensures.opened w has in omega (arith, high, c.loop-rest.invariant.3);
 }
 
 pub returns-clause-ready : goal.returns-clause-ready
 returns-clause-ready c w live concerned =
-    let outgoing = c.listeners-sent.result in
+    let outgoing = c.listeners-outgoing.result in
     let is =
-    c.listeners-sent.ensures.are w
+    c.listeners-outgoing.ensures.are w
     ∙ and_from (is_concerned c.args.touches.now c.args.round.now w) _ concerned (ap (λ n. mask_has n w) (sym c.loop-rest.invariant.2) ∙ live) in
     made_enough c.args.round.now c.args.channels.now c.loop-rest.channels w
     (c.loop-rest.invariant.5 w (ap (λ n. reached outgoing n w) c.loop-rest-test.false ∙ all_reached outgoing w ∙ is))
@@ -59,7 +59,7 @@ returns-clause-ready c w live concerned =
 pub returns-clause-made : goal.returns-clause-made
 returns-clause-made c =
     makes_room c.args.round.now c.args.touches.now _ c.loop-rest.rest c.args.channels.now c.loop-rest.channels c.loop-rest-test.false
-    c.listeners-sent.ensures.are
+    c.listeners-outgoing.ensures.are
     c.loop-rest.invariant.5
     c.loop-rest.invariant.6
 
@@ -67,19 +67,19 @@ pub returns-in_err-make_room_in-clause-reserved : goal.returns-in_err-make_room_
 returns-in_err-make_room_in-clause-reserved c small ready =
     let k = c.first_of-window.result in
     let has = c.first_of-window.ensures.has in
-    let both = and_parts (is_concerned c.args.touches.now c.args.round.now k) _ (sym (c.listeners-sent.ensures.are k) ∙ c.loop-rest.invariant.0 k has) in
+    let both = and_parts (is_concerned c.args.touches.now c.args.round.now k) _ (sym (c.listeners-outgoing.ensures.are k) ∙ c.loop-rest.invariant.0 k has) in
     absurd (true≢false (sym (c.in_err-make_room_in.ensures.reserved small
     (still_room c.args.round.now c.args.channels.now c.loop-rest.channels k (c.loop-rest.invariant.6 k c.first_of-window.ensures.from (not_reached _ c.loop-rest.rest k has)) (ready k both.1 both.0)))))
 
 pub returns-in_err-make_room_in-clause-calm : goal.returns-in_err-make_room_in-clause-calm
 returns-in_err-make_room_in-clause-calm c none =
     let k = c.first_of-window.result in
-    let both = and_parts (is_concerned c.args.touches.now c.args.round.now k) _ (sym (c.listeners-sent.ensures.are k) ∙ c.loop-rest.invariant.0 k c.first_of-window.ensures.has) in
+    let both = and_parts (is_concerned c.args.touches.now c.args.round.now k) _ (sym (c.listeners-outgoing.ensures.are k) ∙ c.loop-rest.invariant.0 k c.first_of-window.ensures.has) in
     absurd (both_ways _ (none k) both.0)
 
 pub returns-clause-few : goal.returns-clause-few
 returns-clause-few c w has =
-    let outgoing = c.listeners-sent.result in
+    let outgoing = c.listeners-outgoing.result in
     let is = ap (λ n. reached outgoing n w) c.loop-rest-test.false ∙ all_reached outgoing w ∙ has in
     few_made c.args.round.now c.args.channels.now c.loop-rest.channels w (c.loop-rest.invariant.5 w is) (c.loop-rest.invariant.8 w is)
 
@@ -87,6 +87,6 @@ pub returns-in_err-make_room_in-clause-roomy : goal.returns-in_err-make_room_in-
 returns-in_err-make_room_in-clause-roomy c small ready =
     let k = c.first_of-window.result in
     let has = c.first_of-window.ensures.has in
-    let both = and_parts (is_concerned c.args.touches.now c.args.round.now k) _ (sym (c.listeners-sent.ensures.are k) ∙ c.loop-rest.invariant.0 k has) in
+    let both = and_parts (is_concerned c.args.touches.now c.args.round.now k) _ (sym (c.listeners-outgoing.ensures.are k) ∙ c.loop-rest.invariant.0 k has) in
     absurd (true≢false (sym (c.in_err-make_room_in.ensures.roomy small
     (still_most c.args.round.now c.args.channels.now c.loop-rest.channels k (c.loop-rest.invariant.6 k c.first_of-window.ensures.from (not_reached _ c.loop-rest.rest k has)) (ready k both.1 both.0)))))

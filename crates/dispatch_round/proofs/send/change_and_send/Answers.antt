@@ -1,5 +1,5 @@
 use Rattle.std.proofs.Common.{None}
 use Rattle.dispatch_round.proofs.send.change_and_send.Goals as goal
 
-pub returns-in_default-clause-sent : goal.returns-in_default-clause-sent
-returns-in_default-clause-sent c = record { losses = None; losses_are = tt; hears = c.send_each.ensures }
+pub returns-in_default-clause-outgoing : goal.returns-in_default-clause-outgoing
+returns-in_default-clause-outgoing c = record { losses = None; losses_are = tt; hears = c.send_each.ensures }

@@ -4,8 +4,8 @@ use Rattle.std.proofs.Common.{sym, subst}
 use Rattle.route_split.specs.Marking.{AreLosses}
 use Rattle.dispatch_round.proofs.send.pilfer_and_send.Goals as goal
 
-pub returns-clause-sent : goal.returns-clause-sent
-returns-clause-sent c = record {
+pub returns-clause-outgoing : goal.returns-clause-outgoing
+returns-clause-outgoing c = record {
   losses = option_copied c.as_ref.result;
   losses_are = subst (λ o. IfSome o (AreLosses c.args.touches.now c.args.round.now.mark)) (sym c.as_ref.ensures.value) c.change-losses.ensures.losses;
   hears = c.send_each.ensures;

@@ -17,8 +17,8 @@ change_and_send-requires-clause-room c w has =
     let both = and_parts (is_concerned c.args.touches.now c.args.round.now w) _ (sym (c.requires.outgoing.are w) ∙ has) in
     c.requires.ready w both.1 both.0
 
-pub returns-clause-sent : goal.returns-clause-sent
-returns-clause-sent c s e h holds =
+pub returns-clause-outgoing : goal.returns-clause-outgoing
+returns-clause-outgoing c s e h holds =
     let outgoing = c.change_and_send.ensures.outgoing in
     let by : IsChanged c.args.touches.now c.change_and_send.new.touches c.args.round.now.mark outgoing.losses = record {
       holds_are = λ w d i. (c.change_and_send.ensures.changes d).hold w i;
