@@ -15,7 +15,7 @@ returns-clause-made c =
     c.apply_unread.ensures.known
     c.apply_unread.ensures.err
 
-pub returns-clause-sent : goal.returns-clause-sent
-returns-clause-sent c es text st =
+pub returns-clause-outgoing : goal.returns-clause-outgoing
+returns-clause-outgoing c es text st =
     sends_of c.args.call.now c.apply_unread.result es text text c.args.dispatcher.now c.apply_unread.new.self st (returns-clause-made c)
     (returns-clause-known c es text (after_of es c.args.dispatcher.now st))

@@ -35,7 +35,7 @@ returns-clause-made c =
     c.apply_unread.ensures.known
     c.apply_unread.ensures.err
 
-pub returns-clause-sent : goal.returns-clause-sent
-returns-clause-sent c es st =
+pub returns-clause-outgoing : goal.returns-clause-outgoing
+returns-clause-outgoing c es st =
     sends_of (Pilfer c.args.now c.args.channel c.args.device) c.apply_unread.result es _ _ c.args.dispatcher.now c.apply_unread.new.self st (returns-clause-made c)
     (returns-clause-known c es (after_of es c.args.dispatcher.now st))

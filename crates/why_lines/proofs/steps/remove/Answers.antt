@@ -45,7 +45,7 @@ returns-clause-made c =
     c.in_ok-apply_unread.ensures.anrs
     c.in_ok-apply_unread.ensures.known
 
-pub returns-clause-sent : goal.returns-clause-sent
-returns-clause-sent c es st =
+pub returns-clause-outgoing : goal.returns-clause-outgoing
+returns-clause-outgoing c es st =
     sends_of (Remove c.args.now c.args.channel) c.add_changes.result es _ _ c.args.dispatcher.now c.apply_unread.new.self st (returns-clause-made c)
     (returns-clause-known c es (after_of es c.args.dispatcher.now st))
