@@ -1,4 +1,5 @@
 """Reports of a suite: TAP, JUnit XML as GitLab, Jenkins and the readers of pytest's reports take it, and reports that are joined."""
+import html
 import os
 import re
 import shutil
@@ -6,7 +7,6 @@ import sys
 import tempfile
 import time
 import xml.etree.ElementTree as ElementTree
-from xml.sax.saxutils import escape, quoteattr
 
 from .cases import Failed
 from .outcomes import Outcome
@@ -56,7 +56,7 @@ class Counts:
 
 def quote(text):
     """A text as an attribute, in one line."""
-    return quoteattr(NOT_XML.sub("?", text))
+    return '"%s"' % html.escape(NOT_XML.sub("?", text)).replace("\n", " ")
 
 
 class Junit:
@@ -76,7 +76,7 @@ class Junit:
         if not tag:
             self.cases.write(head + " />\n")
             return
-        text = escape(NOT_XML.sub("?", "\n".join(outcome.lines)))
+        text = html.escape(NOT_XML.sub("?", "\n".join(outcome.lines)), quote=False)
         inner = "<%s message=%s>%s</%s>" % (tag, quote(outcome.message), text, tag) if text else "<%s message=%s />" % (tag, quote(outcome.message))
         self.cases.write("%s>\n      %s\n    </testcase>\n" % (head, inner))
 
