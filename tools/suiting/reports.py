@@ -51,7 +51,7 @@ class Counts:
         parts = ["%d passed" % self.passed, "%d failed" % self.failed, "%d skipped" % self.skipped]
         parts[1:1] = ["of which %d accepted" % self.accepted] if self.accepted else []
         parts += ["%d not tried" % self.error] if self.error else []
-        return "%d cases: %s" % (self.total, ", ".join(parts))
+        return "%d case%s: %s" % (self.total, "s" * (self.total != 1), ", ".join(parts))
 
 
 def quote(text):
