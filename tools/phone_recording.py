@@ -10,7 +10,7 @@ import time
 
 import evdev_names as names
 from adb import reason
-from plain_ends import Refused, say
+from plain_ends import Refused, counted, say
 from recording_text import NO_MOMENT, begins_as_event, event_of
 
 GETEVENT = ["getevent", "-t", "-v39"]
@@ -40,7 +40,7 @@ class Lines:
 
     def progress(self):
         self.told = time.monotonic()
-        sys.stderr.write("\r\033[K%s: %d events, %d fingers" % (self.tool, self.events, self.fingers))
+        sys.stderr.write("\r\033[K%s: %s, %s" % (self.tool, counted(self.events, "event"), counted(self.fingers, "finger")))
         sys.stderr.flush()
 
     def line(self, line):
@@ -145,8 +145,8 @@ def tell(lines, cut, name):
         say(lines.tool, "%s: line %d begins as an event and is none; the program refuses it" % (name, number))
     for line in lines.denied:
         say(lines.tool, line.strip())
-    devices = "1 device" if len(lines.paths) == 1 else "%d devices" % len(lines.paths)
-    say(lines.tool, "%s has %d events of %s, with %d fingers" % (name, lines.events, devices, lines.fingers))
+    counts = [counted(lines.events, "event"), counted(len(lines.paths), "device"), counted(lines.fingers, "finger")]
+    say(lines.tool, "%s has %s of %s, with %s" % (name, *counts))
 
 
 def recorded(command, file, name, tool):

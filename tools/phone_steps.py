@@ -103,22 +103,26 @@ def lint(folder, program, said):
         said("lint finds nothing")
 
 
+def down(line, names):
+    """What a line of the causes says of a finger or a key that goes down, or None."""
+    finger = re.match(r"(\d+) down (\d+) (\d+) (\S+) .* row (\w+) chosen \S+ spies (\S+) .* given (\S+) mute", line)
+    key = re.match(r"(\d+) key (\d+) (\d+) down target \S+ given (\S+)", line)
+    if not (finger or key):
+        return None
+    moment = "%d.%06d s" % divmod(int((finger or key)[1]), 1000000)
+    if key:
+        return "%s: key %s goes to %s" % (moment, key[3], names.get(key[4], "nobody"))
+    spies, given = ([channel for channel in text.split(",") if channel != "-"] for text in (finger[6], finger[7]))
+    own = ", ".join(names.get(channel, channel) for channel in given if channel not in spies) or "nobody"
+    watch = ", ".join(names.get(channel, channel) for channel in given if channel in spies)
+    row = "%s: finger %s at %s goes to %s (row %s)" % (moment, finger[3], finger[4], own, finger[5])
+    return row + (", and is seen by %s" % watch if watch else "")
+
+
 def why(folder, said):
     """Which window was given each finger and key, by the causes, in the order in which they went down."""
     names = dict(re.findall(r"^channel (\d+) (\S+)$", "\n".join(folder.lines("streams.txt")), re.M))
-    rows = []
-    for line in folder.lines("causes.txt"):
-        finger = re.match(r"(\d+) down (\d+) (\d+) (\S+) .* row (\w+) chosen \S+ .* given (\S+) mute", line)
-        key = re.match(r"(\d+) key (\d+) (\d+) down target \S+ given (\S+)", line)
-        if finger:
-            what, given, row = "finger %s at %s" % (finger[3], finger[4]), finger[6], " (row %s)" % finger[5]
-        elif key:
-            what, given, row = "key %s" % key[3], key[4], ""
-        else:
-            continue
-        moment = divmod(int((finger or key)[1]), 1000000)
-        to = ", ".join(names.get(channel, channel) for channel in given.split(",")) if given != "-" else "nobody"
-        rows.append("%d.%06d s: %s goes to %s%s" % (*moment, what, to, row))
+    rows = [row for row in (down(line, names) for line in folder.lines("causes.txt")) if row]
     for row in rows[:SHOWN]:
         said(row)
     if len(rows) > SHOWN:
