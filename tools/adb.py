@@ -52,7 +52,7 @@ def phones(adb):
 
 
 def which(serials):
-    return "several phones are there; --serial names one of them: %s" % ", ".join(serials)
+    return "several phones are connected; choose one with --serial: %s" % ", ".join(serials)
 
 
 def command(serial=None):
@@ -63,7 +63,7 @@ def command(serial=None):
     ready = [other for other, state in listed if state == "device"]
     if serial:
         if serial not in ready:
-            raise Refused("no phone %s is there%s" % (serial, "; there is %s" % ", ".join(ready) if ready else ""))
+            raise Refused("phone %s is not connected%s" % (serial, "; connected: %s" % ", ".join(ready) if ready else ""))
         return [adb, "-s", serial]
     if len(ready) > 1:
         raise Refused(which(ready))

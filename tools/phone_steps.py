@@ -1,4 +1,4 @@
-"""The steps of tools/phone behind the recording, each of which leaves a file in its folder."""
+"""The steps of tools/phone after the recording. Each leaves a file in the folder."""
 import os
 import re
 import subprocess
@@ -68,9 +68,9 @@ def program(given, said):
 
 
 def session(folder, said):
-    """The session, of the recording and the dump. One that is there stays."""
+    """The session, from the recording and the dump. An existing one is kept."""
     if folder.has("session.toml"):
-        said("%s is there, and stays as it is" % folder.name("session.toml"))
+        said("%s exists and is kept" % folder.name("session.toml"))
         return
     words = [sys.executable, os.path.join(TOOLS, "session"), "--getevent", folder.name("recording.txt")]
     words += ["--dumpsys", folder.name("dump.txt")] if folder.has("dump.txt") else []
@@ -81,7 +81,7 @@ def session(folder, said):
     if folder.has("dump.txt") and folder.has("dump_end.txt"):
         first, last = (shown(dump_of(folder.lines(name))) for name in ("dump.txt", "dump_end.txt"))
         if first != last:
-            said("the windows or displays changed while it was recorded; the session has those of %s" % folder.name("dump.txt"))
+            said("windows or displays changed during the recording; the session has those of %s" % folder.name("dump.txt"))
 
 
 def shown(dump):

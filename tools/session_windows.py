@@ -158,8 +158,8 @@ def shown_windows(dump, displays, causes):
 
 
 def mark_unreachable(shown, displays):
-    """Marks windows that no finger can reach, since nothing of them is on their display or all of it lies behind others, as ones that
-    are not touchable: that is what they are, and a reader of the session sees that it is meant."""
+    """Marks windows that no finger can reach as not touchable: those off their display, and those wholly behind others. Nothing is
+    routed in another way, and the session shows that this is meant."""
     covers = collections.defaultdict(list)
     sizes = {place: displays.whole(display)[2:] for display, place in displays.place.items()}
     for window in shown:
@@ -240,6 +240,6 @@ def step_tables(moments, dumps, displays, has_keys, said):
         now = {window.display: names[window.who] for window in shown if window.focused}
         lines += focus.steps(at, now, displays.place.get(dump.focused_display))
     if has_keys and focus.last is None:
-        said("no dump tells a focused window; the session has the keys go to nobody")
+        said("no dump has a focused window; in the session keys go to nobody")
         lines += table("step", "at_us = %d" % moments[0], 'do = "focus"')
     return lines

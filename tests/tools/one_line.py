@@ -17,7 +17,7 @@ from linting import toml_places  # noqa: E402
 def program():
     """The program that the tests run: that of INPUTFLINGER_PROGRAM, else the one that answers here; None where there is none."""
     try:
-        return os.environ.get("INPUTFLINGER_PROGRAM") or answering.program()
+        return os.path.abspath(os.environ.get("INPUTFLINGER_PROGRAM") or answering.program())
     except answering.NoProgram:
         return None
 

@@ -48,7 +48,7 @@ def reach(plan, number):
 
 
 def large(findings, plan):
-    """Displays that go beyond all of their windows, and have more pixels than their touch screens have places."""
+    """Displays that extend beyond all of their windows and have more pixels than their touch screens have positions."""
     for number, display in enumerate(plan.displays):
         size, far = extent(plan, number), reach(plan, number)
         screens = [device for device in plan.devices if device.get("kind") == "touch" and device.get("display", 0) == number]
@@ -61,7 +61,7 @@ def large(findings, plan):
             axis = 1 - k if turned else k
             most = max(each[axis] for each in places)
             if size[k] > far[k] and size[k] > most:
-                message = "%d, and its windows reach to %d and its touch screens have %d places: fingers beyond the windows go nowhere"
+                message = "%d, but its windows end at %d and its touch screens have %d positions: fingers beyond the windows reach nothing"
                 full = "%s.%s" % (display.name, key)
                 findings.warning(display.at(key), full, message % (size[k], far[k], most))
 
@@ -88,6 +88,6 @@ def covered(findings, plan):
 def behind(findings, window, region, above):
     names = list(dict.fromkeys(name for name, cover in above if any(rectangles.overlap(cover, part) for part in region)))
     listed = "others" if len(names) > 3 else one_of(names).replace(" or ", " and ")
-    message = "it lies wholly behind %s, so the window cannot be touched; windows stand from front to back"
+    message = "it lies wholly behind %s, so the window cannot be touched; windows are listed front to back"
     key = "region" if window.node.get("region") is not None else "frame"
     findings.warning(window.node.get(key).at, "%s.%s" % (window.name, key), message % listed)

@@ -1,4 +1,4 @@
-"""Steps of a session that are made before anything of the recording, and so change nothing."""
+"""Steps of a session that come before the events that they are about, and so change nothing."""
 from .covering import in_order
 from .findings import seconds, shown
 
@@ -19,7 +19,7 @@ def replaced(findings, before, first):
     """Windows in whose place others stand before the first event."""
     shows = [step for step in before if step.get("do") == "windows"]
     for step, later in zip(shows, shows[1:]):
-        message = "%s replaces these windows at %s, and the first event of the recording is at %s: nothing finds them"
+        message = "%s replaces these windows at %s, and the first event of the recording is at %s: no event reaches them"
         at = step.node.get("windows").at
         findings.warning(at, step.name + ".windows", message % (later.name, seconds(later.get("at_us")), seconds(first)))
 
@@ -28,7 +28,7 @@ def removed(findings, before, first):
     """Channels that are closed before the first event."""
     for step in before:
         if step.get("do") == "remove" and step.get("channel") is not None:
-            message = '"%s" is removed at %s, and the first event of the recording is at %s: it is told of none'
+            message = '"%s" is removed at %s, and the first event of the recording is at %s: it is sent nothing'
             message %= (shown(step.get("channel")), seconds(step.get("at_us")), seconds(first))
             findings.warning(step.node.get("channel").at, step.name + ".channel", message)
 
@@ -44,6 +44,6 @@ def pilfered(findings, plan, recording):
             continue
         down = source.contacts.first_down
         if down is not None and step.get("at_us") <= down:
-            message = "%s, and the first finger of device %d goes down at %s: there is nothing to take"
+            message = "%s, and the first finger of device %d goes down at %s: there is nothing to pilfer"
             message %= (seconds(step.get("at_us")), number, seconds(down))
             findings.warning(step.node.get("at_us").at, step.name + ".at_us", message)

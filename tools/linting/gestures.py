@@ -22,13 +22,13 @@ def judge(told, plan, recording):
 def fingers(told, source):
     contacts = source.contacts
     if contacts.strangers:
-        message = "it begins in mid-gesture: %s of %s %s down already, and nothing is seen of %s"
+        message = "it begins in mid-gesture: %s of %s %s already down, and the program does not see %s"
         one = len(contacts.strangers) == 1
         count = counted(len(contacts.strangers), "finger")
         told.warning((1, 1), "", message % (count, source.path, "is" if one else "are", "it" if one else "them"))
     if contacts.down:
         slots = "slot%s " % ("" if len(contacts.down) == 1 else "s") + ", ".join(map(str, sorted(contacts.down)))
-        message = "it ends in mid-gesture: %s of %s %s down at the end, in %s"
+        message = "it ends in mid-gesture: %s of %s %s still down, in %s"
         count = counted(len(contacts.down), "finger")
         told.warning((1, 1), "", message % (count, source.path, "is" if len(contacts.down) == 1 else "are", slots))
 
@@ -37,7 +37,7 @@ def jumps(told, source):
     found = source.contacts.jumps
     if len(found) >= FEWEST_JUMPS:
         moment, before, after = found[0]
-        message = "fingers of %s jump in %d packets that say no ABS_MT_SLOT, first at %s from (%d, %d) to (%d, %d): are several fingers in a slot?"
+        message = "fingers of %s jump in %d packets without ABS_MT_SLOT, first at %s from (%d, %d) to (%d, %d): do several fingers share a slot?"
         told.warning((1, 1), "", message % (source.path, len(found), seconds(moment), *before, *after))
 
 

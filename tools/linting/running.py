@@ -42,7 +42,7 @@ def hints(findings, told, plan, text):
             said = [finding for finding in findings.all + told.all if finding.key.startswith(name) or str(path) in finding.message]
             if said:
                 continue
-        told.warning((1, 1), "", "inspect says: %s" % line)
+        told.warning((1, 1), "", "inspect prints: %s" % line)
 
 
 def nobody(told, text):
@@ -52,8 +52,8 @@ def nobody(told, text):
         return
     downs = len(re.findall(r"^\d+ down ", text, re.M))
     moment, device, number, place, mute = found[0]
-    why = "no window is under it" if mute == "-" else "its windows do not answer"
-    message = "%d of %s given to nobody, the first at %s: finger %s of device %s at %s, since %s"
+    why = "no window is under it" if mute == "-" else "its windows are unresponsive"
+    message = "%d of %s given to nobody, the first at %s: finger %s of device %s at %s, because %s"
     counts = (len(found), counted(downs, "finger") + (" is" if len(found) == 1 else " are"))
     told.warning((1, 1), "", message % (*counts, seconds(int(moment)), number, device, "(%s)" % place.replace(",", ", "), why))
 

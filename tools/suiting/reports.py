@@ -50,7 +50,7 @@ class Counts:
     def line(self):
         parts = ["%d passed" % self.passed, "%d failed" % self.failed, "%d skipped" % self.skipped]
         parts[1:1] = ["of which %d accepted" % self.accepted] if self.accepted else []
-        parts += ["%d not tried" % self.error] if self.error else []
+        parts += ["%d not run" % self.error] if self.error else []
         return "%d case%s: %s" % (self.total, "s" * (self.total != 1), ", ".join(parts))
 
 

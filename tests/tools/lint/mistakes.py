@@ -191,13 +191,13 @@ IN_SESSION = [
       (38, 11, "warning", "step[2].channel", "removed at 0.000000 s, and the first event of the recording is at 1.000000 s")], None),
     # Too wide for its windows and its screen: the axes are read as 1080 by 2400, and so are the windows.
     ("a display that is larger than all", "width = 1080\nheight = 2400", "width = 1440\nheight = 3200",
-     [(2, 9, "warning", "display.width", "1440, and its windows reach to 1080 and its touch screens have 1080 places"),
-      (3, 10, "warning", "display.height", "3200, and its windows reach to 2400 and its touch screens have 2400 places")], None),
+     [(2, 9, "warning", "display.width", "1440, but its windows end at 1080 and its touch screens have 1080 positions"),
+      (3, 10, "warning", "display.height", "3200, but its windows end at 2400 and its touch screens have 2400 positions")], None),
     ("a turned display that is larger than all", "width = 1080\nheight = 2400",
      "width = 1080\nheight = 2500\nrotation = 90",
-     [(3, 10, "warning", "display.height", "2500, and its windows reach to 1080 and its touch screens have 2400 places")], None),
+     [(3, 10, "warning", "display.height", "2500, but its windows end at 1080 and its touch screens have 2400 positions")], None),
     ("a window behind another", BOTH, MAIN + ",\n    " + SPY,
-     [(32, 32, "warning", "step[1].windows[2].frame", "behind step[1].windows[1], so the window cannot be touched; windows stand from front")], None),
+     [(32, 32, "warning", "step[1].windows[2].frame", "behind step[1].windows[1], so the window cannot be touched; windows are listed front to back")], None),
     ("a window behind two rectangles", BOTH,
      MAIN.replace(" }", ", region = [[0, 0, 540, 2400], [540, 0, 1080, 2400]] }") + ",\n    " + SPY,
      [(32, 32, "warning", "step[1].windows[2].frame", "behind step[1].windows[1], so")], None),
@@ -269,7 +269,7 @@ IN_RECORDING = [
     ("fingers that jump without slots", "".join(
         packet(1000000 + 8000 * k, *([("0039", 1)] if k == 0 else []), ("0035", 100 + 800 * (k % 2)), ("0036", 200 + 2000 * (k % 2)))
         for k in range(4)) + packet(1100000, ("0039", -1)) + KEY,
-     [(1, 1, "warning", "", "fingers of /dev/input/event2 jump in 3 packets that say no ABS_MT_SLOT, first at 1.008000 s "
+     [(1, 1, "warning", "", "fingers of /dev/input/event2 jump in 3 packets without ABS_MT_SLOT, first at 1.008000 s "
        "from (100, 200) to (900, 2200)")], None),
     ("a swipe as fast as can be", "".join(
         packet(1000000 + 8000 * k, *([("0039", 1)] if k == 0 else []), ("0035", 100 + 100 * k), ("0036", 200 + 240 * k))
@@ -278,12 +278,12 @@ IN_RECORDING = [
         packet(1000000 + 8000 * k, ("002f", k % 2), *([("0039", k + 1)] if k < 2 else []), ("0035", 100 + 800 * (k % 2)), ("0036", 200 + 2000 * (k % 2)))
         for k in range(6)) + packet(1100000, ("002f", 0), ("0039", -1), ("002f", 1), ("0039", -1)) + KEY, [], None),
     ("a recording that begins in mid-gesture", packet(900000, ("0035", 100)) + packet(910000, ("0039", -1)) + RECORDING,
-     [(1, 1, "warning", "", "begins in mid-gesture: 1 finger of /dev/input/event2 is down already")], None),
+     [(1, 1, "warning", "", "begins in mid-gesture: 1 finger of /dev/input/event2 is already down")], None),
     ("a recording that begins with two fingers down", packet(900000, ("0035", 100), ("002f", 3), ("0036", 100))
      + packet(910000, ("0039", -1), ("002f", 0), ("0039", -1)) + RECORDING,
-     [(1, 1, "warning", "", "begins in mid-gesture: 2 fingers of /dev/input/event2 are down already")], None),
+     [(1, 1, "warning", "", "begins in mid-gesture: 2 fingers of /dev/input/event2 are already down")], None),
     ("a recording that ends in mid-gesture", RECORDING.replace("ffffffff", "00000002"),
-     [(1, 1, "warning", "", "ends in mid-gesture: 1 finger of /dev/input/event2 is down at the end, in slot 0")], None),
+     [(1, 1, "warning", "", "ends in mid-gesture: 1 finger of /dev/input/event2 is still down, in slot 0")], None),
     ("a finger that is lost is no end", RECORDING.replace("0039 ffffffff", "003a 00000000").replace(
         "[       2.000000] /dev/input/event2: 0000 0000", "[       2.000000] /dev/input/event2: 0000 0003"), [], None),
     ("a recording that begins while a key is down", KEY[KEY.index("\n") + 1:] + RECORDING,
