@@ -97,9 +97,9 @@ def lint(folder, program, said):
     if done.returncode not in (0, 1):
         raise Refused(done.stderr.decode("utf-8", "replace").strip())
     folder.write("lint.txt", done.stdout)
-    for line in done.stdout.decode("utf-8", "replace").splitlines():
+    for line in (done.stdout + done.stderr).decode("utf-8", "replace").splitlines():
         said(line)
-    if not done.stdout:
+    if not done.stdout + done.stderr:
         said("lint finds nothing")
 
 
