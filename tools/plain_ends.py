@@ -28,6 +28,10 @@ def printable(text):
     return "".join(c if c.isprintable() else repr(c)[1:-1] for c in text)
 
 
+def counted(count, word):
+    return "%d %s%s" % (count, word, "" if count == 1 else "s")
+
+
 def end(tool, main):
     """Ends the tool as `main` does."""
     try:

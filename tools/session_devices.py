@@ -28,6 +28,16 @@ def keys(device):
     return sorted(code for code in device.codes.get(names.EV_KEY, ()) if not names.is_button(code))
 
 
+def pressed_in(events, first):
+    """The paths that have events in a recording, each with the scan codes that are pressed. Events without a path are of the first."""
+    pressed = {}
+    for event in events:
+        codes = pressed.setdefault(event.path or first, set())
+        if event.kind == names.EV_KEY and event.value == 1:
+            codes.add(event.code)
+    return pressed
+
+
 def is_touch(device):
     return device.has(names.EV_ABS, X, Y)
 
@@ -82,11 +92,12 @@ def touch_table(device, display, said):
     return table("device", *lines)
 
 
-def keys_table(device, said):
-    known = [code for code in keys(device) if code in LAYOUT]
+def keys_table(device, pressed, said):
+    """A device of keys. Its layout has the keys with a name, and those without one that are pressed, as what they are."""
+    listed = sorted({code for code in keys(device) if code in LAYOUT} | pressed)
     lines = [comment(device.name), 'kind = "keys"', "path = %s" % text(device.path)]
-    if known:
-        lines += ['layout = """', *("key %d %s" % (code, LAYOUT[code]) for code in known), '"""']
+    if listed:
+        lines += ['layout = """', *("key %d %s" % (code, LAYOUT.get(code, "UNKNOWN")) for code in listed), '"""']
     unknown = [names.code_name(names.EV_KEY, code) for code in keys(device) if code not in LAYOUT]
     if unknown:
         said("%s: these keys have no Android name here and get key code 0: %s" % (called(device), " ".join(unknown)))
@@ -102,13 +113,14 @@ def lies_across(device, extent):
     return extent[0] != extent[1] and across == extent
 
 
-def device_tables(devices, displays, places, said):
-    """The tables of devices, each on the display of Android at its path in `displays`, else on the first one."""
+def device_tables(devices, displays, places, pressed, said):
+    """The tables of devices, each on the display of Android at its path in `displays`, else on the first one. `pressed` has the
+    scan codes that a recording presses, by path."""
     lines = []
     for device in devices:
         display = displays.get(device.path, min(places.place))
         if not is_touch(device):
-            lines += keys_table(device, said)
+            lines += keys_table(device, pressed.get(device.path, set()), said)
         elif display not in places.place:
             said("%s is left out, since its display %d is" % (called(device), display))
         else:

@@ -1,10 +1,11 @@
-"""The displays, channels and steps of a session, from what dumpsys tells."""
+"""The channels and steps of a session, from what dumpsys tells."""
 import collections
 import re
 
+import rectangles
 from session_text import channel_name, comment, numbers, table
 
-MOST_CHANNELS, MOST_DISPLAYS, MOST_RECTANGLES, MOST_PIXELS, LAST_LIMIT = 64, 4, 64, 16384, 600000
+MOST_CHANNELS, MOST_RECTANGLES, LAST_LIMIT = 64, 64, 600000
 FLAGS = ("NOT_TOUCHABLE", "SPY", "PREVENT_SPLITTING", "SLIPPERY", "WATCH_OUTSIDE_TOUCH", "NOT_FOCUSABLE")
 
 # What Android says of a window that changes what windows are told, and that a session cannot say.
@@ -32,7 +33,7 @@ class Shown:
     def __init__(self, who, name, display, frame, region, flags, limit_ms=5000):
         self.who, self.name, self.display, self.frame = who, name, display, frame
         self.region, self.flags, self.limit_ms = region, flags, limit_ms
-        self.focused = False
+        self.focused, self.why = False, None
 
     def can_be_told(self):
         touched = self.region and "NOT_TOUCHABLE" not in self.flags
@@ -45,7 +46,7 @@ class Shown:
             parts.append("region = [%s]" % ", ".join(numbers(rectangle) for rectangle in self.region))
         if self.flags:
             parts.append("flags = [%s]" % ", ".join('"%s"' % flag for flag in self.flags))
-        return "    { %s }," % ", ".join(parts)
+        return "    { %s },%s" % (", ".join(parts), "  # " + self.why if self.why else "")
 
 
 class Causes:
@@ -120,65 +121,6 @@ def is_modal(window):
     return not window.is_new and not window.names & {"NOT_FOCUSABLE", "NOT_TOUCH_MODAL"}
 
 
-class Displays:
-    """The displays of a session: for each number of Android its place, extent and turn."""
-
-    def __init__(self, dumps, paths, given, said):
-        self.extents = {}
-        wanted = {0} if given or not dumps else set()
-        for dump in dumps:
-            wanted |= {window.display for window in dump.windows if window.visible()}
-            wanted |= {display for path, display in dump.device_displays.items() if path in paths}
-            wanted |= {display for display in dump.focus if display in dump.viewports}
-        order = sorted(wanted or {0})
-        for display in order[MOST_DISPLAYS:]:
-            said("display %d is left out: a session has at most %d displays" % (display, MOST_DISPLAYS))
-        self.place = {display: place for place, display in enumerate(order[:MOST_DISPLAYS])}
-        for display in self.place:
-            self.extents[display] = self.extent(display, dumps, given if display == order[0] else None, said)
-
-    def extent(self, display, dumps, given, said):
-        """The natural width and height of a display and its turn, by the first dump that tells them."""
-        if given and not any(display in dump.viewports for dump in dumps):
-            return (*given, 0)
-        told = [dump.viewports[display] for dump in dumps if display in dump.viewports]
-        if told:
-            if any(viewport != told[0] for viewport in told):
-                said("display %d turns or changes; the session has it as the first dump does" % display)
-            if not told[0].whole:
-                said("display %d is scaled or cut; the session counts in the pixels of its windows" % display)
-            return self.in_range(display, (*(given or told[0].natural()), told[0].rotation), said)
-        for dump in dumps:
-            if display in dump.sizes:
-                said("display %d: no viewport tells its turn; 0 degrees are taken" % display)
-                return self.in_range(display, (*dump.sizes[display], 0), said)
-        frames = [window.frame for dump in dumps for window in dump.windows if window.display == display]
-        width, height = (max((frame[k] for frame in frames), default=1) for k in (2, 3))
-        if dumps:
-            said("display %d: the dump tells no extent; %dx%d is taken from its windows" % (display, width, height))
-        return self.in_range(display, (width, height, 0), said)
-
-    def in_range(self, display, extent, said):
-        if all(1 <= pixels <= MOST_PIXELS for pixels in extent[:2]):
-            return extent
-        said("display %d has %d by %d pixels; a session has 1 to %d" % (display, *extent[:2], MOST_PIXELS))
-        return (*(min(max(pixels, 1), MOST_PIXELS) for pixels in extent[:2]), extent[2])
-
-    def whole(self, display):
-        """The rectangle of a display as it is turned."""
-        width, height, rotation = self.extents[display]
-        return (0, 0, height, width) if rotation in (90, 270) else (0, 0, width, height)
-
-    def tables(self):
-        lines = []
-        for display, place in self.place.items():
-            width, height, rotation = self.extents[display]
-            lines += ["", "[[extra_display]]" if place else "[display]"]
-            lines += [comment("Android's display %d" % display)] if place != display else []
-            lines += ["width = %d" % width, "height = %d" % height] + (["rotation = %d" % rotation] if rotation else [])
-        return lines
-
-
 def shown_window(window, count, displays, causes):
     for cause in unsaid(window):
         causes.add(cause, window.name)
@@ -213,6 +155,24 @@ def shown_windows(dump, displays, causes):
         else:
             causes.add("it has the focus of display %d and is no window that is shown" % display, name)
     return shown
+
+
+def mark_unreachable(shown, displays):
+    """Marks windows that no finger can reach as not touchable: those off their display, and those wholly behind others. Nothing is
+    routed in another way, and the session shows that this is meant."""
+    covers = collections.defaultdict(list)
+    sizes = {place: displays.whole(display)[2:] for display, place in displays.place.items()}
+    for window in shown:
+        if "NOT_TOUCHABLE" not in window.flags:
+            size, over = sizes[window.display], covers[window.display]
+            if not rectangles.left_over(window.region, [], size):
+                window.why = "has no pixel on its display that can be touched"
+            elif not rectangles.left_over(window.region, over, size):
+                window.why = "lies behind windows that can be touched"
+            elif "SPY" not in window.flags:
+                over.extend(window.region)
+        if window.why:
+            window.flags = [flag for flag in FLAGS if flag in window.flags or flag == "NOT_TOUCHABLE"]
 
 
 def kept(steps, said):
@@ -264,11 +224,13 @@ class Focus:
         return lines
 
 
-def step_tables(moments, dumps, displays, said):
+def step_tables(moments, dumps, displays, has_keys, said):
     """The tables of channels and steps: for each dump its windows, and the focus where it changed."""
     causes = Causes()
     steps = [shown_windows(dump, displays, causes) for dump in dumps]
     causes.tell(said)
+    for shown in steps:
+        mark_unreachable(shown, displays)
     steps = kept(steps, said)
     names, lines = channels_of(steps)
     focus = Focus()
@@ -277,4 +239,7 @@ def step_tables(moments, dumps, displays, said):
         lines += table("step", "at_us = %d" % at, 'do = "windows"', *rows)
         now = {window.display: names[window.who] for window in shown if window.focused}
         lines += focus.steps(at, now, displays.place.get(dump.focused_display))
+    if has_keys and focus.last is None:
+        said("no dump has a focused window; in the session keys go to nobody")
+        lines += table("step", "at_us = %d" % moments[0], 'do = "focus"')
     return lines

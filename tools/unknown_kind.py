@@ -10,10 +10,11 @@ MAGIC = [
     (b"SQLite format 3", "an SQLite database"),
 ]
 
+# Those in front are told first: what getevent prints without -t may have a list of devices before it.
 TEXTS = [
+    (r"^\s*(/\S*:\s+)?[0-9a-fA-F]{4} +[0-9a-fA-F]{4} +[0-9a-fA-F]{8}", "what getevent prints without -t: no moments; record with getevent -t"),
+    (r"^\s*(/\S*:\s+)?EV_[A-Z]+\s+\S+\s+\S+", "what getevent -l prints without -t: no moments; record with getevent -t"),
     (r"^\s*add device \d+: /", "what getevent -p prints, for tools/session; it has no events"),
-    (r"^\s*(/\S*:\s+)?[0-9a-fA-F]{4} +[0-9a-fA-F]{4} +[0-9a-fA-F]{8}", "what getevent prints without -t: no moments"),
-    (r"^\s*(/\S*:\s+)?EV_[A-Z]+\s+\S+\s+\S+", "what getevent -l prints without -t: no moments"),
     (r"^\s*sendevent /", "a script of sendevent, which has no moments"),
     (r"Input Dispatcher State|Event Hub State|DUMP OF SERVICE input", "what dumpsys input prints: for tools/session"),
     (r"^[- ]event\d+\s+[A-Z_]+\s+\+", "what libinput debug-events prints, which is no event of the kernel"),

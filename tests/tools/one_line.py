@@ -8,6 +8,29 @@ from contextlib import redirect_stderr, redirect_stdout
 from unittest import mock
 
 TOOLS = os.path.join(os.path.dirname(os.path.abspath(__file__)), "../../tools")
+sys.path.append(TOOLS)
+
+import answering  # noqa: E402
+from linting import toml_places  # noqa: E402
+
+
+def program():
+    """The program that the tests run: that of INPUTFLINGER_PROGRAM, else the one that answers here; None where there is none."""
+    try:
+        return os.path.abspath(os.environ.get("INPUTFLINGER_PROGRAM") or answering.program())
+    except answering.NoProgram:
+        return None
+
+
+def plain(node):
+    if node.kind == "table":
+        return {key: plain(inner) for key, (_, inner) in node.value.items()}
+    return [plain(inner) for inner in node.value] if node.kind == "array" else node.value
+
+
+def toml(text):
+    """What a session has, by the reader of lint, which is held against Python's own where that has one (3.11)."""
+    return plain(toml_places.read(text.encode()))
 
 
 def call(tool, *words):

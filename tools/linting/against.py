@@ -1,14 +1,11 @@
 """A session held against its recording: what the program runs, and likely is not as meant."""
-from .findings import shown
+from . import early, gestures
+from .findings import seconds, shown
 from .recording import ABS, ABS_X, ABS_Y, KEY, MT_SLOT, MT_TRACKING_ID, MT_X, MT_Y, SYN, SYN_MT_REPORT
 
 # A corner is this part of both axes; a greater one for so many fingers, which would hardly all come to lie there.
 CORNER = 16
 MANY_FINGERS, CORNER_OF_MANY = 10, 3
-
-
-def seconds(moment):
-    return "%d.%06d s" % divmod(moment, 1000000)
 
 
 def other_kinds(findings, recording):
@@ -67,13 +64,13 @@ def axis(findings, device, source, key, code):
     low, high = device.said[key]
     least, greatest = source.values[code]
     at, full = device.node.get(key).at, "%s.%s" % (device.name, key)
-    if key in source.ranges:
-        if source.ranges[key] != (low, high):
-            message = "[%d, %d], and the recording's device says [%d, %d]" % ((low, high) + source.ranges[key])
-            findings.warning(at, full, message)
+    if key in source.ranges and source.ranges[key] != (low, high):
+        message = "[%d, %d], and the recording's device says [%d, %d]" % ((low, high) + source.ranges[key])
+        findings.warning(at, full, message)
     elif greatest > high or least < low:
-        message = "[%d, %d], and the recording goes from %d to %d: what lies outside is put on the edge"
-        findings.warning(at, full, message % (low, high, least, greatest))
+        says = ", as its device says" if key in source.ranges else ""
+        message = "[%d, %d]%s, and the recording goes from %d to %d: what lies outside is put on the edge"
+        findings.warning(at, full, message % (low, high, says, least, greatest))
 
 
 def corner(findings, device, source):
@@ -95,9 +92,10 @@ def corner(findings, device, source):
 
 
 def slots(findings, device, source):
+    # Of the slots that the device says those above the sixteenth are not used, as long as no event has one.
     greatest = source.values.get(MT_SLOT, (0, 0))[1]
     if "slots" in source.ranges:
-        greatest = max(greatest, source.ranges["slots"][1])
+        greatest = max(greatest, min(source.ranges["slots"][1], 15))
     have = device.get("slots", 10)
     if "slots" in device.node.value and "slots" not in device.said:
         return
@@ -170,3 +168,5 @@ def judge(findings, told, plan, recording):
     paths(findings, told, plan, recording)
     devices(findings, told, plan, recording)
     moments(findings, plan, recording)
+    early.judge(findings, plan, recording)
+    gestures.judge(told, plan, recording)

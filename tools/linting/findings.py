@@ -40,6 +40,10 @@ class Findings:
         return sorted(self.all, key=lambda finding: finding.at or (0, 0))
 
 
+def seconds(moment):
+    return "%d.%06d s" % divmod(moment, 1000000)
+
+
 def shown(value, most=40):
     """A value as a message shows it."""
     text = value if isinstance(value, str) else repr(value)

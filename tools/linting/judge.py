@@ -19,14 +19,20 @@ def judge_session(name, data):
     return findings, plan
 
 
-def judge(session_name, session_data, events_name=None, events_data=None):
-    """The findings about a session, and those about a recording, if there is one."""
+def judge_all(session_name, session_data, events_name=None, events_data=None):
+    """The findings about a session, those about a recording if there is one, and the plan."""
     findings, plan = judge_session(session_name, session_data)
     if events_data is None:
-        return findings, None
+        return findings, None, plan
     told = Findings(events_name)
-    first = plan.devices[0].get("path") if plan and plan.devices else None
-    found = recording.read(told, events_data, first)
+    devices = plan.devices if plan else []
+    first = devices[0].get("path") if devices else None
+    found = recording.read(told, events_data, first, {device.get("path"): device.said for device in devices})
     if plan:
         against.judge(findings, told, plan, found)
-    return findings, told
+    return findings, told, plan
+
+
+def judge(session_name, session_data, events_name=None, events_data=None):
+    """The findings about a session, and those about a recording, if there is one."""
+    return judge_all(session_name, session_data, events_name, events_data)[:2]

@@ -1,5 +1,8 @@
 """What the program takes in a session by itself, and likely is not as meant."""
-from . import known
+from rectangles import is_empty, overlap
+
+from . import covering, known
+from .covering import extent, in_order, is_outside
 from .findings import nearest, shown
 
 
@@ -73,32 +76,6 @@ def times(findings, plan):
             findings.warning(channel.at("finish_after_us"), channel.name + ".finish_after_us", message)
 
 
-def extent(plan, window):
-    """The extent of a window's display as it is turned, or None."""
-    number = window.get("display", 0)
-    if number >= len(plan.displays):
-        return None
-    display = plan.displays[number]
-    width, height = display.get("width"), display.get("height")
-    if width is None or height is None:
-        return None
-    return (height, width) if display.get("rotation", 0) in (90, 270) else (width, height)
-
-
-def is_empty(rectangle):
-    left, top, right, bottom = rectangle
-    return left >= right or top >= bottom
-
-
-def is_outside(rectangle, size):
-    left, top, right, bottom = rectangle
-    return right <= 0 or bottom <= 0 or left >= size[0] or top >= size[1]
-
-
-def overlap(a, b):
-    return max(a[0], b[0]) < min(a[2], b[2]) and max(a[1], b[1]) < min(a[3], b[3])
-
-
 def regions(findings, plan):
     """Windows that no finger can touch, though they do not say so, and regions beside their frames."""
     for step in plan.steps:
@@ -109,7 +86,7 @@ def regions(findings, plan):
             if window.get("frame") is None or key not in window.said:
                 continue
             rectangles = window.said["region"] if key == "region" else [window.said["frame"]]
-            size = extent(plan, window)
+            size = extent(plan, window.get("display", 0))
             full, at = "%s.%s" % (window.name, key), window.node.get(key).at
             if all(is_empty(rectangle) for rectangle in rectangles):
                 findings.warning(at, full, "it has no pixel, so the window cannot be touched")
@@ -118,11 +95,6 @@ def regions(findings, plan):
                 findings.warning(at, full, message)
             elif key == "region" and not any(overlap(rectangle, window.said["frame"]) for rectangle in rectangles):
                 findings.warning(at, full, "it lies outside of the frame; a region is in pixels of the display")
-
-
-def in_order(plan):
-    """The steps with a moment, as they are made."""
-    return sorted((step for step in plan.steps if step.get("at_us") is not None), key=lambda step: step.get("at_us"))
 
 
 def spies(findings, plan):
@@ -180,5 +152,5 @@ def focus(findings, plan):
 
 def judge(findings, plan):
     unread_keys(findings, plan)
-    for part in (entries, paths, times, regions, spies, removals, focus):
+    for part in (entries, paths, times, regions, covering.large, covering.covered, spies, removals, focus):
         part(findings, plan)

@@ -2,6 +2,7 @@
 import re
 
 from . import known
+from .contacts import PART, Contacts, Keys
 
 EVENT = re.compile(
     rb"[ \t]*\[[ \t]*([0-9]{1,12})\.([0-9]{6})[ \t]*\][ \t]+(?:(/[^ \t]*):[ \t]+)?"
@@ -29,8 +30,11 @@ KINDS = [
 class Source:
     """What a recording has of one device."""
 
-    def __init__(self, path):
+    def __init__(self, path, told=None):
         self.path = path
+        # What the session tells of its axes, where it has the device.
+        self.told = told or {}
+        self.contacts, self.keys, self.limits = Contacts(self.jump_limits), Keys(), None
         self.events = 0
         self.first = None
         self.last = None
@@ -45,6 +49,8 @@ class Source:
         self.first = moment if self.first is None else self.first
         self.last = moment
         self.counts[kind, code] = self.counts.get((kind, code), 0) + 1
+        self.contacts.take(moment, kind, code, value)
+        self.keys.take(kind, code, value)
         if kind == ABS:
             low, high = self.values.get(code, (value, value))
             self.values[code] = (min(low, value), max(high, value))
@@ -57,17 +63,24 @@ class Source:
     def is_touch(self):
         return self.has(ABS, MT_X, MT_Y, MT_TRACKING_ID)
 
+    def jump_limits(self):
+        """What on each axis is further than a finger goes from one packet to the next, by the header, else by the session."""
+        if self.limits is None:
+            ranges = [self.ranges.get(key) or self.told.get(key) for key in ("x", "y")]
+            self.limits = [(found[1] - found[0]) // PART if found else None for found in ranges]
+        return self.limits
+
 
 class Recording:
-    def __init__(self):
-        self.sources = {}
+    def __init__(self, told=None):
+        self.sources, self.told = {}, told or {}
         self.size = 0
         self.lines = 0
         self.kind = None
 
     def source(self, path):
         if path not in self.sources:
-            self.sources[path] = Source(path)
+            self.sources[path] = Source(path, self.told.get(path))
         return self.sources[path]
 
     def known_sources(self):
@@ -109,9 +122,10 @@ def other_line(recording, line, added):
     return added
 
 
-def read(findings, data, first_path):
-    """The recording that these bytes are; says what the program refuses in it. Lines without a path are of the first device."""
-    recording = Recording()
+def read(findings, data, first_path, told=None):
+    """The recording that these bytes are; says what the program refuses in it. Lines without a path are of the first device. `told`
+    has what the session tells of each path."""
+    recording = Recording(told)
     recording.size = len(data)
     recording.kind = kind_of(data)
     if len(data) > known.LONGEST_RECORDING:

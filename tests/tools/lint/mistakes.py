@@ -62,6 +62,8 @@ RECORDING = """[       1.000000] /dev/input/event2: 0003 002f 00000000
 """
 
 MAIN = '{ channel = "main", frame = [0, 0, 1080, 2400] }'
+SPY = '{ channel = "spy", frame = [0, 0, 1080, 2400], flags = ["SPY"] }'
+BOTH = SPY + ",\n    " + MAIN
 
 # name, old, new, findings, refusal
 IN_SESSION = [
@@ -152,7 +154,8 @@ IN_SESSION = [
      [(38, 1, "warning", "step[2].device", "of a step that does focus")], None),
     ("a key of no table", "[display]", "finish = true\n[display]", [(1, 1, "warning", "finish", "nothing reads")], None),
     ("flag in place of flags", 'flags = ["SPY"]', 'flag = ["SPY"]',
-     [(31, 52, "warning", "step[1].windows[1].flag", '"flags"'), (43, 11, "warning", "step[3].channel", "no window with SPY")], None),
+     [(31, 52, "warning", "step[1].windows[1].flag", '"flags"'), (32, 33, "warning", "step[1].windows[2].frame", "behind step[1].windows[1], so"),
+      (43, 11, "warning", "step[3].channel", "no window with SPY")], None),
     ("a copied colon", "/dev/input/event2", "/dev/input/event2:",
      [(7, 8, "warning", "device[1].path", "colon")], None),
     ("another path", "/dev/input/event2", "/dev/input/event3",
@@ -184,14 +187,47 @@ IN_SESSION = [
     ("a focus that cannot be", MAIN, '{ channel = "main", frame = [0, 0, 1080, 2400], flags = ["NOT_FOCUSABLE"] }',
      [(38, 11, "warning", "step[2].channel", "NOT_FOCUSABLE")], None),
     ("no focus", 'do = "focus"', 'do = "remove"',
-     [(12, 1, "warning", "device[2]", "nobody is told of keys")], None),
+     [(12, 1, "warning", "device[2]", "nobody is told of keys"),
+      (38, 11, "warning", "step[2].channel", "removed at 0.000000 s, and the first event of the recording is at 1.000000 s")], None),
+    # Too wide for its windows and its screen: the axes are read as 1080 by 2400, and so are the windows.
+    ("a display that is larger than all", "width = 1080\nheight = 2400", "width = 1440\nheight = 3200",
+     [(2, 9, "warning", "display.width", "1440, but its windows end at 1080 and its touch screens have 1080 positions"),
+      (3, 10, "warning", "display.height", "3200, but its windows end at 2400 and its touch screens have 2400 positions")], None),
+    ("a turned display that is larger than all", "width = 1080\nheight = 2400",
+     "width = 1080\nheight = 2500\nrotation = 90",
+     [(3, 10, "warning", "display.height", "2500, but its windows end at 1080 and its touch screens have 2400 positions")], None),
+    ("a window behind another", BOTH, MAIN + ",\n    " + SPY,
+     [(32, 32, "warning", "step[1].windows[2].frame", "behind step[1].windows[1], so the window cannot be touched; windows are listed front to back")], None),
+    ("a window behind two rectangles", BOTH,
+     MAIN.replace(" }", ", region = [[0, 0, 540, 2400], [540, 0, 1080, 2400]] }") + ",\n    " + SPY,
+     [(32, 32, "warning", "step[1].windows[2].frame", "behind step[1].windows[1], so")], None),
+    ("a window of which a line is free", BOTH, MAIN.replace("2400]", "2399]") + ",\n    " + SPY, [], None),
+    ("a window behind one that is not touchable", BOTH, MAIN.replace(" }", ', flags = ["NOT_TOUCHABLE"] }') + ",\n    " + SPY, [], None),
+    ("windows that are replaced before the first event", "[[step]]\nat_us = 0\ndo = \"focus\"",
+     "[[step]]\nat_us = 1000000\ndo = \"windows\"\nwindows = [ " + BOTH.replace("\n    ", " ") + " ]\n[[step]]\nat_us = 0\ndo = \"focus\"",
+     [(30, 11, "warning", "step[1].windows", "step[2] replaces these windows at 1.000000 s, and the first event of the recording is at 1.000000 s")], None),
+    ("windows that are replaced behind the first event", "[[step]]\nat_us = 0\ndo = \"focus\"",
+     "[[step]]\nat_us = 1000001\ndo = \"windows\"\nwindows = [ " + BOTH.replace("\n    ", " ") + " ]\n[[step]]\nat_us = 0\ndo = \"focus\"", [], None),
+    ("a pilfer before any touch", "at_us = 1500000", "at_us = 1000000",
+     [(41, 9, "warning", "step[3].at_us", "1.000000 s, and the first finger of device 1 goes down at 1.000000 s")], None),
+    ("a pilfer behind the first touch", "at_us = 1500000", "at_us = 1000001", [], None),
+    ("a channel that is removed behind the first event", 'do = "pilfer"\nchannel = "spy"\ndevice = 1', 'do = "remove"\nchannel = "spy"', [], None),
+    ("a channel that is removed at the first event", 'at_us = 1500000\ndo = "pilfer"\nchannel = "spy"\ndevice = 1',
+     'at_us = 1000000\ndo = "remove"\nchannel = "spy"',
+     [(43, 11, "warning", "step[3].channel", '"spy" is removed at 1.000000 s, and the first event of the recording is at 1.000000 s')], None),
     ("a name without a key code", "VOLUME_DOWN", "VOLUME_MUTE",
      [(17, 1, "warning", "device[2].layout", "it gives 0")], None),
     ("a key without a line", "key 115 VOLUME_UP\n", "", [(15, 10, "warning", "device[2].layout", "115 (0x73)")], None),
 ]
 
-TOUCH = "/dev/input/event2: "
-TRACKED = "[       1.000000] /dev/input/event2: 0003 0039 00000001\n"
+KEY = "[       1.500001] /dev/input/event0: 0001 0073 00000001\n[       1.600000] /dev/input/event0: 0001 0073 00000000\n"
+
+
+def packet(moment, *events):
+    """A packet of the touch screen at a moment: events of its absolute axes, and the end."""
+    front = "[%8d.%06d] /dev/input/event2: " % divmod(moment, 1000000)
+    return "".join("%s0003 %s %08x\n" % (front, code, value & 0xFFFFFFFF) for code, value in events) + front + "0000 0000 00000000\n"
+
 
 # name, the recording, findings (all of the recording where they do not begin with "session"), refusal
 IN_RECORDING = [
@@ -211,14 +247,47 @@ IN_RECORDING = [
     ("libinput record", "# libinput record\nlibinput:\n  version: \"1.23.0\"\n", [(1, 1, "warning", "", "file of libinput record")], None),
     ("evtest", "Input driver version is 1.0.1\nEvent: time 1.000000, type 3 (EV_ABS), code 53 (ABS_MT_POSITION_X), value 100\n",
      [(1, 1, "warning", "", "file of evtest")], None),
-    ("single touch", "[       1.000000] /dev/input/event2: 0003 0000 00000064\n[       2.000000] /dev/input/event0: 0001 0073 00000001\n",
+    ("single touch", "[       1.000000] /dev/input/event2: 0003 0000 00000064\n[       2.000000] /dev/input/event0: 0001 0073 00000001\n"
+     "[       2.100000] /dev/input/event0: 0001 0073 00000000\n",
      [(1, 1, "warning", "", "single-touch")], None),
     ("protocol A", "[       1.000000] /dev/input/event2: 0003 0035 00000064\n[       1.000000] /dev/input/event2: 0000 0002 00000000\n"
-     "[       2.000000] /dev/input/event0: 0001 0073 00000001\n", [(1, 1, "warning", "", "protocol A")], None),
+     "[       2.000000] /dev/input/event0: 0001 0073 00000001\n[       2.100000] /dev/input/event0: 0001 0073 00000000\n",
+     [(1, 1, "warning", "", "protocol A")], None),
     ("no finger goes down", RECORDING.replace("0039", "003a"), [(1, 1, "warning", "", "begin with the finger down")], None),
     ("the ranges of the device", "add device 1: /dev/input/event2\n  name:     \"touch\"\n  events:\n"
      "    ABS (0003): 002f  : value 0, min 0, max 15, fuzz 0, flat 0, resolution 0\n"
      "                0035  : value 0, min 0, max 1439, fuzz 0, flat 0, resolution 0\n"
      "                0036  : value 0, min 0, max 2399, fuzz 0, flat 0, resolution 0\n" + RECORDING,
      [("session", 8, 9, "warning", "device[1].slots", "slot 15"), ("session", 9, 5, "warning", "device[1].x", "[0, 1439]")], None),
+    ("positions outside of the axis that the device says", "add device 1: /dev/input/event2\n  name:     \"touch\"\n  events:\n"
+     "    ABS (0003): 002f  : value 0, min 0, max 9, fuzz 0, flat 0, resolution 0\n"
+     "                0035  : value 0, min 0, max 1079, fuzz 0, flat 0, resolution 0\n"
+     "                0036  : value 0, min 0, max 2399, fuzz 0, flat 0, resolution 0\n" + RECORDING.replace("000003e8", "000007d0"),
+     [("session", 9, 5, "warning", "device[1].x", "[0, 1079], as its device says, and the recording goes from 100 to 2000")], None),
+    ("more slots than the device of the session, and none used", "add device 1: /dev/input/event2\n  name:     \"touch\"\n  events:\n"
+     "    ABS (0003): 002f  : value 0, min 0, max 9, fuzz 0, flat 0, resolution 0\n" + RECORDING, [], None),
+    ("fingers that jump without slots", "".join(
+        packet(1000000 + 8000 * k, *([("0039", 1)] if k == 0 else []), ("0035", 100 + 800 * (k % 2)), ("0036", 200 + 2000 * (k % 2)))
+        for k in range(4)) + packet(1100000, ("0039", -1)) + KEY,
+     [(1, 1, "warning", "", "fingers of /dev/input/event2 jump in 3 packets without ABS_MT_SLOT, first at 1.008000 s "
+       "from (100, 200) to (900, 2200)")], None),
+    ("a swipe as fast as can be", "".join(
+        packet(1000000 + 8000 * k, *([("0039", 1)] if k == 0 else []), ("0035", 100 + 100 * k), ("0036", 200 + 240 * k))
+        for k in range(9)) + packet(1100000, ("0039", -1)) + KEY, [], None),
+    ("fingers that have their slots", "".join(
+        packet(1000000 + 8000 * k, ("002f", k % 2), *([("0039", k + 1)] if k < 2 else []), ("0035", 100 + 800 * (k % 2)), ("0036", 200 + 2000 * (k % 2)))
+        for k in range(6)) + packet(1100000, ("002f", 0), ("0039", -1), ("002f", 1), ("0039", -1)) + KEY, [], None),
+    ("a recording that begins in mid-gesture", packet(900000, ("0035", 100)) + packet(910000, ("0039", -1)) + RECORDING,
+     [(1, 1, "warning", "", "begins in mid-gesture: 1 finger of /dev/input/event2 is already down")], None),
+    ("a recording that begins with two fingers down", packet(900000, ("0035", 100), ("002f", 3), ("0036", 100))
+     + packet(910000, ("0039", -1), ("002f", 0), ("0039", -1)) + RECORDING,
+     [(1, 1, "warning", "", "begins in mid-gesture: 2 fingers of /dev/input/event2 are already down")], None),
+    ("a recording that ends in mid-gesture", RECORDING.replace("ffffffff", "00000002"),
+     [(1, 1, "warning", "", "ends in mid-gesture: 1 finger of /dev/input/event2 is still down, in slot 0")], None),
+    ("a finger that is lost is no end", RECORDING.replace("0039 ffffffff", "003a 00000000").replace(
+        "[       2.000000] /dev/input/event2: 0000 0000", "[       2.000000] /dev/input/event2: 0000 0003"), [], None),
+    ("a recording that begins while a key is down", KEY[KEY.index("\n") + 1:] + RECORDING,
+     [(1, 1, "warning", "", "begins while key 115 (0x73) of /dev/input/event0 is down")], None),
+    ("a recording that ends while a key is down", RECORDING + KEY[: KEY.index("\n") + 1],
+     [(1, 1, "warning", "", "ends while key 115 (0x73) of /dev/input/event0 is down")], None),
 ]
