@@ -1,0 +1,199 @@
+/* ---- The screen: displays with the frames of the moment, or, without causes, each window by its own corner. */
+
+const TRAIL = 500000;
+const TRAIL_LENGTH = 240;
+const DOT = 12;
+let dotsDrawn = [];
+
+/** What is drawn side by side, with the box around all that is on it: with causes displays, and else windows that have fingers. */
+function makeSurfaces(model) {
+  const surfaces = new Map();
+  const add = (key, title, order, x, y) => {
+    const hull = surfaces.get(key) || { key, title, order, left: x, top: y, right: x + 1, bottom: y + 1 };
+    surfaces.set(key, hull);
+    hull.left = Math.min(hull.left, x);
+    hull.top = Math.min(hull.top, y);
+    hull.right = Math.max(hull.right, x);
+    hull.bottom = Math.max(hull.bottom, y);
+  };
+  for (const { display, left, top, right, bottom } of model.snapshots.flatMap(({ windows }) => windows)) {
+    add(display, "display " + display, display, left, top);
+    add(display, "display " + display, display, right, bottom);
+  }
+  model.alone.forEach(({ cause, display }) => add(display, "display " + display, display, cause.x, cause.y));
+  for (const { section, number } of model.lanes) {
+    for (const { pointers, action, origin } of section.messages) {
+      if (pointers && action !== "OUTSIDE" && origin) {
+        const { display } = origin;
+        const surface = display === null ? ["lane " + number, section.name, number] : [display, "display " + display, display];
+        [OWN_CORNER, ...pointers].forEach(({ x, y }) => add(...surface, x + origin.x, y + origin.y));
+      }
+    }
+  }
+  return [...surfaces.values()].sort((a, b) => a.order - b.order);
+}
+
+/** Where surfaces stand on the canvas: side by side in as many columns as make them greatest, all by one scale. */
+function laySurfaces(surfaces, width, height) {
+  const title = 22;
+  const wide = Math.max(...surfaces.map(({ left, right }) => right - left));
+  const high = Math.max(...surfaces.map(({ top, bottom }) => bottom - top));
+  const layouts = surfaces.map((surface, k) => {
+    const rows = Math.ceil(surfaces.length / (k + 1));
+    const scale = Math.min((width / (k + 1) - 28) / wide, (height / rows - 16 - title) / high);
+    return { columns: k + 1, rows, scale };
+  });
+  const { columns, rows, scale } = layouts.reduce((best, one) => (one.scale > best.scale ? one : best));
+  return surfaces.map((surface, k) => {
+    const boxWidth = (surface.right - surface.left) * scale;
+    const x = (width / columns) * ((k % columns) + 0.5) - boxWidth / 2;
+    const y = (height / rows) * Math.floor(k / columns) + title;
+    return {
+      key: surface.key, title: surface.title, room: (width / columns + boxWidth) / 2 - 6, x, y, width: boxWidth, height: (surface.bottom - surface.top) * scale, scale,
+      at: (point) => [x + (point.x - surface.left) * scale, y + (point.y - surface.top) * scale],
+    };
+  });
+}
+
+/** The fingers of the moment: of each window those that are down, or ended a short while ago. */
+function fingersNow(model) {
+  const found = [];
+  for (const lane of model.lanes) {
+    for (const row of lane.rows.filter(({ kind }) => kind === "finger")) {
+      const bar = row.bars[firstWhere(row.bars.length, (k) => row.bars[k].from > state.now) - 1];
+      if (bar && state.now - bar.to < TRAIL) {
+        const mark = firstWhere(row.times.length, (k) => row.times[k] > state.now) - 1;
+        found.push({ lane, row, bar, isDown: state.now < bar.to, mark: Math.min(mark, bar.last) });
+      }
+    }
+  }
+  return found;
+}
+
+/** The place of a finger at one of its messages, on its surface; null where that is not known. */
+function pointAt({ lane, row }, mark) {
+  const { pointers, origin } = lane.section.messages[row.marks[mark]];
+  const { x, y } = pointers.find(({ id }) => id === row.id);
+  return origin && { key: origin.display === null ? "lane " + lane.number : origin.display, x: x + origin.x, y: y + origin.y };
+}
+
+function drawScreen() {
+  const { context, width, height } = startDrawing(byId("screen"));
+  const model = state.model;
+  dotsDrawn = [];
+  if (model.surfaces.length === 0) {
+    write(context, "The text has no fingers.", 4, 20, { font: "14px" });
+    return;
+  }
+  const fingers = fingersNow(model);
+  for (const box of laySurfaces(model.surfaces, width, height)) {
+    drawSurface(context, model, box);
+    const here = fingers.map((finger) => ({ ...finger, point: pointAt(finger, finger.mark) })).filter(({ point }) => point && point.key === box.key);
+    here.forEach((finger) => drawTrail(context, box, finger));
+    here.filter(({ isDown }) => !isDown).forEach((finger) => drawEnded(context, box, finger));
+    drawDots(context, box, here.filter(({ isDown }) => isDown));
+    const alone = model.alone.filter(({ display, from, to }) => display === box.key && from <= state.now && state.now < to);
+    alone.forEach(({ cause }) => drawAlone(context, box, cause));
+  }
+}
+
+/** A display or a window's own places, and on a display the frames of the moment, the front one last. */
+function drawSurface(context, model, box) {
+  fillBox(context, theme().band, box.x, box.y, box.width, box.height);
+  Object.assign(context, { strokeStyle: theme().line, lineWidth: 1 });
+  context.strokeRect(box.x, box.y, box.width, box.height);
+  write(context, box.title, box.x, box.y - 10, { font: "13px", room: box.room });
+  const shown = model.snapshots[firstWhere(model.snapshots.length, (k) => model.snapshots[k].t > state.now) - 1];
+  const frames = shown ? shown.windows.filter(({ display }) => display === box.key).reverse() : [];
+  const labels = [];
+  frames.forEach((frame) => drawFrame(context, model, box, frame, labels));
+}
+
+/** A window's frame with its name, below the names of others at the same corner; sideways where the frame is narrow. */
+function drawFrame(context, model, box, frame, labels) {
+  const lane = model.lanes.find(({ section }) => section.id === frame.channel);
+  const color = lane ? colorOf(lane) : theme().soft;
+  const [left, top] = box.at({ x: frame.left, y: frame.top });
+  const width = (frame.right - frame.left) * box.scale;
+  const height = (frame.bottom - frame.top) * box.scale;
+  fillBox(context, faint(color, 0.1), left, top, width, height);
+  Object.assign(context, { strokeStyle: color, lineWidth: 1.5 });
+  context.strokeRect(left + 1.5, top + 1.5, Math.max(width - 3, 1), Math.max(height - 3, 1));
+  const isTall = width < 40 && height > width;
+  let y = 13;
+  while (labels.some((label) => Math.abs(label.left - left) < 60 && Math.abs(label.y - top - y) < 14)) { y += 15; }
+  labels.push({ left, y: top + y });
+  context.save();
+  context.translate(left, top);
+  context.rotate(isTall ? Math.PI / 2 : 0);
+  const label = model.names.get(frame.channel) || "channel " + frame.channel;
+  write(context, label, 7, isTall ? -width / 2 : y, { color, font: "600 12px", room: (isTall ? height : width) - 10 });
+  context.restore();
+}
+
+/** The way that a finger came, fainter the longer ago. */
+function drawTrail(context, box, finger) {
+  const { row, bar } = finger;
+  context.lineCap = "round";
+  let after = finger.point;
+  for (let mark = finger.mark - 1; mark >= Math.max(bar.first, finger.mark - TRAIL_LENGTH); mark -= 1) {
+    const age = (state.now - row.times[mark]) / TRAIL;
+    const point = pointAt(finger, mark);
+    if (age > 1 || !point || point.key !== box.key) { break; }
+    drawPath(context, faint(colorOf(finger.lane), Math.max(0.1, 0.8 * (1 - age))), 3, [box.at(after), box.at(point)]);
+    after = point;
+  }
+  context.lineCap = "butt";
+}
+
+/** The fingers that are down. One that several windows have is one dot in the colours of all of them. */
+function drawDots(context, box, fingers) {
+  const groups = new Map();
+  for (const finger of fingers) {
+    const name = finger.row.device + ":" + finger.row.id;
+    groups.set(name, [...(groups.get(name) || []), finger]);
+  }
+  const several = new Set(fingers.map(({ row }) => row.device)).size > 1;
+  for (const [name, group] of groups) {
+    const [x, y] = box.at(group[0].point);
+    const turn = (part) => -Math.PI / 2 + (2 * Math.PI * part) / group.length;
+    group.forEach((finger, k) => {
+      context.fillStyle = colorOf(finger.lane);
+      context.beginPath();
+      context.moveTo(x, y);
+      context.arc(x, y, DOT, turn(k), turn(k + 1));
+      context.fill();
+    });
+    drawCircle(context, x, y, DOT, { line: theme().panel });
+    write(context, several ? name : String(group[0].row.id), x, y + 0.5, { color: theme().panel, font: "600 12px", align: "center" });
+    dotsDrawn.push({ x, y, fingers: group });
+  }
+}
+
+/** A finger that went up or was cancelled a short while ago. */
+function drawEnded(context, box, finger) {
+  const [x, y] = box.at(finger.point);
+  const color = finger.bar.canceled ? theme().red : colorOf(finger.lane);
+  const line = faint(color, Math.max(0.15, 1 - (state.now - finger.bar.to) / TRAIL));
+  drawCircle(context, x, y, DOT - 1, { line, width: 2 });
+  if (finger.bar.canceled) { drawCross(context, line, x, y); }
+  dotsDrawn.push({ x, y, fingers: [finger] });
+}
+
+/** A finger that no window got, where it went down. */
+function drawAlone(context, box, cause) {
+  const [x, y] = box.at(cause);
+  context.setLineDash([3, 3]);
+  drawCircle(context, x, y, DOT - 1, { line: theme().soft });
+  context.setLineDash([]);
+  write(context, String(cause.id), x, y + 0.5, { font: "600 12px", align: "center" });
+}
+
+/** The finger at a place of the screen; a second click on a dot of several windows goes on to the next of them. */
+function hitScreen(x, y) {
+  const dot = [...dotsDrawn].reverse().find((one) => Math.hypot(one.x - x, one.y - y) <= DOT + 3);
+  if (!dot) { return null; }
+  const before = dot.fingers.findIndex(({ lane }) => state.selected && state.selected.lane === lane);
+  const { lane, row, mark } = dot.fingers[(before + 1) % dot.fingers.length];
+  return { lane, row, at: row.marks[mark], event: null };
+}

@@ -1,0 +1,170 @@
+/* ---- Texts that come in, and the page around them. */
+
+/** Reads a text, one of causes or of streams; `wrong` is what is to be told of one that is refused. */
+function readText({ name, text }) {
+  const kind = looksLikeCauses(text) ? "causes" : "stream";
+  if (text.length > MAX_BYTES) { return { name, wrong: "too long: " + kind, lines: [] }; }
+  try {
+    return { name, [kind]: kind === "causes" ? readCauses(text) : readStream(text) };
+  } catch (error) {
+    if (!(error instanceof BadLine)) { throw error; }
+    return { name, wrong: `${kind}: BadLine ${error.line}`, lines: linesOf(text).lines.slice(error.line - 1, error.line) };
+  }
+}
+
+/** Takes texts with their names, and shows what came of them. Where one is refused, nothing changes but what is told. */
+function takeTexts(texts) {
+  const read = texts.map(readText);
+  const refused = read.filter(({ wrong }) => wrong);
+  const notes = refused.map(({ name, wrong, lines }) =>
+    element("p", [{ name: wrong }, ` in ${name}`, ...lines.map((line) => element("pre", line.slice(0, 400)))], "wrong"));
+  if (refused.length > 0) {
+    state.verdict = refused[0].wrong;
+  } else {
+    read.filter(({ stream }) => stream).forEach(({ name, stream }) => Object.assign(state,
+      { stream, streamName: name, causes: state.stream ? null : state.causes }));
+    read.filter(({ causes }) => causes).forEach(({ name, causes }) => Object.assign(state, { causes, causesName: name }));
+    notes.push(...(state.stream ? openModel() : [element("p", "These are causes. The text of the streams is still to come.")]));
+  }
+  byId("notes").replaceChildren(...notes);
+}
+
+/** Makes the model of the texts that are there, and shows all of it. Answers notes on them. */
+function openModel() {
+  const { stream, causes } = state;
+  setPlaying(false);
+  Object.assign(state, { model: makeModel(stream, causes ? causes.causes : []), selected: null, now: 0 });
+  const { channels, messages, finger } = countBars(state.model);
+  const broken = firstBreak(stream);
+  state.verdict = broken === null ? `well formed ${channels} ${messages}` : `stream: NotWellFormed ${broken}`;
+  byId("empty").hidden = true;
+  document.querySelector("main").hidden = false;
+  const names = state.streamName + (causes ? " and " + state.causesName : "");
+  byId("summary").textContent = [`${names}: ${counted(channels, "window")}`, counted(messages, "message"),
+    millis(state.model.last, 1).replace(/\.?0+ /, " ")].join(", ");
+  byId("lanes").setAttribute("aria-label", `Lanes of ${channels} windows with ${finger.bars} fingers, ${finger.canceled} of them cancelled ` +
+    `and ${finger.open} still down. Arrow keys go from message to message.`);
+  byId("screen-text").hidden = causes !== null;
+  sizeLanes();
+  showWhole();
+  showSelected();
+  return modelNotes(broken);
+}
+
+/** What is to be told of the texts beside the picture. */
+function modelNotes(broken) {
+  const { stream, model: { fall, untold } } = state;
+  return [
+    ...(broken === null ? [] : [element("p", [{ name: state.verdict }, ": this message may not come there.",
+      element("pre", stream.lines[broken - 1])], "wrong")]),
+    ...(fall === null ? [] : [element("p", `The moment of line ${fall} is below the one before it; it is drawn where that stands.`)]),
+    ...(untold === null ? [] : [element("p", [`The causes are not those of these streams: line ${untold.cause.line} of them gives a finger to `,
+      nameOf(untold.channel), ", which is told no such thing."], "wrong")]),
+  ];
+}
+
+/** The height of the lanes: all of them, up to most of the window; the rest is scrolled. */
+function sizeLanes() {
+  const height = AXIS + layLanes(state.model);
+  const room = Math.min(Math.max(height, AXIS + 60), Math.max(240, innerHeight * 0.62));
+  byId("lanes-box").style.height = byId("lanes").style.height = room + "px";
+  byId("lanes-space").style.height = Math.max(0, height - room) + "px";
+}
+
+/** Takes files, a character for each byte. */
+async function takeFiles(files) {
+  const read = async (file) => ({ name: file.name, text: new TextDecoder("latin1").decode(await file.arrayBuffer()) });
+  const texts = await Promise.all([...files].map(read)).catch((error) => [error]);
+  if (texts[0] instanceof Error) {
+    byId("notes").replaceChildren(element("p", "The files cannot be read: " + texts[0].message, "wrong"));
+  } else {
+    takeTexts(texts);
+  }
+}
+
+const EXAMPLE = [{ name: "an example", text: `channel 1 left
+1 1000000 motion 1 DOWN 0@100,200
+2 1010000 motion 1 MOVE 0@100,200
+3 1020000 motion 1 UP 0@100,200
+end 1 sent 3 received 3 finished 3
+channel 2 right
+1 1010000 motion 1 DOWN 1@160,400
+2 1020000 motion 1 MOVE 1@160,400
+end 2 sent 2 received 2 finished 2
+` }, { name: "its causes", text: `0 windows 1@0:0,0,540,2400 2@0:540,0,1080,2400
+1000000 down 1 0 100,200 touched 1 row first chosen 1 spies - pilfering - given 1 mute - outside -
+1010000 down 1 1 700,400 touched 2 row split chosen 2 spies - pilfering - given 2 mute - outside -
+1020000 up 1 0 from 1
+` }];
+
+/** Texts as viewer/make writes them, by lines. */
+function joined(texts) { return texts.map(({ name, lines }) => ({ name, text: lines.join("\n") })); }
+
+function listenToFiles() {
+  const files = byId("files");
+  const isOver = (over) => document.body.classList.toggle("over", over);
+  byId("choose").onclick = () => files.click();
+  byId("example").onclick = () => takeTexts(EXAMPLE);
+  files.onchange = () => takeFiles(files.files).then(() => { files.value = ""; });
+  ondragover = (event) => { event.preventDefault(); isOver(true); };
+  ondragleave = () => isOver(false);
+  ondrop = (event) => { event.preventDefault(); isOver(false); takeFiles(event.dataTransfer.files); };
+}
+
+function listenToLanes() {
+  const lanes = byId("lanes");
+  lanes.addEventListener("wheel", onWheel, { passive: false });
+  lanes.onpointerdown = onPointerDown;
+  lanes.onpointermove = onPointerMove;
+  lanes.onpointerup = onPointerUp;
+  lanes.onpointercancel = () => { drag = null; };
+  lanes.onpointerleave = () => { byId("hint").hidden = true; };
+  byId("lanes-box").onscroll = redraw;
+}
+
+function listenToControls() {
+  byId("closer").onclick = () => state.model && zoomByKey(0.5);
+  byId("farther").onclick = () => state.model && zoomByKey(2);
+  byId("whole").onclick = () => state.model && showWhole();
+  byId("keys").onclick = () => {
+    byId("help").hidden = !byId("help").hidden;
+    byId("keys").setAttribute("aria-expanded", String(!byId("help").hidden));
+  };
+  byId("play").onclick = () => setPlaying(!state.playing);
+  byId("slider").oninput = () => { state.now = (state.model.last * Number(byId("slider").value)) / 10000; redraw(); };
+  byId("screen").onclick = ({ offsetX, offsetY }) => {
+    const found = hitScreen(offsetX, offsetY);
+    if (found) { select(found); }
+  };
+  onkeydown = onKey;
+  onresize = () => {
+    if (state.model) { sizeLanes(); }
+    redraw();
+  };
+  darkness.onchange = () => { themeKept = null; redraw(); };
+}
+
+/** Where on the page the message of a line is drawn, for whoever wants to click it. */
+function placeOnPage(line) {
+  const lane = state.model.lanes.find(({ section }) => section.messages.some((message) => message.line === line));
+  const at = lane.section.messages.findIndex((message) => message.line === line);
+  const frame = lanesFrame();
+  const box = byId("lanes").getBoundingClientRect();
+  const row = rowWith(lane, at, null);
+  return { x: box.left + frame.x(lane.section.messages[at].t), y: box.top + AXIS + lane.top + row.top + row.height / 2 - frame.scroll };
+}
+
+/** What tests and scripts may read of the page. */
+window.viewer = Object.freeze({
+  verdict: () => state.verdict,
+  counts: () => countBars(state.model),
+  shown: () => byId("why").innerText,
+  placeOnPage,
+  dots: () => dotsDrawn.map(({ x, y, fingers }) => ({ x, y, windows: fingers.map(({ lane }) => lane.section.name) })),
+  view: () => ({ ...state.view, now: state.now, playing: state.playing }),
+});
+
+listenToFiles();
+listenToLanes();
+listenToControls();
+if (byId("texts").textContent !== "[]") { takeTexts(joined(JSON.parse(byId("texts").textContent))); }

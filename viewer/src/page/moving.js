@@ -1,0 +1,193 @@
+/* ---- Zoom, pan, play, keys, mouse. */
+
+const LEAST_SPAN = 10;
+
+/** Shows these times, within what there is. */
+function setView(from, to) {
+  const { pad, last } = state.model;
+  const span = Math.min(Math.max(to - from, LEAST_SPAN), last + 2 * pad);
+  const begin = Math.min(Math.max((from + to - span) / 2, -pad), last + pad - span);
+  state.view = { from: begin, to: begin + span };
+  redraw();
+}
+
+function showWhole() { setView(-state.model.pad, state.model.last + state.model.pad); }
+
+/** Makes what is seen `factor` times as long, around a time that stays where it is. */
+function zoom(factor, around) {
+  const { from, to } = state.view;
+  const span = Math.min(Math.max((to - from) * factor, LEAST_SPAN), state.model.last + 2 * state.model.pad);
+  const begin = around - ((around - from) / (to - from)) * span;
+  setView(begin, begin + span);
+}
+
+/** Zooms around the moment that the screen shows, where it is seen, and else around the middle. */
+function zoomByKey(factor) {
+  const { view: { from, to }, now } = state;
+  zoom(factor, now >= from && now <= to ? now : (from + to) / 2);
+}
+
+function pan(part) {
+  const by = (state.view.to - state.view.from) * part;
+  setView(state.view.from + by, state.view.to + by);
+}
+
+/** The row of a lane that has a message, the one that was selected before where it has it. */
+function rowWith(lane, at, before) {
+  const has = (row) => row.marks[firstWhere(row.marks.length, (k) => row.marks[k] >= at)] === at;
+  return before && before.lane === lane && has(before) ? before : lane.rows.find(has);
+}
+
+function selectMessage(lane, at) {
+  if (lane && at >= 0 && at < lane.section.messages.length) {
+    select({ lane, at, event: null, row: rowWith(lane, at, state.selected && state.selected.row) });
+  }
+}
+
+/** The message of a lane nearest to the moment that the screen shows. */
+function messageNow({ section: { messages } }) { return nearest(0, messages.length - 1, state.now, (at) => messages[at].t); }
+
+/** Goes to the message before or after in the lane that is selected, or in the first one. */
+function step(by) {
+  const { selected } = state;
+  const lane = selected ? selected.lane : state.model.lanes.find(({ section }) => section.messages.length > 0);
+  if (lane) { selectMessage(lane, selected && !selected.event ? selected.at + by : messageNow(lane)); }
+}
+
+/** Goes to the nearest lane above or below that has messages. */
+function stepLane(by) {
+  const lanes = state.model.lanes;
+  let k = state.selected ? state.selected.lane.number + by : 0;
+  while (lanes[k] && lanes[k].section.messages.length === 0) { k += by; }
+  if (lanes[k]) { selectMessage(lanes[k], messageNow(lanes[k])); }
+}
+
+/** Goes to the next timeout, removal or window that is responsive again, from lane to lane, and around. */
+function stepMark() {
+  const marks = state.model.lanes.flatMap((lane) => lane.events.map((event) => ({ lane, event, row: null, at: null })));
+  const before = marks.findIndex(({ event }) => state.selected && state.selected.event === event);
+  if (marks.length > 0) { select(marks[(before + 1) % marks.length]); }
+}
+
+function stepToEnd(isLast) {
+  const lane = state.selected ? state.selected.lane : state.model.lanes[0];
+  selectMessage(lane, isLast && lane ? lane.section.messages.length - 1 : 0);
+}
+
+let playedAt = 0;
+
+function setPlaying(playing) {
+  state.playing = playing;
+  byId("play").textContent = playing ? "Pause" : "Play";
+  if (playing) {
+    state.now = state.now >= state.model.last ? 0 : state.now;
+    playedAt = performance.now();
+    requestAnimationFrame(playOn);
+  }
+}
+
+/** Goes on by the time since the last frame, at the speed that is chosen. */
+function playOn(at) {
+  if (!state.playing) { return; }
+  const { model: { last }, view: { from, to } } = state;
+  state.now = Math.min(last, state.now + Math.max(at - playedAt, 0) * 1000 * Number(byId("speed").value));
+  playedAt = at;
+  if (state.now > to || state.now < from) { setView(state.now, state.now + to - from); }
+  redraw();
+  if (state.now < last) {
+    requestAnimationFrame(playOn);
+  } else {
+    setPlaying(false);
+  }
+}
+
+/** The slider and the clock of the moment. */
+function showMoment() {
+  const { model: { last }, now } = state;
+  byId("slider").value = last > 0 ? Math.round((Math.max(now, 0) / last) * 10000) : 0;
+  byId("slider").setAttribute("aria-valuetext", millis(now, 100));
+  byId("clock").textContent = millis(now, 100);
+}
+
+const KEYS = {
+  ArrowLeft: (shift) => (shift ? pan(-0.2) : step(-1)),
+  ArrowRight: (shift) => (shift ? pan(0.2) : step(1)),
+  ArrowUp: () => stepLane(-1),
+  ArrowDown: () => stepLane(1),
+  Home: () => stepToEnd(false),
+  End: () => stepToEnd(true),
+  m: () => stepMark(),
+  "+": () => zoomByKey(0.5),
+  "=": () => zoomByKey(0.5),
+  "-": () => zoomByKey(2),
+  "0": () => showWhole(),
+  " ": () => setPlaying(!state.playing),
+  Escape: () => select(null),
+};
+
+function onKey(event) {
+  const isControl = event.target.closest("button, select, input") && event.key !== "Escape";
+  if (state.model && !isControl && !event.ctrlKey && !event.metaKey && !event.altKey && Object.hasOwn(KEYS, event.key)) {
+    event.preventDefault();
+    KEYS[event.key](event.shiftKey);
+  }
+}
+
+/** The wheel over the lanes zooms, sideways or with shift it pans; over the names it scrolls. */
+function onWheel(event) {
+  const frame = lanesFrame();
+  const { deltaX, deltaY, offsetX } = event;
+  const lines = event.deltaMode === 1 ? 24 : 1;
+  if (offsetX < frame.names) { return; }
+  event.preventDefault();
+  if (event.shiftKey || Math.abs(deltaX) > Math.abs(deltaY)) {
+    pan(((deltaX || deltaY) * lines) / frame.width);
+  } else {
+    zoom(Math.exp(Math.max(-1, Math.min(1, deltaY * lines * 0.003))), frame.t(offsetX));
+  }
+}
+
+let drag = null;
+
+function onPointerDown({ button, clientX, clientY, pointerId }) {
+  if (button === 0) {
+    drag = { x: clientX, y: clientY, view: state.view, scroll: byId("lanes-box").scrollTop, isMoved: false };
+    byId("lanes").setPointerCapture(pointerId);
+  }
+}
+
+function onPointerMove(event) {
+  if (!drag) {
+    showHint(event, hitLanes(event.offsetX, event.offsetY));
+    return;
+  }
+  const dx = event.clientX - drag.x;
+  const dy = event.clientY - drag.y;
+  drag.isMoved = drag.isMoved || Math.hypot(dx, dy) > 4;
+  if (drag.isMoved) {
+    const { width, names } = lanesFrame();
+    const by = (dx * (drag.view.to - drag.view.from)) / (width - names);
+    setView(drag.view.from - by, drag.view.to - by);
+    byId("lanes-box").scrollTop = drag.scroll - dy;
+    byId("hint").hidden = true;
+  }
+}
+
+function onPointerUp({ offsetX, offsetY }) {
+  const found = drag && !drag.isMoved ? hitLanes(offsetX, offsetY) : null;
+  drag = null;
+  if (found) { select(found); }
+}
+
+/** The line under the mouse, beside it. */
+function showHint({ clientX, clientY }, found) {
+  const hint = byId("hint");
+  hint.hidden = !found;
+  if (found) {
+    const { line, cause } = found.event || found.lane.section.messages[found.at];
+    hint.textContent = line ? state.stream.lines[line - 1] : plain(SAY[cause.word](cause));
+    const isLow = clientY + 18 + hint.offsetHeight > innerHeight;
+    hint.style.left = Math.max(4, Math.min(clientX + 12, innerWidth - hint.offsetWidth - 4)) + "px";
+    hint.style.top = (isLow ? clientY - 12 - hint.offsetHeight : clientY + 18) + "px";
+  }
+}
