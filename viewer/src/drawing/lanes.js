@@ -34,7 +34,8 @@ function drawLanes() {
   const { context, width, height } = startDrawing(byId("lanes"));
   const frame = lanesFrame();
   const lanes = state.model.lanes;
-  const marks = axisMarks(frame);
+  const marks = axisMarks(context, frame);
+  drawStub(context, frame, height);
   marks.forEach(({ x }) => fillBox(context, theme().grid, x, AXIS, 1, height));
   const first = firstWhere(lanes.length, (k) => lanes[k].top + lanes[k].height > frame.scroll);
   for (let k = first; k < lanes.length && lanes[k].top - frame.scroll + AXIS < height; k += 1) {
@@ -48,13 +49,26 @@ function drawLanes() {
   if (lanes.length === 0) { write(context, "The text has no windows.", frame.names + 12, AXIS + 24, { font: "14px" }); }
 }
 
-/** The times of the axis that are seen, in steps of 1, 2 or 5 with zeros, so that their labels stand apart. */
-function axisMarks(frame) {
-  const least = Math.max(frame.t(frame.names + 84) - frame.t(frame.names), 1);
+/** The times of the axis that are seen, in steps of 1, 2 or 5 with zeros, so that their labels stand apart: as far as the widest of them asks. */
+function axisMarks(context, frame) {
+  context.font = "12px " + FONT;
+  let room = 60;
+  for (let tries = 0; ; tries += 1) {
+    const marks = marksApart(frame, room);
+    const wide = Math.max(0, ...marks.map(({ label }) => context.measureText(label).width)) + 14;
+    if (wide <= room || tries > 3) { return marks; }
+    room = wide;
+  }
+}
+
+/** The times of the axis, at least so many pixels apart. None stands in the stub before the first event. */
+function marksApart(frame, room) {
+  const least = Math.max(frame.t(frame.names + room) - frame.t(frame.names), 1);
   const power = Math.pow(10, Math.floor(Math.log10(least)));
   const step = [1, 2, 5, 10].map((one) => one * power).find((one) => one >= least) || least;
   const marks = [];
-  for (let k = Math.ceil(state.view.from / step); k * step <= state.view.to && marks.length < 400; k += 1) {
+  const from = state.model.first < 0 ? Math.max(state.view.from, 0) : state.view.from;
+  for (let k = Math.ceil(from / step); k * step <= state.view.to && marks.length < 400; k += 1) {
     marks.push({ x: Math.round(frame.x(k * step)), label: millis(k * step || 0, step) });
   }
   return marks;
@@ -67,8 +81,30 @@ function drawAxis(context, frame, marks) {
     fillBox(context, theme().soft, x, AXIS - 6, 1, 6);
     write(context, x + 4 + context.measureText(label).width < frame.width ? label : "", x + 4, 11);
   }
+  drawStubLabel(context, frame);
   fillBox(context, theme().panel, 0, 0, frame.names, AXIS - 1);
   write(context, "window", 11, 11);
+}
+
+/** The stub before the first event: a band that is not to scale, with a jagged end. */
+function drawStub(context, frame, height) {
+  const right = frame.x(0);
+  if (state.model.first === 0 || right <= frame.names) { return; }
+  fillBox(context, theme().band, frame.names, AXIS, right - frame.names, height - AXIS);
+  const jags = [];
+  for (let y = AXIS, k = 0; y <= height; y += 6, k += 1) { jags.push([right - (k % 2 === 0 ? 1 : 5), y]); }
+  drawPath(context, theme().line, 1, jags);
+}
+
+/** How long the stub stands for, in as many words as there is room for. */
+function drawStubLabel(context, frame) {
+  const right = frame.x(0) - 4;
+  const room = right - Math.max(frame.names + 4, frame.x(state.model.first - state.model.pad));
+  if (state.model.first === 0 || room < 20) { return; }
+  const whole = spanOf(state.model.before);
+  context.font = "12px " + FONT;
+  const said = [whole + " before", whole, whole.split(" ").slice(0, 2).join(" ")].find((one) => context.measureText(one).width <= room);
+  if (said) { write(context, said, right, 11, { align: "right" }); }
 }
 
 function drawLane(context, frame, lane) {
@@ -88,13 +124,20 @@ function drawLane(context, frame, lane) {
   fillBox(context, theme().line, 0, top + lane.height - 1, frame.width, 1);
 }
 
+/** The colour of a window at the edge of its lane. */
+function drawBand(context, color, dash, top, height) {
+  context.setLineDash(dash);
+  drawPath(context, color, 4, [[2, top], [2, top + height]]);
+  context.setLineDash([]);
+}
+
 function drawLaneName(context, frame, lane, top) {
   const isSelected = state.selected && state.selected.lane === lane;
   const isWide = frame.names >= 150;
   const room = frame.names - (isWide ? 68 : 38);
   const count = lane.section.messages.length;
   fillBox(context, isSelected ? theme().band : theme().panel, 0, top, frame.names, lane.height - 1);
-  fillBox(context, colorOf(lane), 0, top, 4, lane.height - 1);
+  drawBand(context, colorOf(lane), dashOf(lane), top, lane.height - 1);
   write(context, lane.section.name, 11, top + 16, { color: theme().ink, font: "600 14px", room });
   write(context, isWide ? counted(count, "message") : count + " msg", 11, top + 33, { room });
   const devices = new Set(lane.rows.map(({ device }) => device).filter(Boolean));

@@ -5,9 +5,10 @@ const state = {
   model: null, view: { from: 0, to: 1 }, now: 0, playing: false, selected: null,
 };
 
+/* Each has a contrast of at least 4.5 with its ground, and any two of them, and the red, are told apart by eyes that lack one kind of cone. */
 const COLORS = {
-  light: ["#1f6fb5", "#a86400", "#1a8055", "#7850ab", "#0b7f8c", "#80633a", "#566675", "#5c7d00"],
-  dark: ["#6db3f2", "#eeb04c", "#5fd3a0", "#b79ae6", "#56c9d8", "#cdaa7a", "#a3b3c2", "#b4d052"],
+  light: ["#0000cc", "#337766", "#773388", "#661100", "#8800ff", "#113355"],
+  dark: ["#66bbee", "#ddcc00", "#cc55ee", "#00aa00", "#cceeff", "#11ff99"],
 };
 const NAMED_COLORS = ["panel", "ink", "soft", "line", "grid", "band", "red", "now"];
 const FONT = "system-ui, 'Segoe UI', 'Liberation Sans', sans-serif";
@@ -27,6 +28,9 @@ function theme() {
 }
 
 function colorOf(lane) { return theme().windows[lane.number % theme().windows.length]; }
+
+/** Windows behind the last colour begin again with the first, and their edges are dashed. */
+function dashOf(lane) { return Math.floor(lane.number / theme().windows.length) % 2 === 0 ? [] : [6, 4]; }
 
 /** A colour that lets some of what is behind it through. */
 function faint(color, alpha) { return color + Math.round(alpha * 255).toString(16).padStart(2, "0"); }
@@ -72,12 +76,18 @@ function drawCross(context, color, x, y) {
   drawPath(context, color, 1.75, [[x + 3.5, y - 3.5], [x - 3.5, y + 3.5]]);
 }
 
-/** Writes a text, cut with three dots where it is wider than its room. */
+/** A text as it is shown in its room: where it is too wide, cut in front with three dots, since the names of windows differ at their ends. */
+function cutFront(context, text, room) {
+  const isWide = (shown) => context.measureText(shown).width > room;
+  if (!isWide(text)) { return text; }
+  const cut = firstWhere(text.length, (k) => !isWide("…" + text.slice(k)));
+  return cut < text.length ? "…" + text.slice(cut) : "";
+}
+
+/** Writes a text, cut where it is wider than its room. */
 function write(context, text, x, y, { color = theme().soft, font = "12px", align = "left", room = Infinity } = {}) {
   Object.assign(context, { font: font + " " + FONT, fillStyle: color, textAlign: align });
-  const isWide = (shown) => context.measureText(shown).width > room;
-  const kept = isWide(text) ? firstWhere(text.length, (k) => isWide(text.slice(0, k + 1) + "…")) : 0;
-  context.fillText(isWide(text) ? (kept > 0 ? text.slice(0, kept) + "…" : "") : text, x, y);
+  context.fillText(room === Infinity ? text : cutFront(context, text, room), x, y);
 }
 
 /** Fits a canvas to the size that the page gives it, and clears it. */
@@ -116,10 +126,22 @@ function millis(micros, step) {
 /** So many of something. */
 function counted(count, word) { return count.toLocaleString("en") + " " + word + (count === 1 ? "" : "s"); }
 
-/** The exact distance of a moment from the first one. */
+/** The exact distance of a moment from the first event of a device. */
 function exactMillis(moment) {
   const micros = moment - state.model.zero;
   const size = micros < 0n ? -micros : micros;
   const part = (size % 1000n).toString().padStart(3, "0").replace(/0+$/, "");
-  return (micros < 0n ? "-" : "") + (size / 1000n).toLocaleString("en") + (part ? "." + part : "") + " ms";
+  return (size / 1000n).toLocaleString("en") + (part ? "." + part : "") + (micros < 0n ? " ms before the first event" : " ms");
+}
+
+/** A span of time in its two greatest units, as `2 d 3 h`. */
+function spanOf(micros) {
+  const millis = Number(micros) / 1000;
+  const units = [[86400000, "d"], [3600000, "h"], [60000, "min"], [1000, "s"], [1, "ms"]];
+  const k = units.findIndex(([size]) => millis >= size);
+  if (k < 0) { return millis + " ms"; }
+  const [size, name] = units[k];
+  const [small, smallName] = units[Math.min(k + 1, units.length - 1)];
+  const rest = Math.floor((millis % size) / small);
+  return `${Math.floor(millis / size).toLocaleString("en")} ${name}` + (small < size && rest > 0 ? ` ${rest} ${smallName}` : "");
 }

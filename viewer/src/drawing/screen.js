@@ -4,9 +4,11 @@ const TRAIL = 500000;
 const TRAIL_LENGTH = 240;
 const DOT = 12;
 let dotsDrawn = [];
+let labelsDrawn = [];
 
-/** What is drawn side by side, with the box around all that is on it: with causes displays, and else windows that have fingers. */
-function makeSurfaces(model) {
+/** What is drawn side by side, with the box around all that is on it: with causes displays, and else windows that have fingers. A display whose extent the
+    session tells is of that extent, whatever lies on it. */
+function makeSurfaces(model, displays) {
   const surfaces = new Map();
   const add = (key, title, order, x, y) => {
     const hull = surfaces.get(key) || { key, title, order, left: x, top: y, right: x + 1, bottom: y + 1 };
@@ -16,19 +18,23 @@ function makeSurfaces(model) {
     hull.right = Math.max(hull.right, x);
     hull.bottom = Math.max(hull.bottom, y);
   };
+  const titleOf = (display) => `display ${display}` + (displays.has(display) ? "" : ", as far as its windows go");
   for (const { display, left, top, right, bottom } of model.snapshots.flatMap(({ windows }) => windows)) {
-    add(display, "display " + display, display, left, top);
-    add(display, "display " + display, display, right, bottom);
+    add(display, titleOf(display), display, left, top);
+    add(display, titleOf(display), display, right, bottom);
   }
-  model.alone.forEach(({ cause, display }) => add(display, "display " + display, display, cause.x, cause.y));
+  model.alone.forEach(({ cause, display }) => add(display, titleOf(display), display, cause.x, cause.y));
   for (const { section, number } of model.lanes) {
     for (const { pointers, action, origin } of section.messages) {
       if (pointers && action !== "OUTSIDE" && origin) {
         const { display } = origin;
-        const surface = display === null ? ["lane " + number, section.name, number] : [display, "display " + display, display];
+        const surface = display === null ? ["lane " + number, section.name, number] : [display, titleOf(display), display];
         [OWN_CORNER, ...pointers].forEach(({ x, y }) => add(...surface, x + origin.x, y + origin.y));
       }
     }
+  }
+  for (const [key, { width, height }] of displays) {
+    if (surfaces.has(key)) { Object.assign(surfaces.get(key), { left: 0, top: 0, right: width, bottom: height }); }
   }
   return [...surfaces.values()].sort((a, b) => a.order - b.order);
 }
@@ -79,56 +85,70 @@ function pointAt({ lane, row }, mark) {
 
 function drawScreen() {
   const { context, width, height } = startDrawing(byId("screen"));
+  paintScreen(context, width, height);
+}
+
+/** Draws the moment on a pen of this size. */
+function paintScreen(context, width, height) {
   const model = state.model;
   dotsDrawn = [];
+  labelsDrawn = [];
   if (model.surfaces.length === 0) {
     write(context, "The text has no fingers.", 4, 20, { font: "14px" });
     return;
   }
   const fingers = fingersNow(model);
   for (const box of laySurfaces(model.surfaces, width, height)) {
-    drawSurface(context, model, box);
+    const frames = drawSurface(context, model, box);
     const here = fingers.map((finger) => ({ ...finger, point: pointAt(finger, finger.mark) })).filter(({ point }) => point && point.key === box.key);
     here.forEach((finger) => drawTrail(context, box, finger));
     here.filter(({ isDown }) => !isDown).forEach((finger) => drawEnded(context, box, finger));
-    drawDots(context, box, here.filter(({ isDown }) => isDown));
     const alone = model.alone.filter(({ display, from, to }) => display === box.key && from <= state.now && state.now < to);
     alone.forEach(({ cause }) => drawAlone(context, box, cause));
+    drawDots(context, box, here.filter(({ isDown }) => isDown));
+    const dots = [...dotsDrawn, ...alone.map(({ cause }) => ({ x: box.at(cause)[0], y: box.at(cause)[1] }))];
+    frames.forEach((frame) => drawLabel(context, box, frame, dots));
   }
 }
 
-/** A display or a window's own places, and on a display the frames of the moment, the front one last. */
+/** Cuts what is drawn to a box. */
+function within(context, { x, y, width, height }, draw) {
+  context.save();
+  context.beginPath();
+  context.rect(x, y, width, height);
+  context.clip();
+  draw();
+  context.restore();
+}
+
+/** A display or a window's own places, and on a display the frames of the moment, the front one last. Answers them, the front one first. */
 function drawSurface(context, model, box) {
   fillBox(context, theme().band, box.x, box.y, box.width, box.height);
   Object.assign(context, { strokeStyle: theme().line, lineWidth: 1 });
   context.strokeRect(box.x, box.y, box.width, box.height);
   write(context, box.title, box.x, box.y - 10, { font: "13px", room: box.room });
   const shown = model.snapshots[firstWhere(model.snapshots.length, (k) => model.snapshots[k].t > state.now) - 1];
-  const frames = shown ? shown.windows.filter(({ display }) => display === box.key).reverse() : [];
-  const labels = [];
-  frames.forEach((frame) => drawFrame(context, model, box, frame, labels));
+  const frames = shown ? shown.windows.filter(({ display }) => display === box.key).map((frame) => placedFrame(model, box, frame)) : [];
+  within(context, box, () => [...frames].reverse().forEach((frame) => drawFrame(context, frame)));
+  return frames;
 }
 
-/** A window's frame with its name, below the names of others at the same corner; sideways where the frame is narrow. */
-function drawFrame(context, model, box, frame, labels) {
-  const lane = model.lanes.find(({ section }) => section.id === frame.channel);
-  const color = lane ? colorOf(lane) : theme().soft;
-  const [left, top] = box.at({ x: frame.left, y: frame.top });
-  const width = (frame.right - frame.left) * box.scale;
-  const height = (frame.bottom - frame.top) * box.scale;
-  fillBox(context, faint(color, 0.1), left, top, width, height);
+/** Where the frame of a window stands on the canvas, in which colour. */
+function placedFrame(model, box, { channel, left, top, right, bottom }) {
+  const lane = model.lanes.find(({ section }) => section.id === channel);
+  const [x, y] = box.at({ x: left, y: top });
+  return {
+    x, y, width: (right - left) * box.scale, height: (bottom - top) * box.scale,
+    color: lane ? colorOf(lane) : theme().soft, dash: lane ? dashOf(lane) : [], name: model.names.get(channel) || "channel " + channel,
+  };
+}
+
+function drawFrame(context, { x, y, width, height, color, dash }) {
+  fillBox(context, faint(color, 0.08), x, y, width, height);
   Object.assign(context, { strokeStyle: color, lineWidth: 1.5 });
-  context.strokeRect(left + 1.5, top + 1.5, Math.max(width - 3, 1), Math.max(height - 3, 1));
-  const isTall = width < 40 && height > width;
-  let y = 13;
-  while (labels.some((label) => Math.abs(label.left - left) < 60 && Math.abs(label.y - top - y) < 14)) { y += 15; }
-  labels.push({ left, y: top + y });
-  context.save();
-  context.translate(left, top);
-  context.rotate(isTall ? Math.PI / 2 : 0);
-  const label = model.names.get(frame.channel) || "channel " + frame.channel;
-  write(context, label, 7, isTall ? -width / 2 : y, { color, font: "600 12px", room: (isTall ? height : width) - 10 });
-  context.restore();
+  context.setLineDash(dash);
+  context.strokeRect(x + 1.5, y + 1.5, Math.max(width - 3, 1), Math.max(height - 3, 1));
+  context.setLineDash([]);
 }
 
 /** The way that a finger came, fainter the longer ago. */

@@ -107,13 +107,36 @@ function makeRows({ messages }) {
   ];
 }
 
-/** Gives each message, naming and cause its time, in microseconds from the first moment of the streams, and answers what
-    the times are like. Where moments fall in a section, the greatest so far is taken; `fall` is the first such line. */
+/** Whether a message or a cause comes from an event of a device. */
+function isOfDevice({ kind, word }) { return kind ? kind !== "focus" : ["down", "slip", "up", "palm", "reset", "key"].includes(word); }
+
+function leastMoment(list) { return list.reduce((least, { moment }) => (least === null || moment < least ? moment : least), null); }
+
+/** Gives each message, naming and cause its time: microseconds from the first event of a device, or from the first line where there is none. What comes
+    before, as windows at moment 0 on a phone that was up for days, is laid evenly into a stub from `first` to 0, which stands for `before` microseconds.
+    Where moments fall in a section, the greatest so far is taken; `fall` is the first such line. */
 function setTimes({ sections, namings }, causes) {
-  const told = [...namings, ...sections.flatMap(({ messages }) => messages)];
-  const least = (moment, one) => (moment === null || one.moment < moment ? one.moment : moment);
-  const zero = (told.length > 0 ? told : causes).reduce(least, null) || 0n;
-  [...told, ...causes].forEach((one) => { one.t = Number(one.moment - zero); });
+  const messages = sections.flatMap((section) => section.messages);
+  const all = [...namings, ...messages, ...causes];
+  const begin = leastMoment(all) || 0n;
+  const event = leastMoment([...messages, ...causes].filter(isOfDevice));
+  const zero = event === null ? begin : event;
+  all.forEach((one) => { one.t = Number(one.moment - zero); });
+  const last = all.reduce((most, { t }) => Math.max(most, t), 0);
+  const times = { zero, last, before: zero - begin, first: begin < zero ? -Math.max(last * 0.08, 1000) : 0, pad: Math.max(last * 0.04, 500) };
+  layStub(all.filter(({ t }) => t < 0), times.first);
+  return { ...times, fall: raiseTimes(sections) };
+}
+
+/** Lays what comes before the first event into the stub, moment after moment. */
+function layStub(early, first) {
+  const moments = [...new Set(early.map(({ moment }) => moment))].sort((a, b) => (a < b ? -1 : 1));
+  const places = new Map(moments.map((moment, k) => [moment, first * (moments.length - k) / (moments.length + 1)]));
+  early.forEach((one) => { one.t = places.get(one.moment); });
+}
+
+/** Lets no time fall in a section. Answers the first line whose moment does, or null. */
+function raiseTimes(sections) {
   let fall = null;
   for (const { messages } of sections) {
     for (let k = 1; k < messages.length; k += 1) {
@@ -121,8 +144,7 @@ function setTimes({ sections, namings }, causes) {
       messages[k].t = Math.max(messages[k].t, messages[k - 1].t);
     }
   }
-  const last = [...told, ...causes].reduce((most, { t }) => Math.max(most, t), 0);
-  return { zero, fall, last, pad: Math.max(last * 0.04, 500) };
+  return fall;
 }
 
 /** The marks of a lane: its timeouts, and of the causes those that remove it or find it responsive again. */
@@ -154,8 +176,8 @@ function makeLane(section, number, { namings }, causes, end) {
   return lane;
 }
 
-/** All that the page draws, from a stream and causes, of which there may be none. */
-function makeModel(stream, causes) {
+/** All that the page draws, from a stream and causes, of which there may be none, and the extents of displays that are known. */
+function makeModel(stream, causes, displays = new Map()) {
   const model = { stream, ...setTimes(stream, causes), names: new Map(stream.sections.map(({ id, name }) => [id, name])) };
   model.lanes = stream.sections.map((section, number) => makeLane(section, number, stream, causes, model.last + model.pad * 0.75));
   model.snapshots = causes.filter(({ word }) => word === "windows");
@@ -163,7 +185,7 @@ function makeModel(stream, causes) {
   followHolders(causes);
   model.untold = linkCauses(model, causes);
   model.alone = fingersOfNobody(causes, model.origins);
-  model.surfaces = makeSurfaces(model);
+  model.surfaces = makeSurfaces(model, displays);
   return model;
 }
 

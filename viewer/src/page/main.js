@@ -122,6 +122,13 @@ function listenToLanes() {
   byId("lanes-box").onscroll = redraw;
 }
 
+/** Goes to a part of the time that there is. */
+function setMoment(part) {
+  const { first, last } = state.model;
+  state.now = first + (last - first) * part;
+  redraw();
+}
+
 function listenToControls() {
   byId("closer").onclick = () => state.model && zoomByKey(0.5);
   byId("farther").onclick = () => state.model && zoomByKey(2);
@@ -131,7 +138,7 @@ function listenToControls() {
     byId("keys").setAttribute("aria-expanded", String(!byId("help").hidden));
   };
   byId("play").onclick = () => setPlaying(!state.playing);
-  byId("slider").oninput = () => { state.now = (state.model.last * Number(byId("slider").value)) / 10000; redraw(); };
+  byId("slider").oninput = () => { setMoment(Number(byId("slider").value) / 10000); };
   byId("screen").onclick = ({ offsetX, offsetY }) => {
     const found = hitScreen(offsetX, offsetY);
     if (found) { select(found); }

@@ -4,19 +4,19 @@ const LEAST_SPAN = 10;
 
 /** Shows these times, within what there is. */
 function setView(from, to) {
-  const { pad, last } = state.model;
-  const span = Math.min(Math.max(to - from, LEAST_SPAN), last + 2 * pad);
-  const begin = Math.min(Math.max((from + to - span) / 2, -pad), last + pad - span);
+  const { pad, first, last } = state.model;
+  const span = Math.min(Math.max(to - from, LEAST_SPAN), last - first + 2 * pad);
+  const begin = Math.min(Math.max((from + to - span) / 2, first - pad), last + pad - span);
   state.view = { from: begin, to: begin + span };
   redraw();
 }
 
-function showWhole() { setView(-state.model.pad, state.model.last + state.model.pad); }
+function showWhole() { setView(state.model.first - state.model.pad, state.model.last + state.model.pad); }
 
 /** Makes what is seen `factor` times as long, around a time that stays where it is. */
 function zoom(factor, around) {
   const { from, to } = state.view;
-  const span = Math.min(Math.max((to - from) * factor, LEAST_SPAN), state.model.last + 2 * state.model.pad);
+  const span = Math.min(Math.max((to - from) * factor, LEAST_SPAN), state.model.last - state.model.first + 2 * state.model.pad);
   const begin = around - ((around - from) / (to - from)) * span;
   setView(begin, begin + span);
 }
@@ -103,10 +103,11 @@ function playOn(at) {
 
 /** The slider and the clock of the moment. */
 function showMoment() {
-  const { model: { last }, now } = state;
-  byId("slider").value = last > 0 ? Math.round((Math.max(now, 0) / last) * 10000) : 0;
-  byId("slider").setAttribute("aria-valuetext", millis(now, 100));
-  byId("clock").textContent = millis(now, 100);
+  const { model: { first, last }, now } = state;
+  const told = now < 0 ? "before the first event" : millis(now, 100);
+  byId("slider").value = last > first ? Math.round(((now - first) / (last - first)) * 10000) : 0;
+  byId("slider").setAttribute("aria-valuetext", told);
+  byId("clock").textContent = told;
 }
 
 const KEYS = {

@@ -1,0 +1,37 @@
+/* ---- The names of windows on the screen: each on a plate of its own, at the place of its frame where it hides no finger and no other name. */
+
+const LABEL_HEIGHT = 17;
+
+function overlaps(a, b) { return a.x < b.x + b.width && b.x < a.x + a.width && a.y < b.y + b.height && b.y < a.y + a.height; }
+
+/** The part of a frame that is on its surface. */
+function seenPart(box, frame) {
+  const x = Math.max(frame.x, box.x);
+  const y = Math.max(frame.y, box.y);
+  return { x, y, width: Math.min(frame.x + frame.width, box.x + box.width) - x, height: Math.min(frame.y + frame.height, box.y + box.height) - y };
+}
+
+/** Where a label of this width may stand in a frame: down its left edge, then down its right one, then down its middle. */
+function labelPlaces({ x, y, width, height }, wide) {
+  const lines = Math.max(1, Math.min(60, Math.floor((height - 4) / LABEL_HEIGHT)));
+  const columns = [x + 4, x + width - wide - 4, x + (width - wide) / 2];
+  return columns.flatMap((left) => Array.from({ length: lines }, (_, line) => ({ x: left, y: y + 3 + line * LABEL_HEIGHT, width: wide, height: LABEL_HEIGHT - 1 })));
+}
+
+/** Writes the name of a window. Where every place is taken, it stands at the one that the fewest fingers and names are hidden at. */
+function drawLabel(context, box, frame, dots) {
+  const seen = seenPart(box, frame);
+  if (seen.width <= 0 || seen.height <= 0) { return; }
+  context.font = "600 12px " + FONT;
+  const room = Math.max(seen.width, Math.min(box.width, 90)) - 14;
+  const text = cutFront(context, frame.name, room);
+  const fingers = dots.map(({ x, y }) => ({ x: x - DOT - 2, y: y - DOT - 2, width: 2 * DOT + 4, height: 2 * DOT + 4 }));
+  const taken = [...labelsDrawn, ...fingers];
+  const places = labelPlaces(seen, context.measureText(text).width + 8);
+  const hides = (place) => taken.filter((one) => overlaps(one, place)).length;
+  const place = places.find((one) => hides(one) === 0) || places.reduce((best, one) => (hides(one) < hides(best) ? one : best));
+  const left = Math.max(box.x + 2, Math.min(place.x, box.x + box.width - place.width - 2));
+  labelsDrawn.push({ ...place, x: left, name: frame.name });
+  fillBox(context, faint(theme().panel, 0.86), left, place.y, place.width, place.height);
+  write(context, text, left + 4, place.y + 8.5, { color: frame.color, font: "600 12px" });
+}
