@@ -5,35 +5,48 @@ const LANE_PAD = 8;
 const LANE_LEAST = 46;
 const HEIGHTS = { finger: 18, outside: 14, key: 18, focus: 13, event: 18 };
 
-/** Where each lane and each of its rows stands, from the top of all lanes. Answers the height of all. */
+/** Where each drawn lane and each of its rows stands, from the top of all lanes. Below a row stands what came in its place, where two streams are compared.
+    Answers the height of all. */
 function layLanes(model) {
   let top = 0;
-  for (const lane of model.lanes) {
+  for (const lane of model.shown) {
     let y = LANE_PAD + (lane.events.length > 0 ? HEIGHTS.event : 0);
-    for (const row of lane.rows) {
-      Object.assign(row, { top: y, height: HEIGHTS[row.kind] });
+    const lay = (row, less) => {
+      Object.assign(row, { top: y, height: HEIGHTS[row.kind] - less });
       y += row.height;
+    };
+    for (const row of lane.rows) {
+      lay(row, 0);
+      const other = lane.partner && lane.partner.ofRow.get(row);
+      if (other) { lay(other, 1); }
     }
+    if (lane.partner) { lane.partner.extra.forEach((row) => lay(row, 1)); }
     Object.assign(lane, { top, height: Math.max(LANE_LEAST, y + LANE_PAD) });
     top += lane.height;
   }
   return top;
 }
 
-/** The place of the lanes on their canvas: the width of the names, and the way from times to pixels and back. */
-function lanesFrame() {
-  const { clientWidth: width, clientHeight: height } = byId("lanes");
+/** The place of the lanes on a pen of this size: the width of the names, and the way from times to pixels and back. */
+function frameOf(width, height, scroll) {
   const names = Math.round(Math.min(220, Math.max(104, width * 0.2)));
   const { from, to } = state.view;
   const scale = (width - names) / (to - from);
-  const scroll = byId("lanes-box").scrollTop;
   return { width, height, names, scroll, x: (t) => names + (t - from) * scale, t: (x) => from + (x - names) / scale };
 }
 
-function drawLanes() {
-  const { context, width, height } = startDrawing(byId("lanes"));
-  const frame = lanesFrame();
-  const lanes = state.model.lanes;
+/** The place of the lanes on their canvas. */
+function lanesFrame() {
+  const { clientWidth, clientHeight } = byId("lanes");
+  return frameOf(clientWidth, clientHeight, byId("lanes-box").scrollTop);
+}
+
+function drawLanes() { paintLanes(startDrawing(byId("lanes")).context, lanesFrame()); }
+
+/** Draws the lanes on a pen. */
+function paintLanes(context, frame) {
+  const { width, height } = frame;
+  const lanes = state.model.shown;
   const marks = axisMarks(context, frame);
   drawStub(context, frame, height);
   marks.forEach(({ x }) => fillBox(context, theme().grid, x, AXIS, 1, height));
@@ -46,7 +59,8 @@ function drawLanes() {
   }
   drawAxis(context, frame, marks);
   fillBox(context, theme().line, frame.names - 0.5, 0, 1, height);
-  if (lanes.length === 0) { write(context, "The text has no windows.", frame.names + 12, AXIS + 24, { font: "14px" }); }
+  const none = state.model.lanes.length === 0 ? "The text has no windows." : "All windows are hidden; u shows them.";
+  if (lanes.length === 0) { write(context, none, frame.names + 12, AXIS + 24, { font: "14px" }); }
 }
 
 /** The times of the axis that are seen, in steps of 1, 2 or 5 with zeros, so that their labels stand apart: as far as the widest of them asks. */
@@ -117,7 +131,9 @@ function drawLane(context, frame, lane) {
     drawBars(context, frame, lane, row, row.kept, top);
     drawBars(context, frame, lane, row, row.canceled, top);
   }
+  if (lane.partner) { drawPartner(context, frame, lane, top); }
   lane.events.forEach((event) => drawEvent(context, frame, event, top, lane.height));
+  state.faults.filter((fault) => fault.lane === lane).forEach((fault) => drawFault(context, frame, fault, top));
   if (state.selected && state.selected.lane === lane) { drawSelected(context, frame, state.selected, top); }
   context.restore();
   drawLaneName(context, frame, lane, top);
@@ -149,131 +165,3 @@ function drawLaneName(context, frame, lane, top) {
   }
 }
 
-/** Draws the bars of a list that are seen. Where several begin on one pixel and are thin, the first stands for all. */
-function drawBars(context, frame, lane, row, bars, top) {
-  let k = firstWhere(bars.length, (at) => bars[at].to >= state.view.from);
-  while (k < bars.length && bars[k].from <= state.view.to) {
-    const left = Math.max(frame.x(bars[k].from), frame.names - 4);
-    const right = Math.min(frame.x(bars[k].to), frame.width + 4);
-    drawBar(context, frame, lane, row, bars[k], left, right, top + row.top);
-    const next = frame.t(Math.floor(left) + 1);
-    k = right - left < 1 ? Math.max(k + 1, firstWhere(bars.length, (at) => bars[at].from >= next)) : k + 1;
-  }
-}
-
-function drawBar(context, frame, lane, row, bar, left, right, top) {
-  const middle = top + row.height / 2;
-  if (row.kind === "outside") {
-    drawCircle(context, left, middle, 4, { line: colorOf(lane) });
-    return;
-  }
-  const isThin = row.kind === "focus";
-  const color = bar.canceled ? theme().red : colorOf(lane);
-  const box = { left, middle, width: Math.max(right - left, 1), height: isThin ? 4 : row.height - 5 };
-  const fill = isThin ? color : bar.open ? hatch(context, color) : bar.canceled ? faint(color, 0.28) : color;
-  if (box.width <= 4) {
-    fillBox(context, bar.canceled ? color : fill, Math.round(left), middle - box.height / 2, Math.round(box.width), box.height);
-    return;
-  }
-  context.beginPath();
-  context.roundRect(left, middle - box.height / 2, box.width, box.height, 3);
-  context.fillStyle = fill;
-  context.fill();
-  if ((bar.open || bar.canceled) && !isThin) {
-    Object.assign(context, { strokeStyle: color, lineWidth: 1.25 });
-    context.stroke();
-  }
-  if (bar.canceled) { drawCross(context, color, right, middle); }
-  if (!isThin && box.width > 8) {
-    const ink = bar.canceled || bar.open ? color : theme().panel;
-    drawTicks(context, frame, row, bar, box, faint(ink, 0.85));
-    drawKeyName(context, row, bar, box, ink);
-  }
-}
-
-/** A tick for each message of a bar; where they stand too close, a line along the bar. */
-function drawTicks(context, frame, row, bar, { left, middle, width, height }, color) {
-  const { from, to } = state.view;
-  const count = bar.last - bar.first + 1;
-  const first = bar.first + firstWhere(count, (k) => row.times[bar.first + k] >= from);
-  const behind = bar.first + firstWhere(count, (k) => row.times[bar.first + k] > to);
-  if (behind - first > width / 4) {
-    const begins = Math.max(left, frame.x(row.times[first])) + 1;
-    const ends = Math.min(left + width, frame.x(row.times[behind - 1])) - 1;
-    fillBox(context, color, begins, middle - 0.75, Math.max(ends - begins, 1), 1.5);
-    return;
-  }
-  for (let k = first; k < behind; k += 1) {
-    const x = Math.round(frame.x(row.times[k]));
-    if (x > left + 2 && x < left + width - 2) { fillBox(context, color, x, middle - height / 2 + 3, 1, height - 6); }
-  }
-}
-
-/** Names a key on its bar, as one row has several keys. */
-function drawKeyName(context, row, bar, { left, middle, width, height }, color) {
-  if (row.kind === "key" && width > 30) {
-    const ground = bar.canceled || bar.open ? theme().panel : colorOf(row.lane);
-    fillBox(context, ground, left + 4, middle - height / 2 + 2, width - 8, height - 4);
-    write(context, KEY_NAMES.get(bar.code) || "key " + bar.scan, left + 7, middle + 0.5, { color, font: "11px", room: width - 12 });
-  }
-}
-
-/** A timeout, a removal, or that a window is responsive again. */
-function drawEvent(context, frame, event, top, height) {
-  const x = frame.x(event.t);
-  const y = top + LANE_PAD + HEIGHTS.event / 2 - 2;
-  const color = event.what === "timeout" ? theme().red : theme().ink;
-  const shapes = {
-    timeout: [[x, y - 5.5], [x + 5.5, y], [x, y + 5.5], [x - 5.5, y], [x, y - 5.5]],
-    removed: [[x - 4.5, y - 4.5], [x + 4.5, y - 4.5], [x + 4.5, y + 4.5], [x - 4.5, y + 4.5], [x - 4.5, y - 4.5]],
-  };
-  fillBox(context, faint(color, 0.55), Math.round(x), top, 1, height);
-  drawCircle(context, x, y, 4, { fill: theme().panel, line: shapes[event.what] ? theme().panel : color });
-  drawPath(context, color, 1.75, shapes[event.what] || []);
-  const flips = x > frame.width - 90;
-  write(context, event.what === "responsive" ? "responsive again" : event.what, x + (flips ? -10 : 10), y, { color, align: flips ? "right" : "left" });
-}
-
-/** The message or the mark that is selected. */
-function drawSelected(context, frame, { lane, row, at, event }, top) {
-  const x = Math.round(frame.x(event ? event.t : lane.section.messages[at].t)) + 0.5;
-  if (!row) {
-    context.strokeStyle = theme().ink;
-    context.strokeRect(x - 8, top + LANE_PAD - 2, 16, HEIGHTS.event);
-    return;
-  }
-  const y = top + row.top;
-  drawPath(context, theme().ink, 2, [[x, y], [x, y + row.height]]);
-  context.fillStyle = theme().ink;
-  context.beginPath();
-  [[x, y + 1], [x - 5, y - 6], [x + 5, y - 6]].forEach((point) => context.lineTo(...point));
-  context.fill();
-}
-
-/** What stands at a place of the canvas: a lane, and of it a row with a message, or a mark. */
-function hitLanes(x, y) {
-  const frame = lanesFrame();
-  const down = y - AXIS + frame.scroll;
-  const lane = y < AXIS || x < frame.names ? undefined : state.model.lanes.find(({ top, height }) => down >= top && down < top + height);
-  if (!lane) { return null; }
-  const inLane = down - lane.top;
-  const event = lane.events.find(({ t }) => Math.abs(frame.x(t) - x) <= 8);
-  if (event && inLane < LANE_PAD + HEIGHTS.event) { return { lane, event, row: null, at: null }; }
-  const row = lane.rows.find(({ top, height }) => inLane >= top && inLane < top + height);
-  return row ? hitRow(frame, lane, row, x) : null;
-}
-
-/** The message of a row that is nearest to a place: in the bar there, or within a few pixels. */
-function hitRow(frame, lane, row, x) {
-  const t = frame.t(x);
-  const behind = firstWhere(row.bars.length, (k) => row.bars[k].from > t);
-  const bar = behind > 0 && row.bars[behind - 1].to >= t ? row.bars[behind - 1] : { first: 0, last: row.marks.length - 1 };
-  const k = nearest(bar.first, bar.last, t, (at) => row.times[at]);
-  return bar.to !== undefined || Math.abs(frame.x(row.times[k]) - x) <= 8 ? { lane, row, at: row.marks[k], event: null } : null;
-}
-
-/** The place from `first` to `last` whose time is nearest, where times do not fall. */
-function nearest(first, last, t, timeAt) {
-  const k = first + firstWhere(last - first + 1, (step) => timeAt(first + step) >= t);
-  return k > first && (k > last || t - timeAt(k - 1) <= timeAt(k) - t) ? k - 1 : k;
-}

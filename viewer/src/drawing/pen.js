@@ -3,6 +3,7 @@
 const state = {
   stream: null, causes: null, streamName: "", causesName: "", verdict: "",
   model: null, view: { from: 0, to: 1 }, now: 0, playing: false, selected: null,
+  displays: new Map(), other: null, otherName: "", tolerance: { us: 0, pixels: 0 }, faults: [],
 };
 
 /* Each has a contrast of at least 4.5 with its ground, and any two of them, and the red, are told apart by eyes that lack one kind of cone. */
@@ -37,6 +38,7 @@ function faint(color, alpha) { return color + Math.round(alpha * 255).toString(1
 
 /** A pattern of slanted lines, for what is still down at the end. */
 function hatch(context, color) {
+  if (context.hatch) { return context.hatch(color); }
   const kept = theme().hatches;
   if (!kept.has(color)) {
     const tile = document.createElement("canvas");
@@ -114,6 +116,8 @@ function draw() {
     drawLanes();
     drawScreen();
     showMoment();
+    if (!state.playing) { sayScreen(); }
+    keepPlace();
   }
 }
 

@@ -64,7 +64,7 @@ function laySurfaces(surfaces, width, height) {
 /** The fingers of the moment: of each window those that are down, or ended a short while ago. */
 function fingersNow(model) {
   const found = [];
-  for (const lane of model.lanes) {
+  for (const lane of model.shown) {
     for (const row of lane.rows.filter(({ kind }) => kind === "finger")) {
       const bar = row.bars[firstWhere(row.bars.length, (k) => row.bars[k].from > state.now) - 1];
       if (bar && state.now - bar.to < TRAIL) {
@@ -105,6 +105,7 @@ function paintScreen(context, width, height) {
     here.filter(({ isDown }) => !isDown).forEach((finger) => drawEnded(context, box, finger));
     const alone = model.alone.filter(({ display, from, to }) => display === box.key && from <= state.now && state.now < to);
     alone.forEach(({ cause }) => drawAlone(context, box, cause));
+    here.forEach((finger) => drawPartnerDot(context, box, finger));
     drawDots(context, box, here.filter(({ isDown }) => isDown));
     const dots = [...dotsDrawn, ...alone.map(({ cause }) => ({ x: box.at(cause)[0], y: box.at(cause)[1] }))];
     frames.forEach((frame) => drawLabel(context, box, frame, dots));
@@ -128,10 +129,12 @@ function drawSurface(context, model, box) {
   context.strokeRect(box.x, box.y, box.width, box.height);
   write(context, box.title, box.x, box.y - 10, { font: "13px", room: box.room });
   const shown = model.snapshots[firstWhere(model.snapshots.length, (k) => model.snapshots[k].t > state.now) - 1];
-  const frames = shown ? shown.windows.filter(({ display }) => display === box.key).map((frame) => placedFrame(model, box, frame)) : [];
+  const frames = shown ? shown.windows.filter((one) => one.display === box.key && !isHidden(model, one.channel)).map((frame) => placedFrame(model, box, frame)) : [];
   within(context, box, () => [...frames].reverse().forEach((frame) => drawFrame(context, frame)));
   return frames;
 }
+
+function isHidden(model, channel) { return model.lanes.some((lane) => lane.section.id === channel && model.hidden.has(lane.number)); }
 
 /** Where the frame of a window stands on the canvas, in which colour. */
 function placedFrame(model, box, { channel, left, top, right, bottom }) {
@@ -216,4 +219,21 @@ function hitScreen(x, y) {
   const before = dot.fingers.findIndex(({ lane }) => state.selected && state.selected.lane === lane);
   const { lane, row, mark } = dot.fingers[(before + 1) % dot.fingers.length];
   return { lane, row, at: row.marks[mark], event: null };
+}
+
+/** Where the finger was at this moment in the stream that came: a ring of its own, and a line to where it was wanted. */
+function drawPartnerDot(context, box, { lane, row, point, isDown }) {
+  const other = lane.partner && lane.partner.ofRow.get(row);
+  const mark = other ? firstWhere(other.times.length, (k) => other.times[k] > state.now) - 1 : -1;
+  const bar = mark >= 0 ? other.bars.find(({ first, last }) => first <= mark && mark <= last) : null;
+  if (!bar || !isDown || state.now > bar.to) { return; }
+  const { pointers } = lane.partner.section.messages[other.marks[mark]];
+  const { x, y } = pointers.find(({ id }) => id === row.id);
+  const { pointers: wanted } = lane.section.messages[row.marks[firstWhere(row.times.length, (k) => row.times[k] > state.now) - 1]];
+  const own = wanted.find(({ id }) => id === row.id);
+  const [left, top] = box.at({ x: point.x + x - own.x, y: point.y + y - own.y });
+  drawPath(context, theme().ink, 1.5, [[left, top], box.at(point)]);
+  context.setLineDash([4, 3]);
+  drawCircle(context, left, top, DOT + 3, { line: theme().ink, width: 2 });
+  context.setLineDash([]);
 }

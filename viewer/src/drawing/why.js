@@ -38,9 +38,28 @@ function messageParts({ lane, row, at }) {
     element("p", [{ name }, `, message ${message.seq} of ${messages.length}, at ${exactMillis(message.moment)}`]),
     ...lineOf("The text", state.stream.lines, message.line),
     element("p", sayMessage(message)),
+    ...faultParts(lane, at),
+    ...pairParts(lane, at),
     ...(message.cause ? causeParts(message.cause) : []),
     ...(begun && begun !== message.cause ? [element("p", `How finger ${row.id} came here:`), ...causeParts(begun)] : []),
   ];
+}
+
+/** What breaks at a message, in words. */
+function faultParts(lane, at) {
+  return state.faults.filter((fault) => fault.lane === lane && fault.at === at)
+    .map(({ word, said }) => element("p", [{ name: said }, FAULT_WORDS[word] ? `: ${FAULT_WORDS[word]}.` : "."], "fault"));
+}
+
+/** The point that came where this message was wanted, and how far from it. */
+function pairParts(lane, at) {
+  const pair = lane.partner && lane.partner.pairs.find(([wanted]) => wanted.at === at);
+  if (!pair) { return []; }
+  const [{ message }, { message: came }] = pair;
+  const apart = came.moment - message.moment;
+  const far = (message.pointers || []).map(({ x, y }, k) => (came.pointers && came.pointers[k] ? Math.max(Math.abs(x - came.pointers[k].x), Math.abs(y - came.pointers[k].y)) : 0));
+  return [...lineOf("As it came", state.other.lines, came.line),
+    element("p", `${apart < 0n ? -apart : apart} µs ${apart < 0n ? "earlier" : "later"}` + (far.length > 0 ? `, at most ${Math.max(...far)} pixels away.` : "."))];
 }
 
 /** What is shown of a timeout, a removal, or a window that is responsive again. */
@@ -58,6 +77,7 @@ function showSelected() {
   const { selected } = state;
   const parts = !selected ? [element("p", "Click a bar, a mark or a finger, or press an arrow key.", "soft")]
     : selected.event ? eventParts(selected) : messageParts(selected);
+  byId("why-panel").classList.toggle("idle", !selected);
   byId("why").replaceChildren(...parts);
 }
 

@@ -186,6 +186,7 @@ function makeModel(stream, causes, displays = new Map()) {
   model.untold = linkCauses(model, causes);
   model.alone = fingersOfNobody(causes, model.origins);
   model.surfaces = makeSurfaces(model, displays);
+  setLanes(model, [], []);
   return model;
 }
 

@@ -1,8 +1,7 @@
 /* ---- Texts that come in, and the page around them. */
 
 /** Reads a text, one of causes or of streams; `wrong` is what is to be told of one that is refused. */
-function readText({ name, text }) {
-  const kind = looksLikeCauses(text) ? "causes" : "stream";
+function readText({ name, text, kind = looksLikeCauses(text) ? "causes" : "stream" }) {
   if (text.length > MAX_BYTES) { return { name, wrong: "too long: " + kind, lines: [] }; }
   try {
     return { name, [kind]: kind === "causes" ? readCauses(text) : readStream(text) };
@@ -12,18 +11,25 @@ function readText({ name, text }) {
   }
 }
 
-/** Takes texts with their names, and shows what came of them. Where one is refused, nothing changes but what is told. */
-function takeTexts(texts) {
+/** A note on a text that is refused. */
+function refusedNote({ name, wrong, lines }) {
+  return element("p", [{ name: wrong }, ` in ${name}`, ...lines.map((line) => element("pre", line.slice(0, 400)))], "wrong");
+}
+
+/** Takes texts with their names, and a stream that is compared with theirs, and shows what came of them. Where one is refused, nothing changes but what is
+    told; `isAll` says that causes of before are not kept. */
+function takeTexts(texts, other = null, isAll = false) {
   const read = texts.map(readText);
-  const refused = read.filter(({ wrong }) => wrong);
-  const notes = refused.map(({ name, wrong, lines }) =>
-    element("p", [{ name: wrong }, ` in ${name}`, ...lines.map((line) => element("pre", line.slice(0, 400)))], "wrong"));
+  const came = other === null ? null : readText({ ...other, kind: "stream" });
+  const refused = [...read, ...(came ? [came] : [])].filter(({ wrong }) => wrong);
+  const notes = refused.map(refusedNote);
   if (refused.length > 0) {
     state.verdict = refused[0].wrong;
   } else {
     read.filter(({ stream }) => stream).forEach(({ name, stream }) => Object.assign(state,
-      { stream, streamName: name, causes: state.stream ? null : state.causes }));
+      { stream, streamName: name, causes: isAll || state.stream ? null : state.causes, other: null }));
     read.filter(({ causes }) => causes).forEach(({ name, causes }) => Object.assign(state, { causes, causesName: name }));
+    if (came) { Object.assign(state, { other: came.stream, otherName: came.name }); }
     notes.push(...(state.stream ? openModel() : [element("p", "These are causes. The text of the streams is still to come.")]));
   }
   byId("notes").replaceChildren(...notes);
@@ -31,24 +37,47 @@ function takeTexts(texts) {
 
 /** Makes the model of the texts that are there, and shows all of it. Answers notes on them. */
 function openModel() {
-  const { stream, causes } = state;
+  const { stream, causes, other } = state;
   setPlaying(false);
-  Object.assign(state, { model: makeModel(stream, causes ? causes.causes : []), selected: null, now: 0 });
+  Object.assign(state, { model: makeModel(stream, causes ? causes.causes : [], state.displays), selected: null, now: 0, faults: [] });
   const { channels, messages, finger } = countBars(state.model);
   const broken = firstBreak(stream);
   state.verdict = broken === null ? `well formed ${channels} ${messages}` : `stream: NotWellFormed ${broken}`;
+  state.faults = broken === null ? [] : breakFault(broken);
   byId("empty").hidden = true;
   document.querySelector("main").hidden = false;
-  const names = state.streamName + (causes ? " and " + state.causesName : "");
+  const names = state.streamName + (causes ? " and " + state.causesName : "") + (other ? ", against " + state.otherName : "");
   byId("summary").textContent = [`${names}: ${counted(channels, "window")}`, counted(messages, "message"),
     millis(state.model.last, 1).replace(/\.?0+ /, " ")].join(", ");
   byId("lanes").setAttribute("aria-label", `Lanes of ${channels} windows with ${finger.bars} fingers, ${finger.canceled} of them cancelled ` +
     `and ${finger.open} still down. Arrow keys go from message to message.`);
   byId("screen-text").hidden = causes !== null;
+  const notes = [...modelNotes(broken), ...(other ? openPartner() : [])];
+  document.querySelector(".of-pairs").hidden = !other;
+  document.querySelector(".of-faults").hidden = state.faults.length === 0;
   sizeLanes();
+  showWindows();
   showWhole();
   showSelected();
-  return modelNotes(broken);
+  showTable();
+  if (state.faults.some(({ kind }) => kind === "compare")) { goToFault("compare"); }
+  return notes;
+}
+
+/** Lays the stream that came beside the one that was wanted. Answers notes on both. */
+function openPartner() {
+  const { model, stream, other, tolerance } = state;
+  const moved = setPartnerTimes(model, other);
+  layPartners(model, stream, other, model);
+  const found = compareStreams(stream, other, tolerance.us, tolerance.pixels);
+  state.comparison = found.verdict;
+  state.faults.push(...compareFaults(model, found));
+  const isSame = found.verdict.startsWith("same ");
+  return [
+    element("p", [{ name: found.verdict }, ` with at most ${tolerance.us} µs and ${tolerance.pixels} pixels between two points. `,
+      isSame ? "Each point that was wanted came." : state.faults.some(({ kind }) => kind === "compare") ? "The flag stands there; d goes back to it." : ""], isSame ? "" : "wrong"),
+    ...(moved === 0n ? [] : [element("p", `The stream that came begins ${spanOf(moved < 0n ? -moved : moved)} ${moved < 0n ? "earlier" : "later"}; it is drawn from its own first event.`)]),
+  ];
 }
 
 /** What is to be told of the texts beside the picture. */
@@ -59,7 +88,7 @@ function modelNotes(broken) {
       element("pre", stream.lines[broken - 1])], "wrong")]),
     ...(fall === null ? [] : [element("p", `The moment of line ${fall} is below the one before it; it is drawn where that stands.`)]),
     ...(untold === null ? [] : [element("p", [`The causes are not those of these streams: line ${untold.cause.line} of them gives a finger to `,
-      nameOf(untold.channel), ", which is told no such thing."], "wrong")]),
+      nameOf(untold.channel), ", which is sent no such thing."], "wrong")]),
   ];
 }
 
@@ -69,17 +98,6 @@ function sizeLanes() {
   const room = Math.min(Math.max(height, AXIS + 60), Math.max(240, innerHeight * 0.62));
   byId("lanes-box").style.height = byId("lanes").style.height = room + "px";
   byId("lanes-space").style.height = Math.max(0, height - room) + "px";
-}
-
-/** Takes files, a character for each byte. */
-async function takeFiles(files) {
-  const read = async (file) => ({ name: file.name, text: new TextDecoder("latin1").decode(await file.arrayBuffer()) });
-  const texts = await Promise.all([...files].map(read)).catch((error) => [error]);
-  if (texts[0] instanceof Error) {
-    byId("notes").replaceChildren(element("p", "The files cannot be read: " + texts[0].message, "wrong"));
-  } else {
-    takeTexts(texts);
-  }
 }
 
 const EXAMPLE = [{ name: "an example", text: `channel 1 left
@@ -99,6 +117,12 @@ end 2 sent 2 received 2 finished 2
 
 /** Texts as viewer/make writes them, by lines. */
 function joined(texts) { return texts.map(({ name, lines }) => ({ name, text: lines.join("\n") })); }
+
+/** Takes the texts that viewer/make put into the page, as if they were dropped; of bytes, each a character from 0 to 255. */
+function takePageTexts() {
+  const texts = joined(JSON.parse(byId("texts").textContent));
+  return takeBytes(texts.map(({ name, text }) => ({ name, bytes: Uint8Array.from(text, (letter) => letter.charCodeAt(0)) })));
+}
 
 function listenToFiles() {
   const files = byId("files");
@@ -133,10 +157,17 @@ function listenToControls() {
   byId("closer").onclick = () => state.model && zoomByKey(0.5);
   byId("farther").onclick = () => state.model && zoomByKey(2);
   byId("whole").onclick = () => state.model && showWhole();
-  byId("keys").onclick = () => {
-    byId("help").hidden = !byId("help").hidden;
-    byId("keys").setAttribute("aria-expanded", String(!byId("help").hidden));
-  };
+  byId("gesture").onclick = () => state.model && zoomToGesture();
+  for (const [button, panel] of [["keys", "help"], ["windows", "windows-panel"], ["share", "share-panel"]]) {
+    byId(button).onclick = () => {
+      byId(panel).hidden = !byId(panel).hidden;
+      byId(button).setAttribute("aria-expanded", String(!byId(panel).hidden));
+    };
+  }
+  byId("show-all").onclick = () => state.model && arrange(state.model.order, []);
+  byId("as-told").onclick = () => state.model && arrange([], [...state.model.hidden]);
+  byId("find").onsubmit = (event) => { event.preventDefault(); findNext(1); };
+  byId("table-panel").ontoggle = showTable;
   byId("play").onclick = () => setPlaying(!state.playing);
   byId("slider").oninput = () => { setMoment(Number(byId("slider").value) / 10000); };
   byId("screen").onclick = ({ offsetX, offsetY }) => {
@@ -168,10 +199,20 @@ window.viewer = Object.freeze({
   shown: () => byId("why").innerText,
   placeOnPage,
   dots: () => dotsDrawn.map(({ x, y, fingers }) => ({ x, y, windows: fingers.map(({ lane }) => lane.section.name) })),
+  labels: () => labelsDrawn.map(({ x, y, width, height, name }) => ({ x, y, width, height, name })),
   view: () => ({ ...state.view, now: state.now, playing: state.playing }),
+  windows: () => state.model.shown.map(({ section }) => section.name),
+  faults: () => state.faults.map(({ kind, lane, at, word }) => ({ kind, window: lane.section.name, line: lane.section.messages[at].line, word })),
+  comparison: () => (state.other ? state.comparison : null),
+  given: () => given.files.map((file) => ({ kind: file.kind, name: file.name, use: useOf(file) })),
+  isRunning: () => running.command !== "",
+  ran: () => lastRun && { command: lastRun.command, status: lastRun.status, text: lastRun.text, line: lastRun.line, took: lastRun.took, memory: lastRun.memory },
+  svg: pictureSvg,
 });
 
 listenToFiles();
 listenToLanes();
 listenToControls();
-if (byId("texts").textContent !== "[]") { takeTexts(joined(JSON.parse(byId("texts").textContent))); }
+listenToSharing();
+listenToProgram();
+if (byId("texts").textContent !== "[]") { takePageTexts(); }

@@ -21,10 +21,23 @@ function zoom(factor, around) {
   setView(begin, begin + span);
 }
 
-/** Zooms around the moment that the screen shows, where it is seen, and else around the middle. */
+/** The time of the message or mark of a drawn window that is nearest to a time; that time itself where there is none. */
+function nearestTime(t) {
+  const times = state.model.shown.flatMap(({ section: { messages }, events }) => [
+    ...(messages.length > 0 ? [messages[nearest(0, messages.length - 1, t, (at) => messages[at].t)].t] : []), ...events.map((event) => event.t),
+  ]);
+  return times.reduce((best, one) => (best === null || Math.abs(one - t) < Math.abs(best - t) ? one : best), null) ?? t;
+}
+
+/** Zooms around what is selected, or else around what is nearest to the moment that the screen shows, or to the middle; so something is always seen. What stands
+    at an edge comes nearer to the middle. */
 function zoomByKey(factor) {
-  const { view: { from, to }, now } = state;
-  zoom(factor, now >= from && now <= to ? now : (from + to) / 2);
+  const { view: { from, to }, now, selected } = state;
+  const isSeen = now >= from && now <= to;
+  const around = selected ? now : nearestTime(isSeen ? now : (from + to) / 2);
+  const span = Math.min(Math.max((to - from) * factor, LEAST_SPAN), state.model.last - state.model.first + 2 * state.model.pad);
+  const part = Math.min(Math.max((around - from) / (to - from), 0.12), 0.88);
+  setView(around - part * span, around - part * span + span);
 }
 
 function pan(part) {
@@ -50,27 +63,20 @@ function messageNow({ section: { messages } }) { return nearest(0, messages.leng
 /** Goes to the message before or after in the lane that is selected, or in the first one. */
 function step(by) {
   const { selected } = state;
-  const lane = selected ? selected.lane : state.model.lanes.find(({ section }) => section.messages.length > 0);
+  const lane = selected ? selected.lane : state.model.shown.find(({ section }) => section.messages.length > 0);
   if (lane) { selectMessage(lane, selected && !selected.event ? selected.at + by : messageNow(lane)); }
 }
 
 /** Goes to the nearest lane above or below that has messages. */
 function stepLane(by) {
-  const lanes = state.model.lanes;
-  let k = state.selected ? state.selected.lane.number + by : 0;
+  const lanes = state.model.shown;
+  let k = state.selected ? lanes.indexOf(state.selected.lane) + by : 0;
   while (lanes[k] && lanes[k].section.messages.length === 0) { k += by; }
   if (lanes[k]) { selectMessage(lanes[k], messageNow(lanes[k])); }
 }
 
-/** Goes to the next timeout, removal or window that is responsive again, from lane to lane, and around. */
-function stepMark() {
-  const marks = state.model.lanes.flatMap((lane) => lane.events.map((event) => ({ lane, event, row: null, at: null })));
-  const before = marks.findIndex(({ event }) => state.selected && state.selected.event === event);
-  if (marks.length > 0) { select(marks[(before + 1) % marks.length]); }
-}
-
 function stepToEnd(isLast) {
-  const lane = state.selected ? state.selected.lane : state.model.lanes[0];
+  const lane = state.selected ? state.selected.lane : state.model.shown[0];
   selectMessage(lane, isLast && lane ? lane.section.messages.length - 1 : 0);
 }
 
@@ -110,6 +116,8 @@ function showMoment() {
   byId("clock").textContent = told;
 }
 
+function ofSelected(act) { if (state.selected) { act(state.selected.lane); } }
+
 const KEYS = {
   ArrowLeft: (shift) => (shift ? pan(-0.2) : step(-1)),
   ArrowRight: (shift) => (shift ? pan(0.2) : step(1)),
@@ -117,7 +125,23 @@ const KEYS = {
   ArrowDown: () => stepLane(1),
   Home: () => stepToEnd(false),
   End: () => stepToEnd(true),
-  m: () => stepMark(),
+  c: (shift) => jump("cancel", shift ? -1 : 1),
+  a: (shift) => jump("anr", shift ? -1 : 1),
+  r: (shift) => jump("removal", shift ? -1 : 1),
+  f: (shift) => jump("focus", shift ? -1 : 1),
+  m: (shift) => jump("mark", shift ? -1 : 1),
+  n: (shift) => findNext(shift ? -1 : 1),
+  d: () => goToFault("compare"),
+  j: () => goToFault("judge"),
+  "/": () => byId("sought").focus(),
+  g: () => zoomToGesture(),
+  h: () => ofSelected(hideLane),
+  u: () => arrange(state.model.order, []),
+  "[": () => ofSelected((lane) => moveLane(lane, -1)),
+  "]": () => ofSelected((lane) => moveLane(lane, 1)),
+  l: () => copyLink(),
+  s: () => saveSvg(),
+  p: () => savePng(),
   "+": () => zoomByKey(0.5),
   "=": () => zoomByKey(0.5),
   "-": () => zoomByKey(2),
@@ -127,10 +151,14 @@ const KEYS = {
 };
 
 function onKey(event) {
-  const isControl = event.target.closest("button, select, input") && event.key !== "Escape";
-  if (state.model && !isControl && !event.ctrlKey && !event.metaKey && !event.altKey && Object.hasOwn(KEYS, event.key)) {
+  const isText = event.target.closest("input, select, textarea") && event.target.type !== "range";
+  const isPressed = event.key === " " && event.target.closest("button, summary");
+  const isScrolled = event.key.startsWith("Arrow") && event.target.closest("input, #said, #table");
+  const key = /^[A-Z]$/.test(event.key) ? event.key.toLowerCase() : event.key;
+  if (isText && event.key === "Escape") { event.target.blur(); }
+  if (state.model && !isText && !isPressed && !isScrolled && !event.ctrlKey && !event.metaKey && !event.altKey && Object.hasOwn(KEYS, key)) {
     event.preventDefault();
-    KEYS[event.key](event.shiftKey);
+    KEYS[key](event.shiftKey);
   }
 }
 

@@ -40,6 +40,7 @@ function takeLine(stream, line, number) {
   const section = stream.open;
   if (section && line.startsWith("end ")) {
     const end = readForm(END, line);
+    section.endLine = number;
     stream.open = null;
     return end !== null && end.id === section.id && end.sent === String(section.messages.length);
   }
@@ -50,7 +51,7 @@ function takeLine(stream, line, number) {
   }
   const begun = stream.namings.length === 0 ? readForm(CHANNEL, line) : null;
   if (begun) {
-    stream.open = Object.assign(begun, { messages: [] });
+    stream.open = Object.assign(begun, { messages: [], line: number });
     stream.sections.push(stream.open);
     return true;
   }
