@@ -18,20 +18,22 @@ function labelPlaces({ x, y, width, height }, wide) {
   return columns.flatMap((left) => Array.from({ length: lines }, (_, line) => ({ x: left, y: y + 3 + line * LABEL_HEIGHT, width: wide, height: LABEL_HEIGHT - 1 })));
 }
 
-/** Writes the name of a window. Where every place is taken, it stands at the one that the fewest fingers and names are hidden at. */
+/** Writes the names of the windows of a surface: those with the least room first. Where every place of one is taken, it stands where the least is hidden. */
+function drawLabels(context, box, frames, dots) {
+  const seen = frames.map((frame) => ({ ...frame, ...seenPart(box, frame) })).filter(({ width, height }) => width > 0 && height > 0);
+  seen.sort((a, b) => a.width * a.height - b.width * b.height).forEach((frame) => drawLabel(context, box, frame, dots));
+}
+
 function drawLabel(context, box, frame, dots) {
-  const seen = seenPart(box, frame);
-  if (seen.width <= 0 || seen.height <= 0) { return; }
   context.font = "600 12px " + FONT;
-  const room = Math.max(seen.width, Math.min(box.width, 90)) - 14;
-  const text = cutFront(context, frame.name, room);
+  const text = cutFront(context, frame.name, Math.max(frame.width, Math.min(box.width, 90)) - 14);
   const fingers = dots.map(({ x, y }) => ({ x: x - DOT - 2, y: y - DOT - 2, width: 2 * DOT + 4, height: 2 * DOT + 4 }));
   const taken = [...labelsDrawn, ...fingers];
-  const places = labelPlaces(seen, context.measureText(text).width + 8);
+  const places = labelPlaces(frame, context.measureText(text).width + 8);
   const hides = (place) => taken.filter((one) => overlaps(one, place)).length;
   const place = places.find((one) => hides(one) === 0) || places.reduce((best, one) => (hides(one) < hides(best) ? one : best));
   const left = Math.max(box.x + 2, Math.min(place.x, box.x + box.width - place.width - 2));
   labelsDrawn.push({ ...place, x: left, name: frame.name });
-  fillBox(context, faint(theme().panel, 0.86), left, place.y, place.width, place.height);
+  fillBox(context, faint(theme().panel, 0.9), left, place.y, place.width, place.height);
   write(context, text, left + 4, place.y + 8.5, { color: frame.color, font: "600 12px" });
 }

@@ -27,9 +27,18 @@ function layLanes(model) {
   return top;
 }
 
+/** How wide the column of names would like to be: as the longest name, beside the words of its rows. */
+function namesWidth(model) {
+  if (model.namesWidth === undefined) {
+    measuring.font = "600 14px " + FONT;
+    model.namesWidth = Math.max(...model.lanes.map(({ section }) => measuring.measureText(section.name).width), 60) + 88;
+  }
+  return model.namesWidth;
+}
+
 /** The place of the lanes on a pen of this size: the width of the names, and the way from times to pixels and back. */
 function frameOf(width, height, scroll) {
-  const names = Math.round(Math.min(220, Math.max(104, width * 0.2)));
+  const names = Math.round(Math.max(104, Math.min(namesWidth(state.model), width * 0.34, 360)));
   const { from, to } = state.view;
   const scale = (width - names) / (to - from);
   return { width, height, names, scroll, x: (t) => names + (t - from) * scale, t: (x) => from + (x - names) / scale };
@@ -132,7 +141,8 @@ function drawLane(context, frame, lane) {
     drawBars(context, frame, lane, row, row.canceled, top);
   }
   if (lane.partner) { drawPartner(context, frame, lane, top); }
-  lane.events.forEach((event) => drawEvent(context, frame, event, top, lane.height));
+  const words = [];
+  lane.events.forEach((event) => drawEvent(context, frame, event, top, lane.height, words));
   state.faults.filter((fault) => fault.lane === lane).forEach((fault) => drawFault(context, frame, fault, top));
   if (state.selected && state.selected.lane === lane) { drawSelected(context, frame, state.selected, top); }
   context.restore();
@@ -150,7 +160,7 @@ function drawBand(context, color, dash, top, height) {
 function drawLaneName(context, frame, lane, top) {
   const isSelected = state.selected && state.selected.lane === lane;
   const isWide = frame.names >= 150;
-  const room = frame.names - (isWide ? 68 : 38);
+  const room = frame.names - (isWide ? 78 : 38);
   const count = lane.section.messages.length;
   fillBox(context, isSelected ? theme().band : theme().panel, 0, top, frame.names, lane.height - 1);
   drawBand(context, colorOf(lane), dashOf(lane), top, lane.height - 1);

@@ -1,7 +1,7 @@
 /* ---- Marks of a lane: timeouts, removals, faults, and what is selected; and what stands at a place of the canvas. */
 
 /** A timeout, a removal, or that a window is responsive again. */
-function drawEvent(context, frame, event, top, height) {
+function drawEvent(context, frame, event, top, height, words) {
   const x = frame.x(event.t);
   const y = top + LANE_PAD + HEIGHTS.event / 2 - 2;
   const color = event.what === "timeout" ? theme().red : theme().ink;
@@ -13,14 +13,19 @@ function drawEvent(context, frame, event, top, height) {
   drawCircle(context, x, y, 4, { fill: theme().panel, line: shapes[event.what] ? theme().panel : color });
   drawPath(context, color, 1.75, shapes[event.what] || []);
   const said = event.what === "responsive" ? "responsive again" : event.what;
-  writeBeside(context, frame, said, x, 10, y, color);
+  writeBeside(context, frame, said, x, y, color, words);
 }
 
-/** A word beside a mark, on the side where there is room. */
-function writeBeside(context, frame, said, x, apart, y, color) {
+/** A word beside a mark, on the side where there is room: in the frame, and beside the words of the lane that are there. */
+function writeBeside(context, frame, said, x, y, color, words) {
   context.font = "12px " + FONT;
-  const flips = x + apart + context.measureText(said).width > frame.width - 4;
-  write(context, said, x + (flips ? -apart : apart), y, { color, align: flips ? "right" : "left" });
+  const width = context.measureText(said).width;
+  const left = [x + 10, x - 10 - width].find((one) => one >= frame.names && one + width <= frame.width - 4 &&
+    !words.some((word) => one < word.right + 6 && word.left - 6 < one + width));
+  if (left !== undefined) {
+    words.push({ left, right: left + width });
+    write(context, said, left, y, { color });
+  }
 }
 
 /** Where a rule breaks, or two streams differ: a flag at the message, on the row of its finger, with its word. */

@@ -17,6 +17,8 @@ const FONT = "system-ui, 'Segoe UI', 'Liberation Sans', sans-serif";
 const byId = (id) => document.getElementById(id);
 const darkness = matchMedia("(prefers-color-scheme: dark)");
 let themeKept = null;
+/** A pen that measures texts alone. */
+const measuring = document.createElement("canvas").getContext("2d");
 
 /** The colours of the page, for the canvases. */
 function theme() {

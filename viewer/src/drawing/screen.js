@@ -108,7 +108,7 @@ function paintScreen(context, width, height) {
     here.forEach((finger) => drawPartnerDot(context, box, finger));
     drawDots(context, box, here.filter(({ isDown }) => isDown));
     const dots = [...dotsDrawn, ...alone.map(({ cause }) => ({ x: box.at(cause)[0], y: box.at(cause)[1] }))];
-    frames.forEach((frame) => drawLabel(context, box, frame, dots));
+    drawLabels(context, box, frames, dots);
   }
 }
 
@@ -147,7 +147,7 @@ function placedFrame(model, box, { channel, left, top, right, bottom }) {
 }
 
 function drawFrame(context, { x, y, width, height, color, dash }) {
-  fillBox(context, faint(color, 0.08), x, y, width, height);
+  fillBox(context, faint(color, 0.05), x, y, width, height);
   Object.assign(context, { strokeStyle: color, lineWidth: 1.5 });
   context.setLineDash(dash);
   context.strokeRect(x + 1.5, y + 1.5, Math.max(width - 3, 1), Math.max(height - 3, 1));

@@ -1,7 +1,5 @@
 /* ---- A pen that writes SVG in place of drawing: the part of a canvas's context that the page draws with. */
 
-const measuring = document.createElement("canvas").getContext("2d");
-
 function xmlText(text) { return String(text).replace(/&/g, "&amp;").replace(/</g, "&lt;").replace(/>/g, "&gt;").replace(/"/g, "&quot;"); }
 
 /** A number with at most two decimals, so that the file is short and the same each time. */
