@@ -33,7 +33,9 @@ function runProgram(module, words, files) {
   const line = new TextEncoder().encode(words.map((word) => word + "\n").join(""));
   const given = lent.copy(line);
   const table = lent.block(16 * 3);
-  files.forEach((file, k) => { lent.numbers(table + BigInt(16 * k), 2).set([lent.copy(file), BigInt(file.length)]); });
+  // A block may move the memory, so what is written into it is looked up behind the last block.
+  const lentFiles = files.map((file) => [lent.copy(file), BigInt(file.length)]);
+  lentFiles.forEach((file, k) => lent.numbers(table + BigInt(16 * k), 2).set(file));
   const err = lent.block(LINE_ROOM);
   const ran = lent.block(24);
   let room = LEAST_ROOM + (/^(replay|check|why|batch|hover|emit)$/.test(words[0]) ? 2 * files.reduce((sum, file) => sum + file.length, 0) : 0);
