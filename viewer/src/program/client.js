@@ -17,7 +17,7 @@ const COMMANDS = {
 
 function hasProgram() { return byId("program-module") !== null; }
 
-const running = { stop: null, begun: 0, command: "" };
+const running = { stop: null, isStopped: false, begun: 0, command: "" };
 let moduleReady = null;
 
 /** The module, unpacked and compiled once. */
@@ -36,6 +36,7 @@ class NotRun extends Error {}
 /** Runs the program in a worker of its own. */
 async function runInWorker(words, files) {
   const module = await readyModule();
+  if (running.isStopped) { throw new NotRun("stopped"); }
   const url = URL.createObjectURL(new Blob([byId("program-worker").textContent], { type: "text/javascript" }));
   const worker = new Worker(url);
   try {
@@ -50,6 +51,13 @@ async function runInWorker(words, files) {
     URL.revokeObjectURL(url);
     running.stop = null;
   }
+}
+
+/** Stops the run that there is, and waits until it has ended. */
+async function stopRunning() {
+  running.isStopped = true;
+  if (running.stop) { running.stop(); }
+  while (running.command !== "") { await new Promise((done) => setTimeout(done, 10)); }
 }
 
 function whyFailed(said) {
@@ -70,7 +78,7 @@ function wordsOf(command) {
 /** Runs a command over the files in use, and shows what it printed; answers that, or null where it did not end. */
 async function runCommand(command) {
   if (running.command !== "") { return null; }
-  Object.assign(running, { command, begun: performance.now() });
+  Object.assign(running, { command, isStopped: false, begun: performance.now() });
   showRunning();
   const timer = setInterval(showRunning, 100);
   try {
@@ -123,6 +131,7 @@ function refusal({ command, status, line }) { return element("p", [{ name: line 
 /** Makes a session where there is none, replays the recording, and asks why. A stream that was dropped beside them is compared with what replay printed. */
 async function runGiven() {
   const { uses } = given;
+  await stopRunning();
   const notes = uses.recording && !uses.session ? takeMadeSession() : [];
   if (!canRun("replay")) {
     return uses.session && !uses.recording && hasProgram() && !uses.stream ? [element("p", "This is a session. The recording is still to come.")] : notes;
@@ -205,7 +214,7 @@ function listenToProgram() {
   byId("with").hidden = !hasProgram();
   byId("without").hidden = hasProgram();
   document.querySelectorAll("[data-command]").forEach((button) => { button.onclick = () => onCommand(button.dataset.command); });
-  byId("stop").onclick = () => { if (running.stop) { running.stop(); } };
+  byId("stop").onclick = stopRunning;
   byId("save-said").onclick = () => saveFile(`${lastRun.command}.txt`, new Blob([lastRun.out], { type: "text/plain" }));
   byId("us").onchange = byId("pixels").onchange = () => {
     state.tolerance = { us: Math.round(Number(byId("us").value)) || 0, pixels: Math.round(Number(byId("pixels").value)) || 0 };
