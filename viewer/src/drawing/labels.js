@@ -1,6 +1,7 @@
 /* ---- The names of windows on the screen: each on a plate of its own, at the place of its frame where it hides no finger and no other name. */
 
 const LABEL_HEIGHT = 17;
+const LABEL_STEP = 4;
 
 function overlaps(a, b) { return a.x < b.x + b.width && b.x < a.x + a.width && a.y < b.y + b.height && b.y < a.y + a.height; }
 
@@ -13,9 +14,9 @@ function seenPart(box, frame) {
 
 /** Where a label of this width may stand in a frame: down its left edge, then down its right one, then down its middle. */
 function labelPlaces({ x, y, width, height }, wide) {
-  const lines = Math.max(1, Math.min(60, Math.floor((height - 4) / LABEL_HEIGHT)));
-  const columns = [x + 4, x + width - wide - 4, x + (width - wide) / 2];
-  return columns.flatMap((left) => Array.from({ length: lines }, (_, line) => ({ x: left, y: y + 3 + line * LABEL_HEIGHT, width: wide, height: LABEL_HEIGHT - 1 })));
+  const count = Math.max(0, Math.min(200, Math.floor((height - LABEL_HEIGHT) / LABEL_STEP)));
+  const tops = [...Array.from({ length: count }, (_, line) => y + 1 + line * LABEL_STEP), y + Math.max(1, height - LABEL_HEIGHT - 1)];
+  return [x + 4, x + width - wide - 4, x + (width - wide) / 2].flatMap((left) => tops.map((top) => ({ x: left, y: top, width: wide, height: LABEL_HEIGHT - 1 })));
 }
 
 /** Writes the names of the windows of a surface: those with the least room first. Where every place of one is taken, it stands where the least is hidden. */

@@ -31,7 +31,7 @@ function layLanes(model) {
 function namesWidth(model) {
   if (model.namesWidth === undefined) {
     measuring.font = "600 14px " + FONT;
-    model.namesWidth = Math.max(...model.lanes.map(({ section }) => measuring.measureText(section.name).width), 60) + 88;
+    model.namesWidth = Math.max(...model.lanes.map(({ section }) => measuring.measureText(section.name).width), 72) + 88;
   }
   return model.namesWidth;
 }

@@ -129,6 +129,9 @@ function millis(micros, step) {
   return (micros / 1000).toLocaleString("en", { minimumFractionDigits: places, maximumFractionDigits: places }) + " ms";
 }
 
+/** A time in milliseconds without zeros at its end. */
+function shortMillis(micros) { return millis(micros, 1).replace(/(\.\d*?)0+ /, "$1 ").replace(/\. /, " "); }
+
 /** So many of something. */
 function counted(count, word) { return count.toLocaleString("en") + " " + word + (count === 1 ? "" : "s"); }
 

@@ -36,9 +36,10 @@ function useOf(file) {
   return file === uses[file.kind] ? "in use" : null;
 }
 
-function trayButton(word, name, act) {
-  const button = element("button", word);
+function trayButton(word, name, act, sign = word) {
+  const button = element("button", sign);
   button.type = "button";
+  button.title = word;
   button.setAttribute("aria-label", `${word} ${name}`);
   button.onclick = act;
   return button;
@@ -54,7 +55,7 @@ function showTray() {
       ...(use === null || (kind === "stream" && file !== given.uses.stream) ? [trayButton(kind === "stream" ? "Draw" : "Use", name, () => useFile(file, kind))] : []),
       ...(kind === "stream" && given.uses.stream && file !== given.uses.stream && file !== given.uses.other ? [trayButton("Compare", name, () => useFile(file, "other"))] : []),
       ...(file.isMade ? [trayButton("Save", name, () => saveFile(name, new Blob([file.bytes])))] : []),
-      trayButton("Remove", name, () => removeFile(file)),
+      trayButton("Remove", name, () => removeFile(file), "×"),
     ];
     return element("li", [element("span", KIND_WORDS[kind], "kind"), element("span", [{ name }]), element("span", `${sizeText(file.size)}${use ? ", " + use : ""}`, "soft"), ...buttons],
       use ? "" : "unused");

@@ -50,10 +50,13 @@ function zoomToGesture() {
   const lane = state.selected ? state.selected.lane : state.model.shown.find(({ section }) => section.messages.length > 0);
   if (!lane || lane.section.messages.length === 0) { return; }
   const at = state.selected && state.selected.at !== null ? state.selected.at : messageNow(lane);
-  const { from, to } = gestureAround(lane, at);
+  const own = gestureAround(lane, at);
+  const pairs = lane.partner ? lane.partner.pairs.filter(([{ message }]) => message.t >= own.from && message.t <= own.to) : [];
+  const from = pairs.reduce((least, [, other]) => Math.min(least, other.message.t), own.from);
+  const to = pairs.reduce((most, [, other]) => Math.max(most, other.message.t), own.to);
   const room = Math.max((to - from) * 0.08, 2000);
   setView(from - room, to + room);
-  tellFound(`${millis(Math.max(to - from, 0), 1)} long`);
+  tellFound(`${shortMillis(own.to - own.from)} long`);
 }
 
 /** Draws these windows in this order. */

@@ -46,9 +46,11 @@ function openModel() {
   state.faults = broken === null ? [] : breakFault(broken);
   byId("empty").hidden = true;
   document.querySelector("main").hidden = false;
-  const names = state.streamName + (causes ? " and " + state.causesName : "") + (other ? ", against " + state.otherName : "");
-  byId("summary").textContent = [`${names}: ${counted(channels, "window")}`, counted(messages, "message"),
-    millis(state.model.last, 1).replace(/\.?0+ /, " ")].join(", ");
+  const { uses } = given;
+  const isRun = uses.stream && uses.stream.isPrinted && uses.recording && uses.session;
+  const names = (isRun ? `${uses.recording.name} with ${uses.session.name}` : state.streamName + (causes ? " and " + state.causesName : "")) +
+    (other ? ", against " + state.otherName : "");
+  byId("summary").textContent = [`${names}: ${counted(channels, "window")}`, counted(messages, "message"), shortMillis(state.model.last)].join(", ");
   byId("lanes").setAttribute("aria-label", `Lanes of ${channels} windows with ${finger.bars} fingers, ${finger.canceled} of them cancelled ` +
     `and ${finger.open} still down. Arrow keys go from message to message.`);
   byId("screen-text").hidden = causes !== null;
