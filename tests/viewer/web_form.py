@@ -56,11 +56,26 @@ def page_module(page, to):
 
 
 def module(folder):
-    """The web form of these sources: that of dist/, or one that is built of what a gate left; None where there is neither."""
-    to = os.path.join(folder, "program.wasm")
-    if os.path.exists(PAGE) and manifest().get("page.sources") == of_script("packaging/sources"):
-        return page_module(PAGE, to)
+    """The web form of these sources: that of dist/, or one that is built of what a gate left and kept in viewer/out; None where there is neither."""
+    sources = of_script("packaging/sources")
+    if os.path.exists(PAGE) and manifest().get("page.sources") == sources:
+        return page_module(PAGE, os.path.join(folder, "program.wasm"))
     rlib = os.path.join(TOP, "crates/plain_run/out/rlib/plain_run.rlib")
     if not os.path.isdir(rlib) or not shutil.which("rt") or not installed("wasm-opt", "binaryen"):
         return None
-    return to if subprocess.run([os.path.join(TOP, "viewer/web/build"), to], check=False).returncode == 0 else None
+    kept = os.path.join(TOP, "viewer/out/program.wasm")
+    stamp = "%s %s %s" % (sources, of_script("viewer/sources"), of_script("rt", "version"))
+    os.makedirs(os.path.dirname(kept), exist_ok=True)
+    if not os.path.exists(kept) or text_of(kept + ".of") != stamp:
+        if subprocess.run([os.path.join(TOP, "viewer/web/build"), kept], check=False).returncode:
+            return None
+        with open(kept + ".of", "w", encoding="utf-8") as file:
+            file.write(stamp)
+    return kept
+
+
+def text_of(path):
+    if not os.path.exists(path):
+        return ""
+    with open(path, encoding="utf-8") as file:
+        return file.read()

@@ -1,4 +1,4 @@
-/* ---- Texts of causes: one line for each thing that decided where something went. The forms stand in docs/VIEWER.md. */
+/* ---- Texts of causes: one line for each thing that decided where something went. The forms stand in docs/WHY.md. */
 
 const CAUSES = [
   "windows{windows:frames}",
