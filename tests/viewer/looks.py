@@ -91,9 +91,11 @@ def check_names_and_labels(page):
     cut = page.run("(() => { measuring.font = '600 14px ' + FONT; return state.model.lanes.map(({ section: { name } }) => [name, cutFront(measuring, name, 130)]); })()")
     for name, short in cut:
         equal(name, short == name or (short.startswith("…") and name.endswith(short[1:]) and len(short) > 8), True)
-    page.run("state.displays = new Map([[0, { width: 1080, height: 2400 }]])")
+    by_windows = page.run("state.model.surfaces.map(({ left, top, right, bottom, title }) => [left, top, right, bottom, title])")
+    equal("the extent by the windows, of which the wallpaper is the largest", by_windows, [[0, 0, 1080, 2400, "display 0, by its windows"]])
+    page.run("state.displays = new Map([[0, { width: 1080, height: 2300 }]])")
     give_phone(page)
-    equal("the wallpaper is larger than the display", page.run("state.model.surfaces.map(({ left, right, bottom }) => [left, right, bottom])"), [[0, 1080, 2400]])
+    equal("the extent of the session", page.run("state.model.surfaces.map(({ left, right, bottom }) => [left, right, bottom])"), [[0, 1080, 2300]])
     for line in ("DOWN 0@700,1300", "MOVE 0@705,1048 1@243,1822", "CANCEL 0@102,1157", "DOWN 0@670,250"):
         number = next((k for k, row in enumerate(PHONE[0]["text"].split("\n"), 1) if line in row), None)
         if number is not None:

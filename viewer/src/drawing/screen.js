@@ -6,8 +6,22 @@ const DOT = 12;
 let dotsDrawn = [];
 let labelsDrawn = [];
 
-/** What is drawn side by side, with the box around all that is on it: with causes displays, and else windows that have fingers. A display whose extent the
-    session tells is of that extent, whatever lies on it. */
+/** The extent of a display by its windows, where no session tells it: the frame from its corner that most windows have, and of several the largest, since a
+    wallpaper may be larger than the display. Null where no window begins at the corner. */
+function extentByWindows(model, display) {
+  const channels = new Map();
+  for (const { channel, left, top, right, bottom, display: here } of model.snapshots.flatMap(({ windows }) => windows)) {
+    if (here === display && left === 0 && top === 0 && right > 0 && bottom > 0) {
+      const name = right + " " + bottom;
+      channels.set(name, (channels.get(name) || new Set()).add(channel));
+    }
+  }
+  const area = (name) => name.split(" ").reduce((product, side) => product * Number(side), 1);
+  const [best] = [...channels].sort(([a, mine], [b, others]) => others.size - mine.size || area(b) - area(a));
+  return best ? { width: Number(best[0].split(" ")[0]), height: Number(best[0].split(" ")[1]) } : null;
+}
+
+/** What is drawn side by side, with its extent: with causes displays, and else windows that have fingers, as far as these go. */
 function makeSurfaces(model, displays) {
   const surfaces = new Map();
   const add = (key, title, order, x, y) => {
@@ -18,23 +32,22 @@ function makeSurfaces(model, displays) {
     hull.right = Math.max(hull.right, x);
     hull.bottom = Math.max(hull.bottom, y);
   };
-  const titleOf = (display) => `display ${display}` + (displays.has(display) ? "" : ", as far as its windows go");
-  for (const { display, left, top, right, bottom } of model.snapshots.flatMap(({ windows }) => windows)) {
-    add(display, titleOf(display), display, left, top);
-    add(display, titleOf(display), display, right, bottom);
+  const addDisplay = (display, x, y) => add(display, `display ${display}` + (displays.has(display) ? "" : ", by its windows"), display, x, y);
+  for (const display of new Set(model.snapshots.flatMap(({ windows }) => windows.map((one) => one.display)))) {
+    const extent = displays.get(display) || extentByWindows(model, display);
+    const frames = extent ? [{ left: 0, top: 0, right: extent.width, bottom: extent.height }]
+      : model.snapshots.flatMap(({ windows }) => windows.filter((one) => one.display === display));
+    frames.forEach(({ left, top, right, bottom }) => { addDisplay(display, left, top); addDisplay(display, right, bottom); });
   }
-  model.alone.forEach(({ cause, display }) => add(display, titleOf(display), display, cause.x, cause.y));
+  model.alone.filter(({ display }) => !displays.has(display)).forEach(({ cause, display }) => addDisplay(display, cause.x, cause.y));
   for (const { section, number } of model.lanes) {
     for (const { pointers, action, origin } of section.messages) {
-      if (pointers && action !== "OUTSIDE" && origin) {
-        const { display } = origin;
-        const surface = display === null ? ["lane " + number, section.name, number] : [display, titleOf(display), display];
-        [OWN_CORNER, ...pointers].forEach(({ x, y }) => add(...surface, x + origin.x, y + origin.y));
+      if (pointers && action !== "OUTSIDE" && origin && origin.display === null) {
+        [OWN_CORNER, ...pointers].forEach(({ x, y }) => add("lane " + number, section.name, number, x, y));
+      } else if (pointers && action !== "OUTSIDE" && origin && !displays.has(origin.display)) {
+        pointers.forEach(({ x, y }) => addDisplay(origin.display, x + origin.x, y + origin.y));
       }
     }
-  }
-  for (const [key, { width, height }] of displays) {
-    if (surfaces.has(key)) { Object.assign(surfaces.get(key), { left: 0, top: 0, right: width, bottom: height }); }
   }
   return [...surfaces.values()].sort((a, b) => a.order - b.order);
 }

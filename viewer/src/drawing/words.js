@@ -102,7 +102,7 @@ function resultOf({ device, chosen, given, mute, pilfering }) {
     : words`so it was for ${c}, but ${namesOf(pilfering)} took device ${device} for itself`;
 }
 
-/** Who else got the finger, or was told of it. */
+/** Who else got the finger, or was sent a touch outside. */
 function besides({ chosen, given, mute, pilfering, outside }) {
   const others = given.filter((channel) => channel !== chosen);
   const silent = mute.filter((channel) => channel !== chosen);
@@ -110,7 +110,7 @@ function besides({ chosen, given, mute, pilfering, outside }) {
     others.length === 0 ? [] : pilfering.length > 0 ? words`; ${namesOf(others)} alone got it` : words`; ${namesOf(others)} got it too, as a spy`,
     silent.length === 0 ? [] : words`; ${namesOf(silent)} does not respond and got nothing`,
     given.length > 0 ? [] : words`; nobody got it`,
-    outside.length === 0 ? [] : words`; ${namesOf(outside)} was told of a touch outside`,
+    outside.length === 0 ? [] : words`; ${namesOf(outside)} was sent a touch outside`,
   ];
 }
 
@@ -131,7 +131,7 @@ const SAY = {
   reset: ({ device, from }) =>
     words`device ${device} lost events and began anew, so all that it had down was cancelled; ${namesOf(from)} held some of it`,
   key: ({ device, scan, target, given, from, to, repeat }) => words`key ${scan} of device ${device} ${
-    repeat !== undefined ? words`stayed down, so ${nameOf(to)} was told repeat ${repeat}`
+    repeat !== undefined ? words`stayed down, so ${nameOf(to)} was sent repeat ${repeat}`
     : from !== undefined ? words`went up; ${nameOf(from)} held it`
     : target === null ? words`went down; no window had the focus, so nobody got it`
     : given === null ? words`went down; keys went to ${nameOf(target)}, which does not respond, so nobody got it`
@@ -141,7 +141,7 @@ const SAY = {
     words`${nameOf(channel)} did not finish message ${seq} in time and counts as unresponsive; it lost ${lostIn(lost)}`,
   responsive: ({ channel }) => words`${nameOf(channel)} finished what was late, and is responsive again`,
   removed: ({ channel, lost, refused }) => (refused ? words`${nameOf(channel)} had been removed before`
-    : words`${nameOf(channel)} was removed; it held ${lostIn(lost)}, and is told nothing more`),
+    : words`${nameOf(channel)} was removed; it held ${lostIn(lost)}, and is sent nothing more`),
   request: ({ display, channel }) => words`the focus of display ${display} was requested for ${nameOf(channel)}`,
   gone: ({ channel, lost, head }) => words`${head.word === "windows" ? "the windows changed" : "the focus was requested elsewhere"}, and ${
     nameOf(channel)} lost ${lostIn(lost)}`,

@@ -15,6 +15,8 @@ function keepFiles(files) {
     if (newest) { given.uses[kind] = newest; }
   }
   const streams = taken.filter(({ kind }) => kind === "stream");
+  // A text with an order in front is an order file too.
+  given.uses.order = given.uses.order || streams.find(({ text }) => text.startsWith("order ")) || null;
   if (streams.length > 0) {
     given.uses.stream = streams[0];
     given.uses.other = streams[1] || null;
@@ -97,6 +99,7 @@ async function showFiles(isNew) {
   showTray();
   byId("notes").replaceChildren(...notes);
   goToFragment(location.hash);
+  if (stream && !stream.isPrinted && state.model && canRun("judge")) { await judgeDrawn(); }
 }
 
 /** Says what files are that the page can't use, and what was done about those that it can. */

@@ -60,8 +60,9 @@ async function stopRunning() {
   while (running.command !== "") { await new Promise((done) => setTimeout(done, 10)); }
 }
 
+/** What is to be said of a run that failed, or of one that ended for want of memory. */
 function whyFailed(said) {
-  return /memory|alloc|RangeError/i.test(said) ? `the browser has no memory for this run (${said}). Close other pages, or run the program itself: it is the same` : said;
+  return /memory|alloc|RangeError|write failed/i.test(said) ? `the browser has no memory for this run (${said}). Close other pages, or run the native program` : said;
 }
 
 /** A file as the program is handed it: no longer than one byte more than it reads. */
@@ -111,7 +112,8 @@ let lastRun = null;
 function showRun(ran) {
   const { command, status, text, line, took, memory } = ran;
   lastRun = ran;
-  byId("progress").textContent = `${command} ended with status ${status}${line ? ": " + line : ""}; ${(took / 1000).toFixed(2)} s, ${Math.ceil(memory / MEBIBYTE)} MiB`;
+  const told = status === 5 || status === 6 ? whyFailed(line) : line;
+  byId("progress").textContent = `${command} ended with status ${status}${told ? ": " + told : ""}; ${(took / 1000).toFixed(2)} s, ${Math.ceil(memory / MEBIBYTE)} MiB`;
   byId("said-panel").hidden = text === "";
   byId("said-of").textContent = `What ${command} printed, ${counted(text.length, "byte")}`;
   byId("said").textContent = text.slice(0, SHOWN_TEXT) + (text.length > SHOWN_TEXT ? "\n.." : "");

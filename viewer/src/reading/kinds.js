@@ -66,9 +66,19 @@ function looksLike(bytes, text) {
   return found ? found[1] : "a text of no kind that is known here";
 }
 
-/** The first line that tells of which kind a recording is, and that kind's reader; null where none does. */
-function recordingKind(lines) {
-  for (const line of lines) {
+/** The lines of a text, one after the other, without their ends. */
+function* eachLine(text) {
+  for (let at = 0; at < text.length;) {
+    const end = text.indexOf("\n", at);
+    const line = text.slice(at, end < 0 ? text.length : end);
+    yield line.endsWith("\r") ? line.slice(0, -1) : line;
+    at += line.length + 1;
+  }
+}
+
+/** Of which kind a recording is, by the first line that says so: that kind's reader; null where none does. */
+function recordingKind(text) {
+  for (const line of eachLine(text)) {
     const kind = RECORDING_KINDS.find(([, form]) => form.test(line));
     if (kind) { return { read: kind[0], isPlain: EVENT_LINE.test(line) }; }
   }
@@ -84,13 +94,13 @@ function streamKind(text) {
 
 /** A recording as the program reads it: bytes of lines of `getevent -t`. One that is so already keeps its lines, but for a last one that was cut. */
 function importedRecording(kind, text, bytes, said) {
-  const { lines, isWhole } = linesOf(text);
   if (kind.isPlain) {
-    const last = lines.length - 1;
-    const isCut = !isWhole(last) && /^[ \t]*\[/.test(lines[last]) && !EVENT_LINE.test(lines[last].replace(/\r$/, ""));
-    if (isCut) { said.push(`the last line was cut and is left out: ${lines[last].slice(0, 57)}`); }
-    return { bytes: isCut ? bytes.subarray(0, bytes.length - lines[last].length) : bytes, read: null };
+    const last = text.slice(text.lastIndexOf("\n") + 1);
+    const isCut = /^[ \t]*\[/.test(last) && !EVENT_LINE.test(last.replace(/\r$/, ""));
+    if (isCut) { said.push(`the last line was cut and is left out: ${last.slice(0, 57)}`); }
+    return { bytes: isCut ? bytes.subarray(0, bytes.length - last.length) : bytes, read: null };
   }
+  const { lines, isWhole } = linesOf(text);
   const read = kind.read(lines.map((line) => line.replace(/\r$/, "")), isWhole);
   if (read.lost > 0) { read.said.push(`lines that are no events of the kernel, and are left out: ${read.lost}`); }
   if (read.events.length === 0) { throw new Refused("no event stands in it"); }
@@ -103,7 +113,7 @@ async function tellApart(name, fileBytes) {
   const { text, bytes, said } = await textOf(fileBytes);
   const file = { name, said, text, bytes, size: fileBytes.length };
   const kind = streamKind(text) || (looksLikeCauses(text) ? "causes" : null);
-  const recording = kind ? null : recordingKind(text.split("\n").map((line) => line.replace(/\r$/, "")));
+  const recording = kind ? null : recordingKind(text);
   if (kind) { return { ...file, kind }; }
   if (!recording) {
     return SESSION_TEXT.test(bareLines(text).join("\n")) ? { ...file, kind: "session" } : { ...file, kind: "wrong", wrong: "it looks like " + looksLike(fileBytes, text) };

@@ -92,6 +92,6 @@ function makeSession(events, described) {
 
 /** The session that is made for a recording file. */
 function sessionFor({ text, read }) {
-  const recording = read || readGetevent(text.split("\n").map((line) => line.replace(/\r$/, "")), () => false);
+  const recording = read || readGetevent([...eachLine(text)], () => false);
   return makeSession(recording.events, recording.devices);
 }
