@@ -55,6 +55,8 @@ function openModel() {
     `and ${finger.open} still down. Arrow keys go from message to message.`);
   byId("screen-text").hidden = causes !== null;
   const notes = [...modelNotes(broken), ...(other ? openPartner() : [])];
+  document.querySelector(".of-stub").hidden = state.model.first === 0;
+  byId("stub-said").textContent = `before the first event, not to scale: ${spanOf(state.model.before)}`;
   document.querySelector(".of-pairs").hidden = !other;
   document.querySelector(".of-faults").hidden = state.faults.length === 0;
   sizeLanes();
