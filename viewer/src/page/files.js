@@ -6,7 +6,7 @@ const KIND_WORDS = { session: "session", recording: "recording", stream: "stream
     with it. */
 const given = { files: [], uses: { session: null, recording: null, stream: null, other: null, causes: null, order: null } };
 
-/** Takes files that were told apart. What they are not is said, and the others are taken. */
+/** Takes files that were told apart. What they are not is said, and the others are taken. A stream that comes when replay's is drawn is compared with it. */
 function keepFiles(files) {
   const taken = files.filter(({ kind }) => kind !== "wrong");
   given.files.push(...taken);
@@ -17,7 +17,9 @@ function keepFiles(files) {
   const streams = taken.filter(({ kind }) => kind === "stream");
   // A text with an order in front is an order file too.
   given.uses.order = given.uses.order || streams.find(({ text }) => text.startsWith("order ")) || null;
-  if (streams.length > 0) {
+  if (streams.length === 1 && given.uses.stream && given.uses.stream.isPrinted) {
+    given.uses.other = streams[0];
+  } else if (streams.length > 0) {
     given.uses.stream = streams[0];
     given.uses.other = streams[1] || null;
     if (!taken.some(({ kind }) => kind === "causes") && given.uses.causes && state.stream) { given.uses.causes = null; }
@@ -46,6 +48,8 @@ function trayButton(word, name, act, sign = word) {
   button.onclick = act;
   return button;
 }
+
+let isLinkDue = true;
 
 /** The list of files. */
 function showTray() {
@@ -91,6 +95,7 @@ async function showFiles(isNew) {
   if (isNew) { notes.push(...await runGiven()); }
   const { stream, other, causes, session } = given.uses;
   state.displays = session ? displaysOf(session.text) : new Map();
+  if (!stream) { closeModel(); }
   if (stream || causes) {
     const texts = [stream, causes].filter(Boolean).map(({ name, text, kind }) => ({ name, text, kind }));
     takeTexts(texts, other, stream !== null);
@@ -98,7 +103,9 @@ async function showFiles(isNew) {
   }
   showTray();
   byId("notes").replaceChildren(...notes);
-  goToFragment(location.hash);
+  // A link's place is that of the files that the page was opened with, and not of later ones.
+  if (isLinkDue && state.model) { goToFragment(location.hash); }
+  isLinkDue = isLinkDue && !state.model;
   if (stream && !stream.isPrinted && state.model && canRun("judge")) { await judgeDrawn(); }
 }
 

@@ -68,6 +68,15 @@ function openModel() {
   return notes;
 }
 
+/** Draws nothing, where no stream is left. */
+function closeModel() {
+  setPlaying(false);
+  Object.assign(state, { model: null, stream: null, other: null, causes: null, selected: null, faults: [] });
+  byId("empty").hidden = false;
+  document.querySelector("main").hidden = true;
+  byId("summary").textContent = "";
+}
+
 /** Lays the stream that came beside the one that was wanted. Answers notes on both. */
 function openPartner() {
   const { model, stream, other, tolerance } = state;

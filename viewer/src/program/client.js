@@ -134,7 +134,7 @@ function refusal({ command, status, line }) { return element("p", [{ name: line 
 async function runGiven() {
   const { uses } = given;
   await stopRunning();
-  const notes = uses.recording && !uses.session ? takeMadeSession() : [];
+  const notes = hasProgram() && uses.recording && (!uses.session || uses.session.isMade) ? takeMadeSession() : [];
   if (!canRun("replay")) {
     return uses.session && !uses.recording && hasProgram() && !uses.stream ? [element("p", "This is a session. The recording is still to come.")] : notes;
   }
@@ -154,6 +154,7 @@ async function runGiven() {
 function takeMadeSession() {
   const { recording } = given.uses;
   const { text, said } = sessionFor(recording);
+  given.uses.session = null;
   if (text !== null) {
     const bytes = bytesOf(text);
     const file = { name: "session.toml", kind: "session", text, bytes, size: bytes.length, said: [], isMade: true };
