@@ -144,8 +144,10 @@ class Browser:
         self.settle()
 
     def key(self, key, text=None):
-        self.ask("Input.dispatchKeyEvent", type="keyDown" if text else "rawKeyDown", key=key, **({"text": text} if text else {}))
-        self.ask("Input.dispatchKeyEvent", type="keyUp", key=key)
+        """Presses a key; a capital letter with Shift."""
+        more = {"modifiers": 8} if len(key) == 1 and key.isupper() else {}
+        self.ask("Input.dispatchKeyEvent", type="keyDown" if text else "rawKeyDown", key=key, **more, **({"text": text} if text else {}))
+        self.ask("Input.dispatchKeyEvent", type="keyUp", key=key, **more)
         self.settle()
 
     def drop(self, paths):
