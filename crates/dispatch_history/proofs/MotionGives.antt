@@ -1,4 +1,4 @@
--- What a motion gives is given to able windows, and these pass what all the windows pass that it may go to.
+-- A motion gives pointers to able windows only, and these pass every test that all windows pass to which it may go.
 use Rattle.std.proofs.Common.{◌≡◌, ℕ, ◌==◌, ◌&&◌, Bool, true, false, not, cond, List, [], ◌∷◌, map, filter, find, option_map, Option, Some, None, refl, sym, ap, subst, inl, inr}
 use Rattle.std.specs.Prelude.{fold}
 use Rattle.std.proofs.lemmas.Bool.{and_parts, or_cases, true≢false, eqb-true}

@@ -14,12 +14,12 @@ pub struct KeyArgs {
     pub down: bool,
 }
 
-/// What a window is told of a key.
+/// A key message to a window.
 #[derive(Clone, Copy, Debug, PartialEq, Eq)]
 pub struct KeyMsg {
     pub key: KeyArgs,
-    /// 0, or `FLAG_CANCELED` for an up that ends the key without being meant as a release.
+    /// 0, or `FLAG_CANCELED` for an up that ends the key but is not a release.
     pub flags: u32,
-    /// How often a key that stays down was repeated before; 0 for an up.
+    /// How often a held key was repeated before; 0 for an up.
     pub repeat: u32,
 }

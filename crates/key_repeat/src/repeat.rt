@@ -19,8 +19,8 @@ struct Sent {
     clock: Moment,
 }
 
-/// When a held key must be repeated. The last key message decides; its owner calls `stop` where the window that was
-/// sent no longer holds the key.
+/// When a held key must be repeated. The last key message decides. The owner of this value calls `stop` when the
+/// window that was sent the message no longer holds the key.
 #[derive(Clone, Copy, Debug)]
 pub struct Repeat {
     last: Option<Sent>,

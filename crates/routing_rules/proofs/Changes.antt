@@ -13,7 +13,7 @@ use Rattle.routing_rules.specs.Slip.{Slip, slip}
 use Rattle.routing_rules.specs.Given.{pairs, slips_in, slips_out, given_by, taken_by, mark, changed}
 use Rattle.routing_rules.specs.Outgoing.{after, is_up}
 
--- of two different numbers, at least one differs from a third
+-- the pairs of numbers (d, i) and (e, j) differ
 abbrev pub Apart_from : (d i e j : ℕ) → Type 0
 Apart_from d i e j = ((d == e) ≡ false) ⊎ ((i == j) ≡ false)
 
