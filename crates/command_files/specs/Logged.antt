@@ -8,13 +8,14 @@ use Rattle.command_files.specs.Judged.{FileKind, IfTold, IsEnough, judged}
 use Rattle.command_files.specs.Refused.{Refused}
 use Rattle.command_files.specs.RefusalView.{refusal_view}
 
--- A reading agrees with the bytes of its file: what it gave is in front of them, and is all of them where the end was sent. Of a file that
--- is not there nothing was given.
+-- A reading agrees with the bytes of its file: what it gave is the front of them, and is all of them if the end was
+-- reported. A file that does not exist gave nothing.
 abbrev pub Agrees : Option (List ℕ) → Reading → Type 0
 Agrees None r = (r.given ≡ []) × (r.ended ≡ false)
 Agrees (Some bytes) r = (rest : List ℕ) × (bytes ≡ r.given ++ rest) × (r.ended ≡ true → rest ≡ [])
 
--- one reading was logged: of this name, of at most one byte more than the limit, and it agrees with the files where they are sent
+-- one reading was logged: of this name, of at most one byte more than the limit, and it agrees with the files if they
+-- are known
 pub record OneRead (told : Option (List Entry)) (before now : List Reading) (name : List ℕ) (limit : ℕ) (Holds : Reading → Type 0) : Type 0 where
   pub reading : Reading
   pub grown : now ≡ before ++ reading ∷ []
@@ -48,7 +49,7 @@ RefusesFile told before now name kind faults_before faults_now ReadFailed =
 RefusesFile told before now name kind faults_before faults_now NoMemory = MayRead told before now name kind.limit
 RefusesFile told before now name kind faults_before faults_now r = IsRead told before now name kind (Err (refusal_view r))
 
--- Readings are of these files in their turn, and of each of at most one byte more than its limit; files at the end may be missing.
+-- Readings are of these files in order, each of at most one byte more than its limit; files at the end may be missing.
 abbrev pub InTurn : List (List ℕ × ℕ) → List Reading → Type 0
 InTurn files [] = ⊤
 InTurn [] (r ∷ rs) = ⊥
@@ -59,7 +60,8 @@ abbrev pub AllAgree : List Entry → List Reading → Type 0
 AllAgree entries [] = ⊤
 AllAgree entries (r ∷ rs) = Agrees (bytes_of entries r.name) r × AllAgree entries rs
 
--- The log grew by readings of these files, in their turn, each once and within its limit. They agree with the files where these are sent.
+-- The log grew by readings of these files, in order, each once and within its limit. They agree with the files if
+-- these are known.
 pub record Logged (told : Option (List Entry)) (before now : List Reading) (files : List (List ℕ × ℕ)) (Holds : List Reading → Type 0) : Type 0 where
   pub readings : List Reading
   pub grown : now ≡ before ++ readings
