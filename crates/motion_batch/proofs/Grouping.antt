@@ -1,4 +1,4 @@
--- Messages in groups: what waits is a group of its own, and nothing goes on with a group that was given out.
+-- Messages in groups: what waits is a group of its own, and nothing continues a released group.
 use Rattle.std.proofs.Common.{◌≡◌, ℕ, suc, ◌≤◌, ◌==◌, ◌&&◌, not, Bool, true, false, if◌then◌else◌, List, [], ◌∷◌, ◌++◌, map, reverse, length, Option, Some, None, refl, sym, ◌∙◌, ap, arith}
 use Rattle.std.proofs.lemmas.Bool.Decides.{nat_tests}
 use Rattle.std.proofs.lemmas.List.{length-map, length-reverse, map-append, reverse-append}
@@ -30,7 +30,7 @@ abbrev pub Falling : List Sample → Type 0
 Falling [] = Unit {0}
 Falling (q ∷ qs) = AllBelow q.moment qs × Falling qs
 
--- a message does not stand in the newest group
+-- a message is not in the newest group
 abbrev pub Shut : List Mark → Message → Type 0
 Shut rest n = grouped rest n (groups_of rest) ≡ (n ∷ []) ∷ groups_of rest
 

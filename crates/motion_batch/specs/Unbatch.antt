@@ -1,4 +1,4 @@
--- Items as the messages that they are.
+-- Items as messages.
 use Rattle.std.specs.Prelude.{ℕ, ◌++◌, ◌==◌, List, [], ◌∷◌, map}
 use Rattle.std.specs.List.{filter}
 use Rattle.input_types.specs.declared.message.Body.TheVariants.{Motion}
