@@ -1,4 +1,4 @@
--- The answer by what was read is that by the files, where these are sent.
+-- The answer by what was read is that by the files, if these are known.
 use Rattle.std.proofs.Common.{List, Option, None, Some}
 use Rattle.io_trace.specs.Trace.{Reading}
 use Rattle.outside_io.specs.Outside.{Entry}
@@ -57,7 +57,7 @@ command_sent entries (Some (why files)) rs a agree h =
     reads_told entries files.session session_file (CausesAnswer files.events) rs a agree
     (λ ys more plan. reads_told entries files.events (events_file (devices_of plan)) (λ rest given. Ends (WhyAnswers plan given) rest) ys a more (λ zs all given k. (k.0, tt))) h
 
--- the answer to a command, where the files are sent
+-- the answer to a command, if the files are known
 pub answers_told : (told : Option (List Entry)) (before now : List Reading) (command : Command) (a : Answer) → Answers told before now command a
     → IfTold told (λ entries. AnswersTo (by_name entries) (Some command) a)
 answers_told told before now command a log =

@@ -10,14 +10,14 @@ use Rattle.stream_text.specs.StreamFile.{Event}
 use Rattle.command_files.specs.Refused.{Refused, bad_stream_line}
 use Rattle.command_answers.specs.Verify.{said}
 
--- the messages of the open section behind a line, the newest first
+-- the messages of the open section after a line, newest first
 abbrev pub sent_after : List Told → StreamLine → List Told
 sent_after past (Channel id) = []
 sent_after past (Message m) = m ∷ past
 sent_after past (End id sent received finished) = past
 sent_after past (Anr clock id seq) = past
 
--- the number of a line, where its message may not come behind those of its section
+-- the number of a line, if its message may not come after those of its section
 abbrev pub break_at : List Told → ℕ → StreamLine → Option ℕ
 break_at past n (Channel id) = None
 break_at past n (Message m) = if is_well_formed (m ∷ past) then None else Some n
@@ -31,7 +31,7 @@ channels_at (Message m) = 0
 channels_at (End id sent received finished) = 0
 channels_at (Anr clock id seq) = 0
 
--- how many messages a line tells
+-- how many messages a line has
 abbrev pub messages_at : StreamLine → ℕ
 messages_at (Channel id) = 0
 messages_at (Message m) = 1
@@ -49,14 +49,14 @@ pub record Known : Type 0 where
 abbrev pub Knows : List Told → Known → Type 0
 Knows past j = j.broken ≡ None → VerifierStandsFor past j.tables
 
--- what is known behind a line
+-- what is known after a line
 pub record Judges (past : List Told) (n : ℕ) (line : StreamLine) (old new : Known) : Type 0 where
   pub knows : Knows (sent_after past line) new
   pub broken : new.broken ≡ option_or old.broken (break_at past n line)
   pub channels : new.channels ≡ old.channels + channels_at line
   pub messages : new.messages ≡ old.messages + messages_at line
 
--- the line of the first break of the lines that are left
+-- the line of the first break of the remaining lines
 abbrev pub breaks : List Told → List Event → Option ℕ
 breaks past [] = None
 breaks past (e ∷ es) = option_or (break_at past e.0 e.1) (breaks (sent_after past e.1) es)
@@ -66,12 +66,12 @@ abbrev pub channels_left : List Event → ℕ
 channels_left [] = 0
 channels_left (e ∷ es) = channels_at e.1 + channels_left es
 
--- how many messages these lines tell
+-- how many messages these lines have
 abbrev pub messages_left : List Event → ℕ
 messages_left [] = 0
 messages_left (e ∷ es) = messages_at e.1 + messages_left es
 
--- what is said, with what is known and with the lines that are left
+-- the result, from what is known and the remaining lines
 abbrev pub judged_on : Known → List Told → Result (List Event) ℕ → Result (List ℕ) Refused
 judged_on j past (Err bad) = Err (bad_stream_line bad)
 judged_on j past (Ok es) = said (option_or j.broken (breaks past es)) (j.channels + channels_left es) (j.messages + messages_left es)

@@ -1,4 +1,4 @@
--- The windows that are given a pointer and the mute ones part its targets.
+-- The targets of a pointer are divided into the windows that are given it and the mute ones.
 use Rattle.std.proofs.Common.{◌≡◌, ℕ, zero, suc, Bool, true, false, not, ◌&&◌, ◌||◌, ◌==◌, cond, List, [], ◌∷◌, map, filter, find, take, option_map, Option, Some, None, refl, sym, ap, ◌∙◌, subst, inl, inr}
 use Rattle.std.specs.Prelude.{fold}
 use Rattle.std.specs.List.{list_any, prefix_len}

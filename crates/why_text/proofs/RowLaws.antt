@@ -1,4 +1,4 @@
--- The row of a choice says what holds at that moment.
+-- The row of a choice says what holds before the step.
 use Rattle.std.proofs.Common.{◌≡◌, ℕ, Bool, true, false, ◌&&◌, ◌||◌, cond, List, [], ◌∷◌, map, filter, Option, Some, None, refl, sym, subst}
 use Rattle.std.specs.Prelude.{fold, is_some}
 use Rattle.std.specs.List.{list_any}
