@@ -20,7 +20,7 @@ use Rattle.command_answers.specs.declared.running.Sending.TheVariants.{Streams, 
 use Rattle.command_answers.specs.Replay.{Replays}
 use Rattle.command_answers.specs.Why.{Explains}
 
--- the limits on a run for this kind of text
+-- the lines that a run keeps for this kind of text
 abbrev pub lines_of : Sending → Lines
 lines_of Streams = lines.Kept
 lines_of Causes = lines.Causes

@@ -45,7 +45,7 @@ pub(crate) enum Sending {
 }
 
 impl Sending {
-    /// The limits on a run for this kind of text.
+    /// The lines that a run keeps for this kind of text.
     fn lines(self) -> Lines
         ensures { result ≡ lines_of self }
     {

@@ -12,10 +12,10 @@
 //!                                                1 1000 motion 1 DOWN 0@540,1200
 //! ```
 //!
-//! The numbers of a call stand in the order of its fields, the moment first. A window is its channel, its display, the
-//! four edges of its frame, which is where it can be touched too, and its flags as a number. What devices hand in is
-//! spelled as a message is, without its number; `reset` with a moment and a device is a reset. `displays` begins anew
-//! with the displays of the devices 1 to 8.
+//! The numbers of a call stand in the order of its fields, the moment first. A window is its channel, its display,
+//! the four edges of its frame, which is where it can be touched too, and its flags as a number. What devices hand in
+//! is spelled as a message is, without its number; `reset` with a moment and a device is a reset. `displays` starts
+//! over with the displays of the devices 1 to 8.
 //!
 //! With the words `rounds N` on the command line it reads nothing, and prints how long N rounds of a gesture take: of
 //! one finger over one window, and of ten fingers over five windows and a spy.

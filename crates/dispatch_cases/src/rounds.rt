@@ -158,7 +158,7 @@ fn show(
     }
 }
 
-/// Some rounds of one device, one every millisecond; answers how many messages were taken.
+/// Some rounds of one device, one every millisecond. Returns how many messages were received.
 fn gesture(
     dispatcher: &mut Dispatcher,
     device: DeviceId,

@@ -14,9 +14,9 @@
 //!                                         > 1 1000 motion 1 DOWN 0@540,1200
 //! ```
 //!
-//! A client is named by how many were opened up to it: client 2 is the second one, whether or not the first one is
-//! still open. The moment of a call stands first. A window is its client, its display, the four edges of its frame,
-//! which is where it can be touched too, and its flags as a number.
+//! A client is identified by how many were opened up to it: client 2 is the second one, whether or not the first one
+//! is still open. The moment of a call comes first. A window is its client, its display, the four edges of its frame,
+//! which is also where it can be touched, and its flags as a number.
 //!
 //! The devices 1 to 6 are of display 0, and 7 and 8 are of display 1. A panel is plugged in by its display and its
 //! slots; its positions are the pixels of its display. What a finger does is sent in events: `down` has the device, the

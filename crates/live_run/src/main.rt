@@ -23,7 +23,7 @@ use crate::guests::Guests;
 use std::alloc::{AllocError, Global};
 use std::io;
 
-/// The number of a line, behind its word.
+/// The number of a line, after its word.
 fn number(text: &str) -> u64 {
     text.parse().unwrap_or(0)
 }

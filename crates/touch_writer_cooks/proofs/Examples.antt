@@ -48,7 +48,8 @@ four_cooked : assigned (named_after (contacts_of 1 2 four)) ≡ []
 unfolding assigned least_free
 four_cooked = refl
 
--- another finger comes in place of the first one, at its place: it gets the id 0 again, and its positions are not said
+-- another finger replaces the first one, at the same position: it gets the id 0 again, and its positions are not
+-- written
 abbrev again : List Written
 again = written 9000 (at 0 100 200 ∷ at 1 300 400 ∷ []) (true ∷ false ∷ []) ∷ three
 

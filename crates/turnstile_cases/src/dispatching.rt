@@ -42,7 +42,7 @@ fn beside<'a, R: Print>(
     }
 }
 
-/// Tries a call that has to be answered, and prints the answer.
+/// Tries a call that must be answered, and prints the answer.
 fn try_step<'a, R: Print>(
     rt: &R,
     alloc: Global,
@@ -104,7 +104,7 @@ fn held_open<R: Threads + Wait + Print + Sync>(rt: &R, alloc: Global) -> io::Res
     )
 }
 
-/// Tries a call of a service that has to be answered, and prints the answer.
+/// Tries a call of a service that must be answered, and prints the answer.
 fn try_call<R: Print>(
     rt: &R,
     alloc: Global,

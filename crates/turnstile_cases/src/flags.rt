@@ -32,7 +32,7 @@ impl Flags {
         reaches_one(&self.inside)
     }
 
-    /// A step is inside, until it is let go or the wait gives up.
+    /// A step is inside until it is released or the wait gives up.
     pub(crate) fn hold(&self) {
         self.inside.store(1, Ordering::SeqCst);
         reaches_one(&self.open);
