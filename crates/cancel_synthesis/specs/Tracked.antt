@@ -10,7 +10,7 @@ use Rattle.input_types.specs.declared.motion.MotionAction.TheVariants.{Down, Up,
 use Rattle.input_types.specs.declared.pointer.Pointer.{Pointer}
 use Rattle.routing_rules.specs.Given.{changed}
 
--- what is kept of a window: the pointers of each device, that of device 1 first; the keys that are down, in rising
+-- what is kept of a window: the pointers of each device, starting with device 1; the keys that are down, in rising
 -- order, each with its last message; and for how many messages there is room
 pub record Tracked : Type 0 where
   pub pointers : List (List Pointer)

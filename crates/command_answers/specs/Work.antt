@@ -33,7 +33,7 @@ end_lines k (suc n) es = end_of k (unwrap_or (counts es k) unopened) ++ end_line
 abbrev pub summary : ℕ → ℕ → ℕ → List Effect → List ℕ
 summary seed packets args es = head seed packets args ++ (end_lines 1 5 es ++ anr_lines (anrs es))
 
--- the events of a workload of ten fingers, the newest first
+-- the events of a workload of ten fingers, newest first
 abbrev pub work_past : ℕ → ℕ → List RawEvent
 work_past seed packets = reverse (events_of seed packets 10)
 

@@ -69,7 +69,7 @@ pub record Logged (told : Option (List Entry)) (before now : List Reading) (file
   pub agree : IfTold told (λ entries. AllAgree entries readings)
   pub holds : Holds readings
 
--- why a command has no answer, or which refusal it has: files could not be read, memory ran out, or this is what is answered
+-- why a command has no answer, or which refusal it has: files could not be read, memory ran out, or this is the answer
 abbrev pub RefusesBy : (Refused → Type 0) → Type 0 → ℕ → ℕ → Refusal → Type 0
 RefusesBy Comes Read faults_before faults_now ReadFailed = Rose faults_before faults_now × Read
 RefusesBy Comes Read faults_before faults_now NoMemory = Read

@@ -46,7 +46,7 @@ points_in (s ∷ ss) = length s.points + points_in ss
 unfoldable pub same_line : ℕ → ℕ → List ℕ
 same_line sections points = codes "same " ++ (decimal sections ++ (codes " " ++ (decimal points ++ codes "\n")))
 
--- what is answered
+-- the answer
 abbrev pub answer : Option CompareError → ℕ → ℕ → Result (List ℕ) CompareError
 answer None sections points = Ok (same_line sections points)
 answer (Some fault) sections points = Err fault

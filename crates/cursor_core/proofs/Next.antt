@@ -56,7 +56,7 @@ next_noted d call calls s left met a lefts mets w =
     λ e. a.live_is w ∙ hovered_live (has_moved (call ∷ calls)) (windows (call ∷ calls)) (live d.channels (call ∷ calls)) (cursor d (call ∷ calls)) w (ap (λ o. is_at o w) (sym a.after_is) ∙ e) in
     notes_are s left met (origin (call ∷ calls)) w lefts mets alive ∙ step_sent d call calls s w a
 
--- a stream with more messages, where there is one
+-- a stream with more messages, if there is one
 more_of : (b : Bool) (s ms : List HoverMsg) → cond b (Some (s ++ ms)) None ≡ option_map (λ x. x ++ ms) (cond b (Some s) None)
 more_of true s ms = refl
 more_of false s ms = refl

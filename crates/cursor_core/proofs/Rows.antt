@@ -103,7 +103,7 @@ nothing_back old rows c m out told =
     let long : length old ≡ length rows = ap (λ rs. length rs) told ∙ rows_stay (to c m) 1 rows in
     told ∙ untouched c 1 m rows (elim out [ inl low ↦ inl low | inr high ↦ inr (omega (arith, high, long)) ])
 
--- told twice
+-- sent twice
 pub sent_twice : (f g : ℕ → List HoverMsg) (w : ℕ) (rows : List Row) → rows_with g w (rows_with f w rows) ≡ rows_with (λ v. f v ++ g v) w rows
 sent_twice f g w [] = refl
 sent_twice f g w (row ∷ rows) = ap₂ (λ (r : Row) (rs : List Row). r ∷ rs) (ap (with_left row) (append_assoc row.left (f w) (g w))) (sent_twice f g (suc w) rows)

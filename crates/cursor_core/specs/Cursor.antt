@@ -1,4 +1,4 @@
--- A cursor after a list of calls, the newest first.
+-- A cursor after a list of calls, newest first.
 use Rattle.std.specs.Prelude.{◌≡◌, ℕ, pos, ◌-◌, ◌||◌, List, Option, Some, None}
 use Rattle.input_types.specs.declared.axis.Pixel.{Pixel}
 use Rattle.window_snapshot.specs.declared.window.Window.{Window}

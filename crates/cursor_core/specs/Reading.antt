@@ -1,4 +1,4 @@
--- A reader of motions after a list of events, the newest first.
+-- A reader of motions after a list of events, newest first.
 use Rattle.std.specs.Prelude.{◌≡◌, ℕ, pos, Bool, false, ◌||◌, List}
 use Rattle.raw_events.specs.declared.event.RawEvent.{RawEvent}
 use Rattle.cursor_core.specs.declared.motion.MotionReader.{MotionReader}

@@ -71,7 +71,7 @@ fn motion(device: DeviceId, count: u8, round: u64) -> Motion {
     }
 }
 
-/// A call whose answer is not looked at.
+/// Makes a call and ignores its reply.
 fn make(dispatcher: &mut Dispatcher, call: &Call) -> Result<(), AllocError> {
     match dispatcher.apply(call) {
         Ok(_) => Ok(()),

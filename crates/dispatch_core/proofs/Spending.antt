@@ -11,7 +11,7 @@ abbrev pub AreInputs : List Entry → Type 0
 AreInputs [] = Unit {0}
 AreInputs (e ∷ es) = (is_input e.call ≡ true) × AreInputs es
 
--- the core when these entries came, the newest first
+-- the core when these entries came, newest first
 abbrev pub after : List Entry → Recorded → Recorded
 after [] r = r
 after (e ∷ es) r = with_entry e (after es r)

@@ -23,7 +23,7 @@ abbrev AllPass : (ℕ → Bool) → List ℕ → Type 0
 AllPass P [] = Unit {0}
 AllPass P (w ∷ ws) = (P w ≡ true) × AllPass P ws
 
--- the channel passes it, where there is one
+-- the channel passes it, if there is one
 abbrev Passes : (ℕ → Bool) → Option ℕ → Type 0
 Passes P None = Unit {0}
 Passes P (Some c) = P c ≡ true

@@ -46,7 +46,8 @@ the_other_one_keeps_its_focus_and_loses_its_keys :
     ≡ focused 1 0 true ∷ keyed 2 1000000 (volume true) 0 0 ∷ keyed 3 1200000 (volume false) 0x20 0 ∷ []
 the_other_one_keeps_its_focus_and_loses_its_keys = refl
 
--- A key is held when nobody is requested on the other display: it is cancelled, and the next key goes to no window.
+-- A key is held when the focus of the other display is requested for none: it is cancelled, and the next key goes to
+-- no window.
 abbrev keys_to_nobody : List Call
 keys_to_nobody =
     open_two ++ Windows 0 (a ∷ b ∷ []) ∷ FocusOn 0 0 (Some 1) ∷ [] ++ pressed 1000000 true ++ FocusOn 1200000 1 None ∷ []

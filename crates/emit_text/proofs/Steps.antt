@@ -39,7 +39,7 @@ spends_after s want choice few = record {
   used = omega (arith, few, news_few s.places want);
 }
 
--- ---- refused for want of slots or tracking ids
+-- ---- refused because slots or tracking ids ran out
 
 abbrev SpentIf : Option EmitError → State → Type 0
 SpentIf None s = Unit {0}

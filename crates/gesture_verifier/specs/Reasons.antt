@@ -64,7 +64,7 @@ reason_of s (MotionBody m) = first_fitting (motion_reasons (s.ids m.device) m)
 reason_of s (Key m) = first_fitting (key_reasons (s.repeats m.key.device m.key.scan) m)
 reason_of s (Focus b) = first_fitting ((not (differ b s.focus), FocusTwice) ∷ [])
 
--- the action of one pointer among others, which the index tells
+-- the action of one pointer among others, given by the index
 abbrev pub is_of_one : MotionAction → Bool
 is_of_one PointerDown = true
 is_of_one PointerUp = true

@@ -55,8 +55,8 @@ due_kept repeats d s = if is_of_device d s then due_at repeats (place_of d s) el
 abbrev pub state_of : Told → StreamState
 state_of told = record { ids = ids_kept told.sets; repeats = due_kept told.repeats; focus = told.focus }
 
--- A verifier that was shown a list of messages, the newest first, and accepted all of them: the stream is well-formed, its tables say
--- what a window knows after it, and the count is its length, as far as 64 bits go.
+-- A verifier that was shown a list of messages, newest first, and accepted all of them: the stream is well-formed,
+-- its tables say what a window knows after it, and the count is its length, as far as 64 bits go.
 pub record VerifierStandsFor (past : List Message) (told : Told) : Type 0 where
   pub state : stream_state past ≡ Some (state_of told)
   pub count : told.accepted ≡ min (length past) (2 ^ 64 - 1)

@@ -38,9 +38,9 @@ is_end_flag flags = (flags == 0) || (flags == flag_canceled)
 -- What is down after an action that lists `ids`, if `down` was down before it; both rise. None if the action may not
 -- come then:
 --   Down          from nothing, and lists one pointer
---   PointerDown   from something, and lists it with one more, which the index tells
+-- PointerDown   from something, and lists it with one more, at the index
 --   Move          lists what is down
---   PointerUp     lists what is down, at least two, and the index tells the one that goes
+-- PointerUp     lists what is down, at least two; the one at the index goes up
 --   Up            lists what is down, the last one
 --   Cancel        lists what is down, which ends
 --   Outside       lists one pointer, and leaves what is down

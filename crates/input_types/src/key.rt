@@ -7,7 +7,7 @@ pub struct KeyArgs {
     pub device: DeviceId,
     /// The kernel's scan code.
     pub scan: u16,
-    /// Android's key code, as `KeyEvent.KEYCODE_HOME`; 0 where the layout has none for this scan code.
+    /// Android's key code, as `KeyEvent.KEYCODE_HOME`; 0 if the layout has none for this scan code.
     pub code: u16,
     /// The meta bits of the keys of the device that are down after this event, as KeyEvent's `getMetaState` gives them.
     pub meta: u32,

@@ -123,7 +123,7 @@ fn make(
     }
 }
 
-/// What a device does, where the line says it, and how it is answered.
+/// What a device does, if the line says it, and the answer.
 pub(crate) fn act(world: &mut World, word: &[u8], numbers: &[u64]) -> Option<&'static str> {
     match numbers {
         [now, number, rest @ ..] => {

@@ -19,10 +19,10 @@
 //! which is also where it can be touched, and its flags as a number.
 //!
 //! The devices 1 to 6 are of display 0, and 7 and 8 are of display 1. A panel is plugged in by its display and its
-//! slots; its positions are the pixels of its display. What a finger does is sent in events: `down` has the device, the
-//! slot, the tracking id and the position, `move` the device, the slot and the position, `up` and `palm` the device and
-//! the slot; `report` is a SYN_REPORT, `dropped` a SYN_DROPPED, and `key` has the scan code and the value. A device
-//! with keys has the scan codes 30 and 115.
+//! slots; its positions are the pixels of its display. What a finger does is given in events: `down` has the device,
+//! the slot, the tracking id and the position, `move` the device, the slot and the position, `up` and `palm` the
+//! device and the slot; `report` is a SYN_REPORT, `dropped` a SYN_DROPPED, and `key` has the scan code and the value.
+//! A device with keys has the scan codes 30 and 115.
 #![tactic(auto)]
 
 mod answers;

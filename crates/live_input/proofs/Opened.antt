@@ -36,7 +36,7 @@ opening_new ds limit c es lt = sym (ap (λ b. cond b es (answered ds (Open limit
 pub opening_old : (ds : List ℕ) (limit c : ℕ) (es : List Effect) → c ≤ opened (past_of es) → es ≡ opening ds limit c es
 opening_old ds limit c es le = sym (ap (λ b. cond b es (answered ds (Open limit) es)) (le-leb c (opened (past_of es)) le))
 
--- all channels are held exactly where none is vacant
+-- all channels are held exactly if none is vacant
 some≢none : (c : ℕ) → Some c ≡ None → ⊥
 some≢none c e = cc
 

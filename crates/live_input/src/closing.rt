@@ -39,7 +39,8 @@ impl Live {
         self.show(now, others)
     }
 
-    /// If the focus of a display was requested for a channel, it is requested for none. Without memory nothing changes.
+    /// If the focus of a display was requested for a channel, requests it for none. If memory runs out, nothing
+    /// changes.
     fn forget_on(&mut self, now: Moment, display: DisplayId, channel: u32) -> Result<(), AllocError>
         ensures after { (ds : List ℕ) (es : List Effect) → LiveIs ds es self.old
             → OnOk result (LiveIs ds (forgotten_on ds now channel display es) self.new) }

@@ -9,7 +9,7 @@ use Rattle.motion_batch.specs.Pairs.{Mark, unparted, grouped, groups_of, joins, 
 use Rattle.motion_batch.specs.Rule.{has_same_ids, is_due, reaches}
 use Rattle.motion_batch.specs.Unbatch.{move_of}
 
--- samples, the newest first, as messages of a device
+-- samples, newest first, as messages of a device
 abbrev pub marked : ℕ → List Sample → List Mark → List Mark
 marked k [] rest = rest
 marked k (q ∷ qs) rest = unparted (move_of k q) ∷ marked k qs rest
@@ -84,7 +84,7 @@ waiting_group k (q ∷ qs) rest chained few shut =
     one_group k q qs rest false chained (omega (arith, few)) shut
     ∙ sym (ap (λ xs. with_waiting k xs (groups_of rest)) (reverse_with q qs) ∙ waiting_some k (reverse qs) q (groups_of rest) ∙ ap (λ xs. map (move_of k) xs ∷ groups_of rest) (sym (reverse_with q qs)))
 
--- of samples, the newest first, those that a frame leaves and those that it gives out
+-- of samples, newest first, those that a frame leaves and those that it gives out
 abbrev pub newer : Option ℕ → List Sample → List Sample
 newer at [] = []
 newer at (q ∷ qs) = if is_due at q then [] else q ∷ newer at qs

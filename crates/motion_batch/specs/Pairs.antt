@@ -25,13 +25,13 @@ parts at m (Some n) = reaches at m.moment && not (reaches at n.moment)
 abbrev pub marked_by : Option ℕ → Option Message → Mark → Mark
 marked_by at next m = record { message = m.message; parted = m.parted || parts at m.message next }
 
--- the messages of a class, the newest first, after a frame: the first so many of them wait; next is the one after these
+-- the messages of a class, newest first, after a frame: the first so many of them wait; next is the one after these
 abbrev pub part : Option ℕ → Option Message → ℕ → List Mark → List Mark
 part at next zero ms = ms
 part at next (suc n) [] = []
 part at next (suc n) (m ∷ ms) = marked_by at next m ∷ part at (Some m.message) n ms
 
--- the messages of a class that these calls took, the newest first
+-- the messages of a class that these calls took, newest first
 abbrev pub marks : ℕ → List Call → List Mark
 marks k [] = []
 marks k (taken m ∷ calls) = if class_of m.body == k then unparted m ∷ marks k calls else marks k calls

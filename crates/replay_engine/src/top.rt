@@ -65,13 +65,13 @@ pub fn run_alone<F: Files, O: Sink, E: Sink>(
 /// | status | where |
 /// |---|---|
 /// | 0 | the whole text was written to `out` |
-/// | 1 | a line of an order or of a stream file is bad, asks for a step that does not exist, or may not come; or streams |
-/// |   | are not to be written as a recording, are not whole, or are not those that were wanted |
+/// | 1 | a line of an order or of a stream file is bad, requests a step that does not exist, or may not come; or streams |
+/// |   | cannot be written as a recording, are not whole, or differ from the expected ones |
 /// | 2 | the words are not of the form of a command |
 /// | 3 | the session or a line of the recording is refused |
 /// | 4 | a file could not be read |
 /// | 5 | a part of the text could not be written |
-/// | 6 | want of memory |
+/// | 6 | out of memory |
 /// | 7 | a file, the steps of a session, or a run are longer than their limit |
 ///
 /// For each status except 0 a line on `err` says why, such as `session: Missing display`, `read failed` or `too long:

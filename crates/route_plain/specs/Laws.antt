@@ -19,8 +19,8 @@ abbrev pub BeganBy : (ℕ → ℕ → ℕ) → List Hold → Type 0
 BeganBy f [] = Unit {0}
 BeganBy f (h ∷ hs) = (h.since ≡ f h.window h.device) × BeganBy f hs
 
--- What the router keeps is what the marks of its turns say, the newest first: how many there were, who holds what,
--- since which turn a window holds something of a device, who is pilfering, and that there are eight devices.
+-- What the router keeps is what the marks of its turns say, newest first: how many there were, who holds what, since
+-- which turn a window holds something of a device, who is pilfering, and that there are eight devices.
 pub record Follows (ms : List Mark) (st : State) : Type 0 where
   pub turns : st.turns ≡ length ms
   pub holds : pairs_of st.holds ≡ held ms

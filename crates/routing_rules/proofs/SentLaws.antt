@@ -56,7 +56,7 @@ lies m p b l down next c fresh gone (closes q d e g u) =
       kept_is = λ n. ap (filter l) (sym e) ∙ sym (filter-remove l m.pointers m.index p c lp) ∙ ap (filter l) g;
     }
 
--- a pointer that goes down was held by nobody
+-- no window held a pointer before it goes down
 pub fresh_id : (s : Scene) (m : Motion) (p : Pointer) (w : ℕ) (down : List ℕ) → Fits s m.device down → Apart m.pointers → changed m ≡ Some p
     → remove (ids_of m.pointers) m.index ≡ down → s.holds w m.device p.id ≡ false
 fresh_id s m p w down f a c e =

@@ -23,7 +23,7 @@ abbrev pub earliest : Scene → ℕ → List ℕ → Option ℕ
 earliest s d ws = fold (sooner s d) None ws
 
 -- The choice, as a table: of the earliest holder, the earliest holder that prevents splitting, and the touched window
--- and whether that is on its own. First: nobody holds anything: the touched window, if there is one. Unsplit: some
+-- and whether that is on its own. First: no window holds anything: the touched window, if there is one. Unsplit: some
 -- holder prevents splitting: the earliest such holder. Nothing: nothing is touched: the earliest holder. Whole: the
 -- touched window is on its own: the earliest holder. Split: else the touched window.
 abbrev pub choose : Option ℕ → Option ℕ → Option ℕ → Bool → Choice

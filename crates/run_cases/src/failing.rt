@@ -70,7 +70,7 @@ fn add_again(text: &mut Vec<u8>, again: u64) -> Result<(), AllocError> {
     add_line(text, line.as_str())
 }
 
-/// Adds a text, of which a line that comes again and again is sent once, and then how often more.
+/// Adds a text, in which a repeated line is printed once, and then how often it is repeated.
 fn add_sent(text: &mut Vec<u8>, outgoing: &[u8]) -> Result<(), AllocError> {
     let mut last: &[u8] = &[];
     let mut again = 0u64;

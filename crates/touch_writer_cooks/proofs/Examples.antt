@@ -19,7 +19,7 @@ held id x y = record { id = id; x = pos x; y = pos y }
 abbrev written : ℕ → List Want → List Bool → Written
 written moment want choice = record { moment = moment; want = want; choice = choice }
 
--- the packets of a device with two slots, the newest first
+-- the packets of a device with two slots, newest first
 abbrev one : List Written
 one = written 1000 (at 0 100 200 ∷ []) (true ∷ false ∷ []) ∷ []
 

@@ -6,7 +6,7 @@ use std::thread::yield_now;
 /// waited for. At each turn others run.
 const TURNS: u64 = 50_000_000;
 
-/// What a step tells of itself, and what it waits for.
+/// What a step reports about itself, and what it waits for.
 #[derive(Drop)]
 pub(crate) struct Flags {
     inside: AtomicU64,

@@ -15,7 +15,7 @@ use Rattle.routing_rules.specs.Choice.{is_holder, is_alone, sooner, earliest, ch
 use Rattle.why_text.specs.Down.{down_of, may_get, targets}
 use Rattle.why_text.specs.Laws.{PartsLaw}
 
--- the channel passes a test, where there is one; and all of these channels do
+-- the channel passes a test, if there is one; and all of these channels do
 abbrev Passes : (ℕ → Bool) → Option ℕ → Type 0
 Passes P None = Unit {0}
 Passes P (Some c) = P c ≡ true
