@@ -20,7 +20,7 @@ abbrev pub points_left : List Event → List (ℕ × Told)
 points_left [] = []
 points_left (e ∷ es) = with_point e.0 e.1 (points_left es)
 
--- the same, where none of the lines is bad
+-- the same, if none of the lines is bad
 abbrev pub points_at : Result (List Event) ℕ → List (ℕ × Told)
 points_at (Ok es) = points_left es
 points_at (Err bad) = []

@@ -1,6 +1,6 @@
 //! Calls of the dispatcher as a text, and how they are answered.
 //!
-//! Standard input has one call a line. Each line is printed with its answer behind it:
+//! Standard input has one call a line. Each line is printed, followed by its answer:
 //!
 //! ```text
 //! # a finger on a window                         begins anew, without a call
@@ -40,7 +40,7 @@ fn rounds_of(words: &[String]) -> Option<u64> {
     }
 }
 
-/// The words behind the program's name.
+/// The words after the program's name.
 fn words(rt: &HostRuntime, alloc: Global) -> io::Result<Vec<String>> {
     let mut words = Vec::new(alloc);
     for word in env::args(rt)?.skip(1) {

@@ -31,7 +31,7 @@ fn at(finger: u8, round: u64) -> Pixel {
     }
 }
 
-/// The fingers 0 to `last`, where they are in a round.
+/// The fingers 0 to `last`, at their positions in a round.
 fn fingers(last: u8, round: u64) -> Pointers {
     let mut pointers = Pointers::empty();
     for finger in 0..=last {

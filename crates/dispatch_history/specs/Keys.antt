@@ -37,7 +37,7 @@ ends args l = false
 abbrev pub loses_all : (after before : History) → ℕ → Bool
 loses_all after before w = is_target before w && not (is_target after w) || names after w || not (live after w)
 
--- the keys that a step gives to a window: a key that goes down, where the window is the key target and able
+-- the keys that a step gives to a window: a key that goes down while the window is the key target and able
 abbrev pub key_given : Option KeyArgs → Bool → List KeyArgs → List KeyArgs
 key_given (Some k) true held = with_key k held
 key_given given hears held = held

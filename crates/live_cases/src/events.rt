@@ -99,7 +99,7 @@ fn key(
     Some(take(live, now, device, &[(EV_KEY, scan, down)]))
 }
 
-/// What a word and the numbers behind the moment and the device make the device do.
+/// What a word and the numbers after the moment and the device make the device do.
 fn make(
     live: &mut Live,
     now: Moment,

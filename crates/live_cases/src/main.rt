@@ -1,6 +1,6 @@
 //! Calls of a live service as a text, and what each client is sent.
 //!
-//! Standard input has one call a line. Each line is printed with its answer behind it, and what an answer lists stands
+//! Standard input has one call a line. Each line is printed, followed by its answer, and what an answer lists stands
 //! on lines of its own:
 //!
 //! ```text

@@ -66,8 +66,8 @@ pub record AreReleased (es : List Effect) (d : Dispatching) : Type 0 where
   pub messages_are : (c : ℕ) → 1 ≤ c → gone d c ≡ received (past_of es) c
   pub anrs_are : anrs_released d ≡ length (anrs es)
 
--- The service, whose devices are on these displays, stands for a history with these effects: its dispatcher does, and what is kept beside
--- that is what the history says.
+-- The service, whose devices are on these displays, stands for a history with these effects: its dispatcher does, and
+-- what is kept besides agrees with the history.
 pub record LiveIs (displays : List ℕ) (es : List Effect) (s : LiveState) : Type 0 where
   pub stands : StandsFor es s.dispatcher
   pub displays_are : s.dispatcher.displays ≡ displays

@@ -23,7 +23,7 @@ is_of w d h = h.window == w && h.device == d
 abbrev pub began : List Hold → ℕ → ℕ → Option ℕ
 began hs w d = option_map (λ h. h.since) (find (is_of w d) hs)
 
--- one number is below another, where there are both
+-- one number is below another, if both exist
 abbrev pub is_below : Option ℕ → Option ℕ → Bool
 is_below (Some m) (Some n) = nat_lt m n
 is_below _ _ = false

@@ -44,7 +44,7 @@ said_at s e = said_up_to (sent_all s e) 64
 abbrev pub holds_left : Taking → List Hold → List Hold
 holds_left t hs = filter (λ h. not (takes t h.window h.device h.id)) hs
 
--- a pair that is given at turn n: the window began with it, where it held nothing of the device before
+-- a pair that is given at turn n: the window began with it, if it held nothing of the device before
 abbrev pub hold_from : ℕ → List Hold → Pair → Hold
 hold_from n hs q = record { window = q.window; device = q.device; id = q.id; since = unwrap_or (began hs q.window q.device) n }
 

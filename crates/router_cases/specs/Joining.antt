@@ -39,7 +39,7 @@ StartLaw = (ts : List Touches) → ((d : ℕ) → IsFresh (table_of ts d)) → J
 abbrev pub SceneLaw : Type 0
 SceneLaw = (n : ℕ) (st : State) (ts : List Touches) (windows : List Window) (live able : ℕ) → Joined n st ts → Stands (scene_before st windows live able) ts
 
--- the motions of an answer of the split router, where the window holds these ids of the device, whose last places these are
+-- the motions of an answer of the split router, if the window holds these ids of the device, at these last positions
 abbrev pub motions_of : Sends → (d : ℕ) → (last : List Pointer) → (before : ℕ → Bool) → List Motion
 motions_of Nothing d last before = []
 motions_of (One m) d last before = m ∷ []

@@ -29,14 +29,14 @@ abbrev pub slips_out : ℕ → ℕ → Option Slip → Taking
 slips_out d i None = Nothing
 slips_out d i (Some x) = Slipped x.from d i
 
--- what a motion gives of its changed pointer: a down to its takers, and a move where it slips
+-- what a motion gives of its changed pointer: a down to its takers, and a move if it slips
 abbrev pub given_by : Scene → Motion → MotionAction → Option Pointer → List Pair
 given_by s m Down (Some p) = pairs m.device p.id (takers s m.device p.at)
 given_by s m PointerDown (Some p) = pairs m.device p.id (takers s m.device p.at)
 given_by s m Move (Some p) = slips_in m.device p.id (slip s m)
 given_by s m _ _ = []
 
--- what it takes of it: an up takes it from all, also where a device cancels its last pointer, and a move where it slips
+-- what it takes of it: an up takes it from all, even if a device cancels its last pointer, and a move if it slips
 abbrev pub taken_by : Scene → Motion → MotionAction → Option Pointer → Taking
 taken_by s m Up (Some p) = Lifted m.device p.id
 taken_by s m PointerUp (Some p) = Lifted m.device p.id

@@ -9,7 +9,7 @@
 //! the script   Windows { now: 0, .. }
 //! ```
 //!
-//! A third call of the reader may stand before or behind that of the script. Where the two lanes meet at their first
+//! A third call of the reader may come before or after that of the script. If the two lanes meet at their first
 //! calls, both have arrived before either call is made, which lanes of one thread never do.
 //!
 //! No wait is endless: one that takes too many turns gives up and lets the lane continue, and the gate reports it.

@@ -57,7 +57,7 @@ pub record IsBest (e : Best) (want : List Want) (current s : ℕ) (ps : List Pla
 abbrev pub blank : Best
 blank = record { events = 0; slots = 0 }
 
--- a row has the best choices where the last 0, 1, 2 and so on of the new contacts are left
+-- a row has the best choices if the last 0, 1, 2 and so on of the new contacts remain
 abbrev pub IsRow : List Best → List Want → ℕ → ℕ → List Place → List Want → ℕ → ℕ → Type 0
 IsRow row want current s ps ns next upto =
     (left : ℕ) → left < upto → IsBest (get_or row left blank) want current s ps (drop (length ns - left) ns) (next + (length ns - left))

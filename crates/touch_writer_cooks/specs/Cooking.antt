@@ -21,7 +21,7 @@ pub record Written : Type 0 where
 abbrev pub first : ℕ → ℕ → State
 first device slots = record { device = device; current = 0; places = replicate slots vacant; used = 0 }
 
--- the writer behind its packets
+-- the writer after its packets
 abbrev pub writer_after : ℕ → ℕ → List Written → State
 writer_after device slots [] = first device slots
 writer_after device slots (w ∷ past) = after (writer_after device slots past) w.want w.choice
