@@ -13,11 +13,11 @@ none_before n (suc (suc zero)) at = let same : n ≡ 6000000 = cc in rw same ref
 none_before n (suc (suc (suc zero))) at = let same : n ≡ 6000000 = cc in rw same refl
 none_before n (suc (suc (suc (suc k)))) at = cc
 
--- of one moment the least channel comes first
+-- at equal moments the lowest channel comes first
 pub of_one_moment : IsFirst (due_of both) (Some (6000000, 2))
 of_one_moment = (refl, λ q at. none_before q.0 q.1 at)
 
--- at another moment channel 2 is put off, and channel 3 comes first
+-- at a later moment channel 2 is postponed, and channel 3 comes first
 pub put_off : is_put_off (Some (6000000, 2)) (7500000, 2) ≡ true
 put_off = refl
 

@@ -22,7 +22,8 @@ before_less : (n k m c o j : ℕ) → is_before (m, c) (o, j) ≡ true → is_be
     → is_before (n, k) (m, c) ≡ false
 before_less n k m c o j a b = grind (arith, nat_tests)
 
--- a channel's moment that is not above that of the first pair, which does not come before that pair, is its moment
+-- if a channel's moment is not later than that of the first pair, and its pair does not come before that pair, the
+-- moments are equal
 same_moment : (m o c j : ℕ) → j ≡ c → (j ≡ c → m ≤ o) → is_before (m, c) (o, j) ≡ false → m ≡ o
 same_moment m o c j e h b = let le : m ≤ o = h e in grind (arith, nat_tests)
 
@@ -30,7 +31,7 @@ same_moment m o c j e h b = let le : m ≤ o = h e in grind (arith, nat_tests)
 alone : (g : ℕ → Option ℕ) (m c n k : ℕ) → g c ≡ Some m → g k ≡ Some n → k ≡ c → m ≡ n
 alone g m c n k here at same = let there : g k ≡ g c = ap g same in cc
 
--- a first pair that is not put off is of another channel or not at a lesser moment
+-- a first pair that is not postponed is of another channel or not at an earlier moment
 not_put_off : (m c o j : ℕ) → is_put_off (Some (o, j)) (m, c) ≡ false → j ≡ c → m ≤ o
 not_put_off m c o j h same = grind (arith, nat_tests)
 
@@ -79,7 +80,7 @@ chosen f g m c p here others first h false b = (
   λ q at. old_first f g m c p.0 p.1 q.0 q.1 here others first.1 b at (cases_eq q.1 c),
 )
 
--- what comes first once a channel is due, where that does not put off what came first
+-- what comes first once a channel is due, if that does not postpone what came first
 pub first_with : (f g : ℕ → Option ℕ) (m c : ℕ) (first : Option (ℕ × ℕ)) → g c ≡ Some m → ((i : ℕ) → i ≢ c → g i ≡ f i)
     → IsFirst f first → is_put_off first (m, c) ≡ false → IsFirst g (Some (sooner_of first (m, c)))
 first_with f g m c None here others first h = (here, λ q at. only f g m c q.0 q.1 here others first at (cases_eq q.1 c))
@@ -105,7 +106,7 @@ not_first : (f : ℕ → Option ℕ) (c : ℕ) (first : Option (ℕ × ℕ)) →
 not_first f c None gone h = refl
 not_first f c (Some p) gone h = ne_eqb p.1 c (λ same. let there : f p.1 ≡ f c = ap f same in let due : f p.1 ≡ Some p.0 = h.0 in cc)
 
--- so it puts nothing off
+-- so it postpones nothing
 nothing_off : (m c : ℕ) (first : Option (ℕ × ℕ)) → is_of first c ≡ false → is_put_off first (m, c) ≡ false
 nothing_off m c None away = refl
 nothing_off m c (Some p) away = and_left _ _ away
@@ -136,7 +137,7 @@ fewer c mask other later has is without =
       | inr ne ↦ omega (arith, le, is, ne)
     ]
 
--- no channel is looked at
+-- no channel has been examined
 pub none_yet : (due : ℕ → Option ℕ) (pending : ℕ) → ((c : ℕ) → mask_has pending c ≡ false → due c ≡ None)
     → IsFirst (due_but pending due) None
 none_yet due pending none c = at (mask_has pending c) refl
@@ -145,7 +146,7 @@ none_yet due pending none c = at (mask_has pending c) refl
     at true e = refl
     at false e = none c e
 
--- one more is looked at
+-- one more has been examined
 pub one_more : (due : ℕ → Option ℕ) (rest later c : ℕ) (first : Option (ℕ × ℕ)) → mask_has rest c ≡ true
     → ((k : ℕ) → mask_has later k ≡ (not (k == c) && mask_has rest k)) → IsFirst (due_but rest due) first
     → IsFirst (due_but later due) (further first (due c) c)
@@ -156,7 +157,7 @@ one_more due rest later c first has without h =
     (ap (λ b. if b then None else due c) has)
     h
 
--- all are looked at
+-- all have been examined
 pub all_seen : (due : ℕ → Option ℕ) (rest : ℕ) (first : Option (ℕ × ℕ)) → rest ≡ 0 → IsFirst (due_but rest due) first
     → IsFirst due first
 all_seen due rest first over h = subst (λ f. IsFirst f first) (λ i c. seen c i) h

@@ -69,15 +69,15 @@ table_without dues least pending rest c h low high without = record {
   none_out = none_left dues c pending rest low (omega (arith, high, h.whole)) h.none_out without;
 }
 
--- no channel that was looked at is due at the moment
+-- no examined channel is due at the moment
 abbrev pub NoneAt : (due : ℕ → Option ℕ) (rest moment : ℕ) → Type 0
 NoneAt due rest moment = (c : ℕ) → mask_has rest c ≡ false → is_at (due c) moment ≡ false
 
--- none was looked at
+-- none has been examined
 pub none_at : (due : ℕ → Option ℕ) (pending moment : ℕ) → ((c : ℕ) → mask_has pending c ≡ false → due c ≡ None) → NoneAt due pending moment
 none_at due pending moment none c out = ap (λ d. is_at d moment) (none c out)
 
--- one more was looked at
+-- one more has been examined
 pub none_more : (due : ℕ → Option ℕ) (rest later c moment : ℕ) → ((k : ℕ) → mask_has later k ≡ (not (k == c) && mask_has rest k))
     → is_at (due c) moment ≡ false → NoneAt due rest moment → NoneAt due later moment
 none_more due rest later c moment without away none k out = elim (cases_eq k c) [

@@ -1,7 +1,7 @@
-//! When each channel is due to be named unresponsive, and which one is due first.
+//! When each channel is due to be reported unresponsive, and which one is due first.
 //!
-//! A channel is due where its oldest message that was delivered and not finished has waited as long as it may.
-//! Channels 2 and 3 are due:
+//! A channel is due when its oldest delivered and unfinished message has waited for the channel's limit. Channels 2
+//! and 3 are due:
 //!
 //! ```text
 //! set 3 at 6000000       first: 6000000, channel 3
@@ -11,9 +11,10 @@
 //! clear 2                nobody is due
 //! ```
 //!
-//! Of one moment the least channel comes first. The map is a fixed table, with a mask of the channels that are due and
-//! a moment before which none is. What comes first is looked for where it is asked for, among those channels alone, and
-//! mostly is the first one of them: channels that were sent at one step are due at one moment.
+//! At equal moments the lowest channel comes first. The map is a fixed table, with a mask of the channels that are
+//! due and a moment before which none is. The search runs only when the first one is asked for, and only over those
+//! channels. It mostly stops at the first of them, since channels that were sent something at one step are due at one
+//! moment.
 #![tactic(auto)]
 
 mod tracker;

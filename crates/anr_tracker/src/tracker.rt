@@ -8,15 +8,15 @@ mod pending;
 use std::marker::Model;
 use window_snapshot::{mask_first, mask_with, mask_without};
 
-/// A map from channels, which have the numbers 1 to 64, to the moments at which they are due. It takes no memory.
+/// A map from channels, numbered 1 to 64, to the moments at which they are due. It allocates no memory.
 ///
-/// Contracts see the table: at place `c - 1` stands the due moment of channel `c`, where it has one.
+/// Contracts see the table: index `c - 1` has the due moment of channel `c`, if it has one.
 #[derive(Debug, Drop)]
 pub struct Tracker {
     dues: [Option<u64>; 64],
     /// No channel is due before this moment.
     least: u64,
-    /// The mask of the channels that are due, in which the first pair is looked for.
+    /// The mask of the channels that are due, in which the search for the first pair runs.
     pending: u64,
 }
 
@@ -32,7 +32,7 @@ impl Model for Tracker {
 }
 
 impl Tracker {
-    /// No channel is due.
+    /// A map in which no channel is due.
     pub fn new() -> Tracker
         ensures { result ≡ replicate 64 None }
     {
@@ -43,7 +43,7 @@ impl Tracker {
         }
     }
 
-    /// The channel is due at a moment, instead of any other.
+    /// Sets the moment at which a channel is due.
     pub fn set(&mut self, channel: u32, due: u64)
         requires { (1 ≤ channel) × (channel ≤ 64) }
         ensures { self.new ≡ slice_set self.old (channel - 1) (Some due) }
@@ -53,7 +53,7 @@ impl Tracker {
         self.pending = mask_with(self.pending, channel);
     }
 
-    /// The channel is not due.
+    /// Removes a channel: it is not due.
     pub fn clear(&mut self, channel: u32)
         requires { (1 ≤ channel) × (channel ≤ 64) }
         ensures { self.new ≡ slice_set self.old (channel - 1) None }
@@ -62,7 +62,7 @@ impl Tracker {
         self.pending = mask_without(self.pending, channel);
     }
 
-    /// When the channel is due.
+    /// When a channel is due.
     pub fn due(&self, channel: u32) -> Option<u64>
         requires { (1 ≤ channel) × (channel ≤ 64) }
         ensures { result ≡ due_of self.now channel }
@@ -70,8 +70,8 @@ impl Tracker {
         due_at(&self.dues, channel)
     }
 
-    /// The least due moment, and its channel, the least one where several are due at it; None exactly where no channel
-    /// is due.
+    /// The earliest due moment and its channel, the lowest one if several are due then; None exactly if no channel is
+    /// due.
     pub fn first_due(&self) -> Option<(u64, u32)>
         ensures { IsFirst (due_of self.now) result }
     {
@@ -86,7 +86,7 @@ fn none_due() -> [Option<u64>; 64]
     [None; 64]
 }
 
-/// A moment before which no channel is due, once one is due that was not, or was due at another one.
+/// A moment before which no channel is due, once one becomes due or changes its moment.
 fn least_with(pending: u64, least: u64, due: u64) -> u64
     ensures { result ≡ least_with pending least due }
 {
@@ -97,7 +97,7 @@ fn least_with(pending: u64, least: u64, due: u64) -> u64
     }
 }
 
-/// The pair that comes first, of one that came first so far and a further one.
+/// The first of the pair that came first so far and a further one.
 fn sooner(first: Option<(u64, u32)>, pair: (u64, u32)) -> (u64, u32)
     ensures { result ≡ sooner_of first pair }
 {
@@ -122,7 +122,7 @@ fn due_at(dues: &[Option<u64>; 64], channel: u32) -> Option<u64>
     dues[channel as usize - 1]
 }
 
-/// The pair that comes first, of one that came first so far and a further channel, where that is due.
+/// The first of the pair that came first so far and that of a further channel, if it is due.
 fn further(first: Option<(u64, u32)>, due: Option<u64>, channel: u32) -> Option<(u64, u32)>
     ensures { result ≡ further first due channel }
 {
@@ -142,7 +142,7 @@ fn is_at(due: Option<u64>, moment: u64) -> bool
     }
 }
 
-/// The pair that comes first, looked for in a mask outside of which no channel is due.
+/// Searches for the first pair in a mask outside of which no channel is due.
 ///
 /// No channel is due before the moment `least`, so that the first one that is due at it ends the search: channels that
 /// were sent at one step are mostly due at one moment.

@@ -15,7 +15,7 @@ use Rattle.command_answers.specs.Inspect.{CountsAnswer, InspectAnswers}
 use Rattle.command_answers.specs.Replay.{RecordingAnswers, RunAnswers}
 use Rattle.answer_laws.specs.Laws.{InspectRefuses, ReplayRefuses}
 
--- with something more that is said of its bytes, a file is judged as without it
+-- an additional result from its bytes does not change how a file is judged
 judged_more : {A B : Type 0} (kind : FileKind A) (more : List ℕ → B) (bytes : List ℕ)
     → judged (with_more kind more) bytes ≡ beside (judged kind bytes) (more bytes)
 judged_more kind more bytes = by_length (nat_le (length bytes) kind.limit)

@@ -1,4 +1,4 @@
--- What a session comes to is one thing, and a race that is refused has no text.
+-- A session has one result, and a race that is refused has no text.
 use Rattle.std.proofs.Common.{◌≡◌, ℕ, List, length, Ok, Err, sym, ap, ◌∙◌, arith}
 use Rattle.raw_events.specs.declared.event.RawEvent.{RawEvent}
 use Rattle.dispatch_history.proofs.OrderedLaws.{ordered_unique}

@@ -1,4 +1,4 @@
--- The args of a session are taken.
+-- The args of a session are accepted.
 use Rattle.std.proofs.Common.{◌≡◌, ℕ, zero, suc, ◌+◌, List, [], ◌∷◌, map, Some, is_some, refl, ap, arith}
 use Rattle.std.specs.Prelude.{slice_get}
 use Rattle.raw_events.specs.declared.event.RawEvent.{RawEvent}

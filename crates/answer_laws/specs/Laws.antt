@@ -1,4 +1,4 @@
--- What is proved of the program's answers. Each law is a clause of a function.
+-- Proved facts about the program's answers. Each law is a clause of a function.
 use Rattle.std.specs.Prelude.{codes, ◌≡◌, ℕ, List, reverse, Some, Ok, Err, ◌⊎◌}
 use Rattle.raw_events.specs.declared.event.RawEvent.{RawEvent}
 use Rattle.dispatch_calls.specs.declared.call.Call.{Call}
@@ -33,24 +33,24 @@ OneAnswer =
     (from : Origin) (words : List (List ℕ)) (a b : Answer)
     → IsAlone (form_of words) → IsAnswer from words a → IsAnswer from words b → b ≡ a
 
--- Where a refusal is an answer it is the only one, also where the words are those of `race`.
+-- If a refusal is an answer, it is the only one, even for the words of `race`.
 abbrev pub OneRefusal : Type 0
 OneRefusal =
     (from : Origin) (words : List (List ℕ)) (r : Refused) (a : Answer)
     → IsAnswer from words (Err r) → IsAnswer from words a → a ≡ Err r
 
--- What `inspect` refuses of two files, `replay` refuses so.
+-- What `inspect` refuses for two files, `replay` refuses in the same way.
 abbrev pub InspectRefuses : Type 0
 InspectRefuses =
     (from : Origin) (files : Recorded) (r : Refused) → AnswersTo from (Some (inspect files)) (Err r) → AnswersTo from (Some (replays files)) (Err r)
 
--- What `replay` refuses of two files, `inspect` refuses so, unless it is that the run is too long.
+-- What `replay` refuses for two files, `inspect` refuses in the same way, unless the run is too long.
 abbrev pub ReplayRefuses : Type 0
 ReplayRefuses =
     (from : Origin) (files : Recorded) (r : Refused)
     → AnswersTo from (Some (replays files)) (Err r) → AnswersTo from (Some (inspect files)) (Err r) ⊎ (r ≡ too_long (codes "run"))
 
--- What `why` refuses of two files, `replay` refuses so, and the other way round.
+-- What `why` refuses for two files, `replay` refuses in the same way, and vice versa.
 abbrev pub WhyRefuses : Type 0
 WhyRefuses =
     (from : Origin) (files : Recorded) (r : Refused)

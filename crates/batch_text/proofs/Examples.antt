@@ -1,4 +1,4 @@
--- Worked examples: what is said of sections that are written out.
+-- Worked examples: the text of concrete sections.
 use Rattle.std.specs.Prelude.{codes, ◌≡◌, ℕ, pos, true, List, [], ◌∷◌, refl}
 use Rattle.std.specs.Fmt.{digits}
 use Rattle.input_types.specs.declared.message.Body.TheVariants.{Motion, Focus}
@@ -33,21 +33,21 @@ pub frame_between_moves
 unfolding channel_line one_line batch_line count_line digits
 frame_between_moves = refl
 
--- a move at the very moment at which a frame begins comes behind that frame, and waits for the next one
+-- a move at exactly the moment at which a frame begins comes after that frame, and waits for the next one
 pub move_at_a_frame
     : section_text 8000 (record { id = 7; first_line = 2; messages = finger 1 1 7999 Move ∷ finger 1 2 8000 Move ∷ finger 1 3 15999 Move ∷ [] })
     ≡ codes "channel 7\nbatch 1-1 1 1\nbatch 2-3 1 2\nitems 2\n"
 unfolding channel_line one_line batch_line count_line digits
 move_at_a_frame = refl
 
--- a channel that was sent nothing, and one that was told of its focus
+-- a channel that was sent nothing, and one that was sent its focus
 pub two_sections
     : sections_text 8000 (record { id = 1; first_line = 2; messages = [] } ∷ record { id = 2; first_line = 4; messages = record { seq = 1; moment = 0; body = Focus true } ∷ [] } ∷ [])
     ≡ codes "channel 1\nitems 0\nchannel 2\none 1\nitems 1\n"
 unfolding channel_line one_line batch_line count_line digits
 two_sections = refl
 
--- moments that fall: a message counts as of the greatest moment so far
+-- decreasing moments: a message counts at the latest moment so far
 pub moment_is_raised : latest (with_message 1000 (with_message 1000 [] (finger 1 1 2500 Move)) (finger 1 2 1500 Move)) ≡ 2500
 moment_is_raised = refl
 

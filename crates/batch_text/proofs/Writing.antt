@@ -1,4 +1,4 @@
--- What was written, one call further.
+-- What was written, one call later.
 use Rattle.std.proofs.Common.{◌≡◌, ℕ, ◌+◌, ◌^◌, ◌-◌, ◌≤◌, ◌<◌, ◌++◌, List, [], ◌∷◌, length, min, nat_lt, true, false, Vec, refl, sym, ap, ◌∙◌, arith}
 use Rattle.std.proofs.lemmas.List.{append_assoc, append-nil}
 use Rattle.std.specs.Prelude.{codes, decimal, Result, Ok, Err, IfOk, OnOk}
@@ -38,7 +38,7 @@ lines_bytes (i ∷ is) = omega (arith, item_byte i, lines_bytes is, bytes_append
 more_lines : (text before given all new : List ℕ) → text ++ given ≡ before ++ all → text ++ (given ++ new) ≡ before ++ (all ++ new)
 more_lines text before given all new e = sym (append_assoc text given new) ∙ ap (λ t. t ++ new) e ∙ append_assoc before all new
 
--- a call was answered, and its items are still to be written
+-- a call returned, and its items must still be written
 pub more_given : (calls : List Call) (call : Call) (before text : List ℕ) (b : Batches) (rows : List (List Sample)) (moment shown : ℕ) (given : Vec Item Global)
     → Writes calls before b text → RowsStandFor (call ∷ calls) rows → moment ≡ latest (call ∷ calls) → shown ≡ last_frame (call ∷ calls)
     → given.items ≡ b.given.items ++ added call calls
@@ -56,7 +56,7 @@ more_given calls call before text b rows moment shown given w stands latest_is s
       few = w.few;
     }
 
--- what was given out is written
+-- what was released is written
 pub items_written : (calls : List Call) (before text written : List ℕ) (b : Batches) (count : ℕ) (given : Vec Item Global) → Writes calls before b text
     → written ≡ text ++ item_lines b.given.items → length written < 2 ^ 64 → count ≡ min (b.count + length b.given.items) (2 ^ 64 - 1) → given.items ≡ []
     → Written calls before (record { batcher = b.batcher; latest = b.latest; shown = b.shown; count = count; given = given }) written

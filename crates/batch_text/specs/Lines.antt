@@ -6,7 +6,7 @@ use Rattle.motion_batch.specs.declared.item.Item.{Item}
 use Rattle.motion_batch.specs.declared.item.Item.TheVariants.{One, Batch}
 use Rattle.motion_batch.specs.declared.sample.Sample.{Sample}
 
--- the number of the first sample, 0 where there is none, which no batch has
+-- the number of the first sample; 0 if there is none, which no batch has
 abbrev pub first_seq : List Sample → ℕ
 first_seq [] = 0
 first_seq (s ∷ ss) = s.seq

@@ -1,4 +1,4 @@
--- What the calls answer that read the sections of a file.
+-- The results of the calls that read the sections of a file.
 use Rattle.std.specs.Prelude.{◌≡◌, ℕ, List, [], ◌∷◌, ◌++◌, Option, Some, None, Result, Ok, Err}
 use Rattle.input_types.specs.declared.message.Message.{Message as Told}
 use Rattle.motion_batch.specs.Calls.{items}
@@ -32,8 +32,8 @@ abbrev pub before : List Stream → Result (List Stream) ℕ → Result (List St
 before front (Ok streams) = Ok (front ++ streams)
 before front (Err bad) = Err bad
 
--- The messages of a section were read up to the line behind them, each of them might come where it stands, their items were written,
--- and the lines that are left are numbered on.
+-- The messages of a section were read up to the line after them, each of them was allowed at its place, their items
+-- were written, and the remaining lines are numbered on.
 pub record ReadsSection (frame : ℕ) (old new : Result (List Event) ℕ) (text written : List ℕ) (line : Option Event) : Type 0 where
   pub messages : List Told
   pub read : (id first : ℕ) → opened id first [] old ≡ with_stream (record { id = id; first_line = first; messages = messages }) (streams_in (behind line new))
@@ -41,7 +41,8 @@ pub record ReadsSection (frame : ℕ) (old new : Result (List Event) ℕ) (text 
   pub numbers : (first : ℕ) → Numbers first old → (n : ℕ) × Numbers n (behind line new)
   pub items_are : written ≡ text ++ items_text (items (section_calls frame messages))
 
--- A file is refused so for the section whose messages are left from line `first` on, behind sections without a break.
+-- A file is refused in this way for the section whose messages remain from line `first` on, after sections without a
+-- break.
 abbrev pub RefusesSection : ℕ → Result (List Event) ℕ → FileError → Type 0
 RefusesSection first old error =
     (f : List Stream → List ℕ) (id : ℕ) (front : List Stream) → first_break front ≡ None → Refuses (judged f (before front (opened id first [] old))) error

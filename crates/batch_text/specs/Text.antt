@@ -1,4 +1,4 @@
--- What `batch` says of a stream file.
+-- What `batch` says about a stream file.
 use Rattle.std.specs.Prelude.{ℕ, List, [], ◌∷◌, ◌++◌, Result}
 use Rattle.motion_batch.specs.Calls.{items}
 use Rattle.stream_text.specs.StreamFile.{Stream, events_of, streams_in}
@@ -16,7 +16,7 @@ abbrev pub sections_text : ℕ → List Stream → List ℕ
 sections_text frame [] = []
 sections_text frame (s ∷ ss) = section_text frame s ++ sections_text frame ss
 
--- The text of a stream file's bytes, with a frame each so many microseconds. It is refused where a line is bad, and else where a message
--- may not come where it stands.
+-- The text of a stream file's bytes, with a frame every so many microseconds. It is refused if a line is bad, and
+-- otherwise if a message may not come at its place.
 abbrev pub batched : ℕ → List ℕ → Result (List ℕ) FileError
 batched frame bytes = judged (sections_text frame) (streams_in (events_of bytes))

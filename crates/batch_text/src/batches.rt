@@ -1,4 +1,4 @@
-//! The items of one section, written as they are given out.
+//! The items of one section, written as they are released.
 ghost use Rattle.std.specs.Prelude.{◌≡◌, ◌≤◌, ◌<◌, ◌+◌, ◌++◌, ℕ, List, [], ◌∷◌, OnOk};
 ghost use Rattle.motion_batch.specs.Calls.{Call, flushed, framed, items, taken};
 ghost use Rattle.batch_text.specs.Frames.{at_moment, frame_at, with_frame, with_message};
@@ -10,7 +10,7 @@ use input_types::{Message, Moment};
 use motion_batch::{Batcher, Item};
 use std::alloc::{AllocError, Global};
 
-/// The start of the frame that a moment is in.
+/// The start of the frame that contains a moment.
 fn frame_at(frame: u64, moment: Moment) -> Moment
     requires { 1 ≤ frame }
     ensures { result ≡ frame_at frame moment }
@@ -30,17 +30,17 @@ fn at_moment(moment: Moment, message: &Message) -> Message
     }
 }
 
-/// Takes the messages of a section, and writes a line for each item that they give.
+/// Takes the messages of a section, and writes a line for each item that they release.
 #[derive(Drop)]
 pub(crate) struct Batches {
     batcher: Batcher,
-    /// The greatest moment so far.
+    /// The latest moment so far.
     latest: Moment,
     /// The moment of the last frame.
     shown: Moment,
     /// How many items were written.
     count: u64,
-    /// Items that were given out and are to be written. It is empty between two calls, and keeps its room.
+    /// Released items to write. It is empty between calls, and keeps its room.
     given: Vec<Item>,
 }
 
@@ -58,8 +58,8 @@ impl Batches {
         }
     }
 
-    /// Takes the next message at its moment or, where a message before it had a later one, at that moment. A frame that
-    /// begins between the two comes first.
+    /// Takes the next message at its moment or, if an earlier message had a later one, at that moment. A frame that
+    /// begins in between comes first.
     pub(crate) fn take(
         &mut self,
         frame: u64,
@@ -76,7 +76,7 @@ impl Batches {
         self.write(text)
     }
 
-    /// Ends the section: what still waits is given out, and the last line says how many items there were.
+    /// Ends the section: releases what still waits, and writes the last line, which says how many items there were.
     pub(crate) fn end(&mut self, text: &mut Vec<u8>) -> Result<(), AllocError>
         ensures { (calls : List Call) (before : List ℕ) → Written calls before self.old text.old.items
             → OnOk result (text.new.items ≡ before ++ items_text (items (flushed ∷ calls))) }
@@ -86,7 +86,7 @@ impl Batches {
         add_count(text, self.count)
     }
 
-    /// A frame begins, where it is above the last one.
+    /// Begins a frame, if it is later than the last one.
     fn frame(&mut self, at: Moment) -> Result<(), AllocError>
         ensures { (calls : List Call) (before text : List ℕ) → Writes calls before self.old text
             → OnOk result (Writes (with_frame at calls) before self.new text) }
@@ -98,7 +98,7 @@ impl Batches {
         }
     }
 
-    /// What is due in a frame is given out.
+    /// Releases what is due in a frame.
     fn show(&mut self, at: Moment) -> Result<(), AllocError>
         ensures { (calls : List Call) (before text : List ℕ) → Writes calls before self.old text
             → OnOk result (Writes (framed at ∷ calls) before self.new text) }
@@ -108,7 +108,7 @@ impl Batches {
         Ok(())
     }
 
-    /// The batcher takes a message.
+    /// Hands a message to the batcher.
     fn hand_over(&mut self, message: &Message) -> Result<(), AllocError>
         ensures { (calls : List Call) (before text : List ℕ) → Writes calls before self.old text
             → OnOk result (Writes (taken message.now ∷ calls) before self.new text) }
@@ -118,7 +118,7 @@ impl Batches {
         Ok(())
     }
 
-    /// All that waits is given out.
+    /// Releases everything that waits.
     fn flush(&mut self) -> Result<(), AllocError>
         ensures { (calls : List Call) (before text : List ℕ) → Writes calls before self.old text
             → OnOk result (Writes (flushed ∷ calls) before self.new text) }
@@ -126,7 +126,7 @@ impl Batches {
         self.batcher.flush(&mut self.given)
     }
 
-    /// Writes what was given out.
+    /// Writes what was released.
     fn write(&mut self, text: &mut Vec<u8>) -> Result<(), AllocError>
         ensures { (calls : List Call) (before : List ℕ) → Writes calls before self.old text.old.items
             → OnOk result (Written calls before self.new text.new.items) }

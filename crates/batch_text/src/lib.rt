@@ -1,6 +1,6 @@
-//! The text of a stream file's messages as an application takes them: successive moves of a device as one motion.
+//! The text of a stream file's messages as an application receives them: successive moves of a device as one motion.
 //!
-//! A finger goes down at 1000, moves at 2000, 3000 and 9000 and goes up at 9500 microseconds. With a frame each 8000
+//! A finger goes down at 1000, moves at 2000, 3000 and 9000 and goes up at 9500 microseconds. With a frame every 8000
 //! microseconds, the stream file
 //!
 //! ```text
@@ -24,10 +24,9 @@
 //! items 4
 //! ```
 //!
-//! A batch has the numbers of its first and its last move, its device, and how many moves it is. A file is read line by
-//! line, and no message is kept longer than it waits for its frame. Moves wait in rows that keep their room; a batch
-//! that is given out has its samples in a `Vec` of its own until its line is written, so there is one allocation a
-//! batch.
+//! A batch has the numbers of its first and its last move, its device, and how many moves it contains. A file is read
+//! line by line, and no message is kept longer than it waits for its frame. Moves wait in rows that keep their room;
+//! a released batch has its samples in its own `Vec` until its line is written, so there is one allocation per batch.
 #![tactic(auto)]
 
 mod batches;

@@ -33,7 +33,7 @@ fn message_at(line: &Option<(u64, StreamLine)>) -> Option<(u64, &Message)>
     }
 }
 
-/// Reads the messages of a section and writes its items, and answers the line behind them.
+/// Reads the messages of a section, writes its items, and returns the line after them.
 pub(crate) fn section(
     alloc: Global,
     lines: &mut StreamLines<'_>,

@@ -12,7 +12,7 @@ use Rattle.cancel_synthesis.specs.Cancelling.{sent_from}
 use Rattle.cancel_synthesis.specs.Ends.{pointers_cancelled}
 use Rattle.cancel_synthesis.proofs.PointerEnds.{as_cases, sent_whole}
 
--- the first of some, and the others
+-- the first of some pointers, and the others
 pub first_of : {A : Type 0} (xs : List A) (x : A) → Some x ≡ slice_get xs 0 → xs ≡ x ∷ drop 1 xs
 first_of [] x e = cc
 first_of (y ∷ ys) x e = cc
@@ -21,7 +21,7 @@ pub first_of_none : {A : Type 0} (xs : List A) → None ≡ slice_get xs 0 → x
 first_of_none [] e = refl
 first_of_none (y ∷ ys) e = cc
 
--- the pointer at a place, and those behind it
+-- the pointer at an index, and those after it
 here : (ps : List Pointer) (n : ℕ) (p : Pointer) → n < length ps → p ≡ get_or ps n p → drop n ps ≡ p ∷ drop (n + 1) ps
 here ps n p lt is = drop-cons ps n p lt ∙ ap₂ (λ y k. y ∷ drop k ps) (sym is) (sym (add-one n))
 
@@ -43,7 +43,7 @@ up_left d ends left gone n p e lt is =
 no_zero : (n : ℕ) → (suc n == 0) ≡ false
 no_zero n = ne_eqb (suc n) 0 (λ e. absurd (omega (arith, e)))
 
--- where a Cancel is told of all that a window has, it is sent nothing else
+-- if a window is sent a Cancel of everything that it has, it is sent nothing else
 pub whole_sent : (d : ℕ) (had none : List Pointer) (m : Motion) → none ≡ [] → Some m ≡ slice_get (cancels_of d had none had) 0
     → pointers_cancelled d (λ i. true) had ≡ m ∷ []
 whole_sent d had none m e first = at had (first ∙ ap (λ ps. slice_get (cancels_of d had ps had) 0) e)

@@ -1,4 +1,4 @@
--- The place of a key among keys.
+-- The index of a key among keys.
 use Rattle.std.proofs.Common.{ℕ, suc, ◌≤◌, nat_lt, ◌≡◌, ◌&&◌, Bool, true, false, if◌then◌else◌, List, [], ◌∷◌, length, set, get_or, refl, sym, ap, ◌∙◌, inl, inr, arith}
 use Rattle.std.specs.List.{insert}
 use Rattle.std.proofs.lemmas.Bool.{cases_lt, lt-ltb, le-ltb, both_ways, and_right, and_from, true≢false}
@@ -21,7 +21,7 @@ one_further a b =
       | inr ge ↦ rw (le-ltb a b ge, le-ltb (suc a) (suc b) (omega (arith, ge))) refl
     ]
 
--- where the key stands at its place, its message is replaced there
+-- if the key is already at its index, its message is replaced there
 pub replaced : (m : KeyMsg) (ls : List KeyMsg) (d : KeyMsg) → is_at m.key ls (place_of m.key ls) d ≡ true → set ls (place_of m.key ls) m ≡ with_key m ls
 replaced m [] d h = absurd (true≢false (sym h))
 replaced m (l ∷ ls) d h = by_order (is_before l.key m.key) (replaced m ls d) h
@@ -39,7 +39,7 @@ replaced m (l ∷ ls) d h = by_order (is_before l.key m.key) (replaced m ls d) h
         first true h = refl
         first false h = absurd (both_ways (nat_lt 0 (suc (length ls)) && false) (and_right (nat_lt 0 (suc (length ls))) false refl) h)
 
--- and else the message is put there
+-- and otherwise the message is inserted there
 pub inserted : (m : KeyMsg) (ls : List KeyMsg) (d : KeyMsg) → is_at m.key ls (place_of m.key ls) d ≡ false → insert ls (place_of m.key ls) m ≡ with_key m ls
 inserted m [] d h = refl
 inserted m (l ∷ ls) d h = by_order (is_before l.key m.key) (inserted m ls d) h

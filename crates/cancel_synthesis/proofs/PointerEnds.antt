@@ -1,4 +1,4 @@
--- What the cancels of pointers are, and what they leave.
+-- The cancels of pointers, and what remains after them.
 use Rattle.std.proofs.Common.{ℕ, zero, suc, ◌-◌, ◌<◌, ◌≡◌, ◌&&◌, ◌||◌, ◌==◌, not, Bool, true, false, cond, if◌then◌else◌, List, [], ◌∷◌, length, replicate, get_or, slice_get, filter, None, refl, sym, ap, ap₂, ◌∙◌, inl, inr, arith}
 use Rattle.std.proofs.lemmas.Bool.{cases_Bool, cases_eq, eqb-true, eq-eqb, ne_eqb, true≢false}
 use Rattle.std.proofs.lemmas.Nat.Bits.{bit_at-zero}
@@ -84,7 +84,7 @@ none_listed (p ∷ ps) = none_listed ps
 pub sent_whole : (d : ℕ) (ps : List Pointer) → (length ps == 0) ≡ false → pointers_cancelled d (λ i. true) ps ≡ plain d Cancel ps ∷ []
 sent_whole d ps e = sent_all d (λ i. true) ps ps [] (sym (listing_all ps)) (none_listed ps) e refl
 
--- without an id that it has not, a list is as it is
+-- removing an id that is not in a list leaves the list unchanged
 none_without : (i : ℕ) (ps : List Pointer) → has_id i ps ≡ false → filter (λ q. not (q.id == i)) ps ≡ ps
 none_without i [] h = refl
 none_without i (p ∷ ps) h = by_test (p.id == i) h (none_without i ps)
@@ -113,7 +113,7 @@ some_at i (p ∷ ps) all h = by_test (p.id == i) refl h (some_at i ps all)
     by_test true e h r = ap (λ j. filter (λ q. not (q.id == j)) all) (eqb-true p.id i e)
     by_test false e h r = r h
 
--- a list without the pointer at the place of an id
+-- a list without the pointer at the index of an id
 pub less_at : (i : ℕ) (ps : List Pointer) → without (slice_get ps (index_in i ps)) ps ≡ filter (λ q. not (q.id == i)) ps
 less_at i ps =
     elim (cases_Bool (has_id i ps)) [
@@ -121,7 +121,7 @@ less_at i ps =
       | inr n ↦ ap (λ o. without o ps) (none_at i ps n) ∙ sym (none_without i ps n)
     ]
 
--- what is left of a list by lost pointers
+-- what remains of a list without lost pointers
 abbrev left_of : List Pointer → List Pointer → List Pointer
 left_of [] ps = ps
 left_of (p ∷ lost) ps = left_of lost (filter (λ q. not (q.id == p.id)) ps)
@@ -148,7 +148,7 @@ left_is (p ∷ lost) ps =
     either_way i j =
         elim (cases_eq i j) [ inl e ↦ eq-eqb i j e ∙ sym (eq-eqb j i (sym e)) | inr n ↦ ne_eqb i j n ∙ sym (ne_eqb j i (λ e. n (sym e))) ]
 
--- where nothing is lost all is kept
+-- if nothing is lost, everything is kept
 all_kept : (lost : ℕ → Bool) (ps : List Pointer) → listing lost ps ≡ [] → ps ≡ listing (λ i. not (lost i)) ps
 all_kept lost [] e = refl
 all_kept lost (p ∷ ps) e = by_test (lost p.id) e (all_kept lost ps)

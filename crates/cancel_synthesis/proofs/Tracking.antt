@@ -33,7 +33,7 @@ or_false : (b : Bool) → (b || false) ≡ b
 or_false true = refl
 or_false false = refl
 
--- what was held and is not any more was taken
+-- what was held and no longer is was taken
 lost_takes : (g b t : Bool) → (g || b && not t) ≡ false → b ≡ true → t ≡ true
 lost_takes true b t e h = absurd (true≢false e)
 lost_takes false b true e h = refl
@@ -81,13 +81,13 @@ outside_tracked : (d : ℕ) (p : Pointer) (c : Bool) (before : List Pointer)
 outside_tracked d p true before = refl
 outside_tracked d p false before = refl
 
--- what moves, tracked, where the ids of what was tracked are those that move
+-- what moves, tracked, if the tracked ids are those that move
 moves_tracked : (d : ℕ) (qs before : List Pointer) (rest : List Motion) → pointers_sent rest before ≡ before → ids_of before ≡ ids_of qs
     → pointers_sent (or_else (moved d qs) rest) before ≡ qs
 moves_tracked d [] before rest e same = e ∙ no_ids before same
 moves_tracked d (q ∷ qs) before rest e same = refl
 
--- a pointer that is taken otherwise than by an up slips, and it is the only one of its motion
+-- a pointer taken otherwise than by an up slips, and is the only one of its motion
 slipped_alone : (s : Scene) (m : Motion) (a : MotionAction) (p : Pointer) (w : ℕ) → is_up a ≡ false → takes (taken_by s m a (Some p)) w m.device p.id ≡ true
     → m.action ≡ a → (q : Pointer) × (m.pointers ≡ q ∷ [])
 slipped_alone s m Down p w u t e = absurd (true≢false (sym t))
@@ -104,7 +104,7 @@ slipped_alone s m Move p w u t e = by_only m.pointers refl (ap (λ a. takes (sli
     by_only (q ∷ []) e t = (q, e)
     by_only (q ∷ r ∷ qs) e t = absurd (true≢false (sym t))
 
--- neither given nor upped
+-- the pointer is neither given nor goes up
 otherwise_tracked : (s : Scene) (m : Motion) (p : Pointer) (w : ℕ) (down next : List ℕ) → changed m ≡ Some p
     → Shape s m p (s.holds w m.device) (after s (mark s (Moves m)) w m.device) down next
     → (after s (mark s (Moves m)) w m.device p.id && not (s.holds w m.device p.id)) ≡ false → (is_up m.action && s.holds w m.device p.id) ≡ false

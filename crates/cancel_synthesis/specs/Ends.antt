@@ -1,4 +1,4 @@
--- What a window is told where something that it was told of ends without being meant as its end.
+-- What a window is sent when something in its stream ends by a cancel.
 use Rattle.std.specs.Prelude.{ℕ, ◌==◌, Bool, true, false, not, List, [], ◌∷◌, ◌++◌, map, filter}
 use Rattle.input_types.specs.declared.key.KeyArgs.{KeyArgs}
 use Rattle.input_types.specs.declared.key.KeyMsg.{KeyMsg}

@@ -1,4 +1,4 @@
--- What is proved of cancels.
+-- Proved facts about cancels.
 use Rattle.std.specs.Prelude.{ℕ, Bool, not, ◌&&◌, ◌==◌, ◌≡◌, List, [], ◌∷◌, filter, Some}
 use Rattle.input_types.specs.declared.key.KeyMsg.{KeyMsg}
 use Rattle.input_types.specs.declared.motion.Motion.{Motion}
@@ -20,28 +20,28 @@ abbrev pub keys_sent : List KeyMsg → List KeyMsg → List KeyMsg
 keys_sent [] ls = ls
 keys_sent (m ∷ ms) ls = keys_sent ms (keys_after m ls)
 
--- Once the cancels of pointers are tracked, just those that are not lost are left.
+-- Once the cancels of pointers are tracked, exactly those that are not lost remain.
 abbrev pub PointersEnd : Type 0
 PointersEnd = (d : ℕ) (lost : ℕ → Bool) (ps : List Pointer) → pointers_sent (pointers_cancelled d lost ps) ps ≡ listing (λ i. not (lost i)) ps
 
--- Once the cancels of all keys are tracked, none is left.
+-- Once the cancels of all keys are tracked, no key remains.
 abbrev pub KeysEnd : Type 0
 KeysEnd = (ls : List KeyMsg) → keys_sent (keys_cancelled ls) ls ≡ []
 
--- Once those of the keys of a device are tracked, the others are left.
+-- Once the cancels of the keys of a device are tracked, the other keys remain.
 abbrev pub DeviceKeysEnd : Type 0
 DeviceKeysEnd = (d : ℕ) (ls : List KeyMsg) → keys_sent (keys_cancelled (of_device d ls)) ls ≡ filter (λ l. not (l.key.device == d)) ls
 
--- Where the pointers of a window are those of the last motion of the device that it holds, its cancels are what the
--- rules of routing tell it where these are lost.
+-- If the tracked pointers of a window are those of the device's last motion that it holds, its cancels are what the
+-- routing rules send it when these are lost.
 abbrev pub CancelsLaw : Type 0
 CancelsLaw =
     (d : ℕ) (last : List Pointer) (before later lost : ℕ → Bool)
     → ((i : ℕ) → later i ≡ (before i && not (lost i)))
     → pointers_cancelled d lost (listing before last) ≡ cancels d last before later
 
--- Where the pointers of a window are those of the last motion of the device that it holds, and what it is sent at a
--- step is tracked, they are again so after the step.
+-- If the tracked pointers of a window are those of the device's last motion that it holds, they are so again once
+-- what it is sent at a step is tracked.
 abbrev pub TracksLaw : Type 0
 TracksLaw =
     (s : Scene) (e : Step) (w d : ℕ) (down next : List ℕ)

@@ -1,4 +1,4 @@
--- What a window was sent and is not told the end of: its pointers at their last places, and its keys.
+-- What is still down in a window's stream: its pointers at their last positions, and its keys.
 use Rattle.std.specs.Prelude.{ℕ, ◌-◌, ◌==◌, ◌&&◌, ◌||◌, nat_lt, nat_le, max, not, Bool, ◌≡◌, ◌+◌, ◌≤◌, List, [], ◌∷◌, filter, length, suc, slice_index_or, Option, Some, None, if◌then◌else◌}
 use Rattle.input_types.specs.declared.key.KeyArgs.{KeyArgs}
 use Rattle.input_types.specs.declared.key.KeyMsg.{KeyMsg}
@@ -10,7 +10,7 @@ use Rattle.input_types.specs.declared.motion.MotionAction.TheVariants.{Down, Up,
 use Rattle.input_types.specs.declared.pointer.Pointer.{Pointer}
 use Rattle.routing_rules.specs.Given.{changed}
 
--- what is kept of a window: the pointers of each device, that of device 1 first; the keys that are down, in rising
+-- what is kept of a window: the pointers of each device, starting with device 1; the keys that are down, in rising
 -- order, each with its last message; and for how many messages there is room
 pub record Tracked : Type 0 where
   pub pointers : List (List Pointer)
@@ -34,7 +34,7 @@ abbrev pub without : Option Pointer → List Pointer → List Pointer
 without None ps = ps
 without (Some p) ps = filter (λ q. not (q.id == p.id)) ps
 
--- the pointers of a device after a motion of it: those that it lists, but for one that goes up
+-- the pointers of a device after a motion of it: those that it lists, except one that goes up
 abbrev pub pointers_after : Motion → MotionAction → List Pointer → List Pointer
 pointers_after m Down before = m.pointers
 pointers_after m PointerDown before = m.pointers
@@ -57,16 +57,16 @@ same_key k l = k.device == l.device && k.scan == l.scan
 abbrev pub is_before : KeyArgs → KeyArgs → Bool
 is_before k l = nat_lt k.device l.device || k.device == l.device && nat_lt k.scan l.scan
 
--- how many keys stand before a key
+-- how many keys come before a key
 abbrev pub place_of : KeyArgs → List KeyMsg → ℕ
 place_of k [] = 0
 place_of k (l ∷ ls) = if is_before l.key k then suc (place_of k ls) else 0
 
--- the key stands at a place
+-- the key is at an index
 abbrev pub is_at : KeyArgs → List KeyMsg → ℕ → KeyMsg → Bool
 is_at k ls place d = nat_lt place (length ls) && same_key (slice_index_or ls place d).key k
 
--- a key message in its place, in that of an earlier message of the key
+-- a key message inserted in its place, replacing an earlier message of the key
 abbrev pub with_key : KeyMsg → List KeyMsg → List KeyMsg
 with_key m [] = m ∷ []
 with_key m (l ∷ ls) =

@@ -8,20 +8,20 @@ use input_types::{DeviceId, FLAG_CANCELED, Motion, MotionAction, PointerId, Poin
 use split_motion::{about, part_but, plain};
 use std::marker::Model;
 
-/// What a window is told where pointers of a device are taken from it, one motion after the other: nothing, where none
-/// is taken; one Cancel, where it keeps none; and else a cancelled up for each, which lists what is still held with it.
+/// What a window is sent when pointers of a device are taken from it, one motion after the other: nothing if none is
+/// taken, one Cancel if it keeps none, and otherwise a cancelled up for each, which lists what is still held with it.
 ///
-/// It is a list of its own: what the window is sent meanwhile changes nothing of it, and no call takes memory.
+/// It is independent of the window: what the window is sent meanwhile does not change it, and no call allocates memory.
 #[derive(Drop)]
 pub struct Cancels {
     device: DeviceId,
     /// Whether the window keeps no pointer of the device.
     ends: bool,
-    /// What it has before the next motion.
+    /// What the window has before the next motion.
     left: Pointers,
     /// What is taken from it.
     gone: Pointers,
-    /// Of how many of these it is sent already.
+    /// How many of these were already sent.
     outgoing: usize,
 }
 
@@ -35,7 +35,7 @@ impl Model for Cancels {
 }
 
 impl Cancels {
-    /// A window that had pointers of a device keeps some of them, and the others are gone.
+    /// The cancels for a window that keeps some of its pointers of a device and loses the others.
     pub(crate) fn new(device: DeviceId, had: &Pointers, kept: &Pointers, gone: &Pointers) -> Cancels
         ensures { still_sent result ≡ cancels_of device had.now kept.now gone.now }
     {
@@ -48,7 +48,7 @@ impl Cancels {
         }
     }
 
-    /// The next motion; None exactly where none is left.
+    /// The next motion; None exactly if none remains.
     pub fn next(&mut self) -> Option<Motion>
         ensures first { result ≡ slice_get (still_sent self.old) 0 }
         ensures others { still_sent self.new ≡ drop 1 (still_sent self.old) }
@@ -75,7 +75,7 @@ impl Cancels {
     }
 }
 
-/// The pointers of a list but for one.
+/// The pointers of a list except one.
 pub(crate) fn without(pointers: &Pointers, id: PointerId) -> Pointers
     ensures { result ≡ filter (λ q. not (q.id == id)) pointers.now }
 {

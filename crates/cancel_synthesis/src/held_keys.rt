@@ -15,7 +15,7 @@ fn same_key(a: &KeyArgs, b: &KeyArgs) -> bool
     a.device == b.device && a.scan == b.scan
 }
 
-/// Whether a key stands before another: by device, and then by scan code.
+/// Whether a key comes before another: by device, and then by scan code.
 fn is_before(a: &KeyArgs, b: &KeyArgs) -> bool
     ensures { result ≡ is_before a.now b.now }
 {
@@ -23,7 +23,7 @@ fn is_before(a: &KeyArgs, b: &KeyArgs) -> bool
     first < second || first == second && a.scan < b.scan
 }
 
-/// How many keys stand before a key.
+/// The number of keys before a key.
 fn place_of(keys: &[KeyMsg], key: &KeyArgs) -> usize
     ensures { result ≡ place_of key.now keys.now }
 {
@@ -35,7 +35,7 @@ fn place_of(keys: &[KeyMsg], key: &KeyArgs) -> usize
     keys.len()
 }
 
-/// Whether the key stands at a place.
+/// Whether the key is at an index.
 fn is_at(keys: &[KeyMsg], place: usize, key: &KeyArgs) -> bool
     ensures within { result ≡ true → place < length keys.now }
     ensures same { (d : Kept) → result ≡ is_at key.now keys.now place d }
@@ -43,7 +43,7 @@ fn is_at(keys: &[KeyMsg], place: usize, key: &KeyArgs) -> bool
     place < keys.len() && same_key(&keys[place].key, key)
 }
 
-/// Puts a key message into its place, in that of an earlier message of the key.
+/// Inserts a key message in its place, replacing an earlier message of the key.
 pub(crate) fn keep(keys: &mut Vec<KeyMsg>, message: &KeyMsg) -> Result<(), AllocError>
     ensures items { OnOk result (keys.new.items ≡ with_key message.now keys.old.items) }
     ensures len { OnOk result (vec_len keys.new ≤ vec_len keys.old + 1) }
@@ -61,7 +61,7 @@ pub(crate) fn keep(keys: &mut Vec<KeyMsg>, message: &KeyMsg) -> Result<(), Alloc
     Ok(())
 }
 
-/// Takes the message of a key away.
+/// Removes the message of a key.
 pub(crate) fn forget(keys: &mut Vec<KeyMsg>, message: &KeyMsg)
     ensures items { keys.new.items ≡ without_key message.now keys.old.items }
     ensures len { vec_len keys.new ≤ vec_len keys.old }
@@ -88,7 +88,7 @@ pub(crate) fn key_cancelled(message: &KeyMsg) -> KeyMsg
     }
 }
 
-/// Fills a list with the cancelled ups of these keys. It needs no memory where the list has room for all of them.
+/// Fills a list with the cancelled ups of these keys. It allocates nothing if the list has room for all of them.
 pub(crate) fn cancel_keys_into(out: &mut Vec<KeyMsg>, keys: &[KeyMsg]) -> Result<(), AllocError>
     ensures ok { OnOk result (out.new.items ≡ keys_cancelled keys.now) }
     ensures capacity { vec_capacity out.old ≤ vec_capacity out.new }

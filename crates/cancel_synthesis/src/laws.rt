@@ -1,7 +1,7 @@
-//! What is proved of cancels. The function has the laws as its clauses, and does nothing.
+//! Proved facts about cancels. The function has the laws as its clauses, and does nothing.
 ghost use Rattle.cancel_synthesis.specs.Laws.{PointersEnd, KeysEnd, DeviceKeysEnd, CancelsLaw, TracksLaw};
 
-/// Cancels are what the rules of routing tell a window, and what they end is gone once they are tracked.
+/// Cancels are what the routing rules send to a window, and what they end is gone once they are tracked.
 pub fn cancelling()
     ensures pointers { PointersEnd }
     ensures keys { KeysEnd }
@@ -9,8 +9,8 @@ pub fn cancelling()
     ensures rules { CancelsLaw }
 {}
 
-/// A window whose pointers are what it holds, at the places of the last motion, has just these again once it is sent
-/// a step and that is tracked.
+/// If the tracked pointers of a window are what it holds, at the positions of the last motion, they are so again once
+/// what it is sent at a step is tracked.
 pub fn tracking()
     ensures { TracksLaw }
 {}

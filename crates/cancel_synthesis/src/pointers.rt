@@ -9,7 +9,7 @@ use crate::cancels::{Cancels, without};
 use input_types::{Body, DeviceId, Motion, MotionAction, Pointers};
 use std::alloc::AllocError;
 
-/// The pointers that a motion lists but for the one that goes up with it.
+/// The pointers that a motion lists, except one that goes up with it.
 fn left_by(motion: &Motion) -> Pointers
     ensures { result ≡ without (changed motion.now) motion.now.pointers }
 {
@@ -44,7 +44,7 @@ pub(crate) fn cancel_devices(
     Ok(())
 }
 
-/// The device at a place of a table that begins with device 1.
+/// The device at an index of a table that begins with device 1.
 fn device_at(place: usize) -> DeviceId
     requires { place < 8 }
     ensures { result ≡ place + 1 }
@@ -55,7 +55,7 @@ fn device_at(place: usize) -> DeviceId
     }
 }
 
-/// Adds the cancel of all pointers of a device to a list, where there are some.
+/// Adds the cancel of all pointers of a device to a list, if there are any.
 fn cancel_whole(out: &mut Vec<Body>, device: DeviceId, had: &Pointers) -> Result<(), AllocError>
     ensures { OnOk result (out.new.items ≡ out.old.items ++ device_sent device had.now) }
 {

@@ -1,4 +1,4 @@
-//! What a window was sent, as far as it has not ended.
+//! What is still down in a window's stream.
 ghost use Rattle.std.specs.Prelude.{◌≡◌, ◌+◌, ◌≤◌, ◌<◌, ℕ, not, [], length, IfOk, OnOk, OnErr, IsOk, vec_len, vec_capacity};
 ghost use Rattle.bits32.specs.Set.{is_in};
 ghost use Rattle.routing_rules.specs.Outgoing.{listing, plain};
@@ -18,14 +18,14 @@ use split_motion::{PointersById, part, part_but};
 use std::alloc::{AllocError, Global};
 use std::marker::Model;
 
-/// The pointers and keys that are down in one window, from what it was sent. Places are display pixels.
+/// The pointers and keys that are down in one window, from what it was sent. Positions are display pixels.
 #[derive(Drop)]
 pub struct InputState {
-    /// The pointers of each device at their last places, those of device 1 first.
+    /// The pointers of each device at their last positions, starting with device 1.
     pointers: [Pointers; 8],
     /// The last message of each key that is down, by device and scan code.
     keys: Vec<KeyMsg>,
-    /// For how many messages more there is room.
+    /// How many more messages there is room for.
     spare: u32,
 }
 
@@ -41,7 +41,7 @@ impl Model for InputState {
 }
 
 impl InputState {
-    /// The window was sent nothing.
+    /// A window that was sent nothing.
     pub fn new(alloc: Global) -> InputState
         ensures pointers { (d : ℕ) → pointers_of result d ≡ [] }
         ensures keys { result.keys ≡ [] }
@@ -54,7 +54,7 @@ impl InputState {
         }
     }
 
-    /// The pointers of a device that are down, at their last places.
+    /// The pointers of a device that are down, at their last positions.
     pub fn pointers(&self, device: DeviceId) -> &Pointers
         ensures { result.now ≡ pointers_of self.now device }
     {
@@ -68,7 +68,7 @@ impl InputState {
         &self.keys
     }
 
-    /// Makes room, so that the next `n` calls of `track` cannot answer want of memory. Without memory nothing changes.
+    /// Makes room, so that the next `n` calls of `track` cannot run out of memory. If memory runs out, nothing changes.
     pub fn reserve(&mut self, n: u32) -> Result<(), AllocError>
         ensures ok { OnOk result (self.new ≡ with_spare n self.old) }
         ensures err { OnErr result (self.new ≡ self.old) }
@@ -81,15 +81,14 @@ impl InputState {
         Ok(())
     }
 
-    /// For how many messages more there is room.
+    /// How many more messages there is room for.
     pub fn spare(&self) -> u32
         ensures { result ≡ self.now.spare }
     {
         self.spare
     }
 
-    /// Makes room like `reserve`, where more room is counted too where there is some. Without memory nothing changes
-    /// but that room.
+    /// Makes room like `reserve`, and also counts any room beyond that. If memory runs out, only that count changes.
     pub fn make_ready(&mut self, n: u32) -> Result<(), AllocError>
         ensures ok { OnOk result (n ≤ self.new.spare) }
         ensures same { self.new ≡ record self.old { spare = self.new.spare } }
@@ -104,7 +103,7 @@ impl InputState {
         Ok(())
     }
 
-    /// The window is sent one thing more. Without memory nothing changes.
+    /// Tracks one more message to the window. If memory runs out, nothing changes.
     pub fn track(&mut self, body: &Body) -> Result<(), AllocError>
         ensures ok { OnOk result (Tracks self.old self.new body.now) }
         ensures err { OnErr result (self.new ≡ self.old) }
@@ -121,7 +120,7 @@ impl InputState {
         Ok(())
     }
 
-    /// The window is sent a motion more. Takes no memory.
+    /// Tracks one more motion to the window. Allocates nothing.
     pub fn track_motion(&mut self, motion: &Motion)
         ensures { Tracks self.old self.new (MotionBody motion.now) }
     {
@@ -129,7 +128,7 @@ impl InputState {
         self.spare = self.spare.saturating_sub(1);
     }
 
-    /// The window is told that pointers of a device move: those of a list that have these ids. Takes no memory.
+    /// Tracks a move of the pointers of a device in a list that have these ids. Allocates nothing.
     pub fn track_moves(&mut self, device: DeviceId, pointers: &PointersById, ids: Bits32)
         ensures { Tracks self.old self.new (MotionBody (plain device Move (listing (λ i. is_in i ids) pointers.now))) }
     {
@@ -137,7 +136,7 @@ impl InputState {
         self.spare = self.spare.saturating_sub(1);
     }
 
-    /// The window is sent a key message more, for which room was reserved. Takes no memory.
+    /// Tracks one more key message to the window, for which room was reserved. Allocates nothing.
     pub fn track_key(&mut self, message: &KeyMsg)
         requires { 1 ≤ self.old.spare }
         ensures { Tracks self.old self.new (KeyBody message.now) }
@@ -146,8 +145,8 @@ impl InputState {
         self.spare -= 1;
     }
 
-    /// What the window is told where pointers of a device with these ids are taken from it, one motion after the
-    /// other. Takes no memory.
+    /// What the window is sent when pointers of a device with these ids are taken from it, one motion after the
+    /// other. Allocates nothing.
     pub fn cancels(&self, device: DeviceId, lost: Bits32) -> Cancels
         ensures { still_sent result ≡ pointers_cancelled device (λ i. is_in i lost) (pointers_of self.now device) }
     {
@@ -155,7 +154,7 @@ impl InputState {
         Cancels::new(device, had, &part_but(had, lost), &part(had, lost))
     }
 
-    /// The same where those of its pointers of a device are taken that have other ids than these.
+    /// The same, for its pointers of a device whose ids are not these.
     pub fn cancels_but(&self, device: DeviceId, kept: Bits32) -> Cancels
         ensures { still_sent result
             ≡ pointers_cancelled device (λ i. not (is_in i kept)) (pointers_of self.now device) }
@@ -164,8 +163,8 @@ impl InputState {
         Cancels::new(device, had, &part(had, kept), &part_but(had, kept))
     }
 
-    /// What the window is told where pointers of a device with these ids are taken from it: nothing, where it has
-    /// none of them; one Cancel, where it keeps none; and else a cancelled up for each.
+    /// What the window is sent when pointers of a device with these ids are taken from it: nothing if it has none of
+    /// them, one Cancel if it keeps none, and otherwise a cancelled up for each.
     pub fn cancel_pointers(&self, device: DeviceId, lost: Bits32) -> Result<Vec<Motion>, AllocError>
         ensures { IfOk result (λ v.
             v.items ≡ pointers_cancelled device (λ i. is_in i lost) (pointers_of self.now device)) }
@@ -178,8 +177,8 @@ impl InputState {
         Ok(outgoing)
     }
 
-    /// Fills a list with what it is told where its keys are taken from it. It needs no memory where the list has room
-    /// for as many keys as are down.
+    /// Fills a list with what the window is sent when its keys are taken from it. It allocates nothing if the list
+    /// has room for as many keys as are down.
     pub fn cancel_keys_into(&self, out: &mut Vec<KeyMsg>) -> Result<(), AllocError>
         ensures ok { OnOk result (out.new.items ≡ keys_cancelled self.now.keys) }
         ensures capacity { vec_capacity out.old ≤ vec_capacity out.new }
@@ -188,7 +187,7 @@ impl InputState {
         cancel_keys_into(out, &self.keys)
     }
 
-    /// The same where its keys of a device are taken from it.
+    /// The same, for its keys of one device.
     pub fn cancel_device_keys_into(
         &self,
         device: DeviceId,
@@ -201,7 +200,7 @@ impl InputState {
         cancel_device_keys_into(out, &self.keys, device)
     }
 
-    /// What it is told where all ends: device by device its pointers, and then its keys.
+    /// What the window is sent when everything ends: device by device its pointers, and then its keys.
     pub fn cancel_all(&self) -> Result<Vec<Body>, AllocError>
         ensures { IfOk result (λ v. v.items ≡ all_cancelled self.now) }
     {
@@ -245,7 +244,7 @@ fn set_moved(pointers: &mut [Pointers; 8], device: DeviceId, listed: &PointersBy
     listed.part_into(ids, &mut pointers[usize::from(device.get()) - 1]);
 }
 
-/// Keeps the message of a key that is down, and forgets that of one that is up.
+/// Keeps the message of a key that is down, and drops that of one that is up.
 fn set_key(keys: &mut Vec<KeyMsg>, message: &KeyMsg) -> Result<(), AllocError>
     ensures items { OnOk result (keys.new.items ≡ keys_after message.now keys.old.items) }
     ensures len { OnOk result (vec_len keys.new ≤ vec_len keys.old + 1) }
@@ -261,7 +260,7 @@ fn set_key(keys: &mut Vec<KeyMsg>, message: &KeyMsg) -> Result<(), AllocError>
     Ok(())
 }
 
-/// The same where the list has room for one key more. Takes no memory.
+/// The same, with room in the list for one more key. Allocates nothing.
 fn set_key_reserved(keys: &mut Vec<KeyMsg>, message: &KeyMsg)
     requires { vec_len keys.old < vec_capacity keys.old }
     ensures items { keys.new.items ≡ keys_after message.now keys.old.items }

@@ -1,4 +1,4 @@
--- Why a stream file has no batches, is not whole or not the same, and what is written as a recording.
+-- Why a stream file has no batches, is not whole or differs, and what is written as a recording.
 use Rattle.std.proofs.Common.{ℕ, List, Ok, Err, ap, refl}
 use Rattle.compare_text.specs.declared.error.CompareError.{CompareError}
 use Rattle.compare_text.specs.declared.error.CompareError.TheVariants as compare
@@ -34,7 +34,7 @@ judge_refused bytes (judge.StillDown n down) h = ap whole_answer h
 judge_refused bytes judge.Nothing h = ap whole_answer h
 judge_refused bytes judge.Memory h = tt
 
--- one that is not the same as another is refused so
+-- one that differs from another is refused so
 pub compare_refused : (us pixels : ℕ) (want got : List Section) (e : CompareError) → CompareRefuses (compared us pixels want got) e
     → RefusesSo (λ r. SameAnswers us pixels want got (Err r)) (refusal_of_compare e)
 compare_refused us pixels want got (compare.Differs w g) h = ap same_answer h

@@ -1,4 +1,4 @@
--- The beginning of a run, and what its end is judged to be.
+-- The start of a run, and how its end is judged.
 use Rattle.std.proofs.Common.{◌≡◌, ℕ, List, Result, Ok, Err, sym, subst, refl, map, []}
 use Rattle.std.proofs.lemmas.List.{reverse-reverse}
 use Rattle.raw_events.specs.declared.event.RawEvent.{RawEvent}
@@ -50,7 +50,7 @@ fresh how p run reader readers schedule devices d n stand is ran =
       ran = subst (λ (r : Plan). RanWith how r [] schedule) is ran;
     }
 
--- what the events of all lines come to is what the recording comes to
+-- the result for the events of all lines is the result for the recording
 pub judged : (what : Sending) (p : PlanData) (bytes : List ℕ) (s : ScheduleState) (a : Answer) (ended : HasEnded (lines_of what) p bytes s)
     → Comes what p ended.past a → Behind (RunSends what p) (lines_judged (recorded (devices_of p) bytes)) a
 judged what p bytes s a ended r =

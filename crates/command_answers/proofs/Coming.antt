@@ -1,4 +1,4 @@
--- What a run that is done comes to.
+-- The result of a finished run.
 use Rattle.std.proofs.Common.{◌≡◌, List, ℕ, Ok, Err, ◌∙◌, refl, ap, map, codes}
 use Rattle.raw_events.specs.declared.event.RawEvent.{RawEvent}
 use Rattle.dispatch_history.specs.Effect.{Effect}

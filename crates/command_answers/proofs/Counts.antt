@@ -1,4 +1,4 @@
--- What is counted of a recording is what `inspect` tells of it.
+-- The counts of a recording are what `inspect` prints.
 use Rattle.std.proofs.Common.{◌≡◌, ℕ, List, Result, Ok, Err, reverse, ap, sym, subst, refl}
 use Rattle.raw_events.specs.declared.event.RawEvent.{RawEvent}
 use Rattle.raw_events.specs.declared.event.LineError.{LineError}

@@ -8,11 +8,11 @@ use Rattle.command_answers.specs.Inspect.{looked_at}
 use Rattle.command_answers.specs.Program.{AnswersTo, files_of, usage}
 use Rattle.command_answers.specs.Verify.{verdict}
 
--- words of no command come to the usage, and no file is read
+-- words that are no command give the usage, and no file is read
 no_command : AnswersTo (by_log []) None (Err usage)
 no_command = (refl, refl)
 
--- a stream file `a` that was read to its end and has the one byte `x`: the answer is what is said of that byte
+-- a stream file `a` that was read to its end and has the one byte `x`: the answer is that for this byte
 abbrev a_file : Reading
 a_file = record { name = codes "a"; given = codes "x"; ended = true }
 
@@ -34,6 +34,6 @@ nothing_recorded :
 unfolding digits
 nothing_recorded = refl
 
--- those that were wanted are read first
+-- the expected ones are read first
 two_files : files_of (compare (codes "want") (codes "got") 0 0) ≡ (codes "want", 67108864) ∷ (codes "got", 67108864) ∷ []
 two_files = refl

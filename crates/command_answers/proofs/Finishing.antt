@@ -66,7 +66,7 @@ whole (suc n) [] h = refl
 whole zero (x ∷ xs) h = absurd (omega (arith, h))
 whole (suc n) (x ∷ xs) h = ap (λ ys. x ∷ ys) (whole n xs (omega (arith, h)))
 
--- a list with a first element, and all that is behind it
+-- a list with a first element, and everything after it
 pub first_and_rest : {A : Type 0} (xs : List A) (x : A) → 1 ≤ length xs → x ≡ slice_index_or xs 0 x → xs ≡ x ∷ take (length xs - 1) (drop 1 xs)
 first_and_rest [] x h e = absurd (omega (arith, h))
 first_and_rest (y ∷ ys) x h e = ap (λ zs. y ∷ zs) (sym (whole (length (y ∷ ys) - 1) ys (omega arith))) ∙ ap (λ z. z ∷ take (length (y ∷ ys) - 1) ys) (sym e)

@@ -1,4 +1,4 @@
--- What an order comes to, by the size of what is given.
+-- The result of an order, by the size of its input.
 use Rattle.std.proofs.Common.{◌≡◌, ◌∙◌, ◌<◌, ◌≤◌, ℕ, Bool, true, false, List, Err, codes, cond, nat_le, length, map, ap, refl, arith}
 use Rattle.std.proofs.lemmas.Bool.{le-leb, leb-true}
 use Rattle.raw_events.specs.declared.event.RawEvent.{RawEvent}

@@ -1,4 +1,4 @@
--- Whether a run has more calls or more messages than may be.
+-- Whether a run has more calls or more messages than the limit.
 use Rattle.std.proofs.Common.{◌≡◌, ◌||◌, Bool, true, false, List, arith, ltb, ltb-true, ltb-false}
 use Rattle.dispatch_history.specs.Effect.{Effect}
 use Rattle.dispatch_history.specs.Plan.{Plan}

@@ -144,13 +144,13 @@ race_written p past end ends again =
           (subst (λ f. EndsSettling f (length plan.channels) (steps (called end.core.entries))) (fun_ext ends.finishing_are) ends.ends));
     }
 
--- what was answered for a start that may be is what is answered for some start
+-- what was returned for a possible start is what is returned for some start
 pub ended_by : {A E S : Type 0} (r : Result A E) (s : S) (May : S → Type 0) (Post : S → Result A E → Type 0) → Post s r → May s
     → IfOk r (λ x. (t : S) × May t × Post t (Ok x))
 ended_by (Ok x) s May Post post may = (s, may, post)
 ended_by (Err e) s May Post post may = tt
 
--- what holds of each end that is answered for a start
+-- what holds for each end returned for a start
 pub if_left : {A E S : Type 0} (r : Result A E) (s : S) (Post : S → Result A E → Type 0) (P : A → Type 0) → Post s r
     → ((x : A) → Post s (Ok x) → P x) → IfOk r P
 if_left (Ok x) s Post P post f = f x post

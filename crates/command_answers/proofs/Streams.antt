@@ -1,4 +1,4 @@
--- What is answered of a stream file, by what comes of its bytes.
+-- The answer for a stream file, by the result for its bytes.
 use Rattle.std.proofs.Common.{◌≡◌, ℕ, List, [], ◌∷◌, Option, Result, Ok, Err, IfOk, IfErr, subst, sym}
 use Rattle.outside_io.specs.Trace.{Reading}
 use Rattle.outside_io.specs.Outside.{Entry}
@@ -17,7 +17,7 @@ pub stream_stops : (told : Option (List Entry)) (before now : List Reading) (nam
     (Logged told before now ((name, stream_limit) ∷ []) (λ rs. Unit {0})) fb fn r
 stream_stops told before now name Is fb fn r h = file_by told before now name stream_file [] (λ rest bytes. Ends (Is bytes) rest) fb fn r h
 
--- the file is accepted, and this is the text that comes of its bytes
+-- the file is accepted, and this is the text for its bytes
 pub stream_sent : (told : Option (List Entry)) (before now : List Reading) (name given bytes : List ℕ) (Is : List ℕ → Answer → Type 0)
     (r : Result (List ℕ) Refusal) → bytes ≡ given → IsRead told before now name stream_file (Ok given) → IfOk r (λ text. Is bytes (Ok text))
     → IfOk r (λ text. Logged told before now ((name, stream_limit) ∷ []) (λ rs. Reads (by_log rs) name stream_file (λ rest y. Ends (Is y) rest) (Ok text)))
@@ -27,7 +27,7 @@ stream_sent told before now name given bytes Is r same one ok =
     last_file told before now name stream_file bytes Is (Ok text) (subst (λ (bs : List ℕ). IsRead told before now name stream_file (Ok bs)) (sym same) one) h)
     ok
 
--- the file is accepted, and what comes of its bytes is refused
+-- the file is accepted, and the result for its bytes is a refusal
 pub stream_refused : (told : Option (List Entry)) (before now : List Reading) (name given bytes : List ℕ) (Is : List ℕ → Answer → Type 0) (fb fn : ℕ)
     (r : Result (List ℕ) Refusal) → bytes ≡ given → IsRead told before now name stream_file (Ok given) → IfErr r (RefusesSo (λ e. Is bytes (Err e)))
     → IfErr r

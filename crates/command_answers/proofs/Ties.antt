@@ -18,7 +18,8 @@ use Rattle.stream_judge.specs.Sections.{messages_at, messages_in, messages_left,
 use Rattle.stream_judge.proofs.Sections.{or_again}
 use Rattle.command_answers.specs.Judging.{break_at, Known, Judges, breaks, judged_on}
 
--- The lines that are left say of their streams what the streams say: behind these messages of the section that is open, or behind none.
+-- Judging the remaining lines gives what judging their streams gives: after these messages of the open section, or
+-- after none.
 record Ties (found by_lines : Option ℕ) (messages by_line : ℕ) (channels sections : ℕ) : Type 0 where
   breaks_are : by_lines ≡ found
   messages_are : by_line ≡ messages
@@ -49,7 +50,7 @@ begins past n id (Ok es) h =
     in let c : 1 + sections_left es ≡ suc (length (streams_of es)) = omega (arith, h.channels_are)
     in record { breaks_are = h.breaks_are; messages_are = m; channels_are = c }
 
--- a naming, the first one or another
+-- an ANR, the first one or another
 first_anr : (past : List Told) (n clock id seq : ℕ) (r : Result (List Event) ℕ) → TiesOf Anrs past (n + 1) r → TiesOf Between past n (with_event (n, Anr clock id seq) r)
 first_anr past n clock id seq (Err bad) h = tt
 first_anr past n clock id seq (Ok es) h =

@@ -1,4 +1,4 @@
--- The answer by what was read is that by the files, where these are sent.
+-- The answer by what was read is that by the files, if these are known.
 use Rattle.std.proofs.Common.{List, Option, None, Some}
 use Rattle.outside_io.specs.Trace.{Reading}
 use Rattle.outside_io.specs.Outside.{Entry}

@@ -1,4 +1,4 @@
--- What `batch` answers of a stream file.
+-- What `batch` answers for a stream file.
 use Rattle.std.specs.Prelude.{codes, ◌≡◌, ℕ, List, Result, Ok, Err}
 use Rattle.stream_judge.specs.declared.error.FileError.{FileError}
 use Rattle.stream_judge.specs.declared.error.FileError.TheVariants.{BadLine, NotWellFormed, Memory}
@@ -15,12 +15,12 @@ file_refused (BadLine n) = bad_stream_line n
 file_refused (NotWellFormed n) = not_well_formed n
 file_refused Memory = refused 6 (codes "no memory")
 
--- what is answered of a file that is judged
+-- the answer for a file that is judged
 abbrev pub file_answer : Result (List ℕ) FileError → Answer
 file_answer (Ok text) = Ok text
 file_answer (Err error) = Err (file_refused error)
 
--- the batches of a stream file's bytes, with a frame each so many microseconds
+-- the batches of a stream file's bytes, with a frame every so many microseconds
 abbrev pub BatchAnswers : ℕ → List ℕ → Answer → Type 0
 BatchAnswers frame bytes a = file_answer (batched frame bytes) ≡ a
 

@@ -1,4 +1,4 @@
--- What `check` answers of an order file.
+-- What `check` answers for an order file.
 use Rattle.std.specs.Prelude.{codes, ◌≡◌, ℕ, ◌+◌, nat_le, cond, List, length, map, reverse, Result, Ok, Err}
 use Rattle.raw_events.specs.declared.event.RawEvent.{RawEvent}
 use Rattle.dispatch_calls.specs.declared.call.Call.{Call}
@@ -21,32 +21,33 @@ use Rattle.command_answers.specs.Given.{given_limit}
 abbrev pub line_limit : ℕ
 line_limit = 8000000
 
--- The streams text of a session after these calls; or the line that asks for a step that does not exist, which stands behind the first
--- line of the file and so many others.
+-- The streams text of a session after these calls; or the line that requests a step that does not exist, which
+-- follows the first line of the file and so many others.
 abbrev pub steps_judged : PlanData → Result (List Call) ℕ → Answer
 steps_judged plan (Ok calls) = Ok (streams_text (names_of plan) (run (device_displays plan.devices) (reverse calls)))
 steps_judged plan (Err before) = Err (no_step (before + 2))
 
--- what an order comes to for a session and the events of a recording, the newest first: neither the args nor the lines may be too many
+-- the result of an order for a session and the events of a recording, newest first: there may be neither too many
+-- args nor too many lines
 abbrev pub followed : PlanData → List RawEvent → List OrderLine → Answer
 followed plan past lines =
     cond (nat_le (length (given plan past)) given_limit)
     (cond (nat_le (length lines) line_limit) (steps_judged plan (history.given_calls (run_of plan past) (map line_of lines))) (Err (too_long (codes "run"))))
     (Err (too_long (codes "run")))
 
--- The text that an order comes to, which is of the streams of its calls, and these are whole.
+-- The text for an order: that of the streams of its calls, which are whole.
 pub record FollowsTo (plan : PlanData) (past : List RawEvent) (lines : List OrderLine) (text : List ℕ) : Type 0 where
   pub calls : List Call
   pub given_is : history.given_calls (run_of plan past) (map line_of lines) ≡ Ok calls
   pub whole : AreWhole (device_displays plan.devices) (run (device_displays plan.devices) (reverse calls))
   pub text_is : followed plan past lines ≡ Ok text
 
--- the text of an order for the events of a recording, the newest first, or why it has none
+-- the text of an order for the events of a recording, newest first, or why it has none
 abbrev pub IsFollowed : PlanData → List RawEvent → List OrderLine → Answer → Type 0
 IsFollowed plan past lines (Ok text) = FollowsTo plan past lines text
 IsFollowed plan past lines (Err r) = followed plan past lines ≡ Err r
 
--- what an order comes to for the events of a recording, which stand in their order
+-- the result of an order for the events of a recording, in order
 abbrev pub OrderAnswers : PlanData → List RawEvent → List OrderLine → Answer → Type 0
 OrderAnswers plan events lines a = IsFollowed plan (reverse events) lines a
 

@@ -1,4 +1,4 @@
--- What `compare` answers of two stream files.
+-- What `compare` answers for two stream files.
 use Rattle.std.specs.Prelude.{◌≡◌, ℕ, List, Result, Ok, Err}
 use Rattle.compare_text.specs.declared.error.CompareError.{CompareError}
 use Rattle.compare_text.specs.declared.error.CompareError.TheVariants.{Differs, Missing, Added, NoSection, NewSection, Memory}
@@ -16,11 +16,11 @@ abbrev pub same_answer : Result (List ℕ) CompareError → Answer
 same_answer (Ok text) = Ok text
 same_answer (Err error) = Err (not_same error)
 
--- whether sections that came agree with those that were wanted, up to so many microseconds and pixels
+-- whether actual sections agree with the expected ones, within so many microseconds and pixels
 abbrev pub SameAnswers : ℕ → ℕ → List Section → List Section → Answer → Type 0
 SameAnswers us pixels want got a = same_answer (compared us pixels want got) ≡ a
 
--- the answer once the wanted streams are accepted: those that came are judged, and then compared with them
+-- the answer once the expected streams are accepted: the actual ones are judged, and then compared with them
 abbrev pub GotAnswers : List ℕ → ℕ → ℕ → Origin → List Section → Answer → Type 0
 GotAnswers got us pixels from want a = Reads from got got_file (λ rest came. Ends (SameAnswers us pixels want came) rest) a
 

@@ -1,4 +1,4 @@
--- What `emit` answers of a stream file.
+-- What `emit` answers for a stream file.
 use Rattle.std.specs.Prelude.{codes, ◌≡◌, ℕ, List, Result, Ok, Err, IfErr, ⊤}
 use Rattle.emit_text.specs.declared.error.EmitError.{EmitError}
 use Rattle.emit_text.specs.declared.error.EmitError.TheVariants.{BadLine, NotWellFormed, NoChannel, TooLate, NotAssignable, Spent, TooLong, Memory}
@@ -10,13 +10,14 @@ use Rattle.command_files.specs.declared.refusal.Refusal.TheVariants as refusal
 use Rattle.command_files.specs.declared.refusal.StreamError.TheVariants as stream
 use Rattle.command_files.specs.declared.refusal.Subject.TheVariants as subject
 
--- A refusal that is sent as one: a file that may be read never spends a writer, and want of memory is no answer.
+-- A refusal that is reported as one: a file within the limit never exhausts a writer, and running out of memory is
+-- not an answer.
 abbrev pub MayRefuse : EmitError → Type 0
 MayRefuse (Spent n) = ⊥
 MayRefuse Memory = ⊥
 MayRefuse error = ⊤
 
--- what is told of a stream that is not written as a recording
+-- the refusal for a stream that is not written as a recording
 abbrev pub emit_refused : EmitError → Refused
 emit_refused (BadLine n) = bad_stream_line n
 emit_refused (NotWellFormed n) = not_well_formed n

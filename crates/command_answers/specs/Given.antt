@@ -1,4 +1,4 @@
--- What is given to a run whose order is known or taken by threads.
+-- The args of a run whose order is given or taken by threads.
 use Rattle.std.specs.Prelude.{ℕ}
 
 -- the most args of a recording that is checked or raced

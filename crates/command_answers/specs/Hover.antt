@@ -1,4 +1,4 @@
--- What `hover` answers of a recording.
+-- What `hover` answers for a recording.
 use Rattle.std.specs.Prelude.{◌≡◌, ℕ, List, ◌∷◌, reverse, Ok, []}
 use Rattle.raw_events.specs.declared.event.RawEvent.{RawEvent}
 use Rattle.raw_events.specs.Line.{Known}
@@ -11,7 +11,7 @@ use Rattle.command_files.specs.Inputs.{events_file}
 abbrev pub mouse_alone : List ℕ → Known
 mouse_alone path = (path, 1) ∷ []
 
--- what the windows of a session are told of the mouse, whose events stand in their order
+-- what the windows of a session are sent for the mouse, with its events in order
 abbrev pub HoverAnswers : PlanData → List RawEvent → Answer → Type 0
 HoverAnswers plan events a = Ok (hovered_text plan (reverse events)) ≡ a
 

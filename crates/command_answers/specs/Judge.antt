@@ -1,4 +1,4 @@
--- What `judge` answers of a stream file.
+-- What `judge` answers for a stream file.
 use Rattle.std.specs.Prelude.{◌≡◌, ℕ, List, Result, Ok, Err}
 use Rattle.judge_text.specs.declared.error.JudgeError.{JudgeError}
 use Rattle.judge_text.specs.declared.error.JudgeError.TheVariants.{BadLine, Broken, StillDown, Nothing, Memory}

@@ -29,14 +29,14 @@ pub record Known : Type 0 where
 abbrev pub Knows : List Told → Known → Type 0
 Knows past j = j.broken ≡ None → VerifierStandsFor past j.tables
 
--- what is known behind a line
+-- what is known after a line
 pub record Judges (past : List Told) (n : ℕ) (line : StreamLine) (old new : Known) : Type 0 where
   pub knows : Knows (sent_after past line) new
   pub broken : new.broken ≡ option_or old.broken (break_at past n line)
   pub channels : new.channels ≡ old.channels + sections_at line
   pub messages : new.messages ≡ old.messages + messages_at line
 
--- the line of the first break of the lines that are left
+-- the line of the first break of the remaining lines
 abbrev pub breaks : List Told → List Event → Option ℕ
 breaks past [] = None
 breaks past (e ∷ es) = option_or (break_at past e.0 e.1) (breaks (sent_after past e.1) es)

@@ -1,4 +1,4 @@
--- The program as a relation of what it answers to its words and to the files.
+-- The program as a relation between its words, the files and its answer.
 use Rattle.std.specs.Prelude.{codes, ◌≡◌, List, [], ◌∷◌, Option, Some, None, Err, ℕ, ⊤}
 use Rattle.outside_io.specs.Trace.{Reading}
 use Rattle.outside_io.specs.Outside.{Entry}
@@ -22,7 +22,7 @@ use Rattle.command_answers.specs.Verify.{StreamAnswers}
 use Rattle.command_answers.specs.Why.{CausesAnswer}
 use Rattle.command_answers.specs.Work.{Works}
 
--- the words are of no command
+-- the words are no command
 abbrev pub usage : Refused
 usage = refused 2 (codes "usage: inputflinger replay|race|check|verify|work|batch|hover|emit|inspect|why|judge|compare")
 
@@ -31,7 +31,7 @@ abbrev pub IsAlone : Option Command → Type 0
 IsAlone (Some (race files)) = ⊥
 IsAlone command = ⊤
 
--- the answer to a command, whose files have to be there: under their names, or as they were read in a call
+-- the answer to a command, whose files must exist: under their names, or as they were read in a call
 abbrev pub AnswersTo : Origin → Option Command → Answer → Type 0
 AnswersTo from None a = Ends (λ b. b ≡ Err usage) from a
 AnswersTo from (Some (replay files)) a = Reads from files.session session_file (RecordingAnswers files.events) a
@@ -52,7 +52,7 @@ AnswersTo from (Some (why files)) a = Reads from files.session session_file (Cau
 abbrev pub IsAnswer : Origin → List (List ℕ) → Answer → Type 0
 IsAnswer from words a = AnswersTo from (form_of words) a
 
--- the files of a command in the order in which they are read, each with the most bytes that it may have
+-- the files of a command in the order in which they are read, each with its size limit
 abbrev pub files_of : Command → List (List ℕ × ℕ)
 files_of (replay files) = (files.session, session_limit) ∷ (files.events, recording_limit) ∷ []
 files_of (race files) = (files.session, session_limit) ∷ (files.events, recording_limit) ∷ []
@@ -67,7 +67,7 @@ files_of (compare want got us pixels) = (want, stream_limit) ∷ (got, stream_li
 files_of (inspect files) = (files.session, session_limit) ∷ (files.events, recording_limit) ∷ []
 files_of (why files) = (files.session, session_limit) ∷ (files.events, recording_limit) ∷ []
 
--- files of a command were read so far as this is its answer by what they gave
+-- enough of the files of a command was read to make this its answer
 abbrev pub Answers : Option (List Entry) → List Reading → List Reading → Command → Answer → Type 0
 Answers told before now command a =
     Logged told before now (files_of command) (λ readings. AnswersTo (by_log readings) (Some command) a)

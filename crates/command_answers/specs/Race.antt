@@ -28,18 +28,18 @@ use Rattle.command_answers.specs.Whole.{AreWhole}
 use Rattle.command_files.specs.Inputs.{events_file}
 use Rattle.command_files.specs.Devices.{devices_of}
 
--- the owner of a channel finishes what it is given, where the first of these channels has the number k
+-- the owner of a channel finishes what it receives, if the first of these channels has the number k
 abbrev pub finishes_from : ℕ → List ChannelOf → ℕ → Bool
 finishes_from k [] c = false
 finishes_from k (p ∷ ps) c = if c == k then p.finishes else finishes_from (k + 1) ps c
 
--- an order asks for each args once, and for each step of each lane once
+-- an order requests each args once, and each step of each lane once
 pub record AsksForAll (plan : Plan) (order : List OrderLine) : Type 0 where
   pub args : readers order ≡ length plan.cooked
   pub steps : (l : ℕ) → 1 ≤ l → l ≤ 8 → steps_in l order ≡ length (calls_of_lane l plan.steps)
 
--- the last calls of a history are those that settle it: pumps until nothing waits, one tick, and receives from each of so many channels until it
--- has nothing more
+-- the last calls of a history settle it: pumps until nothing waits, one tick, and receives from each of so many
+-- channels until it has nothing more
 abbrev pub EndsSettling : (finishing : ℕ → Bool) → (channels : ℕ) → History → Type 0
 EndsSettling finishing channels h =
     (since : History) × (before : History) × (h ≡ since ++ before) × (settling finishing since ≡ receives_from (channels + 1))
@@ -52,32 +52,33 @@ pub record RacedSo (plan : PlanData) (past : List RawEvent) (text : List ℕ) : 
   pub given_is : history.given_calls (run_of plan past) (map line_of order) ≡ Ok calls
   pub text_is : text ≡ order_spelling order ++ streams_text (names_of plan) (run (device_displays plan.devices) (reverse calls))
   pub whole : AreWhole (device_displays plan.devices) (run (device_displays plan.devices) (reverse calls))
-  -- who reads the text as an order file reads this order
+  -- reading the text as an order file gives this order
   pub again : ReadsAgain order
-  -- owners that finish do so with what they were given, none of it twice, and no other owner finishes anything
+  -- owners that finish messages finish what they received, none of it twice, and no other owner finishes anything
   pub orderly :
       AreOrderly (finishes_from 1 (map channel_of plan.channels))
       (replay (device_displays plan.devices) (reverse calls))
   pub settled :
       Settled (device_displays plan.devices) (replay (device_displays plan.devices) (reverse calls))
       (finishes_from 1 (map channel_of plan.channels))
-  -- it ticks at most once more than it dispatches args or repeats a key, and asks for nothing at most 81,985 times: five threads give up
-  -- after 16,384 such calls each, and what is left finds nothing once for each of at most 64 channels and once for args
+  -- it ticks at most once more than it dispatches args or repeats a key, and calls in vain at most 81,985 times: five
+  -- threads give up after 16,384 such calls each, and the final calls find nothing once for each of at most 64
+  -- channels and once for args
   pub few_ticks :
       ticks (replay (device_displays plan.devices) (reverse calls))
       ≤ moves (replay (device_displays plan.devices) (reverse calls)) + 1
   pub few_idles : idles (replay (device_displays plan.devices) (reverse calls)) ≤ 81985
-  -- the last calls do all that is left to do, and none comes after them
+  -- the last calls do everything that is left to do, and none follows them
   pub ends :
       EndsSettling (finishes_from 1 (map channel_of plan.channels)) (length plan.channels)
       (replay (device_displays plan.devices) (reverse calls))
 
--- the text of a race for the events of a recording, the newest first, or that they give too many args
+-- the text of a race for the events of a recording, newest first, or that they give too many args
 abbrev pub Races : PlanData → List RawEvent → Answer → Type 0
 Races plan past (Ok text) = (length (given plan past) ≤ given_limit) × RacedSo plan past text
 Races plan past (Err r) = (given_limit < length (given plan past)) × (r ≡ too_long (codes "run"))
 
--- what `race` answers for the events of a recording, which stand in their order
+-- what `race` answers for the events of a recording, in order
 abbrev pub RaceAnswers : PlanData → List RawEvent → Answer → Type 0
 RaceAnswers plan events a = Races plan (reverse events) a
 

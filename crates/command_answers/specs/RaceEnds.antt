@@ -19,11 +19,11 @@ use Rattle.session_plan.specs.declared.plan.Step.{Step}
 use Rattle.replay_actors.specs.Session.{channel_of, step_of}
 use Rattle.command_answers.specs.Race.{EndsSettling, finishes_from}
 
--- the mask is that of these channels whose owners finish what they are given
+-- the mask is that of these channels whose owners finish what they receive
 abbrev pub HasFinishing : Plan → ℕ → Type 0
 HasFinishing plan mask = (c : ℕ) → mask_has mask c ≡ finishes_from 1 plan.channels c
 
--- these lanes do what these channels, steps and args ask for
+-- these lanes do what these channels, steps and args require
 pub record DoPlan (channels : List ChannelOf) (steps : List ScriptStep) (cooked : List Cooked) (l : Lanes) : Type 0 where
   pub cooked_are : l.cooked.items ≡ map (λ a. (a.moment, a.args)) cooked
   pub lanes_are : AreLanes 1 (scripted l.scripts.items) steps
@@ -52,8 +52,8 @@ pub record EndsRace (plan : Plan) (end : RaceEnd) : Type 0 where
   pub race : RaceOf plan (mask_has mask) end.script_seats.items end.core.entries
   pub ends : EndsSettling (mask_has mask) (length plan.channels) (steps (called end.core.entries))
 
--- A text is what the end of a race prints, where the end is one of these: the order of its calls, which is read again as this order, and
--- then the streams of channels with some names.
+-- A text is what the end of a race prints, if the end is one of these: the order of its calls, which reads back as
+-- this order, and then the streams of channels with some names.
 pub record PrintsEnd (left : RaceEnd → Type 0) (text : List ℕ) : Type 0 where
   pub end : RaceEnd
   pub was_left : left end

@@ -1,4 +1,4 @@
--- What a session comes to for the events of a recording.
+-- The result of a session for the events of a recording.
 use Rattle.std.specs.Prelude.{reverse, codes, ◌≡◌, ℕ, List, Result, Ok, Err}
 use Rattle.raw_events.specs.declared.event.RawEvent.{RawEvent}
 use Rattle.dispatch_history.specs.Effect.{Effect}
@@ -14,7 +14,7 @@ use Rattle.command_files.specs.Judged.{Answer, Ends, Origin, Reads}
 use Rattle.command_files.specs.Inputs.{events_file}
 use Rattle.command_files.specs.Devices.{devices_of}
 
--- The text of the streams of the ordered run, whose calls and messages are no more than may be. Events stand with the newest first.
+-- The text of the streams of the ordered run, whose calls and messages are within the limits. Events are newest first.
 pub record Replayed (plan : PlanData) (past : List RawEvent) (text : List ℕ) : Type 0 where
   pub es : List Effect
   pub ordered : Ordered (run_of plan past) es
@@ -22,7 +22,7 @@ pub record Replayed (plan : PlanData) (past : List RawEvent) (text : List ℕ) :
   pub whole : AreWhole (device_displays plan.devices) es
   pub text_is : text ≡ streams_text (names_of plan) es
 
--- the ordered run comes to more calls or more messages than may be
+-- the ordered run has more calls or more messages than the limits
 pub record Overruns (plan : PlanData) (past : List RawEvent) : Type 0 where
   pub es : List Effect
   pub rounds : Rounds (run_of plan past) es
@@ -33,7 +33,7 @@ abbrev pub Replays : PlanData → List RawEvent → Result (List ℕ) Refused �
 Replays plan past (Ok text) = Replayed plan past text
 Replays plan past (Err r) = Overruns plan past × (r ≡ too_long (codes "run"))
 
--- what a session comes to for the events of a recording, which stand in their order
+-- the result of a session for the events of a recording, in order
 abbrev pub RunAnswers : PlanData → List RawEvent → Answer → Type 0
 RunAnswers plan events a = Replays plan (reverse events) a
 

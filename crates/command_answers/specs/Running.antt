@@ -20,7 +20,7 @@ use Rattle.command_answers.specs.declared.running.Sending.TheVariants.{Streams, 
 use Rattle.command_answers.specs.Replay.{Replays}
 use Rattle.command_answers.specs.Why.{Explains}
 
--- what a run has where this is told of it
+-- the lines that a run keeps for this kind of text
 abbrev pub lines_of : Sending → Lines
 lines_of Streams = lines.Kept
 lines_of Causes = lines.Causes
@@ -35,7 +35,7 @@ abbrev pub Comes : Sending → PlanData → List RawEvent → Answer → Type 0
 Comes Streams plan past a = Replays plan past a
 Comes Causes plan past a = Explains plan past a
 
--- what a session comes to for the events of a recording, which stand in their order
+-- the result of a session for the events of a recording, in order
 abbrev pub RunSends : Sending → PlanData → List RawEvent → Answer → Type 0
 RunSends what plan events a = Comes what plan (reverse events) a
 
@@ -43,11 +43,11 @@ RunSends what plan events a = Comes what plan (reverse events) a
 abbrev pub RecordingSends : Sending → List ℕ → Origin → PlanData → Answer → Type 0
 RecordingSends what events from plan a = Reads from events (events_file (devices_of plan)) (λ rest given. Ends (RunSends what plan given) rest) a
 
--- the session and the recording, each with the most bytes that it may have
+-- the session and the recording, each with its size limit
 abbrev pub run_files : Recorded → List (List ℕ × ℕ)
 run_files files = (files.session, session_limit) ∷ (files.events, recording_limit) ∷ []
 
--- both were read so far as this is the answer by what they gave
+-- enough of both was read to make this the answer
 abbrev pub SaysOf : Sending → Option (List Entry) → List Reading → List Reading → Recorded → Answer → Type 0
 SaysOf what told before now files a =
     Logged told before now (run_files files) (λ rs. Reads (by_log rs) files.session session_file (RecordingSends what files.events) a)

@@ -12,15 +12,15 @@ abbrev pub said : Option ℕ → ℕ → ℕ → Result (List ℕ) Refused
 said None channels messages = Ok (codes "well formed " ++ (decimal channels ++ (codes " " ++ (decimal messages ++ codes "\n"))))
 said (Some line) channels messages = Err (not_well_formed line)
 
--- a file with a bad line is refused for it, and only another one is judged by the rule for streams
+-- a file with a bad line is refused for it, and only a file without one is judged by the rule for streams
 abbrev pub judged : Result (List Stream) ℕ → Result (List ℕ) Refused
 judged (Err bad) = Err (bad_stream_line bad)
 judged (Ok streams) = said (first_break streams) (length streams) (messages_in streams)
 
--- what is said of a stream file's bytes
+-- the result for a stream file's bytes
 abbrev pub verdict : List ℕ → Result (List ℕ) Refused
 verdict bytes = judged (streams_in (events_of bytes))
 
--- what `verify` answers of the bytes of a stream file
+-- what `verify` answers for the bytes of a stream file
 abbrev pub StreamAnswers : List ℕ → Answer → Type 0
 StreamAnswers bytes a = verdict bytes ≡ a

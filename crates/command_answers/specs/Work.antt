@@ -1,4 +1,4 @@
--- What `work` says of the run of a workload.
+-- What `work` says about the run of a workload.
 use Rattle.std.specs.Prelude.{codes, ◌≡◌, ℕ, zero, suc, ◌+◌, List, ◌++◌, length, reverse, Ok, Err, []}
 use Rattle.std.specs.Fmt.{decimal}
 use Rattle.std.specs.Option.{unwrap_or}
@@ -29,11 +29,11 @@ abbrev pub end_lines : ℕ → ℕ → List Effect → List ℕ
 end_lines k zero es = []
 end_lines k (suc n) es = end_of k (unwrap_or (counts es k) unopened) ++ end_lines (k + 1) n es
 
--- how far each of the five channels came, and who was named unresponsive
+-- how far each of the five channels came, and which were reported unresponsive
 abbrev pub summary : ℕ → ℕ → ℕ → List Effect → List ℕ
 summary seed packets args es = head seed packets args ++ (end_lines 1 5 es ++ anr_lines (anrs es))
 
--- the events of a workload of ten fingers, the newest first
+-- the events of a workload of ten fingers, newest first
 abbrev pub work_past : ℕ → ℕ → List RawEvent
 work_past seed packets = reverse (events_of seed packets 10)
 
@@ -41,7 +41,8 @@ work_past seed packets = reverse (events_of seed packets 10)
 abbrev pub work_given : ℕ → ℕ → List Cooked
 work_given seed packets = given session (work_past seed packets)
 
--- the text sums up the ordered run of the workload, whose calls and messages are no more than may be, and whose streams are whole
+-- the text sums up the ordered run of the workload, whose calls and messages are within the limits, and whose streams
+-- are whole
 pub record Worked (seed packets : ℕ) (text : List ℕ) : Type 0 where
   pub es : List Effect
   pub ordered : Ordered (run_of session (work_past seed packets)) es

@@ -1,4 +1,4 @@
-//! `batch`: the batches that an application takes of a stream file, frame by frame.
+//! `batch`: the batches that an application receives from a stream file, frame by frame.
 ghost use Rattle.std.specs.Prelude.{◌≡◌, ◌≤◌, IsTrue, None, Ok, Err, IfOk, IfErr};
 ghost use Rattle.command_words.specs.Command.{batch};
 ghost use Rattle.command_files.specs.Refusing.{RefusesSo};
@@ -23,7 +23,7 @@ fn stream_refusal(error: FileError) -> Refusal
     }
 }
 
-/// The batches that a stream file's messages are.
+/// The batches of a stream file's messages.
 #[tactic(auto, using(crate::proofs::Answering::batch_refused))]
 fn batches_of(alloc: Global, bytes: &[u8], frame: u64) -> Result<Pieces, Refusal>
     requires { 1 ≤ frame }

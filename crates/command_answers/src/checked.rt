@@ -34,7 +34,7 @@ use text_pieces::Pieces;
 /// The most lines of an order that is made.
 const LINE_LIMIT: usize = 8000000;
 
-/// Why an order is refused that has so many lines before one whose step does not exist.
+/// The refusal of an order that has so many lines before one whose step does not exist.
 fn no_step(before: usize) -> Refusal
     requires { before < 8000000 }
     ensures { result ≡ Refusal.Order (OrderError.NoStep (before + 2)) }
@@ -44,7 +44,7 @@ fn no_step(before: usize) -> Refusal
     })
 }
 
-/// Makes the calls of an order, and the text of what they come to.
+/// Makes the calls of an order, and the text of their result.
 fn order_run(
     alloc: Global,
     planned: Planned,

@@ -1,4 +1,4 @@
-//! `compare`: whether the streams that came agree with those that were wanted, up to a time and a place.
+//! `compare`: whether actual streams agree with expected ones, within tolerances of time and position.
 ghost use Rattle.std.specs.Prelude.{◌≡◌, ◌≤◌, [], ◌∷◌, ⊤, IsTrue, None, Ok, Err, IfOk, IfErr};
 ghost use Rattle.command_words.specs.Command.{compare};
 ghost use Rattle.compare_text.specs.Indexed.{file_sections};
@@ -25,7 +25,7 @@ enum Side {
     Got,
 }
 
-/// Why a stream file is refused one of whose lines is bad or missing.
+/// The refusal of a stream file with a bad or missing line.
 fn bad_line(side: Side, line: u64) -> StreamError
     ensures { refused 1 (stream_line result) ≡ bad_line_of side line }
 {
@@ -50,7 +50,7 @@ fn sections_in(alloc: Global, bytes: &[u8], side: Side) -> Result<Sections<'_>, 
     }
 }
 
-/// Why streams that are compared are not the same.
+/// Why compared streams differ.
 fn compare_refusal(error: CompareError) -> Refusal
     ensures { result ≡ refusal_of_compare error }
 {
@@ -60,7 +60,7 @@ fn compare_refusal(error: CompareError) -> Refusal
     }
 }
 
-/// What is said of sections that came and of those that were wanted.
+/// The result for actual and expected sections.
 #[tactic(auto, using(crate::proofs::Answering::compare_refused))]
 fn compared(
     alloc: Global,
@@ -77,7 +77,7 @@ fn compared(
     }
 }
 
-/// Reads and judges the streams that came, and compares them with the sections that were wanted.
+/// Reads and judges the actual streams, and compares them with the expected sections.
 fn answer_got<F: Files>(
     alloc: Global,
     files: &mut F,
@@ -106,7 +106,7 @@ fn answer_got<F: Files>(
     compared(alloc, want, &got, tolerance)
 }
 
-/// Reads and judges two stream files, those that were wanted first, and makes the text.
+/// Reads and judges two stream files, the expected one first, and makes the text.
 pub fn answer_compare<F: Files>(
     alloc: Global,
     files: &mut F,

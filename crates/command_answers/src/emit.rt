@@ -13,8 +13,8 @@ use outside_io::Files;
 use std::alloc::Global;
 use text_pieces::Pieces;
 
-/// Why a stream is not written as a recording. A file that may be read has too few lines to use up all slots or
-/// tracking ids, so no error of one says so.
+/// Why a stream is not written as a recording. A file within the limit has too few lines to use up all slots or
+/// tracking ids, so no refusal says so.
 fn emit_refusal(error: EmitError) -> Refusal
     requires { IsNotSpent error }
     ensures { result ≡ refusal_of_emit error }

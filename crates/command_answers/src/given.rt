@@ -1,4 +1,4 @@
-//! The args that a recording gives, for a run whose order a file gives or threads take.
+//! The args from a recording, for a run whose order a file gives or threads take.
 ghost use Rattle.std.specs.Prelude.{◌≡◌, ◌++◌, [], map, reverse, IfOk, OnOk};
 ghost use Rattle.device_reader.specs.CookedList.{ReadersStandFor};
 ghost use Rattle.given_run.specs.Planned.{cooked_of};
@@ -16,7 +16,7 @@ use std::alloc::{AllocError, Global};
 /// The most args of a recording that is checked or raced.
 pub(crate) const GIVEN_LIMIT: usize = 20000;
 
-/// Puts some args behind the others, with their moment.
+/// Appends some args, with their moment.
 fn push_all(all: &mut Vec<Cooked>, moment: Moment, args: &[Args]) -> Result<(), AllocError>
     ensures { OnOk result (map cooked_of all.new.items ≡ map cooked_of all.old.items ++ map
         (λ a. record { moment = moment; args = a }) args.now) }
@@ -27,7 +27,7 @@ fn push_all(all: &mut Vec<Cooked>, moment: Moment, args: &[Args]) -> Result<(), 
     Ok(())
 }
 
-/// What the devices give for some events.
+/// What the devices deliver for some events.
 pub(crate) fn cook_events(
     alloc: Global,
     events: &[RawEvent],

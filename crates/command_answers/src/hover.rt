@@ -1,4 +1,4 @@
-//! `hover`: what the windows of a session are told of a mouse.
+//! `hover`: what the windows of a session are sent for a mouse.
 ghost use Rattle.std.specs.Prelude.{◌≡◌, ◌≤◌, IsTrue, None, Ok, IfOk, IfErr};
 ghost use Rattle.command_words.specs.Command.{hover};
 ghost use Rattle.command_words.specs.CommandView.{recorded_view};
@@ -28,7 +28,7 @@ fn mouse_alone(alloc: Global, path: &str) -> Result<Vec<(String, DeviceId)>, All
     Ok(devices)
 }
 
-/// What the windows of a session are told of a mouse.
+/// What the windows of a session are sent for a mouse.
 fn hover_text(alloc: Global, session: &Plan, events: &[RawEvent]) -> Result<Pieces, AllocError>
     requires { IsPlan session.now }
     ensures { IfOk result (λ text. HoverAnswers (plan_view session.now) events.now (Ok text)) }

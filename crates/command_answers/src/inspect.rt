@@ -1,4 +1,4 @@
-//! `inspect`: what a session and a recording hold, which is read in pieces.
+//! `inspect`: what a session and a recording contain; the recording is read in pieces.
 ghost use Rattle.std.specs.Prelude.{◌≡◌, ℕ, ◌≤◌, List, [], ◌∷◌, ⊤, IsTrue, None, Ok, Err, IfOk, IfErr};
 ghost use Rattle.command_words.specs.Command.{inspect};
 ghost use Rattle.command_words.specs.CommandView.{recorded_view};
@@ -26,7 +26,7 @@ use recording_counts::RecordingTally;
 use std::alloc::{AllocError, Global};
 use text_pieces::Pieces;
 
-/// What is told of a session and of what was counted of its recording.
+/// The text about a session and the counts of its recording.
 fn told(alloc: Global, session: &KeyedPlan, tally: &RecordingTally) -> Result<Pieces, AllocError>
     ensures { (bytes : List ℕ)
         → IsCounted (devices_of (plan_view session.now.plan)) (plans_of (plan_view session.now.plan)) bytes tally.now
@@ -57,7 +57,7 @@ fn ended_text(alloc: Global, session: &KeyedPlan, counting: Counting) -> Result<
     Ok(told(alloc, session, &tally)?)
 }
 
-/// Reads the recording, counts what it holds, and makes the text.
+/// Reads the recording, counts what it contains, and makes the text.
 fn counted_text<F: Files>(
     alloc: Global,
     files: &mut F,

@@ -21,7 +21,7 @@ fn judge_refusal(error: JudgeError) -> Refusal
     }
 }
 
-/// What is said of a stream file's bytes.
+/// The result for a stream file's bytes.
 #[tactic(auto, using(crate::proofs::Answering::judge_refused))]
 fn judged(alloc: Global, bytes: &[u8]) -> Result<Pieces, Refusal>
     ensures ok { IfOk result (λ text. JudgeAnswers bytes.now (Ok text)) }

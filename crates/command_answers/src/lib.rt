@@ -11,7 +11,7 @@
 //! end 1 sent 2 received 2 finished 2
 //! ```
 //!
-//! `inspect` tells how many lines, events and fingers the recording has, and `why` of each finger which window it
+//! `inspect` prints how many lines, events and fingers the recording has, and `why` prints which window each finger
 //! went to and by which rule. Given this text, `verify` says `well formed 1 2`, `judge` says `channel 1 whole 2` and
 //! `judged 1 2`, and `compare` of it with itself says `same 1 2`.
 #![tactic(auto)]

@@ -32,7 +32,7 @@ use std::sync::Wait;
 use text_pieces::Pieces;
 use window_snapshot::mask_with;
 
-/// The channels whose owners finish what they are given, as a mask, where the first channel has this number.
+/// The channels whose owners finish what they receive, as a mask, if the first channel has this number.
 fn finishing(number: u32, channels: &[ChannelPlan]) -> u64
     requires { (1 ≤ number) × (number + length channels.now ≤ 65) }
     ensures { (c : ℕ) → mask_has result c ≡ finishes_from number (map channel_of (map channel_view channels.now)) c }
@@ -61,7 +61,7 @@ fn pairs(alloc: Global, all: Vec<Cooked>) -> Result<Vec<(Moment, Args)>, AllocEr
     Ok(given)
 }
 
-/// What the threads of a race are to do.
+/// What the threads of a race must do.
 fn lanes_of(
     alloc: Global,
     channels: &[ChannelPlan],
@@ -109,7 +109,7 @@ fn raced<R: Wait, K: Fn(Start) -> Result<RaceEnd, AllocError>>(
     })
 }
 
-/// Runs a race, and makes the text of its order and of what it comes to.
+/// Runs a race, and makes the text of its order and its result.
 fn race_run<R: Wait, K: Fn(Start) -> Result<RaceEnd, AllocError>>(
     rt: &R,
     alloc: Global,

@@ -35,17 +35,17 @@ use session_plan::{ChannelPlan, Plan as Session};
 use std::alloc::{AllocError, Global};
 use text_pieces::Pieces;
 
-/// What is told of a run.
+/// Which text is written for a run.
 #[derive(Clone, Copy)]
 pub(crate) enum Sending {
     /// What each window is sent.
     Streams,
-    /// What each call came to, and why.
+    /// The result of each call, and why.
     Causes,
 }
 
 impl Sending {
-    /// What a run has where this is told of it.
+    /// The lines that a run keeps for this kind of text.
     fn lines(self) -> Lines
         ensures { result ≡ lines_of self }
     {

@@ -1,4 +1,4 @@
-//! `verify`: how many channels and messages a stream file has, where it is well-formed.
+//! `verify`: how many channels and messages a stream file has, if it is well-formed.
 ghost use Rattle.std.specs.Prelude.{◌≡◌, ◌+◌, ◌^◌, ◌<◌, ◌≤◌, List, ◌∷◌, Ok, Err, None, IsTrue, IfOk, IfErr, OnOk};
 ghost use Rattle.command_words.specs.Command.{verify};
 ghost use Rattle.command_answers.specs.Program.{Answers, RefusesCommand};
@@ -18,12 +18,12 @@ use std::marker::Model;
 use stream_text::{StreamLine, StreamLines};
 use text_pieces::Pieces;
 
-/// What is known of a stream file behind some of its lines.
+/// What is known about a stream file after some of its lines.
 #[derive(Drop)]
 struct Judge {
     /// That of the open section, up to the first break.
     verifier: Verifier,
-    /// The line of the first message that may not come where it stands.
+    /// The line of the first message that may not come at its place.
     broken: Option<u64>,
     channels: u64,
     messages: u64,
@@ -95,7 +95,7 @@ impl Judge {
         Ok(())
     }
 
-    /// What is said at the end of the file.
+    /// The result at the end of the file.
     fn verdict(&self, alloc: Global) -> Result<Vec<u8>, Refusal>
         ensures ok { IfOk result (λ text. said self.now.broken self.now.channels self.now.messages ≡ Ok text.items) }
         ensures err { IfErr result (RefusesSo (λ r. said self.now.broken self.now.channels self.now.messages ≡ Err r)) }
@@ -115,7 +115,7 @@ fn well_formed(alloc: Global, channels: u64, messages: u64) -> Result<Vec<u8>, A
     Ok(line.into_bytes())
 }
 
-/// The text for a stream file's bytes: how many channels and messages it has, where it is well-formed. Its lines are
+/// The text for a stream file's bytes: how many channels and messages it has, if it is well-formed. Its lines are
 /// judged one by one, and none of them is kept.
 fn verdict_text(alloc: Global, bytes: &[u8]) -> Result<Vec<u8>, Refusal>
     ensures ok { IfOk result (λ text. verdict bytes.now ≡ Ok text.items) }
@@ -136,7 +136,7 @@ fn verdict_text(alloc: Global, bytes: &[u8]) -> Result<Vec<u8>, Refusal>
     }
 }
 
-/// What is said of a stream file's bytes.
+/// The result for a stream file's bytes.
 fn verdict_of(alloc: Global, bytes: &[u8]) -> Result<Pieces, Refusal>
     ensures ok { IfOk result (λ text. StreamAnswers bytes.now (Ok text)) }
     ensures err { IfErr result (RefusesSo (λ r. StreamAnswers bytes.now (Err r))) }

@@ -1,4 +1,4 @@
-//! `why`: what each call came to in the run of a session and of a recording, and why.
+//! `why`: the result of each call in the run of a session and a recording, and why.
 ghost use Rattle.std.specs.Prelude.{◌≡◌, ◌≤◌, IsTrue, None, Ok, IfOk, IfErr};
 ghost use Rattle.command_words.specs.Command.{why};
 ghost use Rattle.command_words.specs.CommandView.{recorded_view};

@@ -28,7 +28,7 @@ const FINGERS: u8 = 10;
 /// How many channels the session of a workload has.
 const CHANNELS: u32 = 5;
 
-/// Runs the events of a workload, and answers how many args they gave.
+/// Runs the events of a workload, and returns how many args they gave.
 fn run_events(
     alloc: Global,
     events: Events,
@@ -73,7 +73,7 @@ fn head_text(alloc: Global, seed: u32, packets: u32, args: u64) -> Result<Vec<u8
     Ok(lines.into_bytes())
 }
 
-/// What is said of a run that is done.
+/// The text for a finished run.
 fn summed_up(
     alloc: Global,
     seed: u32,

@@ -1,4 +1,4 @@
--- How an answer goes on from one step to the next.
+-- How an answer passes from one step to the next.
 use Rattle.std.proofs.Common.{List, Option, None, Some}
 use Rattle.outside_io.specs.Outside.{Entry}
 use Rattle.command_files.specs.declared.refusal.Refusal.{Refusal}

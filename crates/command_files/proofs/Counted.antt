@@ -13,7 +13,7 @@ by_error p bytes (errors.NoMoment n) h = h
 by_error p bytes (errors.TooLong n) h = h
 by_error p bytes errors.Memory h = tt
 
--- the refusal is that of the recording, where it is that of each which begins with these bytes
+-- the refusal is that of the recording, if it is that of each recording that begins with these bytes
 pub refused_before : (p : PlanData) (bytes : List ℕ) (error : LineError) → ((rest : List ℕ) → recorded (devices_of p) (bytes ++ rest) ≡ Err error)
     → RefusesEvents p bytes (refusal_of error)
 refused_before p bytes error h = by_error p bytes error (sym (ap (recorded (devices_of p)) (append-nil bytes)) ∙ h [])

@@ -15,7 +15,7 @@ two_bytes = refl
 three_bytes : judged short (7 ∷ 8 ∷ 9 ∷ []) ≡ Err (too_long (codes "short"))
 three_bytes = refl
 
--- files of which their length is said besides: what is refused is refused all the same
+-- files judged together with their length: what is refused is still refused
 two_and_more : judged (with_more short (λ bytes. length bytes)) (7 ∷ 8 ∷ []) ≡ Ok (7 ∷ 8 ∷ [], 2)
 two_and_more = refl
 
@@ -60,14 +60,14 @@ by_files = (refl, tt)
 no_more : Reads (by_log (cut ∷ whole ∷ [])) (98 ∷ []) short (λ rest x. Ends (λ b. b ≡ Ok x) rest) (Err (too_long (codes "short"))) → ⊥
 no_more h = absurd (cc (h.1.1.1))
 
--- in their turn, each once, and those at the end may be missing
+-- in order, each once; those at the end may be missing
 in_turn : InTurn ((97 ∷ [], 2) ∷ (98 ∷ [], 2) ∷ (99 ∷ [], 2) ∷ []) (whole ∷ cut ∷ [])
 in_turn = (refl, (omega arith, (refl, (omega arith, tt))))
 
 twice : InTurn ((97 ∷ [], 2) ∷ (98 ∷ [], 2) ∷ []) (whole ∷ whole ∷ []) → ⊥
 twice h = absurd (let same : 97 ≡ 98 = ap (λ (xs : List ℕ). get_or xs 0 0) h.1.1.0 in omega (arith, same))
 
--- a reading agrees with its file where it gave the front of that, and of a file that is not there nothing
+-- a reading agrees with its file if it gave the front of it, and nothing if the file does not exist
 front : Agrees (Some (7 ∷ 8 ∷ 9 ∷ 10 ∷ [])) cut
 front = (10 ∷ [], refl, λ e. absurd (cc e))
 

@@ -32,7 +32,7 @@ pub judged_beyond : {A : Type 0} (kind : FileKind A) (bytes : List ℕ) → kind
 judged_beyond kind bytes long =
     ap (λ (b : Bool). cond b (kind.rule bytes) (Err (too_long kind.what))) (longer (length bytes) kind.limit (nat_le (length bytes) kind.limit) refl long)
 
--- what a reading gives, and what is said of it besides
+-- what a reading gives, with an additional result
 pub read_map : (told : Option (List Entry)) (before now : List Reading) (name : List ℕ) (limit : ℕ) (P Q : Reading → Type 0) → ((r : Reading) → P r → Q r)
     → OneRead told before now name limit P → OneRead told before now name limit Q
 read_map told before now name limit P Q f one =
@@ -99,7 +99,7 @@ source_stops told before now name limit fb fn refused.Failed e is opened same ro
 source_stops told before now name limit fb fn refused.Memory e is opened same rose =
     subst (StopsReading told before now name limit fb fn) (sym is) (inl (same refl))
 
--- a reading that is enough is of the same judgement as its file
+-- a reading that is enough is judged as its file is
 pub enough_told : {A : Type 0} (kind : FileKind A) (o : Option (List ℕ)) (r : Reading) → Agrees o r → IsEnough kind.limit r
     → IsSomeAnd o (λ bytes. judged kind bytes ≡ judged kind r.given)
 enough_told kind None r agrees (inl h) = absurd (let never : false ≡ true = sym agrees.1 ∙ h.0 in cc)

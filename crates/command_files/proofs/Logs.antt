@@ -75,7 +75,7 @@ file_stops told before now name kind files Next e one =
     log_one told before now name kind.limit files _ (λ rs. Reads (by_log rs) name kind Next (Err e)) one
     (one.named, (one.holds.0, stop_after (judged kind one.reading.given) e Next one.holds.1))
 
--- one that is accepted is gone on with
+-- after an accepted one, reading goes on
 pub file_goes : {A : Type 0} (told : Option (List Entry)) (before mid now : List Reading) (name : List ℕ) (kind : FileKind A) (files : List (List ℕ × ℕ))
     (x : A) (Next : Origin → A → Answer → Type 0) (a : Answer) → IsRead told before mid name kind (Ok x)
     → Logged told mid now files (λ rs. Next (by_log rs) x a)
@@ -105,7 +105,7 @@ file_fed told before now name kind Done Is a one h =
       ),
     )
 
--- one file was read, whatever came of it
+-- one file was read, whatever the result
 pub any_log : (told : Option (List Entry)) (before now : List Reading) (name : List ℕ) (limit : ℕ) (files : List (List ℕ × ℕ)) (P : Reading → Type 0)
     → OneRead told before now name limit P → Logged told before now ((name, limit) ∷ files) (λ rs. Unit {0})
 any_log told before now name limit files P one = log_one told before now name limit files P (λ rs. Unit {0}) one tt
@@ -134,7 +134,7 @@ file_by told before now name kind files Next fb fn (TooLong what) h = file_stops
 pub memory_by : (P : Refused → Type 0) (Read : Type 0) (fb fn : ℕ) (r : Refusal) → r ≡ NoMemory → Read → RefusesBy P Read fb fn r
 memory_by P Read fb fn r is h = subst (λ (x : Refusal). RefusesBy P Read fb fn x) (sym is) h
 
--- why a part has none is why the whole has none
+-- the reason that a part has none is that of the whole
 pub by_map : (P Q : Refused → Type 0) (Read More : Type 0) (fb fm fn : ℕ) (r : Refusal) → fb ≤ fm → ((x : Refused) → P x → Q x) → (Read → More)
     → RefusesBy P Read fm fn r → RefusesBy Q More fb fn r
 by_map P Q Read More fb fm fn (Session e) le f m h = f (refusal_view (Session e)) h
@@ -155,7 +155,7 @@ so_by P Q More fb fn ReadFailed f m h = absurd h
 so_by P Q More fb fn NoMemory f m h = m
 so_by P Q More fb fn (TooLong what) f m h = f (refusal_view (TooLong what)) h
 
--- the last file is accepted, and what comes of it is refused
+-- the last file is accepted, and its result is refused
 pub last_by : {A : Type 0} (told : Option (List Entry)) (before now : List Reading) (name : List ℕ) (kind : FileKind A) (x : A) (Is : A → Answer → Type 0)
     (fb fn : ℕ) (r : Refusal) → IsRead told before now name kind (Ok x) → RefusesSo (λ e. Is x (Err e)) r
     → RefusesBy (λ e. Logged told before now ((name, kind.limit) ∷ []) (λ rs. Reads (by_log rs) name kind (λ rest y. Ends (Is y) rest) (Err e)))
@@ -163,7 +163,7 @@ pub last_by : {A : Type 0} (told : Option (List Entry)) (before now : List Readi
 last_by told before now name kind x Is fb fn r one h =
     so_by (λ e. Is x (Err e)) _ _ fb fn r (λ e is. last_file told before now name kind x Is (Err e) one is) (any_log told before now name kind.limit [] _ one) h
 
--- a file is accepted, and what comes behind it is refused
+-- a file is accepted, and what follows it is refused
 pub then_by : {A : Type 0} (told : Option (List Entry)) (before mid now : List Reading) (name : List ℕ) (kind : FileKind A) (files : List (List ℕ × ℕ)) (x : A)
     (Next : Origin → A → Answer → Type 0) (fb fm fn : ℕ) (r : Refusal) → fb ≤ fm → IsRead told before mid name kind (Ok x)
     → RefusesBy (λ e. Logged told mid now files (λ rs. Next (by_log rs) x (Err e))) (Logged told mid now files (λ rs. Unit {0})) fm fn r
@@ -178,7 +178,7 @@ after_told : {A : Type 0} (es : List Entry) (rs : List Reading) (y : Result A Re
 after_told es rs (Ok x) Next a f h = f x h
 after_told es rs (Err e) Next a f h = (h.0, tt)
 
--- what is said by what was read is said by the files, with which that agrees
+-- what holds for what was read holds for the files, which agree with it
 pub reads_told : {A : Type 0} (es : List Entry) (name : List ℕ) (kind : FileKind A) (Next : Origin → A → Answer → Type 0) (rs : List Reading) (a : Answer)
     → AllAgree es rs → ((ys : List Reading) → AllAgree es ys → (x : A) → Next (by_log ys) x a → Next (by_name es) x a)
     → Reads (by_log rs) name kind Next a → Reads (by_name es) name kind Next a

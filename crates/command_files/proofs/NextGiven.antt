@@ -1,4 +1,4 @@
--- One event more: what it gives comes behind what was given.
+-- One more event: what it gives follows what was given.
 use Rattle.std.proofs.Common.{◌≡◌, ℕ, List, ◌∷◌, ◌++◌, map, reverse, refl, ap, sym, ◌∙◌, []}
 use Rattle.std.proofs.lemmas.List.{append_assoc, map-append, reverse-append, reverse-reverse}
 use Rattle.input_types.specs.declared.message.Args.{Args}

@@ -1,4 +1,4 @@
--- One piece more of a recording, and its end.
+-- One more piece of a recording, and its end.
 use Rattle.std.proofs.Common.{◌≡◌, ℕ, false, List, ◌++◌, Result, Ok, Err, OnOk, refl, ap, sym, subst, reverse, ◌∙◌, []}
 use Rattle.std.proofs.lemmas.List.{append_assoc, append-nil, reverse-append, reverse-reverse}
 use Rattle.raw_events.specs.declared.event.RawEvent.{RawEvent}
@@ -96,7 +96,7 @@ piece_fed run old reader readers schedule piece events cooked_ones (Ok x) does s
       ran = done.1;
     }
 
--- A recording that took a piece with a line that is refused, or behind one: nothing more is run.
+-- A recording that took a piece with a refused line, or after one: nothing more is run.
 pub refused_piece : (run : RunPlan) (old : RecordingState) (reader : Reader) (piece : List ℕ) (error : LineError)
     → Err error ≡ answered (fed old.reader piece).place → reader ≡ record { devices = old.reader.devices; place = (fed old.reader piece).place }
     → Feeds run old (record { reader = reader; readers = old.readers; schedule = old.schedule }) piece

@@ -1,4 +1,4 @@
--- What holds where a call ended well.
+-- What holds if a call succeeded.
 use Rattle.std.specs.Prelude.{Result, Ok, Err, OnOk, OnErr, IfOk, IfErr}
 
 pub on_ok_map : {A E : Type 0} (r : Result A E) (P Q : Type 0) → (P → Q) → OnOk r P → OnOk r Q
@@ -9,7 +9,7 @@ pub on_ok_any : {A E : Type 0} (r : Result A E) (P : Type 0) → P → OnOk r P
 on_ok_any (Ok x) P h = h
 on_ok_any (Err x) P h = tt
 
--- what holds where a call ended well, for all of a kind
+-- what holds if a call succeeded, for all of a kind
 pub on_ok_each : {A E X : Type 0} (r : Result A E) (P : X → Type 0) → ((x : X) → OnOk r (P x)) → OnOk r ((x : X) → P x)
 on_ok_each (Ok x) P h = h
 on_ok_each (Err x) P h = tt

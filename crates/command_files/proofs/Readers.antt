@@ -1,4 +1,4 @@
--- One device more: its reader and its counts stand behind the others.
+-- One more device: its reader and its counts follow the others.
 use Rattle.std.specs.Prelude.{◌≡◌, ℕ, zero, suc, ◌+◌, ◌<◌, ◌≤◌, ◌⊎◌, List, ◌∷◌, ◌++◌, map, take, get_or, length, slice_get, Some, refl, []}
 use Rattle.std.proofs.Common.{arith, ap, sym, subst, ◌∙◌, inl, inr, length-take-le}
 use Rattle.std.proofs.lemmas.List.{length-append, length-map, map-append}
@@ -58,7 +58,7 @@ each_push Stands xs ys p r same all new = λ i q s a b. both_at Stands xs ys p q
 pub as_many_push : {X Y : Type 0} (xs : List X) (ys : List Y) (p : X) (r : Y) → length ys ≡ length xs → length (ys ++ r ∷ []) ≡ length (xs ++ p ∷ [])
 as_many_push xs ys p r same = length-append ys (r ∷ []) ∙ ap (λ n. n + 1) same ∙ sym (length-append xs (p ∷ []))
 
--- one device more, before the first event
+-- one more device, before the first event
 pub stand_push : (plans : List DevicePlan) (readers : List Reading) (p : DevicePlan) (r : Reading)
     → AllStandFor plans [] readers → DeviceStandsFor p [] r → AllStandFor (plans ++ p ∷ []) [] (readers ++ r ∷ [])
 stand_push plans readers p r all new = record {

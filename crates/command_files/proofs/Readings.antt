@@ -27,7 +27,7 @@ and_true : (a b : Bool) → b ≡ true → (a && b) ≡ a
 and_true true b h = h
 and_true false b h = refl
 
--- what was given after such a read, and whether its end was sent
+-- what was given after such a read, and whether its end was reported
 pub given_on : (before now : Reading) (count : ℕ) (buffer : List ℕ) → now ≡ gave before count buffer → now.given ≡ before.given ++ take count buffer
 given_on before now count buffer is = ap (λ (r : Reading). r.given) is
 
@@ -138,7 +138,7 @@ logged_none told before now name limit grown =
       holds = tt;
     }
 
--- whether the end was sent, by how much was given
+-- whether the end was reported, by how much was given
 pub goes_on : (before now : Reading) (count : ℕ) (buffer : List ℕ) → now ≡ gave before count buffer → 0 < length buffer → 0 < count → now.ended ≡ false
 goes_on before now count buffer is some more =
     ended_on before now count buffer is some ∙ ne_eqb count 0 (λ e. absurd (omega (arith, e, more)))

@@ -1,4 +1,4 @@
--- A stream file whose length alone was looked at, as one of a kind whose lines are.
+-- A stream file of which only the length was checked, as one of a kind whose lines are checked.
 use Rattle.std.proofs.Common.{◌≡◌, ◌≤◌, ℕ, Bool, true, false, List, length, nat_le, cond, Option, Result, Ok, Err, refl, subst, inl, inr, arith, codes}
 use Rattle.std.proofs.lemmas.Bool.{leb-true}
 use Rattle.compare_text.specs.Points.{Section}

@@ -1,4 +1,4 @@
--- What has to be known of the devices of a session to read a recording.
+-- What must be known about the devices of a session to read a recording.
 use Rattle.std.specs.Prelude.{ℕ, ◌+◌, List, ◌∷◌, slice_index_or, []}
 use Rattle.device_reader.specs.Cooked.{DevicePlan, Touches, Keys as HasKeys}
 use Rattle.input_types.specs.declared.axis.Axis.{Axis}
@@ -8,7 +8,7 @@ use Rattle.session_plan.specs.declared.plan.DeviceKind.TheVariants.{Touch, Keys}
 use Rattle.session_plan.specs.declared.plan.Display.{Display}
 use Rattle.session_plan.specs.Plan.{DeviceData, PlanData}
 
--- the display with this number, of those of a session; one pixel where there is none
+-- the display with this number, of those of a session; one pixel if there is none
 abbrev pub display_at : List Display → ℕ → Display
 display_at displays k = slice_index_or displays k (record { width = 1; height = 1; rotation = R0 })
 

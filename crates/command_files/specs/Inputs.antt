@@ -37,7 +37,7 @@ stream_limit = 67108864
 abbrev pub step_limit : ℕ
 step_limit = 100000
 
--- a plan is run where it has not too many steps
+-- a plan is run if it does not have too many steps
 abbrev pub runnable : PlanData → Result PlanData Refused
 runnable plan = cond (nat_le (length plan.steps) step_limit) (Ok plan) (Err (too_long (codes "steps")))
 
@@ -46,7 +46,7 @@ abbrev pub plan_judged : Result PlanData Fault → Result PlanData Refused
 plan_judged (Ok plan) = runnable plan
 plan_judged (Err fault) = Err (session_refused fault)
 
--- session files: their rules are looked at, and then the number of steps
+-- session files: their rules are checked, and then the number of steps
 abbrev pub session_file : FileKind PlanData
 session_file = record { limit = session_limit; what = codes "session"; rule = λ bytes. plan_judged (session_of bytes) }
 
@@ -63,7 +63,7 @@ abbrev pub lines_judged : Result (List RawEvent) LineError → Result (List RawE
 lines_judged (Ok events) = Ok events
 lines_judged (Err error) = Err (recording_refused error)
 
--- recordings of these devices: each of their lines is looked at
+-- recordings of these devices: each of their lines is checked
 abbrev pub events_file : Known → FileKind (List RawEvent)
 events_file devices = record { limit = recording_limit; what = codes "recording"; rule = λ bytes. lines_judged (recorded devices bytes) }
 
@@ -80,11 +80,11 @@ abbrev pub order_lines : Result (List OrderLine) ℕ → Result (List OrderLine)
 order_lines (Ok lines) = Ok lines
 order_lines (Err n) = Err (bad_order_line n)
 
--- order files: each of their lines is looked at
+-- order files: each of their lines is checked
 abbrev pub order_file : FileKind (List OrderLine)
 order_file = record { limit = order_limit; what = codes "order"; rule = λ bytes. order_lines (order_of bytes) }
 
--- stream files, of which the length alone is looked at here
+-- stream files, of which only the length is checked here
 abbrev pub stream_file : FileKind (List ℕ)
 stream_file = record { limit = stream_limit; what = codes "stream"; rule = λ bytes. Ok bytes }
 
@@ -93,19 +93,19 @@ abbrev pub sections_said : (ℕ → Refused) → Result (List Section) ℕ → R
 sections_said Bad (Ok sections) = Ok sections
 sections_said Bad (Err n) = Err (Bad n)
 
--- stream files whose sections are compared: each of their lines is looked at
+-- stream files whose sections are compared: each of their lines is checked
 abbrev pub sections_file : (ℕ → Refused) → FileKind (List Section)
 sections_file Bad = record { limit = stream_limit; what = codes "stream"; rule = λ bytes. sections_said Bad (file_sections bytes) }
 
--- the sections that were wanted
+-- the expected sections
 abbrev pub want_file : FileKind (List Section)
 want_file = sections_file bad_want_line
 
--- the sections that came
+-- the actual sections
 abbrev pub got_file : FileKind (List Section)
 got_file = sections_file bad_got_line
 
--- the sections that were wanted, or why their file is refused
+-- the expected sections, or why their file is refused
 abbrev pub want_judged : List ℕ → Result (List Section) Refused
 want_judged bytes = judged want_file bytes
 
@@ -119,6 +119,6 @@ AreAccepted told session events =
     (plan : PlanData) × IsJudged told session session_judged (Ok plan)
     × ((given : List RawEvent) × IsJudged told events (events_judged (devices_of plan)) (Ok given))
 
--- the wanted streams under this name are accepted
+-- the expected streams under this name are accepted
 abbrev pub IsWant : Option (List Entry) → List ℕ → Type 0
 IsWant told want = (sections : List Section) × IsJudged told want want_judged (Ok sections)

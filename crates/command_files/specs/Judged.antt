@@ -20,16 +20,16 @@ pub record FileKind (A : Type 0) : Type 0 where
   pub what : List ℕ
   pub rule : List ℕ → Result A Refused
 
--- how a file of a kind is judged: its length is looked at first
+-- how a file of a kind is judged: its length is checked first
 abbrev pub judged : {A : Type 0} → FileKind A → List ℕ → Result A Refused
 judged kind bytes = cond (nat_le (length bytes) kind.limit) (kind.rule bytes) (Err (too_long kind.what))
 
--- what is judged of a file, and something more that is said of it
+-- the judgement of a file, with an additional result
 abbrev pub beside : {A B : Type 0} → Result A Refused → B → Result (A × B) Refused
 beside (Ok x) more = Ok (x, more)
 beside (Err r) more = Err r
 
--- files of a kind of whose bytes something more is said
+-- files of a kind with an additional result from their bytes
 abbrev pub with_more : {A B : Type 0} → FileKind A → (List ℕ → B) → FileKind (A × B)
 with_more kind more = record { limit = kind.limit; what = kind.what; rule = λ bytes. beside (kind.rule bytes) (more bytes) }
 
@@ -38,7 +38,7 @@ pub data Origin : Type 0 where
   by_name : List Entry → Origin
   by_log : List Reading → Origin
 
--- a reading says what the judgement of a file wants: all its bytes, or one more than it may have
+-- a reading gives what the judgement of a file needs: all its bytes, or one more than it may have
 abbrev pub IsEnough : ℕ → Reading → Type 0
 IsEnough limit r = ((r.ended ≡ true) × (length r.given ≤ limit)) ⊎ (length r.given ≡ limit + 1)
 
@@ -47,12 +47,12 @@ abbrev pub NoMore : Origin → Type 0
 NoMore (by_name entries) = ⊤
 NoMore (by_log readings) = readings ≡ []
 
--- the answer behind a judgement: a refusal is the answer, and nothing more is read; what was accepted is gone on with
+-- the answer after a judgement: a refusal is the answer, and nothing more is read; what was accepted is passed on
 abbrev pub After : {A : Type 0} → (Origin → A → Answer → Type 0) → Origin → Result A Refused → Answer → Type 0
 After Next from (Err refused) a = (a ≡ Err refused) × NoMore from
 After Next from (Ok accepted) a = Next from accepted a
 
--- the next file is one of this kind under a name, and this is the answer behind its judgement
+-- the next file is one of this kind under a name, and this is the answer after its judgement
 abbrev pub Reads : {A : Type 0} → Origin → List ℕ → FileKind A → (Origin → A → Answer → Type 0) → Answer → Type 0
 Reads (by_name entries) name kind Next a = IsSomeAnd (bytes_of entries name) (λ bytes. After Next (by_name entries) (judged kind bytes) a)
 Reads (by_log []) name kind Next a = ⊥
@@ -63,7 +63,7 @@ Reads (by_log (r ∷ rs)) name kind Next a =
 abbrev pub Ends : (Answer → Type 0) → Origin → Answer → Type 0
 Ends Is from a = Is a × NoMore from
 
--- the answer that a judgement leads to, where no file is left: a refusal, or what comes of what was accepted
+-- the answer to which a judgement leads if no file is left: a refusal, or the result of what was accepted
 abbrev pub Behind : {A : Type 0} → (A → Answer → Type 0) → Result A Refused → Answer → Type 0
 Behind Next (Err refused) a = a ≡ Err refused
 Behind Next (Ok accepted) a = Next accepted a

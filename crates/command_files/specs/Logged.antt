@@ -8,8 +8,8 @@ use Rattle.command_files.specs.Judged.{FileKind, IfTold, IsEnough, judged}
 use Rattle.command_files.specs.Refused.{Refused}
 use Rattle.command_files.specs.RefusalView.{refusal_view}
 
--- A reading agrees with the bytes of its file: what it gave is in front of them, and is all of them where the end was sent. Of a file that
--- is not there nothing was given.
+-- A reading agrees with the bytes of its file: what it gave is the front of them, and is all of them if the end was
+-- reported. A file that does not exist gave nothing.
 abbrev pub Agrees : Option (List ℕ) → Reading → Type 0
 Agrees None r = (r.given ≡ []) × (r.ended ≡ false)
 Agrees (Some bytes) r = (rest : List ℕ) × (bytes ≡ r.given ++ rest) × (r.ended ≡ true → rest ≡ [])
@@ -48,7 +48,7 @@ RefusesFile told before now name kind faults_before faults_now ReadFailed =
 RefusesFile told before now name kind faults_before faults_now NoMemory = MayRead told before now name kind.limit
 RefusesFile told before now name kind faults_before faults_now r = IsRead told before now name kind (Err (refusal_view r))
 
--- Readings are of these files in their turn, and of each of at most one byte more than its limit; files at the end may be missing.
+-- Readings are of these files in order, each of at most one byte more than its limit; files at the end may be missing.
 abbrev pub InTurn : List (List ℕ × ℕ) → List Reading → Type 0
 InTurn files [] = ⊤
 InTurn [] (r ∷ rs) = ⊥
@@ -59,7 +59,8 @@ abbrev pub AllAgree : List Entry → List Reading → Type 0
 AllAgree entries [] = ⊤
 AllAgree entries (r ∷ rs) = Agrees (bytes_of entries r.name) r × AllAgree entries rs
 
--- The log grew by readings of these files, in their turn, each once and within its limit. They agree with the files where these are sent.
+-- The log grew by readings of these files, in order, each once and within its limit. They agree with the files if
+-- these are known.
 pub record Logged (told : Option (List Entry)) (before now : List Reading) (files : List (List ℕ × ℕ)) (Holds : List Reading → Type 0) : Type 0 where
   pub readings : List Reading
   pub grown : now ≡ before ++ readings
@@ -67,7 +68,7 @@ pub record Logged (told : Option (List Entry)) (before now : List Reading) (file
   pub agree : IfTold told (λ entries. AllAgree entries readings)
   pub holds : Holds readings
 
--- why a command has no answer, or which refusal it has: files could not be read, memory ran out, or this is what is answered
+-- why a command has no answer, or which refusal it has: files could not be read, memory ran out, or this is the answer
 abbrev pub RefusesBy : (Refused → Type 0) → Type 0 → ℕ → ℕ → Refusal → Type 0
 RefusesBy Comes Read faults_before faults_now ReadFailed = Rose faults_before faults_now × Read
 RefusesBy Comes Read faults_before faults_now NoMemory = Read

@@ -13,7 +13,7 @@ use Rattle.command_files.specs.Cooked.{plans_of}
 abbrev pub cooked_of : ℕ × Args → Cooked
 cooked_of g = record { moment = g.0; args = g.1 }
 
--- what the devices of a session give for these events, which stand with the newest first
+-- what the devices of a session give for these events, newest first
 abbrev pub given : PlanData → List RawEvent → List Cooked
 given p past = map cooked_of (reverse (cooked (plans_of p) past))
 
@@ -28,7 +28,7 @@ script_of p =
       until = p.end;
     }
 
--- the plan of a session's run for these events, which stand with the newest first
+-- the plan of a session's run for these events, newest first
 abbrev pub run_of : PlanData → List RawEvent → Plan
 run_of p past = record (script_of p) { cooked = given p past }
 

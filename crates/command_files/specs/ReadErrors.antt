@@ -22,7 +22,7 @@ refusal_of_read what Failed = refusal.ReadFailed
 refusal_of_read what Memory = refusal.NoMemory
 refusal_of_read what TooLong = refusal.TooLong what
 
--- why a file was not read to its end: a fault of the files, want of memory, or it gave one byte more than its limit
+-- why a file was not read to its end: an input error, out of memory, or it gave one byte more than its limit
 abbrev pub StopsReading : Option (List Entry) → List Reading → List Reading → List ℕ → ℕ → ℕ → ℕ → ReadError → Type 0
 StopsReading told before now name limit faults_before faults_now Failed =
     Rose faults_before faults_now × OneRead told before now name limit (λ r. ⊤)

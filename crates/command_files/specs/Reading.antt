@@ -3,7 +3,8 @@ use Rattle.std.specs.Prelude.{◌≡◌, true, ℕ, List, ◌++◌, length, Opti
 use Rattle.std.specs.Io.KnownBytes.{Consumes, IsAtEnd}
 use Rattle.outside_io.specs.Trace.{Reading}
 
--- More was read of a file: what it gave was taken from the front of what was left, and where its end was sent nothing is left.
+-- More was read of a file: what it gave was taken from the front of what was left, and if its end was reported,
+-- nothing is left.
 pub record GivesMore (left_before left_now : Option (List ℕ)) (before now : Reading) : Type 0 where
   pub piece : List ℕ
   pub given : now.given ≡ before.given ++ piece

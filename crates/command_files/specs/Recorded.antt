@@ -29,8 +29,8 @@ abbrev pub HasBegun : Place → Type 0
 HasBegun (Err error) = Unit {0}
 HasBegun (Ok at) = line_len at.1 ≡ length at.1
 
--- These bytes were read: whatever comes behind them, the reader goes on to what all bytes record, and the run is that of the events so
--- far, which stand with the newest first, with these lines.
+-- These bytes were read: whatever follows them, the reader goes on to what all bytes record, and the run is that of
+-- the events so far, newest first, with these lines.
 pub record HasRead (how : Lines) (plan : PlanData) (bytes : List ℕ) (s : RecordingState) : Type 0 where
   pub past : List RawEvent
   pub read : (rest : List ℕ) → with_events (reverse past) (still s.reader rest) ≡ recorded (devices_of plan) (bytes ++ rest)
@@ -38,7 +38,7 @@ pub record HasRead (how : Lines) (plan : PlanData) (bytes : List ℕ) (s : Recor
   pub readers : ReadersStandFor (plans_of plan) past s.readers
   pub ran : RanWith how (script_of plan) (given plan past) s.schedule
 
--- a piece was read besides what was read before
+-- a piece was read in addition to what was read before
 abbrev pub Feeds : RunPlan → RecordingState → RecordingState → List ℕ → Type 0
 Feeds run old new piece =
     (how : Lines) (plan : PlanData) (bytes : List ℕ) → plan_of run ≡ script_of plan → HasRead how plan bytes old → HasRead how plan (bytes ++ piece) new

@@ -1,4 +1,4 @@
--- What a refusal says outside.
+-- How a refusal is reported to the user.
 use Rattle.std.specs.Prelude.{codes, ℕ, List, ◌++◌}
 use Rattle.std.specs.Fmt.{decimal}
 use Rattle.compare_text.specs.Lines.{refusal_line as compare_line}
@@ -24,12 +24,12 @@ status_of ReadFailed = 4
 status_of NoMemory = 6
 status_of (TooLong what) = 7
 
--- what is said of a refused order file
+-- the message for a refused order file
 abbrev pub order_line : OrderError → List ℕ
 order_line (order.BadLine n) = codes "order: BadLine " ++ decimal n
 order_line (order.NoStep n) = codes "order: NoStep " ++ decimal n
 
--- what is said of a refused stream file
+-- the message for a refused stream file
 abbrev pub stream_line : StreamError → List ℕ
 stream_line (stream.BadLine n) = codes "stream: BadLine " ++ decimal n
 stream_line (stream.NotWellFormed n) = codes "stream: NotWellFormed " ++ decimal n
@@ -50,7 +50,7 @@ subject_word subject.Steps = codes "steps"
 subject_word subject.Stream = codes "stream"
 subject_word subject.Run = codes "run"
 
--- what is said of a refusal
+-- the message for a refusal
 abbrev pub words_of : Refusal → List ℕ
 words_of (Session error) = error_line error
 words_of (Recording error) = recording_line error

@@ -1,4 +1,4 @@
--- What a refusal says outside: a status, and a line on standard error.
+-- How a refusal is reported to the user: a status, and a line on standard error.
 use Rattle.std.specs.Prelude.{codes, ℕ, List, ◌++◌, []}
 use Rattle.std.specs.Fmt.{decimal}
 use Rattle.raw_events.specs.declared.event.LineError.{LineError}
@@ -10,7 +10,7 @@ use Rattle.judge_text.specs.Lines.{refusal_line as judge_line}
 use Rattle.session_plan.specs.Fault.{Fault}
 use Rattle.session_plan.specs.ErrorLine.{line_of}
 
--- a refusal as it is sent: a status, and a line with its newline
+-- a refusal as it is printed: a status, and a line with its newline
 pub record Refused : Type 0 where
   pub status : ℕ
   pub line : List ℕ
@@ -23,7 +23,7 @@ refused status line = record { status = status; line = line ++ codes "\n" }
 abbrev pub session_refused : Fault → Refused
 session_refused fault = refused 3 (line_of fault)
 
--- a line of the recording is refused, with its number; want of memory has no line
+-- a line of the recording is refused, with its number; running out of memory has no line
 abbrev pub recording_line : LineError → List ℕ
 recording_line (lines.BadLine n) = codes "recording: BadLine " ++ decimal n
 recording_line (lines.NoMoment n) = codes "recording: NoMoment " ++ decimal n
@@ -38,7 +38,7 @@ recording_refused error = refused 3 (recording_line error)
 abbrev pub bad_order_line : ℕ → Refused
 bad_order_line n = refused 1 (codes "order: BadLine " ++ decimal n)
 
--- a line of an order file asks for a step that does not exist
+-- a line of an order file requests a step that does not exist
 abbrev pub no_step : ℕ → Refused
 no_step n = refused 1 (codes "order: NoStep " ++ decimal n)
 
@@ -46,11 +46,11 @@ no_step n = refused 1 (codes "order: NoStep " ++ decimal n)
 abbrev pub bad_stream_line : ℕ → Refused
 bad_stream_line n = refused 1 (codes "stream: BadLine " ++ decimal n)
 
--- a message of a stream file may not come where it stands
+-- a message of a stream file may not come at its place
 abbrev pub not_well_formed : ℕ → Refused
 not_well_formed n = refused 1 (codes "stream: NotWellFormed " ++ decimal n)
 
--- no section of a stream file is of the channel
+-- a stream file has no section of the channel
 abbrev pub no_channel : Refused
 no_channel = refused 1 (codes "stream: NoChannel")
 
@@ -66,15 +66,15 @@ not_assignable n = refused 1 (codes "stream: NotAssignable " ++ decimal n)
 abbrev pub not_whole : JudgeError → Refused
 not_whole error = refused 1 (judge_line error)
 
--- a line of the streams that were wanted is not of the grammar of stream files
+-- a line of the expected streams does not follow the grammar of stream files
 abbrev pub bad_want_line : ℕ → Refused
 bad_want_line n = refused 1 (codes "want: BadLine " ++ decimal n)
 
--- a line of the streams that came is not of the grammar of stream files
+-- a line of the actual streams does not follow the grammar of stream files
 abbrev pub bad_got_line : ℕ → Refused
 bad_got_line n = refused 1 (codes "got: BadLine " ++ decimal n)
 
--- the streams that came are not those that were wanted
+-- the actual streams differ from the expected ones
 abbrev pub not_same : CompareError → Refused
 not_same error = refused 1 (compare_line error)
 

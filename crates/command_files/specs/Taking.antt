@@ -1,8 +1,8 @@
--- What is said of bytes that come piece by piece.
+-- Statements about bytes that come piece by piece.
 use Rattle.std.specs.Prelude.{ℕ, List, [], ◌++◌}
 use Rattle.std.proofs.Common.{append_assoc, append-nil, subst, sym}
 
--- what was said of some bytes is said of them with a piece more
+-- what holds for some bytes holds for them with one more piece
 abbrev pub OneMore : {S : Type 0} → (List ℕ → S → Type 0) → S → S → List ℕ → Type 0
 OneMore Says old new piece = (bytes : List ℕ) → Says bytes old → Says (bytes ++ piece) new
 

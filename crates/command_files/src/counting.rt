@@ -1,4 +1,4 @@
-//! A recording that is read piece by piece, and what is counted of it.
+//! A recording that is read piece by piece, and its counts.
 ghost use Rattle.std.specs.Prelude.{ℕ, [], List, length, IfOk, IfErr};
 ghost use Rattle.session_plan.specs.Plan.{PlanData};
 ghost use Rattle.session_plan.specs.Valid.{IsKind, IsPlan};
@@ -23,11 +23,11 @@ use session_plan::{DeviceKind, Display, Plan};
 use std::alloc::{AllocError, Global};
 use std::marker::Model;
 
-/// A recording that is being counted. Once a line was refused nothing more is counted.
+/// A recording that is being counted. After a refused line nothing more is counted.
 #[derive(Drop)]
 pub struct Counting {
     tally: RecordingTally,
-    /// Why a line is refused, where one is.
+    /// Why a line is refused, if one is.
     refused: Option<LineError>,
 }
 
@@ -78,7 +78,7 @@ impl Counting {
         })
     }
 
-    /// Ends the recording, whose counts are answered. A line that is refused is answered now.
+    /// Ends the recording, and returns its counts, or the refusal of a line.
     pub fn end(self) -> Result<RecordingTally, Refusal>
         ensures ok { (p : PlanData) (bytes : List ℕ) → HasTaken p bytes self
             → IfOk result (IsCounted (devices_of p) (plans_of p) bytes) }

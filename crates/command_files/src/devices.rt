@@ -52,7 +52,7 @@ fn reader_of(
     }
 }
 
-/// The number of the device at a place of a session, from 0.
+/// The number of the device at an index of a session, from 0.
 pub fn device_number(place: usize) -> DeviceId
     requires { place < 8 }
     ensures { result ≡ place + 1 }

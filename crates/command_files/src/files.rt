@@ -10,7 +10,7 @@ use crate::taker::Taker;
 use outside_io::{Failed, Files, Source, SourceRefused};
 use std::alloc::{AllocError, Global};
 
-/// The most bytes that one read asks for.
+/// The most bytes that one read requests.
 const PIECE: usize = 65536;
 
 /// Why a file was not read to its end.
@@ -48,14 +48,14 @@ impl From<SourceRefused> for ReadError {
     }
 }
 
-/// So many bytes, all 0, to be read into.
+/// A buffer of so many bytes, all 0.
 fn zeros(alloc: Global, len: usize) -> Result<Vec<u8>, AllocError>
     ensures { IfOk result (λ v. vec_len v ≡ len) }
 {
     vec![in alloc; 0; len]
 }
 
-/// Reads a piece into the buffer and puts it behind the bytes, and answers its length.
+/// Reads a piece into the buffer, appends it to the bytes, and returns its length.
 fn read_piece<S: Source>(
     source: &mut S,
     buffer: &mut [u8],
@@ -81,7 +81,7 @@ fn read_piece<S: Source>(
     Ok(count)
 }
 
-/// All bytes that a source has, of which nothing was read, at most `limit`.
+/// Reads all bytes of an unread source, at most `limit`.
 fn read_all<S: Source>(alloc: Global, source: &mut S, limit: usize) -> Result<Vec<u8>, ReadError>
     requires limit { limit < 2 ^ 32 }
     requires going { (S.reading source.old).ended ≡ false }
@@ -107,7 +107,7 @@ fn read_all<S: Source>(alloc: Global, source: &mut S, limit: usize) -> Result<Ve
     Err(ReadError::TooLong)
 }
 
-/// Reads a piece into the buffer and hands it on, and answers its length.
+/// Reads a piece into the buffer, hands it on, and returns its length.
 fn feed_piece<S: Source, T: Taker>(
     source: &mut S,
     buffer: &mut [u8],
@@ -135,7 +135,7 @@ fn feed_piece<S: Source, T: Taker>(
     Ok(count)
 }
 
-/// Hands on all bytes that a source has, of which nothing was read, at most `limit`.
+/// Hands on all bytes of an unread source, at most `limit`.
 fn feed_all<S: Source, T: Taker>(
     alloc: Global,
     source: &mut S,
@@ -198,7 +198,7 @@ pub fn feed_file<F: Files, T: Taker>(
     fed
 }
 
-/// The bytes of a file, at most `limit`. At most one byte more is read.
+/// Reads the bytes of a file, at most `limit`. At most one byte more is read.
 pub fn read_file<F: Files>(
     alloc: Global,
     files: &mut F,

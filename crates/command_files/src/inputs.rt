@@ -1,5 +1,4 @@
-//! The files of a command, each of which is judged once it was read: a session, a recording, an order file and a stream
-//! file.
+//! The files of a command, each judged once it is read: a session, a recording, an order file and a stream file.
 ghost use Rattle.std.specs.Prelude.{◌≡◌, ◌≤◌, IsTrue, None, Ok, Err, IfOk, IfErr, length};
 ghost use Rattle.raw_events.specs.Line.{known};
 ghost use Rattle.raw_events.specs.Recording.{recorded};

@@ -39,7 +39,7 @@ fn keyed_from(alloc: Global, bytes: &[u8]) -> Result<KeyedPlan, Refusal>
     Ok(KeyedPlan { plan, unread })
 }
 
-/// Reads and judges the session, and looks for keys that nothing reads.
+/// Reads and judges the session, and finds keys that nothing reads.
 pub fn read_keyed_session<F: Files>(
     alloc: Global,
     files: &mut F,

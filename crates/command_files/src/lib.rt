@@ -1,9 +1,8 @@
-//! The files of the commands: each is read to its end or its limit and judged, and what is refused is answered with its
+//! The files of the commands: each is read to its end or its limit and judged, and a refusal is returned with its
 //! reason.
 //!
 //! A session is read whole, and so are the events of a recording, an order file and a stream file. The recordings of
-//! `replay` and of `inspect` are read in pieces, and what they give is run ([`Recording`]) or counted ([`Counting`]) as
-//! they come.
+//! `replay` and `inspect` are read in pieces, which are run ([`Recording`]) or counted ([`Counting`]) as they come.
 //!
 //! ```text
 //! a session of 5 MiB           too long: session

@@ -20,8 +20,8 @@ use schedule::{Plan, Schedule};
 use std::alloc::{AllocError, Global};
 use std::marker::Model;
 
-/// A recording that is being read, and the run of what it gave so far. Once a line was refused nothing more is run. No
-/// list of its events is kept.
+/// A recording that is being read, and the run of what it gave so far. After a refused line nothing more is run. It
+/// keeps no list of events.
 #[derive(Drop)]
 pub struct Recording {
     reader: LineReader,
@@ -41,7 +41,7 @@ impl Model for Recording {
     ghost view = { λ r. record { reader = r.reader; readers = r.readers; schedule = r.schedule } };
 }
 
-/// What a refused line does to what is run or counted: nothing. Want of memory is sent.
+/// A refused line does not change what is run or counted. Running out of memory is reported.
 pub(crate) fn passed_over(error: LineError) -> Result<(), AllocError>
     ensures { OnOk result (is_memory error ≡ false) }
 {
@@ -84,7 +84,7 @@ fn run_args(
     Ok(())
 }
 
-/// What the devices give for an event, and its moment.
+/// What the devices deliver for an event, and its moment.
 #[inline(always)]
 pub fn cook_event(
     event: RawEvent,
@@ -102,7 +102,7 @@ pub fn cook_event(
     Ok(moment)
 }
 
-/// Hands to a run what the devices give for an event.
+/// Hands to a run what the devices deliver for an event.
 #[inline(always)]
 pub fn run_event(
     event: RawEvent,
@@ -124,7 +124,7 @@ pub fn run_event(
     run_args(schedule, plan, moment, args)
 }
 
-/// Hands to a run what the devices give for some events.
+/// Hands to a run what the devices deliver for some events.
 fn run_events(
     events: &[RawEvent],
     args: &mut Vec<Args>,
@@ -159,7 +159,7 @@ impl Recording {
         }
     }
 
-    /// Ends the recording and the run, which is answered. A line that is refused is answered now.
+    /// Ends the recording and the run. Returns the run, or the refusal of a line.
     pub fn end(self, plan: &Plan) -> Result<Schedule, Refusal>
         requires { IsRun plan.now }
         ensures ok { (how : Lines) (p : PlanData) (bytes : List ℕ) → plan_of plan.now ≡ script_of p

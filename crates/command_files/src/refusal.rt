@@ -8,7 +8,7 @@ use raw_events::LineError;
 use session_plan::PlanError;
 use std::alloc::AllocError;
 
-/// What a run found to be longer than its limit.
+/// What exceeded its limit.
 #[derive(Clone, Copy, Debug, PartialEq, Eq)]
 pub enum Subject {
     /// The session has more bytes than 4 MiB.
@@ -29,20 +29,20 @@ pub enum Subject {
 /// Why an order file is refused. Lines are numbered from 1.
 #[derive(Clone, Copy, Debug, PartialEq, Eq)]
 pub enum OrderError {
-    /// The line is not of the grammar of order files, or is missing.
+    /// The line does not follow the grammar of order files, or is missing.
     BadLine { line: u64 },
-    /// The line asks for a step of the recording or of a lane, and none is left.
+    /// The line requests a step of the recording or of a lane, and none is left.
     NoStep { line: u64 },
 }
 
 /// Why a stream file is refused. Lines are numbered from 1.
 #[derive(Debug, Drop)]
 pub enum StreamError {
-    /// The line is not of the grammar of stream files, or is missing.
+    /// The line does not follow the grammar of stream files, or is missing.
     BadLine { line: u64 },
     /// The message of the line may not come after those before it in its section.
     NotWellFormed { line: u64 },
-    /// No section is of the channel.
+    /// There is no section of the channel.
     NoChannel,
     /// The motion of the line has a moment that no event of a recording has.
     TooLate { line: u64 },
@@ -50,11 +50,11 @@ pub enum StreamError {
     NotAssignable { line: u64 },
     /// A section is not whole, or none has a message.
     NotWhole(JudgeError),
-    /// The line of the wanted streams is not of the grammar of stream files, or is missing.
+    /// The line of the expected streams does not follow the grammar of stream files, or is missing.
     BadWant { line: u64 },
-    /// The line of the streams that came is not of the grammar of stream files, or is missing.
+    /// The line of the actual streams does not follow the grammar of stream files, or is missing.
     BadGot { line: u64 },
-    /// The streams that came are not those that were wanted.
+    /// The actual streams differ from the expected ones.
     NotSame(CompareError),
 }
 

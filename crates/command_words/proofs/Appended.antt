@@ -1,4 +1,4 @@
--- Words behind words that spell options.
+-- Words after words that spell options.
 use Rattle.std.proofs.Common.{◌≡◌, ℕ, List, [], ◌∷◌, ◌++◌, Bool, true, false, Option, Some, None, option_map, refl, ap, ◌∙◌}
 use Rattle.std.specs.Prelude.{IsSome, unwrap_or}
 use Rattle.std.proofs.lemmas.Bool.{false≢true}
@@ -6,7 +6,7 @@ use Rattle.command_words.specs.Given.{Given}
 use Rattle.command_words.specs.Options.{given_in, has_equals, joined, options_of}
 use Rattle.command_words.proofs.Firsts.{joined_first, next_spelled, paired_first}
 
--- one more option in front of those of words, and those of the words behind
+-- one more option in front of those of some words, and those of the words after them
 one_more : (given : Given) (all left behind : Option (List Given)) → all ≡ option_map (λ more. given ∷ more) left → IsSome all
     → option_map (λ more. given ∷ more) (option_map (λ more. unwrap_or left [] ++ more) behind) ≡ option_map (λ more. unwrap_or all [] ++ more) behind
 one_more given all None behind are h = absurd (false≢true (rw are at h))
@@ -17,7 +17,7 @@ no_more : (behind : Option (List Given)) → behind ≡ option_map (λ more. mor
 no_more None = refl
 no_more (Some options) = refl
 
--- the options of words that spell some, and then those of the words behind them
+-- the options of words that spell some, and then those of the words after them
 pub appended : (words behind : List (List ℕ)) → IsSome (options_of words)
     → options_of (words ++ behind) ≡ option_map (λ more. given_in words ++ more) (options_of behind)
 appended [] behind h = no_more (options_of behind)

@@ -37,7 +37,7 @@ pub checks :
 unfolding form_of command_with looking_with value_of recorded_of check_of
 checks = (refl, refl)
 
--- the first `=` parts, and a value is not empty and does not begin with a hyphen
+-- the first `=` separates, and a value is not empty and does not begin with a hyphen
 pub verifies :
     (form_of (codes "verify" ∷ codes "--stream" ∷ codes "s" ∷ []) ≡ Some (verify (codes "s")))
     × (form_of (codes "verify" ∷ codes "--stream=a=b" ∷ []) ≡ Some (verify (codes "a=b")))
@@ -110,7 +110,7 @@ pub judges :
 unfolding form_of command_with looking_with value_of judge_of
 judges = (refl, refl, refl, refl)
 
--- what was wanted and what came, up to 0 to 1,000,000,000 microseconds and 0 to 16,384 pixels
+-- expected and actual streams, within 0 to 1,000,000,000 microseconds and 0 to 16,384 pixels
 pub compares :
     (form_of (codes "compare" ∷ codes "--pixels=16384" ∷ codes "--got" ∷ codes "g" ∷ codes "--want" ∷ codes "w" ∷ codes "--us=1000000000" ∷ []) ≡ Some (compare (codes "w") (codes "g") 1000000000 16384))
     × (form_of (codes "compare" ∷ codes "--want=w" ∷ codes "--got=w" ∷ codes "--us=0" ∷ codes "--pixels=0" ∷ []) ≡ Some (compare (codes "w") (codes "w") 0 0))
@@ -120,7 +120,7 @@ pub compares :
 unfolding form_of command_with looking_with value_of number number_of compare_of
 compares = (refl, refl, refl, refl, refl)
 
--- the files of a run to be looked at
+-- the files of a run to inspect
 pub inspects :
     (form_of (codes "inspect" ∷ codes "--events" ∷ codes "e" ∷ codes "--session=s" ∷ []) ≡ Some (inspect (record { session = codes "s"; events = codes "e" })))
     × (form_of (codes "inspect" ∷ codes "--session" ∷ codes "s" ∷ []) ≡ None)
@@ -128,7 +128,7 @@ pub inspects :
 unfolding form_of command_with looking_with value_of recorded_of inspect_of
 inspects = (refl, refl, refl)
 
--- the files of a run whose causes are sent
+-- the files of a run to explain
 pub tells :
     (form_of (codes "why" ∷ codes "--events" ∷ codes "e" ∷ codes "--session=s" ∷ []) ≡ Some (why (record { session = codes "s"; events = codes "e" })))
     × (form_of (codes "why" ∷ codes "--events" ∷ codes "e" ∷ []) ≡ None)
@@ -136,7 +136,7 @@ pub tells :
 unfolding form_of command_with looking_with value_of recorded_of why_of
 tells = (refl, refl, refl)
 
--- words of no command
+-- words that are no command
 pub others :
     (form_of (codes "play" ∷ codes "--session" ∷ codes "a" ∷ codes "--events" ∷ codes "b" ∷ []) ≡ None)
     × (form_of (codes "--stream" ∷ codes "s" ∷ []) ≡ None)

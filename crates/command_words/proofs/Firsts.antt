@@ -22,12 +22,12 @@ pub with_joined : (words : List (List ℕ)) (word : List ℕ) (rest : List (List
     → has_equals word ≡ true → given ≡ joined word → options_of words ≡ option_map (λ more. given ∷ more) (options_of rest)
 with_joined words word rest given are equals is = rw (are, is) (joined_first word rest equals)
 
--- words spell options where the words behind their first option do
+-- words spell options if the words after their first option do
 pub next_some : (all rest : Option (List Given)) (given : Given) → all ≡ option_map (λ more. given ∷ more) rest → is_some rest ≡ is_some all
 next_some all None given are = rw are refl
 next_some all (Some more) given are = rw are refl
 
--- words that spell options, and an option of them: the words behind it spell the others
+-- words that spell options, and one of the options: the words after it spell the others
 pub next_spelled : (all rest : Option (List Given)) (given : Given) → all ≡ option_map (λ more. given ∷ more) rest → IsSome all → IsSome rest
 next_spelled all None given are h = rw are at h
 next_spelled all (Some more) given are h = search rules
@@ -37,7 +37,7 @@ pub next_given : (all rest : Option (List Given)) (given : Given) → all ≡ op
 next_given all None given are h = absurd (false≢true (rw are at h))
 next_given all (Some more) given are h = rw are refl
 
--- the values of the options with a name, where the first has it, and where it has another
+-- the values of the options with a name, if the first has it, and if it has another
 pub named_first : (given : Given) (more : List Given) (name : List ℕ) → bytes_eq given.name name ≡ true
     → values_of (given ∷ more) name ≡ given.value ∷ values_of more name
 named_first given more name h = rw h refl
@@ -46,14 +46,14 @@ pub others_first : (given : Given) (more : List Given) (name : List ℕ) → byt
     → values_of (given ∷ more) name ≡ values_of more name
 others_first given more name h = rw h refl
 
--- where no word is left, all of them are options
+-- if no word is left, all of them are options
 pub all_read : (left : List (String Global)) (all : Option (List Given)) → (length left == 0) ≡ true
     → is_some (options_of (map string_bytes left)) ≡ is_some all → Some (unwrap_or all []) ≡ all
 all_read left (Some options) e h = refl
 all_read [] None e h = absurd (false≢true (sym h))
 all_read (word ∷ words) None e h = grind (arith, nat_tests)
 
--- where some are left and no option is in front of them, the words are none
+-- if some are left with no option in front of them, the words do not spell options
 pub none_read : (left : List (String Global)) (all : Option (List Given)) → (length left == 0) ≡ false
     → (left ≡ []) ⊎ (options_of (map string_bytes left) ≡ None) → is_some (options_of (map string_bytes left)) ≡ is_some all → None ≡ all
 none_read left None e stop h = refl

@@ -19,14 +19,14 @@ no_number true true n = refl
 no_number true false n = refl
 no_number false low n = refl
 
--- what writes a number above the range writes none in it
+-- digits of a number above the range do not write a number in it
 pub too_great : (low high : ℕ) (value : List ℕ) → high < digits_value 10 value → number low high value ≡ None
 unfolding number
 too_great low high value h =
     let great : nat_le (digits_value 10 value) high ≡ false = grind (arith, nat_tests) in
     rw great (no_number (is_numeral value) (nat_le low (digits_value 10 value)) (digits_value 10 value))
 
--- a number that is above the range with the digit at i is none in it, whatever follows
+-- a number that exceeds the range with the digit at i is not in it, whatever follows
 pub past_range : (low high n i d : ℕ) (ds : List ℕ) → i < length ds → d ≡ digit_value (get_or ds i 0)
     → digits_value_after 10 n (drop i ds) ≡ digits_value 10 ds → high < n * 10 + d → number low high ds ≡ None
 past_range low high n i d ds inside digit is above =

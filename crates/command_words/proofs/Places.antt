@@ -13,7 +13,7 @@ use Rattle.command_words.specs.Options.{given_in, options_of, values_of}
 use Rattle.command_words.specs.Value.{only}
 use Rattle.command_words.proofs.Appended.{appended}
 
--- of several values, none is the only one
+-- no value is the only one of several
 several : (values : List (List ℕ)) → 2 ≤ length values → only values ≡ None
 several [] h = refl
 several (value ∷ []) h = absurd (omega (arith, h))
@@ -73,7 +73,7 @@ command_placed command front left right back =
 abbrev in_front : List Given → Option (List Given) → Option (List Given)
 in_front front options = option_map (λ more. front ++ more) options
 
--- what the options of a command make of it
+-- what a command gets from its options
 abbrev said : List ℕ → Option (List Given) → Option Command
 said command options = options >>= λ os. command_with command (length os) (value_of os)
 

@@ -10,7 +10,7 @@ use Rattle.command_words.specs.Options.{given_in, has_equals, is_equals, joined,
 use Rattle.command_words.proofs.Appended.{appended}
 use Rattle.command_words.proofs.Firsts.{joined_first, paired_first}
 
--- behind a name without a `=`, the first `=` is the one that stands there
+-- after a name without a `=`, the first `=` is the one at that place
 first_place : (name value : List ℕ) → has_equals name ≡ false → position_or_len is_equals (name ++ byte "=" ∷ value) ≡ length name
 first_place [] value without = refl
 first_place (b ∷ bs) value without = go (is_equals b) refl (first_place bs value)
@@ -33,7 +33,7 @@ parted : (name value : List ℕ) → has_equals name ≡ false → joined (name 
 parted name value without =
     rw (first_place name value without, take-append_seam name (byte "=" ∷ value), drop-append-add name (byte "=" ∷ value) 1) refl
 
--- an option in one word and in two, with words behind it
+-- an option in one word and in two, with words after it
 same_first : (name value : List ℕ) (back : List (List ℕ)) → has_equals name ≡ false
     → options_of ((name ++ byte "=" ∷ value) ∷ back) ≡ options_of (name ∷ value ∷ back)
 same_first name value back without =

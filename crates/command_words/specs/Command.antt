@@ -1,4 +1,4 @@
--- The commands, with what their options say. Files are said by their names, as bytes.
+-- The commands, with what their options say. Files are given by their names, as bytes.
 use Rattle.std.specs.Prelude.{◌≡◌, ◌≤◌, ◌<◌, ◌^◌, ℕ, List, true, ⊤}
 use Rattle.command_words.specs.Value.{is_path}
 
@@ -7,9 +7,10 @@ pub record Recorded : Type 0 where
   pub session : List ℕ
   pub events : List ℕ
 
--- The commands. `replay`, `race`, `inspect` and `why` have the files of a run, `check` has an order file beside them, `verify`, `batch`, `emit` and `judge` have
--- a stream file, `work` has a seed and how many packets, `batch` the length of a frame, `hover` the path of a mouse, `emit` a channel and a device. `compare` has the stream file
--- that was wanted and the one that came, and how many microseconds and how many pixels may lie between them.
+-- The commands. `replay`, `race`, `inspect` and `why` have the files of a run, `check` has an order file beside them,
+-- `verify`, `batch`, `emit` and `judge` have a stream file, `work` has a seed and how many packets, `batch` the
+-- length of a frame, `hover` the path of a mouse, `emit` a channel and a device. `compare` has the expected and the
+-- actual stream file, and how many microseconds and pixels they may differ by.
 pub data Command : Type 0 where
   replay : Recorded → Command
   race : Recorded → Command

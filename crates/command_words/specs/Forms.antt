@@ -5,14 +5,14 @@ use Rattle.command_words.specs.Given.{Given}
 use Rattle.command_words.specs.Options.{options_of, values_of}
 use Rattle.command_words.specs.Value.{number, only, path}
 
--- what the first says, and then what the second makes of it
+-- the first result, passed on to the second
 infixl 10 ◌>>=◌
 abbrev pub ◌>>=◌ : {A B : Type 0} → Option A → (A → Option B) → Option B
 None >>= f = None
 (Some x) >>= f = f x
 
--- What the options say: the value of the one option with a name. None where no option has it, or several have, and where it
--- may not be a value.
+-- What the options say: the value of the one option with a name. None if no option has the name, or several have, or
+-- if it cannot be a value.
 unfoldable pub value_of : List Given → List ℕ → Option (List ℕ)
 value_of options name = only (values_of options name)
 
@@ -79,7 +79,8 @@ emit_of value = do
 unfoldable pub judge_of : (List ℕ → Option (List ℕ)) → Option Command
 judge_of value = option_map judge (value (codes "--stream"))
 
--- `compare`, with the stream file that was wanted and the one that came, at most 1,000,000,000 microseconds, and at most 16,384 pixels
+-- `compare`, with the expected and the actual stream file, at most 1,000,000,000 microseconds, and at most 16,384
+-- pixels
 unfoldable pub compare_of : (List ℕ → Option (List ℕ)) → Option Command
 compare_of value = do
   want ← value (codes "--want")
@@ -96,7 +97,7 @@ inspect_of value = option_map inspect (recorded_of value)
 unfoldable pub why_of : (List ℕ → Option (List ℕ)) → Option Command
 why_of value = option_map why (recorded_of value)
 
--- the command for a person who looks into files, with a name, from how many options there are and what they say
+-- the command for inspecting files, with a name, from how many options there are and what they say
 unfoldable pub looking_with : List ℕ → ℕ → (List ℕ → Option (List ℕ)) → Option Command
 looking_with name count value =
     if bytes_eq name (codes "inspect") && count == 2 then inspect_of value
@@ -118,8 +119,8 @@ command_with name count value =
     else if bytes_eq name (codes "emit") && count == 3 then emit_of value
     else looking_with name count value
 
--- The command that words give. The first word names it, and the others spell options: as many as the command has, and each of
--- its own once, so no other one.
+-- The command that words give. The first word names it, and the others spell options: each of the command's own once,
+-- and no others.
 unfoldable pub form_of : List (List ℕ) → Option Command
 form_of [] = None
 form_of (name ∷ words) = options_of words >>= λ options. command_with name (length options) (value_of options)

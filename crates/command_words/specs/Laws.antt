@@ -1,4 +1,4 @@
--- What is proved of the words of a command.
+-- Proved facts about the words of a command.
 use Rattle.std.specs.Prelude.{◌≡◌, ℕ, false, List, ◌∷◌, ◌++◌, IsSome}
 use Rattle.std.specs.Str.{byte}
 use Rattle.command_words.specs.Forms.{form_of}

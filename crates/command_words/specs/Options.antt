@@ -4,7 +4,7 @@ use Rattle.std.specs.List.{filter, list_any, before_first, after_first}
 use Rattle.std.specs.Str.{byte}
 use Rattle.command_words.specs.Given.{Given}
 
--- the byte that parts an option in one word
+-- the byte that separates name and value in one word
 abbrev pub is_equals : ℕ → Bool
 is_equals b = b == byte "="
 
@@ -12,12 +12,12 @@ is_equals b = b == byte "="
 abbrev pub has_equals : List ℕ → Bool
 has_equals word = list_any is_equals word
 
--- an option in one word, which the first `=` parts
+-- an option in one word, split at the first `=`
 abbrev pub joined : List ℕ → Given
 joined word = record { name = before_first is_equals word; value = after_first is_equals word }
 
--- The options that words spell, in their order. A word with a `=` is an option by itself; any other word is the name of one,
--- whose value is the next word, whatever that is. None where no word is left to be the value.
+-- The options that words spell, in their order. A word with a `=` is an option by itself; any other word is the name
+-- of one, whose value is the next word, whatever that is. None if no word is left for the value.
 abbrev pub options_of : List (List ℕ) → Option (List Given)
 options_of [] = Some []
 options_of (word ∷ []) = if has_equals word then Some (joined word ∷ []) else None
@@ -25,7 +25,7 @@ options_of (word ∷ next ∷ words) =
     if has_equals word then option_map (λ more. joined word ∷ more) (options_of (next ∷ words))
     else option_map (λ more. record { name = word; value = next } ∷ more) (options_of words)
 
--- the options that words spell; none where they spell none
+-- the options that words spell; empty if they spell none
 abbrev pub given_in : List (List ℕ) → List Given
 given_in words = unwrap_or (options_of words) []
 

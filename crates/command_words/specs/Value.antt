@@ -1,4 +1,4 @@
--- What the value of an option has to be.
+-- What the value of an option must be.
 use Rattle.std.specs.Prelude.{ℕ, ◌==◌, nat_le, Bool, false, not, ◌&&◌, ◌||◌, if◌then◌else◌, List, [], ◌∷◌, length, Option, Some, None}
 use Rattle.std.specs.Char.{is_ascii_digit}
 use Rattle.std.specs.List.{list_all}
@@ -10,7 +10,7 @@ abbrev pub is_value : List ℕ → Bool
 is_value [] = false
 is_value (b ∷ bs) = not (b == byte "-")
 
--- the only value, where there is one and it may be one
+-- the only value, if there is exactly one and it is allowed
 abbrev pub only : List (List ℕ) → Option (List ℕ)
 only (value ∷ []) = if is_value value then Some value else None
 only _ = None
@@ -28,7 +28,7 @@ path value = if is_path value then Some value else None
 abbrev pub is_numeral : List ℕ → Bool
 is_numeral value = (nat_le 1 (length value) && nat_le (length value) 10) && list_all is_ascii_digit value
 
--- n, where it is in a range
+-- n, if it is in a range
 abbrev pub within : ℕ → ℕ → ℕ → Option ℕ
 within low high n = if nat_le low n && nat_le n high then Some n else None
 

@@ -44,7 +44,7 @@ pub enum Alone<'a> {
         seed: u32,
         packets: u32,
     },
-    /// Prints the batches that an application takes with each frame, which lasts 1 to 1,000,000,000.
+    /// Prints the batches that an application receives with each frame, which lasts 1 to 1,000,000,000.
     Batch {
         stream: &'a str,
         frame: u64,
@@ -54,7 +54,7 @@ pub enum Alone<'a> {
         recorded: Recorded<'a>,
         mouse: &'a str,
     },
-    /// Prints a recording that gives what a device did in the stream of a channel, which is 1 to 64.
+    /// Prints a recording that reproduces what a device did in the stream of a channel, 1 to 64.
     Emit {
         stream: &'a str,
         channel: u32,
@@ -64,17 +64,16 @@ pub enum Alone<'a> {
     Judge {
         stream: &'a str,
     },
-    /// Compares the streams that came with those that were wanted, up to 0 to 1,000,000,000 microseconds and 0 to
-    /// 16,384 pixels.
+    /// Compares actual with expected streams, within 0 to 1,000,000,000 microseconds and 0 to 16,384 pixels.
     Compare {
         want: &'a str,
         got: &'a str,
         us: u64,
         pixels: u32,
     },
-    /// Prints what a session and a recording hold.
+    /// Prints what a session and a recording contain.
     Inspect(Recorded<'a>),
-    /// Prints what each call of a run came to, and why.
+    /// Prints the result of each call of a run, and why.
     Why(Recorded<'a>),
 }
 
@@ -241,7 +240,7 @@ fn why_of<'a>(options: &Options<'a>) -> Option<Command<'a>>
     Some(Command::Alone(Alone::Why(recorded)))
 }
 
-/// The command for a person who looks into files, where the options are as many as it has and say what they are to.
+/// The command for inspecting files, if there are as many options as it has and each is valid.
 #[tactic(auto, unfolding(crate::specs::Forms::looking_with))]
 fn looking_with<'a>(name: &str, options: &Options<'a>) -> Option<Command<'a>>
     ensures value { option_map command_view result ≡ looking_with name.now (length options.now) (value_of options.now) }
@@ -256,7 +255,7 @@ fn looking_with<'a>(name: &str, options: &Options<'a>) -> Option<Command<'a>>
     }
 }
 
-/// The command with a name, where the options are as many as it has and say what they are to.
+/// The command with a name, if there are as many options as it has and each is valid.
 #[tactic(auto, unfolding(crate::specs::Forms::command_with))]
 fn command_with<'a>(name: &str, options: &Options<'a>) -> Option<Command<'a>>
     ensures value { option_map command_view result ≡ command_with name.now (length options.now) (value_of options.now) }
@@ -277,7 +276,7 @@ fn command_with<'a>(name: &str, options: &Options<'a>) -> Option<Command<'a>>
 
 /// The command that words give. The first names it, and the others are each of its options once, in any order, as
 /// `--name value` or `--name=value`, and nothing else. A value is not empty and does not begin with `-`, and a number
-/// has 1 to 10 decimal digits. None where the words are of the form of no command.
+/// has 1 to 10 decimal digits. None if the words do not have the form of any command.
 #[tactic(auto, unfolding(crate::specs::Forms::form_of))]
 pub fn command_of(words: &[String]) -> Option<Command<'_>>
     ensures value { option_map command_view result ≡ form_of (map string_bytes words.now) }

@@ -1,4 +1,4 @@
-//! What is proved of the words of a command. Each function has a law as its clause, and does nothing.
+//! Proved facts about the words of a command. Each function has a law as its clause, and does nothing.
 ghost use Rattle.command_words.specs.Laws.{OrderLaw, SpellingsLaw};
 
 /// An option in one word, as `--name=value`, says what it says in two.

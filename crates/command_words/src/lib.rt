@@ -1,14 +1,14 @@
 //! The words of a command: which command they give, and what its options say.
 //!
-//! The first word names the command, and the words behind it are each of its options once, in any order, in two words
-//! or in one:
+//! The first word names the command. The words after it are each of its options once, in any order, in two words or
+//! in one:
 //!
 //! ```text
 //! replay --session a.toml --events b.txt
 //! replay --events=b.txt --session=a.toml
 //! ```
 //!
-//! are the same command. What is given is lent from the words, and takes no memory.
+//! are the same command. The result borrows from the words, and allocates no memory.
 #![tactic(auto)]
 
 mod command;

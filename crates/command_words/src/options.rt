@@ -25,8 +25,8 @@ fn joined(word: &str) -> Option<Given<'_>>
     }
 }
 
-/// The option in front of words, and the words behind it. None where there are no words, or where the only one is a
-/// name without a value.
+/// The first option of some words, and the words after it. None if there are no words, or if the only one is a name
+/// without a value.
 fn first_of(words: &[String]) -> Option<(Given<'_>, &[String])>
     ensures some { IfSome result (λ r. options_of (map string_bytes words.now)
         ≡ option_map (λ more. given_view r.0 ∷ more) (options_of (map string_bytes r.1.now))) }
@@ -45,7 +45,7 @@ fn first_of(words: &[String]) -> Option<(Given<'_>, &[String])>
     }
 }
 
-/// The value of the first option with a name, and the words behind that option.
+/// The value of the first option with a name, and the words after that option.
 fn find<'a>(words: &'a [String], name: &str) -> Option<(&'a str, &'a [String])>
     requires { IsSome (options_of (map string_bytes words.now)) }
     ensures some { IfSome result (λ r. values_of (given_in (map string_bytes words.now)) name.now
@@ -82,7 +82,7 @@ impl<'a> Model for Options<'a> {
 }
 
 impl<'a> Options<'a> {
-    /// The options that words spell. None where the last word is a name without a value.
+    /// The options that words spell. None if the last word is a name without a value.
     pub(crate) fn of(words: &'a [String]) -> Option<Options<'a>>
         ensures { result ≡ options_of (map string_bytes words.now) }
     {
@@ -109,7 +109,7 @@ impl<'a> Options<'a> {
         count
     }
 
-    /// The value of the one option with a name. None where no option has it, or several have, and where it may not be a
+    /// The value of the one option with a name. None if no option has the name, or several have, or if it cannot be a
     /// value.
     #[tactic(auto, unfolding(crate::specs::Forms::value_of))]
     pub(crate) fn value(&self, name: &str) -> Option<&'a str>

@@ -1,9 +1,9 @@
-//! What the value of an option has to be.
+//! What the value of an option must be.
 ghost use Rattle.std.specs.Prelude.{◌≡◌, ◌==◌, ◌||◌, not};
 ghost use Rattle.std.specs.List.{list_all};
 ghost use Rattle.command_words.specs.Value.{is_path, is_value};
 
-/// Whether a text may be a value: it is not empty and does not begin with `-`.
+/// Whether a text can be a value: it is not empty and does not begin with `-`.
 pub(crate) fn is_value(text: &str) -> bool
     ensures { result ≡ is_value text.now }
 {

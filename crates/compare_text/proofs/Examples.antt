@@ -30,7 +30,7 @@ tap = motion 2000 Down 0 110 200 ∷ motion 5000 Up 0 112 200 ∷ []
 abbrev said : List Stream → List Stream → Result (List ℕ) CompareError
 said want got = compared 12 3 (sections_of want) (sections_of got)
 
--- each tolerance is met exactly, and moves are passed over
+-- each tolerance is met exactly, and moves are skipped
 within : said (stream 7 2 tap ∷ []) (stream 7 2 (motion 2012 Down 0 107 203 ∷ motion 3000 Move 0 1 1 ∷ motion 4000 Move 0 2 2 ∷ motion 4988 Up 0 112 200 ∷ []) ∷ [])
     ≡ Ok (codes "same 1 2\n")
 unfolding same_line digits
@@ -70,7 +70,7 @@ no_section = refl
 new_section : said (stream 7 2 tap ∷ []) (stream 7 2 tap ∷ stream 7 6 [] ∷ []) ≡ Err (NewSection 5)
 new_section = refl
 
--- a wanted section comes before what is new
+-- an expected section comes before what is new
 wanted_first : said (stream 7 2 tap ∷ []) (stream 8 2 tap ∷ []) ≡ Err (NoSection 1)
 wanted_first = refl
 

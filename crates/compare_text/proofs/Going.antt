@@ -1,4 +1,4 @@
--- One wanted section more.
+-- One more expected section.
 use Rattle.std.proofs.Common.{◌≡◌, ℕ, zero, suc, Bool, ◌+◌, ◌<◌, ◌&&◌, true, false, nat_lt, arith, List, [], ◌∷◌, length, map, drop, get_or, set, Option, Some, None, refl, sym, ap, ◌∙◌, add-one}
 use Rattle.std.proofs.lemmas.Bool.{ltb-true}
 use Rattle.std.proofs.Math.Seq.{drop-cons}
@@ -12,7 +12,7 @@ use Rattle.compare_text.specs.Pairing.{first_at, left_from}
 use Rattle.compare_text.specs.Points.{Section}
 use Rattle.compare_text.proofs.Paired.{picks}
 
--- the next one, and those behind it
+-- the next one, and those after it
 pub split : (xs : List Opened) (i : ℕ) (x : Opened) → i < length xs → x ≡ get_or xs i x → drop i xs ≡ x ∷ drop (i + 1) xs
 split xs i x h e = drop-cons xs i x h ∙ ap (λ y. y ∷ drop (suc i) xs) (sym e) ∙ ap (λ k. x ∷ drop k xs) (sym (add-one i))
 

@@ -1,4 +1,4 @@
--- Sections that are paired in the order of their places are paired as the definition says.
+-- Pairing sections in the order of their places is pairing as the definition says.
 use Rattle.std.proofs.Common.{◌≡◌, ◌≢◌, ℕ, zero, suc, Bool, ◌+◌, ◌<◌, ◌≤◌, ◌&&◌, true, false, if◌then◌else◌, List, [], ◌∷◌, length, get_or, set, replicate, Option, Some, None, ⊎_elim, refl, sym, ap, ◌∙◌, arith, nat_eq, nat_le, eq-eqb}
 use Rattle.std.proofs.lemmas.Bool.{cases_eq, le-leb, leb-true, ne_eqb}
 use Rattle.std.proofs.lemmas.Bool.Decides.{nat_tests}
@@ -65,7 +65,7 @@ and_false : (a : Bool) → (a && false) ≡ false
 and_false true = refl
 and_false false = refl
 
--- what is left behind a section that is found
+-- what is left after a section that is found
 abbrev Rest : List ℕ → ℕ → ℕ → List Section → ℕ × Section → Section × List Section
 Rest from id i ss r = (r.1, left_from i (set from id (r.0 + 1)) ss)
 

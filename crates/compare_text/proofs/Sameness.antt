@@ -1,4 +1,4 @@
--- What is the same is the same with itself, the other way round, and within more.
+-- Agreement is reflexive, symmetric, and kept by greater tolerances.
 use Rattle.std.proofs.Common.{◌≡◌, ℕ, Bool, ◌≤◌, ◌&&◌, not, true, false, if◌then◌else◌, List, [], ◌∷◌, Option, Some, None, refl, sym, ap, ◌∙◌, subst, arith, nat_eq, nat_le, eq-eqb, ℤ, pos, negsuc, zero, suc, ◌-ℤ◌, unsigned_abs}
 use Rattle.std.proofs.lemmas.Bool.{eqb-true, le-leb, leb-true}
 use Rattle.std.proofs.lemmas.Bool.Decides.{nat_tests}
@@ -30,7 +30,7 @@ joined a b h k = rw (h, k) refl
 same_number : (n : ℕ) → nat_eq n n ≡ true
 same_number n = eq-eqb n n refl
 
--- what is true within less is true within more
+-- what agrees within less agrees within more
 Within : Bool → Bool → Type 0
 Within a b = a ≡ true → b ≡ true
 
@@ -170,7 +170,7 @@ more_agree us more_us pixels more_pixels a b le pe =
 abbrev Found : Type 0
 Found = Section × List Section
 
--- where two points agree there is no difference here
+-- if two points agree, there is no difference here
 agreed : (b : Bool) (rest : Option CompareError) (w g : ℕ) → (if b then rest else Some (Differs w g)) ≡ None → (b ≡ true) × (rest ≡ None)
 agreed true rest w g h = (refl, h)
 agreed false rest w g h = absurd (cc)

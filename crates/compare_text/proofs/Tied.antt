@@ -133,7 +133,7 @@ starts_bad bytes r is line same = rw (is, same) refl
 
 -- ---- one line more
 
--- the line that a reader answered
+-- the line that a reader returned
 pub one_read : (old new : Unread) (o : Option Event) (e : Event) → o ≡ Some e → Goes old (Ok o) new → (old.events ≡ with_event e new.events) × (new.left < old.left)
 one_read old new o e is goes = rw is at goes
 
@@ -215,7 +215,7 @@ pub id_said : (o : Option Event) (n : ℕ) (says : StreamLine) (id : ℕ) → o 
 id_said o n says id is can h =
     let there : IfSome (event n says) (λ e. CanSay e.1) = subst (λ (x : Option Event). IfSome x (λ e. CanSay e.1)) is can in said says id h there
 
--- behind the last line
+-- after the last line
 pub ends : (bytes : List ℕ) (opened : List Opened) (points : ℕ) → Counted bytes opened points []
     → ((are_opened opened ≡ true) × (points ≡ points_in (map seen opened))) × (file_sections bytes ≡ Ok (map seen opened))
 ends bytes opened points h =

@@ -1,4 +1,4 @@
--- When a point that came agrees with the one that was wanted.
+-- When an actual point agrees with the expected one.
 use Rattle.std.specs.Prelude.{ℕ, ◌&&◌, not, nat_eq, nat_le, ℤ, ◌-ℤ◌, unsigned_abs, Bool, true, false, List, [], ◌∷◌}
 use Rattle.std.specs.Int.{abs_diff}
 use Rattle.input_types.specs.declared.axis.Pixel.{Pixel}
@@ -44,13 +44,13 @@ same_key a b =
     && (nat_eq a.key.code b.key.code
     && (nat_eq a.key.meta b.key.meta && (not (differ a.key.down b.key.down) && (nat_eq a.flags b.flags && nat_eq a.repeat b.repeat)))))
 
--- two messages say the same
+-- two messages have the same body
 abbrev pub same_body : ℕ → Body → Body → Bool
 same_body pixels (MotionBody a) (MotionBody b) = same_motion pixels a b
 same_body pixels (Key a) (Key b) = same_key a b
 same_body pixels (Focus a) (Focus b) = not (differ a b)
 same_body pixels _ _ = false
 
--- two points agree: they say the same at moments that are near
+-- two points agree: they have the same body at moments that are near
 abbrev pub agree : ℕ → ℕ → Message → Message → Bool
 agree us pixels a b = near us a.moment b.moment && same_body pixels a.body b.body

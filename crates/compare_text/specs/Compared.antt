@@ -1,4 +1,4 @@
--- What `compare` says of the sections of two stream files.
+-- What `compare` says about the sections of two stream files.
 use Rattle.std.specs.Prelude.{codes, ◌≡◌, ℕ, ◌+◌, nat_eq, if◌then◌else◌, List, [], ◌∷◌, ◌++◌, length, Option, Some, None, Result, Ok, Err}
 use Rattle.std.specs.Fmt.{decimal}
 use Rattle.std.specs.Option.{option_map, option_or}
@@ -8,8 +8,8 @@ use Rattle.compare_text.specs.declared.error.CompareError.TheVariants.{Differs, 
 use Rattle.compare_text.specs.Agreement.{agree}
 use Rattle.compare_text.specs.Points.{Section}
 
--- The first difference of points that are paired in order, those that were wanted and those that came: two that do not agree, or one
--- without a partner where the other section has ended.
+-- The first difference of expected and actual points, paired in order: two that do not agree, or one without a
+-- partner because the other section has ended.
 abbrev pub first_difference : ℕ → ℕ → List (ℕ × Message) → List (ℕ × Message) → Option CompareError
 first_difference us pixels [] [] = None
 first_difference us pixels (w ∷ ws) [] = Some (Missing w.0)
@@ -21,17 +21,18 @@ abbrev pub take_first : ℕ → List Section → Option (Section × List Section
 take_first id [] = None
 take_first id (s ∷ ss) = if nat_eq s.id id then Some (s, ss) else option_map (λ r. (r.0, s ∷ r.1)) (take_first id ss)
 
--- sections that came and that no wanted one is paired with
+-- actual sections with which no expected one is paired
 abbrev pub first_new : List Section → Option CompareError
 first_new [] = None
 first_new (g ∷ gs) = Some (NewSection g.line)
 
--- a wanted section has no partner, or the difference from its partner, or else what is found with the others
+-- an expected section without a partner, or its difference from its partner, or else the first fault of the others
 abbrev pub against : ℕ → ℕ → Section → Option (Section × List Section) → (List Section → Option CompareError) → Option CompareError
 against us pixels w None rest = Some (NoSection w.line)
 against us pixels w (Some found) rest = option_or (first_difference us pixels w.points found.0.points) (rest found.1)
 
--- The first fault: each wanted section in order is paired with the first section of its channel that came and is not paired yet.
+-- The first fault: each expected section, in order, is paired with the first actual section of its channel that is
+-- not paired yet.
 abbrev pub fault_of : ℕ → ℕ → List Section → List Section → Option CompareError
 fault_of us pixels [] got = first_new got
 fault_of us pixels (w ∷ ws) got = against us pixels w (take_first w.id got) (λ others. fault_of us pixels ws others)
@@ -41,16 +42,16 @@ abbrev pub points_in : List Section → ℕ
 points_in [] = 0
 points_in (s ∷ ss) = length s.points + points_in ss
 
--- the line that says that all agree: how many pairs of sections there are, and how many pairs of points
+-- the line that says that everything agrees: how many pairs of sections and of points there are
 unfoldable pub same_line : ℕ → ℕ → List ℕ
 same_line sections points = codes "same " ++ (decimal sections ++ (codes " " ++ (decimal points ++ codes "\n")))
 
--- what is answered
+-- the answer
 abbrev pub answer : Option CompareError → ℕ → ℕ → Result (List ℕ) CompareError
 answer None sections points = Ok (same_line sections points)
 answer (Some fault) sections points = Err fault
 
--- what is said of sections that were wanted and of those that came
+-- the result for expected and actual sections
 abbrev pub compared : ℕ → ℕ → List Section → List Section → Result (List ℕ) CompareError
 compared us pixels want got = answer (fault_of us pixels want got) (length want) (points_in want)
 

@@ -10,22 +10,22 @@ use Rattle.stream_text.specs.StreamFile.{Event, Stream, events_of, streams_in}
 use Rattle.compare_text.specs.declared.section.Opened.{Opened}
 use Rattle.compare_text.specs.Points.{Section, is_point, sections_of}
 
--- a line in front of points: one more where it is a point, and none behind it where it is no message
+-- a line in front of points: one more if it is a point, and none after it if it is no message
 abbrev pub with_point : ℕ → StreamLine → List (ℕ × Told) → List (ℕ × Told)
 with_point line (Message m) points = if is_point m.body then (line, m) ∷ points else points
 with_point line _ points = []
 
--- the points of an open section, from the lines that are left
+-- the points of an open section, from the remaining lines
 abbrev pub points_left : List Event → List (ℕ × Told)
 points_left [] = []
 points_left (e ∷ es) = with_point e.0 e.1 (points_left es)
 
--- the same, where none of the lines is bad
+-- the same, if none of the lines is bad
 abbrev pub points_at : Result (List Event) ℕ → List (ℕ × Told)
 points_at (Ok es) = points_left es
 points_at (Err bad) = []
 
--- no line that is left is bad
+-- no remaining line is bad
 abbrev pub is_good : Result (List Event) ℕ → Bool
 is_good (Ok es) = true
 is_good (Err bad) = false
@@ -39,7 +39,7 @@ abbrev pub point_at : StreamLine → ℕ
 point_at (Message m) = if is_point m.body then 1 else 0
 point_at _ = 0
 
--- a section may be compared: no line behind it is bad, and its channel is one of 64
+-- a section may be compared: no line after it is bad, and its channel is one of 64
 abbrev pub is_opened : Opened → Bool
 is_opened s = is_good s.lines.events && nat_lt s.id 65
 
@@ -66,7 +66,7 @@ sections_in (Err bad) = Err bad
 abbrev pub file_sections : List ℕ → Result (List Section) ℕ
 file_sections bytes = sections_in (streams_in (events_of bytes))
 
--- What a reader answers is the sections of a file, or its first bad line, unless memory ran out.
+-- A reader returns the sections of a file, or its first bad line, unless memory ran out.
 abbrev pub Reads : Result (List Section) ℕ → StreamError → Type 0
 Reads said (BadLine line) = said ≡ Err line
 Reads said Memory = Unit {0}

@@ -1,4 +1,5 @@
--- The points of a section: its messages without the moves that are not canceled. A moved place shows at the next message that lists it.
+-- The points of a section: its messages without the moves that are not canceled. The next message that lists a
+-- pointer shows where it moved.
 use Rattle.std.specs.Prelude.{ℕ, ◌+◌, ◌-◌, ◌&&◌, not, nat_eq, Bool, true, false, if◌then◌else◌, List, [], ◌∷◌, map}
 use Rattle.input_types.specs.declared.message.Body.{Body}
 use Rattle.input_types.specs.declared.message.Body.TheVariants.{Motion as MotionBody, Key, Focus}
@@ -35,7 +36,7 @@ pub record Section : Type 0 where
   pub line : ℕ
   pub points : List (ℕ × Message)
 
--- a section of a file, whose first message stands behind its first line
+-- a section of a file, whose first message follows its first line
 abbrev pub section_of : Stream → Section
 section_of s = record { id = s.id; line = s.first_line - 1; points = points_from s.first_line s.messages }
 

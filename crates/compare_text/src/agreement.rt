@@ -4,7 +4,7 @@ ghost use Rattle.compare_text.specs.Agreement.{agree, close_by, near, same_body,
 
 use input_types::{Body, KeyMsg, Message, Moment, Motion, Pixel, Pointer};
 
-/// How far points may be apart and still agree.
+/// The tolerances within which points agree.
 #[derive(Clone, Copy, Debug, PartialEq, Eq)]
 pub struct Tolerance {
     /// Microseconds.
@@ -68,7 +68,7 @@ fn same_key(a: &KeyMsg, b: &KeyMsg) -> bool
         && a.repeat == b.repeat
 }
 
-/// Whether two messages say the same.
+/// Whether two messages have the same body.
 fn same_body(pixels: u32, a: &Body, b: &Body) -> bool
     ensures { result ≡ same_body pixels a.now b.now }
 {

@@ -37,7 +37,7 @@ fn difference(tolerance: Tolerance, want: &Opened<'_>, got: &Opened<'_>) -> Opti
     }
 }
 
-/// The first section of a channel at or behind a place, and its own place.
+/// The first section of a channel at or after an index, and its own index.
 fn find<'s, 'a>(sections: &'s [Opened<'a>], from: usize, id: u32) -> Option<(usize, &'s Opened<'a>)>
     requires { are_opened sections.now ≡ true }
     ensures place { IfSome result (λ r. r.0 < length sections.now) }
@@ -65,7 +65,7 @@ fn unpaired(sections: &[Opened<'_>], from: &[usize; 65]) -> Option<CompareError>
     None
 }
 
-/// The first fault of wanted sections and of those that came.
+/// The first fault of expected and actual sections.
 fn fault(tolerance: Tolerance, want: &[Opened<'_>], got: &[Opened<'_>]) -> Option<CompareError>
     requires want { are_opened want.now ≡ true }
     requires got { are_opened got.now ≡ true }
@@ -85,7 +85,7 @@ fn fault(tolerance: Tolerance, want: &[Opened<'_>], got: &[Opened<'_>]) -> Optio
     unpaired(got, &from)
 }
 
-/// The line that says that all agree.
+/// The line that says that everything agrees.
 #[tactic(auto, unfolding(crate::specs::Compared::same_line))]
 fn same(alloc: Global, sections: usize, points: u64) -> Result<Vec<u8>, AllocError>
     ensures { IfOk result (λ text. text.items ≡ same_line sections points) }
@@ -96,7 +96,7 @@ fn same(alloc: Global, sections: usize, points: u64) -> Result<Vec<u8>, AllocErr
 
 /// The text for the sections of two stream files that agree: how many pairs of sections and of points there are.
 ///
-/// Each wanted section in order is paired with the first section of its channel that came and is not paired yet.
+/// Each expected section, in order, is paired with the first actual section of its channel that is not paired yet.
 pub fn compare_text(
     alloc: Global,
     want: &Sections<'_>,

@@ -1,17 +1,17 @@
-//! What is proved of comparing. Each function has a law as its clause, and does nothing.
+//! Proved facts about comparing. Each function has a law as its clause, and does nothing.
 ghost use Rattle.compare_text.specs.Laws.{MonotoneLaw, ReflexiveLaw, SymmetricLaw};
 
-/// Sections are the same as themselves.
+/// Sections agree with themselves.
 pub fn reflexive()
     ensures { ReflexiveLaw }
 {}
 
-/// Being the same does not depend on which of two files was wanted.
+/// Agreement does not depend on which of two files is the expected one.
 pub fn symmetric()
     ensures { SymmetricLaw }
 {}
 
-/// What is the same within less is the same within more.
+/// What agrees within less agrees within more.
 pub fn monotone()
     ensures { MonotoneLaw }
 {}

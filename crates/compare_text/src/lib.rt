@@ -1,8 +1,8 @@
-//! Whether a stream file that came agrees with one that was wanted, up to a time and a place.
+//! Whether an actual stream file agrees with an expected one, within tolerances of time and position.
 //!
-//! What a window is sent at an end, at a key or at a change of the focus is a point; a move that is not canceled is
-//! none, since its place shows at the next message that lists it. So a device that merges moves agrees with one that
-//! does not. With 20 microseconds and 3 pixels, the stream
+//! Every message is a point except a move that is not canceled, since the next message that lists its pointers shows
+//! where they moved. So a device that merges moves agrees with one that does not. With 20 microseconds and 3 pixels,
+//! the stream
 //!
 //! ```text
 //! channel 1 main
@@ -21,9 +21,9 @@
 //! end 1 sent 2 received 0 finished 0
 //! ```
 //!
-//! and the text is `same 1 2`: one pair of sections and two pairs of points. Sections are paired by their channels, the
-//! first of a channel with the first, the second with the second. No message is kept: `Sections` has a reader for each
-//! section, and two readers go on in step.
+//! and the text is `same 1 2`: one pair of sections and two pairs of points. Sections are paired by their channels,
+//! the first of a channel with the first, the second with the second. No message is kept: `Sections` has a reader for
+//! each section, and two readers advance in step.
 #![tactic(auto)]
 
 mod agreement;

@@ -6,7 +6,7 @@ ghost use Rattle.compare_text.specs.Points.{is_point};
 use input_types::{Body, FLAG_CANCELED, Message, MotionAction};
 use stream_text::{StreamLine, StreamLines};
 
-/// Whether a message is a point: all but the moves that are not canceled.
+/// Whether a message is a point: anything but a move that is not canceled.
 pub(crate) fn is_point(body: &Body) -> bool
     ensures { result ≡ is_point body.now }
 {

@@ -54,8 +54,8 @@ fn point_at(says: &StreamLine) -> u64
 }
 
 impl<'a> Sections<'a> {
-    /// The sections of a stream file's bytes. The refusal is that of the first line that has not its form, does not
-    /// fit there, or is missing.
+    /// The sections of a stream file's bytes. The refusal is that of the first line that is malformed, does not fit
+    /// at its place, or is missing.
     pub fn read(alloc: Global, bytes: &'a [u8]) -> Result<Sections<'a>, StreamError>
         ensures ok { IfOk result (λ sections. file_sections bytes.now ≡ Ok sections) }
         ensures err { IfErr result (Reads (file_sections bytes.now)) }

@@ -1,4 +1,4 @@
--- Worked examples: what windows are told of a mouse that is written out. Calls and events stand with the newest first.
+-- Worked examples: what windows are sent for a mouse. Calls and events are newest first.
 use Rattle.std.specs.Prelude.{◌≡◌, ℕ, ℤ, pos, negsuc, true, List, [], ◌∷◌, Some, None, refl}
 use Rattle.touch_region.specs.declared.rectangle.Rect.{Rect}
 use Rattle.raw_events.specs.declared.event.RawEvent.{RawEvent}
@@ -31,7 +31,7 @@ left = window 1 0 0 540 2400
 abbrev right : Window
 right = window 2 540 0 1080 2400
 
--- 40 to the left, 100 to the right, 5000 up, and then `right` is not shown any more
+-- 40 to the left, 100 to the right, 5000 up, and then `right` is no longer shown
 abbrev walk : List CursorCall
 walk =
     Windows 4000 (left ∷ [])
@@ -77,7 +77,7 @@ dialog_comes_and_goes = refl
 pub app_is_left_and_entered : stream phone passing 2 ≡ send 1000 Enter 540 1200 ∷ send 2000 Exit 540 1200 ∷ send 3000 Enter 540 1200 ∷ []
 app_is_left_and_entered = refl
 
--- a window that is moved away is told where the cursor was, from its new corner
+-- a window that is moved away is sent where the cursor was, relative to its new corner
 pub window_is_moved_away :
     stream phone (Windows 2000 (window 1 600 0 1080 2400 ∷ []) ∷ Moved 1000 (pos 0) (pos 0) ∷ Windows 0 (dialog ∷ []) ∷ []) 1
     ≡ send 1000 Enter 500 1000 ∷ record { moment = 2000; action = Exit; at = record { x = negsuc 59; y = pos 1200 } } ∷ []
@@ -116,18 +116,19 @@ button_moves_nothing = refl
 pub drop_moves_nothing : motion_of (event 2 0 (pos 1) ∷ event 0 3 (pos 0) ∷ event 2 0 (pos 1) ∷ []) (event 0 0 (pos 0)) ≡ None
 drop_moves_nothing = refl
 
--- a packet counts at the moment of its SYN_REPORT, and at that of a packet before it where that is greater, be it one that moves nothing
+-- a packet counts at the moment of its SYN_REPORT, or at that of an earlier packet if that is later, even one that
+-- moves nothing
 abbrev report : ℕ → RawEvent
 report moment = record { device = 1; moment = moment; kind = 0; code = 0; value = pos 0 }
 
 pub late_packet : motion_of (event 2 0 (pos 7) ∷ report 9000 ∷ []) (report 6000) ≡ Some (Moved 9000 (pos 7) (pos 0))
 late_packet = refl
 
--- the SYN_REPORT that ends what is void ends no packet
+-- the SYN_REPORT that ends void events does not end a packet
 pub void_end : latest (report 9000 ∷ event 0 3 (pos 0) ∷ report 4000 ∷ []) ≡ 4000
 void_end = refl
 
--- sums stay at their ends
+-- sums saturate
 pub sum_at_its_end : summed 0 (event 2 0 (pos 1)) (pos 9223372036854775807) ≡ pos 9223372036854775807
 sum_at_its_end = refl
 

@@ -56,12 +56,12 @@ next_noted d call calls s left met a lefts mets w =
     λ e. a.live_is w ∙ hovered_live (has_moved (call ∷ calls)) (windows (call ∷ calls)) (live d.channels (call ∷ calls)) (cursor d (call ∷ calls)) w (ap (λ o. is_at o w) (sym a.after_is) ∙ e) in
     notes_are s left met (origin (call ∷ calls)) w lefts mets alive ∙ step_sent d call calls s w a
 
--- a stream with more messages, where there is one
+-- a stream with more messages, if there is one
 more_of : (b : Bool) (s ms : List HoverMsg) → cond b (Some (s ++ ms)) None ≡ option_map (λ x. x ++ ms) (cond b (Some s) None)
 more_of true s ms = refl
 more_of false s ms = refl
 
--- the row of a channel keeps what a call tells it
+-- the row of a channel keeps what a call sends it
 more_kept : (d : Screen) (call : CursorCall) (calls : List CursorCall) (rows : List Row) (f : ℕ → List HoverMsg) (c : ℕ) → f c ≡ told d call calls c
     → HasRow (stream_of d calls c) (row_of rows c) → HasRow (stream_of d (call ∷ calls) c) (row_of (rows_with f 1 rows) c)
 more_kept d call calls rows f c is h =
@@ -185,7 +185,7 @@ removed d calls k new now channel s left met h moment moved_is from to alive bef
     (next d (Remove now channel) calls k s left met k.windows h moment moved_is from to alive before refl after
     (λ u e. left_is ∙ ap (corner_in k.windows) e) met_is)
 
--- a cursor whose channel was let go
+-- a cursor whose channel was released
 pub released : (d : Screen) (calls : List CursorCall) (k : Kept) (channel : ℕ) → CursorStandsFor d calls k
     → CursorStandsFor d calls (record k { streams = rows_gone channel k.streams })
 released d calls k channel h = record {
@@ -199,7 +199,7 @@ released d calls k channel h = record {
   streams_are = λ c. gone_goes channel c (stream_of d calls c) k.streams (h.streams_are c);
 }
 
--- all that the channel was sent is gone
+-- everything that the channel was sent is gone
 pub all_gone : (d : Screen) (calls : List CursorCall) (k : Kept) (channel : ℕ) → CursorStandsFor d calls k → 1 ≤ channel → channel ≤ d.channels
     → gone_in (row_of (rows_gone channel k.streams) channel) ≡ length (stream d calls channel)
 all_gone d calls k channel h low high =

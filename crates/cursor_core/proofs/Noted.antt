@@ -1,4 +1,4 @@
--- What two notes tell each window is what the step does to it.
+-- What two notes send to each window is what the step sends to it.
 use Rattle.std.proofs.Common.{◌≡◌, ℕ, Bool, true, false, cond, ◌==◌, List, [], ◌∷◌, ◌++◌, Option, Some, None, refl, sym, ◌∙◌, ap, ap₂, inl, inr}
 use Rattle.std.specs.Prelude.{option_map}
 use Rattle.std.specs.Option.{option_to_list, option_and_then}
@@ -13,7 +13,7 @@ use Rattle.cursor_core.specs.declared.note.Step.{Step}
 use Rattle.cursor_core.specs.Notes.{note_at, note_of, note_to, note_before, note_after, note_list, noted, place_of}
 use Rattle.cursor_core.specs.Told.{change, is_at, message}
 
--- the messages of an action that may be none
+-- the messages of an optional action
 abbrev said : Step → Pixel → Option HoverAction → List HoverMsg
 said s o action = option_to_list (option_map (λ a. message s.moment a (place_of s a) o) action)
 
@@ -81,7 +81,7 @@ join s o true is moved live h = append-nil _
 join s o false true moved live h = rw (h refl) refl
 join s o false false moved live h = sym (silent live)
 
--- what the notes of a step tell a window, where the corners are those of the windows hovered before it and after it
+-- what the notes of a step send to a window, if the corners are those of the windows hovered before and after it
 pub notes_are : (s : Step) (left met : Pixel) (org : ℕ → Pixel) (w : ℕ)
     → ((u : ℕ) → s.before ≡ Some u → left ≡ org u)
     → ((v : ℕ) → s.after ≡ Some v → met ≡ org v)

@@ -41,7 +41,7 @@ set_sent (row ∷ rows) (suc i) w x m within is =
     ap₂ (λ (r : Row) (rs : List Row). r ∷ rs) (rw other (sym (still row)))
     (set_sent rows i (suc w) x m (omega (arith, within)) is ∙ ap (λ c. rows_with (to c m) (suc w) rows) next)
 
--- a message to a channel, put behind what it was sent
+-- a message to a channel, appended to what it was sent
 pub pushed : (rows : List Row) (c i : ℕ) (x : Row) (m : HoverMsg) → c ≡ 1 + i → i < length rows → x ≡ get_or rows i x
     → slice_set rows i (row_with (m ∷ []) x) ≡ rows_with (note_list (Some (record { channel = c; message = m }))) 1 rows
 pushed rows c i x m at within is = set_sent rows i 1 x m within is ∙ ap (λ d. rows_with (to d m) 1 rows) (sym at)
@@ -103,7 +103,7 @@ nothing_back old rows c m out told =
     let long : length old ≡ length rows = ap (λ rs. length rs) told ∙ rows_stay (to c m) 1 rows in
     told ∙ untouched c 1 m rows (elim out [ inl low ↦ inl low | inr high ↦ inr (omega (arith, high, long)) ])
 
--- told twice
+-- sent twice
 pub sent_twice : (f g : ℕ → List HoverMsg) (w : ℕ) (rows : List Row) → rows_with g w (rows_with f w rows) ≡ rows_with (λ v. f v ++ g v) w rows
 sent_twice f g w [] = refl
 sent_twice f g w (row ∷ rows) = ap₂ (λ (r : Row) (rs : List Row). r ∷ rs) (ap (with_left row) (append_assoc row.left (f w) (g w))) (sent_twice f g (suc w) rows)
@@ -128,7 +128,7 @@ sent_stays : (ms : List HoverMsg) (r : Option Row) → gone_in (option_map (row_
 sent_stays ms None = refl
 sent_stays ms (Some r) = refl
 
--- nothing of it is let go
+-- nothing of it is released
 pub none_gone : (f : ℕ → List HoverMsg) (rows : List Row) (c : ℕ) → gone_in (row_of (rows_with f 1 rows) c) ≡ gone_in (row_of rows c)
 none_gone f rows c = ap gone_in (row_sent f rows c) ∙ sent_stays (f c) (row_of rows c)
 
@@ -170,7 +170,7 @@ gone_there zero (suc j) (row ∷ rows) ne = refl
 gone_there (suc i) zero (row ∷ rows) ne = refl
 gone_there (suc i) (suc j) (row ∷ rows) ne = gone_there i j rows (λ e. ne (ap suc e))
 
--- the row of a channel that was let go
+-- the row of a channel that was released
 pub gone_of : (c : ℕ) (rows : List Row) → row_of (rows_gone c rows) c ≡ option_map row_gone (row_of rows c)
 gone_of zero rows = refl
 gone_of (suc i) rows = gone_here i rows
@@ -190,7 +190,7 @@ keeps_gone None (Some r) h = absurd h
 keeps_gone (Some s) None h = absurd h
 keeps_gone (Some s) (Some r) h = gone_keeps s r h
 
--- each row keeps its stream when one is let go
+-- each row keeps its stream when one is released
 pub gone_goes : (c e : ℕ) (s : Option (List HoverMsg)) (rows : List Row) → HasRow s (row_of rows e) → HasRow s (row_of (rows_gone c rows) e)
 gone_goes c e s rows h = by_channel (e == c) refl
   where
@@ -201,7 +201,7 @@ gone_goes c e s rows h = by_channel (e == c) refl
         (subst (HasRow s) (sym (gone_of e rows)) (keeps_gone s (row_of rows e) h))
     by_channel false there = subst (HasRow s) (sym (others_stay c e rows there)) h
 
--- a stream that is let go is gone
+-- a stream that is released is gone
 pub gone_is : (s : List HoverMsg) (r : Option Row) → HasRow (Some s) r → gone_in (option_map row_gone r) ≡ length s
 gone_is s None h = absurd h
 gone_is s (Some r) h = all_gone s r h
@@ -211,7 +211,7 @@ set_gone [] i x within is = absurd (omega (arith, within))
 set_gone (row ∷ rows) zero x within is = ap (λ r. row_gone r ∷ rows) is
 set_gone (row ∷ rows) (suc i) x within is = ap (λ rs. row ∷ rs) (set_gone rows i x (omega (arith, within)) is)
 
--- the row of a channel, let go
+-- the row of a channel, released
 pub released : (rows : List Row) (c i : ℕ) (x : Row) → c ≡ 1 + i → i < length rows → x ≡ get_or rows i x → slice_set rows i (row_gone x) ≡ rows_gone c rows
 released rows c i x at within is =
     let same : suc i ≡ c = omega (arith, at) in

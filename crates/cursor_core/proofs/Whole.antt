@@ -1,4 +1,4 @@
--- The sums of a packet do not come to an end of 64 bits.
+-- The sums of a packet do not saturate.
 use Rattle.std.proofs.Common.{◌≡◌, ℕ, suc, ◌*◌, ◌^◌, ◌-◌, ◌≤◌, ◌<◌, Bool, true, false, ◌||◌, if◌then◌else◌, List, [], ◌∷◌, ◌++◌, length, reverse, refl, sym, ap, subst, ◌∙◌, arith}
 use Rattle.std.specs.Prelude.{ℤ, pos, negsuc, ◌+ℤ◌, ◌≤ℤ◌, min}
 use Rattle.std.specs.Int.{saturate_signed, w64}
@@ -62,7 +62,7 @@ reverse_fits : (es : List RawEvent) → AreI32 es → AreI32 (reverse es)
 reverse_fits [] h = tt
 reverse_fits (e ∷ es) h = subst AreI32 (sym (reverse-append (e ∷ []) es)) (both_fit (reverse es) (e ∷ []) (reverse_fits es h.1) (h.0, tt))
 
--- behind so few events the packet that has begun has its sums
+-- after so few events the packet that has begun has its exact sums
 pub sums_whole : (es : List RawEvent) (code : ℕ) → AreI32 es → length es < 4294967296 → sum_of code (packet (reverse es)) ≡ total_of code (packet (reverse es))
 sums_whole es code fit few =
     let part = packet_part (reverse es) (reverse_fits es fit) in

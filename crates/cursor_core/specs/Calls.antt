@@ -1,4 +1,4 @@
--- What the calls of a cursor say. Lists of calls stand with the newest first; what is before a call is the tail.
+-- What the calls of a cursor mean. Lists of calls are newest first; the tail is what came before a call.
 use Rattle.std.specs.Prelude.{ℕ, ℤ, pos, ◌+ℤ◌, ◌-◌, ◌/◌, max, nat_le, nat_lt, Bool, true, false, not, ◌==◌, ◌&&◌, ◌||◌, if◌then◌else◌, List, [], ◌∷◌, Option, None}
 use Rattle.std.specs.Int.{int_max, int_min}
 use Rattle.input_types.specs.declared.axis.Pixel.{Pixel}
@@ -9,19 +9,20 @@ use Rattle.cursor_core.specs.declared.call.CursorCall.{CursorCall}
 use Rattle.cursor_core.specs.declared.call.CursorCall.TheVariants.{Moved, Windows, Remove}
 use Rattle.window_snapshot.specs.Origins.{corner, or_origin}
 
--- where a cursor is used: the extents of display 0 as it is turned, and how many channels are live at first, with the numbers from 1 on
+-- the setting of a cursor: the extents of display 0 as it is turned, and how many channels, numbered from 1, are live
+-- at first
 pub record Screen : Type 0 where
   pub width : ℕ
   pub height : ℕ
   pub channels : ℕ
 
--- the moment that a call hands in
+-- the moment of a call
 abbrev pub moment_of : CursorCall → ℕ
 moment_of (Moved now dx dy) = now
 moment_of (Windows now snapshot) = now
 moment_of (Remove now channel) = now
 
--- the clock: the greatest moment that any call handed in, 0 at first
+-- the clock: the latest moment of any call, 0 at first
 abbrev pub clock : List CursorCall → ℕ
 clock [] = 0
 clock (call ∷ calls) = max (moment_of call) (clock calls)
@@ -37,7 +38,7 @@ abbrev pub has_moved : List CursorCall → Bool
 has_moved [] = false
 has_moved (call ∷ calls) = is_motion call || has_moved calls
 
--- a place on an axis, kept to the pixels of an extent
+-- a position on an axis, clamped to the pixels of an extent
 abbrev pub kept_on : ℕ → ℤ → ℤ
 kept_on extent z = int_max (pos 0) (int_min z (pos (extent - 1)))
 
@@ -52,7 +53,7 @@ abbrev pub cursor : Screen → List CursorCall → Pixel
 cursor d [] = record { x = pos (d.width / 2); y = pos (d.height / 2) }
 cursor d (call ∷ calls) = cursor_after d call (cursor d calls)
 
--- a new snapshot takes the place of the last one
+-- a new snapshot replaces the last one
 abbrev pub windows_after : CursorCall → List Window → List Window
 windows_after (Moved now dx dy) before = before
 windows_after (Windows now snapshot) before = snapshot
@@ -63,7 +64,7 @@ abbrev pub windows : List CursorCall → List Window
 windows [] = []
 windows (call ∷ calls) = windows_after call (windows calls)
 
--- a channel that is removed is not live any more
+-- a channel that is removed is no longer live
 abbrev pub live_after : CursorCall → ℕ → Bool → Bool
 live_after (Moved now dx dy) c before = before
 live_after (Windows now snapshot) c before = before
@@ -74,18 +75,18 @@ abbrev pub live : ℕ → List CursorCall → ℕ → Bool
 live n [] c = nat_lt 0 c && nat_le c n
 live n (call ∷ calls) c = live_after call c (live n calls c)
 
--- a snapshot that names a window says its origin
+-- a snapshot that contains a window gives its origin
 abbrev pub origin_after : CursorCall → ℕ → Pixel → Pixel
 origin_after (Moved now dx dy) w before = before
 origin_after (Windows now snapshot) w before = or_origin (origin_of snapshot w) before
 origin_after (Remove now channel) w before = before
 
--- the origin of a window: the corner of its frame in the last snapshot that named it
+-- the origin of a window: the corner of its frame in the last snapshot that contained it
 abbrev pub origin : List CursorCall → ℕ → Pixel
 origin [] w = corner
 origin (call ∷ calls) w = origin_after call w (origin calls w)
 
--- the origin that these windows say, or else the corner of the display
+-- the origin that these windows give, or else the corner of the display
 abbrev pub corner_of : List Window → ℕ → Pixel
 corner_of ws w = or_origin (origin_of ws w) corner
 

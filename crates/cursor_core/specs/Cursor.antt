@@ -1,4 +1,4 @@
--- A cursor after a list of calls, the newest first.
+-- A cursor after a list of calls, newest first.
 use Rattle.std.specs.Prelude.{◌≡◌, ℕ, pos, ◌-◌, ◌||◌, List, Option, Some, None}
 use Rattle.input_types.specs.declared.axis.Pixel.{Pixel}
 use Rattle.window_snapshot.specs.declared.window.Window.{Window}
@@ -13,7 +13,8 @@ use Rattle.cursor_core.specs.Notes.{note_after, note_before, noted}
 use Rattle.cursor_core.specs.Rows.{HasRow, rows_with}
 use Rattle.cursor_core.specs.Told.{stream_of}
 
--- a cursor stands for these calls: it knows what they say, and keeps of each channel what they tell it, but for what was let go
+-- a cursor stands for these calls: it knows what they say, and keeps what they send to each channel, except what was
+-- released
 pub record CursorStandsFor (d : Screen) (calls : List CursorCall) (k : Kept) : Type 0 where
   pub last_is : k.last ≡ record { x = pos (d.width - 1); y = pos (d.height - 1) }
   pub at_is : k.at ≡ cursor d calls
@@ -29,12 +30,12 @@ abbrev pub corner_in : List Window → Option ℕ → Pixel
 corner_in ws None = corner
 corner_in ws (Some w) = corner_of ws w
 
--- the corner of the hovered window in the later ones of these windows that name it
+-- the corner of the hovered window in the later of these windows that contain it
 abbrev pub corner_after : List Window → List Window → Option ℕ → Pixel
 corner_after later earlier None = corner
 corner_after later earlier (Some w) = or_origin (origin_of later w) (corner_of earlier w)
 
--- a cursor after a step, where the windows hovered before it and after it have these corners
+-- a cursor after a step, if the windows hovered before and after it have these corners
 abbrev pub stepped : Kept → Step → Pixel → Pixel → Kept
 stepped k s left met =
     record {

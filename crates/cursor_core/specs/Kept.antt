@@ -4,7 +4,7 @@ use Rattle.input_types.specs.declared.axis.Pixel.{Pixel}
 use Rattle.window_snapshot.specs.declared.window.Window.{Window}
 use Rattle.cursor_core.specs.declared.message.HoverMsg.{HoverMsg}
 
--- what is kept of a channel: how many of its first messages were let go, and the messages that are left, the oldest first
+-- what is kept of a channel: how many of its first messages were released, and the remaining messages, oldest first
 pub record Row : Type 0 where
   pub gone : ℕ
   pub left : List HoverMsg
@@ -30,15 +30,15 @@ abbrev pub row_of : List Row → ℕ → Option Row
 row_of rows zero = None
 row_of rows (suc i) = slice_get rows i
 
--- the messages of a channel that are left
+-- the remaining messages of a channel
 abbrev pub left_of : List Row → ℕ → Option (List HoverMsg)
 left_of rows c = option_map (λ r. r.left) (row_of rows c)
 
--- how many messages of a row were let go
+-- how many messages of a row were released
 abbrev pub gone_in : Option Row → ℕ
 gone_in None = 0
 gone_in (Some r) = r.gone
 
--- how many of the first messages of a channel were let go
+-- how many of the first messages of a channel were released
 abbrev pub gone : Kept → ℕ → ℕ
 gone k c = gone_in (row_of k.streams c)

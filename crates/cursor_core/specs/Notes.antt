@@ -1,4 +1,4 @@
--- Whom one call tells something, by what it does to the cursor and to the hovered window.
+-- To which windows one call sends something, by what it does to the cursor and to the hovered window.
 use Rattle.std.specs.Prelude.{ℕ, true, ◌==◌, if◌then◌else◌, List, [], ◌∷◌, ◌++◌, Option, Some, None, option_map}
 use Rattle.std.specs.Option.{option_and_then}
 use Rattle.input_types.specs.declared.axis.Pixel.{Pixel}
@@ -18,7 +18,7 @@ place_of s action = place action s.from s.to
 abbrev pub note_at : Step → ℕ → HoverAction → Pixel → Note
 note_at s w action o = record { channel = w; message = message s.moment action (place_of s action) o }
 
--- what a window that was hovered is sent, where it is live
+-- what a window that was hovered is sent, if it is live
 abbrev pub note_of : Step → ℕ → Pixel → Option Note
 note_of s w o = if mask_has s.live w then option_map (λ action. note_at s w action o) (change true (is_at s.after w) s.moved) else None
 
@@ -30,15 +30,15 @@ note_to s w o = if is_at s.before w then None else Some (note_at s w Enter o)
 abbrev pub note_before : Step → Pixel → Option Note
 note_before s o = option_and_then (λ w. note_of s w o) s.before
 
--- what the window that is hovered now is sent, where it was not
+-- what the window that is hovered now is sent, if it was not before
 abbrev pub note_after : Step → Pixel → Option Note
 note_after s o = option_and_then (λ w. note_to s w o) s.after
 
--- what a note says to a window
+-- what a note sends to a window
 abbrev pub note_list : Option Note → ℕ → List HoverMsg
 note_list None w = []
 note_list (Some n) w = if n.channel == w then n.message ∷ [] else []
 
--- what two notes say to a window
+-- what two notes send to a window
 abbrev pub noted : Option Note → Option Note → ℕ → List HoverMsg
 noted first second w = note_list first w ++ note_list second w

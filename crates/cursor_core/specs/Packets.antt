@@ -1,4 +1,4 @@
--- The packets of a mouse's events. Events stand with the newest first.
+-- The packets of a mouse's events. Events are newest first.
 use Rattle.std.specs.Prelude.{ℕ, ℤ, pos, ◌+ℤ◌, max, Bool, false, not, ◌&&◌, ◌||◌, nat_eq, List, [], ◌∷◌, Option, Some, None, if◌then◌else◌}
 use Rattle.std.specs.Int.{saturate_signed, w64}
 use Rattle.raw_events.specs.declared.event.RawEvent.{RawEvent}
@@ -21,7 +21,7 @@ abbrev pub has_motion : List RawEvent → Bool
 has_motion [] = false
 has_motion (e ∷ es) = is_rel 0 e || (is_rel 1 e || has_motion es)
 
--- a sum with the value of one more event, where it is of the code; a sum past an end of 64 bits stays at that end
+-- a sum with the value of one more event, if it has the code, saturated at the ends of 64 bits
 abbrev pub summed : ℕ → RawEvent → ℤ → ℤ
 summed code e sum = if is_rel code e then saturate_signed w64 (sum +ℤ e.value) else sum
 
@@ -34,15 +34,16 @@ sum_of code (e ∷ es) = summed code e (sum_of code es)
 abbrev pub motion_by : ℕ → List RawEvent → Option CursorCall
 motion_by moment es = if has_motion es then Some (Moved moment (sum_of 0 es) (sum_of 1 es)) else None
 
--- an event that comes behind others ends a packet: it is a SYN_REPORT that is not void
+-- an event after others ends a packet: it is a SYN_REPORT that is not void
 abbrev pub is_end : List RawEvent → RawEvent → Bool
 is_end past e = not (is_void past) && is_report e
 
--- the greatest moment of a packet so far, which is that of its SYN_REPORT; 0 at first
+-- the latest moment of a packet so far, which is that of its SYN_REPORT; 0 at first
 abbrev pub latest : List RawEvent → ℕ
 latest [] = 0
 latest (e ∷ past) = if is_end past e then max e.moment (latest past) else latest past
 
--- what an event adds: the motion of the packet that it ends, at the packet's moment, or at that of an earlier packet where that is greater
+-- what an event adds: the motion of the packet that it ends, at the packet's moment, or at that of an earlier packet
+-- if that is later
 abbrev pub motion_of : List RawEvent → RawEvent → Option CursorCall
 motion_of past e = if is_end past e then motion_by (latest (e ∷ past)) (packet past) else None

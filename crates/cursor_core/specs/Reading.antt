@@ -1,12 +1,12 @@
--- A reader of motions after a list of events, the newest first.
+-- A reader of motions after a list of events, newest first.
 use Rattle.std.specs.Prelude.{◌≡◌, ℕ, pos, Bool, false, ◌||◌, List}
 use Rattle.raw_events.specs.declared.event.RawEvent.{RawEvent}
 use Rattle.cursor_core.specs.declared.motion.MotionReader.{MotionReader}
 use Rattle.cursor_core.specs.Packets.{has_motion, is_rel, latest, packet, sum_of, summed}
 use Rattle.raw_events.specs.Packets.{is_void}
 
--- a reader stands for these events: it knows whether what comes is void, the sums of the packet that has begun, and the greatest moment of a
--- packet
+-- a reader stands for these events: it knows whether the next events are void, the sums of the packet that has begun,
+-- and the latest moment of a packet
 pub record ReaderStandsFor (past : List RawEvent) (r : MotionReader) : Type 0 where
   pub void_is : r.void ≡ is_void past
   pub moved_is : r.moved ≡ has_motion (packet past)

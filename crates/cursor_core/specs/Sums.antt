@@ -1,4 +1,4 @@
--- Sums without the ends of a type.
+-- Sums without the limits of a type.
 use Rattle.std.specs.Prelude.{ℕ, ℤ, pos, negsuc, ◌+ℤ◌, ◌≤ℤ◌, if◌then◌else◌, List, [], ◌∷◌}
 use Rattle.std.specs.List.{AllByRecursion}
 use Rattle.raw_events.specs.declared.event.RawEvent.{RawEvent}

@@ -1,4 +1,4 @@
-//! The corner of a window, from which its places are counted.
+//! The corner of a window, to which its positions are relative.
 ghost use Rattle.std.specs.Prelude.{◌≡◌};
 ghost use Rattle.cursor_core.specs.Calls.{corner_of};
 ghost use Rattle.cursor_core.specs.Cursor.{corner_after, corner_in};
@@ -29,7 +29,7 @@ pub(crate) fn corner_in(windows: &Snapshot, hovered: Option<u32>) -> Pixel
     }
 }
 
-/// The corner of the hovered window in the later ones of these windows that name it.
+/// The corner of the hovered window in the later of these windows that contain it.
 pub(crate) fn corner_after(later: &Snapshot, earlier: &Snapshot, hovered: Option<u32>) -> Pixel
     ensures { result ≡ corner_after later.now earlier.now hovered }
 {

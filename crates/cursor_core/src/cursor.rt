@@ -22,9 +22,9 @@ use std::alloc::{AllocError, Global};
 use std::marker::Model;
 use window_snapshot::{Snapshot, mask_without};
 
-/// A mouse cursor on display 0, and what the windows there were told of it.
+/// A mouse cursor on display 0, and what the windows there were sent for it.
 ///
-/// It keeps no list of its calls. Clauses say of which lists of calls it stands for all that later calls need.
+/// It keeps no list of its calls. Clauses say for which lists of calls it stands, as far as later calls need.
 #[derive(Drop)]
 pub struct Cursor {
     /// The last pixel of the display, right and down.
@@ -56,8 +56,8 @@ impl Model for Cursor {
 }
 
 impl Cursor {
-    /// A cursor in the middle of a display, in pixels of it as it is turned. The channels have the numbers from 1 on,
-    /// and all are live. There are no windows.
+    /// A cursor in the middle of a display, in pixels of it as it is turned. The channels are numbered from 1, and
+    /// all are live. There are no windows.
     pub fn new(alloc: Global, width: u16, height: u16, channels: u32) -> Result<Cursor, AllocError>
         requires width { (1 ≤ width) × (width ≤ 16384) }
         requires height { (1 ≤ height) × (height ≤ 16384) }
@@ -81,7 +81,7 @@ impl Cursor {
         })
     }
 
-    /// Takes a call. After want of memory all is as before.
+    /// Takes a call. If memory runs out, nothing changes.
     pub fn apply(&mut self, call: CursorCall) -> Result<(), AllocError>
         ensures stands { (d : Screen) (calls : List Call) → CursorStandsFor d calls self.old
             → OnOk result (CursorStandsFor d (call ∷ calls) self.new) }
@@ -97,7 +97,7 @@ impl Cursor {
         }
     }
 
-    /// All that a channel was sent, the oldest first, but for what was let go; `None` exactly where it is not one of
+    /// Everything that a channel was sent, oldest first, except what was released; `None` exactly if it is not one of
     /// the first channels.
     pub fn stream(&self, channel: u32) -> Option<&[HoverMsg]>
         ensures { (d : Screen) (calls : List Call) → CursorStandsFor d calls self.now
@@ -106,8 +106,8 @@ impl Cursor {
         left_of(&self.streams, channel)
     }
 
-    /// Drops what a channel was sent so far. Its room stays for what it is sent next. Of a channel that is not one of
-    /// the first it changes nothing.
+    /// Drops what a channel was sent so far, and keeps its room for what it is sent next. Changes nothing for a
+    /// channel that is not one of the first.
     pub fn release(&mut self, channel: u32)
         ensures stays { (d : Screen) (calls : List Call) → CursorStandsFor d calls self.old
             → CursorStandsFor d calls self.new }
@@ -192,8 +192,8 @@ impl Cursor {
         self.apply_step(&step, left, met)
     }
 
-    /// Tells the windows what a step does, and keeps what is after it. `left` and `met` are the corners of the windows
-    /// hovered before it and after it.
+    /// Sends the windows what a step does, and keeps the state after it. `left` and `met` are the corners of the
+    /// windows hovered before and after it.
     fn apply_step(&mut self, step: &Step, left: Pixel, met: Pixel) -> Result<(), AllocError>
         ensures ok { OnOk result (self.new ≡ stepped self.old step.now left met) }
         ensures gone { (c : ℕ) → gone self.new c ≡ gone self.old c }
@@ -211,7 +211,7 @@ impl Cursor {
     }
 }
 
-/// The pixel at a place of the display.
+/// The pixel at a position on the display.
 fn pixel(x: u16, y: u16) -> Pixel
     ensures { result ≡ record { x = pos x; y = pos y } }
 {
@@ -246,7 +246,7 @@ fn kept_on(last: i32, at: i32, by: i64) -> i32
     }
 }
 
-/// The window that the cursor hovers over, where the mouse has moved.
+/// The window that the cursor hovers over, if the mouse has moved.
 fn hovered_by(moved: bool, windows: &Snapshot, live: u64, at: Pixel) -> Option<u32>
     ensures { result ≡ hovered_by moved windows.now (mask_has live) at }
 {

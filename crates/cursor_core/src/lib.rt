@@ -1,8 +1,8 @@
 //! A mouse cursor over the windows of display 0.
 //!
-//! The cursor begins in the middle of the display. It hovers over the window that a touch there would go to, from its
-//! first motion on, and each window is sent when the cursor comes, moves and goes. With the windows `left` from (0, 0)
-//! to (540, 2400) and `right` from (540, 0) to (1080, 2400) of a display of 1080 by 2400:
+//! The cursor starts in the middle of the display. From its first motion on, it hovers over the window to which a
+//! touch there would go, and each window is sent messages when the cursor enters, moves and leaves. With the windows
+//! `left` from (0, 0) to (540, 2400) and `right` from (540, 0) to (1080, 2400) of a display of 1080 by 2400:
 //!
 //! ```text
 //! 40 to the left       left: Enter 500,1200
@@ -11,7 +11,7 @@
 //! right is not shown                           right: Exit 60,0
 //! ```
 //!
-//! Buttons, wheels and acceleration are no part of it. `Cursor` takes the motions, and `MotionReader` reads them from
+//! Buttons, wheels and acceleration are not supported. `Cursor` takes the motions, and `MotionReader` reads them from
 //! the raw events of a mouse.
 #![tactic(auto)]
 

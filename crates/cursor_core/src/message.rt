@@ -1,4 +1,4 @@
-//! What a window is told of the cursor.
+//! What a window is sent for the cursor.
 ghost use Rattle.std.specs.Prelude.{◌≡◌};
 ghost use Rattle.cursor_core.specs.Told.{change, message};
 ghost use Rattle.window_snapshot.specs.Origins.{place_from};
@@ -8,11 +8,11 @@ use input_types::{Moment, Pixel};
 /// What the cursor does over a window, as Android's MotionEvent has it.
 #[derive(Clone, Copy, Debug, PartialEq, Eq)]
 pub enum HoverAction {
-    /// It comes (`ACTION_HOVER_ENTER`).
+    /// It enters (`ACTION_HOVER_ENTER`).
     Enter,
     /// It moves within the window (`ACTION_HOVER_MOVE`).
     Move,
-    /// It goes (`ACTION_HOVER_EXIT`).
+    /// It leaves (`ACTION_HOVER_EXIT`).
     Exit,
 }
 
@@ -22,7 +22,7 @@ pub struct HoverMsg {
     /// The clock.
     pub moment: Moment,
     pub action: HoverAction,
-    /// Where the cursor is, or at an Exit where it was last, in pixels from the window's own corner.
+    /// Where the cursor is, or for an Exit where it was last, in pixels relative to the window's own corner.
     pub at: Pixel,
 }
 
@@ -49,7 +49,7 @@ pub(crate) fn message(moment: Moment, action: HoverAction, at: Pixel, origin: Pi
     }
 }
 
-/// A place counted from an origin, kept at the ends of its type.
+/// A position relative to an origin, saturated at the ends of its type.
 fn place_from(origin: Pixel, at: Pixel) -> Pixel
     ensures { result ≡ place_from origin at }
 {

@@ -14,22 +14,22 @@ use raw_events::codes::{EV_SYN, SYN_DROPPED, SYN_REPORT};
 /// Relative axes (`EV_REL` of the kernel's `input-event-codes.h`).
 const EV_REL: u16 = 0x02;
 
-/// The way to the right since the last event.
+/// The distance to the right since the last event.
 const REL_X: u16 = 0;
 
-/// The way down.
+/// The distance down.
 const REL_Y: u16 = 1;
 
 /// Reads the motions of one mouse: the sums of each packet's REL_X and REL_Y events.
 ///
-/// It keeps no list of events. Clauses say of which lists of events it stands for all that later events need.
+/// It keeps no list of events. Clauses say for which lists of events it stands, as far as later events need.
 #[derive(Clone, Copy, Debug, PartialEq, Eq)]
 pub struct MotionReader {
     void: bool,
     moved: bool,
     dx: i64,
     dy: i64,
-    /// The greatest moment of a packet.
+    /// The latest moment of a packet.
     latest: Moment,
 }
 
@@ -41,12 +41,12 @@ impl MotionReader {
         MotionReader::begun(false, Moment::zero())
     }
 
-    /// Takes the mouse's next event, and answers the motion of the packet that it ends: at the moment of its
-    /// SYN_REPORT, or at that of an earlier packet where that is greater.
+    /// Takes the mouse's next event, and returns the motion of the packet that it ends: at the moment of its
+    /// SYN_REPORT, or at that of an earlier packet if that is later.
     ///
     /// A packet ends at a SYN_REPORT. One without a REL_X or REL_Y event moves nothing. After a SYN_DROPPED, by which
-    /// the kernel says that events were lost, the packet that has begun is forgotten, and what comes up to the next
-    /// SYN_REPORT is passed over. A sum that would go past an end of 64 bits stays at that end.
+    /// the kernel reports lost events, the packet that has begun is dropped, and everything up to the next SYN_REPORT
+    /// is skipped. A sum saturates at the ends of 64 bits.
     pub fn take(&mut self, event: &RawEvent) -> Option<CursorCall>
         ensures value { (past : List Event) → ReaderStandsFor past self.old → result ≡ motion_of past event.now }
         ensures after { (past : List Event) → ReaderStandsFor past self.old
@@ -70,7 +70,7 @@ impl MotionReader {
         None
     }
 
-    /// A reader before the first event of a packet, or before events that are passed over.
+    /// A reader before the first event of a packet, or before events that are skipped.
     fn begun(void: bool, latest: Moment) -> MotionReader
         ensures { result ≡ begun void latest }
     {
@@ -83,7 +83,7 @@ impl MotionReader {
         }
     }
 
-    /// The motion so far, where there is one.
+    /// The motion so far, if there is one.
     fn motion(&self, now: Moment) -> Option<CursorCall>
         ensures { result ≡ (if self.now.moved then Some (Moved now self.now.dx self.now.dy) else None) }
     {
@@ -107,7 +107,7 @@ impl MotionReader {
     }
 }
 
-/// Adds the value of an event to the sum of its axis, and that of another event to none.
+/// Adds the value of an event to the sum of its axis; other events add nothing.
 fn add_to(sum: &mut i64, event: &RawEvent, code: u16)
     ensures { sum.new ≡ summed code event.now sum.old }
 {

@@ -1,4 +1,4 @@
-//! Whom one call tells something.
+//! To which windows one call sends something.
 ghost use Rattle.std.specs.Prelude.{◌≡◌, List, OnOk, OnErr};
 ghost use Rattle.cursor_core.specs.Kept.{Row};
 ghost use Rattle.cursor_core.specs.Told.{is_at};
@@ -47,7 +47,7 @@ fn is_at(hovered: Option<u32>, channel: u32) -> bool
     }
 }
 
-/// An Exit is at the cursor before the call, and all else at the cursor after it.
+/// An Exit is at the cursor before the call, and any other action at the cursor after it.
 fn place_of(step: &Step, action: HoverAction) -> Pixel
     ensures { result ≡ place_of step.now action }
 {
@@ -57,7 +57,7 @@ fn place_of(step: &Step, action: HoverAction) -> Pixel
     }
 }
 
-/// What a window with its corner at `origin` is told by a step.
+/// What a step sends to a window with its corner at `origin`.
 fn note_at(step: &Step, channel: u32, action: HoverAction, origin: Pixel) -> Note
     ensures { result ≡ note_at step.now channel action origin }
 {
@@ -67,7 +67,7 @@ fn note_at(step: &Step, channel: u32, action: HoverAction, origin: Pixel) -> Not
     }
 }
 
-/// What a step tells the window that was hovered, with its corner at `origin`.
+/// What a step sends to the window that was hovered, with its corner at `origin`.
 pub(crate) fn note_before(step: &Step, origin: Pixel) -> Option<Note>
     ensures { result ≡ note_before step.now origin }
 {
@@ -79,7 +79,7 @@ pub(crate) fn note_before(step: &Step, origin: Pixel) -> Option<Note>
     Some(note_at(step, channel, action, origin))
 }
 
-/// What a step tells the window that is hovered now and was not before, with its corner at `origin`.
+/// What a step sends to the window that is hovered now and was not before, with its corner at `origin`.
 pub(crate) fn note_after(step: &Step, origin: Pixel) -> Option<Note>
     ensures { result ≡ note_after step.now origin }
 {
@@ -90,7 +90,7 @@ pub(crate) fn note_after(step: &Step, origin: Pixel) -> Option<Note>
     Some(note_at(step, channel, HoverAction::Enter, origin))
 }
 
-/// Tells what two notes say, or nothing where there is no memory for both.
+/// Sends the messages of two notes, or nothing if there is no memory for both.
 pub(crate) fn send_both(
     streams: &mut [Stream],
     first: &Option<Note>,
@@ -107,7 +107,7 @@ pub(crate) fn send_both(
     Ok(())
 }
 
-/// Tells what a note says, where there is one and its channel is known.
+/// Sends the message of a note, if there is one and its channel is known.
 fn send(streams: &mut [Stream], note: &Option<Note>) -> Result<(), AllocError>
     ensures ok { OnOk result (streams.new ≡ rows_with (note_list note.now) 1 streams.old) }
     ensures err { OnErr result (streams.new ≡ streams.old) }
@@ -122,7 +122,7 @@ fn send(streams: &mut [Stream], note: &Option<Note>) -> Result<(), AllocError>
     streams[place - 1].push(note.message)
 }
 
-/// Takes back what a note has told.
+/// Takes back the message of a note.
 fn untell(streams: &mut [Stream], note: &Option<Note>)
     ensures { (rows : List Row) → streams.old ≡ rows_with (note_list note.now) 1 rows
         → streams.new ≡ rows }

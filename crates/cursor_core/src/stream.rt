@@ -8,11 +8,11 @@ use crate::message::HoverMsg;
 use std::alloc::{AllocError, Global};
 use std::marker::Model;
 
-/// The messages of a channel, the oldest first, but for the first ones, which were let go.
+/// The messages of a channel, oldest first, except the first ones, which were released.
 #[derive(Drop)]
 pub(crate) struct Stream {
     messages: Vec<HoverMsg>,
-    // How many were let go.
+    // How many were released.
     gone: u64,
 }
 
@@ -28,7 +28,7 @@ impl Model for Stream {
 }
 
 impl Stream {
-    /// The channel was sent nothing yet.
+    /// A channel that was sent nothing.
     fn new(alloc: Global) -> Stream
         ensures { result ≡ empty_row }
     {
@@ -38,19 +38,19 @@ impl Stream {
         }
     }
 
-    /// The messages that were not let go.
+    /// The messages that were not released.
     pub(crate) fn left(&self) -> &[HoverMsg]
         ensures { result.now ≡ self.now.left }
     {
         &self.messages
     }
 
-    /// Tells it one more.
+    /// Sends it one more.
     pub(crate) fn push(&mut self, message: HoverMsg) -> Result<(), AllocError>
         ensures ok { OnOk result (self.new ≡ row_with (message ∷ []) self.old) }
         ensures err { OnErr result (self.new ≡ self.old) }
     {
-        // The count of the messages must not end before the room for them does.
+        // The count of the messages must not reach its maximum before the room for them is used up.
         let told = self.gone + self.messages.len() as u64;
         if told == u64::MAX {
             return Err(AllocError);
@@ -59,7 +59,7 @@ impl Stream {
         Ok(())
     }
 
-    /// Takes the newest back.
+    /// Takes the newest one back.
     pub(crate) fn drop_last(&mut self)
         ensures { self.new ≡ record self.old { left = take (length self.old.left - 1) self.old.left } }
     {
@@ -67,7 +67,7 @@ impl Stream {
         self.messages.truncate(left);
     }
 
-    /// Drops all of them. Their room stays for what comes.
+    /// Drops all of them, and keeps their room.
     fn release(&mut self)
         ensures { self.new ≡ row_gone self.old }
     {
@@ -76,7 +76,7 @@ impl Stream {
     }
 }
 
-/// As many channels, each of which was sent nothing yet.
+/// So many channels, each of which was sent nothing.
 pub(crate) fn streams(alloc: Global, channels: u32) -> Result<Vec<Stream>, AllocError>
     ensures { IfOk result (λ v. v.items ≡ replicate channels empty_row) }
 {
@@ -87,7 +87,7 @@ pub(crate) fn streams(alloc: Global, channels: u32) -> Result<Vec<Stream>, Alloc
     Ok(streams)
 }
 
-/// What a channel was sent and was not let go, where it has a stream. Channels are numbered from 1.
+/// What a channel was sent and was not released, if it has a stream. Channels are numbered from 1.
 pub(crate) fn left_of(streams: &[Stream], channel: u32) -> Option<&[HoverMsg]>
     ensures { option_map (λ s. s.now) result ≡ left_of streams.now channel }
 {
@@ -98,7 +98,7 @@ pub(crate) fn left_of(streams: &[Stream], channel: u32) -> Option<&[HoverMsg]>
     Some(streams[place - 1].left())
 }
 
-/// Drops what a channel was sent so far, where it has a stream.
+/// Drops what a channel was sent so far, if it has a stream.
 pub(crate) fn release(streams: &mut [Stream], channel: u32)
     ensures { streams.new ≡ rows_gone channel streams.old }
 {

@@ -1,9 +1,9 @@
--- The moments that calls hand in.
+-- The moments that calls carry.
 use Rattle.std.specs.Prelude.{ℕ}
 use Rattle.dispatch_calls.specs.declared.call.Call.{Call}
 use Rattle.dispatch_calls.specs.declared.call.Call.TheVariants.{Open, Windows, FocusOn, Notify, Pump, Tick, Receive, Finish, Pilfer, Remove}
 
--- the moment that a call hands in, 0 where it hands in none
+-- the moment that a call carries, 0 if it has none
 abbrev pub moment_of : Call → ℕ
 moment_of (Open limit) = 0
 moment_of (Windows now snapshot) = now

@@ -1,4 +1,4 @@
-//! Calls of the dispatcher, and the entries that they make.
+//! Calls of the dispatcher, and the history entries that they make.
 ghost use Rattle.std.specs.Prelude.{◌≡◌};
 ghost use Rattle.dispatch_calls.specs.Moments.{moment_of};
 
@@ -6,43 +6,43 @@ use crate::reply::Reply;
 use input_types::{Args, DeviceId, DisplayId, Limit, Moment};
 use window_snapshot::Snapshot;
 
-/// One call of the dispatcher. `now` is the moment of the call, and raises the clock where it is later.
+/// One call of the dispatcher. `now` is the moment of the call, and advances the clock if it is later.
 #[derive(Drop)]
 pub enum Call {
-    /// A new channel, whose messages are to be finished within the limit.
+    /// Opens a channel, whose messages must be finished within the limit.
     Open {
         limit: Limit,
     },
-    /// The windows are these from now on.
+    /// Replaces the windows by these.
     Windows {
         now: Moment,
         snapshot: Snapshot,
     },
-    /// The focus of a display is requested for a channel, or for none. Any number may be requested. Keys go to the
+    /// Requests the focus of a display for a channel, or for none. Any number may be requested. Keys go to the
     /// focused window of the display of the last request.
     FocusOn {
         now: Moment,
         display: DisplayId,
         channel: Option<u32>,
     },
-    /// Args of a device, put behind those that wait.
+    /// Queues args of a device behind those that wait.
     Notify {
         now: Moment,
         args: Args,
     },
-    /// The first args that wait are dispatched, or a key that is held is repeated.
+    /// Dispatches the first waiting args, or repeats a held key.
     Pump {
         now: Moment,
     },
-    /// Each window whose oldest message was left unfinished for too long is named unresponsive.
+    /// Reports each window unresponsive whose oldest message was left unfinished for too long.
     Tick {
         now: Moment,
     },
-    /// The owner of a channel takes its next message.
+    /// The owner of a channel receives its next message.
     Receive {
         channel: u32,
     },
-    /// The owner of a channel is done with a message.
+    /// The owner of a channel finishes a message.
     Finish {
         now: Moment,
         channel: u32,
@@ -54,7 +54,7 @@ pub enum Call {
         channel: u32,
         device: DeviceId,
     },
-    /// A channel is closed for good.
+    /// Closes a channel for good.
     Remove {
         now: Moment,
         channel: u32,
@@ -62,7 +62,7 @@ pub enum Call {
 }
 
 impl Call {
-    /// The moment that it hands in, 0 where it hands in none.
+    /// The moment that it carries, 0 if it has none.
     pub fn moment(&self) -> Moment
         ensures { result ≡ moment_of self.now }
     {
@@ -80,10 +80,10 @@ impl Call {
     }
 }
 
-/// A call that was answered: one entry of the dispatcher's history.
+/// A call with its reply: one entry of the dispatcher's history.
 #[derive(Drop)]
 pub struct Entry {
-    /// The number of the caller, which no rule of the dispatcher reads.
+    /// The number of the caller. No rule of the dispatcher reads it.
     pub seat: u64,
     pub call: Call,
     pub reply: Reply,

@@ -1,7 +1,7 @@
-//! What the dispatcher can be asked, and what it answers.
+//! The calls of the dispatcher, and its replies.
 //!
-//! A finger goes down on a window. Of two channels the second is the window's, and these calls are answered so, in this
-//! order:
+//! A finger goes down on a window. The second of two channels is the window's. These calls, in this order, have these
+//! replies:
 //!
 //! ```text
 //! Open { limit: 5000000 }                                               Opened(1)
@@ -13,8 +13,8 @@
 //! Finish { now: 2000, channel: 2, seq: 1 }                              Done
 //! ```
 //!
-//! Each answered call is one entry of the dispatcher's history, refused ones included. Moments are microseconds, and
-//! the dispatcher's clock is the greatest moment that it was ever handed.
+//! Each call is one entry of the dispatcher's history, even if it was refused. Moments are microseconds, and the
+//! dispatcher's clock is the latest moment of any call.
 #![tactic(auto)]
 
 mod call;

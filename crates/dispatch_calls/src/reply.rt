@@ -1,38 +1,38 @@
-//! Answers of the dispatcher.
+//! Replies of the dispatcher.
 use input_types::Message;
 
-/// What a call of the dispatcher is answered. `Full`, `Inconsistent`, `Idle`, `Empty`, `Gone`, `UnknownSeq`, `NotSpy`
-/// and `NothingHeld` are refusals: they change nothing but the history and the clock.
+/// The reply to a call of the dispatcher. `Full`, `Inconsistent`, `Idle`, `Empty`, `Gone`, `UnknownSeq`, `NotSpy` and
+/// `NothingHeld` are refusals: they change only the history and the clock.
 #[derive(Clone, Copy, Debug, PartialEq, Eq)]
 pub enum Reply {
-    /// The channel was opened, with this number; channels are numbered 1, 2, 3 in the order of their opening.
+    /// The channel was opened, with this number; channels are numbered 1, 2, 3 in the order in which they are opened.
     Opened(u32),
-    /// 64 channels were opened, removed ones counted.
+    /// 64 channels were already opened, counting removed ones.
     Full,
-    /// The call did what it says.
+    /// The call took effect.
     Done,
     /// The args wait to be dispatched.
     Taken,
-    /// The args do not fit those of their device that were taken before. `pointers` is the set of ids that are down on
-    /// the device, as bits, and `key_down` says of a key whether its scan code is down.
+    /// The args do not fit the earlier accepted args of their device. `pointers` is the set of ids that are down on
+    /// the device, as bits, and `key_down` says for a key whether its scan code is down.
     Inconsistent { pointers: u32, key_down: bool },
-    /// The first args that waited were dispatched.
+    /// The first waiting args were dispatched.
     Dispatched,
-    /// None waited, and a key that is held was repeated.
+    /// No args waited, and a held key was repeated.
     Repeated,
-    /// None waited, and no repeat was due.
+    /// No args waited, and no repeat was due.
     Idle,
-    /// The channels that were named unresponsive by this call, as a mask: bit `id - 1` stands for the channel `id`.
+    /// The channels that this call reported unresponsive, as a mask: bit `id - 1` stands for the channel `id`.
     Named(u64),
     /// The next message of the channel.
     Got(Message),
-    /// The channel has no message that is published and not received.
+    /// The channel has no published message left to receive.
     Empty,
     /// The channel was never opened, or was removed.
     Gone,
     /// The message was not received, or is finished already.
     UnknownSeq,
-    /// The current windows have no spy of this channel.
+    /// No spy of this channel is among the current windows.
     NotSpy,
     /// The spy holds no pointer of the device.
     NothingHeld,

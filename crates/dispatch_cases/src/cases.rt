@@ -29,7 +29,7 @@ fn call_of(alloc: Global, line: &[u8], numbers: &[u64]) -> Option<Call> {
     }
 }
 
-/// What a call is answered. A call for which memory is wanted is dropped, and the next ones go on.
+/// The reply to a call. A call that runs out of memory is dropped, and the next ones continue.
 fn answer(
     alloc: Global,
     core: &mut Core,

@@ -1,6 +1,6 @@
 //! Calls of the dispatcher as a text, and how they are answered.
 //!
-//! Standard input has one call a line. Each line is printed with its answer behind it:
+//! Standard input has one call a line. Each line is printed, followed by its answer:
 //!
 //! ```text
 //! # a finger on a window                         begins anew, without a call
@@ -12,10 +12,10 @@
 //!                                                1 1000 motion 1 DOWN 0@540,1200
 //! ```
 //!
-//! The numbers of a call stand in the order of its fields, the moment first. A window is its channel, its display, the
-//! four edges of its frame, which is where it can be touched too, and its flags as a number. What devices hand in is
-//! spelled as a message is, without its number; `reset` with a moment and a device is a reset. `displays` begins anew
-//! with the displays of the devices 1 to 8.
+//! The numbers of a call stand in the order of its fields, the moment first. A window is its channel, its display,
+//! the four edges of its frame, which is where it can be touched too, and its flags as a number. What devices hand in
+//! is spelled as a message is, without its number; `reset` with a moment and a device is a reset. `displays` starts
+//! over with the displays of the devices 1 to 8.
 //!
 //! With the words `rounds N` on the command line it reads nothing, and prints how long N rounds of a gesture take: of
 //! one finger over one window, and of ten fingers over five windows and a spy.
@@ -40,7 +40,7 @@ fn rounds_of(words: &[String]) -> Option<u64> {
     }
 }
 
-/// The words behind the program's name.
+/// The words after the program's name.
 fn words(rt: &HostRuntime, alloc: Global) -> io::Result<Vec<String>> {
     let mut words = Vec::new(alloc);
     for word in env::args(rt)?.skip(1) {

@@ -31,7 +31,7 @@ fn at(finger: u8, round: u64) -> Pixel {
     }
 }
 
-/// The fingers 0 to `last`, where they are in a round.
+/// The fingers 0 to `last`, at their positions in a round.
 fn fingers(last: u8, round: u64) -> Pointers {
     let mut pointers = Pointers::empty();
     for finger in 0..=last {
@@ -71,7 +71,7 @@ fn motion(device: DeviceId, count: u8, round: u64) -> Motion {
     }
 }
 
-/// A call whose answer is not looked at.
+/// Makes a call and ignores its reply.
 fn make(dispatcher: &mut Dispatcher, call: &Call) -> Result<(), AllocError> {
     match dispatcher.apply(call) {
         Ok(_) => Ok(()),
@@ -158,7 +158,7 @@ fn show(
     }
 }
 
-/// Some rounds of one device, one every millisecond; answers how many messages were taken.
+/// Some rounds of one device, one every millisecond. Returns how many messages were received.
 fn gesture(
     dispatcher: &mut Dispatcher,
     device: DeviceId,

@@ -1,4 +1,4 @@
--- A dispatcher with its history, and what its history says.
+-- A dispatcher with its history, and what follows from the history.
 use Rattle.std.proofs.Common.{◌≡◌, ℕ, Bool, true, false, if◌then◌else◌, suc, ◌+◌, ◌-◌, ◌^◌, ◌<◌, ◌≤◌, max, List, [], ◌∷◌, ◌++◌, length, reverse, arith, refl, sym, subst, ap, ◌∙◌}
 use Rattle.std.proofs.lemmas.List.{length-reverse, reverse-append}
 use Rattle.input_types.specs.StreamRule.{stream_state}
@@ -27,7 +27,7 @@ legal_of entries d r = subst (Legal d.displays) (effects_law d.displays (history
 pub rise_of : (entries : List Entry) (d : Dispatching) → IsRecorded entries d → AllRise (history_of entries)
 rise_of entries d r = subst AllRise (effects_law d.displays (history_of entries)) r.stands.rise
 
--- a dispatcher that answered one call more stands for one entry more
+-- a dispatcher that answered one more call stands for one more entry
 pub recorded_more : (e : Entry) (entries : List Entry) (old new : Dispatching)
     → IsRecorded entries old
     → StandsFor (step old.displays e.call e.reply (effects old.displays (history_of entries))) new
@@ -49,7 +49,7 @@ pub replied : (e : Entry) (entries : List Entry) (d : Dispatching) → IsRecorde
     → e.reply ≡ reply d.displays (history_of entries) e.call
 replied e entries d r = (legal_of (e ∷ entries) d r).0
 
--- what is known of its history
+-- what is known about its history
 pub sound_of : (entries : List Entry) (d : Dispatching) (n m : ℕ) → IsRecorded entries d
     → IsSound (record { displays = d.displays; entries = entries; spare = n; pumps = m })
 sound_of entries d n m r =
@@ -70,7 +70,7 @@ sound_of entries d n m r =
           );
     }
 
--- what is asked of a channel that is not live is answered with Gone
+-- calls on a channel that is not live reply Gone
 pub gone_of : (ds : List ℕ) (h : History) (call : Call) → AnswersGone h call (reply ds h call)
 gone_of ds h (Open limit) = tt
 gone_of ds h (Windows now snapshot) = tt
@@ -83,12 +83,12 @@ gone_of ds h (Finish now c seq) = λ n. (gone_law ds h c n).1 now seq
 gone_of ds h (Pilfer now c device) = λ n. (gone_law ds h c n).2 now device
 gone_of ds h (Remove now c) = λ n. (gone_law ds h c n).3 now
 
--- an entry behind the others is the newest one
+-- an entry appended to the others is the newest one
 pub recorded_behind : (e : Entry) (items later : List Entry) (d : Dispatching)
     → later ≡ items ++ e ∷ [] → IsRecorded (e ∷ reverse items) d → IsRecorded (reverse later) d
 recorded_behind e items later d is r = subst (λ es. IsRecorded es d) (sym (ap reverse is ∙ reverse-append items (e ∷ []))) r
 
--- an entry more takes one of the places that are sure, where there are any
+-- one more entry takes one of the reserved places, if there are any
 pub room_after : (len capacity spare len' capacity' spare' : ℕ)
     → HasRoom len capacity (max 1 spare) → len' ≡ len + 1 → capacity' ≡ capacity → spare' ≡ spare - 1 → HasRoom len' capacity' spare'
 room_after len capacity spare len' capacity' spare' r l c s =
@@ -109,7 +109,7 @@ may_count ds items len capacity spare is r some =
     let few : len + spare < 2 ^ 64 = r.few in
     omega arith
 
--- a call hands in one args at most
+-- a call hands in at most one args
 pub one_in : (call : Call) → args_in call ≤ 1
 one_in (Open limit) = omega arith
 one_in (Windows now snapshot) = omega arith
@@ -122,7 +122,7 @@ one_in (Finish now c seq) = omega arith
 one_in (Pilfer now c device) = omega arith
 one_in (Remove now c) = omega arith
 
--- what a call leaves of the room for pumps, by whether it is a Notify or a Pump
+-- how much room for pumps a call leaves, by whether it is a Notify or a Pump
 left_fits : (b : Bool) (pumps old new : ℕ) → pumps ≤ old → (b ≡ true → old ≤ new + 1) → (if b then pumps - 1 else 0) ≤ new
 left_fits true pumps old new fits one = let less : old ≤ new + 1 = one refl in omega (arith, fits, less)
 left_fits false pumps old new fits one = omega arith

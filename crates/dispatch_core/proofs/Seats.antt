@@ -1,4 +1,4 @@
--- The entries of a core, and what a turnstile tells of them.
+-- The entries of a core, and those of a turnstile.
 use Rattle.std.proofs.Common.{◌≡◌, List, [], ◌∷◌, refl, ap}
 use Rattle.dispatch_calls.specs.declared.call.Entry.{Entry}
 use Rattle.dispatch_core.specs.Machine.{called, steps}

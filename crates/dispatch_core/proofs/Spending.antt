@@ -1,4 +1,4 @@
--- How calls of Notify and Pump spend the room that was made for them, with a worked example.
+-- How calls of Notify and Pump use up the room reserved for them, with a worked example.
 use Rattle.std.proofs.Common.{◌≡◌, ℕ, true, if◌then◌else◌, ◌-◌, ◌<◌, ◌≤◌, List, [], ◌∷◌, length, max, arith, refl, ap}
 use Rattle.dispatch_calls.specs.declared.call.Call.TheVariants.{Pump, Tick}
 use Rattle.dispatch_calls.specs.declared.call.Entry.{Entry}
@@ -6,12 +6,12 @@ use Rattle.dispatch_calls.specs.declared.reply.Reply.TheVariants.{Idle, Named}
 use Rattle.dispatcher.specs.Queueing.{is_input}
 use Rattle.dispatch_core.specs.Recorded.{Recorded, with_entry, with_pumps}
 
--- each of these entries is of a Notify or a Pump
+-- each of these entries is a Notify or a Pump
 abbrev pub AreInputs : List Entry → Type 0
 AreInputs [] = Unit {0}
 AreInputs (e ∷ es) = (is_input e.call ≡ true) × AreInputs es
 
--- the core when these entries came, the newest first
+-- the core when these entries came, newest first
 abbrev pub after : List Entry → Recorded → Recorded
 after [] r = r
 after (e ∷ es) r = with_entry e (after es r)
@@ -27,7 +27,7 @@ left_after (e ∷ es) r all =
     let one : (after (e ∷ es) r).pumps ≡ (after es r).pumps - 1 = ap (λ b. if b then (after es r).pumps - 1 else 0) all.0 in
     (omega (arith, spare), omega (arith, pumps, one))
 
--- Behind room for n pumps each of the next n such calls has room, whichever came before it.
+-- With room for n pumps, each of the next n such calls has room, whichever came before it.
 pub each_has_room : (n : ℕ) (es : List Entry) (r : Recorded) → AreInputs es → length es < n
     → (1 ≤ (after es (with_pumps n r)).spare) × (1 ≤ (after es (with_pumps n r)).pumps)
 each_has_room n es r all fewer =

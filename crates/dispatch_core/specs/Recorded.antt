@@ -16,12 +16,12 @@ use Rattle.dispatcher.specs.Access.{gone, anrs_released, is_opened}
 use Rattle.dispatcher.specs.Dispatching.{Dispatching, IsAfter, StandsFor}
 use Rattle.dispatcher.specs.Queueing.{is_input}
 
--- the displays of the devices, the entries, the newest first, and for how many more there is room
+-- the displays of the devices, the entries, newest first, and how many more there is room for
 pub record Recorded : Type 0 where
   pub displays : List ℕ
   pub entries : List Entry
   pub spare : ℕ
-  -- for how many more calls of Notify and Pump there is room for what pumps tell
+  -- for how many more calls of Notify and Pump there is room for what pumps send
   pub pumps : ℕ
 
 -- the history of these entries: no rule reads who made a call
@@ -32,15 +32,15 @@ history_of entries = map (λ e. (e.call, e.reply)) entries
 abbrev pub effects_of : Recorded → List Effect
 effects_of r = effects r.displays (history_of r.entries)
 
--- all messages that a channel was sent, where it was opened, the first one first
+-- all messages that a channel was sent, oldest first, if it was opened
 abbrev pub stream_of : Recorded → ℕ → Option (List Message)
 stream_of r c = if is_opened (effects_of r) c then Some (reverse (stream (effects_of r) c)) else None
 
--- what a call leaves of the room for pumps: a Notify or a Pump takes that of one, any other call takes all
+-- how much room for pumps a call leaves: a Notify or a Pump takes that of one, any other call takes all
 abbrev pub pumps_left : Call → ℕ → ℕ
 pumps_left call n = if is_input call then n - 1 else 0
 
--- one entry more, in one of the places that are sure, where there are any
+-- one more entry, in one of the reserved places, if there are any
 abbrev pub with_entry : Entry → Recorded → Recorded
 with_entry e r =
     record {
@@ -54,12 +54,12 @@ with_entry e r =
 abbrev pub with_spare : ℕ → Recorded → Recorded
 with_spare n r = record { displays = r.displays; entries = r.entries; spare = max n r.spare; pumps = r.pumps }
 
--- room for at least so many entries, and for what as many calls of Notify and Pump tell
+-- room for at least so many entries, and for what as many calls of Notify and Pump send
 abbrev pub with_pumps : ℕ → Recorded → Recorded
 with_pumps n r = record { displays = r.displays; entries = r.entries; spare = max n r.spare; pumps = max n r.pumps }
 
--- Nothing follows a removal: the channel stays removed, its stream is that of just before it, and leaves its owner knowing what its window
--- held then.
+-- Nothing follows a removal: the channel stays removed, and its stream stays as it was just before and tells its
+-- owner what its window held then.
 abbrev pub KeepsRemoved : Recorded → Type 0
 KeepsRemoved r =
     (later before : History) (now c : ℕ)
@@ -78,7 +78,7 @@ pub record IsSound (r : Recorded) : Type 0 where
       → stream_state (stream (effects_of r) c) ≡ Some (known_state (effects_of r) c)
   pub removed : KeepsRemoved r
 
--- what is asked of a channel that is not live is answered with Gone
+-- calls on a channel that is not live reply Gone
 abbrev pub AnswersGone : History → Call → Reply → Type 0
 AnswersGone h (Receive c) answer = live h c ≡ false → answer ≡ Gone
 AnswersGone h (Finish now c seq) answer = live h c ≡ false → answer ≡ Gone
@@ -86,7 +86,8 @@ AnswersGone h (Pilfer now c device) answer = live h c ≡ false → answer ≡ G
 AnswersGone h (Remove now c) answer = live h c ≡ false → answer ≡ Gone
 AnswersGone h call answer = Unit {0}
 
--- a dispatcher stands for the history of these entries, so that it is as after it, and no message of it and no naming was let go
+-- a dispatcher stands for the history of these entries, is as it is after it, and has released no message and no ANR
+-- of it
 pub record IsRecorded (entries : List Entry) (d : Dispatching) : Type 0 where
   pub stands : StandsFor (effects d.displays (history_of entries)) d
   pub after : IsAfter (effects d.displays (history_of entries)) d

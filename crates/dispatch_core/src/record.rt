@@ -22,17 +22,17 @@ use route_split::Touches;
 use std::alloc::{AllocError, Global};
 use std::marker::Model;
 
-/// A dispatcher with its history: all its calls with their replies, and all messages that it ever told.
+/// A dispatcher with its history: all its calls with their replies, and all messages that it ever sent.
 ///
-/// Contracts see the displays of the devices, the entries, the newest first, and for how many more of them, and of
-/// pumps, there is room. All that can be read of it is what these entries say.
+/// Contracts see the displays of the devices, the entries, newest first, and for how many more of them, and of pumps,
+/// there is room. Everything that can be read of it follows from these entries.
 #[derive(Drop)]
 pub struct Core {
     dispatcher: Dispatcher,
     entries: Vec<Entry>,
-    // For how many entries more the list has room, and the dispatcher for their args.
+    // For how many more entries the list has room, and the dispatcher for their args.
     spare: u32,
-    // For how many calls of Notify and Pump more the dispatcher has room for what pumps tell.
+    // For how many more calls of Notify and Pump the dispatcher has room for what pumps send.
     pumps: u32,
 }
 
@@ -69,12 +69,12 @@ impl Core {
         })
     }
 
-    /// Answers a call as the history says, and puts it with its reply behind the entries. Want of memory changes
-    /// nothing, makes no entry and drops the call.
+    /// Answers a call as the history requires, and appends it with its reply to the entries. If memory runs out,
+    /// nothing changes, there is no entry, and the call is dropped.
     ///
-    /// Where room was reserved, some calls cannot answer want of memory: args that are handed in, owners that receive
-    /// or finish, a removal, a request that changes no focus, a tick that names nobody and a pump that is idle. Where
-    /// room for pumps was reserved too, no pump can.
+    /// If room was reserved, some calls cannot run out of memory: a notify, a receive, a finish, a removal, a focus
+    /// request that changes nothing, a tick that reports no channel, and an idle pump. If room for pumps was reserved
+    /// too, no pump can.
     pub fn apply(&mut self, seat: u64, call: Call) -> Result<Reply, AllocError>
         ensures reply { IfOk result (λ answer. answer ≡ reply self.old.displays (history_of self.old.entries) call) }
         ensures entry { IfOk result (λ answer.
@@ -101,8 +101,8 @@ impl Core {
         }
     }
 
-    /// Makes room for the next `n` entries, and for the args that these calls may hand in. Without memory nothing
-    /// changes.
+    /// Makes room for the next `n` entries, and for the args that these calls may hand in. If memory runs out,
+    /// nothing changes.
     pub fn reserve(&mut self, n: u32) -> Result<(), AllocError>
         ensures ok { OnOk result (self.new ≡ with_spare n self.old) }
         ensures err { OnErr result (self.new ≡ self.old) }
@@ -116,9 +116,9 @@ impl Core {
         Ok(())
     }
 
-    /// Makes room for the next `n` entries, and for what these calls need where they are `Notify` and `Pump`, in any
-    /// order: then none of them can answer want of memory. Each Notify and each Pump takes the room of one, and any
-    /// other call that is answered takes all room for pumps away. Without memory nothing changes.
+    /// Makes room for the next `n` entries, and for what these calls need if they are `Notify` and `Pump`, in any
+    /// order: then none of them can run out of memory. Each Notify and each Pump takes the room of one, and any other
+    /// answered call takes all room for pumps. If memory runs out, nothing changes.
     pub fn reserve_pumps(&mut self, n: u32) -> Result<(), AllocError>
         ensures ok { OnOk result (self.new ≡ with_pumps n self.old) }
         ensures err { OnErr result (self.new ≡ self.old) }
@@ -131,14 +131,14 @@ impl Core {
         Ok(())
     }
 
-    /// All messages that a channel was sent, the first one first; None exactly where none was opened with this number.
+    /// All messages that a channel was sent, oldest first; None exactly if no channel was opened with this number.
     pub fn stream(&self, channel: u32) -> Option<&[Message]>
         ensures { option_map (λ ms. ms.now) result ≡ stream_of self.now channel }
     {
         self.dispatcher.messages(channel)
     }
 
-    /// The calls with their replies, the first one first.
+    /// The calls with their replies, oldest first.
     pub fn history(&self) -> &[Entry]
         ensures entries { result.now ≡ reverse self.now.entries }
         ensures legal { Legal self.now.displays (history_of self.now.entries) }
@@ -146,29 +146,29 @@ impl Core {
         self.entries.as_slice()
     }
 
-    /// The greatest moment that was handed in.
+    /// The clock: the latest moment of any call.
     pub fn clock(&self) -> Moment
         ensures { result ≡ clock (history_of self.now.entries) }
     {
         self.dispatcher.clock()
     }
 
-    /// How far a channel has come; None exactly where none was opened with this number.
+    /// How far a channel has come; None exactly if no channel was opened with this number.
     pub fn counts(&self, channel: u32) -> Option<Counts>
         ensures { result ≡ counts (effects_of self.now) channel }
     {
         self.dispatcher.counts(channel)
     }
 
-    /// The first moment at which a channel is due to be named unresponsive, and the least channel that is due at it.
+    /// The first moment at which a channel is due to be reported unresponsive, and the lowest channel that is due then.
     pub fn first_due(&self) -> Option<(u64, u32)>
         ensures { option_map due_pair result ≡ first_due (effects_of self.now) }
     {
         self.dispatcher.first_due()
     }
 
-    /// When a channel is due to be named: its limit after the delivery of its oldest message that is published and not
-    /// finished; None exactly where it is not able, or has no such message.
+    /// When a channel is due to be reported: its limit after the delivery of its oldest published and unfinished
+    /// message; None exactly if it is not able, or has no such message.
     pub fn due(&self, channel: u32) -> Option<u64>
         requires { is_channel channel ≡ true }
         ensures { result ≡ due_moment (effects_of self.now) channel }
@@ -176,29 +176,29 @@ impl Core {
         self.dispatcher.due(channel)
     }
 
-    /// When the next repeat of a key is due; None where there is none, and while args wait.
+    /// When the next repeat of a key is due; None if there is none, and while args wait.
     pub fn repeat_due(&self) -> Option<u64>
         ensures { result ≡ next_repeat (effects_of self.now) }
     {
         self.dispatcher.repeat_due()
     }
 
-    /// All namings so far, the first one first.
+    /// All ANRs so far, oldest first.
     pub fn anrs(&self) -> &[Anr]
         ensures { result.now ≡ anrs (effects_of self.now) }
     {
         self.dispatcher.anrs()
     }
 
-    /// Who holds which pointers, since when, and who is pilfering which device. Each holder is live, able to take
-    /// input, and shown on the display of the device.
+    /// Who holds which pointers, since when, and who is pilfering which device. Each holder is live, can take input,
+    /// and is shown on the display of the device.
     pub fn touches(&self) -> &Touches
         ensures { ReadsTouches self.now.displays (effects_of self.now) result.now }
     {
         self.dispatcher.touches()
     }
 
-    /// What the window of a channel was sent and is not told the end of; None exactly where no channel was opened with
+    /// The pointers and keys that are still down in a channel's stream; None exactly if no channel was opened with
     /// this number.
     pub fn input(&self, channel: u32) -> Option<&InputState>
         ensures some { is_some result ≡ is_opened (effects_of self.now) channel }
@@ -216,7 +216,7 @@ impl Core {
     }
 }
 
-/// Makes sure of places for `n` entries more, where there are so many that are sure.
+/// Makes sure that at least `n` more entries have reserved places; `spare` of them have one already.
 fn make_sure(entries: &mut Vec<Entry>, spare: u32, n: u32) -> Result<(), AllocError>
     requires { HasRoom (vec_len entries.old) (vec_capacity entries.old) spare }
     ensures items { entries.new.items ≡ entries.old.items }
@@ -230,7 +230,7 @@ fn make_sure(entries: &mut Vec<Entry>, spare: u32, n: u32) -> Result<(), AllocEr
     Ok(())
 }
 
-/// Makes room for some entries more.
+/// Makes room for some more entries.
 fn make_room(entries: &mut Vec<Entry>, n: usize) -> Result<(), AllocError>
     ensures items { entries.new.items ≡ entries.old.items }
     ensures len { vec_len entries.new ≡ vec_len entries.old }
@@ -238,14 +238,14 @@ fn make_room(entries: &mut Vec<Entry>, n: usize) -> Result<(), AllocError>
     ensures ok { OnOk result (vec_len entries.new + n ≤ vec_capacity entries.new) }
     ensures few { OnOk result (vec_len entries.new + n < 2 ^ 64) }
 {
-    // The number of entries must not end before the room does.
+    // The number of entries must not reach its maximum before the room is used up.
     if usize::MAX - entries.len() < n {
         return Err(AllocError);
     }
     entries.reserve(n)
 }
 
-/// What a call leaves of the room for pumps.
+/// How much room for pumps a call leaves.
 fn pumps_after(call: &Call, pumps: u32) -> u32
     ensures { result ≡ pumps_left call.now pumps }
 {
@@ -255,7 +255,7 @@ fn pumps_after(call: &Call, pumps: u32) -> u32
     }
 }
 
-/// Puts an entry behind the others, where there is room for it.
+/// Appends an entry, for which there is room.
 fn note(entries: &mut Vec<Entry>, seat: u64, call: Call, reply: &Reply)
     requires { vec_len entries.old < vec_capacity entries.old }
     ensures items { entries.new.items

@@ -14,7 +14,7 @@ pub unresponsive_step : UnresponsiveStep
 unresponsive_step x before c =
     ap (λ b. names x.past c || b) (ends_or_stays (unresponsive before c) (finishes x.past c) (has_late (x ∷ before) c))
 
--- where a channel was not unresponsive, and where a step is no finish of it
+-- if a channel was not unresponsive, and if a step is no finish of it
 never_before : (n u f l : Bool) → u ≡ false → (n || u && not (f && not l)) ≡ n
 never_before true u f l e = refl
 never_before false u f l e = ap (λ b. b && not (f && not l)) e

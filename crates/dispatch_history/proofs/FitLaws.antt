@@ -1,4 +1,4 @@
--- Each moment of a legal history fits the ids that are down.
+-- Each prefix of a legal history fits the ids that are down.
 use Rattle.std.proofs.Common.{◌≡◌, ℕ, ◌==◌, ◌&&◌, ◌||◌, Bool, true, false, not, cond, is_some, List, [], ◌∷◌, length, reverse, option_and_then, option_map, unwrap_or, Option, Some, None, refl, sym, ◌∙◌, subst}
 use Rattle.std.proofs.lemmas.Bool.{true≢false}
 use Rattle.input_types.specs.declared.message.Args.{Args}
@@ -32,7 +32,7 @@ use Rattle.dispatch_history.specs.Laws.{FitLaw}
 use Rattle.dispatch_history.proofs.QueueLaws.{queue_law, device_law}
 use Rattle.dispatch_history.proofs.PointerLaws.{RiseAll, all_rise, rise_older}
 
--- what a window holds after a step, by the marks and by the rules
+-- what a window holds after a step, by the marks and by the routing rules
 pub held_then : (s : Mark) (ms : List Mark) (w d i : ℕ) → has (held (s ∷ ms)) w d i ≡ (has s.given w d i || has (held ms) w d i && not (takes s.taken w d i))
 held_then s ms w d i = held_step s ms w d i ∙ turned (has (held ms) w d i) (takes s.taken w d i) (has s.given w d i)
   where
@@ -118,7 +118,7 @@ pump_down ws now answer (Some (MotionArgs m)) past d k = motion_down (m.device =
 pump_down ws now answer (Some (Key key)) past d k = key_down (key.device == d) (device_state d past) key k
 pump_down ws now answer (Some (Reset r)) past d k = reset_down (r == d) (device_state d past) r k
 
--- what was dispatched keeps the rule, and its motions rise
+-- what was dispatched keeps the rule of devices, and the ids of its motions rise
 pub dispatched_keep : (ds : List ℕ) (h : History) (d : ℕ) → Legal ds h → is_some (device_state d (dispatched (effects ds h))) ≡ true
 dispatched_keep ds h d l = (device_law ds h d l).1
 
@@ -128,7 +128,7 @@ dispatched_rise ds h l r = rise_older (reverse (inbound h)) (dispatched (effects
 nothing_fits : (ds : List ℕ) (d : ℕ) → Fits (scene ds []) d (down_ids [] d)
 nothing_fits ds d = record { rises = tt; held_is_down = λ w i h. absurd (true≢false (sym h)); held_is_listed = λ w. refl }
 
--- what a step does to a device: its motion rises and may come, and it says the last places
+-- how a step changes a device: its motion may come with rising ids, and lists the last positions
 pub record StepFacts (ds : List ℕ) (call : Call) (answer : Reply) (args : Option Args) (es : List Effect) (d : ℕ) (next : List ℕ) : Type 0 where
   pub rises : Rises (step_of (snapshot (past_of es)) call answer args)
   pub down : down_after (step_of (snapshot (past_of es)) call answer args) d (down_ids es d) ≡ Some next

@@ -28,7 +28,7 @@ use Rattle.dispatch_history.proofs.StreamLaws.{stream_step, silent_law}
 use Rattle.dispatch_history.proofs.SentMotions.{shifted}
 use Rattle.dispatch_history.proofs.MotionLaws.{live_said, unopened, new_channel}
 
--- what bodies do to what is known of something
+-- how bodies change what is known
 unfoldable pub bodies_after : {X : Type 0} → (Body → Option X → Option X) → List Body → Option X → Option X
 bodies_after f [] x = x
 bodies_after f (b ∷ bs) x = bodies_after f bs (f b x)

@@ -121,7 +121,7 @@ two_fingers_do_not_slip = refl
 the_window_below_has_none_of_two : stream_of slides_with_two 2 ≡ []
 the_window_below_has_none_of_two = refl
 
--- window 2 left a tap unfinished, and a tick names it: nothing slips to it
+-- window 2 left a tap unfinished, and a tick reports it: nothing slips to it
 abbrev slides_to_unresponsive : List Call
 slides_to_unresponsive =
     slippery_above ++ moved 0 Down 0 (at 0 500 300 ∷ []) ++ moved 1000 Up 0 (at 0 500 300 ∷ []) ++ Tick 5000000 ∷ []

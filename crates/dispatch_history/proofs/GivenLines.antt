@@ -1,4 +1,4 @@
--- A given order, line by line, and what its calls add to a run.
+-- A given order, line by line, and what its calls append to a run.
 use Rattle.std.proofs.Common.{◌≡◌, ℕ, ◌+◌, List, [], ◌∷◌, ◌++◌, reverse, refl, sym, ap, ◌∙◌, append_assoc}
 use Rattle.std.proofs.lemmas.List.{reverse-append}
 use Rattle.dispatch_calls.specs.declared.call.Call.{Call}

@@ -21,8 +21,8 @@ each_repeat_has_the_next_number :
     ≡ focused 1 0 true ∷ keyed 2 1000000 (key 115 24 true) 0 0 ∷ keyed 3 1500000 (key 115 24 true) 0 1 ∷ keyed 4 1550000 (key 115 24 true) 0 2 ∷ []
 each_repeat_has_the_next_number = refl
 
--- The focus moves while a key is down: the window that loses it is sent a cancelled up, and the up goes to nobody. A key without a
--- place in the layout goes to the window that has the focus now.
+-- The focus moves while a key is down: the window that loses it is sent a cancelled up, and the up goes to no window.
+-- A key that is not in the layout goes to the window that has the focus now.
 abbrev focus_moves : List Call
 focus_moves =
     open_two ++ Windows 0 (window 1 0 0 0 540 2400 ∷ window 2 0 540 0 1080 2400 ∷ []) ∷ FocusOn 0 0 (Some 1) ∷ []

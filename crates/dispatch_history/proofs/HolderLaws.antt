@@ -1,4 +1,4 @@
--- Every window that holds a pointer is able, and the snapshot names it on the display of the device.
+-- Every window that holds a pointer is able, and the snapshot shows it on the display of the device.
 use Rattle.std.proofs.Common.{◌≡◌, ℕ, ◌==◌, ◌&&◌, ◌⊎◌, Bool, true, false, not, cond, List, [], ◌∷◌, filter, Option, Some, None, refl, sym, ap, ◌∙◌, subst, inl, inr}
 use Rattle.std.proofs.lemmas.Bool.{and_parts, and_from, or_cases, or_parts, or_left, or_right, both_ways, true≢false, not-true, not-false, eqb-true, eq-eqb}
 use Rattle.input_types.specs.Displays.{device_display}
@@ -35,7 +35,7 @@ some_id (q ∷ qs) w d e =
       | inr k ↦ let r = some_id qs w d k in (r.0, or_right (q.window == w && q.device == d && q.id == r.0) (has qs w d r.0) r.1)
     ]
 
--- a window that is not missed at the next snapshot is shown there on the display on which it was
+-- a window that is not missing from the next snapshot is shown there on the display on which it was
 not_missed : (before next : List Window) (y w : ℕ) → is_shown_on before y w ≡ true → is_missed before next w ≡ false → is_shown_on next y w ≡ true
 not_missed [] next y w s n = absurd (true≢false (sym s))
 not_missed (v ∷ vs) next y w s n =
@@ -67,7 +67,7 @@ held_parts k ms w d i h =
 abbrev Stands : List ℕ → List Effect → ℕ → ℕ → Type 0
 Stands ds es w d = (able es w ≡ true) × (is_shown_on (snapshot (past_of es)) (device_display ds d) w ≡ true)
 
--- it stays so where it stays live, is not named unresponsive, and is shown
+-- it stays so while it stays live, is not reported unresponsive, and is shown
 remains : (ds : List ℕ) (x : Effect) (es : List Effect) (w d : ℕ) → able es w ≡ true → live x.past w ≡ true → names x.past w ≡ false
     → is_shown_on (snapshot x.past) (device_display ds d) w ≡ true → Stands ds (x ∷ es) w d
 remains ds x es w d a l n s =

@@ -31,7 +31,7 @@ use Rattle.dispatch_history.proofs.KeysDown.{AllHeld, down_keys, all_held, goes_
 use Rattle.dispatch_history.proofs.KeySends.{Known, KeyKnown, all, all-append, any_held, filter_all, filter_none, NoLoss, keys_send, repeat_sends}
 use Rattle.dispatch_history.proofs.KeysKnown.{known, known_repeat, known_last, said_known, last_key_law, newest_last}
 
--- A pump, by its answer. Where it repeats, the last key message is that of a key that is held.
+-- A pump, by its reply. If it repeats, the last key message is that of a held key.
 abbrev RepeatsHeld : ℕ → ℕ → ℕ → Option Sent → List KeyArgs → Known → Type 0
 RepeatsHeld d s w last old x =
     (m : Sent) → last ≡ Some m → (w == m.channel) ≡ true → is_key d s m.key.key ≡ true
@@ -44,7 +44,7 @@ Sends d s o hears loses old r x =
 abbrev NewKey : Option Args → List KeyArgs → Type 0
 NewKey o old = (k : KeyArgs) → goes_down o ≡ Some k → (k.down ≡ true) × (held_key old k.device k.scan ≡ None)
 
--- nothing is sent beside what the keys do
+-- nothing else is sent
 sends_alone : (d s : ℕ) (o : Option Args) (hears loses : Bool) (down : ℕ → ℕ → Bool) (old : List KeyArgs) (x : Known) → AllHeld down old → NoLoss o loses → NewKey o old
     → KeyKnown (held_key old d s) x → Sends d s o hears loses old [] x
 sends_alone d s o hears loses down old x a n f h =
@@ -147,7 +147,7 @@ live_keeps : (t l : Bool) → l ≡ true → (t && not t || false || not l) ≡ 
 live_keeps true l e = ap not e
 live_keeps false l e = ap not e
 
--- where a repeat is due, it is of a key that is held
+-- a repeat that is due is of a held key
 due_held : (ds : List ℕ) (h : History) (w d s at : ℕ) → Legal ds h → is_due (repeat_due (effects ds h)) at ≡ true
     → RepeatsHeld d s w (last_key (effects ds h)) (keys (effects ds h) w) (known d s (stream (effects ds h) w))
 due_held ds h w d s at l y m e c q =

@@ -19,7 +19,7 @@ use Rattle.dispatch_history.specs.Laws.{KeyPlacesLaw, KeysDownLaw}
 use Rattle.dispatch_history.proofs.FitLaws.{dispatched_keep}
 use Rattle.dispatch_history.proofs.KeysDown.{AllHeld, held_is, down_keys, all_held, goes_down_new, held_with, is_key-parts, held_filter}
 
--- a key that is left was held, and passes
+-- a key that remains was held, and passes
 left_was : (down : ℕ → ℕ → Bool) (p : KeyArgs → Bool) (ks : List KeyArgs) (d s : ℕ) (k : KeyArgs) → AllHeld down ks → held_key (filter p ks) d s ≡ Some k
     → (held_key ks d s ≡ Some k) × (p k ≡ true)
 left_was down p [] d s k a e = absurd (cc e)
@@ -44,7 +44,7 @@ left_was down p (l ∷ ls) d s k a e = by_test (p l) (is_key d s l) refl refl e 
         nothing z = cc
     by_test false false q r e more = let m = more e in (ap (λ b. cond b (Some l) (held_key ls d s)) r ∙ m.0, m.1)
 
--- a key that was held and passes is left
+-- a key that was held and passes remains
 is_left : (p : KeyArgs → Bool) (ks : List KeyArgs) (d s : ℕ) (k : KeyArgs) → held_key ks d s ≡ Some k → p k ≡ true → held_key (filter p ks) d s ≡ Some k
 is_left p [] d s k e q = absurd (cc e)
 is_left p (l ∷ ls) d s k e q = by_test (is_key d s l) (p l) refl refl e (λ f. is_left p ls d s k f q)
@@ -56,7 +56,7 @@ is_left p (l ∷ ls) d s k e q = by_test (is_key d s l) (p l) refl refl e (λ f.
     by_test false true r t e more = ap (λ b. cond b (Some l) (held_key (filter p ls) d s)) r ∙ more e
     by_test false false r t e more = more e
 
--- A step on the keys of a window, where it holds each once and a key that goes down is not among them.
+-- A step on the keys of a window that holds each once, a key that goes down not among them.
 abbrev Next : Option Args → Bool → Bool → List KeyArgs → List KeyArgs
 Next o hears loses old = key_given (goes_down o) hears (cond loses [] (filter (λ k. not (ends o k)) old))
 

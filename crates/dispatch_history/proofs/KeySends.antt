@@ -1,4 +1,4 @@
--- What the owner of a channel knows of a key, and what a step tells it of keys.
+-- What the owner of a channel knows about a key, and what a step sends it about keys.
 use Rattle.std.proofs.Common.{◌≡◌, ℕ, ◌+◌, ◌==◌, ◌&&◌, ◌||◌, Bool, true, false, not, cond, List, [], ◌∷◌, ◌++◌, filter, map, option_and_then, Option, Some, None, refl, sym, ap, ◌∙◌, subst, subst₂, inl, inr}
 use Rattle.std.specs.List.{list_any}
 use Rattle.std.proofs.lemmas.Bool.{cases_Bool, both_ways, true≢false, and_from, eq-eqb}
@@ -13,7 +13,7 @@ use Rattle.dispatch_history.specs.KeySent.{key_as_is, key_cancelled, keys_sent}
 use Rattle.dispatch_history.specs.Known.{is_key, held_key}
 use Rattle.dispatch_history.proofs.KeysDown.{AllHeld, is_key-parts, held_rest, held_with}
 
--- the next repeat number of a key, where its messages may come, and the last message of it
+-- the next repeat number of a key, if its messages may come, and its last message
 abbrev pub Known : Type 0
 Known = Option (Option ℕ) × Option KeyMsg
 
@@ -28,7 +28,7 @@ pub all-append : (d s : ℕ) (ms ns : List KeyMsg) (x : Known) → all d s (ms +
 all-append d s [] ns x = refl
 all-append d s (m ∷ ms) ns x = all-append d s ms ns (one d s m x)
 
--- what is known of a key that is held, and of one that is not
+-- what is known about a key that is held, and about one that is not
 abbrev pub KeyKnown : Option KeyArgs → Known → Type 0
 KeyKnown None x = x.0 ≡ Some None
 KeyKnown (Some k) x = (n : ℕ) × (x.0 ≡ Some (Some (n + 1))) × (x.1 ≡ Some (record { key = k; flags = 0; repeat = n }))
@@ -43,7 +43,7 @@ one_own d s m x due e y =
     ap (λ b. cond b (option_and_then (λ due. after_key due m) x.0, Some m) x) e
     ∙ ap (λ o. (option_and_then (λ due. after_key due m) o, Some m)) y
 
--- a down comes where the key is up, a repeat with the number that is due, and an up where it is down
+-- a down may come if the key is up, a repeat if it has the number that is due, and an up if the key is down
 down_comes : (k : KeyArgs) → k.down ≡ true → after_key None (key_as_is k) ≡ Some (Some 1)
 down_comes k e = rw e refl
 
@@ -56,7 +56,7 @@ up_comes k n e = rw e refl
 cancel_comes : (k : KeyArgs) (n : ℕ) → after_key (Some n) (key_cancelled k) ≡ Some None
 cancel_comes k n = refl
 
--- lists that are left
+-- lists that remain
 pub filter_all : (p : KeyArgs → Bool) → ((k : KeyArgs) → p k ≡ true) → (ks : List KeyArgs) → filter p ks ≡ ks
 filter_all p h [] = refl
 filter_all p h (k ∷ ks) = ap (λ b. cond b (k ∷ filter p ks) (filter p ks)) (h k) ∙ ap (λ ls. k ∷ ls) (filter_all p h ks)
@@ -179,7 +179,7 @@ up_sent d s j old x e h = by_held (list_any (same_key j) old) (is_key d s j) ref
     left : List KeyArgs
     left = filter (λ k. not (same_key j k)) old
 
-    -- of the key itself nothing is left, and of another one all
+    -- of the key itself nothing remains, and of another one everything
     own : is_key d s j ≡ true → held_key left d s ≡ None
     own q = let same = is_key-parts d s j q in subst₂ (λ u v. held_key left u v ≡ None) (sym same.0) (sym same.1) (held_out j.device j.scan old)
 
@@ -212,7 +212,8 @@ up_sent d s j old x e h = by_held (list_any (same_key j) old) (is_key d s j) ref
         subst (λ o. KeyKnown o x) (up ∙ sym (own q)) h
     by_held false false p q = subst (λ o. KeyKnown o x) (sym (other q)) h
 
--- what a step tells of keys leaves known what the window holds then; a step that dispatches a key takes none otherwise
+-- what a step sends about keys lets the owner know what the window holds then; a step that dispatches a key takes no
+-- other key
 abbrev pub NoLoss : Option Args → Bool → Type 0
 NoLoss (Some (KeyOfDevice j)) loses = loses ≡ false
 NoLoss o loses = Unit {0}

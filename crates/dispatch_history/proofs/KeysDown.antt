@@ -40,7 +40,7 @@ is_key-turned k l n =
       | inr f ↦ f
     ]
 
--- where the first of some keys is not the one that is looked for
+-- if the first of some keys is not the one searched for
 pub held_rest : (d s : ℕ) (k : KeyArgs) (ks : List KeyArgs) → held_key (k ∷ ks) d s ≡ None → (is_key d s k ≡ false) × (held_key ks d s ≡ None)
 held_rest d s k ks e = by_test (is_key d s k) e
   where
@@ -62,7 +62,7 @@ held_is down (l ∷ ls) d s k a e = by_test (is_key d s l) refl (λ f. held_is d
         (ap (λ x. x.down) (sym same) ∙ a.0, ap₂ down p.0 p.1 ∙ a.1, ap (is_key d s) (sym same) ∙ q)
     by_test false q more e = more e
 
--- keys that are left of some
+-- keys that remain of some
 pub held_filter : (p : KeyArgs → Bool) (ks : List KeyArgs) (d s : ℕ) → held_key ks d s ≡ None → held_key (filter p ks) d s ≡ None
 held_filter p [] d s e = refl
 held_filter p (k ∷ ks) d s e = let r = held_rest d s k ks e in by_test (p k) r.0 (held_filter p ks d s r.1)
@@ -115,7 +115,7 @@ with_held next k (l ∷ ls) kd nk e a =
 abbrev Keep : List Args → Type 0
 Keep past = (d : ℕ) → is_some (device_state d past) ≡ true
 
--- a key of args that comes, where what is down of keys is known
+-- a key of args that may come, if the keys that are down are known
 key_came : (c : Bool) (j : KeyArgs) (o : Option DeviceState) → is_some (cond c (option_and_then (λ x. after_args x (KeyOfDevice j)) o) o) ≡ true → c ≡ true
     → (differ j.down ((unwrap_or o nothing_down).keys j.scan) ≡ true)
     × ((s : ℕ) → (unwrap_or (cond c (option_and_then (λ x. after_args x (KeyOfDevice j)) o) o) nothing_down).keys s ≡ cond (s == j.scan) j.down ((unwrap_or o nothing_down).keys s))
@@ -129,7 +129,7 @@ key_came true j (Some x) k e = by_test (differ j.down (x.keys j.scan)) k
     by_test true k = (refl, λ s. refl)
     by_test false k = absurd (true≢false (sym k))
 
--- motions change nothing of keys
+-- motions do not change keys
 motion_keys : (c b : Bool) (m : Motion) (o : Option DeviceState) (s : ℕ)
     → is_some (cond c (option_and_then (λ x. cond b (option_map (λ ids. record { ids = ids; keys = x.keys }) (after_motion x.ids m)) None) o) o) ≡ true
     → (unwrap_or (cond c (option_and_then (λ x. cond b (option_map (λ ids. record { ids = ids; keys = x.keys }) (after_motion x.ids m)) None) o) o) nothing_down).keys s
@@ -144,7 +144,7 @@ motion_keys true true m (Some x) s k = came (after_motion x.ids m) k
     came None k = absurd (true≢false (sym k))
     came (Some ids) k = refl
 
--- a key that is down stays so, unless some args end it
+-- a key that is down stays down unless some args end it
 kept_down : (o : Option Args) (past : List Args) (k : KeyArgs) → Keep (with_args o past) → not (ends o k) ≡ true → down_keys past k.device k.scan ≡ true
     → down_keys (with_args o past) k.device k.scan ≡ true
 kept_down None past k keep e h = h
@@ -193,7 +193,7 @@ new_down (Some (KeyOfDevice j)) past k keep e = by_down j.down refl e
         subst (λ l. (l.down ≡ true) × (down_keys past l.device l.scan ≡ false) × (down_keys (with_args (Some (KeyOfDevice j)) past) l.device l.scan ≡ true)) same (of_j d)
     by_down false d e = absurd (cc e)
 
--- a key that goes down is held by nobody
+-- no window holds a key that goes down
 pub not_held : (down : ℕ → ℕ → Bool) (ks : List KeyArgs) (d s : ℕ) → AllHeld down ks → down d s ≡ false → held_key ks d s ≡ None
 not_held down ks d s a n = by_key (held_key ks d s) refl
   where
@@ -233,7 +233,7 @@ all_held ds ((call, answer) ∷ h) w l =
     held_step (args_of call answer (inbound (past_of es))) (dispatched es) (is_target (past_of es) w && able es w)
     (loses_all ((call, answer) ∷ past_of es) (past_of es) w) (keys es w) (λ d. dispatched_keep ds ((call, answer) ∷ h) d l) (all_held ds h w l.1)
 
--- a key that goes down at a step is held by nobody before it
+-- no window holds a key before the step at which it goes down
 pub goes_down_new : (ds : List ℕ) (h : History) (w : ℕ) (o : Option Args) (k : KeyArgs) → Legal ds h → Keep (with_args o (dispatched (effects ds h)))
     → goes_down o ≡ Some k → (k.down ≡ true) × (held_key (keys (effects ds h) w) k.device k.scan ≡ None)
 goes_down_new ds h w o k l keep e =

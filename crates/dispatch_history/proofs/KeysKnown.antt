@@ -1,4 +1,4 @@
--- What a stream lets a window know of a key, and which key message is the last one of all.
+-- What a window knows about a key from its stream, and which key message is the last of all.
 use Rattle.std.proofs.Common.{◌≡◌, ℕ, ◌+◌, ◌==◌, ◌&&◌, Bool, true, false, cond, length, List, [], ◌∷◌, ◌++◌, map, filter, flat_map, option_and_then, Option, Some, None, refl, ap, ◌∙◌, subst}
 use Rattle.std.proofs.lemmas.Bool.{eq-eqb}
 use Rattle.input_types.specs.declared.axis.Pixel.{Pixel}
@@ -31,7 +31,7 @@ use Rattle.dispatch_history.proofs.SentMotions.{shifted}
 use Rattle.dispatch_history.proofs.MotionLaws.{live_said}
 use Rattle.dispatch_history.proofs.KeySends.{Known, one, all}
 
--- what messages and bodies do to what is known of a key
+-- how messages and bodies change what is known about a key
 abbrev pub body_known : ℕ → ℕ → Body → Known → Known
 body_known d s (KeyBody m) x = one d s m x
 body_known d s body x = x
@@ -97,7 +97,7 @@ unfolding bodies_known
 keys_known d s [] x = refl
 keys_known d s (k ∷ ks) x = keys_known d s ks (one d s k x)
 
--- a step does to what is known of a key what it tells of keys
+-- a step changes what is known about a key by what it sends about keys
 pub said_known : (ds : List ℕ) (call : Call) (answer : Reply) (h : History) (w d s : ℕ) → Legal ds ((call, answer) ∷ h) → live ((call, answer) ∷ past_of (effects ds h)) w ≡ true
     → known d s (stream (effects ds ((call, answer) ∷ h)) w)
     ≡ (let es = effects ds h in

@@ -1,4 +1,4 @@
--- Worked examples: pilfering spies, windows that go, removed channels, and a device that begins anew.
+-- Worked examples: pilfering spies, windows that disappear, removed channels, and a device that is reset.
 use Rattle.std.specs.Prelude.{◌≡◌, false, List, [], ◌∷◌, ◌++◌, replicate, drop, refl}
 use Rattle.input_types.specs.declared.message.Args.TheVariants.{Motion as MotionArgs, Reset}
 use Rattle.input_types.specs.declared.motion.MotionAction.TheVariants.{Down, Up, Move, Cancel, PointerDown, PointerUp}
@@ -55,7 +55,7 @@ a_part_is_cancelled_pointer_by_pointer :
     ∷ says 5 2000 (cancelled PointerUp 1 (at 1 2 2 ∷ at 2 3 3 ∷ [])) ∷ []
 a_part_is_cancelled_pointer_by_pointer = refl
 
--- A window goes and comes back while a finger is on it.
+-- A window disappears and comes back while a finger is on it.
 abbrev windows_go : List Call
 windows_go =
     Open 5000000 ∷ Windows 0 (window 1 0 0 0 1080 2400 ∷ []) ∷ [] ++ moved 1000000 Down 0 (at 0 540 1200 ∷ [])
@@ -80,7 +80,7 @@ a_removed_channel_is_sent_nothing_more = refl
 a_removed_channel_is_gone : replies_of removed ≡ Opened 1 ∷ Done ∷ Taken ∷ Dispatched ∷ Done ∷ Gone ∷ Gone ∷ Gone ∷ Gone ∷ []
 a_removed_channel_is_gone = refl
 
--- Two fingers are down when the device loses events and begins anew.
+-- Two fingers are down when the device loses events and is reset.
 abbrev reset : List Call
 reset =
     Open 5000000 ∷ Windows 0 (window 1 0 0 0 1080 2400 ∷ []) ∷ [] ++ moved 1000 Down 0 (at 0 100 200 ∷ [])
@@ -96,7 +96,7 @@ a_reset_cancels_all = refl
 an_up_after_a_reset_is_refused : replies_of reset ≡ Opened 1 ∷ Done ∷ Taken ∷ Dispatched ∷ Taken ∷ Dispatched ∷ Taken ∷ Dispatched ∷ Inconsistent 0 false ∷ []
 an_up_after_a_reset_is_refused = refl
 
--- 64 channels are opened, and one of them is removed: its number is not given again.
+-- 64 channels are opened, and one of them is removed: its number is not used again.
 abbrev sixty_four : List Call
 sixty_four = replicate 64 (Open 5000000) ++ Remove 0 1 ∷ Open 5000000 ∷ []
 

@@ -1,4 +1,4 @@
--- What a motion gives is given to able windows, and these pass what all the windows pass that it may go to.
+-- A motion gives pointers to able windows only, and these pass every test that all windows pass to which it may go.
 use Rattle.std.proofs.Common.{◌≡◌, ℕ, ◌==◌, ◌&&◌, Bool, true, false, not, cond, List, [], ◌∷◌, map, filter, find, option_map, Option, Some, None, refl, sym, ap, subst, inl, inr}
 use Rattle.std.specs.Prelude.{fold}
 use Rattle.std.proofs.lemmas.Bool.{and_parts, or_cases, true≢false, eqb-true}
@@ -23,7 +23,7 @@ abbrev AllPass : (ℕ → Bool) → List ℕ → Type 0
 AllPass P [] = Unit {0}
 AllPass P (w ∷ ws) = (P w ≡ true) × AllPass P ws
 
--- the channel passes it, where there is one
+-- the channel passes it, if there is one
 abbrev Passes : (ℕ → Bool) → Option ℕ → Type 0
 Passes P None = Unit {0}
 Passes P (Some c) = P c ≡ true

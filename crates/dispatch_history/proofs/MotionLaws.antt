@@ -52,7 +52,7 @@ removes_other ws (Notify now a) answer args w before e = tt
 removes_other ws (Receive c) answer args w before e = tt
 removes_other ws (Finish now c n) answer args w before e = tt
 
--- what a live channel is said, by its three parts
+-- what a live channel is sent, in its three parts
 pub live_said : (ds : List ℕ) (call : Call) (answer : Reply) (es : List Effect) (w : ℕ) → live ((call, answer) ∷ past_of es) w ≡ true
     → said_at ds call answer es w
     ≡ (let after_it = (call, answer) ∷ past_of es in
@@ -68,7 +68,7 @@ keys_said_down d after_it answer args es w x =
     keys_down d
     (keys_sent args (is_target (past_of es) w && able es w) (loses_all after_it (past_of es) w) (keys es w) ++ repeat_by after_it (last_key es) w) x
 
--- a step does to the ids that a window knows of a device what it is told of that device
+-- a step changes the ids that a window knows of a device by what it sends for that device
 step_down : (ds : List ℕ) (call : Call) (answer : Reply) (es : List Effect) (w d : ℕ) (ids next : List ℕ) → live ((call, answer) ∷ past_of es) w ≡ true → list_any (λ e. e == d) devices ≡ true
     → sent_ids ids (outgoing (scene ds es) (step_of (snapshot (past_of es)) call answer (args_of call answer (inbound (past_of es)))) w d) ≡ Some next
     → bodies_down d (said_at ds call answer es w) (Some ids) ≡ Some next
@@ -88,7 +88,7 @@ step_down ds call answer es w d ids next n h t =
     ∙ keys_said_down d after_it answer args es w (bodies_down d m (Some ids))
     ∙ one_of_devices (sent_with s e (mark s e) w) d o devices ids next (λ v. sent_of s e (mark s e) w v) devices_differ h t
 
--- of a device that has none of the numbers nothing is said
+-- nothing is sent for a device without one of the numbers
 step_skips : (ds : List ℕ) (call : Call) (answer : Reply) (es : List Effect) (w d : ℕ) (x : Option (List ℕ)) → live ((call, answer) ∷ past_of es) w ≡ true → list_any (λ e. e == d) devices ≡ false
     → bodies_down d (said_at ds call answer es w) x ≡ x
 step_skips ds call answer es w d x n h =
@@ -107,7 +107,7 @@ step_skips ds call answer es w d x n h =
     ∙ keys_said_down d after_it answer args es w (bodies_down d m x)
     ∙ none_of_devices (sent_with s e (mark s e) w) d o devices x (λ v. sent_of s e (mark s e) w v) h
 
--- a channel that was not opened yet has told nothing
+-- a channel that is not opened yet was sent nothing
 pub opened_mono : (call : Call) (answer : Reply) (n : ℕ) → n ≤ opened_after call answer n
 opened_mono (Open limit) (Opened k) n = omega arith
 opened_mono (Open limit) _ n = omega arith
@@ -161,7 +161,7 @@ holds_none ds h w d n i =
 abbrev Known : List ℕ → History → ℕ → ℕ → Type 0
 Known ds h w d = sent_down d (stream (effects ds h) w) ≡ Some (filter ((scene ds (effects ds h)).holds w d) (down_ids (effects ds h) d))
 
--- before a step after which the channel is live, its window knows what it holds
+-- if the channel is live after a step, its window knows before it what it holds
 known_before : (ds : List ℕ) (call : Call) (answer : Reply) (h : History) (w d : ℕ) → Legal ds ((call, answer) ∷ h) → live ((call, answer) ∷ h) w ≡ true → (live h w ≡ true → Known ds h w d) → Known ds h w d
 known_before ds call answer h w d l e known =
     elim (cases_Bool (live h w)) [
@@ -189,7 +189,7 @@ motions_law ds ((call, answer) ∷ h) w d l r e k =
     ∙ step_down ds call answer es w d (filter (s.holds w d) (down_ids es d)) (filter (after s (mark s step) w d) next) now_live k sent_it
     ∙ ap Some (sym (filter_agree ((scene ds (effects ds ((call, answer) ∷ h))).holds w d) (after s (mark s step) w d) (λ i. held_then (mark s step) (marks es) w d i) next))
 
--- of a device without a number nothing is known
+-- nothing is known about a device without a number
 pub none_known : (ds : List ℕ) (h : History) (w d : ℕ) → Legal ds h → list_any (λ e. e == d) devices ≡ false → sent_down d (stream (effects ds h) w) ≡ Some []
 none_known ds [] w d l n = refl
 none_known ds ((call, answer) ∷ h) w d l n =

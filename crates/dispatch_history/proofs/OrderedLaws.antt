@@ -17,7 +17,7 @@ rounds_are (suc n) plan es r = rounds_by n plan es r (λ fs s. rounds_are n plan
 pub ordered_sound : OrderedSound
 ordered_sound plan n e = (rounds_are n plan (begun plan) start, e)
 
--- after some number of rounds the function is where the relation is
+-- after some number of rounds the function agrees with the relation
 pub reached : (plan : Plan) (es : List Effect) → Rounds plan es → (n : ℕ) × ((m : ℕ) → ordered (n + m) plan ≡ rounds m plan es)
 reached plan es start = (0, λ m. ap (λ k. ordered k plan) (omega arith))
 reached plan es (next {es = before} {c = c} r e) =
@@ -31,7 +31,7 @@ ordered_complete plan es o =
     let k = reached plan es o.0 in
     (k.0 + 0, k.1 0)
 
--- where nothing is chosen, more rounds change nothing
+-- if nothing is chosen, more rounds change nothing
 pub stays : (m : ℕ) (plan : Plan) (es : List Effect) → chosen plan es ≡ None → rounds m plan es ≡ es
 stays zero plan es e = refl
 stays (suc m) plan es e = ap (rounds_with plan (λ later. rounds m plan later) es) e

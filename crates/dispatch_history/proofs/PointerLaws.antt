@@ -1,4 +1,4 @@
--- At each moment an id that is down is one pointer.
+-- At any time, an id that is down is one pointer.
 use Rattle.std.proofs.Common.{◌≡◌, ℕ, ◌==◌, ◌&&◌, Bool, true, false, cond, is_some, List, [], ◌∷◌, ◌++◌, length, remove, reverse, option_and_then, option_map, Option, Some, None, refl, sym, ap, ◌∙◌, subst, subst₂, inl, inr}
 use Rattle.std.proofs.lemmas.Bool.{and_parts, and_from, cases_Bool, both_ways, true≢false, eqb-true}
 use Rattle.input_types.specs.declared.message.Args.{Args}
@@ -79,7 +79,7 @@ opened_id m s t i e o c = by_kind (kind_of m s t e)
     by_kind (moves r g u v) = absurd (both_ways (is_down m.action) v o)
     by_kind (closes p q r g u) = absurd (down_not_up m.action o u)
 
--- an id that is down goes on being down, unless its up comes or its device begins anew
+-- an id that is down stays down unless its up comes or its device is reset
 stays_down : (d : ℕ) (a : Args) (s t : DeviceState) (i : ℕ) → (device_of a == d) ≡ true → after_args s a ≡ Some t → ups (Some a) d i ≡ false → among i s.ids ≡ true → among i t.ids ≡ true
 stays_down d (MotionArgs m) s t i q e n h = by_kind (kind_of m s t e)
   where
@@ -158,7 +158,7 @@ clash d i (Some (Key k)) past keeps rise o old = true≢false (sym o)
 clash d i (Some (Reset r)) past keeps rise o old = true≢false (sym o)
 clash d i None past keeps rise o old = true≢false (sym o)
 
--- what keeps the rule kept it before
+-- args that keep the rule kept it before the last one too
 keeps_before : (d : ℕ) (o : Option Args) (past : List Args) → is_some (device_state d (with_args o past)) ≡ true → is_some (device_state d past) ≡ true
 keeps_before d None past e = e
 keeps_before d (Some a) past e = older_kept d (a ∷ []) past e
@@ -187,7 +187,7 @@ one_place d i (y ∷ lp) xp bp (z ∷ lq) xq bq e k r l s o u m n =
     (keeps_before d z.args (dispatched (lq ++ xq ∷ bq)) l) (rises_before z.args (dispatched (lq ++ xq ∷ bq)) s)
     o u m.1 n.1
 
--- what was handed in rises, and so what was dispatched
+-- if the ids of what was handed in rise, so do those of what was dispatched
 rise_accepted : (now : ℕ) (a : Args) (answer : Reply) (acc : List Args) → RisesIn (Notify now a) → RiseAll acc → RiseAll (accepted_after (Notify now a) answer acc)
 rise_accepted now (MotionArgs m) Taken acc r old = (r, old)
 rise_accepted now (Key k) Taken acc r old = old

@@ -17,7 +17,7 @@ use Rattle.dispatch_history.specs.Reply.{pump_reply, is_due, id_bits, is_down}
 use Rattle.dispatch_history.specs.Laws.{QueueLaw, DeviceLaw}
 use Rattle.dispatch_history.proofs.LegalLaws.{effects_law}
 
--- a queue of accepted args, of which the first n were dispatched, these being the list
+-- a queue of accepted args, of which the first n, this list, were dispatched
 record Stands (acc : List Args) (n : ℕ) (out : List Args) : Type 0 where
   few : n ≤ length acc
   splits : acc ≡ reverse (drop n (reverse acc)) ++ out
@@ -61,7 +61,7 @@ pumped acc n now clock due out answer [] s e r =
     elim (cases_cond (is_due due clock) Repeated Idle answer r) [ inl x ↦ rw x s | inr x ↦ rw x s ]
 pumped acc n now clock due out answer (w ∷ ws) s e r = rw r (taken_out acc n out w ws s e)
 
--- a notify, by whether it is taken
+-- a notify, by whether it is accepted
 notified : (acc : List Args) (n now : ℕ) (c : Bool) (x : ℕ) (y : Bool) (out : List Args) (a : Args) (answer : Reply) → Stands acc n out
     → answer ≡ cond c Taken (Inconsistent x y) → Stands (accepted_after (Notify now a) answer acc) n out
 notified acc n now true x y out a answer s r = rw r (put a acc n out s)
@@ -88,7 +88,7 @@ stands ds ((Remove now channel, answer) ∷ h) l = stands ds h l.1
 pub queue_law : QueueLaw
 queue_law ds h l = (stands ds h l).splits
 
--- what keeps the rule of a device kept it before
+-- args that keep the rule of a device kept it before the last one too
 pub older_kept : (d : ℕ) (xs ys : List Args) → is_some (device_state d (xs ++ ys)) ≡ true → is_some (device_state d ys) ≡ true
 older_kept d [] ys e = e
 older_kept d (x ∷ xs) ys e = older_kept d xs ys (some_before (device_of x == d) (device_state d (xs ++ ys)) x e)
@@ -98,7 +98,7 @@ older_kept d (x ∷ xs) ys e = older_kept d xs ys (some_before (device_of x == d
     some_before true (Some s) x e = refl
     some_before false o x e = e
 
--- args that are taken keep the rule of their device, and change nothing of another one
+-- args that are accepted keep the rule of their device, and do not change another one
 taken_keep : (d : ℕ) (acc : List Args) (a : Args) → ((e : ℕ) → is_some (device_state e acc) ≡ true)
     → is_some (after_args (unwrap_or (device_state (device_of a) acc) nothing_down) a) ≡ true → is_some (device_state d (a ∷ acc)) ≡ true
 taken_keep d acc a all k = by_device (device_of a == d) refl

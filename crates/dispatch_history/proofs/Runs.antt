@@ -34,7 +34,7 @@ pressed now scan code down = record { moment = now; args = KeyOfDevice (key scan
 abbrev in_order : List Effect → ℕ → List Message
 in_order es c = reverse (stream es c)
 
--- A window goes and comes back while a finger is on it.
+-- A window disappears and comes back while a finger is on it.
 abbrev windows_go : Plan
 windows_go =
     record {
@@ -79,7 +79,7 @@ a_run_with_a_key_held_while_the_focus_moves = refl
 and_the_window_that_gains_it : in_order (ordered 20 focus_moves) 2 ≡ focused 1 1200000 true ∷ keyed 2 1400000 (key 999 0 true) 0 0 ∷ []
 and_the_window_that_gains_it = refl
 
--- A window never finishes: a tick names it.
+-- A window never finishes: a tick reports it.
 abbrev unresponsive : Plan
 unresponsive =
     record {
@@ -140,6 +140,6 @@ what_was_received_and_finished :
     ≡ 1 ∷ 1 ∷ 1 ∷ 0 ∷ []
 what_was_received_and_finished = refl
 
--- of four lines for the reader the fourth has no args left
+-- there are no args left for the fourth of four reader lines
 a_line_without_a_step : given_calls over_two (ReaderLine ∷ ReaderLine ∷ ReaderLine ∷ ReaderLine ∷ []) ≡ Err 3
 a_line_without_a_step = refl

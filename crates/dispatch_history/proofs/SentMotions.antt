@@ -95,7 +95,7 @@ sent_of s (Pilfers v x) k w d = cancels_are_of d (listing (s.holds w d) (s.last 
 sent_of s (Shows names) k w d = cancels_are_of d (listing (s.holds w d) (s.last d)) (listing (after s k w d) (s.last d)) (listing (λ i. s.holds w d i && not (after s k w d i)) (s.last d))
 sent_of s (Mutes muted) k w d = cancels_are_of d (listing (s.holds w d) (s.last d)) (listing (after s k w d) (s.last d)) (listing (λ i. s.holds w d i && not (after s k w d i)) (s.last d))
 
--- what bodies do to the ids of a device that are known to be down
+-- how bodies change the ids of a device that are known to be down
 pub bodies_down : ℕ → List Body → Option (List ℕ) → Option (List ℕ)
 bodies_down d [] x = x
 bodies_down d (b ∷ bs) x = bodies_down d bs (ids_after d b x)
@@ -128,7 +128,7 @@ others_down d e o (m ∷ ms) x n a =
     ap (λ c. bodies_down d (shifted o ms) (cond c (option_and_then (λ down. after_motion down (motion_from o m)) x) x)) (ap (λ v. v == d) a.0 ∙ n)
     ∙ others_down d e o ms x n a.1
 
--- motions of the device do what they do
+-- motions of the device change it as they do
 own_down : (d : ℕ) (o : Pixel) (ms : List Motion) (ids next : List ℕ) → AllOf d ms → sent_ids ids ms ≡ Some next → bodies_down d (shifted o ms) (Some ids) ≡ Some next
 unfolding bodies_down
 own_down d o [] ids next a e = e

@@ -25,7 +25,7 @@ sent_to-append (x ∷ xs) ys c = first (x.channel == c) (sent_to-append xs ys c)
     first true e = ap (λ bs. x.body ∷ bs) e
     first false e = e
 
--- what is sent to one channel, of bodies for another one and for itself
+-- the part of some bodies for one channel, if the first is for another one or for itself
 sent_one : (w c : ℕ) (b : Bool) (bs : List Body) → (w == c) ≡ b → sent_to (map (λ x. record { channel = w; body = x }) bs) c ≡ cond b bs []
 sent_one w c true [] e = refl
 sent_one w c false [] e = refl
@@ -35,7 +35,7 @@ sent_one w c false (x ∷ bs) e = rw e (sent_one w c false bs e)
 abbrev send : (ℕ → List Body) → ℕ → List Outgoing
 send f w = map (λ b. record { channel = w; body = b }) (f w)
 
--- a channel that is said nothing to is sent nothing
+-- a channel for which a step has no bodies is sent nothing
 sent_none : (f : ℕ → List Body) (c : ℕ) → f c ≡ [] → (ws : List ℕ) → sent_to (flat_map (send f) ws) c ≡ []
 sent_none f c e [] = refl
 sent_none f c e (w ∷ ws) =
@@ -46,7 +46,7 @@ sent_none f c e (w ∷ ws) =
     here true q = ap f (eqb-true w c q) ∙ e
     here false q = refl
 
--- what is sent to one of the channels 1 to n, the last of which stands apart
+-- what is sent to one of the channels 1 to n, with the last one apart
 last_apart : (f : ℕ → List Body) (n c : ℕ) → sent_to (sent_by f (suc n)) c ≡ sent_to (sent_by f n) c ++ cond (suc n == c) (f (suc n)) []
 last_apart f n c =
     ap (λ ts. sent_to ts c) (flat_map-append (send f) (channels n) (suc n ∷ []))
@@ -77,7 +77,7 @@ sent_within f (suc n) c one le =
     below_of : (suc n ≡ c → ⊥) → c ≤ n
     below_of ne = elim (cases_lt n c) [ inl lt ↦ absurd (ne (omega (arith, lt, le))) | inr ge ↦ ge ]
 
--- a live channel has one of the numbers that were given
+-- the number of a live channel was handed out
 opened_live : (n k c : ℕ) (answer : Reply) (limit : ℕ) (before : Bool) → answer ≡ cond (nat_lt n 64) (Opened (n + 1)) Full
     → (before ≡ true → (1 ≤ c) × (c ≤ n)) → live_after (Open limit) answer c before ≡ true → (1 ≤ c) × (c ≤ opened_after (Open limit) answer n)
 opened_live n k c answer limit before r old l =
@@ -113,7 +113,7 @@ live_law ds ((Receive channel, answer) ∷ h) c l e = live_law ds h c l.1 e
 live_law ds ((Finish now channel seq, answer) ∷ h) c l e = live_law ds h c l.1 e
 live_law ds ((Pilfer now channel device, answer) ∷ h) c l e = live_law ds h c l.1 e
 
--- a channel that is not live after a step is said nothing
+-- a channel that is not live after a step is sent nothing
 not_live_said : (ds : List ℕ) (call : Call) (answer : Reply) (es : List Effect) (c : ℕ) → live ((call, answer) ∷ past_of es) c ≡ false → said_at ds call answer es c ≡ []
 not_live_said ds call answer es c n = rw n refl
 

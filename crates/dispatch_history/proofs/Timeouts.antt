@@ -1,4 +1,4 @@
--- Worked examples: windows that do not answer, and messages that are finished out of order.
+-- Worked examples: windows that do not respond, and messages that are finished out of order.
 use Rattle.std.specs.Prelude.{ℕ, zero, suc, ◌≡◌, true, false, List, [], ◌∷◌, ◌++◌, take, drop, refl, replicate, reverse}
 use Rattle.input_types.specs.declared.message.Args.TheVariants.{Motion as MotionArgs}
 use Rattle.input_types.specs.declared.message.Message.{Message}
@@ -18,7 +18,7 @@ whole = Open 5000000 ∷ Windows 0 (window 1 0 0 0 1080 2400 ∷ []) ∷ []
 abbrev finger : ℕ → ℕ → ℕ → Message
 finger seq now x = says seq now (motion Down 0 (at 0 x 1200 ∷ []))
 
--- A window takes a down and leaves it unfinished.
+-- A window receives a down and leaves it unfinished.
 abbrev left_unfinished : List Call
 left_unfinished =
     whole ++ moved 0 Down 0 (at 0 540 1200 ∷ []) ++ Receive 1 ∷ Tick 4999999 ∷ Tick 5000000 ∷ Tick 6000000 ∷ Receive 1 ∷ []
@@ -37,7 +37,7 @@ a_named_window_loses_its_pointers = refl
 a_finish_that_leaves_nothing_late_makes_it_able : able (run one_display (reverse left_unfinished)) 1 ≡ true
 a_finish_that_leaves_nothing_late_makes_it_able = refl
 
--- 64 messages may be published and unfinished; the next one is published, and so delivered, where one is finished.
+-- 64 messages may be published and unfinished; the next one is published, and so delivered, when one is finished.
 abbrev moves : ℕ → List Call
 moves zero = []
 moves (suc n) = moves n ++ moved 1000 Move 0 (at 0 540 1200 ∷ [])
@@ -61,7 +61,7 @@ the_65th_message_waits_for_a_finish = refl
 its_delivery_is_the_clock_of_the_finish : delivery (run one_display (reverse (many ++ replicate 65 (Receive 1) ++ Finish 2000 1 40 ∷ []))) 1 65 ≡ 2000
 its_delivery_is_the_clock_of_the_finish = refl
 
--- Messages are finished out of order, and a window answers again.
+-- Messages are finished out of order, and a window responds again.
 abbrev out_of_order : List Call
 out_of_order =
     whole ++ moved 0 Down 0 (at 0 540 1200 ∷ []) ++ moved 1000000 Move 0 (at 0 550 1200 ∷ []) ++ Receive 1 ∷ Receive 1 ∷ []
@@ -99,13 +99,13 @@ removed_when_it_was_named :
     ≡ finger 1 0 540 ∷ says 2 1000000 (motion Move 0 (at 0 550 1200 ∷ [])) ∷ says 3 5000000 (motion Cancel 0 (at 0 550 1200 ∷ [])) ∷ []
 removed_when_it_was_named = refl
 
--- what is asked of it then is answered with Gone
+-- calls on it then reply Gone
 removed_after_the_first_message :
     drop 4 (replies_of (take 4 out_of_order ++ Remove 0 1 ∷ Receive 1 ∷ Finish 0 1 1 ∷ Pilfer 0 1 1 ∷ Remove 0 1 ∷ []))
     ≡ Done ∷ Gone ∷ Gone ∷ Gone ∷ Gone ∷ []
 removed_after_the_first_message = refl
 
--- A spy that was named before it pilfers holds nothing.
+-- A spy that was reported before it pilfers holds nothing.
 abbrev named_spy : List Call
 named_spy =
     Open 5000000 ∷ Windows 0 (window 1 16 0 0 1080 2400 ∷ []) ∷ [] ++ moved 0 Down 0 (at 0 540 1200 ∷ []) ++ Tick 5000000 ∷ Pilfer 5000000 1 1 ∷ []
@@ -113,7 +113,7 @@ named_spy =
 a_named_spy_has_nothing_to_pilfer : drop 4 (replies_of named_spy) ≡ Named 1 ∷ NothingHeld ∷ []
 a_named_spy_has_nothing_to_pilfer = refl
 
--- Two channels and no window. A motion of a finger that is not down is refused, and raises the clock all the same.
+-- Two channels and no window. A motion of a finger that is not down is refused, but still advances the clock.
 a_refused_call_raises_the_clock :
     clock (replay one_display (reverse (Open 5000000 ∷ Open 5000000 ∷ Notify 9000000 (MotionArgs (motion Move 0 (at 0 1 1 ∷ []))) ∷ []))) ≡ 9000000
 a_refused_call_raises_the_clock = refl
@@ -123,7 +123,7 @@ a_move_of_nothing_is_refused :
     ≡ Opened 1 ∷ Opened 2 ∷ Inconsistent 0 false ∷ Opened 3 ∷ []
 a_move_of_nothing_is_refused = refl
 
--- so a tick that hands in no later moment names by it
+-- so a tick with no later moment reports by that clock
 abbrev named_by_the_clock : List Call
 named_by_the_clock =
     whole ++ moved 0 Down 0 (at 0 540 1200 ∷ []) ++ Tick 0 ∷ Notify 9000000 (MotionArgs (motion Move 0 [])) ∷ Tick 0 ∷ []

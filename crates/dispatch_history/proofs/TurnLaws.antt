@@ -132,7 +132,7 @@ all_list : (f : ℕ → List Motion) → ((d : ℕ) → Lists (f d)) → (ds : L
 all_list f each [] = tt
 all_list f each (d ∷ ds) = both_list (f d) (flat_map f ds) (each d) (all_list f each ds)
 
--- places count for nothing
+-- positions do not matter
 has_moved : (o : Pixel) (i : ℕ) (ps : List Pointer) → has_id i (map (λ p. record { id = p.id; at = place_from o p.at }) ps) ≡ has_id i ps
 has_moved o i [] = refl
 has_moved o i (p ∷ ps) = ap (λ b. p.id == i || b) (has_moved o i ps)
@@ -201,7 +201,7 @@ stream_apart ds ((call, answer) ∷ h) w l r =
         (λ d. sent_lists s e (mark s e) w d (step_facts ds call answer h d l r).rises (λ v. apart_rising (s.last v) (fit_law ds h v l.1 r.1).rises)) devices) in
         both_apart (m ++ k) f (both_apart m k ms (keys_apart _)) (focus_apart (has_focus (past_of es) w) (has_focus ((call, answer) ∷ past_of es) w))
 
--- of ids that are down a set has just its own, where those are down
+-- if the ids of a set are down, the set selects exactly these of the ids that are down
 held_among : (f : ℕ → Bool) (i : ℕ) (xs : List ℕ) → (f i ≡ true → among i xs ≡ true) → among i (filter f xs) ≡ f i
 held_among f i xs down = any-filter_same (λ j. j == i) f (f i) (λ k e. ap f (eqb-true k i e)) xs ∙ by_held (f i) refl
   where

@@ -1,4 +1,4 @@
--- In a well-formed stream whose motions list different ids each pointer goes down and ends by turns.
+-- In a well-formed stream whose motions list different ids, each pointer alternately goes down and ends.
 use Rattle.std.proofs.Common.{◌≡◌, ℕ, ◌==◌, ◌&&◌, nat_lt, Bool, true, false, not, cond, length, remove, slice_get, List, [], ◌∷◌, option_and_then, Option, Some, None, refl, sym, ap, ◌∙◌, subst, subst₂, arith}
 use Rattle.std.proofs.lemmas.Bool.{true≢false, and_parts, eqb-true, ltb-true}
 use Rattle.input_types.specs.declared.message.Body.{Body}
@@ -44,7 +44,7 @@ listed ps k i p e q = any-ids_of i ps ∙ subst (λ x. has_id x ps ≡ true) (eq
 unlisted : (ps : List Pointer) (k i : ℕ) (p : Pointer) → Apart ps → slice_get ps k ≡ Some p → (p.id == i) ≡ true → among i (remove (ids_of ps) k) ≡ false
 unlisted ps k i p a e q = subst (λ x. among x (remove (ids_of ps) k) ≡ false) (eqb-true p.id i q) (not_in_remove ps k p a e)
 
--- what a motion does to one pointer, by its action
+-- how a motion changes one pointer, by its action
 abbrev Turn : MotionAction → List Pointer → ℕ → ℕ → Bool → Option Bool
 Turn a ps k i was =
     cond (is_down a && is_of (slice_get ps k) i) (allowed (not was) true) (cond (is_end_of a (slice_get ps k) ps i) (allowed was false) (Some was))
@@ -72,7 +72,7 @@ closes ps k i p before next a e b n =
     by_id true q = ap (λ t. allowed t false) (listed ps k i p e q) ∙ ap Some (sym (unlisted ps k i p a e q))
     by_id false q = ap Some (sym (others_stay ps k i p e q))
 
--- all that is listed ends
+-- all listed pointers end
 ends_all : (ps : List Pointer) (i : ℕ) (before next : List ℕ) → ids_of ps ≡ before → [] ≡ next
     → cond (has_id i ps) (allowed (among i before) false) (Some (among i before)) ≡ Some (among i next)
 ends_all ps i before next b n =
@@ -131,7 +131,7 @@ one_turn Cancel ps k flags i before next a e =
 one_turn Move ps k flags i before next a e = ap (λ xs. Some (among i xs)) (allowed_parts _ before next e).1
 one_turn Outside ps k flags i before next a e = ap (λ xs. Some (among i xs)) (allowed_parts _ before next e).1
 
--- a motion does to a pointer of its device what its action does, and to one of another device nothing
+-- a motion changes a pointer of its own device as its action says, and does not change one of another device
 own_turn : (d i : ℕ) (m : Motion) (was : Bool) → (m.device == d) ≡ true → pointer_after d i (MotionBody m) (Some was) ≡ Turn m.action m.pointers m.index i was
 own_turn d i m was q =
     ap (λ t.

@@ -46,7 +46,8 @@ the_other_one_keeps_its_focus_and_loses_its_keys :
     ≡ focused 1 0 true ∷ keyed 2 1000000 (volume true) 0 0 ∷ keyed 3 1200000 (volume false) 0x20 0 ∷ []
 the_other_one_keeps_its_focus_and_loses_its_keys = refl
 
--- A key is held when nobody is requested on the other display: it is cancelled, and the next key goes to nobody.
+-- A key is held when the focus of the other display is requested for none: it is cancelled, and the next key goes to
+-- no window.
 abbrev keys_to_nobody : List Call
 keys_to_nobody =
     open_two ++ Windows 0 (a ∷ b ∷ []) ∷ FocusOn 0 0 (Some 1) ∷ [] ++ pressed 1000000 true ++ FocusOn 1200000 1 None ∷ []
@@ -84,7 +85,7 @@ it_loses_its_pointer_and_the_focus_there_and_does_not_get_it_here :
     ∷ says_2 7 7000 Down (at 0 10 20 ∷ []) ∷ []
 it_loses_its_pointer_and_the_focus_there_and_does_not_get_it_here = refl
 
--- It was requested on both displays: it is focused before and after, and told nothing of it.
+-- It was requested on both displays: it is focused before and after, and is sent nothing about it.
 abbrev requested_on_both : List Call
 requested_on_both =
     Open 5000000 ∷ Windows 0 (a ∷ []) ∷ FocusOn 0 1 (Some 1) ∷ FocusOn 0 0 (Some 1) ∷ Windows 3000 (on 1 a ∷ []) ∷ []

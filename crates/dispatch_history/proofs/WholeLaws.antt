@@ -27,7 +27,7 @@ use Rattle.dispatch_history.proofs.FocusLaws.{focus_law, focus_comes}
 use Rattle.dispatch_history.proofs.KeyLaws.{keys_law, keys_come}
 use Rattle.dispatch_history.proofs.Agreeing.{Agrees, agrees}
 
--- each field of what is known comes
+-- each field of what is known is Some
 whole : (ds : List ℕ) (h : History) (w : ℕ) → Legal ds h → AllRise h → Agrees (stream (effects ds h) w)
 whole ds h w l r =
     agrees (stream (effects ds h) w)

@@ -18,7 +18,7 @@ while_held =
     ++ dispatch 3000 (MotionArgs (of 2 (motion Down 0 (at 0 300 400 ∷ []))))
     ++ moved 4000 PointerDown 1 (at 0 100 200 ∷ at 1 500 600 ∷ []) ++ Pump 502000 ∷ []
 
--- then the other device lifts its finger, and nobody is requested any more
+-- then the other device lifts its finger, and the focus is requested for none
 abbrev and_then : List Call
 and_then = while_held ++ dispatch 503000 (MotionArgs (of 2 (motion Up 0 (at 0 300 400 ∷ [])))) ++ FocusOn 504000 0 None ∷ []
 

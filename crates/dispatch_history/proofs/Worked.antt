@@ -1,4 +1,5 @@
--- Windows, motions, calls and messages for the worked examples. Lists of calls and messages stand in order here, the first first.
+-- Windows, motions, calls and messages for the worked examples. Lists of calls and messages are in order here, oldest
+-- first.
 use Rattle.std.specs.Prelude.{ℕ, pos, Bool, List, [], ◌∷◌, map, reverse, replicate}
 use Rattle.touch_region.specs.declared.rectangle.Rect.{Rect}
 use Rattle.window_snapshot.specs.declared.window.Window.{Window}

@@ -1,4 +1,4 @@
--- Which windows a tick names, and when the next one is due.
+-- Which windows a tick reports, and when the next one is due.
 use Rattle.std.specs.Prelude.{ℕ, ◌+◌, max, length, nat_le, Bool, false, ◌&&◌, nat_lt, List, [], ◌∷◌, ◌++◌, filter, filter_map, fold, Option, Some, None, if◌then◌else◌}
 use Rattle.input_types.specs.declared.message.Message.{Message}
 use Rattle.window_snapshot.specs.Mask.{mask_has, mask_with}
@@ -12,13 +12,13 @@ use Rattle.dispatch_history.specs.Effect.{Effect, past_of, stream}
 use Rattle.dispatch_history.specs.Delivery.{able, delivery, is_late, oldest, published}
 use Rattle.dispatch_history.specs.Effects.{channels}
 
--- some message is there, and it is late at the moment
+-- there is a message, and it is late at the moment
 abbrev pub is_late_at : List Effect → ℕ → ℕ → Option Message → Bool
 is_late_at es c now None = false
 is_late_at es c now (Some m) = is_late es c now m
 
--- the channels that a tick at this moment names: those that are able whose oldest published and unfinished message is late
--- once the clock is raised
+-- the channels that a tick at this moment reports: able ones whose oldest published and unfinished message is late
+-- once the clock is advanced
 abbrev pub named : List Effect → ℕ → List ℕ
 named es now =
     filter (λ c. able es c && is_late_at es c (max now (clock (past_of es))) (oldest es c)) (channels (opened (past_of es)))
@@ -27,7 +27,7 @@ named es now =
 abbrev pub mask_of : List ℕ → ℕ
 mask_of cs = fold mask_with 0 cs
 
--- when a channel is due to be named: its limit after the delivery of its oldest published and unfinished message
+-- when a channel is due to be reported: its limit after the delivery of its oldest published and unfinished message
 pub record Due : Type 0 where
   pub moment : ℕ
   pub channel : ℕ
@@ -41,27 +41,27 @@ due_at es c (Some m) = Some (record { moment = delivery es c m.seq + limit_of (p
 abbrev pub dues : List Effect → List Due
 dues es = filter_map (λ c. due_at es c (oldest es c)) (filter (able es) (channels (opened (past_of es))))
 
--- the better of two dues: the lesser moment, and of one moment the one that comes first
+-- the earlier of two dues; if their moments are equal, the first
 abbrev pub sooner_due : Option Due → Due → Option Due
 sooner_due None d = Some d
 sooner_due (Some best) d = Some (if nat_lt d.moment best.moment then d else best)
 
--- the first due of all: the least moment, and of one moment the least channel
+-- the first due of all: the earliest moment, and at equal moments the lowest channel
 abbrev pub first_due : List Effect → Option Due
 first_due es = fold sooner_due None (dues es)
 
--- what is noted of each channel that a tick names, in rising order: the clock of the tick, and its oldest message then
+-- the record of each channel that a tick reports, in rising order: the clock at the tick, and its oldest message then
 abbrev pub anr_of : List Effect → ℕ → ℕ → Option Message → Option Anr
 anr_of es now c None = None
 anr_of es now c (Some m) = Some (record { clock = now; channel = c; seq = m.seq })
 
--- the namings that a step with this reply and this clock makes, by rising channel
+-- the ANRs of a step with this reply and this clock, by rising channel
 abbrev pub anrs_by : Reply → ℕ → List Effect → List Anr
 anrs_by (Named mask) now before =
     filter_map (λ c. anr_of before now c (oldest before c)) (filter (mask_has mask) (channels (opened (past_of before))))
 anrs_by reply now before = []
 
--- all namings, in the order of the history
+-- all ANRs, in the order of the history
 abbrev pub anrs : List Effect → List Anr
 anrs [] = []
 anrs (x ∷ before) = anrs before ++ anrs_at x.past before
@@ -70,7 +70,7 @@ anrs (x ∷ before) = anrs before ++ anrs_at x.past before
     anrs_at [] before = []
     anrs_at (e ∷ h) before = anrs_by e.1 (clock (e ∷ h)) before
 
--- how far a channel has come, where it was opened
+-- how far a channel has come, if it was opened
 abbrev pub counts : List Effect → ℕ → Option Counts
 counts es c =
     let h = past_of es in

@@ -18,11 +18,11 @@ abbrev pub channels : ℕ → List ℕ
 channels zero = []
 channels (suc n) = channels n ++ suc n ∷ []
 
--- what a step tells, channel by channel
+-- what a step sends, channel by channel
 abbrev pub sent_by : (ℕ → List Body) → ℕ → List Outgoing
 sent_by said_to n = flat_map (λ w. map (λ b. record { channel = w; body = b }) (said_to w)) (channels n)
 
--- what a step with this mark says to a channel
+-- what a step with this mark sends to a channel
 abbrev pub said_with : History → Option Args → List Effect → Scene → Step → Mark → ℕ → List Body
 said_with after args before s e k c = said after args s e k before c
 
@@ -31,11 +31,11 @@ abbrev pub effect_with : History → Option Args → List Effect → Scene → S
 effect_with after args before s e k =
     record { past = after; args = args; mark = k; outgoing = sent_by (said_with after args before s e k) (opened after) }
 
--- the effect of a step that is this to the rules
+-- the effect of a step, from what it is to the rules
 abbrev pub effect_in : History → Option Args → List Effect → Scene → Step → Effect
 effect_in after args before s e = effect_with after args before s e (mark s e)
 
--- the effect of the step with this call and reply, which dispatches these args, where the devices are on these displays
+-- the effect of the step with this call and reply, which dispatches these args, for devices on these displays
 abbrev pub effect_of : List ℕ → Call → Reply → Option Args → List Effect → Effect
 effect_of displays call reply args before =
     effect_in ((call, reply) ∷ past_of before) args before (scene displays before) (step_of (snapshot (past_of before)) call reply args)
@@ -44,12 +44,12 @@ effect_of displays call reply args before =
 abbrev pub step : List ℕ → Call → Reply → List Effect → List Effect
 step displays call reply before = effect_of displays call reply (args_of call reply (inbound (past_of before))) before ∷ before
 
--- the effects of a history, newest first, where the devices are on these displays
+-- the effects of a history, newest first, for devices on these displays
 abbrev pub effects : List ℕ → History → List Effect
 effects displays [] = []
 effects displays (e ∷ h) = step displays e.0 e.1 (effects displays h)
 
--- what the step with this call and reply says to a channel
+-- what the step with this call and reply sends to a channel
 abbrev pub said_at : List ℕ → Call → Reply → List Effect → ℕ → List Body
 said_at displays call reply before c =
     let args = args_of call reply (inbound (past_of before)) in

@@ -1,4 +1,4 @@
--- Which windows have the focus, and to which of them keys go.
+-- Which windows have the focus, and which of them gets keys.
 use Rattle.std.specs.Prelude.{ℕ, Bool, true, false, ◌==◌, ◌&&◌, if◌then◌else◌, List, [], ◌∷◌, Option, None}
 use Rattle.input_types.specs.declared.message.Body.{Body}
 use Rattle.input_types.specs.declared.message.Body.TheVariants.{Focus}
@@ -18,21 +18,21 @@ abbrev pub requested : History → ℕ → Option ℕ
 requested [] y = None
 requested (e ∷ h) y = requested_after e.0 y (requested h y)
 
--- with each request its display is the one that was asked for last
+-- a request makes its display the one requested last
 abbrev pub asked_after : Call → ℕ → ℕ
 asked_after (FocusOn now display channel) before = display
 asked_after call before = before
 
--- the display for which the focus was requested last, 0 before any request
+-- the display of the last focus request; 0 before any request
 abbrev pub asked : History → ℕ
 asked [] = 0
 asked (e ∷ h) = asked_after e.0 (asked h)
 
--- a channel may have the focus of display y where it is live, and the snapshot names it there with a window that may have it
+-- a channel may have the focus of display y if it is live, and the snapshot shows a window of it there that may have it
 abbrev pub may_focus : History → ℕ → ℕ → Bool
 may_focus h y c = live h c && is_focusable_on (snapshot h) y c
 
--- the window that has the focus of display y, if there is one: the one requested last for it, where that may
+-- the window that has the focus of display y, if there is one: the one last requested for it, if that may have it
 abbrev pub focus : History → ℕ → Option ℕ
 focus h y = focus_at (may_focus h) (requested h) y
 
@@ -40,7 +40,7 @@ focus h y = focus_at (may_focus h) (requested h) y
 abbrev pub has_focus : History → ℕ → Bool
 has_focus h w = is_focused (focus h) w
 
--- the key target, if there is one: the window that has the focus of the display that was asked for last
+-- the key target, if there is one: the window that has the focus of the display of the last request
 abbrev pub key_target : History → Option ℕ
 key_target h = focus h (asked h)
 
@@ -48,7 +48,7 @@ key_target h = focus h (asked h)
 abbrev pub is_target : History → ℕ → Bool
 is_target h w = is_at (key_target h) w
 
--- what a window is told where its focus changes: that it has lost it, or that it has it now
+-- what a window is sent when its focus changes: that it lost the focus, or that it has it now
 abbrev pub focus_sent : Bool → Bool → List Body
 focus_sent true false = Focus false ∷ []
 focus_sent false true = Focus true ∷ []

@@ -1,4 +1,4 @@
--- A history of the dispatcher: its calls with their replies, newest first. What is before a step is the tail.
+-- A history of the dispatcher: its calls with their replies, newest first. The tail is what came before the last step.
 use Rattle.std.specs.Prelude.{ℕ, suc, max, Bool, false, not, ◌==◌, ◌&&◌, ◌||◌, List, [], ◌∷◌, if◌then◌else◌}
 use Rattle.input_types.specs.declared.axis.Pixel.{Pixel}
 use Rattle.window_snapshot.specs.declared.window.Window.{Window}
@@ -14,7 +14,7 @@ use Rattle.window_snapshot.specs.Origins.{corner, or_origin}
 abbrev pub History : Type 0
 History = List (Call × Reply)
 
--- the clock: the greatest moment that any call handed in, refused ones included
+-- the clock: the latest moment of any call, refused ones included
 abbrev pub clock : History → ℕ
 clock [] = 0
 clock (e ∷ h) = max (moment_of e.0) (clock h)
@@ -24,12 +24,12 @@ abbrev pub opened_after : Call → Reply → ℕ → ℕ
 opened_after (Open limit) (Opened k) before = suc before
 opened_after call reply before = before
 
--- how many channels were opened; they have the numbers from 1 to this
+-- how many channels were opened; their numbers run from 1 to this
 abbrev pub opened : History → ℕ
 opened [] = 0
 opened (e ∷ h) = opened_after e.0 e.1 (opened h)
 
--- a step's part in what is live: a channel that it opens is, and one that it removes is not; the others are as before
+-- how a step changes what is live: it opens or removes a channel, and leaves the others as before
 abbrev pub live_after : Call → Reply → ℕ → Bool → Bool
 live_after (Open limit) (Opened k) c before = c == k || before
 live_after (Remove now k) Done c before = not (c == k) && before
@@ -40,7 +40,7 @@ abbrev pub live : History → ℕ → Bool
 live [] c = false
 live (e ∷ h) c = live_after e.0 e.1 c (live h c)
 
--- the opening of a channel says its limit
+-- the call that opens a channel gives its limit
 abbrev pub limit_after : Call → Reply → ℕ → ℕ → ℕ
 limit_after (Open limit) (Opened k) c before = if c == k then limit else before
 limit_after call reply c before = before
@@ -50,7 +50,7 @@ abbrev pub limit_of : History → ℕ → ℕ
 limit_of [] c = 0
 limit_of (e ∷ h) c = limit_after e.0 e.1 c (limit_of h c)
 
--- a new snapshot takes the place of the last one
+-- a new snapshot replaces the last one
 abbrev pub windows_after : Call → List Window → List Window
 windows_after (Windows now snapshot) before = snapshot
 windows_after call before = before
@@ -60,36 +60,36 @@ abbrev pub snapshot : History → List Window
 snapshot [] = []
 snapshot (e ∷ h) = windows_after e.0 (snapshot h)
 
--- a channel is on display y where it is live, and the snapshot names it there
+-- a channel is on display y if it is live, and the snapshot shows it there
 abbrev pub is_on : History → ℕ → ℕ → Bool
 is_on h y c = live h c && is_shown_on (snapshot h) y c
 
--- a snapshot that names a window says its origin
+-- a snapshot that contains a window gives its origin
 abbrev pub origin_after : Call → ℕ → Pixel → Pixel
 origin_after (Windows now snapshot) w before = or_origin (origin_of snapshot w) before
 origin_after call w before = before
 
--- the origin of a window: the corner of its frame in the last snapshot that named it
+-- the origin of a window: the corner of its frame in the last snapshot that contained it
 abbrev pub origin : History → ℕ → Pixel
 origin [] w = corner
 origin (e ∷ h) w = origin_after e.0 w (origin h w)
 
--- a message that the owner of a channel got is one more
+-- a message that the owner of a channel received counts as one more
 abbrev pub received_after : Call → Reply → ℕ → ℕ → ℕ
 received_after (Receive k) (Got m) c before = if c == k then suc before else before
 received_after call reply c before = before
 
--- how many messages of a channel its owner took
+-- how many messages of a channel its owner received
 abbrev pub received : History → ℕ → ℕ
 received [] c = 0
 received (e ∷ h) c = received_after e.0 e.1 c (received h c)
 
--- a finish that was done adds its number
+-- a successful finish adds the number of its message
 abbrev pub finished_after : Call → Reply → ℕ → List ℕ → List ℕ
 finished_after (Finish now k seq) Done c before = if c == k then seq ∷ before else before
 finished_after call reply c before = before
 
--- the numbers of the messages of a channel with which its owner is done, the last first
+-- the numbers of the messages of a channel that its owner finished, newest first
 abbrev pub finished : History → ℕ → List ℕ
 finished [] c = []
 finished (e ∷ h) c = finished_after e.0 e.1 c (finished h c)

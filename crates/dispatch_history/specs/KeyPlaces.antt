@@ -1,4 +1,4 @@
--- Which keys a window holds, as facts about places: some step gives a key to it, and no later step takes it.
+-- Which keys a window holds, as facts about indices: some step gives a key to it, and no later step takes it.
 use Rattle.std.specs.Prelude.{ℕ, ◌≡◌, Bool, true, false, ◌||◌, List, [], ◌∷◌, ◌++◌, Some}
 use Rattle.input_types.specs.declared.key.KeyArgs.{KeyArgs}
 use Rattle.dispatch_history.specs.Effect.{Effect, past_of}
@@ -15,11 +15,11 @@ GivesKey x before w k = (goes_down x.args ≡ Some k) × (is_target (past_of bef
 abbrev pub takes_key : Effect → List Effect → ℕ → KeyArgs → Bool
 takes_key x before w k = ends x.args k || loses_all x.past (past_of before) w
 
--- behind the steps `before` none of the later ones takes it
+-- after the steps `before`, no later step takes it
 abbrev pub NoneTakesKey : (later before : List Effect) → ℕ → KeyArgs → Type 0
 NoneTakesKey [] before w k = Unit {0}
 NoneTakesKey (x ∷ later) before w k = (takes_key x (later ++ before) w k ≡ false) × NoneTakesKey later before w k
 
--- window w holds the key: some place gives it and no later place takes it
+-- window w holds the key: some step gives it and no later step takes it
 abbrev pub HoldsKey : List Effect → ℕ → KeyArgs → Type 0
 HoldsKey es w k = (at : StepAt es) × GivesKey at.effect at.before w k × NoneTakesKey at.later (at.effect ∷ at.before) w k

@@ -1,4 +1,4 @@
--- What windows are told of keys, and when a key that is held is repeated.
+-- What windows are sent for keys, and when a held key is repeated.
 use Rattle.std.specs.Prelude.{ℕ, Bool, false, ◌==◌, List, [], ◌∷◌, map, filter, Option, Some, None, if◌then◌else◌}
 use Rattle.std.specs.List.{list_any}
 use Rattle.input_types.specs.declared.key.KeyArgs.{KeyArgs}
@@ -16,7 +16,7 @@ use Rattle.dispatch_history.specs.History.{History, clock}
 use Rattle.dispatch_history.specs.Effect.{Effect, Outgoing}
 use Rattle.dispatch_history.specs.Keys.{same_key, ends, keys}
 
--- a key goes down or up as its device says
+-- a key goes down or up as its device reports
 abbrev pub key_as_is : KeyArgs → KeyMsg
 key_as_is k = record { key = k; flags = 0; repeat = 0 }
 
@@ -26,14 +26,14 @@ key_cancelled k =
     let up : KeyArgs = record { device = k.device; scan = k.scan; code = k.code; meta = k.meta; down = false } in
     record { key = up; flags = 0x20; repeat = 0 }
 
--- What a window is told of keys at a step, with the keys that it held before it. A key goes down, where the window hears it;
--- a key that it holds goes up; what it loses otherwise is cancelled.
+-- What a window is sent for keys at a step, from the keys that it held before. A key goes down, if the window gets
+-- keys. A key that it holds goes up. Keys that it loses otherwise are cancelled.
 abbrev pub keys_sent : Option Args → (hears loses : Bool) → List KeyArgs → List KeyMsg
 keys_sent (Some (KeyOfDevice k)) hears loses held =
     if k.down then (if hears then key_as_is k ∷ [] else []) else (if list_any (same_key k) held then key_as_is k ∷ [] else [])
 keys_sent args hears loses held = map key_cancelled (if loses then held else filter (ends args) held)
 
--- the last key message among what a step told, or else the one before
+-- the last key message among those that a step sent, or else the one before
 abbrev pub key_in : ℕ → List Outgoing → Option Sent → Option Sent
 key_in now [] before = before
 key_in now (t ∷ ts) before = key_in now ts (key_of now t.channel t.body before)
@@ -52,16 +52,16 @@ abbrev pub while_held : List Effect → Option Sent → Option Sent
 while_held es None = None
 while_held es (Some s) = if list_any (same_key s.key.key) (keys es s.channel) then Some s else None
 
--- the moment at which the last key message is to be repeated, if it is to be: a down, while its window holds the key
+-- the moment at which the last key message must be repeated, if ever: it is a down, and its window still holds the key
 abbrev pub repeat_due : List Effect → Option ℕ
 repeat_due es = due_of (while_held es (last_key es))
 
--- a pump that repeats a key tells its window the same down with the next repeat number
+-- a pump that repeats a key sends its window the same down with the next repeat number
 abbrev pub repeat_sent : Call → Reply → Option Sent → ℕ → List KeyMsg
 repeat_sent (Pump now) Repeated (Some s) w = if w == s.channel then repeated s.key ∷ [] else []
 repeat_sent call reply last w = []
 
--- what the last step of a history tells a window of repeats
+-- the repeats that the last step of a history sends to a window
 abbrev pub repeat_by : History → Option Sent → ℕ → List KeyMsg
 repeat_by [] last w = []
 repeat_by (e ∷ h) last w = repeat_sent e.0 e.1 last w

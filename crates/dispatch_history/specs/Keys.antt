@@ -1,4 +1,4 @@
--- Which window holds a key that is down, and what it is told of it.
+-- Which window holds a key that is down.
 use Rattle.std.specs.Prelude.{ℕ, Bool, true, false, not, ◌==◌, ◌&&◌, ◌||◌, nat_lt, List, [], ◌∷◌, filter, Option, Some, None, if◌then◌else◌}
 use Rattle.input_types.specs.declared.key.KeyArgs.{KeyArgs}
 use Rattle.input_types.specs.declared.message.Args.{Args}
@@ -16,7 +16,7 @@ same_key k l = k.device == l.device && k.scan == l.scan
 abbrev pub is_before : KeyArgs → KeyArgs → Bool
 is_before k l = nat_lt k.device l.device || k.device == l.device && nat_lt k.scan l.scan
 
--- a key put into its place among keys in rising order
+-- a key inserted in its place among keys in rising order
 abbrev pub with_key : KeyArgs → List KeyArgs → List KeyArgs
 with_key k [] = k ∷ []
 with_key k (l ∷ ls) = if is_before k l then k ∷ l ∷ ls else l ∷ with_key k ls
@@ -32,18 +32,18 @@ ends (Some (KeyOfDevice k)) l = not k.down && same_key k l
 ends (Some (Reset d)) l = d == l.device
 ends args l = false
 
--- a window loses all its keys at a step, which is the last one of `after`, after which it is not the key target any more, that
--- names it, or after which it is not live
+-- a window loses all its keys at a step, the last one of `after`, that reports it, or after which it is no longer the
+-- key target or not live
 abbrev pub loses_all : (after before : History) → ℕ → Bool
 loses_all after before w = is_target before w && not (is_target after w) || names after w || not (live after w)
 
--- the keys that a window is given at a step: a key that goes down, where the window is the key target and able
+-- the keys that a step gives to a window: a key that goes down while the window is the key target and able
 abbrev pub key_given : Option KeyArgs → Bool → List KeyArgs → List KeyArgs
 key_given (Some k) true held = with_key k held
 key_given given hears held = held
 
--- The keys that a window holds, in rising order, as they went down: given while it was the key target and able, and not ended
--- or lost since.
+-- The keys that a window holds, in rising order, as they went down: each was given while it was the key target and
+-- able, and neither ended nor lost since.
 abbrev pub keys : List Effect → ℕ → List KeyArgs
 keys [] w = []
 keys (x ∷ before) w =

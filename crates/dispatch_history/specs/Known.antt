@@ -1,4 +1,4 @@
--- What the owner of a channel knows from its messages, newest first, where each of them may come.
+-- What the owner of a channel knows from its messages, newest first, if each of them may come.
 use Rattle.std.specs.Prelude.{ℕ, ◌+◌, ◌==◌, ◌&&◌, ◌≡◌, ◌≤◌, Bool, true, false, not, List, [], ◌∷◌, length, filter, Option, Some, None, option_and_then, if◌then◌else◌}
 use Rattle.std.specs.List.{find, list_any}
 use Rattle.input_types.specs.declared.key.KeyArgs.{KeyArgs}
@@ -22,11 +22,11 @@ use Rattle.dispatch_history.specs.Focus.{has_focus}
 use Rattle.dispatch_history.specs.Keys.{keys}
 use Rattle.dispatch_history.specs.Step.{marks}
 
--- the key is that of this device and scan code
+-- the key has this device and scan code
 abbrev pub is_key : ℕ → ℕ → KeyArgs → Bool
 is_key d s k = d == k.device && s == k.scan
 
--- a key message of the key is the last one of it
+-- a key message of the key becomes its last one
 abbrev pub last_message_after : ℕ → ℕ → Body → Option KeyMsg → Option KeyMsg
 last_message_after d s (KeyBody m) before = if is_key d s m.key then Some m else before
 last_message_after d s body before = before
@@ -36,12 +36,13 @@ abbrev pub last_message : ℕ → ℕ → List Message → Option KeyMsg
 last_message d s [] = None
 last_message d s (m ∷ past) = last_message_after d s m.body (last_message d s past)
 
--- what a message does to the next repeat number of a key that is known, where it may come
+-- how a message changes the next repeat number that is known for a key; None unless it may come
 abbrev pub repeat_after : ℕ → ℕ → Body → Option (Option ℕ) → Option (Option ℕ)
 repeat_after d s (KeyBody m) x = if is_key d s m.key then option_and_then (λ due. after_key due m) x else x
 repeat_after d s body x = x
 
--- the next repeat number of a key that the owner of a channel knows to be down, where each message of the key may come
+-- the next repeat number of a key that the owner of a channel knows to be down; None unless each message of the key
+-- may come
 abbrev pub sent_repeat : ℕ → ℕ → List Message → Option (Option ℕ)
 sent_repeat d s [] = Some None
 sent_repeat d s (m ∷ past) = repeat_after d s m.body (sent_repeat d s past)
@@ -60,7 +61,7 @@ abbrev pub next_repeat : Option KeyArgs → Option KeyMsg → Option ℕ
 next_repeat (Some k) (Some m) = Some (m.repeat + 1)
 next_repeat held last = None
 
--- a key message is the newest one, of whichever key
+-- a key message is the newest one, for any key
 abbrev pub newest_key_after : Body → Option KeyMsg → Option KeyMsg
 newest_key_after (KeyBody m) before = Some m
 newest_key_after body before = before
@@ -70,12 +71,12 @@ abbrev pub newest_key : List Message → Option KeyMsg
 newest_key [] = None
 newest_key (m ∷ past) = newest_key_after m.body (newest_key past)
 
--- the ids of a device that a window holds, of those that are down on it; of a number that no device has, none
+-- the ids that are down on a device and that a window holds; none for a number that no device has
 abbrev pub held_ids : List Effect → ℕ → ℕ → List ℕ
 held_ids es w d = if list_any (λ e. e == d) devices then filter (has (held (marks es)) w d) (down_ids es d) else []
 
--- what the owner of a live channel is to know after a history with these effects: the ids and the keys that its window holds, and whether
--- that is focused
+-- what the owner of a live channel must know after a history with these effects: the ids and the keys that its window
+-- holds, and whether it is focused
 abbrev pub known_state : List Effect → ℕ → StreamState
 known_state es w =
     record {
@@ -98,7 +99,7 @@ NeverFalls bound (m ∷ past) = (m.moment ≤ bound) × NeverFalls m.moment past
 abbrev pub takes_down : ℕ → ℕ → Motion → Bool
 takes_down d i m = m.device == d && (is_down m.action && is_of (changed m) i)
 
--- an action that lists these pointers ends the one with this id: it goes up, also cancelled, or all are cancelled
+-- an action that lists these pointers ends the one with this id: it goes up, cancelled or not, or all are cancelled
 abbrev pub is_end_of : MotionAction → Option Pointer → List Pointer → ℕ → Bool
 is_end_of Up p listed i = is_of p i
 is_end_of PointerUp p listed i = is_of p i
@@ -109,14 +110,14 @@ is_end_of _ p listed i = false
 abbrev pub ends_it : ℕ → ℕ → Motion → Bool
 ends_it d i m = m.device == d && is_end_of m.action (changed m) m.pointers i
 
--- what a message does to a pointer that is known to be down or not: it goes down where it was not, and ends where it was
+-- how a message changes whether a pointer is down: a pointer that is up goes down, and one that is down ends
 abbrev pub pointer_after : ℕ → ℕ → Body → Option Bool → Option Bool
 pointer_after d i (MotionBody m) x =
     if takes_down d i m then option_and_then (λ is_down. allowed (not is_down) true) x
     else if ends_it d i m then option_and_then (λ is_down. allowed is_down false) x else x
 pointer_after d i body x = x
 
--- whether a pointer is down after messages with which it goes down and ends by turns; None where it does not
+-- whether a pointer is down after messages in which it alternately goes down and ends; None if it does not
 abbrev pub sent_pointer : ℕ → ℕ → List Message → Option Bool
 sent_pointer d i [] = Some false
 sent_pointer d i (m ∷ past) = pointer_after d i m.body (sent_pointer d i past)

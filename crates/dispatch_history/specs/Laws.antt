@@ -1,4 +1,4 @@
--- What is proved of histories. Each law is the clause of a function of its own.
+-- Proved facts about histories. Each law is the clause of a function of its own.
 use Rattle.std.specs.Prelude.{ℕ, ◌==◌, filter, Some, ◌≡◌, ◌≤◌, ◌↔◌, IsTrue, is_some, reverse, ◌++◌, true, false, not, ◌&&◌, ◌||◌, List, ◌∷◌, None}
 use Rattle.std.specs.List.{list_any}
 use Rattle.input_types.specs.Displays.{device_display}
@@ -29,11 +29,11 @@ use Rattle.dispatch_history.specs.Legal.{Legal, reply, calls_of, run, replay}
 use Rattle.dispatch_history.specs.Plan.{Plan}
 use Rattle.dispatch_history.specs.Ordered.{Ordered, ordered, chosen}
 
--- The last reply of a legal history is that of the history before it, which is legal.
+-- The last reply of a legal history is the one that the history before it requires, and that history is legal.
 abbrev pub LegalLast : Type 0
 LegalLast = (displays : List ℕ) (call : Call) (answer : Reply) (h : History) → Legal displays ((call, answer) ∷ h) → (answer ≡ reply displays h call) × Legal displays h
 
--- One more call, answered as it is to be, leaves a history legal.
+-- One more call with the required reply leaves a history legal.
 abbrev pub LegalMore : Type 0
 LegalMore = (displays : List ℕ) (call : Call) (h : History) → Legal displays h → Legal displays ((call, reply displays h call) ∷ h)
 
@@ -53,23 +53,23 @@ LegalReplay = (displays : List ℕ) (h : History) → Legal displays h → repla
 abbrev pub EffectsLaw : Type 0
 EffectsLaw = (displays : List ℕ) (h : History) → past_of (effects displays h) ≡ h
 
--- After a step a channel is unresponsive where a tick of this step names it, or where it was unresponsive before and the step is not
--- a finish of a message of it after which none is late.
+-- After a step a channel is unresponsive if the step is a tick that reports it, or if it was unresponsive before and
+-- the step is not a finish of a message of it after which none is late.
 abbrev pub UnresponsiveStep : Type 0
 UnresponsiveStep =
     (x : Effect) (before : List Effect) (c : ℕ)
     → unresponsive (x ∷ before) c
     ≡ (names x.past c || unresponsive before c && not (finishes x.past c && not (has_late (x ∷ before) c)))
 
--- A channel that was able stays so, unless the step names or removes it; and one that is able after a step that is no opening and no
--- finish of it was able before.
+-- A channel that was able stays able unless the step reports or removes it. A channel that is able after a step that
+-- neither opens it nor finishes a message of it was able before.
 abbrev pub AbleStep : Type 0
 AbleStep =
     (x : Effect) (before : List Effect) (c : ℕ)
     → (unresponsive before c ≡ false → able (x ∷ before) c ≡ (live x.past c && not (names x.past c)))
     × (finishes x.past c ≡ false → able (x ∷ before) c ≡ (live x.past c && not (names x.past c || unresponsive before c)))
 
--- Rounds after which nothing is chosen are the ordered run.
+-- Rounds after which nothing is chosen make the ordered run.
 abbrev pub OrderedSound : Type 0
 OrderedSound = (plan : Plan) (n : ℕ) → chosen plan (ordered n plan) ≡ None → Ordered plan (ordered n plan)
 
@@ -81,20 +81,20 @@ OrderedComplete = (plan : Plan) (es : List Effect) → Ordered plan es → (n : 
 abbrev pub OrderedUnique : Type 0
 OrderedUnique = (plan : Plan) (es fs : List Effect) → Ordered plan es → Ordered plan fs → es ≡ fs
 
--- In a legal history what was accepted is what waits and what was dispatched.
+-- In a legal history, all accepted args either wait or were dispatched.
 abbrev pub QueueLaw : Type 0
 QueueLaw = (displays : List ℕ) (h : History) → Legal displays h → accepted h ≡ reverse (inbound h) ++ dispatched (effects displays h)
 
--- What was accepted, and what was dispatched of it, keeps the rule of each device.
+-- The accepted args, and those dispatched, keep the rule of each device.
 abbrev pub DeviceLaw : Type 0
 DeviceLaw =
     (displays : List ℕ) (h : History) (d : ℕ) → Legal displays h → IsTrue (is_some (device_state d (accepted h))) × IsTrue (is_some (device_state d (dispatched (effects displays h))))
 
--- A live channel has one of the numbers that were given.
+-- The number of a live channel was handed out.
 abbrev pub LiveLaw : Type 0
 LiveLaw = (displays : List ℕ) (h : History) (c : ℕ) → Legal displays h → live h c ≡ true → (1 ≤ c) × (c ≤ opened h)
 
--- A step adds to the stream of a channel what it says to it.
+-- A step appends to the stream of a channel what it sends to it.
 abbrev pub StreamStep : Type 0
 StreamStep =
     (displays : List ℕ) (call : Call) (answer : Reply) (h : History) (c : ℕ)
@@ -108,44 +108,45 @@ SilentLaw =
     (displays : List ℕ) (call : Call) (answer : Reply) (h : History) (c : ℕ)
     → live ((call, answer) ∷ h) c ≡ false → stream (effects displays ((call, answer) ∷ h)) c ≡ stream (effects displays h) c
 
--- At each moment an id that is down is one pointer.
+-- At any time, an id that is down is one pointer.
 abbrev pub OnePointer : Type 0
 OnePointer =
     (displays : List ℕ) (h : History) (p q : PointerOf)
     → Legal displays h → AllRise h → IsDown (effects displays h) p → IsDown (effects displays h) q → p.device ≡ q.device → p.id ≡ q.id → p ≡ q
 
--- Every window that holds a pointer is able, and so live, and the snapshot names it on the display of the device.
+-- Every window that holds a pointer is able, and so live, and the snapshot shows it on the display of the device.
 abbrev pub HolderLaw : Type 0
 HolderLaw =
     (displays : List ℕ) (h : History) (w d i : ℕ) → (scene displays (effects displays h)).holds w d i ≡ true → (able (effects displays h) w ≡ true) × (is_shown_on (snapshot h) (device_display displays d) w ≡ true)
 
--- In a legal history whose motions have rising ids, each moment fits the ids that are down: windows hold only ids that are down, and
--- the last motion of a device lists all that are held.
+-- In a legal history whose motions have rising ids, each prefix fits the ids that are down: windows hold only ids
+-- that are down, and the last motion of a device lists all held pointers.
 abbrev pub FitLaw : Type 0
 FitLaw = (displays : List ℕ) (h : History) (d : ℕ) → Legal displays h → AllRise h → Fits (scene displays (effects displays h)) d (down_ids (effects displays h) d)
 
--- The motions of each device in the stream of a live channel come one after the other as the rule of streams says, and leave down just
--- the ids that its window holds.
+-- The motions of each device in the stream of a live channel follow the rule of streams, and leave down exactly the
+-- ids that its window holds.
 abbrev pub MotionsLaw : Type 0
 MotionsLaw =
     (displays : List ℕ) (h : History) (w d : ℕ)
     → Legal displays h → AllRise h → live h w ≡ true → list_any (λ e. e == d) devices ≡ true
     → sent_down d (stream (effects displays h) w) ≡ Some (filter ((scene displays (effects displays h)).holds w d) (down_ids (effects displays h) d))
 
--- So do those of a channel that is not live any more.
+-- So do those of a channel that is no longer live.
 abbrev pub MotionsComeLaw : Type 0
 MotionsComeLaw = (displays : List ℕ) (h : History) (w d : ℕ) → Legal displays h → AllRise h → IsTrue (is_some (sent_down d (stream (effects displays h) w)))
 
--- The owner of a live channel knows from its stream whether its window has the focus, each change of which comes as it may.
+-- The owner of a live channel knows from its stream whether its window has the focus, and each focus change follows
+-- the rule.
 abbrev pub FocusLaw : Type 0
 FocusLaw = (displays : List ℕ) (h : History) (w : ℕ) → Legal displays h → live h w ≡ true → sent_focus (stream (effects displays h) w) ≡ Some (has_focus h w)
 
--- So do those of a channel that is not live any more.
+-- So do those of a channel that is no longer live.
 abbrev pub FocusComesLaw : Type 0
 FocusComesLaw = (displays : List ℕ) (h : History) (w : ℕ) → Legal displays h → IsTrue (is_some (sent_focus (stream (effects displays h) w)))
 
--- The messages of each key in the stream of a live channel come one after the other as the rule of streams says, and the keys that are
--- down after them are just those that its window holds, each with the next repeat number.
+-- The messages of each key in the stream of a live channel follow the rule of streams, and the keys that are down
+-- after them are exactly those that its window holds, each with the next repeat number.
 abbrev pub KeysLaw : Type 0
 KeysLaw =
     (displays : List ℕ) (h : History) (w d s : ℕ)
@@ -153,7 +154,7 @@ KeysLaw =
     → sent_repeat d s (stream (effects displays h) w)
     ≡ Some (next_repeat (held_key (keys (effects displays h) w) d s) (last_message d s (stream (effects displays h) w)))
 
--- So do those of a channel that is not live any more.
+-- So do those of a channel that is no longer live.
 abbrev pub KeysComeLaw : Type 0
 KeysComeLaw = (displays : List ℕ) (h : History) (w d s : ℕ) → Legal displays h → IsTrue (is_some (sent_repeat d s (stream (effects displays h) w)))
 
@@ -170,8 +171,8 @@ LastKeyLaw =
     (displays : List ℕ) (h : History) (last : Sent)
     → last_key (effects displays h) ≡ Some last → newest_key (stream (effects displays h) last.channel) ≡ Some last.key
 
--- The stream of a live channel is well-formed, and leaves its owner knowing what its window holds: the ids and the keys that are down are
--- just those, and it knows whether it is focused.
+-- The stream of a live channel is well-formed, and tells its owner what its window holds: exactly the ids and the
+-- keys that are down, and whether it is focused.
 abbrev pub WholeLaw : Type 0
 WholeLaw =
     (displays : List ℕ) (h : History) (w : ℕ)
@@ -190,14 +191,15 @@ RemovedLaw =
     → (live (later ++ (Remove now c, Done) ∷ h) c ≡ false)
     × (stream (effects displays (later ++ (Remove now c, Done) ∷ h)) c ≡ stream (effects displays h) c)
 
--- The stream of a removed channel leaves its owner knowing what its window held, and whether it was focused, just before the removal.
+-- The stream of a removed channel tells its owner what its window held, and whether it was focused, just before the
+-- removal.
 abbrev pub RemovedStateLaw : Type 0
 RemovedStateLaw =
     (displays : List ℕ) (later h : History) (now c : ℕ)
     → Legal displays (later ++ (Remove now c, Done) ∷ h) → AllRise (later ++ (Remove now c, Done) ∷ h)
     → stream_state (stream (effects displays (later ++ (Remove now c, Done) ∷ h)) c) ≡ Some (known_state (effects displays h) c)
 
--- What is asked of a channel that is not live is answered with Gone.
+-- A call on a channel that is not live replies Gone.
 abbrev pub GoneLaw : Type 0
 GoneLaw =
     (displays : List ℕ) (h : History) (c : ℕ)
@@ -207,27 +209,27 @@ GoneLaw =
     × ((now device : ℕ) → reply displays h (Pilfer now c device) ≡ Gone)
     × ((now : ℕ) → reply displays h (Remove now c) ≡ Gone)
 
--- The messages of a stream are numbered from 1, their moments do not fall, and none is above the clock.
+-- The messages of a stream are numbered from 1, their moments never decrease, and none is later than the clock.
 abbrev pub NumbersLaw : Type 0
 NumbersLaw =
     (displays : List ℕ) (h : History) (w : ℕ)
     → IsNumbered (stream (effects displays h) w) × NeverFalls (clock h) (stream (effects displays h) w)
 
--- In the stream of a live channel each pointer of a device goes down and ends by turns, and after it is down just where its window holds it:
--- a pointer that went down goes up or is cancelled once, unless it is still down.
+-- In the stream of a live channel, each pointer of a device alternately goes down and ends, and is down at the end
+-- exactly if its window holds it. So a pointer that went down goes up or is cancelled once, unless it is still down.
 abbrev pub TurnsLaw : Type 0
 TurnsLaw =
     (displays : List ℕ) (h : History) (w d i : ℕ)
     → Legal displays h → AllRise h → live h w ≡ true → list_any (λ e. e == d) devices ≡ true
     → sent_pointer d i (stream (effects displays h) w) ≡ Some ((scene displays (effects displays h)).holds w d i)
 
--- So it does in that of a channel that is not live any more.
+-- The same holds in the stream of a channel that is no longer live.
 abbrev pub TurnsComeLaw : Type 0
 TurnsComeLaw =
     (displays : List ℕ) (h : History) (w d i : ℕ)
     → Legal displays h → AllRise h → IsTrue (is_some (sent_pointer d i (stream (effects displays h) w)))
 
--- In a legal history the keys that are computed for a window are those that it holds by places.
+-- In a legal history the keys computed for a window are those that it holds by the facts about indices.
 abbrev pub KeyPlacesLaw : Type 0
 KeyPlacesLaw =
     (displays : List ℕ) (h : History) (w : ℕ) (k : KeyArgs)

@@ -15,7 +15,7 @@ use Rattle.dispatch_history.specs.Legal.{answered}
 use Rattle.dispatch_history.specs.Plan.{Plan, ChannelOf, ScriptStep, Cooked}
 use Rattle.dispatch_history.specs.Given.{opens}
 
--- something that may be done next: the moment at which it is due, and its calls
+-- a candidate for the next thing to do: the moment at which it is due, and its calls
 pub record Candidate : Type 0 where
   pub moment : ℕ
   pub calls : List Call
@@ -53,16 +53,16 @@ abbrev pub received_at : History → ℕ → ℕ → ℕ
 received_at [] c k = 0
 received_at (e ∷ h) c k = if is_receive_of e.0 e.1 c k then clock (e ∷ h) else received_at h c k
 
--- the sooner of two candidates; of one moment the first one stays
+-- the earlier of two candidates; if their moments are equal, the first
 abbrev pub sooner_of : Option Candidate → Candidate → Option Candidate
 sooner_of None c = Some c
 sooner_of (Some best) c = Some (if nat_lt c.moment best.moment then c else best)
 
--- the soonest of some candidates, and of one moment the first of them
+-- the earliest of some candidates, and at equal moments the first of them
 abbrev pub soonest : List Candidate → Option Candidate
 soonest cs = fold sooner_of None cs
 
--- the messages of a channel that were received and are not finished, each to be finished so long after its receive
+-- the messages of a channel that were received and are not finished, each with a finish due so long after its receive
 abbrev pub finishes_of : History → ℕ → ChannelOf → List Candidate
 finishes_of h c p =
     if live h c && p.finishes then
@@ -80,7 +80,7 @@ abbrev pub due_tick : Option Due → List Candidate
 due_tick None = []
 due_tick (Some d) = record { moment = d.moment; calls = Tick d.moment ∷ [] } ∷ []
 
--- a repeat is due at its moment, where no args wait
+-- a repeat is due at its moment, if no args wait
 abbrev pub due_repeat : Bool → Option ℕ → List Candidate
 due_repeat true (Some t) = record { moment = t; calls = Pump t ∷ [] } ∷ []
 due_repeat idle due = []
@@ -95,8 +95,8 @@ abbrev pub next_cooked : Option Cooked → List Candidate
 next_cooked None = []
 next_cooked (Some a) = record { moment = a.moment; calls = Notify a.moment a.args ∷ Pump a.moment ∷ [] } ∷ []
 
--- all that may be done next, in the order that decides where moments agree: finishes, a tick, a repeat, the next step of a script,
--- the next args
+-- all candidates for the next thing to do, in the order that decides between equal moments: finishes, a tick, a
+-- repeat, the next step of a script, the next args
 abbrev pub candidates : Plan → List Effect → List Candidate
 candidates plan es =
     let h = past_of es in
@@ -109,16 +109,16 @@ end_of plan =
     max plan.until
     (max (fold (λ t s. max t (moment_of s.call)) 0 plan.steps) (fold (λ t a. max t a.moment) 0 plan.cooked))
 
--- what is done next: the soonest of all that is due before the plan ends
+-- what is done next: the earliest of everything that is due before the plan ends
 abbrev pub chosen : Plan → List Effect → Option Candidate
 chosen plan es = soonest (filter (λ c. nat_le c.moment (end_of plan)) (candidates plan es))
 
--- calls in order behind those before, each answered as it is to be
+-- calls in order after earlier ones, each with the required reply
 abbrev pub extend : List ℕ → List Effect → List Call → List Effect
 extend displays es [] = es
 extend displays es (call ∷ calls) = extend displays (answered displays call es) calls
 
--- the receives of all that is published on live channels, by rising channel
+-- the receives of all published messages on live channels, by rising channel
 abbrev pub receives : List Effect → List Call
 receives es =
     flat_map
@@ -129,15 +129,15 @@ receives es =
 abbrev pub received_all : List ℕ → List Effect → List Effect
 received_all displays es = extend displays es (receives es)
 
--- one round: what is chosen is done, and then all that is published is received
+-- one round: it does what is chosen, then receives all published messages
 abbrev pub round : Plan → List Effect → Candidate → List Effect
 round plan es c = received_all plan.displays (extend plan.displays es c.calls)
 
--- the beginning of the ordered run: its channels are opened
+-- the start of the ordered run: it opens the channels
 abbrev pub begun : Plan → List Effect
 begun plan = extend plan.displays [] (opens plan.channels)
 
--- the effects that rounds of the ordered run can have: each does what is chosen after the ones before
+-- the effects that rounds of the ordered run can have: each round does what is chosen after the previous ones
 pub data Rounds (plan : Plan) : List Effect → Type 0 where
   start : Rounds plan (begun plan)
   next : {es : List Effect} {c : Candidate} → Rounds plan es → chosen plan es ≡ Some c → Rounds plan (round plan es c)
@@ -146,7 +146,7 @@ pub data Rounds (plan : Plan) : List Effect → Type 0 where
 abbrev pub Ordered : Plan → List Effect → Type 0
 Ordered plan es = Rounds plan es × (chosen plan es ≡ None)
 
--- no more rounds where nothing is chosen, and else one round and then more
+-- no more rounds if nothing is chosen, otherwise one round and then more
 abbrev pub rounds_with : Plan → (List Effect → List Effect) → List Effect → Option Candidate → List Effect
 rounds_with plan more es None = es
 rounds_with plan more es (Some c) = more (round plan es c)
@@ -156,6 +156,6 @@ abbrev pub rounds : ℕ → Plan → List Effect → List Effect
 rounds zero plan es = es
 rounds (suc n) plan es = rounds_with plan (λ later. rounds n plan later) es (chosen plan es)
 
--- the ordered run, where it has at most n rounds
+-- the ordered run, if it has at most n rounds
 abbrev pub ordered : ℕ → Plan → List Effect
 ordered n plan = rounds n plan (begun plan)

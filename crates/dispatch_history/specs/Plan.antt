@@ -1,15 +1,16 @@
--- What a whole run is to do, as plain data.
+-- What a whole run must do, as plain data.
 use Rattle.std.specs.Prelude.{ℕ, Bool, List}
 use Rattle.input_types.specs.declared.message.Args.{Args}
 use Rattle.dispatch_calls.specs.declared.call.Call.{Call}
 
--- a channel: how long its owner may leave a message unfinished, whether it finishes messages, and how long after it took them
+-- a channel: how long its owner may leave a message unfinished, whether it finishes messages, and how long after it
+-- received them
 pub record ChannelOf : Type 0 where
   pub limit : ℕ
   pub finishes : Bool
   pub finish_after : ℕ
 
--- a step of a script: its lane, and its call, which has its moment
+-- a step of a script: its lane, and its call with the moment of it
 pub record ScriptStep : Type 0 where
   pub lane : ℕ
   pub call : Call
@@ -19,8 +20,8 @@ pub record Cooked : Type 0 where
   pub moment : ℕ
   pub args : Args
 
--- the displays of the devices 1 to 8, the channels in the order of their opening, the steps and the args in the order of their
--- moments, and the moment at which the run ends unless something of it comes later
+-- the displays of the devices 1 to 8, the channels in the order of their opening, the steps and the args in the order
+-- of their moments, and the moment at which the run ends unless a step or args come later
 pub record Plan : Type 0 where
   pub displays : List ℕ
   pub channels : List ChannelOf

@@ -8,7 +8,7 @@ use Rattle.dispatch_calls.specs.declared.reply.Reply.{Reply}
 use Rattle.dispatch_calls.specs.declared.reply.Reply.TheVariants.{Taken, Dispatched}
 use Rattle.dispatch_history.specs.History.{History}
 
--- args that are taken are one more
+-- args that are accepted count as one more
 abbrev pub accepted_after : Call → Reply → List Args → List Args
 accepted_after (Notify now args) Taken before = args ∷ before
 accepted_after call reply before = before
@@ -28,15 +28,15 @@ abbrev pub dispatches : History → ℕ
 dispatches [] = 0
 dispatches (e ∷ h) = dispatches_after e.0 e.1 (dispatches h)
 
--- the args that wait, the next one first: those that were accepted without the ones that were dispatched
+-- the args that wait, the next one first: those that were accepted and not yet dispatched
 abbrev pub inbound : History → List Args
 inbound h = drop (dispatches h) (reverse (accepted h))
 
--- what a step dispatches: the first args that wait before it
+-- what a step dispatches: the first waiting args before it
 abbrev pub args_of : Call → Reply → List Args → Option Args
 args_of (Pump now) Dispatched waiting = slice_get waiting 0
 args_of call reply waiting = None
 
--- what is down on a device by the args that were accepted
+-- what is down on a device according to the accepted args
 abbrev pub down_on : History → ℕ → DeviceState
 down_on h d = unwrap_or (device_state d (accepted h)) nothing_down

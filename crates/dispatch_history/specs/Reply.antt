@@ -1,4 +1,4 @@
--- What each call is to be answered.
+-- The reply that each call must have.
 use Rattle.std.specs.Prelude.{ℕ, ◌+◌, ◌^◌, max, Bool, false, not, ◌==◌, ◌&&◌, nat_lt, nat_le, List, [], ◌∷◌, is_some, reverse, slice_get, sum_by, Option, Some, None, if◌then◌else◌}
 use Rattle.std.specs.List.{list_any}
 use Rattle.input_types.specs.declared.message.Args.{Args}
@@ -20,7 +20,7 @@ use Rattle.dispatch_history.specs.KeySent.{repeat_due}
 use Rattle.dispatch_history.specs.Step.{marks}
 use Rattle.dispatch_history.specs.Due.{named, mask_of}
 
--- a channel is opened with the next number, until 64 were
+-- a channel is opened with the next number, until 64 were opened
 abbrev pub open_reply : ℕ → Reply
 open_reply count = if nat_lt count 64 then Opened (count + 1) else Full
 
@@ -33,7 +33,7 @@ abbrev pub is_down : DeviceState → Args → Bool
 is_down s (Key k) = s.keys k.scan
 is_down s args = false
 
--- args are taken exactly where they may follow what is down on their device
+-- args are accepted exactly if they may follow what is down on their device
 abbrev pub notify_reply : DeviceState → Args → Reply
 notify_reply s args = if is_some (after_args s args) then Taken else Inconsistent (id_bits s.ids) (is_down s args)
 
@@ -42,17 +42,17 @@ abbrev pub is_due : Option ℕ → ℕ → Bool
 is_due None now = false
 is_due (Some at) now = nat_le at now
 
--- what waits is dispatched; where nothing waits, a repeat that is due is made
+-- the first waiting args are dispatched; if none wait, a repeat that is due is made
 abbrev pub pump_reply : List Args → Option ℕ → ℕ → Reply
 pump_reply (a ∷ waiting) due now = Dispatched
 pump_reply [] due now = if is_due due now then Repeated else Idle
 
--- the owner gets this message, where there is one
+-- the owner receives this message, if there is one
 abbrev pub got_reply : Option Message → Reply
 got_reply None = Empty
 got_reply (Some m) = Got m
 
--- the owner of a live channel gets its next message, where that is published
+-- the owner of a live channel receives its next message, if that is published
 abbrev pub receive_reply : List Effect → ℕ → Reply
 receive_reply es c =
     let n = received (past_of es) c in

@@ -16,7 +16,7 @@ use Rattle.dispatch_history.specs.Keys.{keys, loses_all}
 use Rattle.dispatch_history.specs.KeySent.{keys_sent, repeat_by, last_key}
 use Rattle.window_snapshot.specs.Origins.{place_from}
 
--- a motion whose places are counted from an origin
+-- a motion with its positions relative to an origin
 abbrev pub motion_from : Pixel → Motion → Motion
 motion_from o m =
     record {
@@ -27,7 +27,7 @@ motion_from o m =
       pointers = map (λ p. record { id = p.id; at = place_from o p.at }) m.pointers;
     }
 
--- the motions that a channel is sent: device by device, counted from its origin before the step
+-- the motions that a channel is sent: device by device, relative to its origin before the step
 abbrev pub motions_said : Scene → Step → Mark → Pixel → ℕ → List Body
 motions_said s e k o w = map (λ m. MotionBody (motion_from o m)) (flat_map (sent_with s e k w) devices)
 
@@ -38,7 +38,7 @@ keys_said after args before w =
     (keys_sent args (is_target (past_of before) w && able before w) (loses_all after (past_of before) w) (keys before w)
     ++ repeat_by after (last_key before) w)
 
--- what a channel is told that is live after the step: motions, then keys, then the focus
+-- what a channel that is live after the step is sent: motions, then keys, then the focus
 abbrev pub said : History → Option Args → Scene → Step → Mark → List Effect → ℕ → List Body
 said after args s e k before w =
     if live after w then

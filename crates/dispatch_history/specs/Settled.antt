@@ -1,4 +1,4 @@
--- A history in which nothing is left to do.
+-- A history after which there is nothing left to do.
 use Rattle.std.specs.Prelude.{ℕ, ◌≡◌, ◌<◌, Bool, true, false, IsTrue, IfSome, List, [], ◌∷◌, length}
 use Rattle.dispatch_calls.specs.declared.call.Call.{Call}
 use Rattle.dispatch_calls.specs.declared.call.Call.TheVariants.{Pump, Tick}
@@ -19,8 +19,8 @@ abbrev pub ticked : History → Bool
 ticked [] = false
 ticked (e ∷ h) = ticked_after e.0 (ticked h)
 
--- no args wait, no repeat is due, a tick came after the last pump, each live channel has received all that is published, and each
--- live channel of the set has finished all that it received
+-- no args wait, no repeat is due, a tick came after the last pump, each live channel has received all its published
+-- messages, and each live channel of the set has finished all that it received
 pub record Settled (displays : List ℕ) (h : History) (finishing : ℕ → Bool) : Type 0 where
   pub idle : inbound h ≡ []
   pub no_repeat : IfSome (repeat_due (effects displays h)) (λ t. clock h < t)

@@ -1,4 +1,4 @@
--- What a step of a history is to the rules of routing, and the moment before it.
+-- What a step of a history is to the routing rules, and the state before it.
 use Rattle.std.specs.Prelude.{ℕ, Bool, ◌&&◌, nat_lt, List, map, Option, Some}
 use Rattle.input_types.specs.declared.message.Args.{Args}
 use Rattle.input_types.specs.declared.message.Args.TheVariants.{Motion as MotionArgs, Reset}
@@ -24,16 +24,16 @@ marks es = map (λ x. x.mark) es
 abbrev pub is_earlier : List Pair → List Mark → (v w device : ℕ) → Bool
 is_earlier qs ms v w d = has_any qs v d && has_any qs w d && nat_lt (since ms v d) (since ms w d)
 
--- a motion of a device can reach a channel that is on the display of the device; these are the displays of the devices
+-- a motion of a device can reach a channel that is on the device's display, by these displays of the devices
 abbrev pub reach : List ℕ → List Effect → ℕ → ℕ → Bool
 reach displays es d c = is_on (past_of es) (device_display displays d) c
 
--- the moment after these steps, with their marks and the pairs that these leave
+-- the scene after these steps, with their marks and the pairs that these leave
 abbrev pub scene_with : List ℕ → List Effect → List Mark → List Pair → Scene
 scene_with displays es ms qs =
     scene_of (snapshot (past_of es)) (reach displays es) (able es) qs (is_earlier qs ms) (pilfering ms) (last es)
 
--- the moment after these steps, as the rules see it
+-- the scene after these steps
 abbrev pub scene : List ℕ → List Effect → Scene
 scene displays es = let ms = marks es in scene_with displays es ms (held ms)
 

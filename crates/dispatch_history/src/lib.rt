@@ -1,4 +1,4 @@
-//! What a history of the dispatcher means: definitions, with nearly no code. docs/MEANING.md tells them in order.
+//! What a history of the dispatcher means: definitions, with nearly no code. docs/MEANING.md explains them in order.
 //!
 //! Two fingers go down on two windows that stand side by side, and the first goes up. The calls and their replies, in
 //! order:
@@ -14,13 +14,14 @@
 //! Pump 1020000                                              Dispatched
 //! ```
 //!
-//! By the definitions the stream of channel 1 is then `DOWN 0@100,200`, `MOVE 0@100,200`, `UP 0@100,200`, and that of
-//! channel 2 is `DOWN 1@160,400`, `MOVE 1@160,400`. This and all other worked examples compute, in proofs/.
+//! By the definitions, the stream of channel 1 is then `DOWN 0@100,200`, `MOVE 0@100,200`, `UP 0@100,200`, and that
+//! of channel 2 is `DOWN 1@160,400`, `MOVE 1@160,400`. The worked examples in proofs/ check this and more by
+//! computation.
 //!
-//! A history is a list of calls with their replies, newest first; what is before a step is the tail. The effects of a
-//! history stand beside its steps: what each dispatched, gave, took and told. All definitions look back over these two
-//! lists, read replies and never work one out again, and no definition reads who made a call. Which display each device
-//! is on is handed to those that need it.
+//! A history is a list of calls with their replies, newest first; the tail is what came before the last step. Beside
+//! the steps of a history stand their effects: what each dispatched, gave, took and sent. All definitions look back
+//! over these two lists. They read replies and never recompute one, and none reads who made a call. Definitions that
+//! need the display of each device take it as an argument.
 #![tactic(auto)]
 
 pub mod laws;

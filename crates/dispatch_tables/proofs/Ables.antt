@@ -1,4 +1,4 @@
--- Who is able to take input after a step, as a function and as a mask.
+-- Which channels can take input after a step, as a function and as a mask.
 use Rattle.std.proofs.Common.{◌≡◌, ℕ, ◌+◌, ◌^◌, ◌≤◌, ◌<◌, ◌==◌, nat_lt, nat_le, max, Bool, true, false, not, ◌&&◌, ◌||◌, cond, List, refl, sym, ap, ◌∙◌, subst, inl, inr, arith}
 use Rattle.std.proofs.Math.Path.{fun_ext}
 use Rattle.std.proofs.lemmas.Bool.{cases_Bool, cases_cond, eqb-true, and_from, le-leb, lt-ltb, ltb-true}
@@ -76,7 +76,7 @@ with_number ds es c late l =
     none true false = refl
     none false b = refl
 
--- which channels a tick names
+-- which channels a tick reports
 pub named_mask : (ds : List ℕ) (es : List Effect) (now c : ℕ) → Lawful ds es
     → mask_has (mask_of (named es now)) c ≡ (able es c && is_late_at es c (max now (clock (past_of es))) (oldest es c))
 named_mask ds es now c l =
@@ -88,7 +88,7 @@ named_mask ds es now c l =
 same_named : (a b : ℕ) → Named a ≡ Named b → a ≡ b
 same_named a b e = cc
 
--- a channel that was never opened is not named, and so not unresponsive
+-- a channel that was never opened is not reported, and so not unresponsive
 not_named : (ds : List ℕ) (es : List Effect) (c : ℕ) (call : Call) (answer : Reply) → Lawful ds es
     → answer ≡ reply_to es call → opened (past_of es) < c → is_named_by call answer c ≡ false
 not_named ds es c (Tick now) (Named mask) l r lt =

@@ -1,4 +1,4 @@
--- What is kept of a channel gives the answers.
+-- What is kept of a channel determines the replies.
 use Rattle.std.proofs.Common.{◌≡◌, ℕ, zero, suc, ◌+◌, ◌-◌, ◌≤◌, ◌<◌, nat_lt, nat_le, Bool, true, false, not, ◌&&◌, ◌||◌, cond, List, [], ◌∷◌, length, reverse, drop, map, Option, Some, None, refl, sym, ap, ◌∙◌, subst, inl, inr, arith}
 use Rattle.std.specs.Prelude.{slice_get, option_map, if◌then◌else◌}
 use Rattle.std.specs.List.{list_any}
@@ -63,7 +63,7 @@ hands : (b : Bool) (o : Option Message) → (b ≡ true → (m : Message) × (o 
 hands true o f = let x = f refl in (x.0, ap got_reply x.1)
 hands false o f = refl
 
--- whatever was let go, the next message is handed out where there is one
+-- whatever was released, the next message is handed out if there is one
 pub pass_law : (ds : List ℕ) (es : List Effect) (c : ℕ) → Lawful ds es → live (past_of es) c ≡ true
     → Hands (nat_lt (received (past_of es) c) (published es c)) (receive_reply es c)
 pass_law ds es c l lives =

@@ -1,4 +1,4 @@
--- When channels are due to be named, which one is first, and what a tick notes.
+-- When channels are due to be reported, which one is first, and what a tick records.
 use Rattle.std.proofs.Common.{◌≡◌, ◌≢◌, ◌⊎◌, ℕ, zero, suc, ◌+◌, ◌≤◌, ◌<◌, nat_lt, nat_le, nat_eq, max, Bool, true, false, not, ◌&&◌, ◌||◌, cond, List, [], ◌∷◌, ◌++◌, filter, Option, Some, None, refl, sym, ap, ap₂, ◌∙◌, subst, inl, inr, arith, append-nil}
 use Rattle.std.specs.Prelude.{fold, filter_map, option_map}
 use Rattle.std.specs.List.{cons_option}
@@ -76,7 +76,7 @@ best_more p k n =
     one true = refl
     one false = refl
 
--- the one with the lesser moment comes first, where the channel of the other one is lesser
+-- the pair with the earlier moment comes first, if the channel of the other one is lower
 sooner_is : (m n : ℕ) (best : Option Due) → ((d : Due) → best ≡ Some d → d.channel ≤ n)
     → Some (sooner_of (option_map pair_of best) (m, suc n))
     ≡ option_map pair_of (sooner_due best (record { moment = m; channel = suc n }))
@@ -263,7 +263,7 @@ anr_is es at c s e =
     by_oldest None = refl
     by_oldest (Some m) = refl
 
--- what is noted of the channels 1 to n is by them alone
+-- the records of the channels 1 to n depend on these alone
 among_same : (f g : ℕ → Option Anr) (p : ℕ → Bool) (n : ℕ) → ((c : ℕ) → 1 ≤ c → c ≤ n → f c ≡ g c)
     → filter_map f (filter p (channels n)) ≡ filter_map g (filter p (channels n))
 among_same f g p zero same = refl

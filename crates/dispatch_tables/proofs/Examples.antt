@@ -13,7 +13,7 @@ use Rattle.dispatch_tables.specs.Channel.{channel_at, part_of, Finishes, Untouch
 use Rattle.dispatch_tables.specs.Masks.{live_mask_after, able_mask_after}
 use Rattle.dispatch_tables.specs.Dues.{due_moment, due_in, anrs_in}
 
--- A window takes a down and a move, and its owner takes the down.
+-- A window is sent a down and a move, and its owner receives the down.
 abbrev two_sent : List Call
 two_sent =
     Open 5000000 ∷ Windows 0 (window 1 0 0 0 1080 2400 ∷ []) ∷ [] ++ moved 0 Down 0 (at 0 540 1200 ∷ []) ++ moved 1000000 Move 0 (at 0 550 1200 ∷ [])
@@ -64,7 +64,7 @@ the_down_is_finished = refl
 it_is_first_due_by_the_move : first_due (after_calls (two_sent ++ Finish 3000000 1 1 ∷ [])) ≡ Some (record { moment = 6000000; channel = 1 })
 it_is_first_due_by_the_move = refl
 
--- A tick at 5000000 names it in place of that, and then it is not due.
+-- Instead, a tick at 5000000 reports it, and then it is not due.
 a_named_channel_is_not_due : due_moment (after_calls (two_sent ++ Tick 5000000 ∷ [])) 1 ≡ None
 a_named_channel_is_not_due = refl
 

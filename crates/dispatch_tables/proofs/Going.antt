@@ -1,4 +1,4 @@
--- What is kept of all channels goes on with any step.
+-- What is kept of all channels goes one step on with any step.
 use Rattle.std.proofs.Common.{◌≡◌, ◌≢◌, ◌⊎◌, ℕ, suc, ◌+◌, ◌≤◌, nat_lt, Bool, true, false, cond, List, ◌++◌, None, refl, sym, ap, ◌∙◌, subst, inl, inr, arith}
 use Rattle.std.proofs.Math.Path.{fun_ext}
 use Rattle.std.proofs.lemmas.Bool.{cases_cond, cases_eq, eq-eqb, and_parts}
@@ -72,7 +72,7 @@ same_late (Remove now k) Done f g mask same = refl
 same_late (Tick now) (Named other) f g mask same = refl
 same_late call answer f g mask same = refl
 
--- what is noted
+-- what is recorded
 notes : (ds : List ℕ) (call : Call) (answer : Reply) (es : List Effect) (k : Delivery) → DeliveryIs es k
     → NotedIs (anrs (step ds call answer es)) (noted_after answer (clock (past_of (step ds call answer es))) k)
 notes ds call (Named mask) es k h =

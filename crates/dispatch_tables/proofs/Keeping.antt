@@ -1,4 +1,4 @@
--- The laws of what is kept of a channel, whatever was let go of it.
+-- The laws of what is kept of a channel, whatever was released.
 use Rattle.std.proofs.Common.{◌≡◌, ℕ, ◌-◌, ◌≤◌, max, nat_le, nat_lt, Bool, true, false, not, ◌&&◌, cond, List, length, Some, None, refl, sym, ap, ◌∙◌, subst, arith}
 use Rattle.std.proofs.Math.Path.{fun_ext}
 use Rattle.std.specs.Prelude.{option_map}
@@ -23,7 +23,7 @@ use Rattle.dispatch_tables.proofs.Unopened.{unopened_law}
 use Rattle.dispatch_tables.proofs.Answering.{receive_law, pass_law, finish_law, oldest_law, late_law, counts_law}
 use Rattle.dispatch_tables.proofs.Duties.{due_law, quiet_due_law}
 
--- what holds of the channel of a history, with any first messages let go, holds of what is kept
+-- what holds of the channel of a history, with any number of first messages released, holds of what is kept
 held : (P : ChannelState → Type 0) (es : List Effect) (c : ℕ) (s : ChannelState) → Holds es c s
     → ((gone spare : ℕ) → gone ≤ length (stream es c) → P (channel_at es c gone spare)) → P s
 held P es c s k f = subst P (sym k.is) (f s.gone s.spare k.most)
@@ -31,7 +31,7 @@ held P es c s k f = subst P (sym k.is) (f s.gone s.spare k.most)
 holds_at : (es : List Effect) (c gone spare : ℕ) → gone ≤ length (stream es c) → Holds es c (channel_at es c gone spare)
 holds_at es c gone spare most = record { is = refl; most = most }
 
--- the same where only messages that may be let go were
+-- the same if only messages that may be released were
 kept : (P : ChannelState → Type 0) (es : List Effect) (c : ℕ) (s : ChannelState) → Keeps es c s
     → ((gone spare : ℕ) → MayGo es c gone → P (channel_at es c gone spare)) → P s
 kept P es c s k f = subst P (sym k.is) (f s.gone s.spare k.may_go)

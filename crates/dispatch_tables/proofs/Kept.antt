@@ -118,7 +118,7 @@ part_channel ds es c (Finishes seq) l can h =
     tests x y z e f g = rw (e, f, g) refl
 part_channel ds es c Untouched l can h = h
 
--- a channel once all that can be is published
+-- a channel once everything that can be is published
 published_ok : (now : ℕ) (s : ChannelState) → IsChannel s → NoneAfter now s.unfinished → IsChannel (published_at now s)
 published_ok now s h after =
     subst IsChannel (published_is s now (min (64 - length s.unfinished) (sent s - s.published)) h refl)
@@ -160,7 +160,7 @@ whole_channel ds es c l =
     other_messages t 0 0 t.messages all (omega arith))
     es l
 
--- with its first messages let go
+-- with its first messages released
 pub channel_law :
     (ds : List ℕ) (es : List Effect) (c gone spare : ℕ)
     → Lawful ds es
@@ -193,7 +193,7 @@ ready_law ds call answer es c gone spare bodies l =
     sent_after now bodies (with_part (part_of call answer c) s)
     (part_after now (part_of call answer c) s (none_after_clock ds es c gone spare now (lawful_last ds call answer es l).1 old))
 
--- a channel of which all that can be is published stays as it is
+-- publishing again changes nothing
 pub all_published : (now : ℕ) (s : ChannelState) → publishable s ≡ s.published → published_at now s ≡ s
 all_published now s e =
     let none : publishable s - s.published ≡ 0 = omega (arith, e) in

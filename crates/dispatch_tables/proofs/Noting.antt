@@ -1,4 +1,4 @@
--- What is left of what was noted.
+-- The part of the records that remains.
 use Rattle.std.proofs.Common.{◌≡◌, ◌+◌, ◌-◌, List, ◌++◌, length, sym, ap, ◌∙◌, arith, length-append, length-drop}
 use Rattle.std.proofs.Math.ListN.{drop_of_length-le}
 use Rattle.std.proofs.lemmas.List.{drop-append-le}
@@ -6,7 +6,7 @@ use Rattle.dispatch_calls.specs.declared.counts.Anr.{Anr}
 use Rattle.dispatch_tables.specs.Delivery.{Noted, NotedIs, noted_with}
 use Rattle.dispatch_tables.specs.Laws.{AnrsGoLaw}
 
--- some more are noted
+-- some more are recorded
 pub noted_more : (all more : List Anr) (n : Noted) → NotedIs all n → NotedIs (all ++ more) (noted_with more n)
 noted_more all more n h =
     record {

@@ -33,7 +33,7 @@ length-sent_on now (b ∷ bs) ms =
     let more : length (sent_on now bs (m ∷ ms)) ≡ length (m ∷ ms) + length bs = length-sent_on now bs (m ∷ ms) in
     more ∙ omega arith
 
--- all that is enqueued at once
+-- everything that is enqueued at once
 pub enqueued_is : (now : ℕ) (bs : List Body) (s : ChannelState) (n : ℕ) → sent s ≡ n
     → enqueued_all bs now s ≡ record s { messages = s.messages ++ messages_from now n bs; spare = s.spare - length bs }
 enqueued_is now [] s n e = λ i. record s { messages = sym (append-nil s.messages) i; spare = none i }

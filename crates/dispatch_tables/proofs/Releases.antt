@@ -1,4 +1,4 @@
--- How many of the first messages of a channel may be let go.
+-- How many of the first messages of a channel may be released.
 use Rattle.std.proofs.Common.{◌≡◌, ℕ, ◌+◌, ◌≤◌, ◌<◌, ◌==◌, ◌||◌, nat_lt, max, Bool, true, false, not, cond, List, length, refl, sym, ap, ◌∙◌, subst, inl, inr, arith}
 use Rattle.std.proofs.lemmas.Bool.{cases_Bool, and_parts, eqb-true, true≢false}
 use Rattle.std.proofs.lemmas.List.{length-reverse}
@@ -59,12 +59,12 @@ stream_grows ds call answer es c l =
     ap length h.stream_is ∙ length-sent_on (clock (past_of (step ds call answer es))) outgoing (stream es c) in
     omega (arith, longer)
 
--- no more are let go than there are after the step
+-- no more are released than there are after the step
 pub most_on : (ds : List ℕ) (call : Call) (answer : Reply) (es : List Effect) (c gone : ℕ)
     → Lawful ds (step ds call answer es) → gone ≤ length (stream es c) → gone ≤ length (stream (step ds call answer es) c)
 most_on ds call answer es c gone l most = omega (arith, most, stream_grows ds call answer es c l)
 
--- what may be let go before a step may be let go after it
+-- what may be released before a step may be released after it
 pub may_go_on : (ds : List ℕ) (call : Call) (answer : Reply) (es : List Effect) (c gone : ℕ)
     → Lawful ds (step ds call answer es) → MayGo es c gone → MayGo (step ds call answer es) c gone
 may_go_on ds call answer es c gone l may =
@@ -84,7 +84,7 @@ may_go_on ds call answer es c gone l may =
 pub none_may_go : (es : List Effect) (c : ℕ) → MayGo es c 0
 none_may_go es c = record { of_all = omega arith; of_live = λ lives. omega arith }
 
--- those that were received may be let go
+-- those that were received may be released
 pub received_may_go : (ds : List ℕ) (es : List Effect) (c gone : ℕ) → Lawful ds es → MayGo es c gone
     → MayGo es c (max gone (received (past_of es) c))
 received_may_go ds es c gone l may =
@@ -99,6 +99,6 @@ received_most ds es c gone l le =
     let most : published es c ≤ length (stream es c) = omega arith in
     omega (arith, le, few, most)
 
--- all messages of a channel that is not live may be let go
+-- all messages of a channel that is not live may be released
 pub all_may_go : (es : List Effect) (c : ℕ) → live (past_of es) c ≡ false → MayGo es c (length (stream es c))
 all_may_go es c dead = record { of_all = omega arith; of_live = λ lives. absurd (true≢false (sym lives ∙ dead)) }

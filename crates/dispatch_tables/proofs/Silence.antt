@@ -1,4 +1,4 @@
--- Steps that tell a channel nothing.
+-- Steps that send a channel nothing.
 use Rattle.std.proofs.Common.{◌≡◌, ℕ, Bool, true, false, not, ◌&&◌, ◌||◌, cond, List, [], ◌∷◌, ◌++◌, map, filter, flat_map, None, refl, sym, ap, ap₂, ◌∙◌}
 use Rattle.std.proofs.lemmas.Bool.{not-true, true≢false}
 use Rattle.input_types.specs.declared.key.KeyArgs.{KeyArgs}
@@ -24,7 +24,7 @@ use Rattle.dispatch_history.specs.Said.{said, motion_from, motions_said, keys_sa
 use Rattle.dispatch_history.specs.Step.{scene}
 use Rattle.dispatch_tables.specs.Laws.{SilentCalls}
 
--- nothing ends a key where no args are dispatched
+-- nothing ends a key if no args are dispatched
 none_end : (ks : List KeyArgs) → filter (ends None) ks ≡ []
 none_end [] = refl
 none_end (k ∷ ks) = none_end ks
@@ -45,7 +45,7 @@ keeps_keys before later named lives e f g = rw (e, f, g) (same before)
     same true = refl
     same false = refl
 
--- a step without args, after which a channel has the focus as before, is not named, and is sent no motion
+-- a step without args after which a channel has the focus as before, is not reported, and is sent no motion
 said_none : (after : History) (es : List Effect) (s : Scene) (e : Step) (k : Mark) (c : ℕ)
     → flat_map (sent_with s e k c) devices ≡ [] → is_target after c ≡ is_target (past_of es) c → names after c ≡ false
     → has_focus after c ≡ has_focus (past_of es) c → repeat_by after (last_key es) c ≡ []
@@ -81,7 +81,7 @@ flat_none : (f : ℕ → List Motion) (ds : List ℕ) → ((d : ℕ) → f d ≡
 flat_none f [] none = refl
 flat_none f (d ∷ ds) none = ap (λ xs. xs ++ flat_map f ds) (none d) ∙ flat_none f ds none
 
--- a tick tells nothing of its motions to a channel that it does not name
+-- a tick sends no motions to a channel that it does not report
 not_muted : (s : Scene) (mask c d : ℕ) → mask_has mask c ≡ false
     → sent_with s (Mutes (mask_has mask)) (mark s (Mutes (mask_has mask))) c d ≡ []
 not_muted s mask c d n = quiet_law s (Mutes (mask_has mask)) c d refl (λ j. n)

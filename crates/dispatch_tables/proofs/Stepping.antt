@@ -46,7 +46,7 @@ done_by es c (Opens limit) h can k d = h.done_received k d
 done_by es c Receives h can k d = h.done_received k d
 done_by es c Untouched h can k d = h.done_received k d
 
--- those that wait after a part
+-- the messages that wait after a part
 waiting-part : (p : Part) (ns : List ℕ) (at : ℕ → ℕ) (ms : List Message)
     → waiting (λ k. list_any (λ n. n == k) (finished_by p ns)) at ms
     ≡ unfinished_by p (waiting (λ k. list_any (λ n. n == k) ns) at ms)

@@ -1,4 +1,4 @@
--- What is kept of a channel, and what a step makes of it.
+-- What is kept of a channel, and how a step changes it.
 use Rattle.std.specs.Prelude.{◌≡◌, ℕ, suc, ◌≤◌, Bool, true, false, ◌==◌, List, [], ◌∷◌, drop, length, map, reverse, if◌then◌else◌}
 use Rattle.input_types.specs.declared.message.Body.{Body}
 use Rattle.input_types.specs.declared.message.Message.{Message}
@@ -12,7 +12,7 @@ use Rattle.dispatch_history.specs.History.{limit_of, live, received, finished}
 use Rattle.dispatch_history.specs.Effect.{Effect, past_of, stream}
 use Rattle.dispatch_history.specs.Delivery.{published, delivery, unfinished}
 
--- a channel after a history with these effects, its first messages let go, and with room for so many more
+-- a channel after a history with these effects, with its first messages released and room for so many more
 abbrev pub channel_at : List Effect → (channel gone spare : ℕ) → ChannelState
 channel_at es c gone spare =
     record {
@@ -26,8 +26,8 @@ channel_at es c gone spare =
       spare = spare;
     }
 
--- what a step does to a channel besides what it tells: it opens the channel with a limit, hands its owner the next
--- message, finishes a message of it, or does none of these
+-- what a step does to a channel besides sending: it opens the channel with a limit, hands its owner the next message,
+-- finishes a message of it, or none of these
 pub data Part : Type 0 where
   Opens : (limit : ℕ) → Part
   Receives : Part
@@ -48,7 +48,7 @@ with_part Receives s = received_one s
 with_part (Finishes seq) s = finished_with seq s
 with_part Untouched s = s
 
--- all that it is sent is enqueued, in order
+-- everything that it is sent is enqueued, in order
 abbrev pub enqueued_all : List Body → ℕ → ChannelState → ChannelState
 enqueued_all [] now s = s
 enqueued_all (b ∷ bs) now s = enqueued_all bs now (enqueued b now s)
@@ -68,17 +68,17 @@ abbrev pub Hands : Bool → Reply → Type 0
 Hands true answer = (m : Message) × (answer ≡ Got m)
 Hands false answer = answer ≡ Empty
 
--- so many of the first messages of a channel may be let go: those that were received, and all once it is removed
+-- so many of the first messages of a channel may be released: those that were received, and all once it is removed
 pub record MayGo (es : List Effect) (c gone : ℕ) : Type 0 where
   pub of_all : gone ≤ length (stream es c)
   pub of_live : live (past_of es) c ≡ true → gone ≤ received (past_of es) c
 
--- a channel is kept as it is after a history with these effects, but for messages that were let go, received or not
+-- a channel is kept as it is after a history with these effects, except for released messages, received or not
 pub record Holds (es : List Effect) (c : ℕ) (s : ChannelState) : Type 0 where
   pub is : s ≡ channel_at es c s.gone s.spare
   pub most : s.gone ≤ length (stream es c)
 
--- the same, and only messages that may be let go were
+-- the same, and only messages that may be released were
 pub record Keeps (es : List Effect) (c : ℕ) (s : ChannelState) : Type 0 where
   pub is : s ≡ channel_at es c s.gone s.spare
   pub may_go : MayGo es c s.gone

@@ -1,4 +1,4 @@
--- What is kept of all channels, and what a step makes of it.
+-- What is kept of all channels, and how a step changes it.
 use Rattle.std.specs.Prelude.{◌≡◌, ℕ, ◌+◌, ◌≤◌, Bool, true, false, List, [], ◌++◌, drop, length, Option}
 use Rattle.input_types.specs.declared.message.Body.{Body}
 use Rattle.window_snapshot.specs.Mask.{mask_has}
@@ -16,30 +16,30 @@ use Rattle.dispatch_tables.specs.Channel.{Holds, Untouched, part_of, with_part, 
 use Rattle.dispatch_tables.specs.Masks.{live_mask_after, able_mask_after}
 use Rattle.dispatch_tables.specs.Dues.{due_in, anrs_in}
 
--- what was noted of ticks: how many namings were let go, the first ones, and the others
+-- the records of ticks: how many of the first ANRs were released, and the others
 pub record Noted : Type 0 where
   pub gone : ℕ
   pub left : List Anr
 
--- nothing was noted
+-- nothing was recorded
 abbrev pub none_noted : Noted
 none_noted = record { gone = 0; left = [] }
 
--- some namings more
+-- some more ANRs
 abbrev pub noted_with : List Anr → Noted → Noted
 noted_with more n = record n { left = n.left ++ more }
 
--- all are let go
+-- all are released
 abbrev pub noted_gone : Noted → Noted
 noted_gone n = record { gone = n.gone + length n.left; left = [] }
 
--- it is what is left of all these namings, once the first ones were let go
+-- it is what remains of all these ANRs once the first ones were released
 pub record NotedIs (all : List Anr) (n : Noted) : Type 0 where
   pub few : n.gone ≤ length all
   pub left_is : n.left ≡ drop n.gone all
 
--- how many channels were opened, the channels by their numbers, the masks of those that are live and able, and what
--- was noted of ticks
+-- how many channels were opened, the channels by their numbers, the masks of those that are live and able, and the
+-- records of ticks
 pub record Delivery : Type 0 where
   pub count : ℕ
   pub channel : ℕ → ChannelState
@@ -47,7 +47,7 @@ pub record Delivery : Type 0 where
   pub able : ℕ
   pub noted : Noted
 
--- when a channel is due to be named by what is kept
+-- when a channel is due to be reported, by what is kept
 abbrev pub due_kept : Delivery → ℕ → Option ℕ
 due_kept k c = due_in (mask_has k.able c) (k.channel c)
 
@@ -59,18 +59,18 @@ pub record DeliveryIs (es : List Effect) (k : Delivery) : Type 0 where
   pub able_is : mask_has k.able ≡ able es
   pub noted_is : NotedIs (anrs es) k.noted
 
--- a channel after a step: its part in it, then what it is sent, and all is published
+-- a channel after a step: its part in it, then what it is sent, then everything is published
 abbrev pub channel_after : Call → Reply → (outgoing : List Body) → (now channel : ℕ) → ChannelState → ChannelState
 channel_after call answer outgoing now c s = published_at now (enqueued_all outgoing now (with_part (part_of call answer c) s))
 
--- what is noted after a step
+-- what is recorded after a step
 abbrev pub noted_after : Reply → (now : ℕ) → Delivery → Noted
 noted_after (Named mask) now k = noted_with (anrs_in now mask k.channel k.count) k.noted
 noted_after answer now k = k.noted
 
 -- What is kept goes one step on, in which channels are sent these bodies, at the clock after the step. Some channels
--- change, at least those that are sent something or have a part in the step. One that the step opens begins as if it
--- had been there before, without messages.
+-- change, at least those that are sent something or have a part in the step. A channel that the step opens starts as
+-- if it had been there before, without messages.
 pub record GoesOn
     (call : Call) (answer : Reply) (es : List Effect) (outgoing : ℕ → List Body) (now : ℕ) (changed : ℕ → Bool)
     (k later : Delivery) : Type 0 where

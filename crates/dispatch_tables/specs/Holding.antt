@@ -1,4 +1,4 @@
--- What is proved of a channel where it is not asked what may be let go.
+-- Proved facts about a channel that do not depend on what may be released.
 use Rattle.std.specs.Prelude.{◌≡◌, ℕ, true, List, nat_lt}
 use Rattle.dispatch_calls.specs.declared.call.Call.{Call}
 use Rattle.dispatch_calls.specs.declared.reply.Reply.{Reply}
@@ -10,7 +10,7 @@ use Rattle.dispatch_history.specs.Reply.{receive_reply}
 use Rattle.dispatch_tables.specs.Lawful.{Lawful}
 use Rattle.dispatch_tables.specs.Channel.{MayGo, Holds, Hands}
 
--- A channel is held all the same once any of its messages are let go, and where it has more room.
+-- A channel is still held once any of its messages are released, and if it has more room.
 abbrev pub HeldLess : Type 0
 HeldLess =
     (displays : List ℕ) (es : List Effect) (c : ℕ) (s : ChannelState)
@@ -21,13 +21,13 @@ HeldLess =
     × Holds es c (each_released s)
     × Holds es c (all_released s)
 
--- What may be let go before a step may be let go after it.
+-- What may be released before a step may be released after it.
 abbrev pub MayGoLaw : Type 0
 MayGoLaw =
     (displays : List ℕ) (call : Call) (answer : Reply) (es : List Effect) (c gone : ℕ)
     → Lawful displays (step displays call answer es) → MayGo es c gone → MayGo (step displays call answer es) c gone
 
--- The owner of a live channel gets a message exactly where more is published than it received.
+-- The owner of a live channel receives a message exactly if more are published than it received.
 abbrev pub PassLaw : Type 0
 PassLaw =
     (displays : List ℕ) (es : List Effect) (c : ℕ) (s : ChannelState)

@@ -1,4 +1,4 @@
--- What is proved of what is kept. Each law is the clause of a function of its own.
+-- Proved facts about what is kept. Each law is the clause of a function of its own.
 use Rattle.std.specs.Prelude.{◌≡◌, ℕ, ◌^◌, ◌<◌, ◌≤◌, max, Bool, false, true, not, ◌&&◌, nat_le, List, [], ◌++◌, filter, length, reverse, Option, Some, None, option_map, if◌then◌else◌}
 use Rattle.input_types.specs.declared.message.Body.{Body}
 use Rattle.window_snapshot.specs.Mask.{mask_has}
@@ -24,24 +24,24 @@ use Rattle.dispatch_tables.specs.Delivery.{Delivery, DeliveryIs, GoesOn, Noted, 
 use Rattle.dispatch_tables.specs.Silent.{is_silent, is_no_op}
 use Rattle.dispatch_tables.specs.Dues.{due_moment, due_in, due_pair, anrs_in, is_named}
 
--- The effects of a legal history are lawful, and so are none.
+-- The effects of a legal history are lawful, and so is the empty list.
 abbrev pub LawfulEffects : Type 0
 LawfulEffects = (displays : List ℕ) (h : History) → Legal displays h → Lawful displays (effects displays h)
 
--- A step that is answered as it is to be leaves effects lawful.
+-- A step with the required reply leaves effects lawful.
 abbrev pub LawfulStep : Type 0
 LawfulStep =
     (displays : List ℕ) (call : Call) (answer : Reply) (es : List Effect)
     → Lawful displays es → answer ≡ reply_to es call → Lawful displays (step displays call answer es)
 
--- The last step of lawful effects was answered as it is to be, and those before it are lawful.
+-- The last step of lawful effects has the required reply, and those before it are lawful.
 abbrev pub LawfulLast : Type 0
 LawfulLast =
     (displays : List ℕ) (call : Call) (answer : Reply) (es : List Effect)
     → Lawful displays (step displays call answer es) → (answer ≡ reply_to es call) × Lawful displays es
 
--- A channel that is kept before a step is kept after it once it is opened, received from or finished as the step says,
--- all that it is sent is enqueued, and it is published, at the clock after the step.
+-- A channel that is kept before a step is kept after it, once it is opened, received from or finished as the step
+-- says, everything that it is sent is enqueued, and it is published at the clock after the step.
 abbrev pub KeptStep : Type 0
 KeptStep =
     (displays : List ℕ) (call : Call) (answer : Reply) (es : List Effect) (c : ℕ) (s : ChannelState)
@@ -51,7 +51,7 @@ KeptStep =
     Holds (step displays call answer es) c
     (published_at now (enqueued_all (said_at displays call answer es c) now (with_part (part_of call answer c) s)))
 
--- Before it is published so, none of its messages was delivered after that clock.
+-- Before that publishing, none of its messages was delivered after that clock.
 abbrev pub KeptReady : Type 0
 KeptReady =
     (displays : List ℕ) (call : Call) (answer : Reply) (es : List Effect) (c : ℕ) (s : ChannelState)
@@ -85,8 +85,8 @@ NotLiveLaw =
     → live (past_of (step displays call answer es)) c ≡ false
     → (said_at displays call answer es c ≡ []) × (part_of call answer c ≡ Untouched)
 
--- A channel is kept all the same once the messages that were received are let go, where it has more room, and, where it is
--- not live, once all its messages are let go.
+-- A channel is still kept once the received messages are released, if it has more room, and, if it is not live, once
+-- all its messages are released.
 abbrev pub KeptLess : Type 0
 KeptLess =
     (displays : List ℕ) (es : List Effect) (c : ℕ) (s : ChannelState)
@@ -96,8 +96,8 @@ KeptLess =
     × ((n : ℕ) → Keeps es c (with_spare n s))
     × (live (past_of es) c ≡ false → Keeps es c (all_released s))
 
--- What is kept is a channel, which has as many messages as its stream; all that can be is published, so that it stays
--- as it is where it is published again; and no message was delivered after the clock.
+-- What is kept is a channel with as many messages as its stream. Everything that can be is published, so that
+-- publishing again changes nothing. No message was delivered after the clock.
 abbrev pub KeptFacts : Type 0
 KeptFacts =
     (displays : List ℕ) (es : List Effect) (c : ℕ) (s : ChannelState)
@@ -113,14 +113,14 @@ abbrev pub NumberedLaw : Type 0
 NumberedLaw =
     (displays : List ℕ) (es : List Effect) (c : ℕ) → Lawful displays es → NumberedFrom 0 (reverse (stream es c))
 
--- The owner of a live channel gets the next message of what is kept, where there is one.
+-- The owner of a live channel receives the next message of what is kept, if there is one.
 abbrev pub ReceiveLaw : Type 0
 ReceiveLaw =
     (displays : List ℕ) (es : List Effect) (c : ℕ) (s : ChannelState)
     → Lawful displays es → Keeps es c s
     → receive_reply es c ≡ (if not (live (past_of es) c) then Gone else got_reply (next_of s))
 
--- A message of a live channel can be finished where what is kept says so.
+-- A message of a live channel can be finished exactly if what is kept says so.
 abbrev pub FinishLaw : Type 0
 FinishLaw =
     (displays : List ℕ) (es : List Effect) (c seq : ℕ) (s : ChannelState)
@@ -135,7 +135,7 @@ OldestLaw =
     (es : List Effect) (c : ℕ) (s : ChannelState)
     → Holds es c s → oldest_of s ≡ option_map (λ m. (m.seq, delivery es c m.seq)) (oldest es c)
 
--- At the clock of a history some message is late by what is kept where one is by the history.
+-- At the clock of a history, some message is late by what is kept exactly if one is by the history.
 abbrev pub LateLaw : Type 0
 LateLaw = (es : List Effect) (c : ℕ) (s : ChannelState) → Holds es c s → late_at (clock (past_of es)) s ≡ has_late es c
 
@@ -152,7 +152,7 @@ CountsLaw =
 abbrev pub OpenedFew : Type 0
 OpenedFew = (displays : List ℕ) (es : List Effect) → Lawful displays es → opened (past_of es) ≤ 64
 
--- Who is able after a step.
+-- Which channels are able after a step.
 abbrev pub AbleLaw : Type 0
 AbleLaw =
     (displays : List ℕ) (call : Call) (answer : Reply) (es : List Effect) (c : ℕ)
@@ -195,8 +195,8 @@ QuietDueLaw =
 abbrev pub NotLiveDueLaw : Type 0
 NotLiveDueLaw = (es : List Effect) (c : ℕ) → live (past_of es) c ≡ false → due_moment es c ≡ None
 
--- A table of dues after a step: it is written again for channels, among which are all that are sent something, have a
--- part in the step or are not able as before.
+-- A table of dues after a step. It is rewritten for some channels, among them all that are sent something, have a
+-- part in the step, or change whether they are able.
 abbrev pub DuesLaw : Type 0
 DuesLaw =
     (displays : List ℕ) (call : Call) (answer : Reply) (es : List Effect) (changed : ℕ → Bool)
@@ -220,7 +220,7 @@ FirstDueLaw =
     → IsFirst (due_moment es) first
     → first_due es ≡ option_map due_pair first
 
--- A tick names the channels that are due at the clock that it makes; its answer is the mask that has just those.
+-- A tick reports the channels that are due at its clock, and its reply is exactly the mask of these.
 abbrev pub NamedLaw : Type 0
 NamedLaw =
     (displays : List ℕ) (es : List Effect) (now : ℕ)
@@ -233,7 +233,7 @@ NamedLaw =
     → ((c : ℕ) → mask_has mask c ≡ is_due (due_moment es c) at)
     → mask ≡ mask_of (named es now))
 
--- A step that names channels notes its clock and the oldest unfinished message of each.
+-- A step that reports channels records its clock and the oldest unfinished message of each.
 abbrev pub AnrsLaw : Type 0
 AnrsLaw =
     (displays : List ℕ) (call : Call) (mask : ℕ) (es : List Effect) (kept : ℕ → ChannelState)
@@ -241,31 +241,31 @@ AnrsLaw =
     → let now = clock (past_of (step displays call (Named mask) es)) in
     anrs (step displays call (Named mask) es) ≡ anrs es ++ anrs_in now mask kept (opened (past_of es))
 
--- A step that is answered with no mask notes nothing.
+-- A step whose reply has no mask records nothing.
 abbrev pub AnrsKeptLaw : Type 0
 AnrsKeptLaw =
     (displays : List ℕ) (call : Call) (answer : Reply) (es : List Effect)
     → is_named answer ≡ false
     → anrs (step displays call answer es) ≡ anrs es
 
--- What is left of what was noted may be let go.
+-- The remaining records may be released.
 abbrev pub AnrsGoLaw : Type 0
 AnrsGoLaw =
     (all : List Anr) (n : Noted) → NotedIs all n → NotedIs all (noted_gone n) × ((noted_gone n).gone ≡ length all)
 
--- What these steps tell: nothing.
+-- These steps send nothing.
 abbrev pub SilentCalls : Type 0
 SilentCalls =
     (displays : List ℕ) (call : Call) (answer : Reply) (es : List Effect) (c : ℕ)
     → is_silent call answer c ≡ true → said_at displays call answer es c ≡ []
 
--- Before any call nothing is kept.
+-- Before any call, nothing is kept.
 abbrev pub DeliveryStart : Type 0
 DeliveryStart =
     (channel : ℕ → ChannelState)
     → DeliveryIs [] (record { count = 0; channel = channel; live = 0; able = 0; noted = none_noted })
 
--- What is kept of all channels goes on with any step.
+-- What is kept of all channels goes one step on with any step.
 abbrev pub DeliveryLaw : Type 0
 DeliveryLaw =
     (displays : List ℕ) (call : Call) (answer : Reply) (es : List Effect) (changed : ℕ → Bool) (k later : Delivery)

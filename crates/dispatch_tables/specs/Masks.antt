@@ -1,4 +1,4 @@
--- Which channels are able to take input after a step, and what that makes of masks.
+-- Which channels can take input after a step, and the masks of these.
 use Rattle.std.specs.Prelude.{ℕ, Bool, not, ◌==◌, ◌&&◌, ◌||◌, if◌then◌else◌}
 use Rattle.window_snapshot.specs.Mask.{mask_has, mask_with}
 pub use Rattle.window_snapshot.specs.Mask.{mask_less}
@@ -7,8 +7,8 @@ use Rattle.dispatch_calls.specs.declared.call.Call.TheVariants.{Open, Tick, Fini
 use Rattle.dispatch_calls.specs.declared.reply.Reply.{Reply}
 use Rattle.dispatch_calls.specs.declared.reply.Reply.TheVariants.{Opened, Done, Named}
 
--- A channel is able once it is opened, and not any more once it is removed or named; a finish of it makes it able where
--- after it none of its messages is late.
+-- A channel is able once it is opened, and no longer once it is removed or reported. A finish makes it able if none
+-- of its messages is late after it.
 abbrev pub able_after : Call → Reply → (late : Bool) → ℕ → (before : Bool) → Bool
 able_after (Open limit) (Opened k) late c before = c == k || before
 able_after (Remove now k) Done late c before = not (c == k) && before

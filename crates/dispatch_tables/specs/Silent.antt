@@ -1,4 +1,4 @@
--- Which steps tell a channel nothing, whatever it holds.
+-- Which steps send a channel nothing, whatever it holds.
 use Rattle.std.specs.Prelude.{ℕ, Bool, true, false, not}
 use Rattle.window_snapshot.specs.Mask.{mask_has}
 use Rattle.dispatch_calls.specs.declared.call.Call.{Call}
@@ -6,8 +6,8 @@ use Rattle.dispatch_calls.specs.declared.call.Call.TheVariants.{Open, Notify, Pu
 use Rattle.dispatch_calls.specs.declared.reply.Reply.{Reply}
 use Rattle.dispatch_calls.specs.declared.reply.Reply.TheVariants.{Full, Done, Idle, Named, Got, Gone}
 
--- Owners that receive or finish, args that are handed in, a pump for which nothing waits and what is refused tell
--- nobody anything; a tick tells those alone that it names.
+-- A receive, a finish, a notify, a pump with nothing to dispatch and a refused call send nothing. A tick sends only
+-- to the channels that it reports.
 abbrev pub is_silent : Call → Reply → (channel : ℕ) → Bool
 is_silent (Receive channel) answer c = true
 is_silent (Finish now channel seq) answer c = true
@@ -20,8 +20,7 @@ is_silent (Remove now channel) Gone c = true
 is_silent (Open limit) Full c = true
 is_silent call answer c = false
 
--- Args that are handed in, what is refused, a pump for which nothing waits and a receive of nothing leave all channels
--- as they are.
+-- A notify, a refused call, a pump with nothing to dispatch and a receive of nothing leave all channels as they are.
 abbrev pub is_no_op : Call → Reply → Bool
 is_no_op call (Named mask) = false
 is_no_op (Notify now args) answer = true

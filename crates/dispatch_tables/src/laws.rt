@@ -1,15 +1,15 @@
-//! What is proved of what is kept. Each function has the laws as its clauses, and does nothing.
+//! Proved facts about what is kept. Each function has the laws as its clauses, and does nothing.
 ghost use Rattle.dispatch_tables.specs.Laws.{LawfulEffects, LawfulStep, LawfulLast, KeptStep, KeptReady, KeptUnopened, KeptQuiet, NotLiveLaw, KeptLess, KeptFacts, NumberedLaw, ReceiveLaw, FinishLaw, OldestLaw, LateLaw, CountsLaw, OpenedFew, AbleLaw, LiveMaskLaw, AbleMaskLaw, DueLaw, QuietDueLaw, NotLiveDueLaw, DuesLaw, FirstDueLaw, NamedLaw, AnrsLaw, AnrsKeptLaw, AnrsGoLaw, SilentCalls, DeliveryStart, DeliveryLaw, DeliveryDue, DeliveryNoOp};
 ghost use Rattle.dispatch_tables.specs.Holding.{HeldLess, MayGoLaw, PassLaw};
 
-/// Effects of legal histories: a step that is answered as it is to be keeps them so, and each step was.
+/// Effects of legal histories: a step with the required reply keeps them so, and each step has it.
 pub fn lawful()
     ensures effects { LawfulEffects }
     ensures step { LawfulStep }
     ensures last { LawfulLast }
 {}
 
-/// What is kept of a channel, and what a step makes of it. It is published at the clock after the step, which it may be
+/// What is kept of a channel, and how a step changes it. It is published at the clock after the step, which it may be
 /// then.
 pub fn channels()
     ensures facts { KeptFacts }
@@ -19,8 +19,8 @@ pub fn channels()
     ensures unopened { KeptUnopened }
 {}
 
-/// The channels that a step does not concern are kept as they were, and many steps tell nothing. Messages that were
-/// received may be let go, and all of a channel that is removed.
+/// A step leaves the channels that it does not concern as they were, and many steps send nothing. Received messages
+/// may be released, and so may all messages of a removed channel.
 pub fn quiet_channels()
     ensures quiet { KeptQuiet }
     ensures not_live { NotLiveLaw }
@@ -30,7 +30,7 @@ pub fn quiet_channels()
     ensures silent { SilentCalls }
 {}
 
-/// What owners are answered, and what is told of a channel, by what is kept of it.
+/// What owners are answered, and what can be read of a channel, by what is kept of it.
 pub fn answers()
     ensures receive { ReceiveLaw }
     ensures pass { PassLaw }
@@ -40,7 +40,7 @@ pub fn answers()
     ensures counts { CountsLaw }
 {}
 
-/// Who is live and who is able to take input after a step, also as masks.
+/// Which channels are live and which can take input after a step, also as masks.
 pub fn responding()
     ensures few { OpenedFew }
     ensures able { AbleLaw }
@@ -57,7 +57,7 @@ pub fn dues()
     ensures first { FirstDueLaw }
 {}
 
-/// Whom a tick names, and what is noted of it.
+/// Which channels a tick reports, and what is recorded.
 pub fn anrs()
     ensures named { NamedLaw }
     ensures tick { AnrsLaw }
@@ -65,7 +65,7 @@ pub fn anrs()
     ensures gone { AnrsGoLaw }
 {}
 
-/// What is kept of all channels stands for nothing at first, and after each step for one step more.
+/// What is kept of all channels stands for the empty history at first, and after each step for one more step.
 pub fn delivery()
     ensures start { DeliveryStart }
     ensures step { DeliveryLaw }

@@ -122,7 +122,7 @@ not_assignable = refl
 too_late : refused after_tap (motion 4 1000000000000000000 (at 1 540 1200 ∷ [])) ≡ Some (TooLate 4)
 too_late = refl
 
--- ---- what is passed over
+-- ---- what is skipped
 
 -- another device, a focus, and a finger that goes down outside
 passed_over

@@ -1,4 +1,4 @@
--- There is one answer.
+-- There is exactly one answer.
 use Rattle.std.proofs.Common.{◌≡◌, ℕ, suc, ◌+◌, ◌<◌, ◌≤◌, Bool, true, false, List, [], ◌∷◌, ◌++◌, length, Option, Some, None, Result, Ok, Err, refl, sym, ap, subst, ◌∙◌, arith, inl, inr}
 use Rattle.raw_events.specs.declared.event.RawEvent.{RawEvent}
 use Rattle.stream_judge.specs.declared.error.FileError.{FileError}

@@ -1,4 +1,4 @@
--- The text that is answered is a recording of the motions.
+-- The resulting text is a recording of the motions.
 use Rattle.std.specs.Prelude.{codes}
 use Rattle.std.proofs.Common.{◌≡◌, ℕ, ◌+◌, ◌<◌, ◌≤◌, nat_eq, nat_lt, Bool, true, false, if◌then◌else◌, List, [], ◌∷◌, ◌++◌, length, reverse, Option, Some, None, Result, Ok, Err, refl, sym, ap, subst, ◌∙◌, arith}
 use Rattle.std.proofs.lemmas.Bool.{ltb-false, eqb-false}
@@ -56,7 +56,7 @@ ids_left s want e =
     (not_many (unassignable s.places (length (news s.places want)) want) (nat_lt 2147483647 (s.used + length (news s.places want)))
     (nat_lt (length s.places) (length want)) e)
 
--- the text goes on where a motion is not refused
+-- the text continues if a motion is not refused
 goes_on : (o : Option EmitError) (text : List ℕ) (Goes : Type 0) → UnlessRefused o (Ok text) Goes → (o ≡ None) × Goes
 goes_on None text Goes h = (refl, h)
 goes_on (Some error) text Goes h = absurd (cc)

@@ -51,7 +51,7 @@ still_few [] (suc k) = omega arith
 still_few (w ∷ ws) zero = omega arith
 still_few (w ∷ ws) (suc k) = omega (arith, still_few ws k)
 
--- where no contact stands at a place, none is taken away
+-- if there is no contact at an index, none is removed
 pub none_away : (ws : List Want) (k : ℕ) → length ws ≤ k → ws ≡ remove ws k
 none_away [] zero h = refl
 none_away [] (suc k) h = refl

@@ -39,7 +39,7 @@ spends_after s want choice few = record {
   used = omega (arith, few, news_few s.places want);
 }
 
--- ---- refused for want of slots or tracking ids
+-- ---- refused because slots or tracking ids ran out
 
 abbrev SpentIf : Option EmitError → State → Type 0
 SpentIf None s = Unit {0}
@@ -64,7 +64,8 @@ spent_or_late : (s : State) (t : Taken) (b : Bool) → length s.places ≡ 16 �
 spent_or_late s t true slots few = tt
 spent_or_late s t false slots few = spent_or_many s t.line t.want (nat_lt (length s.places) (length t.want)) refl slots few
 
--- a writer of 16 slots refuses no motion for want of slots, and for want of tracking ids only where they come to an end
+-- a writer of 16 slots never refuses a motion because slots ran out, and refuses one because tracking ids ran out
+-- only when they are used up
 pub is_spent : (s : State) (t : Taken) (error : EmitError) → refused s t ≡ Some error → length s.places ≡ 16 → length t.want ≤ 16 → IsSpent error s
 is_spent s t error e slots few =
     subst (λ (o : Option EmitError). SpentIf o s) e (spent_or_late s t (nat_eq t.moment 1000000000000000000) slots few)

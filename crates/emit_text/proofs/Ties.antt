@@ -88,7 +88,7 @@ ties : (inside : Bool) (channel device n : ℕ) (es : List Event) → ArePlaced 
 ties inside channel device n [] p = nothing inside channel device n
 ties inside channel device n ((k, says) ∷ es) (e, p) = let h = step inside channel device n says es p (λ b q. ties b channel device (n + 1) es q) in rw e h
 
--- what is answered of the lines of a file, before the section
+-- the answer for the lines of a file, before the section
 abbrev pub AnswersLines : ℕ → ℕ → Result (List Event) FileError → Result (List ℕ) EmitError → Type 0
 AnswersLines channel device (Ok es) answer = AnswersFor device (Ok (motions_in channel device es)) answer
 AnswersLines channel device (Err error) answer = AnswersFor device (Err error) answer

@@ -20,8 +20,8 @@ section channel (s ∷ ss) = if nat_eq s.id channel then Some s else section cha
 abbrev pub motions_of : ℕ → ℕ → List Stream → Option (List Taken)
 motions_of channel device streams = option_map (λ s. taken device s.first_line s.messages) (section channel streams)
 
--- What is answered of a device in a file that was judged: a refused file is refused so, then one without the channel, and else the motions are
--- written by a writer of 16 slots that wrote nothing.
+-- The answer for a device in a file that was judged: a refused file is refused in the same way, then one without the
+-- channel, and otherwise the motions are written by a writer of 16 slots that wrote nothing.
 abbrev pub AnswersFor : ℕ → Result (Option (List Taken)) FileError → Result (List ℕ) EmitError → Type 0
 AnswersFor device (Err error) answer = answer ≡ Err (file_refusal error)
 AnswersFor device (Ok None) answer = answer ≡ Err NoChannel
@@ -36,7 +36,7 @@ abbrev pub Refuses : (Result (List ℕ) EmitError → Type 0) → EmitError → 
 Refuses Is Memory = Unit {0}
 Refuses Is error = Is (Err error)
 
--- a refusal that is not for want of slots or tracking ids
+-- a refusal other than running out of slots or tracking ids
 abbrev pub IsNotSpent : EmitError → Type 0
 IsNotSpent (Spent line) = ⊥
 IsNotSpent _ = Unit {0}

@@ -1,4 +1,4 @@
--- What holds of the answers.
+-- Laws of the answers.
 use Rattle.std.specs.Prelude.{◌≡◌, ℕ, List, [], ◌∷◌, map, reverse, Some, Result, Ok}
 use Rattle.pointer_ids.specs.PointerIds.{assigned, named_after}
 use Rattle.raw_events.specs.Recording.{recorded}
@@ -11,12 +11,12 @@ use Rattle.emit_text.specs.Emitted.{IsEmitted, motions_of}
 use Rattle.emit_text.specs.Motions.{Taken}
 use Rattle.emit_text.specs.Packets.{path}
 
--- There is one answer for the bytes of a file, a channel and a device.
+-- There is exactly one answer for the bytes of a file, a channel and a device.
 abbrev pub OneAnswerLaw : Type 0
 OneAnswerLaw = (bytes : List ℕ) (channel device : ℕ) (one other : Result (List ℕ) EmitError) → IsEmitted bytes channel device one → IsEmitted bytes channel device other
     → one ≡ other
 
--- cooking assigns behind each packet, of which the newest is the first, the pointers that were wanted of it
+-- cooking assigns after each packet, newest first, the pointers that it was to produce
 abbrev pub CookToWanted : ℕ → List Written → Type 0
 CookToWanted device [] = Unit {0}
 CookToWanted device (w ∷ past) = (assigned (named_after (contacts_of device 16 (w ∷ past))) ≡ map pointer w.want) × CookToWanted device past
@@ -26,20 +26,20 @@ abbrev pub wanted_of : List Written → List (ℕ × List Want)
 wanted_of [] = []
 wanted_of (w ∷ ws) = (w.moment, w.want) ∷ wanted_of ws
 
--- what is down behind motions, with their moments
+-- what is down after motions, with their moments
 abbrev pub sent_by : List Taken → List (ℕ × List Want)
 sent_by [] = []
 sent_by (t ∷ ts) = (t.moment, t.want) ∷ sent_by ts
 
--- A recording of motions: a reader makes of it the events of packets, one for each motion at its moment, and cooking assigns behind each packet what
--- is down behind its motion.
+-- A recording of motions: a reader gets from it the events of packets, one for each motion at its moment, and cooking
+-- assigns after each packet what is down after its motion.
 pub record IsRecording (device : ℕ) (motions : List Taken) (text : List ℕ) : Type 0 where
   pub packets : List Written
   pub one_each : wanted_of packets ≡ reverse (sent_by motions)
   pub read : recorded ((path, device) ∷ []) text ≡ Ok (reverse (events_written device 16 packets))
   pub cooked : CookToWanted device packets
 
--- The text that is answered is a recording of the motions that are to be written.
+-- The resulting text is a recording of the motions to write.
 abbrev pub RecordingLaw : Type 0
 RecordingLaw = (bytes : List ℕ) (channel device : ℕ) (text : List ℕ) → IsEmitted bytes channel device (Ok text)
     → (motions : List Taken) × (judged (motions_of channel device) (streams_in (events_of bytes)) ≡ Ok (Some motions)) × IsRecording device motions text

@@ -1,4 +1,4 @@
--- Which motions of a section are written, and what is down behind each of them.
+-- Which motions of a section are written, and what is down after each of them.
 use Rattle.std.specs.Prelude.{ℕ, ◌+◌, nat_eq, if◌then◌else◌, List, [], ◌∷◌, map, Option, Some, None}
 use Rattle.std.specs.List.{remove}
 use Rattle.std.specs.Option.{option_map}
@@ -14,8 +14,8 @@ use Rattle.touch_writer.specs.declared.want.Want.{Want}
 abbrev pub contact : Pointer → Want
 contact p = record { id = p.id; x = p.at.x; y = p.at.y }
 
--- What is down behind an action, of the contacts that its motion lists: all of them, all but the one that the index tells, or none. An Outside
--- tells nothing of what is down.
+-- What is down after an action, of the contacts that its motion lists: all of them, all except the one at the index,
+-- or none. An Outside says nothing about what is down.
 abbrev pub down_after : MotionAction → ℕ → List Want → Option (List Want)
 down_after Down index listed = Some listed
 down_after PointerDown index listed = Some listed
@@ -25,13 +25,13 @@ down_after Up index listed = Some []
 down_after Cancel index listed = Some []
 down_after Outside index listed = None
 
--- what is down on a device behind a message, if that is a motion of the device that tells it
+-- what is down on a device after a message, if that is a motion of the device that determines it
 abbrev pub wanted_after : ℕ → Body → Option (List Want)
 wanted_after device (Motion m) = if nat_eq m.device device then down_after m.action m.index (map contact m.pointers) else None
 wanted_after device (Key m) = None
 wanted_after device (Focus b) = None
 
--- a motion that is written: its line, its moment, and what is down behind it
+-- a motion that is written: its line, its moment, and what is down after it
 pub record Taken : Type 0 where
   pub line : ℕ
   pub moment : ℕ
@@ -46,7 +46,7 @@ abbrev pub in_front : Option Taken → List Taken → List Taken
 in_front None ts = ts
 in_front (Some t) ts = t ∷ ts
 
--- the motions of a device that are written, of messages that stand from line `line` on
+-- the motions of a device that are written, of messages from line `line` on
 abbrev pub taken : ℕ → ℕ → List Message → List Taken
 taken device line [] = []
 taken device line (m ∷ ms) = in_front (taken_at device line m) (taken device (line + 1) ms)

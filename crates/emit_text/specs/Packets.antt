@@ -1,4 +1,4 @@
--- What is answered of the motions that are written.
+-- The answer for the motions that are written.
 use Rattle.std.specs.Prelude.{◌≡◌, ℕ, nat_eq, nat_lt, if◌then◌else◌, Bool, List, [], ◌∷◌, ◌++◌, codes, length, Option, Some, None, Result, Ok, Err}
 use Rattle.std.specs.Option.{option_map}
 use Rattle.raw_events.specs.declared.event.RawEvent.{RawEvent}
@@ -22,13 +22,13 @@ refused s t = if nat_eq t.moment 1000000000000000000 then Some (TooLate t.line) 
 abbrev pub limited : List ℕ → Result (List ℕ) EmitError
 limited text = if nat_lt 33554432 (length text) then Err TooLong else Ok text
 
--- the answer is the refusal, where there is one, and else it goes on so
+-- the answer is the refusal, if there is one, and otherwise continues in this way
 abbrev pub UnlessRefused : Option EmitError → Result (List ℕ) EmitError → Type 0 → Type 0
 UnlessRefused None answer Goes = Goes
 UnlessRefused (Some error) answer Goes = answer ≡ Err error
 
--- What is answered of motions, from a writer on and behind these events: the refusal of the first motion that is refused, and else the lines of
--- all events. Each motion adds the packet of a best choice of slots.
+-- The answer for motions, from a writer on and after these events: the refusal of the first motion that is refused,
+-- and otherwise the lines of all events. Each motion adds the packet of a best choice of slots.
 abbrev pub Emits : State → List RawEvent → List Taken → Result (List ℕ) EmitError → Type 0
 Emits s events [] answer = answer ≡ limited (lines path events)
 Emits s events (t ∷ ts) answer =

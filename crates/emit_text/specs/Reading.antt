@@ -1,4 +1,4 @@
--- What is answered of the lines of a file that are left.
+-- The answer for the remaining lines of a file.
 use Rattle.std.specs.Prelude.{◌≡◌, ◌≤◌, ◌<◌, ℕ, ◌+◌, ◌==◌, Bool, false, if◌then◌else◌, List, [], ◌∷◌, length, Option, Some, None, Result, Ok, Err}
 use Rattle.input_types.specs.declared.message.Message.{Message as Told}
 use Rattle.raw_events.specs.declared.event.RawEvent.{RawEvent}
@@ -23,7 +23,7 @@ abbrev pub begins : ℕ → StreamLine → Bool
 begins channel (Channel id) = id == channel
 begins channel _ = false
 
--- the motion of a line in front of those behind it; a section ends where a line is no message
+-- the motion of a line in front of those after it; a section ends at a line that is no message
 abbrev pub motion_before : ℕ → ℕ → StreamLine → List Taken → List Taken
 motion_before device n (Message m) ts = in_front (taken_at device n m) ts
 motion_before device n _ ts = []
@@ -38,23 +38,23 @@ abbrev pub motions_in : ℕ → ℕ → List Event → Option (List Taken)
 motions_in channel device [] = None
 motions_in channel device (e ∷ es) = if begins channel e.1 then Some (motions_at device es) else motions_in channel device es
 
--- what is answered of the motions of a section, if there is one
+-- the answer for the motions of a section, if there is one
 abbrev pub IsFrom : State → List RawEvent → Option (List Taken) → Result (List ℕ) EmitError → Type 0
 IsFrom s events None answer = answer ≡ Err NoChannel
 IsFrom s events (Some ts) answer = Emits s events ts answer
 
--- what is answered of the lines that are left, where a reader is, from a writer on and behind these events
+-- the answer for the remaining lines at a reader's position, from a writer on and after these events
 abbrev pub RestAt : Stage → ℕ → ℕ → State → List RawEvent → List Event → Result (List ℕ) EmitError → Type 0
 RestAt Before channel device s events es answer = IsFrom s events (motions_in channel device es) answer
 RestAt Open channel device s events es answer = Emits s events (motions_at device es) answer
 RestAt Behind channel device s events es answer = Emits s events [] answer
 RestAt (Refused error) channel device s events es answer = answer ≡ Err error
 
--- what is answered where these lines are left
+-- the answer if these lines remain
 abbrev pub Rest : Emission → List RawEvent → List Event → Result (List ℕ) EmitError → Type 0
 Rest e events es answer = RestAt e.stage e.channel e.device e.packets.writer events es answer
 
--- the same, where the file may be refused for the lines that are left
+-- the same, if the file may be refused for the remaining lines
 abbrev pub RestOfFile : Emission → List RawEvent → Result (List Event) FileError → Result (List ℕ) EmitError → Type 0
 RestOfFile e events (Ok es) answer = Rest e events es answer
 RestOfFile e events (Err error) answer = answer ≡ Err (file_refusal error)
@@ -64,7 +64,7 @@ abbrev pub IsSpent : EmitError → State → Type 0
 IsSpent (Spent line) s = 2147483647 < s.used + 16
 IsSpent _ s = Unit {0}
 
--- where motions are refused already, their refusal is that of a writer without tracking ids
+-- if motions are refused already, their refusal is that of a writer without tracking ids
 abbrev pub IsSpentAt : Stage → State → Type 0
 IsSpentAt (Refused error) s = IsSpent error s
 IsSpentAt _ s = Unit {0}
@@ -74,7 +74,7 @@ pub record Spends (old new : State) : Type 0 where
   pub slots : length new.places ≡ length old.places
   pub used : new.used ≤ old.used + 16
 
--- Behind one line more, what is answered of the lines that are left is what was to be answered before.
+-- After one more line, the answer for the remaining lines is the answer before it.
 pub record Leads (events : List RawEvent) (line : ℕ) (says : StreamLine) (old new : Emission) : Type 0 where
   pub behind : List RawEvent
   pub wrote : Wrote behind new.packets

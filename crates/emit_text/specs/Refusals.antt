@@ -13,7 +13,7 @@ file_refusal (file.BadLine line) = BadLine line
 file_refusal (file.NotWellFormed line) = NotWellFormed line
 file_refusal file.Memory = Memory
 
--- the refusal of the packet of a motion that stands in this line
+-- the refusal of the packet of a motion in this line
 abbrev pub packet_refusal : ℕ → WriteError → EmitError
 packet_refusal line (write.NotAssignable id) = NotAssignable line
 packet_refusal line write.TooMany = Spent line

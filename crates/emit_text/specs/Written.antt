@@ -23,7 +23,7 @@ Wrote events p = Keeps p.over p.text.items (lines path events)
 abbrev pub motion : ℕ → ℕ → List Want → Taken
 motion line moment want = record { line = line; moment = moment; want = want }
 
--- the packet of a best choice was written, behind these events
+-- the packet of a best choice was written after these events
 pub record AddsPacket (events : List RawEvent) (line moment : ℕ) (want : List Want) (old new : Packets) : Type 0 where
   pub choice : List Bool
   pub best : IsBestChoice old.writer moment want choice

@@ -1,4 +1,4 @@
-//! The contacts that are down behind a motion.
+//! The contacts that are down after a motion.
 ghost use Rattle.std.specs.Prelude.{◌≡◌, ◌≤◌, ◌++◌, IfOk, OnOk, Some, None, length, map, true, if◌then◌else◌};
 ghost use Rattle.std.specs.List.{remove};
 ghost use Rattle.touch_writer.specs.Places.{IsRising};
@@ -38,7 +38,7 @@ fn take_away(want: &mut Vec<Want>, index: usize)
     }
 }
 
-/// Lists the contacts that are down behind a motion, with rising ids; false where it does not tell them.
+/// Lists the contacts that are down after a motion, with rising ids; false if it does not determine them.
 fn list_down(want: &mut Vec<Want>, motion: &Motion) -> Result<bool, AllocError>
     ensures down { IfOk result (λ told. down_after motion.now.action motion.now.index (map contact motion.now.pointers)
         ≡ (if told then Some want.new.items else None)) }
@@ -60,8 +60,8 @@ fn list_down(want: &mut Vec<Want>, motion: &Motion) -> Result<bool, AllocError>
     }
 }
 
-/// Lists the contacts that are down on a device behind what a window is sent, with rising ids; false where that is no
-/// motion of the device, or one that does not tell them.
+/// Lists the contacts that are down on a device after a message, with rising ids; false if that is no motion of the
+/// device, or one that does not determine them.
 pub(crate) fn list_wanted(
     want: &mut Vec<Want>,
     device: DeviceId,

@@ -43,7 +43,7 @@ pub(crate) struct Emission {
     channel: u32,
     device: DeviceId,
     stage: Stage,
-    /// What is down behind a motion. It keeps its room.
+    /// What is down after a motion. It keeps its room.
     want: Vec<Want>,
     packets: Packets,
 }
@@ -82,7 +82,7 @@ impl Emission {
         }
     }
 
-    /// Takes a line behind the first one of the section.
+    /// Takes a line after the first one of the section.
     fn take_next(&mut self, line: u64, says: &StreamLine) -> Result<(), AllocError>
         ensures { (events : List RawEvent) → Wrote events self.old.packets → self.old.stage ≡ Stage.Open
             → OnOk result (Leads events line says.now self.old self.new) }
@@ -97,7 +97,7 @@ impl Emission {
         }
     }
 
-    /// A motion is refused, unless it is for want of memory.
+    /// Keeps the refusal of a motion, unless memory ran out.
     fn refuse(&mut self, error: EmitError) -> Result<(), AllocError>
         ensures refused { OnOk result ((self.new.stage ≡ Stage.Refused error)
             × (error ≡ EmitError.Memory → ⊥)) }
@@ -129,7 +129,7 @@ impl Emission {
         }
     }
 
-    /// The recording behind the last line of the file, or why there is none.
+    /// The recording after the last line of the file, or why there is none.
     pub(crate) fn end(self) -> Result<Vec<u8>, EmitError>
         ensures ok { (events : List RawEvent) → Wrote events self.packets
             → IfOk result (λ text. Rest self events [] (Ok text.items)) }

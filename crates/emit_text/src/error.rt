@@ -25,13 +25,13 @@ pub enum EmitError {
     /// The motion of the line has a pointer with an id that cooking would not give it.
     NotAssignable { line: u64 },
 
-    /// No slots or no tracking ids are left at the line. It does not come where a file has at most 64 MiB.
+    /// No slots or no tracking ids are left at the line. This cannot happen for a file of at most 64 MiB.
     Spent { line: u64 },
 
     /// The recording has more than 33,554,432 bytes.
     TooLong,
 
-    /// Want of memory.
+    /// Out of memory.
     Memory,
 }
 
@@ -55,7 +55,7 @@ impl From<FileError> for EmitError {
     }
 }
 
-/// Why a motion's packet is refused, which stands in this line.
+/// Why the packet of a motion in this line is refused.
 pub(crate) fn packet_refusal(line: u64, error: WriteError) -> EmitError
     ensures { result ≡ packet_refusal line error }
 {

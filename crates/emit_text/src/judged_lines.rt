@@ -9,7 +9,7 @@ use std::marker::Model;
 use stream_judge::{FileError, refusal};
 use stream_text::{StreamLine, StreamLines};
 
-/// Judges a line behind those of its section; false where it is a message that may not come.
+/// Judges a line after those of its section; false if it is a message that may not come.
 fn judge(alloc: Global, verifier: &mut Verifier, says: &StreamLine) -> Result<bool, AllocError>
     ensures { IfOk result (λ may. after_line (state_of verifier.old) says.now
         ≡ (if may then Some (state_of verifier.new) else None)) }
@@ -28,7 +28,7 @@ fn judge(alloc: Global, verifier: &mut Verifier, says: &StreamLine) -> Result<bo
     }
 }
 
-/// Reads the lines of a stream file as long as they are of its grammar and each message may come where it stands.
+/// Reads the lines of a stream file as long as they follow its grammar and each message may come at its place.
 #[derive(Drop)]
 pub(crate) struct JudgedLines<'a> {
     lines: StreamLines<'a>,

@@ -1,4 +1,4 @@
-//! A recording of what a window was told of one device's fingers, with as few events as can be.
+//! A recording of what a window was sent for one device's fingers, with as few events as possible.
 //!
 //! The first section of channel 1 in the stream file
 //!
@@ -20,8 +20,8 @@
 //! [       0.004000] /dev/input/event0: 0000 0000 00000000
 //! ```
 //!
-//! Each motion of the device is one packet, which leads to what is down behind it. The file is read line by line, and
-//! nothing is kept of it but the text and what the slots hold.
+//! Each motion of the device is one packet, which leads to what is down after it. The file is read line by line, and
+//! only the text and the contents of the slots are kept.
 #![tactic(auto)]
 
 mod contacts;

@@ -63,7 +63,7 @@ impl Packets {
         }
     }
 
-    /// Adds the packet of the motion of a line, behind which these contacts are down; their ids rise. After a refusal
+    /// Adds the packet of the motion of a line, after which these contacts are down; their ids rise. After a refusal
     /// the writer is as before.
     pub(crate) fn add(&mut self, line: u64, moment: Moment, want: &[Want]) -> Result<(), EmitError>
         requires { IsRising want.now }

@@ -8,12 +8,12 @@ use crate::judged_lines::JudgedLines;
 use input_types::DeviceId;
 use std::alloc::Global;
 
-/// What a window was told of the fingers of one device, as a recording of that device: the lines of the packets of the
-/// first section of a channel in a stream file.
+/// What a window was sent for the fingers of one device, as a recording of that device: the lines of the packets of
+/// the first section of a channel in a stream file.
 ///
-/// Each motion of the device that tells what is down is one packet at its moment. The file is refused as `verify`
-/// refuses it; then where it has no section of the channel; then for the first motion that is too late or cannot be
-/// written; and then where the recording would be too long.
+/// Each motion of the device that determines what is down is one packet at its moment. The file is refused as
+/// `verify` refuses it; then if it has no section of the channel; then for the first motion that is too late or
+/// cannot be written; and then if the recording would be too long.
 pub fn emit_text(
     alloc: Global,
     bytes: &[u8],

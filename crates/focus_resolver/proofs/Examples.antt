@@ -28,6 +28,6 @@ requested_on_both = refl
 pub two_are_focused : target_of (state (Some 1) (Some 2) 1 1 2) ≡ Some 2
 two_are_focused = refl
 
--- where nobody is focused on the display of the last request, keys go to nobody
+-- if no channel is focused on the display of the last request, keys go to none
 pub keys_to_nobody : target_of (state (Some 1) None 1 1 2) ≡ None
 keys_to_nobody = refl

@@ -7,12 +7,12 @@ use Rattle.window_snapshot.specs.Mask.{mask_has}
 abbrev pub all_displays : List ℕ
 all_displays = 0 ∷ 1 ∷ 2 ∷ 3 ∷ []
 
--- a requested channel has the focus where it may
+-- a requested channel has the focus if it may have it
 abbrev pub focus_if : (ℕ → Bool) → Option ℕ → Option ℕ
 focus_if may None = None
 focus_if may (Some c) = if may c then Some c else None
 
--- the focus of display y is at the channel that was requested last for it, where that may have it there
+-- the focus of display y is at the channel last requested for it, if that may have it there
 abbrev pub focus_at : (may : ℕ → ℕ → Bool) → (requested : ℕ → Option ℕ) → ℕ → Option ℕ
 focus_at may requested y = focus_if (may y) (requested y)
 
@@ -21,12 +21,12 @@ abbrev pub is_at : Option ℕ → ℕ → Bool
 is_at None c = false
 is_at (Some d) c = c == d
 
--- a channel is focused where the focus of some display is at it
+-- a channel is focused if it has the focus of some display
 abbrev pub is_focused : (ℕ → Option ℕ) → ℕ → Bool
 is_focused focus c = list_any (λ y. is_at (focus y) c) all_displays
 
--- for each display the channel that was requested last for it, if one was; the display of the last request, 0 at first; and for each
--- display the mask of the channels that may have its focus
+-- for each display the channel last requested for it, if any; the display of the last request, 0 at first; and for
+-- each display the mask of the channels that may have its focus
 pub record FocusState : Type 0 where
   pub requested : List (Option ℕ)
   pub last : ℕ

@@ -8,28 +8,28 @@ use input_types::DisplayId;
 use std::marker::Model;
 use window_snapshot::{mask_has, mask_with};
 
-/// The channels that may have the focus of each display: those that are live, and that the windows name on it with one
-/// that may have it. Bit `id - 1` of a mask stands for the channel `id`.
+/// The channels that may have the focus of each display: live channels that have a window on it that may have the
+/// focus. Bit `id - 1` of a mask stands for the channel `id`.
 #[derive(Clone, Copy, Debug, PartialEq, Eq)]
 pub struct Focusable {
     /// The masks of the displays 0 to 3.
     pub masks: [u64; 4],
 }
 
-/// What a step did to the focus.
+/// How a step changed the focus.
 #[derive(Clone, Copy, Debug, PartialEq, Eq)]
 pub struct Change {
     /// The mask of the channels that were focused on some display, and now are on none.
     pub lost: u64,
-    /// The mask of those that were focused on none, and now are on some.
+    /// The mask of those that were focused on no display, and now are on some.
     pub gained: u64,
     /// The channel that keys go to after the step.
     pub target: Option<u32>,
 }
 
-/// Which channel has the focus of each display, and to which of them keys go. The focus of a display is at the channel
-/// that was requested last for it, where that may have it; keys go to the focus of the display of the last request, or
-/// of display 0 before there was one.
+/// Which channel has the focus of each display, and to which of them keys go. The focus of a display is at the
+/// channel last requested for it, if that may have it; keys go to the focus of the display of the last request, or of
+/// display 0 before there was one.
 #[derive(Clone, Copy, Debug)]
 pub struct Focus {
     requested: [Option<u32>; 4],
@@ -52,7 +52,7 @@ impl Model for Focus {
     } };
 }
 
-/// The requested channel, where the mask of those that may have the focus has it.
+/// The requested channel, if it is in the mask of those that may have the focus.
 fn focus_if(requested: Option<u32>, focusable: u64) -> Option<u32>
     ensures { result ≡ focus_if (mask_has focusable) requested }
 {
@@ -100,7 +100,7 @@ impl Focus {
         focus_if(self.requested[place], self.focusable.masks[place])
     }
 
-    /// The focus of a display is requested for a channel, or for none. Any number may be requested.
+    /// Requests the focus of a display for a channel, or for none. Any number may be requested.
     pub fn request(&mut self, display: DisplayId, channel: Option<u32>) -> Change
         ensures state { self.new
             ≡ record {
@@ -118,7 +118,7 @@ impl Focus {
         self.since(before)
     }
 
-    /// The channels that may have the focus are these from now on.
+    /// Sets which channels may have the focus.
     pub fn windows(&mut self, focusable: Focusable) -> Change
         ensures state { self.new
             ≡ record { requested = self.old.requested; last = self.old.last; focusable = focusable.masks } }
@@ -146,7 +146,7 @@ impl Focus {
         focus_mask(self.requested[display], self.focusable.masks[display])
     }
 
-    /// What changed since the channels of this mask were focused.
+    /// The changes since the channels of this mask were focused.
     fn since(&self, before: u64) -> Change
         ensures lost { IsOnlyIn result.lost (mask_has before) (is_focused (focus_of self.now)) }
         ensures gained { IsOnlyIn result.gained (is_focused (focus_of self.now)) (mask_has before) }

@@ -1,5 +1,5 @@
--- Worked tables, computed: pointers 0 and 2 are down on device 1, pointer 4 on device 3, the key 0 of device 4 was
--- told once, and the key 1 of device 2 twice.
+-- Worked tables, computed: pointers 0 and 2 are down on device 1, pointer 4 on device 3, the key 0 of device 4 went
+-- down once, and the key 1 of device 2 was repeated once.
 use Rattle.std.specs.Prelude.{◌≡◌, ℕ, List, [], ◌∷◌, Some, None, true, false, refl}
 use Rattle.bits32.specs.Set.{members_below}
 use Rattle.gesture_verifier.specs.declared.held.HeldKey.{HeldKey}

@@ -76,7 +76,7 @@ unfolding IsStrictlySortedBy
 keys_rise [] h = refl
 keys_rise (k ∷ ks) h = rw (all_before k ks (h.0), keys_rise ks (h.1)) refl
 
--- ---- a key is there exactly where something is due of it
+-- ---- a key is there exactly if something is due of it
 
 of_device : (d s : ℕ) → 1 ≤ d → d ≤ 8 → s < 65536 → is_of_device d s ≡ true
 of_device d s a b c = grind (arith, nat_tests)

@@ -15,7 +15,7 @@ known ids = record { ids = λ _. ids; repeats = with_repeat (λ _ _. None) 1 7 (
 abbrev finger : ℕ → Pointer
 finger id = record { id = id; at = record { x = pos 1; y = pos 1 } }
 
--- why a motion that lists fingers may not come where ids are down
+-- why a motion that lists fingers may not come if ids are down
 abbrev why : List ℕ → MotionAction → ℕ → ℕ → List Pointer → Option Reason
 why down action index flags listed =
     reason_of (known down) (MotionBody (record { device = 1; action = action; index = index; flags = flags; pointers = listed }))

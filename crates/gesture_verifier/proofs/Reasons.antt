@@ -1,4 +1,4 @@
--- A motion that a stream file can say has a reason exactly where it may not come.
+-- A motion that a stream file can express has a reason exactly if it may not come.
 use Rattle.std.proofs.Common.{◌≡◌, ◌≢◌, ℕ, Bool, zero, suc, ◌<◌, ◌&&◌, ◌||◌, not, true, false, if◌then◌else◌, List, [], ◌∷◌, ◌++◌, length, slice_get, Option, Some, None, is_some, ◌⊎◌, inl, inr, refl, sym, ap, ◌∙◌, arith, nat_eq, nat_lt}
 use Rattle.std.specs.List.{list_any, remove}
 use Rattle.std.specs.Option.{option_map}
@@ -69,7 +69,7 @@ first_is_less p [] i n rising e = absurd (cc)
 first_is_less p (q ∷ ps) zero n rising e = let same : q.id ≡ n = cc in rw (← same) (rising.0)
 first_is_less p (q ∷ ps) (suc i) n rising e = omega (arith, rising.0, first_is_less q ps i n (rising.1) e)
 
--- an id that is taken out of a rising list is not in it any more
+-- an id removed from a rising list is no longer in it
 taken_out : (ps : List Pointer) (i n : ℕ) → IsRising ps → slice_get (ids_of ps) i ≡ Some n → list_any (λ d. nat_eq d n) (remove (ids_of ps) i) ≡ false
 taken_out [] i n rising e = absurd (cc)
 taken_out (p ∷ []) zero n rising e = refl
@@ -141,7 +141,7 @@ four : (a b c d : Bool) (r s t u : Reason) → is_some (first_fitting ((a, r) �
 four true b c d r s t u = refl
 four false b c d r s t u = three b c d s t u
 
--- an action of a motion that a stream file can say has a reason exactly where it may not come
+-- an action of a motion that a stream file can express has a reason exactly if it may not come
 by_action : (action : MotionAction) (down : List ℕ) (ps : List Pointer) (index flags : ℕ) → IsRising ps → 0 < length (ids_of ps)
     → is_end_flag flags ≡ true → nat_eq flags 0 ≡ not (nat_eq flags 32)
     → (if is_of_one action then nat_lt index (length (ids_of ps)) else nat_eq index 0) ≡ true

@@ -1,4 +1,4 @@
--- What a write into a table does to what the table stands for.
+-- How a write into a table changes what the table stands for.
 use Rattle.std.proofs.Common.{◌≡◌, ◌≢◌, ℕ, Bool, zero, suc, ◌-◌, ◌<◌, ◌≤◌, ◌&&◌, true, false, if◌then◌else◌, cond, List, [], length, get_or, set, replicate, Option, Some, None, ⊎_elim, refl, sym, ap, ◌∙◌, arith, nat_eq, eq-eqb}
 use Rattle.std.proofs.lemmas.List.{get_or-set_same, get_or-set_other}
 use Rattle.std.proofs.lemmas.Bool.{cases_eq, ne_eqb, false≢true}
@@ -86,7 +86,7 @@ due_kept_at table old d s due e t h kept false w =
     not_both e d t s (λ x y. let own : is_of_device e t ≡ true = rw (x, y) h in false≢true (sym w ∙ own)) in
     rw apart refl
 
--- what is due of one key anew
+-- a new due number for one key
 pub due_kept_after : (table old : List (ℕ × ℕ)) (d s : ℕ) (due : Option ℕ) → is_of_device d s ≡ true
     → ((q : ℕ) → due_at table q ≡ cond (is_eq (nat_cmp (place_of d s) q)) due (due_at old q))
     → due_kept table ≡ with_repeat (due_kept old) d s due

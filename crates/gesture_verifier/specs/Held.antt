@@ -3,11 +3,11 @@ use Rattle.std.specs.Prelude.{ℕ, ◌+◌, ◌/◌, ◌%◌, ◌&&◌, ◌||◌
 use Rattle.std.specs.List.{list_all, list_any}
 use Rattle.gesture_verifier.specs.declared.held.HeldKey.{HeldKey}
 
--- keys stand in the order of their devices, and those of one device in the order of their scan codes
+-- keys are ordered by device, and those of one device by scan code
 abbrev pub is_before : HeldKey → HeldKey → Bool
 is_before a b = nat_lt a.device b.device || (nat_eq a.device b.device && nat_lt a.scan b.scan)
 
--- each key stands before all that are behind it
+-- each key comes before all that follow it
 abbrev pub are_rising : List HeldKey → Bool
 are_rising [] = true
 are_rising (k ∷ ks) = list_all (is_before k) ks && are_rising ks

@@ -18,12 +18,12 @@ abbrev pub first_fitting : List (Bool × Reason) → Option Reason
 first_fitting [] = None
 first_fitting (row ∷ rows) = if row.0 then Some row.1 else first_fitting rows
 
--- the id at a place of a list is down
+-- the id at an index of a list is down
 abbrev pub is_down_at : List ℕ → Option ℕ → Bool
 is_down_at down None = false
 is_down_at down (Some id) = list_any (λ d. nat_eq d id) down
 
--- why an action that lists `ids` may not come where `down` is down
+-- why an action that lists `ids` may not come if `down` is down
 abbrev pub action_reasons : MotionAction → List ℕ → List ℕ → ℕ → List (Bool × Reason)
 action_reasons Down down ids index = (nat_lt 0 (length down), AlreadyDown) ∷ (not (nat_eq (length ids) 1), OnePointer) ∷ []
 action_reasons PointerDown down ids index =
@@ -46,25 +46,25 @@ is_pointer_up Cancel = false
 is_pointer_up Outside = false
 is_pointer_up PointerDown = false
 
--- why a motion may not come where `down` is down on its device: only a PointerUp may be canceled
+-- why a motion may not come if `down` is down on its device: only a PointerUp may be canceled
 abbrev pub motion_reasons : List ℕ → Motion → List (Bool × Reason)
 motion_reasons down m =
     (not (is_pointer_up m.action) && nat_eq m.flags flag_canceled, Flags) ∷ action_reasons m.action down (ids_of m.pointers) m.index
 
--- why a key message may not come, where `due` is the next repeat number of a key that is down
+-- why a key message may not come, if `due` is the next repeat number of a key that is down
 abbrev pub key_reasons : Option ℕ → KeyMsg → List (Bool × Reason)
 key_reasons due m =
     if m.key.down
     then (not (is_some due) && not (nat_eq m.repeat 0), RepeatOfNothing) ∷ (is_some due && not (nat_eq (unwrap_or due 0) m.repeat), RepeatOutOfTurn) ∷ []
     else (not (is_some due), KeyNotDown) ∷ (not (nat_eq m.repeat 0), RepeatOnUp) ∷ []
 
--- why a message may not come where a window knows this
+-- why a message may not come if a window knows this
 abbrev pub reason_of : StreamState → Body → Option Reason
 reason_of s (MotionBody m) = first_fitting (motion_reasons (s.ids m.device) m)
 reason_of s (Key m) = first_fitting (key_reasons (s.repeats m.key.device m.key.scan) m)
 reason_of s (Focus b) = first_fitting ((not (differ b s.focus), FocusTwice) ∷ [])
 
--- the action of one pointer among others, which the index tells
+-- the action of one pointer among others, given by the index
 abbrev pub is_of_one : MotionAction → Bool
 is_of_one PointerDown = true
 is_of_one PointerUp = true
@@ -74,8 +74,9 @@ is_of_one Move = false
 is_of_one Cancel = false
 is_of_one Outside = false
 
--- A message that a line of a stream file can say: a motion lists some pointers, is canceled or has no flag, and has an index of one of them
--- where one goes down or up, and else index 0; a key that goes down has no flag, and one that goes up may be canceled.
+-- A message that a line of a stream file can express. A motion lists some pointers, is canceled or has no flag, and
+-- has the index of one of them if one goes down or up, and otherwise index 0. A key that goes down has no flag, and
+-- one that goes up may be canceled.
 abbrev pub is_spelled : Body → Bool
 is_spelled (MotionBody m) =
     nat_lt 0 (length m.pointers) && (is_end_flag m.flags && (if is_of_one m.action then nat_lt m.index (length m.pointers) else nat_eq m.index 0))

@@ -15,7 +15,7 @@ pub record Told : Type 0 where
   pub focus : Bool
   pub accepted : ℕ
 
--- the count after one more, which stands still at the greatest number of 64 bits
+-- the count after one more, saturated at the greatest number of 64 bits
 abbrev pub one_more : ℕ → ℕ
 one_more n = min (n + 1) (2 ^ 64 - 1)
 
@@ -31,7 +31,7 @@ ids_kept sets d = if is_device d then members (slice_index sets (d - 1)) else []
 abbrev pub is_of_device : ℕ → ℕ → Bool
 is_of_device d s = is_device d && nat_lt s 65536
 
--- the place of a key among those of all devices: the keys of one device stand together, in the order of their scan codes
+-- the place of a key among those of all devices: the keys of one device are together, in the order of their scan codes
 abbrev pub place_of : ℕ → ℕ → ℕ
 place_of device scan = (device - 1) * 65536 + scan
 
@@ -39,11 +39,11 @@ place_of device scan = (device - 1) * 65536 + scan
 abbrev pub is_place : ℕ → Bool
 is_place place = nat_lt place 524288
 
--- a table has numbers beside places alone
+-- a table has numbers only at places
 abbrev pub are_places : List (ℕ × ℕ) → Bool
 are_places repeats = list_all is_place (keys_of repeats)
 
--- the next repeat number that stands beside a place
+-- the next repeat number at a place
 abbrev pub due_at : List (ℕ × ℕ) → ℕ → Option ℕ
 due_at repeats place = lookup (λ k. is_eq (nat_cmp place k)) repeats
 
@@ -55,8 +55,8 @@ due_kept repeats d s = if is_of_device d s then due_at repeats (place_of d s) el
 abbrev pub state_of : Told → StreamState
 state_of told = record { ids = ids_kept told.sets; repeats = due_kept told.repeats; focus = told.focus }
 
--- A verifier that was shown a list of messages, the newest first, and accepted all of them: the stream is well-formed, its tables say
--- what a window knows after it, and the count is its length, as far as 64 bits go.
+-- A verifier that was shown a list of messages, newest first, and accepted all of them: the stream is well-formed,
+-- its tables say what a window knows after it, and the count is its length, as far as 64 bits go.
 pub record VerifierStandsFor (past : List Message) (told : Told) : Type 0 where
   pub state : stream_state past ≡ Some (state_of told)
   pub count : told.accepted ≡ min (length past) (2 ^ 64 - 1)

@@ -9,32 +9,32 @@ use bits32::Bits32;
 use input_types::{FLAG_CANCELED, KeyMsg, Motion, MotionAction};
 use pointers_down::{is_same, listed, without};
 
-/// Why a message may not come after those before it: the first that holds of those of its kind.
+/// Why a message may not come after those before it: the first reason of its kind that holds.
 #[derive(Clone, Copy, Debug, PartialEq, Eq)]
 pub enum Reason {
-    /// A motion is canceled that is no `PointerUp`.
+    /// A canceled motion other than a `PointerUp`.
     Flags,
-    /// A `Down` where pointers are down, or a `PointerDown` of a pointer that is down.
+    /// A `Down` while pointers are down, or a `PointerDown` of a pointer that is down.
     AlreadyDown,
     /// A `Down` or an `Outside` that does not list exactly one pointer.
     OnePointer,
-    /// A motion that goes on or ends where no pointer is down.
+    /// A motion that continues or ends while no pointer is down.
     NothingDown,
-    /// The listed pointers are not those that are down, but for the one that goes down.
+    /// The listed pointers are not those that are down, apart from the one that goes down.
     OtherPointers,
-    /// A `PointerUp` where one pointer is down.
+    /// A `PointerUp` while one pointer is down.
     LastPointer,
-    /// An `Up` where several pointers are down.
+    /// An `Up` while several pointers are down.
     MorePointers,
     /// A repeat of a key that is not down.
     RepeatOfNothing,
-    /// A key that is down goes down with another repeat number than the next.
+    /// A key that is down goes down with a repeat number other than the next.
     RepeatOutOfTurn,
-    /// A key goes up that is not down.
+    /// A key that is not down goes up.
     KeyNotDown,
     /// A key goes up with a repeat number other than 0.
     RepeatOnUp,
-    /// A window gets the focus that it has, or loses one that it has not.
+    /// A window gains a focus that it has, or loses one that it does not have.
     FocusTwice,
 }
 
@@ -60,7 +60,7 @@ fn is_down(held: Bits32, id: Option<u8>) -> bool
     }
 }
 
-/// Why a motion may not come where `held` are down on its device.
+/// Why a motion may not come if `held` are down on its device.
 pub(crate) fn motion_reason(held: Bits32, motion: &Motion) -> Option<Reason>
     ensures value { result ≡ first_fitting (motion_reasons (members held) motion.now) }
     ensures rises { IsRising motion.now.pointers }
@@ -73,7 +73,7 @@ pub(crate) fn motion_reason(held: Bits32, motion: &Motion) -> Option<Reason>
     action_reason(held, motion.action, ids, motion.index)
 }
 
-/// Why an action that lists `ids` may not come where `held` are down.
+/// Why an action that lists `ids` may not come if `held` are down.
 fn action_reason(held: Bits32, action: MotionAction, ids: Bits32, index: u8) -> Option<Reason>
     ensures { result ≡ first_fitting (action_reasons action (members held) (members ids) index) }
 {
@@ -104,7 +104,7 @@ fn action_reason(held: Bits32, action: MotionAction, ids: Bits32, index: u8) -> 
     }
 }
 
-/// Why a key message may not come, where `due` is the next repeat number of a key that is down.
+/// Why a key message may not come, if `due` is the next repeat number of a key that is down.
 pub(crate) fn key_reason(due: Option<u64>, message: &KeyMsg) -> Option<Reason>
     ensures { result ≡ first_fitting (key_reasons due message.now) }
 {

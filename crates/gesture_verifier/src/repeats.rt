@@ -9,8 +9,8 @@ use pointers_down::ends;
 use std::alloc::AllocError;
 use std::collections::BTreeMap;
 
-/// What is due of a key after one of its messages, where `due` is what was due before it: the next repeat number, or
-/// None where the key is up. The answer is None where the message may not come then.
+/// What is due for a key after one of its messages, if `due` was due before: the next repeat number, or None if the
+/// key is up. The result is None if the message may not come.
 pub fn next_repeat(due: Option<u64>, message: &KeyMsg) -> Option<Option<u64>>
     ensures { result ≡ after_key due message.now }
 {
@@ -29,7 +29,7 @@ pub fn next_repeat(due: Option<u64>, message: &KeyMsg) -> Option<Option<u64>>
     }
 }
 
-/// The place of a key among those of all devices: the keys of one device stand together.
+/// The place of a key among those of all devices: the keys of one device are together.
 pub fn place(key: &KeyArgs) -> u32
     ensures place { result ≡ place_of key.now.device key.now.scan }
     ensures key { IsTrue (is_of_device key.now.device key.now.scan) }
@@ -39,14 +39,14 @@ pub fn place(key: &KeyArgs) -> u32
     u32::from(key.device.get() - 1) * 65536 + u32::from(scan)
 }
 
-/// The next repeat number of the key at a place, or None where it is up.
+/// The next repeat number of the key at a place, or None if it is up.
 pub fn due(table: &BTreeMap<u32, u64>, place: u32) -> Option<u64>
     ensures { result ≡ due_at table.now.entries place }
 {
     table.get(&place).copied()
 }
 
-/// Keeps what is due of the key at a place, and nothing of a key that is up.
+/// Keeps what is due for the key at a place, and nothing for a key that is up.
 pub fn keep(table: &mut BTreeMap<u32, u64>, place: u32, due: Option<u64>) -> Result<(), AllocError>
     requires { place < 524288 }
     ensures kept { OnOk result

@@ -1,4 +1,4 @@
-//! The judge of one stream.
+//! The verifier of one stream.
 ghost use Rattle.std.specs.Prelude.{◌≡◌, ◌<◌, ◌-◌, IsTrue, List, [], ◌∷◌, false, true, not, is_some, IfOk, OnOk, OnErr};
 ghost use Rattle.std.specs.Prelude.{ℕ};
 ghost use Rattle.gesture_verifier.specs.Told.{is_device};
@@ -17,9 +17,9 @@ use std::marker::Model;
 /// What a window knows from the messages that it was sent, in the order in which they were accepted.
 #[derive(Drop)]
 pub struct Verifier {
-    /// The ids that are down on each device, that of device 1 first.
+    /// The ids that are down on each device, starting with device 1.
     down: [Bits32; 8],
-    /// The next repeat number of each key that is down, under the key's place.
+    /// The next repeat number of each key that is down, by the key's place.
     repeats: BTreeMap<u32, u64>,
     focus: bool,
     accepted: u64,
@@ -44,7 +44,7 @@ impl Verifier {
     ghost use Rattle.gesture_verifier.specs.Held.{are_rising, is_held};
     ghost use Rattle.gesture_verifier.specs.Reasons.{reason_of, is_spelled};
 
-    /// A judge of a stream that has no message yet.
+    /// A verifier of a stream without messages so far.
     pub fn new(alloc: Global) -> Verifier
         ensures unsent { state_of result ≡ unsent }
         ensures stands { VerifierStandsFor [] result }
@@ -59,8 +59,8 @@ impl Verifier {
 
     /// Accepts the next message of the stream, or says why it may not come.
     ///
-    /// `Fault` comes exactly where the stream with this message is not well-formed, and then tells what the window
-    /// knew. `Memory` comes only at a key message. An error leaves the verifier as it was.
+    /// Returns `Fault` exactly if the stream with this message is not well-formed; it says what the window knew.
+    /// Returns `Memory` only for a key message. An error leaves the verifier as it was.
     pub fn step(&mut self, message: &Message) -> Result<(), StepError>
         ensures ok { OnOk result (after_body (state_of self.old) message.now.body ≡ Some (state_of self.new)) }
         ensures stands { (past : List Message) → VerifierStandsFor past self.old
@@ -79,10 +79,10 @@ impl Verifier {
         }
     }
 
-    /// Accepts the next message of the stream as `step` does, and answers whether it may come, without a reason.
+    /// Accepts the next message of the stream as `step` does, and returns whether it may come, without a reason.
     ///
-    /// Memory is wanted only at a key message. A message that may not come and want of memory leave the verifier as it
-    /// was.
+    /// Only a key message can run out of memory. A message that may not come, or running out of memory, leaves the
+    /// verifier as it was.
     pub fn accept(&mut self, message: &Message) -> Result<bool, AllocError>
         ensures accepts { Accepts result self.old self.new message.now }
         ensures stands { (past : List Message) → VerifierStandsFor past self.old → result ≡ Ok true
@@ -97,8 +97,8 @@ impl Verifier {
         Ok(true)
     }
 
-    /// Why a message may not come now; None where it may. A message that no line of a stream file says, as one with
-    /// other flags, may be refused without a reason.
+    /// Why a message may not come now; None if it may. A message that no line of a stream file can express, such as
+    /// one with other flags, may be refused without a reason.
     pub fn reason(&self, body: &Body) -> Option<Reason>
         ensures value { result ≡ reason_of (state_of self.now) body.now }
         ensures exact { is_spelled body.now ≡ true
@@ -127,7 +127,7 @@ impl Verifier {
         held_keys(alloc, &self.repeats)
     }
 
-    /// Takes what a message says, where it may come.
+    /// Applies a message, if it may come.
     fn take(&mut self, body: &Body) -> Result<bool, AllocError>
         ensures { Takes result self.old self.new body.now }
     {
@@ -172,7 +172,7 @@ impl Verifier {
         true
     }
 
-    /// What is to be told of a message that may not come.
+    /// The fault of a message that may not come.
     fn fault(&self, message: &Message) -> Fault
         ensures { after_body (state_of self.now) message.now.body ≡ None → IsFault self.now message.now result }
     {

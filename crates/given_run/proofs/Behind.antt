@@ -18,7 +18,7 @@ use Rattle.given_run.specs.State.{GivenState}
 use Rattle.stream_text.specs.declared.order_line.OrderLine.{OrderLine}
 use Rattle.dispatch_history.proofs.GivenLines.{line_then, extend_run}
 
--- the effects of calls behind those before, where there are calls
+-- the effects of calls after earlier ones, if there are calls
 abbrev pub effects_of : List ℕ → List Effect → Result (List Call) ℕ → Result (List Effect) ℕ
 effects_of ds es (Ok calls) = Ok (extend ds es calls)
 effects_of ds es (Err n) = Err n
@@ -61,7 +61,7 @@ along_next plan lines n line s t a here m =
           ∙ call_first plan.displays a.es m.0 n (line_calls (n + 1) (args_after line a.cs) (steps_after line a.ss) (drop (n + 1) lines));
     }
 
--- the line at a place, and those behind it
+-- the line at an index, and those after it
 pub line_here : (order : List OrderLine) (k : ℕ) (x : OrderLine) → slice_get order k ≡ Some x
     → drop k (map line_of order) ≡ line_of x ∷ drop (k + 1) (map line_of order)
 line_here order k x e =

@@ -78,7 +78,7 @@ what_its_owner_received :
 unfolding labeled pointer motion_text numbered digits
 what_its_owner_received = refl
 
--- what is not received is a line as soon as it is sent
+-- a message that is not received has a line as soon as it is sent
 what_it_did_not_receive : lines_first (effects (given_calls one_window (map line_of (Script 1 ∷ Reader ∷ Pump ∷ [])))) 1 1 ≡ codes "1 1000000 motion 1 DOWN 0@100,200\n"
 unfolding labeled pointer motion_text numbered digits
 what_it_did_not_receive = refl

@@ -64,7 +64,7 @@ here_is steps l at x lt is own =
     ap (calls_of_lane l) (one_dropped steps at x lt is)
     ∙ ap (λ b. cond b (x.call ∷ calls_of_lane l (drop (at + 1) (map step_of steps))) (calls_of_lane l (drop (at + 1) (map step_of steps)))) (eq-eqb x.lane l own)
 
--- a step of another lane is passed over
+-- a step of another lane is skipped
 pub skipped : (steps : List Step) (l at : ℕ) (x : Step) → at < length steps → x ≡ get_or steps at x → (x.lane == l) ≡ false
     → calls_of_lane l (drop (at + 1) (map step_of steps)) ≡ calls_of_lane l (drop at (map step_of steps))
 skipped steps l at x lt is other =
@@ -75,7 +75,7 @@ skipped steps l at x lt is other =
 pub none_behind : (steps : List Step) (l at : ℕ) → length steps ≤ at → calls_of_lane l (drop at (map step_of steps)) ≡ []
 none_behind steps l at le = ap (calls_of_lane l) (drop-map step_of at steps ∙ ap (map step_of) (drop_all at steps le))
 
--- a lane whose next step is there, with the place behind it
+-- a lane with a next step, and the index after it
 pub lane_moves : (steps left : List ScriptStep) (places : List ℕ) (l : ℕ) (at : ℕ) (call : Call) → length places ≡ 256 → l < 256 → IsLeft steps left places
     → calls_of_lane l (drop (place_of places l) steps) ≡ call ∷ calls_of_lane l (drop at steps)
     → (next_of_lane l left ≡ Some call) × IsLeft steps (without_next l left) (slice_set places l at)

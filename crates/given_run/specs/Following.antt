@@ -28,8 +28,8 @@ Makes plan line n es cs ss s true =
     × Comes plan (n + 1) (answered plan.displays call es) (args_after line cs) (steps_after line ss) s
 Makes plan line n es cs ss s false = call_of line cs ss ≡ None
 
--- What following an order came to: a run that stands for the effects of the replay of the given order, or the number of lines before
--- the first whose step does not exist, unless memory ran out.
+-- The result of following an order: a run that stands for the effects of the replay of the given order, or the number
+-- of lines before the first whose step does not exist, unless memory ran out.
 abbrev pub Follows : Plan → List Line → Result ScheduleState Fault → Type 0
 Follows plan lines (Ok s) =
     (calls : List Call) × (given_calls plan lines ≡ Ok calls)

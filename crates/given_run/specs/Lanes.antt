@@ -6,7 +6,7 @@ use Rattle.schedule.specs.declared.plan.Step.{Step}
 use Rattle.schedule.specs.Planned.{step_of}
 use Rattle.dispatch_history.specs.Given.{calls_of_lane}
 
--- where the next step of a lane is looked for
+-- the index from which the next step of a lane is searched
 abbrev pub place_of : List ℕ → ℕ → ℕ
 place_of places l = slice_index_or places l 0
 
@@ -18,7 +18,8 @@ IsLeft steps left places = (l : ℕ) → l < 256 → calls_of_lane l left ≡ ca
 abbrev pub calls_from : List Step → ℕ → ℕ → List Call
 calls_from steps l at = calls_of_lane l (drop at (map step_of steps))
 
--- The place of the next step of a lane from a place on, behind which the other steps of the lane stand; None where it has none there.
+-- The index of the next step of a lane from an index on, after which the other steps of the lane follow; None if it
+-- has none there.
 abbrev pub Finds : List Step → ℕ → ℕ → Option ℕ → Type 0
 Finds steps l from None = calls_from steps l from ≡ []
 Finds steps l from (Some at) =

@@ -59,7 +59,7 @@ impl Lanes {
         Ok(Lanes { places })
     }
 
-    /// The next step of a lane, which is passed; None where none is left.
+    /// Takes the next step of a lane; None if none is left.
     pub(crate) fn next<'a>(&mut self, steps: &'a [Step], lane: u8) -> Option<&'a Step>
         ensures step { (left : List ScriptStep) → IsLeft (map step_of steps.now) left self.old
             → option_map (λ s. s.now.call) result ≡ next_of_lane lane left }

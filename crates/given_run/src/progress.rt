@@ -54,7 +54,7 @@ impl Progress {
         })
     }
 
-    /// A call that uses up nothing of the plan.
+    /// Makes a call that uses up nothing of the plan.
     fn call(&mut self, call: &Call) -> Result<(), AllocError>
         requires plain { is_receiving call.now ≡ false }
         requires opens_not { is_opening call.now ≡ false }
@@ -76,7 +76,7 @@ impl Progress {
         self.run.receive_next(channel)
     }
 
-    /// The next args are handed in, where some are left.
+    /// Hands in the next args, if any are left.
     fn reader(&mut self, cooked: &[Cooked]) -> Result<bool, AllocError>
         ensures { (plan : PlanView) (n : ℕ) (es : List Effect) (cs : List CookedView) (ss : List ScriptStep)
             → Comes plan n es cs ss self.old
@@ -95,7 +95,7 @@ impl Progress {
         Ok(true)
     }
 
-    /// The next step of a lane is made, where one is left.
+    /// Makes the next step of a lane, if one is left.
     fn script(&mut self, plan: &Plan, lane: u8) -> Result<bool, AllocError>
         requires run { IsRun plan.now }
         requires few { self.old.run.next < 2 ^ 64 - 1 }
@@ -111,7 +111,7 @@ impl Progress {
         Ok(true)
     }
 
-    /// Follows a line; false where its step does not exist.
+    /// Follows a line; false if its step does not exist.
     pub(crate) fn line(
         &mut self,
         plan: &Plan,
@@ -136,7 +136,7 @@ impl Progress {
         Ok(true)
     }
 
-    /// Follows the line at a place of an order; false where its step does not exist.
+    /// Follows the line at an index of an order; false if its step does not exist.
     pub(crate) fn line_at(
         &mut self,
         plan: &Plan,

@@ -1,4 +1,4 @@
--- Worked examples: what is said of a session and of a mouse that are written out. Events and calls stand with the newest first.
+-- Worked examples: the text of a session and a mouse. Events and calls are newest first.
 use Rattle.std.specs.Prelude.{codes, ◌≡◌, ℕ, ℤ, pos, negsuc, true, List, [], ◌∷◌, None, refl}
 use Rattle.std.specs.Fmt.{digits}
 use Rattle.input_types.specs.declared.axis.Rotation.{Rotation}
@@ -68,8 +68,8 @@ pub no_events : hovered_text (phone R0 (step 0 (acts.Windows (left ∷ [])) ∷ 
 unfolding channel_line message_line place_text end_line digits
 no_events = refl
 
--- a packet counts at the moment of its SYN_REPORT, and at the moment of a packet before it where that is greater; a step of the same
--- moment goes before it, and one of a later moment behind it
+-- a packet counts at the moment of its SYN_REPORT, or at that of an earlier packet if that is later; a step at the
+-- same moment goes before it, and a later one after it
 pub steps_and_packets
     : calls_of (step 2000 (acts.Windows (left ∷ [])) ∷ step 2001 (acts.Windows []) ∷ []) (report 1900 ∷ event 1900 2 0 (pos 2) ∷ report 2000 ∷ event 500 2 0 (pos 1) ∷ [])
     ≡ Windows 2001 [] ∷ Moved 2000 (pos 2) (pos 0) ∷ Moved 2000 (pos 1) (pos 0) ∷ Windows 2000 (left ∷ []) ∷ []
@@ -81,7 +81,7 @@ pub late_packets
     ≡ Moved 2000 (pos 1) (pos 0) ∷ Windows 1500 [] ∷ []
 late_packets = refl
 
--- the focus and a pilfer are passed over
+-- the focus and a pilfer are skipped
 pub other_steps : calls_of (step 1000 (acts.Pilfer 1 1) ∷ step 2000 (acts.FocusOn 0 None) ∷ []) [] ≡ []
 other_steps = refl
 

@@ -1,4 +1,4 @@
--- A run, one step further.
+-- A run, one step later.
 use Rattle.std.proofs.Common.{◌≡◌, ℕ, zero, suc, ◌+◌, ◌≤◌, ◌<◌, Bool, true, false, cond, List, [], ◌∷◌, ◌++◌, drop, get_or, length, Option, Some, None, refl, sym, ap, subst, ◌∙◌, arith}
 use Rattle.std.specs.Prelude.{max, nat_le, slice_get, ℤ}
 use Rattle.std.specs.List.{AllByRecursion}
@@ -37,7 +37,7 @@ behind_all [] (suc n) e = refl
 behind_all (t ∷ ss) zero e = cc e
 behind_all (t ∷ ss) (suc n) e = behind_all ss n e
 
--- a step that is due is the next one, and not behind the moment
+-- a step that is due is the next one, and not later than the moment
 pub due_at : (t : ℕ) (o : Option Step) (s : Step) → due_of t o ≡ Some s → (o ≡ Some s) × (s.at ≤ t)
 due_at t None s e = cc e
 due_at t (Some x) s e = by_test (nat_le x.at t) refl e
@@ -54,7 +54,7 @@ not_due t x e = by_test (nat_le x.at t) refl e
     by_test true le h = cc h
     by_test false le h = leb-false x.at t le
 
--- what was made up to a moment, with a step that is not behind it
+-- what was made up to a moment, with a step that is not later
 pub acted_by : (t at : ℕ) (act : Act) (made : List CursorCall) → at ≤ t → is_by t made → is_by t (act_calls at act ++ made)
 acted_by t at (acts.Windows snapshot) made le h = le
 acted_by t at (acts.FocusOn display channel) made le h = h
@@ -124,7 +124,7 @@ newest : (m : CursorCall) (cs : List CursorCall) → is_by (moment_of m) cs → 
 newest m [] h = refl
 newest m (c ∷ cs) h = rw (le-leb (moment_of c) (moment_of m) h) refl
 
--- the cursor took a motion behind the steps up to its moment
+-- the cursor took a motion after the steps up to its moment
 pub motion_made : (d : Screen) (steps : List Step) (all : List CursorCall) (m : CursorCall) (h : HoverState) (k : Kept) → (made : HasMade d steps all (moment_of m) h)
     → due_of (moment_of m) (slice_get steps h.next) ≡ None → IsNonDecreasingBy (λ (s : Step). s.at) steps → CursorStandsFor d (m ∷ made.made) k
     → HasMade d steps (placed m all) (moment_of m) (record { cursor = k; reader = h.reader; next = h.next })
@@ -150,7 +150,7 @@ motion_moment past e m h = by_end (is_end past e) (latest (e ∷ past)) h
     by_end true t q = by_motion (has_motion (packet past)) t (sum_of 0 (packet past)) (sum_of 1 (packet past)) q
     by_end false t q = cc q
 
--- what was made does not tell of the reader
+-- what was made does not depend on the reader
 pub other_reader : (d : Screen) (steps : List Step) (all : List CursorCall) (t : ℕ) (h : HoverState) (r : MotionReader) → HasMade d steps all t h
     → HasMade d steps all t (record { cursor = h.cursor; reader = r; next = h.next })
 other_reader d steps all t h r m = record { made = m.made; stands = m.stands; all_are = m.all_are; by = m.by }

@@ -33,7 +33,7 @@ known d calls c low high =
     let one : nat_lt 0 c ≡ true = lt-ltb 0 c (omega (arith, low)) in
     rw (one, le-leb c d.channels high) refl
 
--- what is left of it is all of it, where nothing was let go
+-- what remains of it is all of it, if nothing was released
 pub sent_whole : (d : Screen) (calls : List CursorCall) (c gone : ℕ) (left : List HoverMsg) → 1 ≤ c → c ≤ d.channels → gone ≡ 0
     → Some left ≡ option_map (drop gone) (stream_of d calls c) → left ≡ stream d calls c
 sent_whole d calls c gone left low high none is =

@@ -24,18 +24,19 @@ pub record HasMade (d : Screen) (steps : List Step) (all : List CursorCall) (t :
   pub all_are : step_calls (drop h.next steps) ++ made ≡ all
   pub by : is_by t made
 
--- A run of a session stands for these events of the mouse, the newest first: it has made all calls that come before any later motion.
+-- A run of a session stands for these events of the mouse, newest first: it has made all calls that come before any
+-- later motion.
 pub record RunStandsFor (plan : PlanData) (past : List RawEvent) (h : HoverState) : Type 0 where
   pub reader : ReaderStandsFor past h.reader
   pub made : HasMade (screen_of plan) plan.steps (calls_of plan.steps past) (latest past) h
 
--- A run of a session that found no memory, for a step or for the motion of a later event: the calls that were made up to a moment, with
--- those of the steps that are left, are all calls of the session and these events.
+-- A run of a session that ran out of memory, for a step or for the motion of a later event: the calls made up to a
+-- moment, with those of the remaining steps, are all calls of the session and these events.
 pub record Stopped (plan : PlanData) (past : List RawEvent) (h : HoverState) : Type 0 where
   pub moment : ℕ
   pub made : HasMade (screen_of plan) plan.steps (calls_of plan.steps past) moment h
 
--- the next step, where it is not behind a moment
+-- the next step, if it is not later than a moment
 abbrev pub due_of : ℕ → Option Step → Option Step
 due_of t None = None
 due_of t (Some s) = if nat_le s.at t then Some s else None

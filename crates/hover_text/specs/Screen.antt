@@ -26,6 +26,6 @@ abbrev pub screen_on : List Display → ℕ → Screen
 screen_on [] channels = record { width = 0; height = 0; channels = channels }
 screen_on (d ∷ ds) channels = record { width = width_of d; height = height_of d; channels = channels }
 
--- where a session's cursor is used: display 0, and the channels, all of which are live at first
+-- the setting of a session's cursor: display 0, and the channels, all of which are live at first
 abbrev pub screen_of : PlanData → Screen
 screen_of plan = screen_on plan.displays (length plan.channels)

@@ -3,7 +3,7 @@ use Rattle.std.specs.Prelude.{◌≡◌, ℕ}
 use Rattle.cursor_core.specs.declared.motion.MotionReader.{MotionReader}
 use Rattle.cursor_core.specs.Kept.{Kept, gone}
 
--- no message of any channel was let go
+-- no message of any channel was released
 abbrev pub IsWhole : Kept → Type 0
 IsWhole k = (c : ℕ) → gone k c ≡ 0
 

@@ -1,4 +1,4 @@
--- What `hover` says of a session and a recording.
+-- What `hover` says about a session and a recording.
 use Rattle.std.specs.Prelude.{◌≡◌, ℕ, ◌+◌, List, [], ◌∷◌, ◌++◌, reverse, Ok}
 use Rattle.raw_events.specs.declared.event.RawEvent.{RawEvent}
 use Rattle.raw_events.specs.Recording.{recorded}
@@ -14,7 +14,7 @@ abbrev pub sections_from : ℕ → List ChannelData → (ℕ → List HoverMsg) 
 sections_from k [] streams = []
 sections_from k (c ∷ cs) streams = section_text k c.name (streams k) ++ sections_from (k + 1) cs streams
 
--- the text of a session for the events of a mouse, the newest first: what the steps and the motions tell each channel
+-- the text of a session for the events of a mouse, newest first: what the steps and the motions send to each channel
 abbrev pub hovered_text : PlanData → List RawEvent → List ℕ
 hovered_text plan past = sections_from 1 plan.channels (stream (screen_of plan) (calls_of plan.steps past))
 

@@ -19,8 +19,8 @@ use std::marker::Model;
 
 /// A run of a session, to which the events of the mouse come one by one.
 ///
-/// It keeps no list of them. Clauses say of which events it stands for all that the text needs. A call that finds no
-/// memory ends the run: the cursor then has the events before, with some steps more, and the motion is lost.
+/// It keeps no list of them. Clauses say for which events it stands, as far as the text needs. A call that runs out
+/// of memory ends the run: the cursor then has the earlier events, with some further steps, and the motion is lost.
 #[derive(Drop)]
 pub struct Hover {
     pub(crate) cursor: Cursor,
@@ -96,7 +96,7 @@ impl Hover {
         Ok(())
     }
 
-    /// Ends the run: makes the steps that are left, and answers the text, a section for each channel of the session.
+    /// Ends the run: makes the remaining steps, and returns the text, a section for each channel of the session.
     pub fn end(mut self, alloc: Global, plan: &Plan) -> Result<Vec<u8>, AllocError>
         requires { IsPlan plan.now }
         ensures { (past : List Event) → RunStandsFor (plan_view plan.now) past self

@@ -1,4 +1,4 @@
-//! The text of what a mouse tells the windows of display 0.
+//! The text of what the windows of display 0 are sent for a mouse.
 //!
 //! On a display of 1080 by 2400, with the windows `left` from (0, 0) to (540, 2400) and `right` from (540, 0) to
 //! (1080, 2400), a mouse goes 40 to the left at 1000, 100 to the right at 2000 and 5000 up at 3000 microseconds, and at
@@ -17,7 +17,7 @@
 //! ```
 //!
 //! The steps of the session that show windows and that remove a channel go before the motions of the same moment; its
-//! other steps and its devices are passed over.
+//! other steps and its devices are ignored.
 #![tactic(auto)]
 
 mod hover;

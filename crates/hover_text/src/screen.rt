@@ -1,4 +1,4 @@
-//! Where the cursor is used.
+//! The setting of the cursor.
 ghost use Rattle.std.specs.Prelude.{◌≡◌, ◌≤◌};
 ghost use Rattle.session_plan.specs.Valid.{IsDisplay};
 ghost use Rattle.hover_text.specs.Screen.{height_of, is_upright, width_of};

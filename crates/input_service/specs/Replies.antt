@@ -8,8 +8,8 @@ use Rattle.turnstile.specs.History.{Entry}
 use Rattle.turnstile.specs.declared.machine.Placed.{Placed}
 use Rattle.turnstile.specs.declared.view.View.{View}
 
--- What an answered call tells of the core: its history before the place is legal for the displays, and the reply is the one after that
--- history. With the call's entry it is what the seat has then seen
+-- What an answered call says about the core: its history before the place is legal for the displays, and the reply is
+-- the one that this history requires. With the call's entry, the history is what the seat has then seen
 pub record Replied (v : View (List ℕ) Call Reply) (call : Call) (answer : Placed Reply) (w : View (List ℕ) Call Reply) : Type 0 where
   pub displays : List ℕ
   pub before : List (Entry Call Reply)

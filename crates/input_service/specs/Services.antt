@@ -8,6 +8,6 @@ use Rattle.turnstile.specs.declared.machine.Machine.{Ghosts}
 use Rattle.turnstile.specs.declared.turnstile.Seat.{Seat}
 use Rattle.input_service.specs.declared.service.Service.{Service}
 
--- a seat is of a service
+-- a seat belongs to a service
 abbrev pub IsOf : {G : Ghosts Recorded (List ℕ) Call Reply} → Service → Seat Recorded (List ℕ) Call Reply G → Type 0
 IsOf s seat = OfTurnstile s.turnstile seat

@@ -15,8 +15,8 @@ use std::sync::Wait;
 use turnstile::{Placed, TryRefused, Turnstile};
 
 impl Service {
-    /// A service over a core that has answered no call, and its first seat, which has the number 0. Without memory the
-    /// core is dropped.
+    /// A service over a core that has answered no call, and its first seat, number 0. If memory runs out, the core is
+    /// dropped.
     pub fn new(alloc: Global, core: Core) -> Result<(Service, Seat), AllocError>
         requires { core.entries ≡ [] }
         ensures { IfOk result (λ r. IsOf r.0 r.1 × (view r.1 ≡ newcomer (Some core.displays) 0 0 [])) }
@@ -25,8 +25,8 @@ impl Service {
         Ok((Service { turnstile }, seat))
     }
 
-    /// Answers a call, where no other seat has the turn, and never waits. `Busy` hands the call back. `Memory` comes
-    /// where the core found none: the call is dropped, and there is no entry.
+    /// Answers a call if no other seat has the turn, and never waits. `Busy` hands the call back. `Memory` means that
+    /// the core ran out of memory: the call is dropped, and there is no entry.
     pub fn try_call(&self, seat: &mut Seat, call: Call) -> Result<Placed<Reply>, TryRefused<Call>>
         requires { IsOf self.now seat.old }
         ensures same { IsOf self.now seat.new }
@@ -36,7 +36,7 @@ impl Service {
         self.turnstile.try_step(seat, call)
     }
 
-    /// The same, but it tries again until it has the turn.
+    /// The same, but tries again until it has the turn.
     pub fn call<R: Wait>(
         &self,
         rt: &R,
@@ -51,7 +51,7 @@ impl Service {
         self.turnstile.step(rt, seat, call)
     }
 
-    /// The length of the history, all of which the seat has then seen. It does not take the turn.
+    /// The length of the history, all of which the seat has then seen. Does not take the turn.
     pub fn look(&self, seat: &mut Seat) -> u64
         requires { IsOf self.now seat.old }
         ensures same { IsOf self.now seat.new }
@@ -60,8 +60,8 @@ impl Service {
         self.turnstile.look(seat)
     }
 
-    /// A new seat, split off from that of number 0: its number is the next one, and it has seen what seat 0 has. It
-    /// does not take the turn, and today it needs no memory.
+    /// Splits a new seat off seat 0. Its number is the next one, and it has seen what seat 0 has. Does not take the
+    /// turn, and currently needs no memory.
     pub fn try_split(&self, seat: &mut Seat) -> Result<Seat, AllocError>
         requires seat { IsOf self.now seat.old }
         requires zero { (view seat.old).mine.number ≡ 0 }
@@ -74,7 +74,7 @@ impl Service {
         self.turnstile.try_split(seat)
     }
 
-    /// One seat takes in another, and has then seen what either had.
+    /// Joins another seat into this one, which has then seen what either had.
     pub fn join(&self, seat: &mut Seat, other: Seat)
         requires seat { IsOf self.now seat.old }
         requires other { IsOf self.now other }
@@ -84,7 +84,7 @@ impl Service {
         self.turnstile.join(seat, other);
     }
 
-    /// Waits for the turn, and gives the core with its history.
+    /// Waits for the turn, and returns the core with its history.
     pub fn close<R: Wait>(self, rt: &R, seat: Seat) -> Core
         requires { IsOf self seat }
         ensures displays { (view seat).setup ≡ Some result.displays }

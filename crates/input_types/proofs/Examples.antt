@@ -30,25 +30,25 @@ pub two_fingers : option_map (λ s. s.ids) (device_state 1 (
     ∷ MotionArgs (motion PointerDown 1 0 (at 0 ∷ at 1 ∷ [])) ∷ MotionArgs (motion Down 0 0 (at 0 ∷ [])) ∷ [])) ≡ Some (1 ∷ [])
 two_fingers = refl
 
--- a reset ends all that is down, and another device is not touched by it
+-- a reset ends everything that is down on its device, and does not affect another device
 pub reset_ends : option_map (λ s. s.ids) (device_state 1 (Reset 1 ∷ MotionArgs (motion Down 0 0 (at 0 ∷ [])) ∷ [])) ≡ Some []
 reset_ends = refl
 
 pub reset_of_another : option_map (λ s. s.ids) (device_state 1 (Reset 2 ∷ MotionArgs (motion Down 0 0 (at 0 ∷ [])) ∷ [])) ≡ Some (0 ∷ [])
 reset_of_another = refl
 
--- a device cancels its only finger, as where that became a palm
+-- a device cancels its only finger, which became a palm
 pub palm_of_the_only_finger : option_map (λ s. s.ids) (device_state 1 (MotionArgs (motion Cancel 0 0 (at 0 ∷ [])) ∷ MotionArgs (motion Down 0 0 (at 0 ∷ [])) ∷ []))
     ≡ Some []
 palm_of_the_only_finger = refl
 
--- of two fingers it cancels one by an up with the flag
+-- it cancels one of two fingers by an up with the flag
 pub palm_of_one_finger : option_map (λ s. s.ids) (device_state 1 (
     MotionArgs (motion PointerUp 1 32 (at 0 ∷ at 1 ∷ [])) ∷ MotionArgs (motion PointerDown 1 0 (at 0 ∷ at 1 ∷ []))
     ∷ MotionArgs (motion Down 0 0 (at 0 ∷ [])) ∷ [])) ≡ Some (0 ∷ [])
 palm_of_one_finger = refl
 
--- two fingers at once are never cancelled by a device, nor does it tell of one outside
+-- a device never cancels two fingers at once, and never reports one outside
 pub no_cancel_of_two : option_map (λ s. s.ids) (device_state 1 (
     MotionArgs (motion Cancel 0 0 (at 0 ∷ at 1 ∷ [])) ∷ MotionArgs (motion PointerDown 1 0 (at 0 ∷ at 1 ∷ []))
     ∷ MotionArgs (motion Down 0 0 (at 0 ∷ [])) ∷ [])) ≡ None
@@ -61,14 +61,14 @@ no_outside_of_a_device = refl
 pub second_down : after_motion (0 ∷ []) (motion Down 0 0 (at 1 ∷ [])) ≡ None
 second_down = refl
 
--- the new finger goes to its place among the others, which the index tells
+-- the new finger takes its place among the others, which the index gives
 pub finger_between : after_motion (0 ∷ 2 ∷ []) (motion PointerDown 1 0 (at 0 ∷ at 1 ∷ at 2 ∷ [])) ≡ Some (0 ∷ 1 ∷ 2 ∷ [])
 finger_between = refl
 
 pub wrong_index : after_motion (0 ∷ 2 ∷ []) (motion PointerDown 2 0 (at 0 ∷ at 1 ∷ at 2 ∷ [])) ≡ None
 wrong_index = refl
 
--- a finger that is taken away goes up cancelled, the last one is cancelled by the word Cancel
+-- a finger that is taken away goes up cancelled, the last one is cancelled by a Cancel
 pub lost_one : after_motion (0 ∷ 1 ∷ []) (motion PointerUp 0 32 (at 0 ∷ at 1 ∷ [])) ≡ Some (1 ∷ [])
 lost_one = refl
 
@@ -90,7 +90,7 @@ key down flags repeat =
 abbrev focus : Bool → Message
 focus b = record { seq = 1; moment = 0; body = Focus b }
 
--- a key that is held is repeated by number, and a cancelled up ends it
+-- repeats of a held key are numbered, and a cancelled up ends it
 pub repeats_in_order : is_well_formed (focus false ∷ key false 32 0 ∷ key true 0 2 ∷ key true 0 1 ∷ key true 0 0 ∷ focus true ∷ []) ≡ true
 repeats_in_order = refl
 

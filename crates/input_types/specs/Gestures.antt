@@ -1,4 +1,4 @@
--- What a motion may do to the pointers that are down. One table serves for what a device does and for what a window is sent.
+-- What a motion may do to the pointers that are down. One table serves for devices and for windows.
 use Rattle.std.specs.Prelude.{ℕ, ◌==◌, ◌&&◌, ◌||◌, not, nat_eq, nat_lt, Bool, true, false, cond, List, [], length, map, remove, Option, Some, None}
 use Rattle.std.specs.Cmp.Lexicographic.{pointwise}
 use Rattle.input_types.specs.declared.pointer.Pointer.{Pointer}
@@ -14,11 +14,11 @@ ids_of ps = map (λ p. p.id) ps
 abbrev pub same_ids : List ℕ → List ℕ → Bool
 same_ids = pointwise nat_eq
 
--- `next`, where the condition holds
+-- `next` if the condition holds, or else None
 abbrev pub allowed : {X : Type 0} → Bool → X → Option X
 allowed b next = cond b (Some next) None
 
--- two truth values are not the same
+-- two truth values differ
 abbrev pub differ : Bool → Bool → Bool
 differ true b = not b
 differ false b = b
@@ -35,11 +35,12 @@ flag_canceled = 32
 abbrev pub is_end_flag : ℕ → Bool
 is_end_flag flags = (flags == 0) || (flags == flag_canceled)
 
--- What is down after an action that lists `ids`, where `down` was before it; both rise. None where the action may not come then:
+-- What is down after an action that lists `ids`, if `down` was down before it; both rise. None if the action may not
+-- come then:
 --   Down          from nothing, and lists one pointer
---   PointerDown   from something, and lists it with one more, which the index tells
+-- PointerDown   from something, and lists it with one more, at the index
 --   Move          lists what is down
---   PointerUp     lists what is down, at least two, and the index tells the one that goes
+-- PointerUp     lists what is down, at least two; the one at the index goes up
 --   Up            lists what is down, the last one
 --   Cancel        lists what is down, which ends
 --   Outside       lists one pointer, and leaves what is down

@@ -14,6 +14,6 @@ EndsBelow [] n = Unit {0}
 EndsBelow (p ∷ []) n = p.id < n
 EndsBelow (p ∷ q ∷ ps) n = EndsBelow (q ∷ ps) n
 
--- what stands in the places of a list that are not in use
+-- the value in the unused places of a list
 abbrev pub unused : Pointer
 unused = record { id = 0; at = record { x = pos 0; y = pos 0 } }

@@ -1,6 +1,6 @@
 //! Ranges of raw positions, rotations and pixels.
 
-/// The range of the raw positions that a touch device gives on one axis, both ends included.
+/// The range of raw positions of a touch device on one axis, both ends included.
 #[derive(Clone, Copy, Debug, PartialEq, Eq)]
 pub struct Axis {
     pub min: i32,
@@ -16,8 +16,8 @@ pub enum Rotation {
     R270,
 }
 
-/// A place in pixels, `x` to the right and `y` down. Which corner it is counted from, that of the display or that of a
-/// window, is said where it is used.
+/// A position in pixels, `x` to the right and `y` down. Each use says whether it is relative to the corner of the
+/// display or of a window.
 #[derive(Clone, Copy, Debug, PartialEq, Eq)]
 pub struct Pixel {
     pub x: i32,

@@ -33,7 +33,7 @@ impl Displays {
         }
     }
 
-    /// Gives a device another display; the others keep theirs.
+    /// Sets the display of a device; the others keep theirs.
     pub fn set(&mut self, device: DeviceId, display: DisplayId)
         ensures after { self.new ≡ slice_set self.old (device - 1) display }
     {

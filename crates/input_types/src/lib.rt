@@ -1,4 +1,4 @@
-//! The plain data of an input service: what a device says, what a window is sent, and when.
+//! The plain data of an input service: what a device reports, what a window is sent, and when.
 //!
 //! A finger that goes down at (540, 1200) on device 1 at 12,345.1 seconds is the message
 //!
@@ -8,7 +8,7 @@
 //! ```
 //!
 //! and its action word, as a MotionEvent carries it, is 0. All types here are `Copy` and own no memory. A list of
-//! pointers is a fixed table of 16 places, and contracts see it as the list of those that are in use.
+//! pointers is a fixed table of 16 places; contracts see the list of those in use.
 #![tactic(auto)]
 
 mod axis;

@@ -8,11 +8,11 @@ use crate::number::{DeviceId, Moment};
 pub enum Args {
     Motion(Motion),
     Key(KeyArgs),
-    /// The device lost events: all that was down on it is to be forgotten.
+    /// The device lost events: everything that was down on it must be forgotten.
     Reset(DeviceId),
 }
 
-/// What a window is sent. Positions are pixels from the window's own corner.
+/// What a window is sent. Positions are pixels relative to the window's own corner.
 #[derive(Clone, Copy, Debug, PartialEq, Eq)]
 pub enum Body {
     Motion(Motion),
@@ -21,7 +21,7 @@ pub enum Body {
     Focus(bool),
 }
 
-/// One message of a channel: its number from 1 on, the clock when it was sent, and what it says.
+/// One message of a channel: its number, counted from 1, the clock when it was sent, and its body.
 #[derive(Clone, Copy, Debug, PartialEq, Eq)]
 pub struct Message {
     pub seq: u64,

@@ -5,20 +5,19 @@ ghost use Rattle.input_types.specs.Action.{action_number};
 use crate::number::DeviceId;
 use crate::pointer::Pointers;
 
-/// The flag of a message that ends something without being meant as its end, as KeyEvent's and MotionEvent's
-/// `FLAG_CANCELED`.
+/// The flag of a message that ends something by a cancel, as KeyEvent's and MotionEvent's `FLAG_CANCELED`.
 pub const FLAG_CANCELED: u32 = 0x20;
 
-/// What a motion says, with MotionEvent's names.
+/// The action of a motion, with MotionEvent's names.
 #[derive(Clone, Copy, Debug, PartialEq, Eq)]
 pub enum MotionAction {
     /// The first pointer goes down.
     Down,
     /// The last pointer goes up.
     Up,
-    /// The pointers are at these places now.
+    /// The pointers are at these positions now.
     Move,
-    /// The gesture ends, and is not to be acted on.
+    /// The gesture ends, and must not be acted on.
     Cancel,
     /// A pointer went down outside the window.
     Outside,
@@ -51,7 +50,7 @@ impl MotionAction {
 pub struct Motion {
     pub device: DeviceId,
     pub action: MotionAction,
-    /// For `PointerDown` and `PointerUp` the place in `pointers` of the one that goes down or up, and 0 for the others.
+    /// For `PointerDown` and `PointerUp`, the index in `pointers` of the one that goes down or up; 0 for other actions.
     pub index: u8,
     /// 0 or `FLAG_CANCELED`.
     pub flags: u32,

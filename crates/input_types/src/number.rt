@@ -23,7 +23,7 @@ impl DeviceId {
     /// The greatest number of a device.
     pub const MAX: u8 = 8;
 
-    /// The device with this number, which has to be 1 to 8.
+    /// The device with this number, which must be 1 to 8.
     pub fn new(n: u8) -> Option<DeviceId>
         ensures variant { IsSome result ↔ ((1 ≤ n) × (n ≤ 8)) }
         ensures value { IfSome result (λ d. d ≡ n) }
@@ -70,7 +70,7 @@ impl DisplayId {
         DisplayId { number: 0 }
     }
 
-    /// The display with this number, which has to be 0 to 3.
+    /// The display with this number, which must be 0 to 3.
     pub fn new(n: u8) -> Option<DisplayId>
         ensures variant { IsSome result ↔ (n ≤ 3) }
         ensures value { IfSome result (λ d. d ≡ n) }
@@ -118,7 +118,7 @@ impl PointerId {
         PointerId { number: 0 }
     }
 
-    /// The pointer id of this number, which has to be 0 to 31.
+    /// The pointer id of this number, which must be 0 to 31.
     pub fn new(n: u8) -> Option<PointerId>
         ensures variant { IsSome result ↔ (n ≤ 31) }
         ensures value { IfSome result (λ p. p ≡ n) }
@@ -165,7 +165,7 @@ impl Moment {
         Moment { us: 0 }
     }
 
-    /// The moment at so many microseconds, which have to be at most 10^18.
+    /// The moment at so many microseconds, which must be at most 10^18.
     pub fn new(us: u64) -> Option<Moment>
         ensures variant { IsSome result ↔ (us ≤ 1000000000000000000) }
         ensures value { IfSome result (λ m. m ≡ us) }
@@ -185,7 +185,7 @@ impl Moment {
         self.us
     }
 
-    /// The later one of two moments.
+    /// The later of two moments.
     #[inline]
     pub fn later(self, other: Moment) -> Moment
         ensures { result ≡ max self other }
@@ -218,7 +218,7 @@ impl Limit {
     /// The greatest timeout, in microseconds: ten minutes.
     pub const MAX_US: u64 = 600_000_000;
 
-    /// The timeout of so many microseconds, which have to be 1,000 to 600,000,000.
+    /// The timeout of so many microseconds, which must be 1,000 to 600,000,000.
     pub fn new(us: u64) -> Option<Limit>
         ensures variant { IsSome result ↔ ((1000 ≤ us) × (us ≤ 600000000)) }
         ensures value { IfSome result (λ l. l ≡ us) }

@@ -14,12 +14,12 @@ pub struct Pointer {
     pub at: Pixel,
 }
 
-/// Why a pointer was not put behind a list.
+/// Why a pointer was not appended to a list.
 #[derive(Clone, Copy, Debug, PartialEq, Eq)]
 pub enum PushRefused {
-    /// The list has 16 pointers.
+    /// The list has 16 pointers already.
     Full,
-    /// The last id of the list is not below that of the pointer.
+    /// The last id of the list is not below the pointer's.
     NotRising,
 }
 
@@ -83,7 +83,7 @@ impl Pointers {
         self.list.len() == 0
     }
 
-    /// The pointer at index `i`, counted from 0; None exactly where `i` is not below `len`.
+    /// The pointer at index `i`, counted from 0; None exactly if `i` is not below `len`.
     pub fn get(&self, i: usize) -> Option<Pointer>
         ensures { result ≡ slice_get self.now i }
     {
@@ -99,10 +99,10 @@ impl Pointers {
         self.list.as_slice()
     }
 
-    /// Puts a pointer behind the list.
+    /// Appends a pointer to the list.
     ///
-    /// `Full` comes exactly where 16 pointers stand, and else `NotRising` exactly where the last id is not below that
-    /// of `p`. The list then stays as it was.
+    /// Returns `Full` exactly if the list has 16 pointers, and otherwise `NotRising` exactly if its last id is not
+    /// below that of `p`. The list then stays as it was.
     pub fn push(&mut self, p: Pointer) -> Result<(), PushRefused>
         ensures ok { OnOk result (self.new ≡ self.old ++ p ∷ []) }
         ensures full { (result ≡ Err PushRefused.Full) ↔ (length self.old ≡ 16) }
@@ -120,7 +120,7 @@ impl Pointers {
         Ok(())
     }
 
-    /// The same where the list has room and its last id is below that of `p`, which nobody has to look at then.
+    /// Appends without checks: the list must have room, and its last id must be below that of `p`.
     pub fn put(&mut self, p: Pointer)
         requires room { length self.old < 16 }
         requires rises { EndsBelow self.old p.id }
@@ -129,7 +129,7 @@ impl Pointers {
         self.list.push(p);
     }
 
-    /// Puts the pointer at index `i`, counted from 0, at another place; nothing changes where `i` is not below `len`.
+    /// Moves the pointer at index `i`, counted from 0, to another position. Nothing changes if `i` is not below `len`.
     pub fn move_to(&mut self, i: usize, at: Pixel)
         ensures { self.new ≡ slice_set self.old i (record { id = (get_or self.old i unused).id; at = at }) }
     {
@@ -140,7 +140,7 @@ impl Pointers {
     }
 }
 
-/// Whether the last id of a list is below `id`, as it is where the list is empty.
+/// Whether the last id of a list is below `id`; true if the list is empty.
 fn ends_below(pointers: &[Pointer], id: PointerId) -> bool
     ensures { IsTrue result ↔ EndsBelow pointers.now id }
 {

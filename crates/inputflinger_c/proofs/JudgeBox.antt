@@ -31,7 +31,7 @@ spent R = arg (raw (layout R)) no R
 abbrev pub spent_laws : (R : RattleType) → Laws R → raw (raw (layout R)) ≡ raw (layout R) → Laws (spent R)
 spent_laws R laws is = arg_laws (raw (layout R)) no R laws is
 
--- what is there is something
+-- an optional value that is there is Some
 pub some_of : {A : Type 0} (o : Option A) → IsSome o → (x : A) × (o ≡ Some x)
 some_of None is = absurd (false≢true is)
 some_of (Some x) is = (x, refl)

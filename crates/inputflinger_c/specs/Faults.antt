@@ -1,4 +1,4 @@
--- A fault as C gets it, and what a step of a judge comes to.
+-- A fault as C gets it, and the result of a step of a judge.
 use Rattle.std.specs.Prelude.{ℕ, Option, Some, None, is_some}
 use Rattle.std.specs.Option.{unwrap_or}
 use Rattle.gesture_verifier.specs.declared.fault.Fault.{Fault}
@@ -23,7 +23,7 @@ reason_number (Some KeyNotDown) = 10
 reason_number (Some RepeatOnUp) = 11
 reason_number (Some FocusTwice) = 12
 
--- a fault by its numbers: the next repeat is 0 where there is none
+-- a fault by its numbers: the next repeat is 0 if there is none
 abbrev pub plain_fault : Fault → PlainFault
 plain_fault f = record {
   place = f.place;

@@ -1,4 +1,4 @@
--- What the calls of a judge come to.
+-- The results of the calls of a judge.
 use Rattle.std.specs.Prelude.{◌≡◌, ℕ, nat_eq, Bool, true, List, [], ◌∷◌, Option, Some, None, is_some, if◌then◌else◌}
 use Rattle.std.specs.List.{list_any}
 use Rattle.std.specs.Option.{unwrap_or}
@@ -13,7 +13,8 @@ use Rattle.plain_calls.specs.Numbers.{flag}
 use Rattle.inputflinger_c.specs.Faults.{reason_number}
 use Rattle.plain_calls.specs.Status.{is_ok, is_free, is_taken, no_memory, out_of_range, is_broken}
 
--- what a handle has after `new`: a handle that is not free keeps its judge; else it has one that was sent nothing, or memory was wanting
+-- what a handle has after `new`: a handle that is not free keeps its judge; otherwise it has one that was shown
+-- nothing, or memory ran out
 abbrev pub Opens : Option Told → ℕ → Option Told → Type 0
 Opens (Some told) status new = (status ≡ is_taken) × (new ≡ Some told)
 Opens None status None = status ≡ no_memory
@@ -23,13 +24,13 @@ Opens None status (Some new) = (status ≡ is_ok) × VerifierStandsFor [] new
 abbrev pub Frees : Option Told → ℕ → Option Told → Type 0
 Frees told status new = (status ≡ (if is_some told then is_ok else is_free)) × (new ≡ None)
 
--- what a judge knows after a message that it accepted: it stands for the stream with this message more
+-- what a judge knows after a message that it accepted: it stands for the stream with one more message
 pub record Accepts (old : Told) (m : Message) (new : Told) : Type 0 where
   pub state : after_body (state_of old) m.body ≡ Some (state_of new)
   pub counted : new.accepted ≡ one_more old.accepted
   pub stands : (past : List Message) → VerifierStandsFor past old → VerifierStandsFor (m ∷ past) new
 
--- a message that might not come when it came, with what the window knew then and why
+-- a message that was not allowed when it came, with what the window knew then and why
 pub record Refuses (told : Told) (m : Message) (f : PlainFault) : Type 0 where
   pub refused : after_body (state_of told) m.body ≡ None
   pub place : f.place ≡ told.accepted
@@ -43,15 +44,16 @@ pub record Refuses (told : Told) (m : Message) (f : PlainFault) : Type 0 where
 abbrev pub is_step : ℕ → Bool
 is_step status = list_any (λ s. nat_eq s status) (is_ok ∷ no_memory ∷ is_broken ∷ [])
 
--- What a step of a judge comes to: the message was accepted, or memory was wanting at a key, or the message may not come. In the two
--- last cases the judge is as it was, and but in the last what is told of a fault too.
+-- The result of a step of a judge: the message was accepted, or memory ran out at a key, or the message may not come.
+-- In the last two cases the judge stays as it was. Only the last case writes the fault.
 pub record Steps (status : ℕ) (old : Told) (m : Message) (new : Told) (before after : PlainFault) : Type 0 where
   pub one : is_step status ≡ true
   pub ok : status ≡ is_ok → Accepts old m new × (after ≡ before)
   pub memory : status ≡ no_memory → (new ≡ old) × ((after ≡ before) × (is_key m.body ≡ true))
   pub broken : status ≡ is_broken → (new ≡ old) × Refuses old m after
 
--- What `step` comes to: a free handle stays free, a message that is out of range leaves the judge as it was, and any other one is a step.
+-- The result of `step`: a free handle stays free, a message out of range leaves the judge as it was, and any other
+-- message is a step.
 abbrev pub StepGoes : Option Told → Option Message → ℕ → Option Told → PlainFault → PlainFault → Type 0
 StepGoes None m status new before after = (status ≡ is_free) × ((new ≡ None) × (after ≡ before))
 StepGoes (Some old) None status new before after = (status ≡ out_of_range) × ((new ≡ Some old) × (after ≡ before))

@@ -14,6 +14,6 @@ abbrev pub live_owns : Global → Ptr → Option the_row.Denot → Fml
 live_owns alloc at None = ftrue
 live_owns alloc at (Some state) = box_owns (ghosts.dealloc_token alloc) the_row at state
 
--- how a proof tells what a cell owns apart
+-- how a proof distinguishes what a cell owns
 abbrev pub live_coded : Coded (Option the_row.Denot)
 live_coded = coded_option the_row.coded

@@ -14,6 +14,6 @@ abbrev pub judge_owns : Global → Ptr → Option the_row.Denot → Fml
 judge_owns alloc at None = ftrue
 judge_owns alloc at (Some told) = box_owns (ghosts.dealloc_token alloc) the_row at told
 
--- how a proof tells what a cell owns apart
+-- how a proof distinguishes what a cell owns
 abbrev pub sent_coded : Coded (Option the_row.Denot)
 sent_coded = coded_option the_row.coded

@@ -1,11 +1,11 @@
--- What a call of a live service comes to, by what its handle has.
+-- The result of a call of a live service, by what its handle has.
 use Rattle.std.specs.Prelude.{◌≡◌, ℕ, List, [], replicate, Option, Some, None, is_some, if◌then◌else◌}
 use Rattle.live_input.specs.Seats.{vacant}
 use Rattle.live_input.specs.Standing.{LiveIs}
 use Rattle.live_input.specs.State.{LiveState}
 use Rattle.plain_calls.specs.Status.{is_ok, is_free, is_taken, no_memory, out_of_range}
 
--- A free handle stays free, the status says so, and this is unchanged; a service goes over to another one as the call says.
+-- A free handle stays free, the status says so, and this is unchanged; a service changes as the call says.
 abbrev pub OnService : Option LiveState → ℕ → Option LiveState → (unchanged : Type 0) → (LiveState → LiveState → Type 0) → Type 0
 OnService None status new unchanged Goes = (status ≡ is_free) × ((new ≡ None) × unchanged)
 OnService (Some old) status None unchanged Goes = ⊥
@@ -15,7 +15,7 @@ OnService (Some old) status (Some new) unchanged Goes = Goes old new
 abbrev pub LiveFrees : Option LiveState → ℕ → Option LiveState → Type 0
 LiveFrees old status new = (status ≡ (if is_some old then is_ok else is_free)) × (new ≡ None)
 
--- A service at its start: it stands for no call, on these displays, and nobody is open and no device is there.
+-- A service at its start: it stands for no call, on these displays, with no client and no device.
 pub record Begins (limit : ℕ) (displays : List ℕ) (s : LiveState) : Type 0 where
   pub start : LiveIs displays [] s
   pub limit_is : s.limit ≡ limit
@@ -25,8 +25,8 @@ pub record Begins (limit : ℕ) (displays : List ℕ) (s : LiveState) : Type 0 w
   pub devices : s.devices ≡ replicate 8 None
   pub pending : s.pending ≡ []
 
--- What `new` comes to: a handle that is not free keeps its service. Else numbers that are out of their ranges are refused; or memory was wanting;
--- or the handle has a service at its start.
+-- The result of `new`: a handle that is not free keeps its service. Otherwise numbers out of range are refused, or
+-- memory ran out, or the handle has a service at its start.
 abbrev pub LiveOpens : Option LiveState → (limit : Option ℕ) → (displays : Option (List ℕ)) → ℕ → Option LiveState → Type 0
 LiveOpens (Some old) limit displays status new = (status ≡ is_taken) × (new ≡ Some old)
 LiveOpens None None displays status new = (status ≡ out_of_range) × (new ≡ None)

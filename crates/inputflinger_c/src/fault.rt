@@ -9,18 +9,18 @@ use plain_calls::flag;
 #[repr(C)]
 #[derive(Clone, Copy, Debug)]
 pub struct PlainFault {
-    /// How many messages were accepted before. The number stands still at the greatest u64.
+    /// How many messages were accepted before, saturated at the greatest u64.
     pub place: u64,
-    /// The repeat number that the next down of the key of the message has to have, which may be 2^32; 0 where the key
-    /// is up and where the message is of no key.
+    /// The repeat number that the next down of the message's key must have, which may be 2^32; 0 if the key is up or
+    /// the message is not about a key.
     pub next_repeat: u64,
-    /// The pointer ids that are down on the device of the motion, as bits; 0 where the message is no motion.
+    /// The pointer ids that are down on the device of the motion, as bits; 0 if the message is not a motion.
     pub held: u32,
-    /// The number of the reason, 0 where there is none.
+    /// The number of the reason, 0 if there is none.
     pub reason: u32,
-    /// 1 where the key of the message is down, else 0.
+    /// 1 if the key of the message is down, else 0.
     pub key_down: u8,
-    /// 1 where the window has the focus, else 0.
+    /// 1 if the window has the focus, else 0.
     pub focus: u8,
 }
 

@@ -8,7 +8,7 @@ use gesture_verifier::Verifier;
 use std::alloc::Global;
 use std::mem;
 
-/// `struct inputflinger_judge`: a judge, or nothing while it is free. It is free where all its bytes are 0.
+/// `struct inputflinger_judge`: a judge, or nothing while it is free. It is free if all its bytes are 0.
 #[repr(C)]
 #[derive(Drop)]
 pub struct Judge {
@@ -35,7 +35,7 @@ impl Judge {
         self.is_open
     }
 
-    /// Takes the judge out of its handle, which is free then. None where it was free before.
+    /// Takes the judge out of its handle, which is then free. None if it was free before.
     pub(crate) fn take(&mut self, alloc: Global) -> Option<Box<Verifier>>
         ensures taken { option_map (λ b. b.value) result ≡ self.old.cell.told }
         ensures free { self.new.cell.told ≡ None }

@@ -1,4 +1,4 @@
-//! Where the judge of a handle lies.
+//! Where the judge of a handle is stored.
 ghost use Rattle.std.specs.Prelude.{◌≡◌, Option, Some, None, IsSome};
 ghost use Rattle.gesture_verifier.specs.Told.{Told};
 ghost use Rattle.inputflinger_c.specs.Owning.{sent_coded, judge_owns};

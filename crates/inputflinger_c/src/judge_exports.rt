@@ -16,8 +16,8 @@ use plain_calls::PlainMessage;
 use plain_calls::status::{BROKEN, FREE, MEMORY, OK, RANGE, ROOM, TAKEN};
 use std::alloc::Global;
 
-/// Puts a judge of a stream that has no message yet into a free handle. `TAKEN` where the handle is not free, and
-/// `MEMORY` for want of memory; the handle then stays as it was.
+/// Puts a judge of a stream without messages into a free handle. `TAKEN` if the handle is not free, and `MEMORY` if
+/// memory runs out; the handle then stays as it was.
 #[unsafe(no_mangle)]
 pub extern "C" fn inputflinger_proved_judge_new(alloc: Global, judge: &mut Judge) -> u32
     ensures { Opens judge.old.cell.told result judge.new.cell.told }
@@ -34,7 +34,7 @@ pub extern "C" fn inputflinger_proved_judge_new(alloc: Global, judge: &mut Judge
     }
 }
 
-/// Frees a handle and the memory of its judge. `FREE` where it was free before.
+/// Frees a handle and the memory of its judge. `FREE` if it was free before.
 #[unsafe(no_mangle)]
 pub extern "C" fn inputflinger_proved_judge_free(alloc: Global, judge: &mut Judge) -> u32
     ensures { Frees judge.old.cell.told result judge.new.cell.told }
@@ -47,9 +47,9 @@ pub extern "C" fn inputflinger_proved_judge_free(alloc: Global, judge: &mut Judg
 
 /// Accepts the next message of the stream, or says why it may not come.
 ///
-/// `FREE` where the handle is free, `RANGE` where a number of the message is out of its range, `MEMORY` for want of
-/// memory at a key message, and `BROKEN` exactly where the stream with this message is not well-formed: then `fault` is
-/// written, and else it stays as it was. But with `OK` the judge stays as it was.
+/// `FREE` if the handle is free, `RANGE` if a number of the message is out of its range, `MEMORY` if memory runs out
+/// at a key message, and `BROKEN` exactly if the stream with this message is not well-formed. Only `BROKEN` writes
+/// `fault`, and only `OK` changes the judge.
 #[unsafe(no_mangle)]
 pub extern "C" fn inputflinger_proved_judge_step(
     alloc: Global,
@@ -84,8 +84,8 @@ fn step(verifier: &mut Verifier, message: &Message, fault: &mut PlainFault) -> u
     }
 }
 
-/// Tells which pointers are down on each device, and whether the window has the focus. `FREE` where the handle is free;
-/// `state` then stays as it was.
+/// Returns which pointers are down on each device, and whether the window has the focus. `FREE` if the handle is
+/// free; `state` then stays as it was.
 #[unsafe(no_mangle)]
 pub extern "C" fn inputflinger_proved_judge_state(
     alloc: Global,
@@ -102,10 +102,10 @@ pub extern "C" fn inputflinger_proved_judge_state(
     OK
 }
 
-/// Tells the keys that are down, in rising order of their devices and scan codes, and how many they are.
+/// Returns the keys that are down, in rising order of their devices and scan codes, and how many there are.
 ///
-/// `FREE` where the handle is free, and `MEMORY` for want of memory; nothing is written then. `ROOM` where there are
-/// more keys than places: then `count` alone is written.
+/// `FREE` if the handle is free, and `MEMORY` if memory runs out; then nothing is written. `ROOM` if there are more
+/// keys than places: then only `count` is written.
 #[unsafe(no_mangle)]
 pub extern "C" fn inputflinger_proved_judge_keys(
     alloc: Global,
@@ -123,7 +123,7 @@ pub extern "C" fn inputflinger_proved_judge_keys(
     status
 }
 
-/// Tells the keys that are down in a stream.
+/// Returns the keys that are down in a stream.
 fn send_keys(alloc: Global, verifier: &Verifier, places: &mut [PlainKey], count: &mut usize) -> u32
     ensures { KeysSent (nat_eq result no_memory) result verifier.now places.old places.new count.old count.new }
 {

@@ -24,7 +24,7 @@ fn plain_key(key: &HeldKey) -> PlainKey
     }
 }
 
-/// Writes keys to the places at the front.
+/// Writes keys to the first places.
 pub(crate) fn write_keys(places: &mut [PlainKey], keys: &[HeldKey])
     requires { length keys.now ≤ length places.old }
     ensures { places.new ≡ map plain_key keys.now ++ drop (length keys.now) places.old }

@@ -12,9 +12,9 @@ use plain_calls::flag;
 #[repr(C)]
 #[derive(Clone, Copy, Debug)]
 pub struct PlainState {
-    /// The pointer ids that are down on each device as bits, those of device 1 first.
+    /// The pointer ids that are down on each device as bits, starting with device 1.
     pub ids: [u32; 8],
-    /// 1 where the window has the focus, else 0.
+    /// 1 if the window has the focus, else 0.
     pub focus: u8,
 }
 

@@ -9,8 +9,8 @@
 //! inputflinger_live_open                                     1: the handle is free
 //! ```
 //!
-//! A window that is sent a well-formed stream sees whole gestures. A test of a toolkit has the messages that a window
-//! got, one by one, and asks at which one the stream stops to be well-formed:
+//! A window that is sent a well-formed stream sees whole gestures. A test of a toolkit shows a judge the messages
+//! that a window received, one by one, to learn which one makes the stream ill-formed:
 //!
 //! ```text
 //! inputflinger_judge_new   of a handle whose bytes are 0     0, and the handle has a judge
@@ -27,10 +27,10 @@
 //! ```
 //!
 //! Each export takes what C can hand in: numbers, structs of numbers, and a handle, which owns a block of the C
-//! library's allocator or nothing. Its clause says what it answers and what the handle has then, in words of
-//! `plain_calls`, `live_input` and `gesture_verifier`. Raw pointers are in `unboxed`, `live_cell` and `judge_cell`
-//! alone. What C owes is what the types say: a pointer that is not null and is nobody else's during the call, and a
-//! handle that was made by these calls, or whose bytes are all 0.
+//! library's allocator or nothing. Its clause says what it returns and what the handle has then, in the definitions
+//! of `plain_calls`, `live_input` and `gesture_verifier`. Only `unboxed`, `live_cell` and `judge_cell` contain raw
+//! pointers. C must provide what the types say: a pointer that is not null and that nothing else uses during the
+//! call, and a handle that was made by these calls or whose bytes are all 0.
 #![tactic(auto)]
 
 mod fault;

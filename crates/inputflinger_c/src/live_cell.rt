@@ -1,4 +1,4 @@
-//! Where the service of a handle lies.
+//! Where the service of a handle is stored.
 ghost use Rattle.std.specs.Prelude.{◌≡◌, Option, Some, None, IsSome};
 ghost use Rattle.live_input.specs.State.{LiveState};
 ghost use Rattle.inputflinger_c.specs.LiveOwning.{live_coded, live_owns};

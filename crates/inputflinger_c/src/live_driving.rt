@@ -1,4 +1,4 @@
-//! What is due in a live service, and what its devices give.
+//! What is due in a live service, and what its devices deliver.
 ghost use Rattle.std.specs.Prelude.{◌≡◌, ⊤, nat_eq};
 ghost use Rattle.plain_calls.specs.Calling.{Reads, Replies, ok_of, answer_status, written};
 ghost use Rattle.plain_calls.specs.Driving.{IsDue, CaughtUp, Happened, HandedIn, Removed, TouchAdded, event};
@@ -16,7 +16,7 @@ use plain_calls::status::FREE;
 use plain_calls::{PlainMessage, driving, layouts, plugging};
 use std::alloc::Global;
 
-/// The first moment at which something is due; see `driving::due`. `FREE` where the handle is free.
+/// The first moment at which something is due; see `driving::due`. `FREE` if the handle is free.
 #[unsafe(no_mangle)]
 pub extern "C" fn inputflinger_proved_live_due(
     alloc: Global,
@@ -35,7 +35,7 @@ pub extern "C" fn inputflinger_proved_live_due(
     status
 }
 
-/// All is done that is due up to now; see `driving::advance`. `FREE` where the handle is free.
+/// Runs everything that is due up to now; see `driving::advance`. `FREE` if the handle is free.
 #[unsafe(no_mangle)]
 pub extern "C" fn inputflinger_proved_live_advance(
     alloc: Global,
@@ -56,7 +56,7 @@ pub extern "C" fn inputflinger_proved_live_advance(
     status
 }
 
-/// An event of a device; see `driving::event`. `FREE` where the handle is free.
+/// Hands in an event of a device; see `driving::event`. `FREE` if the handle is free.
 #[unsafe(no_mangle)]
 pub extern "C" fn inputflinger_proved_live_event(
     alloc: Global,
@@ -80,7 +80,7 @@ pub extern "C" fn inputflinger_proved_live_event(
     status
 }
 
-/// A motion, a key or a reset that is ready; see `driving::args`. `FREE` where the handle is free.
+/// Hands in a ready motion, key or reset; see `driving::args`. `FREE` if the handle is free.
 #[unsafe(no_mangle)]
 pub extern "C" fn inputflinger_proved_live_args(
     alloc: Global,
@@ -101,7 +101,7 @@ pub extern "C" fn inputflinger_proved_live_args(
     status
 }
 
-/// A device is unplugged; see `driving::remove_device`. `FREE` where the handle is free.
+/// Unplugs a device; see `driving::remove_device`. `FREE` if the handle is free.
 #[unsafe(no_mangle)]
 pub extern "C" fn inputflinger_proved_live_remove_device(
     alloc: Global,
@@ -122,7 +122,7 @@ pub extern "C" fn inputflinger_proved_live_remove_device(
     status
 }
 
-/// A panel is plugged in; see `plugging::add_touch`. `FREE` where the handle is free.
+/// Plugs in a panel; see `plugging::add_touch`. `FREE` if the handle is free.
 #[unsafe(no_mangle)]
 pub extern "C" fn inputflinger_proved_live_add_touch(
     alloc: Global,
@@ -146,7 +146,7 @@ pub extern "C" fn inputflinger_proved_live_add_touch(
     status
 }
 
-/// A device with keys is plugged in; see `layouts::add_keys`. `FREE` where the handle is free.
+/// Plugs in a device with keys; see `layouts::add_keys`. `FREE` if the handle is free.
 #[unsafe(no_mangle)]
 pub extern "C" fn inputflinger_proved_live_add_keys(
     alloc: Global,

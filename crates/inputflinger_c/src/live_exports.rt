@@ -1,4 +1,4 @@
-//! A live service begins and ends, and its clients come and go.
+//! Creating and freeing a live service, and its clients that come and go.
 ghost use Rattle.std.specs.Prelude.{◌≡◌, ⊤, IfOk};
 ghost use Rattle.plain_calls.specs.Calling.{Reads, Replies, ok_of, written};
 ghost use Rattle.plain_calls.specs.Clients.{client_of, plain_client};
@@ -15,9 +15,9 @@ use plain_calls::status::{FREE, MEMORY, OK, RANGE, TAKEN};
 use plain_calls::{PlainClient, PlainDisplays, coming, limit_of};
 use std::alloc::{AllocError, Global};
 
-/// Puts a service into a free handle: without clients, its devices on these displays, and with this limit for what a
-/// client leaves unfinished. `TAKEN` where the handle is not free, `RANGE` where a number is out of its range, and
-/// `MEMORY` for want of memory; the handle then stays as it was.
+/// Puts a service without clients into a free handle, with its devices on these displays and this limit for messages
+/// that a client leaves unfinished. `TAKEN` if the handle is not free, `RANGE` if a number is out of its range, and
+/// `MEMORY` if memory runs out; the handle then stays as it was.
 #[unsafe(no_mangle)]
 pub extern "C" fn inputflinger_proved_live_new(
     alloc: Global,
@@ -45,7 +45,7 @@ pub extern "C" fn inputflinger_proved_live_new(
     }
 }
 
-/// A service at its start, in a block of its own.
+/// A service at its start, in its own block.
 fn boxed(alloc: Global, limit: Limit, displays: &Displays) -> Result<Box<Live>, AllocError>
     ensures { IfOk result (λ b. Begins limit displays.now b.value) }
 {
@@ -53,7 +53,7 @@ fn boxed(alloc: Global, limit: Limit, displays: &Displays) -> Result<Box<Live>, 
     Ok(Box::new(alloc, live)?)
 }
 
-/// Frees a handle and the memory of its service. `FREE` where it was free before.
+/// Frees a handle and the memory of its service. `FREE` if it was free before.
 #[unsafe(no_mangle)]
 pub extern "C" fn inputflinger_proved_live_free(alloc: Global, live: &mut Service) -> u32
     ensures { LiveFrees live.old.cell.state result live.new.cell.state }
@@ -64,7 +64,7 @@ pub extern "C" fn inputflinger_proved_live_free(alloc: Global, live: &mut Servic
     }
 }
 
-/// A client more; see `coming::open`. `FREE` where the handle is free.
+/// Opens a client; see `coming::open`. `FREE` if the handle is free.
 #[unsafe(no_mangle)]
 pub extern "C" fn inputflinger_proved_live_open(
     alloc: Global,
@@ -83,7 +83,7 @@ pub extern "C" fn inputflinger_proved_live_open(
     status
 }
 
-/// A client less; see `coming::close`. `FREE` where the handle is free.
+/// Closes a client; see `coming::close`. `FREE` if the handle is free.
 #[unsafe(no_mangle)]
 pub extern "C" fn inputflinger_proved_live_close(
     alloc: Global,

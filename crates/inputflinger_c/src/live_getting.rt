@@ -1,4 +1,4 @@
-//! What clients of a live service get, and what they are done with.
+//! What clients of a live service receive and finish.
 ghost use Rattle.std.specs.Prelude.{◌≡◌, ⊤};
 ghost use Rattle.plain_calls.specs.Calling.{Reads, Replies, written};
 ghost use Rattle.plain_calls.specs.Clients.{client_of};
@@ -14,7 +14,7 @@ use plain_calls::status::{FREE, OK};
 use plain_calls::{PlainClient, PlainMessage, getting};
 use std::alloc::Global;
 
-/// The next message of a client; see `getting::next`. `FREE` where the handle is free.
+/// Receives the next message of a client; see `getting::next`. `FREE` if the handle is free.
 #[unsafe(no_mangle)]
 pub extern "C" fn inputflinger_proved_live_next(
     alloc: Global,
@@ -34,7 +34,7 @@ pub extern "C" fn inputflinger_proved_live_next(
     status
 }
 
-/// A client is done with a message; see `getting::finish`. `FREE` where the handle is free.
+/// Finishes a message of a client; see `getting::finish`. `FREE` if the handle is free.
 #[unsafe(no_mangle)]
 pub extern "C" fn inputflinger_proved_live_finish(
     alloc: Global,
@@ -55,7 +55,7 @@ pub extern "C" fn inputflinger_proved_live_finish(
     status
 }
 
-/// A spy takes the pointers of a device; see `getting::pilfer`. `FREE` where the handle is free.
+/// A spy takes the pointers of a device; see `getting::pilfer`. `FREE` if the handle is free.
 #[unsafe(no_mangle)]
 pub extern "C" fn inputflinger_proved_live_pilfer(
     alloc: Global,
@@ -77,7 +77,7 @@ pub extern "C" fn inputflinger_proved_live_pilfer(
     status
 }
 
-/// The mask of the channels that have a message for their client. `FREE` where the handle is free.
+/// The mask of the channels with a message for their client. `FREE` if the handle is free.
 #[unsafe(no_mangle)]
 pub extern "C" fn inputflinger_proved_live_waiting(
     alloc: Global,

@@ -1,4 +1,4 @@
-//! The windows of a live service, the focus, and what can be asked of its clients.
+//! The windows of a live service, the focus, and what can be asked about its clients.
 ghost use Rattle.std.specs.Prelude.{◌≡◌, ⊤, nat_eq};
 ghost use Rattle.live_input.specs.Seats.{is_open};
 ghost use Rattle.plain_calls.specs.Asking.{client_on, AnswersClient, HasFocus, GetsKeys, Responds, Holds, IsClock};
@@ -16,7 +16,7 @@ use plain_calls::status::{FREE, OK};
 use plain_calls::{PlainClient, PlainRect, PlainWindow, asking, showing};
 use std::alloc::Global;
 
-/// The windows are these from now on; see `showing::windows`. `FREE` where the handle is free.
+/// Replaces the windows; see `showing::windows`. `FREE` if the handle is free.
 #[unsafe(no_mangle)]
 pub extern "C" fn inputflinger_proved_live_windows(
     alloc: Global,
@@ -39,7 +39,7 @@ pub extern "C" fn inputflinger_proved_live_windows(
     status
 }
 
-/// The focus of a display is requested; see `showing::focus`. `FREE` where the handle is free.
+/// Requests the focus of a display; see `showing::focus`. `FREE` if the handle is free.
 #[unsafe(no_mangle)]
 pub extern "C" fn inputflinger_proved_live_focus(
     alloc: Global,
@@ -61,7 +61,7 @@ pub extern "C" fn inputflinger_proved_live_focus(
     status
 }
 
-/// Whether a client is open, as 1 or 0. `FREE` where the handle is free.
+/// Whether a client is open, as 1 or 0. `FREE` if the handle is free.
 #[unsafe(no_mangle)]
 pub extern "C" fn inputflinger_proved_live_is_open(
     alloc: Global,
@@ -80,7 +80,7 @@ pub extern "C" fn inputflinger_proved_live_is_open(
     OK
 }
 
-/// The client that is open on a channel; see `asking::client_at`. `FREE` where the handle is free.
+/// The client that is open on a channel; see `asking::client_at`. `FREE` if the handle is free.
 #[unsafe(no_mangle)]
 pub extern "C" fn inputflinger_proved_live_client_at(
     alloc: Global,
@@ -99,7 +99,7 @@ pub extern "C" fn inputflinger_proved_live_client_at(
     status
 }
 
-/// The client that has the focus of a display; see `asking::focused`. `FREE` where the handle is free.
+/// The client that has the focus of a display; see `asking::focused`. `FREE` if the handle is free.
 #[unsafe(no_mangle)]
 pub extern "C" fn inputflinger_proved_live_focused(
     alloc: Global,
@@ -120,7 +120,7 @@ pub extern "C" fn inputflinger_proved_live_focused(
     status
 }
 
-/// The client that keys go to; see `asking::key_target`. `FREE` where the handle is free.
+/// The client that keys go to; see `asking::key_target`. `FREE` if the handle is free.
 #[unsafe(no_mangle)]
 pub extern "C" fn inputflinger_proved_live_key_target(
     alloc: Global,
@@ -139,7 +139,7 @@ pub extern "C" fn inputflinger_proved_live_key_target(
     status
 }
 
-/// Whether a client is open and responds, as 1 or 0. `FREE` where the handle is free.
+/// Whether a client is open and responds, as 1 or 0. `FREE` if the handle is free.
 #[unsafe(no_mangle)]
 pub extern "C" fn inputflinger_proved_live_is_responsive(
     alloc: Global,
@@ -158,7 +158,7 @@ pub extern "C" fn inputflinger_proved_live_is_responsive(
     OK
 }
 
-/// The ids of the pointers of a device that a client holds; see `asking::holds`. `FREE` where the handle is free.
+/// The ids of the pointers of a device that a client holds; see `asking::holds`. `FREE` if the handle is free.
 #[unsafe(no_mangle)]
 pub extern "C" fn inputflinger_proved_live_holds(
     alloc: Global,
@@ -179,7 +179,7 @@ pub extern "C" fn inputflinger_proved_live_holds(
     status
 }
 
-/// The greatest moment that was handed in, in microseconds. `FREE` where the handle is free.
+/// The clock: the latest moment of any call, in microseconds. `FREE` if the handle is free.
 #[unsafe(no_mangle)]
 pub extern "C" fn inputflinger_proved_live_clock(
     alloc: Global,

@@ -35,7 +35,7 @@ impl Service {
         self.is_open
     }
 
-    /// Takes the service out of its handle, which is free then. None where it was free before.
+    /// Takes the service out of its handle, which is free then. None if it was free before.
     pub(crate) fn take(&mut self, alloc: Global) -> Option<Box<Live>>
         ensures taken { option_map (λ b. b.value) result ≡ self.old.cell.state }
         ensures free { self.new.cell.state ≡ None }

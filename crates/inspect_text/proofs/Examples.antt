@@ -1,4 +1,5 @@
--- Worked examples: what is told of recordings that are written out, lines and events with the newest first. All of them compute.
+-- Worked examples: the text about concrete recordings, with lines and events newest first. Each is checked by
+-- computation.
 use Rattle.std.specs.Prelude.{codes, ◌≡◌, ℕ, pos, List, [], ◌∷◌, ◌++◌, refl}
 use Rattle.std.specs.Fmt.{digits}
 use Rattle.input_types.specs.declared.axis.Rotation.TheVariants.{R0}
@@ -67,7 +68,7 @@ a_silent_keyboard :
 unfolding digits
 a_silent_keyboard = refl
 
--- a line that names no path counts for `-` where there is no device
+-- a line without a path counts for `-` if there is no device
 no_device :
     inspected [] (codes "[ 1.500000] 0001 0073 00000001" ∷ codes "[ 1.000000] 0001 0073 00000001" ∷ []) [] [] (step 5 ∷ []) []
     ≡ codes "lines 2 blank 0 other 0 unknown 2 events 0\npath - 2\nsteps 1 before 1 within 0 after 0\nhint no device\n"

@@ -7,7 +7,7 @@ use Rattle.raw_events.specs.declared.event.RawEvent.{RawEvent}
 use Rattle.recording_counts.specs.KeyTally.{is_down_at}
 use Rattle.inspect_text.specs.Hints.{GoesOn, behind_commas, below, hint_front, hint_line, joined, scan_words, scans_down, still_down}
 
--- each number but the first stands behind a comma
+-- each number except the first follows a comma
 pub joined_first : (n : ℕ) (ns : List ℕ) → joined (n ∷ ns) ≡ decimal n ++ behind_commas ns
 joined_first n [] = sym (append-nil (decimal n))
 joined_first n (m ∷ ns) = ap (λ xs. decimal n ++ codes "," ++ xs) (joined_first m ns) ∙ regroup (decimal n) (codes ",") (decimal m) (behind_commas ns)
@@ -20,7 +20,7 @@ abbrev pub is_none : List ℕ → Bool
 is_none [] = true
 is_none (n ∷ ns) = false
 
--- the line of what is still down, without its end; nothing where that is nothing
+-- the line of what is still down, without its end; nothing if nothing is down
 abbrev pub begun : ℕ → List ℕ → List ℕ
 begun device [] = []
 begun device (n ∷ ns) = hint_front device ++ codes "still down " ++ joined (n ∷ ns)
@@ -89,7 +89,7 @@ one_more device es n m start old new first later next b g =
         some_more [] = refl
         some_more (i ∷ is) = refl
 
--- at the end there is no line where nothing is down, and else its newline is left
+-- at the end there is no line if nothing is down, and otherwise its newline is left
 pub end_none : (device : ℕ) (ns : List ℕ) (start text : List ℕ) → text ≡ start ++ begun device ns → true ≡ is_none ns
     → text ≡ start ++ hint_line device (still_down ns)
 end_none device [] start text e none = e

@@ -12,7 +12,7 @@ use Rattle.device_reader.proofs.All.{more_of, none_of}
 use Rattle.recording_counts.specs.Lines.{IsRead, begins_event, begins_other, given_by, gives, is_blank_line, is_event_line, is_nothing, is_other_line, is_unknown_line, passes, text_of}
 use Rattle.inspect_text.specs.Laws.{ArgsLaw, LinesLaw, own_args}
 
--- 1 where it is so
+-- 1 if it holds
 abbrev one_if : Bool → ℕ
 one_if b = cond b 1 0
 
@@ -76,7 +76,7 @@ own_more d (plan ∷ plans) e past = omega (arith, here, own_more (suc d) plans 
         zero_more : (n : ℕ) → n ≡ 0 + n
         zero_more n = omega arith
 
--- an event adds nothing to the devices behind its own
+-- an event adds nothing to the devices after its own
 below : (d : ℕ) (plans : List DevicePlan) (past : List RawEvent) (e : RawEvent) → e.device < d → added_from d plans past e ≡ 0
 below d [] past e lt = refl
 below d (plan ∷ plans) past e lt =

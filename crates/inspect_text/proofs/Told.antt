@@ -1,4 +1,4 @@
--- What is told of a device, by what it is.
+-- The text about a device, by its kind.
 use Rattle.std.proofs.Common.{◌≡◌, ℕ, List, ap, ap₂, ◌∙◌}
 use Rattle.raw_events.specs.declared.event.RawEvent.{RawEvent}
 use Rattle.device_reader.specs.Cooked.{DevicePlan, TouchPlan, KeysPlan, Touches, Keys as HasKeys, device_args}

@@ -60,7 +60,7 @@ abbrev ids_in : Option DeviceState → List ℕ
 ids_in None = []
 ids_in (Some s) = s.ids
 
--- no pointer is down where nothing was cooked
+-- no pointer is down if nothing was cooked
 no_pointer : (plan : TouchPlan) (es : List RawEvent) → device_args (Touches plan) es ≡ [] → length (pointers_at plan (since_drop es)) ≡ 0
 no_pointer plan es none =
     let fits : device_state plan.device [] ≡ Some (down_at (Touches plan) (since_drop es)) = rw none at (args_fit (Touches plan) es) in

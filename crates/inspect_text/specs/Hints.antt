@@ -17,17 +17,17 @@ joined [] = []
 joined (n ∷ []) = decimal n
 joined (n ∷ m ∷ ns) = decimal n ++ codes "," ++ joined (m ∷ ns)
 
--- each number behind a comma
+-- each number after a comma
 abbrev pub behind_commas : List ℕ → List ℕ
 behind_commas ns = flat_map (λ n. codes "," ++ decimal n) ns
 
--- pointers or keys are still down at the end, where there are some
+-- pointers or keys are still down at the end, if there are some
 abbrev pub still_down : List ℕ → Option (List ℕ)
 still_down [] = None
 still_down (n ∷ ns) = Some (codes "still down " ++ joined (n ∷ ns))
 
--- what is hinted of the events of a touch device: there is none; there are positions of a single touch and none of contacts; contacts are
--- told by protocol A; no packet has a finger
+-- the hint about the events of a touch device: there are none; there are positions of a single touch and none of
+-- contacts; contacts use protocol A; no packet has a finger
 abbrev pub touch_word : EventCounts → TouchCounts → Option (List ℕ)
 touch_word events touches =
     if nat_eq events.events 0 then Some (codes "silent")
@@ -64,11 +64,11 @@ abbrev pub hint_line : (device : ℕ) → Option (List ℕ) → List ℕ
 hint_line device None = []
 hint_line device (Some words) = hint_front device ++ words ++ codes "\n"
 
--- a scan code behind those that are sent: the first one begins the line
+-- a scan code after those already printed: the first one begins the line
 abbrev pub scan_words : (device : ℕ) → (is_first : Bool) → ℕ → List ℕ
 scan_words device is_first scan = if is_first then hint_front device ++ codes "still down " ++ decimal scan else codes "," ++ decimal scan
 
--- a scan code is told where it is down, and then the line has begun
+-- a scan code is printed if it is down, and then the line has begun
 pub record GoesOn (device : ℕ) (es : List RawEvent) (scan : ℕ) (is_first : Bool) (old : List ℕ) (later : Bool) (new : List ℕ) : Type 0 where
   pub text_is : new ≡ old ++ (if is_down_at es scan then scan_words device is_first scan else [])
   pub first_is : later ≡ (is_first && not (is_down_at es scan))

@@ -1,4 +1,4 @@
--- What a recording and a session hold. Lines and events stand with the newest first.
+-- What a recording and a session contain. Lines and events are newest first.
 use Rattle.std.specs.Prelude.{codes, ℕ, suc, nat_eq, nat_lt, Bool, false, true, not, ◌||◌, List, [], ◌∷◌, ◌++◌, length, filter, flat_map, take, Option, Some, None, if◌then◌else◌}
 use Rattle.raw_events.specs.declared.event.RawEvent.{RawEvent}
 use Rattle.raw_events.specs.Line.{Known}
@@ -16,7 +16,7 @@ use Rattle.recording_counts.specs.Moments.{span_of}
 use Rattle.inspect_text.specs.Hints.{hint_at, hint_line}
 use Rattle.inspect_text.specs.Lines.{keys_line, lines_line, moments_line, path_line, steps_line, touch_line}
 
--- the lines by what they are, where they give these events
+-- the lines by kind, if they give these events
 abbrev pub lines_text : Known → List (List ℕ) → List RawEvent → List ℕ
 lines_text devices lines events =
     lines_line (counted lines) (counted (filter (is_blank_line devices) lines)) (counted (filter (is_other_line devices) lines))
@@ -28,7 +28,7 @@ device_text d (Touches plan) es =
     touch_line d (event_counts is_touch_used es) (touch_counts (ranges_of plan) es) (counted (device_args (Touches plan) es))
 device_text d (Keys plan) es = keys_line d (event_counts is_keys_used es) (key_counts (device_args (Keys plan) es)) (counted (device_args (Keys plan) es))
 
--- what is told of each device, from number d on, by its own events
+-- the text about each device, from number d on, by its own events
 abbrev pub each_device : (ℕ → DevicePlan → List RawEvent → List ℕ) → ℕ → List DevicePlan → List RawEvent → List ℕ
 each_device told d [] events = []
 each_device told d (plan ∷ plans) events = told d plan (of_device d events) ++ each_device told (suc d) plans events
@@ -37,7 +37,7 @@ each_device told d (plan ∷ plans) events = told d plan (of_device d events) ++
 abbrev pub paths_text : List (List ℕ) → List ℕ
 paths_text paths = flat_map (λ p. path_line p (times p paths)) (take 8 (firsts paths))
 
--- a step is before the first moment of the events; all are where there is none
+-- a step is before the first moment of the events; all are if there is none
 abbrev pub is_before : Option Span → Step → Bool
 is_before None step = true
 is_before (Some span) step = nat_lt step.at span.first

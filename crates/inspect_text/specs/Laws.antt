@@ -25,10 +25,10 @@ own_args d (plan ∷ plans) events = length (device_args plan (of_device d event
 abbrev pub ArgsLaw : Type 0
 ArgsLaw = (plans : List DevicePlan) (events : List RawEvent) → own_args 1 plans events ≡ length (cooked plans events)
 
--- Where no hint stands for a device with keys, some args of it are cooked.
+-- If there is no hint for a device with keys, some args of it are cooked.
 abbrev pub KeysHintLaw : Type 0
 KeysHintLaw = (plan : KeysPlan) (events : List RawEvent) → hint_at (Keys plan) events ≡ None → 0 < length (device_args (Keys plan) events)
 
--- Where no hint stands for a touch device, some args of it are cooked.
+-- If there is no hint for a touch device, some args of it are cooked.
 abbrev pub TouchHintLaw : Type 0
 TouchHintLaw = (plan : TouchPlan) (events : List RawEvent) → hint_at (Touches plan) events ≡ None → 0 < length (device_args (Touches plan) events)

@@ -13,7 +13,7 @@ lines_line lines blank other unknown events =
     codes "lines " ++ decimal lines ++ codes " blank " ++ decimal blank ++ codes " other " ++ decimal other ++ codes " unknown " ++ decimal unknown
     ++ codes " events " ++ decimal events ++ codes "\n"
 
--- the least and the greatest moment, where there is one
+-- the earliest and the latest moment, if there is one
 abbrev pub moments_line : Option Span → List ℕ
 moments_line None = []
 moments_line (Some span) = codes "moments " ++ decimal span.first ++ codes " " ++ decimal span.last ++ codes "\n"

@@ -62,7 +62,7 @@ fn add_words(text: &mut Vec<u8>, device: u64, words: &str) -> Result<(), AllocEr
     add_word(text, "\n")
 }
 
-/// Adds ids, each behind a comma.
+/// Adds ids, each after a comma.
 fn add_further(text: &mut Vec<u8>, held: &[Held]) -> Result<(), AllocError>
     ensures { IfOk result (λ _. text.new.items ≡ text.old.items ++ behind_commas (map (λ h. h.id) held.now)) }
 {
@@ -72,7 +72,7 @@ fn add_further(text: &mut Vec<u8>, held: &[Held]) -> Result<(), AllocError>
     Ok(())
 }
 
-/// Adds the line of the pointers that are still down, where there are some.
+/// Adds the line of the pointers that are still down, if any.
 fn add_pointers(text: &mut Vec<u8>, device: u64, held: &[Held]) -> Result<(), AllocError>
     ensures { IfOk result (λ _. text.new.items
         ≡ text.old.items ++ hint_line device (still_down (map (λ h. h.id) held.now))) }
@@ -117,7 +117,7 @@ fn add_if_down(
     Ok(false)
 }
 
-/// Adds the line of the keys that are still down, where there are some.
+/// Adds the line of the keys that are still down, if any.
 fn add_keys(text: &mut Vec<u8>, device: u64, keys: &KeysTally) -> Result<(), AllocError>
     ensures { (plan : DevicePlan) (past : List Event) → KeysTallyStandsFor plan past keys.now
         → IfOk result (λ _. text.new.items ≡ text.old.items ++ hint_line device (still_down (scans_down past))) }
@@ -155,7 +155,7 @@ fn add_keys_hint(text: &mut Vec<u8>, device: u64, keys: &KeysTally) -> Result<()
     }
 }
 
-/// Adds the hint at a device, where there is one.
+/// Adds the hint about a device, if there is one.
 fn add_hint(text: &mut Vec<u8>, device: u64, tally: &DeviceTally) -> Result<(), AllocError>
     ensures { (plan : DevicePlan) (past : List Event) → DeviceCounted plan past tally.now
         → IfOk result (λ _. text.new.items ≡ text.old.items ++ hint_line device (hint_at plan past)) }

@@ -26,7 +26,7 @@ pub(crate) fn add_lines(
     add_word(text, "\n")
 }
 
-/// Adds from which moment to which the events are, where there are some.
+/// Adds the first and the last moment of the events, if there are any.
 pub(crate) fn add_moments(text: &mut Vec<u8>, span: Option<Span>) -> Result<(), AllocError>
     ensures { IfOk result (λ _. text.new.items ≡ text.old.items ++ moments_line span) }
 {

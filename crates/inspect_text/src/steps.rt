@@ -7,7 +7,7 @@ use session_plan::Step;
 use std::alloc::AllocError;
 use text_lines::{add_labeled, add_word};
 
-/// Whether a step is before the first moment. All are where there is none.
+/// Whether a step is before the first moment. All are if there is none.
 fn is_before(span: &Option<Span>, step: &Step) -> bool
     ensures { result ≡ is_before span.now step.now }
 {
@@ -55,7 +55,7 @@ fn after(span: &Option<Span>, steps: &[Step]) -> u64
     steps.iter().filter(|step| is_after(span, step)).count() as u64
 }
 
-/// Adds how many steps there are, and where they stand.
+/// Adds how many steps there are, and when they are.
 pub(crate) fn add_steps(
     text: &mut Vec<u8>,
     span: &Option<Span>,

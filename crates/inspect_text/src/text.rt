@@ -79,8 +79,8 @@ fn add_bytes(text: &mut Vec<u8>, bytes: &[u8]) -> Result<(), AllocError>
 /// Adds what a recording and a session hold, with hints at what looks as if it was not meant so.
 ///
 /// The counts are those of the recording's lines, none of which was refused, and of the events that these give; the
-/// steps are those of the session, and `keys` are the lines of its keys that nothing reads. After want of memory a part
-/// of the text may have been added.
+/// steps are those of the session, and `keys` are the lines of its keys that nothing reads. If memory runs out, a
+/// part of the text may have been added.
 pub fn inspect_text(
     text: &mut Vec<u8>,
     lines: &LineCounts,

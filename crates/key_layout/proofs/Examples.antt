@@ -18,7 +18,7 @@ pub two_keys : layout_of (codes "key 42 SHIFT_LEFT" ++ 13 ∷ 10 ∷ codes "key 
 unfolding layout_of line_said said key_said word behind_word number scan_of without_comment code_of_name key_table
 two_keys = refl
 
--- lines that are about no key
+-- lines that are not about keys
 pub passed_over : layout_of (codes "# axis" ++ 10 ∷ 10 ∷ codes "axis 0x00 X" ++ 10 ∷ codes "key usage" ++ 10 ∷ codes "led 0x00 NUM_LOCK") ≡ Ok []
 unfolding layout_of line_said said key_said word behind_word number scan_of without_comment code_of_name key_table
 passed_over = refl

@@ -7,7 +7,7 @@ use Rattle.std.specs.Str.{bytes_eq}
 abbrev pub is_name_byte : ℕ → Bool
 is_name_byte b = (nat_le 65 b && nat_le b 90) || ((nat_le 48 b && nat_le b 57) || b == 95)
 
--- a name has capital letters, digits and underscores alone
+-- a name consists of capital letters, digits and underscores
 abbrev pub is_name : List ℕ → Bool
 is_name bs = list_all is_name_byte bs
 
@@ -23,7 +23,7 @@ key_table =
     (codes "SHIFT_LEFT", 59) ∷ (codes "SHIFT_RIGHT", 60) ∷ (codes "TAB", 61) ∷ (codes "SPACE", 62) ∷ (codes "ENTER", 66) ∷ (codes "DEL", 67) ∷
     (codes "MENU", 82) ∷ (codes "ESCAPE", 111) ∷ (codes "CTRL_LEFT", 113) ∷ (codes "CTRL_RIGHT", 114) ∷ []
 
--- the code that stands beside a name; 0 where the name is not in the table
+-- the code beside a name; 0 if the name is not in the table
 abbrev pub code_in : List (List ℕ × ℕ) → List ℕ → ℕ
 code_in [] name = 0
 code_in (entry ∷ entries) name = if bytes_eq entry.0 name then entry.1 else code_in entries name

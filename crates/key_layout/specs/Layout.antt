@@ -15,28 +15,28 @@ use Rattle.text_lines.specs.Lines.{Line as TextLine, lines_of}
 abbrev pub Codes : Type 0
 Codes = List (ℕ × ℕ)
 
--- the key code that stands beside a scan code
+-- the key code beside a scan code
 abbrev pub found_at : Codes → ℕ → Option ℕ
 found_at codes scan = lookup (λ k. is_eq (nat_cmp scan k)) codes
 
--- the key code of a scan code; 0 where none stands there
+-- the key code of a scan code; 0 if there is none
 abbrev pub code_at : Codes → ℕ → ℕ
 code_at codes scan = unwrap_or (found_at codes scan) 0
 
--- the one, and then the other with what it gave, unless the one is refused
+-- the first step, then the second with its result, unless the first is refused
 infixl 10 ◌>>=◌
 abbrev pub ◌>>=◌ : {A B : Type 0} → Result A LayoutError → (A → Result B LayoutError) → Result B LayoutError
 (Ok x) >>= f = f x
 (Err e) >>= f = Err e
 
--- the keys so far and what line n says, or why it is refused
+-- the keys so far with what line n adds, or why it is refused
 abbrev pub with_line : Codes → ℕ → Line → Result Codes LayoutError
 with_line codes n PassedOver = Ok codes
 with_line codes n (Key scan code) = if is_some (found_at codes scan) then Err (errors.Twice n scan) else Ok (insert_entry nat_cmp codes scan code)
 with_line codes n BadLine = Err (errors.BadLine n)
 with_line codes n BadName = Err (errors.BadName n)
 
--- the number of the next line; a number that stands at the greatest of 64 bits stays there
+-- the number of the next line, saturated at the greatest of 64 bits
 abbrev pub next_number : ℕ → ℕ
 next_number n = min (n + 1) (2 ^ 64 - 1)
 
@@ -49,7 +49,7 @@ codes_behind codes n (line ∷ lines) = with_line codes n (line_said line) >>= �
 unfoldable pub layout_of : List ℕ → Result Codes LayoutError
 layout_of text = codes_behind [] 1 (lines_of text)
 
--- What a call answered, seen by view, is what the text says, unless memory ran out.
+-- The result of a call, seen through view, is what the text says, unless memory ran out.
 abbrev pub Answers : {X Y : Type 0} → (X → Y) → Result X LayoutError → Result Y LayoutError → Type 0
 Answers view (Ok x) told = told ≡ Ok (view x)
 Answers view (Err errors.Memory) told = Unit {0}

@@ -7,7 +7,7 @@ use Rattle.key_layout.specs.KeyNames.{is_name, code_of_name}
 use Rattle.text_lines.specs.Lines.{Line as TextLine}
 use Rattle.key_layout.specs.Text.{word, behind_word, scan_of, content, without_comment}
 
--- a line with this first word is about something other than keys
+-- a line with this first word is not about keys
 abbrev pub is_other : List ℕ → Bool
 is_other first = bytes_eq first (codes "axis") || (bytes_eq first (codes "led") || (bytes_eq first (codes "sensor") || bytes_eq first (codes "requires_kernel_config")))
 
@@ -16,7 +16,7 @@ abbrev pub key_of : Option ℕ → List ℕ → Line
 key_of None name = BadLine
 key_of (Some scan) name = if is_name name then Key scan (code_of_name name) else BadName
 
--- what stands behind the word `key`: `usage` and anything, or a scan code, a name and perhaps flags
+-- what follows the word `key`: `usage` and anything, or a scan code, a name and perhaps flags
 unfoldable pub key_said : List ℕ → Line
 key_said bs =
     if bytes_eq (word bs) (codes "usage") then PassedOver

@@ -7,16 +7,16 @@ use std::alloc::{AllocError, AllocFailed};
 /// Why a layout is refused: what is wrong with its first refused line. Lines are numbered from 1.
 #[derive(Clone, Copy, Debug, PartialEq, Eq)]
 pub enum LayoutError {
-    /// The line is none of a layout, or its scan code is no number from 0 to 65535.
+    /// The line does not belong in a layout, or its scan code is not a number from 0 to 65535.
     BadLine { line: u64 },
 
-    /// The name has something other than capital letters, digits and underscores.
+    /// The name contains something other than capital letters, digits and underscores.
     BadName { line: u64 },
 
     /// An earlier line has this scan code.
     Twice { line: u64, scan: u16 },
 
-    /// Want of memory.
+    /// Out of memory.
     Memory,
 }
 

@@ -1,7 +1,7 @@
-//! Key codes of Android by their names, as KeyEvent's `KEYCODE_HOME`. The code of a digit is 7 more than the digit, and
-//! the letters from A on have the codes from 29 on.
+//! Key codes of Android by their names, such as KeyEvent's `KEYCODE_HOME`. The code of a digit is 7 more than the
+//! digit, and the codes of the letters start at 29 for A.
 
-/// What is not known, or has no meaning here.
+/// An unknown key, or one without a meaning here.
 pub const UNKNOWN: u16 = 0;
 
 pub const HOME: u16 = 3;

@@ -10,7 +10,7 @@ fn is_name_byte(b: u8) -> bool
     (b'A' <= b && b <= b'Z') || ((b'0' <= b && b <= b'9') || b == b'_')
 }
 
-/// Whether a word has nothing but capital letters, digits and underscores.
+/// Whether a word contains only capital letters, digits and underscores.
 pub(crate) fn is_name(word: &[u8]) -> bool
     ensures { result ≡ is_name word.now }
 {
@@ -28,7 +28,7 @@ fn code_in(names: &[(&str, u16)], name: &[u8]) -> u16
     0
 }
 
-/// The code of a name; 0 where the table has no such name.
+/// The code of a name; 0 if the table does not contain it.
 #[tactic(auto, unfolding(crate::specs::KeyNames::code_of_name, crate::specs::KeyNames::key_table))]
 pub(crate) fn code_of_name(name: &[u8]) -> u16
     ensures { result ≡ code_of_name name.now }

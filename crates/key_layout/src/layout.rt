@@ -9,12 +9,12 @@ use std::collections::BTreeMap;
 use std::marker::Model;
 use text_lines::first_line;
 
-/// The key codes of a device's scan codes. A clause sees it as a list of pairs of a scan code and its key code, in
+/// The key codes of a device's scan codes. Contracts see it as a list of pairs of a scan code and its key code, in
 /// rising scan code.
 #[derive(Drop)]
 pub struct Layout {
     codes: BTreeMap<u16, u16>,
-    /// The key codes of the scan codes below 256, which most keys have.
+    /// The key codes of the scan codes below 256, where most keys are.
     low: [u16; 256],
 }
 
@@ -34,12 +34,12 @@ impl Layout {
 
     /// The layout of a text in the form of Android's `.kl` files, or the refusal of its first refused line.
     ///
-    /// Lines are numbered from 1 and end in a newline, with a carriage return before it taken away, or at the end of
-    /// the text. A `#` and all behind it is a comment. Words are separated by spaces and tabs. A line without words is
-    /// passed over, and so is one that begins with `axis`, `led`, `sensor`, `requires_kernel_config` or `key usage`. A
-    /// line `key SCAN NAME FLAGS..` gives the key code of the name to the scan code, a number from 0 to 65535 in
-    /// decimal digits or as `0x` and hexadecimal ones; flags are passed over. A name of capital letters, digits and
-    /// underscores that has no code here gives 0, and no later line may have its scan code. Any other line is refused.
+    /// Lines are numbered from 1 and end in a newline or at the end of the text; a carriage return before the newline
+    /// is removed. A `#` begins a comment. Words are separated by spaces and tabs. A line without words is skipped,
+    /// and so is one that begins with `axis`, `led`, `sensor`, `requires_kernel_config` or `key usage`. A line `key
+    /// SCAN NAME FLAGS..` gives the key code of the name to the scan code, a number from 0 to 65535 in decimal digits
+    /// or as `0x` and hexadecimal ones; flags are ignored. A name of capital letters, digits and underscores that has
+    /// no code here gives 0, and no later line may have its scan code. Any other line is refused.
     #[tactic(auto, unfolding(crate::specs::Layout::layout_of))]
     pub fn read(alloc: Global, text: &str) -> Result<Layout, LayoutError>
         ensures { Answers (λ l. l) result (layout_of text.now) }
@@ -57,7 +57,7 @@ impl Layout {
         Ok(Layout { codes, low })
     }
 
-    /// The key code of a scan code, and 0 where no line gives it one.
+    /// The key code of a scan code, or 0 if no line gives it one.
     pub fn code_of(&self, scan: u16) -> u16
         ensures { result ≡ code_at self.now scan }
     {
@@ -70,7 +70,7 @@ impl Layout {
 
 ghost use Rattle.key_layout.specs.Layout.{Answers, code_at, with_line};
 
-/// The key code that stands beside a scan code, and 0 where none does.
+/// The key code beside a scan code, or 0 if there is none.
 fn code_in(codes: &BTreeMap<u16, u16>, scan: u16) -> u16
     ensures { result ≡ code_at codes.now.entries scan }
 {
@@ -91,7 +91,7 @@ fn low_codes(codes: &BTreeMap<u16, u16>) -> [u16; 256]
     low
 }
 
-/// Adds what a line says; on a refusal the codes do not matter any more.
+/// Adds what a line says. After a refusal the codes no longer matter.
 fn add_line(codes: &mut BTreeMap<u16, u16>, number: u64, line: Line) -> Result<(), LayoutError>
     ensures { Answers (λ _. codes.new.entries) result (with_line codes.old.entries number line) }
 {
@@ -109,7 +109,7 @@ fn add_line(codes: &mut BTreeMap<u16, u16>, number: u64, line: Line) -> Result<(
 impl Clone for Layout {
     ghost is_clone = { λ l copy. copy ≡ l };
 
-    /// The same layout in memory of its own.
+    /// A copy of the layout in its own memory.
     fn clone(&self) -> Result<Layout, AllocError> {
         Ok(Layout {
             codes: self.codes.clone()?,

@@ -1,6 +1,6 @@
-//! Key layouts: which key code of Android a scan code of a device stands for.
+//! Key layouts: the Android key code of each scan code of a device.
 //!
-//! A layout is a text as Android ships it in its `.kl` files. The text
+//! A layout is a text in the form of Android's `.kl` files. The text
 //!
 //! ```text
 //! # a keyboard
@@ -9,8 +9,8 @@
 //! led 0x00  NUM_LOCK
 //! ```
 //!
-//! gives scan code 42 the key code 59 and scan code 30 the key code 29, and every other scan code 0. Flags behind a
-//! name and lines about lights, axes and sensors are passed over, since nothing here needs them.
+//! gives scan code 42 the key code 59 and scan code 30 the key code 29, and every other scan code 0. Flags after a
+//! name and lines about lights, axes and sensors are ignored, since nothing here needs them.
 #![tactic(auto)]
 
 mod error;

@@ -40,7 +40,7 @@ fn key_of(scan: Option<u16>, name: &[u8]) -> Line
     }
 }
 
-/// What stands behind the word `key`.
+/// What follows the word `key`.
 #[tactic(auto, unfolding(crate::specs::Line::key_said))]
 fn key_said(bytes: &[u8]) -> Line
     ensures { result ≡ key_said bytes.now }
@@ -70,7 +70,7 @@ fn said(bytes: &[u8]) -> Line
     }
 }
 
-/// What a line says that may have a comment, and which a newline ends or not.
+/// What a line says, with or without a comment and a final newline.
 #[tactic(auto, unfolding(crate::specs::Line::line_said))]
 pub(crate) fn line_said(text: &[u8], ended: bool) -> Line
     ensures { result ≡ line_said (text.now, ended) }

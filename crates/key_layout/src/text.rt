@@ -6,7 +6,7 @@ ghost use Rattle.key_layout.specs.Text.{behind_word, content, number, scan_of, w
 
 use text_lines::{skip_blanks, word_len};
 
-/// The first word and what stands behind it; the word is empty where there is none.
+/// The first word and the text after it; the word is empty if there is none.
 #[tactic(auto, unfolding(crate::specs::Text::word, crate::specs::Text::behind_word))]
 pub(crate) fn next_word(bytes: &[u8]) -> (&[u8], &[u8])
     ensures word { result.0.now ≡ word bytes.now }
@@ -16,7 +16,7 @@ pub(crate) fn next_word(bytes: &[u8]) -> (&[u8], &[u8])
     text.split_at(word_len(text))
 }
 
-/// The value of a digit in a base up to 36; 36 for a byte that is no digit.
+/// The value of a digit in a base up to 36; 36 for a byte that is not a digit.
 fn value_of(b: u8) -> u8
     ensures { result ≡ digit_value b }
 {
@@ -28,7 +28,7 @@ fn value_of(b: u8) -> u8
     }
 }
 
-/// The number of at most 16 bits that digits of a base write, one digit or more.
+/// The number of at most 16 bits written by one or more digits of a base.
 #[tactic(auto, unfolding(crate::specs::Text::number))]
 fn number(base: u8, digits: &[u8]) -> Option<u16>
     requires low { 1 < base }
@@ -52,7 +52,7 @@ fn number(base: u8, digits: &[u8]) -> Option<u16>
     Some(n as u16)
 }
 
-/// The number of 16 bits that a word writes in decimal digits, or as `0x` and hexadecimal ones.
+/// The 16-bit number that a word writes in decimal digits, or as `0x` and hexadecimal ones.
 #[tactic(auto, unfolding(crate::specs::Text::scan_of))]
 pub(crate) fn scan_of(word: &[u8]) -> Option<u16>
     ensures { result ≡ scan_of word.now }
@@ -80,7 +80,7 @@ pub(crate) fn content(text: &[u8], ended: bool) -> &[u8]
     if ended { without_return(text) } else { text }
 }
 
-/// How many bytes stand in front of the first `#`.
+/// The number of bytes before the first `#`.
 fn comment_at(line: &[u8]) -> usize
     ensures value { result ≡ prefix_len (λ b. not (b == 35)) line.now }
     ensures within { result ≤ length line.now }
@@ -95,7 +95,7 @@ fn comment_at(line: &[u8]) -> usize
     count
 }
 
-/// The bytes in front of the first `#`.
+/// The bytes before the first `#`.
 #[tactic(auto, unfolding(crate::specs::Text::without_comment))]
 pub(crate) fn without_comment(line: &[u8]) -> &[u8]
     ensures { result.now ≡ without_comment line.now }

@@ -16,7 +16,7 @@ delay_after repeat = if nat_eq repeat 0 then 500000 else 50000
 abbrev pub is_repeated : KeyMsg → Bool
 is_repeated m = m.key.down && nat_lt m.repeat 4294967295
 
--- when a repeat is due after the last key message; None where there was none, or it is not repeated
+-- when a repeat is due after the last key message; None if there was none or it is not repeated
 abbrev pub due_of : Option Sent → Option ℕ
 due_of None = None
 due_of (Some s) = if is_repeated s.key then Some (s.clock + delay_after s.key.repeat) else None

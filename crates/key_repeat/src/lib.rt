@@ -1,4 +1,4 @@
-//! When a key that is held is to be repeated.
+//! When a held key must be repeated.
 //!
 //! Volume up goes down at 1,000,000 microseconds and stays down:
 //!
@@ -8,8 +8,8 @@
 //! sent up, at 1560000                 nothing is due
 //! ```
 //!
-//! The first repeat comes half a second after the down, and each further one a twentieth of a second after the one
-//! before, as Android's `ViewConfiguration` has it by default.
+//! The first repeat comes half a second after the down, and each further one a twentieth of a second after the
+//! previous one: the defaults of Android's `ViewConfiguration`.
 #![tactic(auto)]
 
 mod repeat;

@@ -1,4 +1,4 @@
-//! The last key message, and when it is to be repeated.
+//! The last key message, and when to repeat it.
 ghost use Rattle.std.specs.Prelude.{◌≡◌, None, Some, option_map};
 ghost use Rattle.key_repeat.specs.Due.{Sent as SentView, delay_after, due_of, is_repeated, next_of};
 
@@ -11,7 +11,7 @@ pub const FIRST_DELAY_US: u64 = 500_000;
 /// From a repeat to the next, in microseconds.
 pub const DELAY_US: u64 = 50_000;
 
-/// A key message that a channel was sent, and the clock then.
+/// A key message sent to a channel, and the clock at that time.
 #[derive(Clone, Copy, Debug)]
 struct Sent {
     channel: u32,
@@ -19,8 +19,8 @@ struct Sent {
     clock: Moment,
 }
 
-/// When a key that is held is to be repeated. The last key message decides; its owner calls `stop` where the window
-/// that was sent no longer holds the key.
+/// When a held key must be repeated. The last key message decides. The owner of this value calls `stop` when the
+/// window that was sent the message no longer holds the key.
 #[derive(Clone, Copy, Debug)]
 pub struct Repeat {
     last: Option<Sent>,
@@ -57,14 +57,14 @@ fn repeats(key: &KeyMsg) -> bool
 }
 
 impl Repeat {
-    /// Nothing was sent yet.
+    /// Starts with no key message.
     pub fn new() -> Repeat
         ensures { result ≡ None }
     {
         Repeat { last: None }
     }
 
-    /// A channel was sent a key message at this clock.
+    /// Records that a channel was sent a key message at this clock.
     pub fn sent(&mut self, channel: u32, key: KeyMsg, clock: Moment)
         ensures { self.new ≡ Some (record { channel = channel; key = key; clock = clock }) }
     {
@@ -75,15 +75,15 @@ impl Repeat {
         });
     }
 
-    /// The key is not held any more.
+    /// Records that the key is no longer held.
     pub fn stop(&mut self)
         ensures { self.new ≡ None }
     {
         self.last = None;
     }
 
-    /// When the next repeat is due, in microseconds. None where no message came since `new` or the last `stop`, where
-    /// the last one was of an up, and where its repeat number is the greatest of 32 bits.
+    /// When the next repeat is due, in microseconds. None if no message came since `new` or the last `stop`, if the
+    /// last one was an up, or if its repeat number is the greatest of 32 bits.
     pub fn due(&self) -> Option<u64>
         ensures { result ≡ due_of self.now }
     {
@@ -95,8 +95,8 @@ impl Repeat {
         }
     }
 
-    /// The channel that the next repeat is for, and the repeat: the same down, its number one higher. None exactly
-    /// where none is due at any time.
+    /// The channel that the next repeat is for, and the repeat: the same down, its number one higher. None exactly if
+    /// no repeat is ever due.
     pub fn next(&self) -> Option<(u32, KeyMsg)>
         ensures { option_map (λ n. (n.0, n.1)) result ≡ next_of self.now }
     {

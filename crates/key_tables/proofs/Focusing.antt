@@ -87,7 +87,7 @@ focus_shown ds call answer es f masks e shown is =
       masks_are = shown;
     }
 
--- and where it is none of those that change the windows or the live channels, all are as before
+-- and a call that changes neither the windows nor the live channels leaves everything as before
 no_request : (call : Call) → leaves_focus call ≡ true → is_request call ≡ false
 no_request (FocusOn now display channel) e = absurd (true≢false (sym e))
 no_request _ e = refl
@@ -123,7 +123,7 @@ in_both a b c =
     spread true s t = refl
     spread false s t = refl
 
--- a channel that is in both of two masks, of which the first has channels that are so
+-- a channel that is in both of two masks, the first with channels that pass a test
 pub in_both_so : (named alive c : ℕ) (so : Bool) → mask_has named c ≡ (is_channel c && so) → mask_has (bit_and named alive) c ≡ (mask_has alive c && so)
 in_both_so named alive c so n =
     in_both named alive c ∙ turned (is_channel c) (bit_at named (c - 1) == 1) (bit_at alive (c - 1) == 1) so n

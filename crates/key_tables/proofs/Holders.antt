@@ -14,7 +14,7 @@ use Rattle.dispatch_history.specs.Keys.{goes_down, ends, loses_all, key_given, k
 use Rattle.dispatch_history.proofs.AbleLaws.{able_step}
 use Rattle.key_tables.specs.Laws.{KeysOfTarget}
 
--- nothing is given to a window that does not hear, and nothing is left of no keys
+-- nothing is given to a window that gets no keys, and nothing remains of no keys
 none_kept : (g : Option KeyArgs) (loses : Bool) (p : KeyArgs → Bool) (hears : Bool) (old : List KeyArgs) → hears ≡ false → old ≡ [] → key_given g hears (cond loses [] (filter p old)) ≡ []
 none_kept g loses p hears old f e = ap₂ (λ b ks. key_given g b (cond loses [] (filter p ks))) f e ∙ by_given g loses
   where
@@ -24,7 +24,7 @@ none_kept g loses p hears old f e = ap₂ (λ b ks. key_given g b (cond loses []
     by_given (Some k) true = refl
     by_given (Some k) false = refl
 
--- a window that was the key target and able, and is not any more, loses all
+-- a window that was the key target and able, and no longer is, loses all keys
 loses_then : (s t l n : Bool) → s ≡ true → (t && (l && not n)) ≡ false → (s && not t || n || not l) ≡ true
 loses_then true true true true e f = refl
 loses_then true true true false e f = absurd (true≢false f)
@@ -47,7 +47,7 @@ only_target ds ((call, answer) ∷ h) w n =
     es : List Effect
     es = effects ds h
 
-    -- the step is no pump: it gives nothing, and the window loses all
+    -- the step is not a pump: it gives nothing, and the window loses all keys
     left : (c : Call) → is_target (past_of es) w ≡ true → able es w ≡ true
         → (is_target ((c, answer) ∷ past_of es) w && able (effects ds ((c, answer) ∷ h)) w) ≡ false
         → cond (loses_all ((c, answer) ∷ past_of es) (past_of es) w) [] (filter (λ k. true) (keys es w)) ≡ []

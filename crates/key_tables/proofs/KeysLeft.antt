@@ -73,7 +73,7 @@ keep_new m (l ∷ ls) n =
     by_order true c s e f more = ap₂ (λ x y. keys_in (cond x (l ∷ keep m ls) (cond y (m ∷ ls) (m ∷ l ∷ ls)))) e f
     by_order false c s e f more = ap (λ x. keys_in (cond x (l ∷ keep m ls) (cond s (m ∷ ls) (m ∷ l ∷ ls)))) e ∙ ap (λ ks. l.key ∷ ks) more
 
--- a message of a key that is kept takes the place of its last one
+-- a message of a key that is kept replaces its last one
 keep_same : (m : KeyMsg) (held : List KeyMsg) → Rising (keys_in held) → held_key (keys_in held) m.key.device m.key.scan ≡ Some m.key → keys_in (keep m held) ≡ keys_in held
 keep_same m [] r e = absurd (cc e)
 keep_same m (l ∷ ls) r e = by_test (is_key m.key.device m.key.scan l.key) e (λ f. keep_same m ls r.1 f)
@@ -92,7 +92,7 @@ keep_same m (l ∷ ls) r e = by_test (is_key m.key.device m.key.scan l.key) e (�
         (above_found l.key (keys_in ls) m.key.device m.key.scan m.key r.0 e)
         ∙ ap (λ ks. l.key ∷ ks) (more e)
 
--- where none is the key, all are left
+-- if none is the key, all remain
 all_left : (p : KeyArgs → Bool) (ks : List KeyArgs) → list_any p ks ≡ false → filter (λ k. not (p k)) ks ≡ ks
 all_left p [] e = refl
 all_left p (k ∷ ks) e =
@@ -179,7 +179,7 @@ leaves_idle hears held r e =
     ap (λ ks. keys_in (tracked (map key_cancelled ks ++ r) held)) (filter_none (λ k. false) (λ k. refl) (keys_in held))
     ∙ e ∙ sym (filter_all (λ k. true) (λ k. refl) (keys_in held))
 
--- what a repeat that is due is of: a key that is held
+-- a repeat that is due is of a held key
 abbrev pub RepeatHeld : List KeyArgs → Option Sent → ℕ → Type 0
 RepeatHeld old last w =
     (m : Sent) → last ≡ Some m → (w == m.channel) ≡ true → (m.key.key.down ≡ true) × (held_key old m.key.key.device m.key.key.scan ≡ Some m.key.key)

@@ -39,7 +39,7 @@ sent_twice : (now w : ℕ) (ms : List KeyMsg) (o : Option Sent) → sent_in now 
 sent_twice now w [] o = refl
 sent_twice now w (m ∷ ms) o = refl
 
--- where at most one channel is told of keys, the last message is that of this one
+-- if at most one channel is sent key messages, the last message is that channel's
 in_all : (now : ℕ) (f : ℕ → List Body) (t : ℕ) → ((w : ℕ) → (w == t) ≡ false → key_bodies (f w) ≡ []) → (ws : List ℕ) (o : Option Sent)
     → key_in now (flat_map (send f) ws) o ≡ cond (list_any (λ w. w == t) ws) (sent_in now t (key_bodies (f t)) o) o
 in_all now f t quiet [] o = refl
@@ -86,7 +86,7 @@ in_channels t (suc n) one le =
     below : suc n ≢ t → t ≤ n
     below ne = omega (arith, le, ne)
 
--- the last key message after a step that tells of keys nobody but one channel
+-- the last key message after a step that sends key messages to one channel only
 pub last_next : (ds : List ℕ) (call : Call) (answer : Reply) (es : List Effect) (t : ℕ) → Lawful ds (step ds call answer es)
     → ((w : ℕ) → (w == t) ≡ false → key_messages call answer es w ≡ [])
     → last_key (step ds call answer es)

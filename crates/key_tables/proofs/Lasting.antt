@@ -1,4 +1,4 @@
--- The messages that are kept of keys are the last ones of them.
+-- The messages kept of keys are their last ones.
 use Rattle.std.proofs.Common.{◌≡◌, ℕ, ◌+◌, ◌==◌, ◌&&◌, ◌||◌, nat_lt, Bool, true, false, not, cond, length, List, [], ◌∷◌, Option, Some, refl, sym, ap, ap₂, ◌∙◌, subst, subst₂, inl, inr, arith}
 use Rattle.std.proofs.lemmas.Bool.{cases_Bool, both_ways, and_parts, eq-eqb, eqb-true, le-ltb}
 use Rattle.input_types.specs.declared.key.KeyArgs.{KeyArgs}
@@ -23,7 +23,7 @@ use Rattle.key_tables.proofs.Saying.{key_bodies, said_keys}
 use Rattle.key_tables.proofs.KeysLeft.{keys_in, filter_keys}
 use Rattle.key_tables.proofs.Tracking.{keys_stepped, dead_keys}
 
--- what is known of the last message of each key, after one message more, and after some
+-- what is known about the last message of each key, after one more message, and after some
 abbrev Last : Type 0
 Last = ℕ → ℕ → Option KeyMsg
 
@@ -66,7 +66,7 @@ own m x =
 other : (m : KeyMsg) (x : Last) (l : KeyMsg) → is_key l.key.device l.key.scan m.key ≡ false → x l.key.device l.key.scan ≡ Some l → with_message m x l.key.device l.key.scan ≡ Some l
 other m x l n e = ap (λ b. cond b (Some m) (x l.key.device l.key.scan)) n ∙ e
 
--- a message changes nothing of the keys above it
+-- a message does not change the keys above it
 lasts_above : (m : KeyMsg) (x : Last) (ls : List KeyMsg) → Above m.key (keys_in ls) → Lasts x ls → Lasts (with_message m x) ls
 lasts_above m x [] a h = tt
 lasts_above m x (l ∷ ls) a h = (other m x l (turned_key m.key l.key (differs m.key l.key a.0)) h.0, lasts_above m x ls a.1 h.1)

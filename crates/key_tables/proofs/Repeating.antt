@@ -31,7 +31,7 @@ use Rattle.key_tables.proofs.LastSent.{sent_in, last_next}
 own_key : (k : KeyArgs) → same_key k k ≡ true
 own_key k = ap₂ (λ a b. a && b) (eq-eqb k.device k.device refl) (eq-eqb k.scan k.scan refl)
 
--- a message that is kept stands among those that are kept, and one that ends its key leaves none of it
+-- a message that is kept is among those kept, and one that ends its key leaves none of it
 kept_any : (m : KeyMsg) (held : List KeyMsg) → list_any (same_key m.key) (keys_in (keep m held)) ≡ true
 kept_any m [] = ap (λ b. b || false) (own_key m.key)
 kept_any m (l ∷ ls) = by_order (is_before l.key m.key) (same_key l.key m.key) (kept_any m ls)
@@ -62,7 +62,7 @@ after_any m held = by_down m.key.down
     by_down true = kept_any m held
     by_down false = forgotten_any m held
 
--- of some messages the last one decides
+-- the last one of some messages decides
 last_decides : (es : List Effect) (now t : ℕ) (m : KeyMsg) (ms : List KeyMsg) (held : List KeyMsg) (o last : Option Sent)
     → keys es t ≡ keys_in (tracked (m ∷ ms) held) → while_held es (sent_in now t (m ∷ ms) o) ≡ repeat_after now t (m ∷ ms) last
 last_decides es now t m [] held o last e =
@@ -77,7 +77,7 @@ as_kept : (ks : List KeyArgs) → keys_in (map key_as_is ks) ≡ ks
 as_kept [] = refl
 as_kept (k ∷ ks) = ap (λ ls. k ∷ ls) (as_kept ks)
 
--- the keys of a window after a step that tells it these messages
+-- the keys of a window after a step that sends it these messages
 keys_then : (ds : List ℕ) (call : Call) (answer : Reply) (es : List Effect) (w : ℕ) (ms : List KeyMsg) → Lawful ds (step ds call answer es)
     → live ((call, answer) ∷ past_of es) w ≡ true → key_messages call answer es w ≡ ms
     → keys (step ds call answer es) w ≡ keys_in (tracked ms (map key_as_is (keys es w)))
@@ -97,11 +97,11 @@ not_target_next ds call answer es w l n =
       ],
     )
 
--- nothing is kept of a message whose window holds no key
+-- no message is kept whose window holds no key
 none_held : (es : List Effect) (s : Sent) → keys es s.channel ≡ [] → while_held es (Some s) ≡ None
 none_held es s e = ap (λ ks. cond (list_any (same_key s.key.key) ks) (Some s) None) e
 
--- Where a step tells nobody of keys, what was kept stays, unless the key target is not live any more.
+-- If a step sends no key messages, what was kept stays, unless the key target is no longer live.
 unsaid : (ds : List ℕ) (call : Call) (answer : Reply) (es : List Effect) (t : ℕ) (last : Option Sent) → Lawful ds (step ds call answer es)
     → ((w : ℕ) → is_target (past_of es) w ≡ true → (w == t) ≡ true) → cond (live ((call, answer) ∷ past_of es) t) (key_messages call answer es t) [] ≡ []
     → RepeatIs es last

@@ -27,7 +27,7 @@ three a b =
       | inr ge ↦ elim (cases_eq a b) [ inl e ↦ inr (inl e) | inr ne ↦ inr (inr (omega (arith, ge, ne))) ]
     ]
 
--- of two keys that are not the same one comes first
+-- one of two different keys comes first
 pub other_way : (k l : KeyArgs) → is_key k.device k.scan l ≡ false → is_before l k ≡ not (is_before k l)
 other_way k l n = turned k.device l.device k.scan l.scan n
   where
@@ -79,7 +79,7 @@ pub above_all : (k l : KeyArgs) (ks : List KeyArgs) → is_before k l ≡ true �
 above_all k l [] e a = tt
 above_all k l (m ∷ ms) e a = (before_all k l m e a.0, above_all k l ms e a.1)
 
--- a key that is found among those above another is above it
+-- a key found among those above another is above it
 pub above_found : (k : KeyArgs) (ks : List KeyArgs) (d s : ℕ) (j : KeyArgs) → Above k ks → held_key ks d s ≡ Some j → is_before k j ≡ true
 above_found k [] d s j a e = absurd (cc e)
 above_found k (l ∷ ls) d s j a e = by_test (is_key d s l) e (λ f. above_found k ls d s j a.1 f)
@@ -146,7 +146,7 @@ rising_step o hears loses old new r = by_given (goes_down o) refl hears (left lo
     by_given (Some k) e false h = h
     by_given (Some k) e true h = rising_with k (cond loses [] (filter (λ l. not (ends o l)) old)) (none_left loses k.device k.scan (new k e)) h
 
--- a key that goes down at a step of a legal history is held by nobody before it
+-- no window holds a key before the step of a legal history at which it goes down
 pub new_key : (ds : List ℕ) (call : Call) (answer : Reply) (h : History) (w : ℕ) → Legal ds ((call, answer) ∷ h)
     → NewKey (args_of call answer (inbound (past_of (effects ds h)))) (keys (effects ds h) w)
 new_key ds call answer h w l k e =

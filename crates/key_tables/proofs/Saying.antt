@@ -1,4 +1,4 @@
--- The key messages that a step says to a channel.
+-- The key messages that a step sends to a channel.
 use Rattle.std.proofs.Common.{◌≡◌, ℕ, Bool, true, false, cond, List, [], ◌∷◌, ◌++◌, map, flat_map, refl, sym, ap, ap₂, ◌∙◌, inl, inr, append-nil}
 use Rattle.std.proofs.lemmas.Bool.{cases_Bool}
 use Rattle.input_types.specs.declared.axis.Pixel.{Pixel}
@@ -55,7 +55,7 @@ parts o ms ks a b =
     (parts_append (map (λ m. MotionBody (motion_from o m)) ms) (map KeyBody ks) ∙ ap₂ (λ xs ys. xs ++ ys) (no_motions o ms) (all_keys ks)) (no_focus a b)
     ∙ append-nil ks
 
--- the key messages that a step says to a channel
+-- the key messages that a step sends to a channel
 pub said_keys : (ds : List ℕ) (call : Call) (answer : Reply) (es : List Effect) (w : ℕ)
     → key_bodies (said_at ds call answer es w) ≡ cond (live ((call, answer) ∷ past_of es) w) (key_messages call answer es w) []
 said_keys ds call answer es w =

@@ -1,4 +1,4 @@
--- Who is told of keys at a step, and what.
+-- Which window is sent key messages at a step, and which messages.
 use Rattle.std.proofs.Common.{◌≡◌, ℕ, ◌==◌, ◌&&◌, ◌||◌, ◌⊎◌, max, Bool, true, false, not, cond, List, [], ◌∷◌, ◌++◌, map, filter, option_map, Option, Some, None, refl, sym, ap, ap₂, ◌∙◌, subst, inl, inr, append-nil}
 use Rattle.std.specs.List.{list_any}
 use Rattle.std.proofs.lemmas.Bool.{cases_Bool, true≢false, both_ways, eqb-true, eq-eqb}
@@ -41,7 +41,7 @@ holder_is_target ds es k w l any =
       | inr n ↦ absurd (true≢false (sym (sym (ap (list_any (same_key k)) (keys_of_target ds es w l (ap (λ b. b && able es w) n))) ∙ any)))
     ]
 
--- a window that holds no keys and hears none is told of none
+-- a window that holds no keys and gets none is sent none
 sent_none : (o : Option Args) (loses : Bool) → keys_sent o false loses [] ≡ []
 sent_none None true = refl
 sent_none None false = refl
@@ -103,7 +103,7 @@ keys_quiet ds call answer es w l n = by_call call (lawful_last ds call answer es
     by_call (Pilfer now c e) p = still (Pilfer now c e) p.1
     by_call (Remove now c) p = still (Remove now c) p.1
 
--- Of what is kept: all keys are cancelled, or none.
+-- Either all kept keys are cancelled, or none.
 all_sent : (loses : Bool) (held : List KeyMsg) → map key_cancelled (cond loses (keys_in held) (filter (λ k. false) (keys_in held))) ++ [] ≡ cond loses (keys_cancelled held) []
 all_sent true held = append-nil (map key_cancelled (keys_in held)) ∙ cancels_of held
 all_sent false held = ap (λ ks. map key_cancelled ks ++ []) (filter_none (λ k. false) (λ k. refl) (keys_in held))
@@ -118,7 +118,7 @@ one_test true false a m = refl
 one_test false h true m = refl
 one_test false h false m = refl
 
--- what a dispatch tells the key target
+-- what a dispatch sends to the key target
 dispatched_sent : (now w : ℕ) (a : Args) (hears stays : Bool) (held : List KeyMsg) (last : Option Sent)
     → keys_sent (Some a) hears false (keys_in held) ++ [] ≡ target_sent (Pump now) Dispatched (Some a) w hears stays held last
 dispatched_sent now w (MotionArgs m) hears stays held last = all_sent false held
@@ -173,7 +173,7 @@ pub one_target : (o : Option ℕ) (v w : ℕ) → is_at o v ≡ true → is_at o
 one_target None v w e f = absurd (true≢false (sym e))
 one_target (Some c) v w e f = eqb-true v c e ∙ sym (eqb-true w c f)
 
--- a repeat that is due is made of what is kept
+-- a repeat that is due is made from what is kept
 repeat_is_next : (ds : List ℕ) (es : List Effect) (now w at : ℕ) (last : Option Sent) → Lawful ds es → is_target (past_of es) w ≡ true → RepeatIs es last
     → is_due (repeat_due es) at ≡ true → repeat_sent (Pump now) Repeated (last_key es) w ≡ one_sent (option_map (λ n. n.1) (next_of last))
 repeat_is_next ds es now w at last l t r y = by_last (last_key es) refl
@@ -187,7 +187,7 @@ repeat_is_next ds es now w at last l t r y = by_last (last_key es) refl
         ap (λ b. cond b (repeated m.key ∷ []) []) own
         ∙ sym (ap (λ o. one_sent (option_map (λ n. n.1) (next_of o))) kept ∙ ap (λ b. one_sent (option_map (λ (n : ℕ × KeyMsg). n.1) (cond b (Some (m.channel, repeated m.key)) None))) x.1)
 
--- the key target loses all where it is not the target any more, and where it is named
+-- the key target loses all keys if it is no longer the target, or is reported
 moved_only : (s t l : Bool) → s ≡ true → l ≡ true → (s && not t || false || not l) ≡ not t
 moved_only true true true e f = refl
 moved_only true false true e f = refl
@@ -207,7 +207,7 @@ other_choice false xs = refl
 pub target_sent_law : TargetSent
 target_sent_law ds call answer es w held last l t n k r = by_call call n (lawful_last ds call answer es l)
   where
-    -- all keys are cancelled where the window loses them
+    -- all keys are cancelled if the window loses them
     lost : (loses b : Bool) → loses ≡ b → keys_sent None (is_target (past_of es) w && able es w) loses (keys es w) ++ [] ≡ cond b (keys_cancelled held) []
     lost loses b e = ap₂ (λ c ks. map key_cancelled (cond c ks (filter (λ k. false) ks)) ++ []) e (sym k.keys_are) ∙ all_sent b held
 

@@ -152,7 +152,7 @@ keys_stepped ds call answer es w held l n are =
     → keys_in (tracked (key_messages call answer xs w) held) ≡ keys (step ds call answer xs) w)
     (lawful_last ds call answer es l).1.whole (λ m k. keys_next ds call answer (past_of es) w held l.legal m k) n are
 
--- bodies that are no keys
+-- bodies other than keys
 bodies_append : (xs ys : List Body) (held : List KeyMsg) → bodies_tracked (xs ++ ys) held ≡ bodies_tracked ys (bodies_tracked xs held)
 bodies_append [] ys held = refl
 bodies_append (KeyBody m ∷ xs) ys held = bodies_append xs ys (keys_after m held)

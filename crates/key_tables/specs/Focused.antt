@@ -10,12 +10,12 @@ use Rattle.dispatch_history.specs.History.{History}
 use Rattle.dispatch_history.specs.Focus.{requested, asked, may_focus}
 use Rattle.dispatch_history.specs.Effect.{Effect, past_of}
 
--- the masks of the displays 0 to 3 have the channels that may have the focus of each after a history
+-- the masks of the displays 0 to 3 contain the channels that may have the focus of each after a history
 abbrev pub MasksAre : List ℕ → History → Type 0
 MasksAre masks h = (y c : ℕ) → y < 4 → may_by masks y c ≡ may_focus h y c
 
--- what is kept is the focus after a history with these effects: for each of four displays the channel that was requested
--- last, the display that was asked for last, and the channels that may have the focus of each
+-- what is kept is the focus after a history with these effects: for each of four displays the channel last requested,
+-- the display of the last request, and the channels that may have the focus of each
 pub record FocusIs (es : List Effect) (f : FocusState) : Type 0 where
   pub four : length f.requested ≡ 4
   pub requested_are : (y : ℕ) → y < 4 → slice_index_or f.requested y None ≡ requested (past_of es) y
@@ -28,7 +28,8 @@ abbrev pub is_request : Call → Bool
 is_request (FocusOn now display channel) = true
 is_request call = false
 
--- the call leaves the focus as it is: it requests none, shows no windows, and neither opens nor removes a channel
+-- the call leaves the focus as it is: it is neither a focus request nor a snapshot, and neither opens nor removes a
+-- channel
 abbrev pub leaves_focus : Call → Bool
 leaves_focus (Notify now args) = true
 leaves_focus (Pump now) = true
@@ -38,8 +39,8 @@ leaves_focus (Finish now channel seq) = true
 leaves_focus (Pilfer now channel device) = true
 leaves_focus call = false
 
--- whether a channel is told that it lost the focus or that it has it now, by the masks of the channels that lost it and
--- of those that gained it
+-- whether a channel is sent that it lost the focus or that it has it now, by the masks of the channels that lost it
+-- and of those that gained it
 abbrev pub change_of : (lost gained : ℕ) → ℕ → Option Bool
 change_of lost gained w = if mask_has lost w then Some false else if mask_has gained w then Some true else None
 

@@ -1,4 +1,4 @@
--- What is kept of the keys of a window, and what it is told of keys.
+-- What is kept of the keys of a window, and which key messages it is sent.
 use Rattle.std.specs.Prelude.{◌≡◌, ℕ, Bool, true, List, [], ◌∷◌, ◌++◌, ◌&&◌, map, Option, Some, None, option_map, if◌then◌else◌}
 use Rattle.std.specs.List.{list_any}
 use Rattle.input_types.specs.declared.key.KeyArgs.{KeyArgs}
@@ -48,7 +48,7 @@ abbrev pub bodies_tracked : List Body → List KeyMsg → List KeyMsg
 bodies_tracked [] held = held
 bodies_tracked (b ∷ bs) held = bodies_tracked bs (keys_then b held)
 
--- the key messages that the step with this call and reply says to a channel that is live after it
+-- the key messages that the step with this call and reply sends to a channel that is live after it
 abbrev pub key_messages : Call → Reply → List Effect → ℕ → List KeyMsg
 key_messages call answer before w =
     let after = (call, answer) ∷ past_of before in
@@ -56,19 +56,19 @@ key_messages call answer before w =
     keys_sent args (is_target (past_of before) w && able before w) (loses_all after (past_of before) w) (keys before w)
     ++ repeat_by after (last_key before) w
 
--- a key that is dispatched is sent as it is: a down where the window hears it, an up where it holds the key
+-- a dispatched key is sent as it is: a down if the window gets keys, an up if it holds the key
 abbrev pub key_heard : KeyArgs → (hears : Bool) → List KeyMsg → Option KeyMsg
 key_heard k hears held =
     if (if k.down then hears else list_any (λ m. same_key k m.key) held) then Some (key_as_is k) else None
 
--- a message that may be made, for whichever channel
+-- an optional message, for any channel
 abbrev pub one_sent : Option KeyMsg → List KeyMsg
 one_sent None = []
 one_sent (Some m) = m ∷ []
 
--- What the key target is told of keys, with what is kept of its keys and of the last key message. It hears keys where it
--- is able. Its keys of a device are cancelled by a reset of that, and all of them where a tick names it and where it is
--- not the key target any more.
+-- What the key target is sent for keys, from what is kept of its keys and of the last key message. It gets keys if it
+-- is able. A reset of a device cancels its keys of that device. All its keys are cancelled if a tick reports it, or
+-- if it is no longer the key target.
 abbrev pub target_sent : Call → Reply → Option Args → ℕ → (hears stays : Bool) → List KeyMsg → Option Sent → List KeyMsg
 target_sent (Pump now) Dispatched (Some (KeyOfDevice k)) w hears stays held last = one_sent (key_heard k hears held)
 target_sent (Pump now) Dispatched (Some (Reset d)) w hears stays held last = keys_cancelled (of_device d held)

@@ -1,4 +1,5 @@
--- What is proved of what is kept of the focus, of keys and of repeats. Each law is the clause of a function of its own.
+-- Proved facts about what is kept of the focus, of keys and of repeats. Each law is the clause of a function of its
+-- own.
 use Rattle.std.specs.Prelude.{◌≡◌, ◌<◌, ℕ, true, false, List, [], ◌++◌, map, Option, Some, None, Bool, ◌&&◌, replicate, slice_set}
 use Rattle.window_snapshot.specs.Mask.{mask_has}
 use Rattle.window_snapshot.specs.Named.{is_focusable_on}
@@ -38,7 +39,7 @@ FocusRead =
     × ((w : ℕ) → is_focused (focus_of f) w ≡ has_focus (past_of es) w)
     × (target_of f ≡ key_target (past_of es))
 
--- A request sets the channel that is requested for its display, which is asked for last then.
+-- A request sets the channel requested for its display, which becomes the display of the last request.
 abbrev pub FocusRequested : Type 0
 FocusRequested =
     (displays : List ℕ) (now display : ℕ) (channel : Option ℕ) (answer : Reply) (es : List Effect) (f : FocusState)
@@ -56,7 +57,7 @@ FocusShown =
     → FocusIs es f
     → FocusIs (step displays call answer es) (record { requested = f.requested; last = f.last; focusable = masks })
 
--- A step that shows no windows, and opens or removes no channel, leaves them as they are, too.
+-- A step that is no snapshot, and neither opens nor removes a channel, leaves these as they are, too.
 abbrev pub FocusLeft : Type 0
 FocusLeft =
     (displays : List ℕ) (call : Call) (answer : Reply) (es : List Effect) (f : FocusState)
@@ -64,7 +65,7 @@ FocusLeft =
     → FocusIs es f
     → FocusIs (step displays call answer es) f
 
--- The masks of the channels that may have the focus are made of the windows and of the live channels.
+-- The masks of the channels that may have the focus follow from the windows and the live channels.
 abbrev pub FocusMasks : Type 0
 FocusMasks =
     (h : History) (masks : List ℕ) (alive : ℕ)
@@ -76,7 +77,7 @@ FocusMasks =
 abbrev pub FocusAtFirst : Type 0
 FocusAtFirst = FocusIs [] (record { requested = replicate 4 None; last = 0; focusable = replicate 4 0 })
 
--- The masks of a change of the focus say what each channel is told of it.
+-- The masks of a focus change say what each channel is sent about it.
 abbrev pub FocusSent : Type 0
 FocusSent =
     (es fs : List Effect) (f g : FocusState) (lost gained w : ℕ)
@@ -92,22 +93,22 @@ KeysOfTarget =
     (displays : List ℕ) (es : List Effect) (w : ℕ)
     → Lawful displays es → (is_target (past_of es) w && able es w) ≡ false → keys es w ≡ []
 
--- The keys that a window holds stand in rising order, each once.
+-- The keys that a window holds are in rising order, each once.
 abbrev pub KeysRise : Type 0
 KeysRise = (displays : List ℕ) (es : List Effect) (w : ℕ) → Lawful displays es → Rising (keys es w)
 
--- A channel that is not live holds no key: nothing is to be kept of one that is opened.
+-- A channel that is not live holds no key, so a newly opened channel has no keys.
 abbrev pub KeysAtFirst : Type 0
 KeysAtFirst =
     (displays : List ℕ) (es : List Effect) (w : ℕ) → Lawful displays es → live (past_of es) w ≡ false → KeysAre es w []
 
--- Of what a window is sent only the key messages change what is kept of its keys.
+-- Only the key messages among what a window is sent change what is kept of its keys.
 abbrev pub BodiesTracked : Type 0
 BodiesTracked =
     (ms : List Motion) (ks : List KeyMsg) (a b : Bool) (held : List KeyMsg)
     → bodies_tracked (map MotionBody ms ++ map Key ks ++ focus_sent a b) held ≡ tracked ks held
 
--- Where the key messages that a step tells are tracked, the keys of a channel that is live after it are kept.
+-- Once the key messages that a step sends are tracked, the keys of a channel that is live after it are kept.
 abbrev pub KeysStep : Type 0
 KeysStep =
     (displays : List ℕ) (call : Call) (answer : Reply) (es : List Effect) (w : ℕ) (held : List KeyMsg)
@@ -116,8 +117,7 @@ KeysStep =
     → KeysAre es w held
     → KeysAre (step displays call answer es) w (tracked (key_messages call answer es w) held)
 
--- What a step says to a channel that is live after it are motions, then these key messages, and then a change of its
--- focus.
+-- A step sends to a channel that is live after it motions, then these key messages, and then a change of its focus.
 abbrev pub SaidParts : Type 0
 SaidParts =
     (displays : List ℕ) (call : Call) (answer : Reply) (es : List Effect) (w : ℕ)
@@ -129,7 +129,7 @@ SaidParts =
     ++ map Key (key_messages call answer es w)
     ++ focus_sent (has_focus (past_of es) w) (has_focus (past_of (step displays call answer es)) w)
 
--- A step tells nobody of keys but the key target before it.
+-- A step sends key messages only to the key target before it.
 abbrev pub KeysQuiet : Type 0
 KeysQuiet =
     (displays : List ℕ) (call : Call) (answer : Reply) (es : List Effect) (w : ℕ)
@@ -137,7 +137,7 @@ KeysQuiet =
     → is_target (past_of es) w ≡ false
     → key_messages call answer es w ≡ []
 
--- What it tells that one is found from what is kept.
+-- What it sends to the key target follows from what is kept.
 abbrev pub TargetSent : Type 0
 TargetSent =
     (displays : List ℕ) (call : Call) (answer : Reply) (es : List Effect)
@@ -151,7 +151,7 @@ TargetSent =
     ≡ target_sent call answer (args_of call answer (inbound (past_of es))) w (able es w)
     (is_target (past_of (step displays call answer es)) w) held last
 
--- What is kept of the last key message says when a repeat is due, and is of the key target.
+-- What is kept of the last key message says when a repeat is due, and belongs to the key target.
 abbrev pub RepeatRead : Type 0
 RepeatRead =
     (displays : List ℕ) (es : List Effect) (last : Option Sent)
@@ -159,7 +159,7 @@ RepeatRead =
     → RepeatIs es last
     → (due_of last ≡ repeat_due es) × ((s : Sent) → last ≡ Some s → is_target (past_of es) s.channel ≡ true)
 
--- The key messages that the key target is sent leave the last one kept.
+-- After the key messages that the key target is sent, the last one is kept.
 abbrev pub RepeatStep : Type 0
 RepeatStep =
     (displays : List ℕ) (call : Call) (answer : Reply) (es : List Effect) (t : ℕ) (last : Option Sent)
@@ -170,7 +170,7 @@ RepeatStep =
     (repeat_next (live (past_of (step displays call answer es)) t) (clock (past_of (step displays call answer es))) t
     (key_messages call answer es t) last)
 
--- Where there is no key target, a step changes nothing of it.
+-- If there is no key target, a step does not change it.
 abbrev pub RepeatLeft : Type 0
 RepeatLeft =
     (displays : List ℕ) (call : Call) (answer : Reply) (es : List Effect) (last : Option Sent)

@@ -16,7 +16,7 @@ repeat_after now t [] last = last
 repeat_after now t (m ∷ ms) last =
     repeat_after now t ms (if m.key.down then Some (record { channel = t; key = m; clock = now }) else None)
 
--- what is kept after a step that told the key target these key messages: nothing where that is not live any more
+-- what is kept after a step that sent the key target these key messages: nothing if it is no longer live
 abbrev pub repeat_next : (live : Bool) → (now target : ℕ) → List KeyMsg → Option Sent → Option Sent
 repeat_next false now t ms last = None
 repeat_next true now t ms last = repeat_after now t ms last

@@ -1,4 +1,4 @@
-//! Who may have the focus, and what a channel is told of it.
+//! Which channels may have the focus, and what a channel is sent about it.
 ghost use Rattle.std.specs.Prelude.{◌≡◌, ℕ, ◌<◌, ◌≤◌, ◌&&◌};
 ghost use Rattle.window_snapshot.specs.Mask.{mask_has};
 ghost use Rattle.window_snapshot.specs.Named.{is_focusable_on};
@@ -9,8 +9,7 @@ use focus_resolver::Focusable;
 use input_types::DisplayId;
 use window_snapshot::{Snapshot, mask_has};
 
-/// The channels that may have the focus of each display: those of a mask that the windows name there with one that may
-/// have it.
+/// The channels that may have the focus of each display: those of a mask with a window there that may have it.
 pub fn focusable(windows: &Snapshot, live: u64) -> Focusable
     ensures { (y c : ℕ) → y < 4 → may_by result.masks y c ≡ (mask_has live c && is_focusable_on windows.now y c) }
 {
@@ -24,8 +23,8 @@ pub fn focusable(windows: &Snapshot, live: u64) -> Focusable
     }
 }
 
-/// What a channel is told of a change of the focus, by the masks of the channels that lost it and of those that gained
-/// it: that it lost it, that it has it now, or nothing.
+/// What a channel is sent about a focus change, by the masks of the channels that lost it and of those that gained
+/// it: that it lost the focus, that it has it now, or nothing.
 pub fn focus_change(lost: u64, gained: u64, channel: u32) -> Option<bool>
     ensures { result ≡ change_of lost gained channel }
 {

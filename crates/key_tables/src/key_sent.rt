@@ -1,4 +1,4 @@
-//! What the key target is told of a key that is dispatched, and what is kept for its repeats.
+//! What the key target is sent for a dispatched key, and what is kept for its repeats.
 ghost use Rattle.std.specs.Prelude.{◌≡◌};
 ghost use Rattle.std.specs.List.{list_any};
 ghost use Rattle.dispatch_history.specs.Keys.{same_key};
@@ -8,7 +8,7 @@ ghost use Rattle.key_tables.specs.Repeats.{repeat_after};
 use input_types::{KeyArgs, KeyMsg, Moment};
 use key_repeat::Repeat;
 
-/// What a window is told of a key that is dispatched: a down, where it hears keys, and an up of a key that it holds.
+/// What a window is sent for a dispatched key: a down, if it gets keys, and an up of a key that it holds.
 pub fn key_heard(key: &KeyArgs, hears: bool, held: &[KeyMsg]) -> Option<KeyMsg>
     ensures { result ≡ key_heard key.now hears held.now }
 {
@@ -24,7 +24,7 @@ pub fn key_heard(key: &KeyArgs, hears: bool, held: &[KeyMsg]) -> Option<KeyMsg>
     }
 }
 
-/// The key target was sent these key messages, at this clock after the step.
+/// Records that the key target was sent these key messages, at this clock after the step.
 pub fn remember(repeat: &mut Repeat, channel: u32, outgoing: &[KeyMsg], clock: Moment)
     ensures { repeat.new ≡ repeat_after clock channel outgoing.now repeat.old }
 {

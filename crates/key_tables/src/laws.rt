@@ -1,8 +1,8 @@
-//! What is proved of what is kept. Each function has the laws as its clauses, and does nothing.
+//! Proved facts about what is kept. Each function has the laws as its clauses, and does nothing.
 ghost use Rattle.key_tables.specs.Laws.{FocusRead, FocusRequested, FocusShown, FocusLeft, FocusMasks, FocusAtFirst, FocusSent, KeysOfTarget, KeysRise, KeysAtFirst, BodiesTracked, KeysStep, SaidParts, KeysQuiet, TargetSent, RepeatRead, RepeatStep, RepeatLeft};
 
-/// What is kept of the focus says who has it and where keys go, changes as each call says, and tells each channel what
-/// it has to know.
+/// What is kept of the focus says which window has it and where keys go, changes as each call says, and determines
+/// what each channel is sent about it.
 pub fn focus()
     ensures read { FocusRead }
     ensures requested { FocusRequested }
@@ -22,14 +22,14 @@ pub fn keys()
     ensures step { KeysStep }
 {}
 
-/// What a step tells of keys: nobody is sent but the key target, and that is told what is found from what is kept.
+/// What a step sends for keys: only the key target is sent anything, and what it is sent follows from what is kept.
 pub fn sending()
     ensures parts { SaidParts }
     ensures quiet { KeysQuiet }
     ensures target { TargetSent }
 {}
 
-/// What is kept of the last key message says when a repeat is due, and is kept by what the key target is sent.
+/// What is kept of the last key message says when a repeat is due, and changes by what the key target is sent.
 pub fn repeating()
     ensures read { RepeatRead }
     ensures step { RepeatStep }

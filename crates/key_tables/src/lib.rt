@@ -1,8 +1,8 @@
-//! What a dispatcher keeps of the focus, of keys and of repeats in place of a history, and what each step makes of it.
+//! What a dispatcher keeps of the focus, of keys and of repeats in place of a history, and how each step changes it.
 //!
 //! Window 1 is the key target, and volume up goes down at 1,000,000 microseconds, stays down, and is repeated twice.
-//! Kept are the key with its last message, `down repeat 2`, and for the next repeat that message with its clock,
-//! 1,550,000. The next step tells window 1
+//! The dispatcher keeps the key with its last message, `down repeat 2`, and for the next repeat that message with its
+//! clock, 1,550,000. The next step sends window 1
 //!
 //! ```text
 //! a repeat that is due               down repeat 3
@@ -13,11 +13,12 @@
 //! the windows are shown again        nothing
 //! ```
 //!
-//! and nobody else of keys, whatever the step. After a repeat that is kept with its clock, after an up nothing.
+//! and no other window any key message, whatever the step. After a repeat, it is kept with its clock; after an up,
+//! nothing is.
 //!
-//! [`laws`] says this for each step of each legal history: what is kept stands for the effects of the history (specs/),
-//! and each step keeps it so. The functions here are code that the laws speak of; the rest of it is in the crates of
-//! the focus, of repeats and of cancels.
+//! [`laws`] says this for each step of each legal history: what is kept stands for the effects of the history
+//! (specs/), and each step keeps it so. The functions here are the code that the laws are about; the rest of it is in
+//! the crates of the focus, of repeats and of cancels.
 #![tactic(auto)]
 
 mod focus;

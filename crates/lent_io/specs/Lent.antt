@@ -19,7 +19,7 @@ pub record LentReading : Type 0 where
 abbrev pub no_faults : LentReading → ℕ
 no_faults source = 0
 
--- what was written to a sink, and how often memory was wanting for it
+-- what was written to a sink, and how often memory for it ran out
 pub record TextState : Type 0 where
   pub writing : Writing
   pub faults : ℕ

@@ -94,7 +94,7 @@ impl<'a> Files for LentFiles<'a> {
 
     ghost lent = { λ f. loan_of f.lent };
 
-    /// A call fails where no file has the name.
+    /// A call fails if no file has the name.
     fn source(&mut self, name: &str) -> Result<LentSource<'a>, SourceRefused>
         requires { loan_of self.old.lent ≡ None }
         ensures files { self.new.files ≡ self.old.files }

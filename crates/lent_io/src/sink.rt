@@ -9,7 +9,7 @@ use outside_io::{Failed, Sink, SinkTrace};
 use std::alloc::Global;
 use std::marker::Model;
 
-/// A sink that takes all that it is handed, and keeps it. A write for which there is no memory is a fault.
+/// A sink that takes everything that it is handed, and keeps it. A write for which there is no memory is a fault.
 #[derive(Drop)]
 pub struct TextSink {
     text: Vec<u8>,
@@ -50,7 +50,7 @@ impl Sink for TextSink {
 
     ghost faults = { λ s. s.faults };
 
-    /// Takes all of `buf`, or nothing where there is no memory for it.
+    /// Takes all of `buf`, or nothing if there is no memory for it.
     fn write(&mut self, buf: &[u8]) -> Result<usize, Failed>
         ensures all { IfOk result (λ n. n ≡ length buf.now) }
         ensures count { self.new.faults ≡ faults_after (is_err result) self.old.faults }

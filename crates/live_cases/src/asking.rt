@@ -71,7 +71,7 @@ fn send(message: &Message, out: &mut Vec<u8>) -> Result<bool, AllocError> {
     Ok(true)
 }
 
-/// The next message of a client. The answer is whether there was one.
+/// Receives the next message of a client. Returns whether there was one.
 fn send_next(world: &mut World, client: Client, out: &mut Vec<u8>) -> Result<bool, AllocError> {
     match world.live.next(client) {
         Ok(Some(message)) => send(&message, out),

@@ -6,7 +6,7 @@ use crate::world::World;
 use input_types::Moment;
 use live_input::Client;
 
-/// The windows are these from a moment on.
+/// Replaces the windows at a moment.
 fn show(world: &mut World, now: u64, numbers: &[u64]) -> Option<&'static str> {
     let now = moment(now)?;
     let windows = windows(world, numbers)?;
@@ -34,7 +34,7 @@ fn of_client(
     }
 }
 
-/// The call that a line says, and how it is answered.
+/// The call of a line, and its answer.
 pub(crate) fn make(world: &mut World, word: &[u8], numbers: &[u64]) -> Option<&'static str> {
     match (word, numbers) {
         (b"windows", [now, rest @ ..]) => show(world, *now, rest),

@@ -99,7 +99,7 @@ fn key(
     Some(take(live, now, device, &[(EV_KEY, scan, down)]))
 }
 
-/// What a word and the numbers behind the moment and the device make the device do.
+/// What a word and the numbers after the moment and the device make the device do.
 fn make(
     live: &mut Live,
     now: Moment,
@@ -123,7 +123,7 @@ fn make(
     }
 }
 
-/// What a device does, where the line says it, and how it is answered.
+/// What a device does, if the line says it, and the answer.
 pub(crate) fn act(world: &mut World, word: &[u8], numbers: &[u64]) -> Option<&'static str> {
     match numbers {
         [now, number, rest @ ..] => {

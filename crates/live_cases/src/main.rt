@@ -1,6 +1,6 @@
 //! Calls of a live service as a text, and what each client is sent.
 //!
-//! Standard input has one call a line. Each line is printed with its answer behind it, and what an answer lists stands
+//! Standard input has one call a line. Each line is printed, followed by its answer, and what an answer lists stands
 //! on lines of its own:
 //!
 //! ```text
@@ -14,15 +14,15 @@
 //!                                         > 1 1000 motion 1 DOWN 0@540,1200
 //! ```
 //!
-//! A client is named by how many were opened up to it: client 2 is the second one, whether or not the first one is
-//! still open. The moment of a call stands first. A window is its client, its display, the four edges of its frame,
-//! which is where it can be touched too, and its flags as a number.
+//! A client is identified by how many were opened up to it: client 2 is the second one, whether or not the first one
+//! is still open. The moment of a call comes first. A window is its client, its display, the four edges of its frame,
+//! which is also where it can be touched, and its flags as a number.
 //!
 //! The devices 1 to 6 are of display 0, and 7 and 8 are of display 1. A panel is plugged in by its display and its
-//! slots; its positions are the pixels of its display. What a finger does is sent in events: `down` has the device, the
-//! slot, the tracking id and the position, `move` the device, the slot and the position, `up` and `palm` the device and
-//! the slot; `report` is a SYN_REPORT, `dropped` a SYN_DROPPED, and `key` has the scan code and the value. A device
-//! with keys has the scan codes 30 and 115.
+//! slots; its positions are the pixels of its display. What a finger does is given in events: `down` has the device,
+//! the slot, the tracking id and the position, `move` the device, the slot and the position, `up` and `palm` the
+//! device and the slot; `report` is a SYN_REPORT, `dropped` a SYN_DROPPED, and `key` has the scan code and the value.
+//! A device with keys has the scan codes 30 and 115.
 #![tactic(auto)]
 
 mod answers;

@@ -1,8 +1,8 @@
 //! The main loop of a program that sends its fingers through the live service, as a window manager has it.
 //!
-//! In place of a kernel and of clients there are fixed ones: one panel, whose events are a table, and two clients with
-//! a window each, side by side. The left one is done with each message at once. The right one never is, so it is named
-//! after five seconds, and the finger that it holds is cancelled.
+//! Fixed ones stand in for a kernel and clients: one panel, whose events are a table, and two clients with a window
+//! each, side by side. The left one finishes each message at once. The right one never does, so it is reported after
+//! five seconds, and the finger that it holds is cancelled.
 #![tactic(auto)]
 
 mod events;
@@ -31,7 +31,7 @@ fn has(mask: u64, channel: u32) -> bool
     mask >> (channel - 1) & 1 == 1
 }
 
-/// A message is sent to the client of a channel. The answer is its number.
+/// Sends a message to the client of a channel. Returns its number.
 fn print_message(
     alloc: Global,
     channel: u32,
@@ -44,7 +44,7 @@ fn print_message(
     Ok(Some(seq))
 }
 
-/// The next message of a client is sent to it. The answer is its number, where there is one.
+/// Sends a client its next message. Returns its number, if there is one.
 fn send_next(
     started: &mut Started,
     client: Client,
@@ -57,7 +57,7 @@ fn send_next(
     }
 }
 
-/// A client gets all its messages, and answers that it is done with each, unless it is the one that never is.
+/// A client receives all its messages and finishes each, unless it is the one that never does.
 fn send_to(
     started: &mut Started,
     now: Moment,
@@ -88,7 +88,7 @@ fn send(started: &mut Started, now: Moment, out: &mut Vec<u8>) -> Result<(), All
     Ok(())
 }
 
-/// The clock is at a moment: what is due is done, and who does not respond is sent.
+/// Advances the clock to a moment: runs everything due, and prints which client does not respond.
 fn advance(started: &mut Started, now: Moment, out: &mut Vec<u8>) -> Result<(), AllocError> {
     let late = started.live.advance(now)?;
     for channel in 1..=64u32 {

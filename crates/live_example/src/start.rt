@@ -49,7 +49,7 @@ fn show(alloc: Global, live: &mut Live, left: Client, right: Client) -> Option<(
     live.windows(Moment::zero(), windows).ok()
 }
 
-/// The panel is plugged in, and two clients are opened and shown. The answer is the panel, and the right client.
+/// Plugs in the panel, and opens and shows two clients. Returns the panel and the right client.
 fn set_up(alloc: Global, live: &mut Live) -> Option<(DeviceId, Client)> {
     let panel = plug_in(live)?;
     let left = live.open().ok()?;

@@ -1,4 +1,4 @@
--- What is asked of clients.
+-- What can be asked about clients.
 use Rattle.std.proofs.Common.{◌≡◌, ℕ, ◌+◌, ◌&&◌, ◌||◌, Bool, true, false, not, cond, is_some, List, Option, Some, None, option_map, refl, sym, ap, ap₂, ◌∙◌, inl, inr}
 use Rattle.std.specs.Prelude.{nat_lt, nat_le}
 use Rattle.std.proofs.lemmas.Bool.{cases_Bool, and_parts, and_from, and_right, ltb-true, leb-true}
@@ -17,7 +17,7 @@ use Rattle.live_input.specs.Asking.{client_on, client_of_some, responds}
 use Rattle.live_input.specs.Seats.{client_at, client_of, is_held, seat_of}
 use Rattle.live_input.specs.Standing.{AreSeated}
 
--- a channel that nobody holds has no client
+-- a channel that no client holds has no client
 no_holder : (c : ℕ) (o : Option ℕ) → is_some o ≡ false → client_of c o ≡ None
 no_holder c None e = refl
 no_holder c (Some g) e = absurd cc
@@ -32,7 +32,7 @@ none_either seats c false e = refl
 
 module _ (es : List Effect) (seats : List Seat) (a : AreSeated (past_of es) seats) (ws : List Window) (same : ws ≡ snapshot (past_of es)) (y c : ℕ)
     (asked : Some c ≡ requested (past_of es) y) where
-  -- one that may have the focus has it: it is live, where somebody is open on it
+  -- a channel that may have the focus has it: it is live if a client is open on it
   pub focus_seen : (is_channel c && is_focusable_on ws y c) ≡ true → client_on seats c ≡ client_of_some seats (focus (past_of es) y)
   focus_seen e =
       let x = and_parts (is_channel c) (is_focusable_on ws y c) e in
@@ -50,7 +50,7 @@ module _ (es : List Effect) (seats : List Seat) (a : AreSeated (past_of es) seat
             none ∙ sym (none_either seats c (may_focus (past_of es) y c) none) ∙ ap (λ r. client_of_some seats (focus_if (may_focus (past_of es) y) r)) asked
       ]
 
-  -- and one that may not have it has not
+  -- and one that may not have it does not
   pub focus_unseen : (is_channel c && is_focusable_on ws y c) ≡ false → None ≡ client_of_some seats (focus (past_of es) y)
   focus_unseen e =
       elim (cases_Bool (is_channel c)) [
@@ -64,11 +64,11 @@ module _ (es : List Effect) (seats : List Seat) (a : AreSeated (past_of es) seat
             sym (none_either seats c (may_focus (past_of es) y c) none) ∙ ap (λ r. client_of_some seats (focus_if (may_focus (past_of es) y) r)) asked
       ]
 
--- nobody has the focus of a display for which it was requested for none
+-- no window has the focus of a display for which it was requested for none
 pub focus_none : (es : List Effect) (seats : List Seat) (y : ℕ) → None ≡ requested (past_of es) y → None ≡ client_of_some seats (focus (past_of es) y)
 focus_none es seats y e = ap (λ r. client_of_some seats (focus_if (may_focus (past_of es) y) r)) e
 
--- a channel responds where it has no oldest message, or is due
+-- a channel responds if it has no oldest message, or is due
 pub responds_by : (es : List Effect) (c : ℕ) (seq due : Option ℕ) → seq ≡ option_map (λ m. m.seq) (oldest es c) → due ≡ due_moment es c
     → (not (is_some seq) || is_some due) ≡ responds es c
 responds_by es c seq due e d =

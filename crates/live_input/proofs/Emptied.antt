@@ -1,4 +1,4 @@
--- Nothing is left on a channel.
+-- Nothing remains on a channel.
 use Rattle.std.proofs.Common.{◌≡◌, ℕ, zero, suc, ◌<◌, ◌==◌, ◌||◌, Bool, true, false, not, cond, List, [], ◌∷◌, length, map, Option, Some, None, option_map, refl, sym, ap, ◌∙◌, subst, inl, inr, arith}
 use Rattle.std.specs.Prelude.{nat_le, nat_lt, slice_get}
 use Rattle.std.proofs.lemmas.Bool.{cases_Bool, eq-eqb, eqb-true, or_parts, true≢false, ltb-false, leb-false}
@@ -26,7 +26,7 @@ none_parts : (b : Bool) (call : Call) (o : Option Call) → cond b (Some call) o
 none_parts true call o e = absurd cc
 none_parts false call o e = (refl, e)
 
--- where nothing is to be done next, all was received and finished
+-- if nothing is to be done next, everything was received and finished
 pub left_none : (ds : List ℕ) (es : List Effect) (now c : ℕ) → Lawful ds es → next_left now c es ≡ None → IsDone es c
 left_none ds es now c l e = by_list (unfinished es c) refl
   where
@@ -58,7 +58,7 @@ left_none ds es now c l e = by_list (unfinished es c) refl
         let sent = all.1 in
         absurd (omega (arith, above, high, low, second, sent))
 
--- the windows without that of a channel have none of it
+-- the windows without that of a channel contain no window of it
 pub named_without : (c : ℕ) (ws : List Window) → is_named (without c ws) c ≡ false
 named_without c [] = refl
 named_without c (w ∷ ws) = by_test (w.channel == c) refl (named_without c ws)

@@ -1,4 +1,4 @@
--- Calls that are made one after another.
+-- Calls made one after another.
 use Rattle.std.proofs.Common.{◌≡◌, ℕ, ◌||◌, Bool, true, false, cond, List, [], ◌∷◌, ◌++◌, length, Option, Some, None, refl, sym, ap, ◌∙◌, subst}
 use Rattle.std.specs.Prelude.{nat_le, nat_lt, option_map}
 use Rattle.dispatch_calls.specs.declared.call.Call.{Call}
@@ -19,7 +19,7 @@ use Rattle.live_input.specs.Seats.{IsHeld}
 use Rattle.live_input.specs.Standing.{IsOfHeld, LiveIs, is_plain}
 use Rattle.live_input.specs.State.{LiveState}
 
--- one call behind others
+-- one call after others
 pub extend_last : (ds : List ℕ) (es : List Effect) (calls : List Call) (call : Call)
     → extend ds es (calls ++ call ∷ []) ≡ answered ds call (extend ds es calls)
 extend_last ds es [] call = refl
@@ -31,7 +31,7 @@ pub follows_last : (next : List Effect → Option Call) (ds : List ℕ) (es : Li
 follows_last next ds es [] call f e = (e, tt)
 follows_last next ds es (c ∷ cs) call f e = (f.0, follows_last next ds (answered ds c es) cs call f.1 e)
 
--- the channels that are named, by one call more
+-- the channels that one more call reports
 pub named_last : (ds : List ℕ) (es : List Effect) (calls : List Call) (call : Call) (c : ℕ)
     → is_named_in ds es (calls ++ call ∷ []) c ≡ (is_named_in ds es calls c || is_named_by call (reply_to (extend ds es calls) call) c)
 named_last ds es [] call c = or_false (is_named_by call (reply_to es call) c)
@@ -51,7 +51,7 @@ named_last ds es (k ∷ ks) call c =
 pub reaches_first : (ds : List ℕ) (next : List Effect → Option Call) (es : List Effect) (s : LiveState) → LiveIs ds es s → Reaches ds next es s
 reaches_first ds next es s h = record { calls = []; follows = tt; is = h }
 
--- one call more is made, which is the next one
+-- one more call is made, which is the next one
 pub reaches_more : (ds : List ℕ) (next : List Effect → Option Call) (es : List Effect) (s t : LiveState) (call : Call)
     → (r : Reaches ds next es s) → next (extend ds es r.calls) ≡ Some call → LiveIs ds (answered ds call (extend ds es r.calls)) t
     → Reaches ds next es t
@@ -62,7 +62,7 @@ reaches_more ds next es s t call r e h =
       is = subst (λ fs. LiveIs ds fs t) (sym (extend_last ds es r.calls call)) h;
     }
 
--- what is next is a plain call, and of no channel on which nobody is open
+-- the next call is a plain one, and not for a channel on which no client is open
 plain_of : List Seat → Option Call → Type 0
 plain_of seats None = Unit {0}
 plain_of seats (Some call) = (is_plain call ≡ true) × IsOfHeld seats call
@@ -130,16 +130,16 @@ pub or_more : (a b c : Bool) → ((a || b) || c) ≡ (a || (b || c))
 or_more true b c = refl
 or_more false b c = refl
 
--- what is noted of names does not matter
+-- the recorded reports do not matter
 pub live_noted : (ds : List ℕ) (es : List Effect) (s : LiveState) (n : ℕ) → LiveIs ds es s → LiveIs ds es (record s { named = n })
 live_noted ds es s n h =
     record { stands = h.stands; displays_are = h.displays_are; windows_are = h.windows_are; requests_are = h.requests_are; seats_are = h.seats_are; tenants_are = h.tenants_are; release = h.release }
 
--- nothing that is due was done yet
+-- nothing that is due has been done yet
 pub advances_first : (ds : List ℕ) (now : ℕ) (es : List Effect) (s : LiveState) → LiveIs ds es s → Advances ds now es s s
 advances_first ds now es s h = record { calls = []; follows = tt; is = h; named_are = λ c. or_none (mask_has s.named c) }
 
--- one call more
+-- one more call
 pub advances_more : (ds : List ℕ) (now : ℕ) (es : List Effect) (old s t : LiveState) (call : Call) → (a : Advances ds now es old s)
     → next_due now (extend ds es a.calls) ≡ Some call
     → LiveIs ds (answered ds call (extend ds es a.calls)) t
@@ -157,7 +157,7 @@ advances_more ds now es old s t call a e h n =
           ∙ ap (λ b. mask_has old.named c || b) (sym (named_last ds es a.calls call c));
     }
 
--- all was done, and the names are sent
+-- everything was done, and the reports are returned
 pub advanced : (ds : List ℕ) (now : ℕ) (es : List Effect) (old s t : LiveState) (mask : ℕ) → (a : Advances ds now es old s)
     → next_due now (extend ds es a.calls) ≡ None → mask ≡ s.named → LiveIs ds (extend ds es a.calls) t → t.named ≡ 0
     → Advanced ds now es mask old t

@@ -1,4 +1,4 @@
--- What is still to be handed in, one after another.
+-- What must still be handed in, one after another.
 use Rattle.std.proofs.lemmas.Bool.{true≢false, eqb-true}
 use Rattle.std.proofs.Common.{◌≡◌, ℕ, ℤ, ◌==◌, drop, remove, length, slice_get, Some, None, ◌&&◌, Bool, true, false, List, [], ◌∷◌, ◌++◌, Result, Ok, Err, ◌||◌, refl, sym, ap, ap₂, ◌∙◌, subst, arith}
 use Rattle.input_types.specs.declared.message.Args.{Args}
@@ -43,7 +43,7 @@ with_value d m k c v = record { device = d; moment = m; kind = k; code = c; valu
 pub same_value : (device moment kind code : ℕ) (v w : ℤ) → v ≡ w → with_value device moment kind code v ≡ with_value device moment kind code w
 same_value d m k c v w e = ap (with_value d m k c) e
 
--- what is kept of devices is beside what the history says
+-- what is kept of devices is separate from the history
 pub beside_goes : (ds : List ℕ) (es : List Effect) (s : LiveState) → LiveIs ds es s → (devices : List (Option Reading)) (pending : List Args)
     → LiveIs ds es (record s { devices = devices; pending = pending })
 beside_goes ds es s h devices pending =
@@ -57,7 +57,8 @@ beside_goes ds es s h devices pending =
       release = h.release;
     }
 
--- some of what was to be handed in is, all of which was taken or not; what is left comes to the same as all
+-- some of what had to be handed in is, and all of it was accepted or not; handing in the rest has the same result as
+-- handing in all
 pub record HandsIn (ds : List ℕ) (now : ℕ) (es : List Effect) (args : List Args) (s : LiveState) (fits : Bool) : Type 0 where
   pub so_far : List Effect
   pub is : LiveIs ds so_far s
@@ -93,7 +94,7 @@ and_true : (b : Bool) → (b && true) ≡ b
 and_true true = refl
 and_true false = refl
 
--- nothing is left
+-- nothing remains
 pub hands_all : (ds : List ℕ) (now : ℕ) (es : List Effect) (args : List Args) (s : LiveState) (fits : Bool)
     → HandsIn ds now es args s fits → s.pending ≡ [] → LiveIs ds (notified ds now es args) s × (fits ≡ all_taken ds now es args)
 hands_all ds now es args s fits x none = (
@@ -105,7 +106,7 @@ pub hands_part : (ds : List ℕ) (now : ℕ) (es : List Effect) (args : List Arg
     → HandsIn ds now es args s fits → HandedInPart ds now es args s
 hands_part ds now es args s fits x = record { so_far = x.so_far; is = x.is; rest = x.rest }
 
--- what is delivered behind what was still to be handed in
+-- what is delivered after what still had to be handed in
 pub delivers_in : (ds : List ℕ) (now : ℕ) (es : List Effect) (args all : List Args) (X : Type 0) (r : Result (Unit {0}) ArgsRefused) (old new : LiveState)
     → all ≡ old.pending ++ args → X → Delivers ds now es all r new → Gives ds now es args X r old new
 delivers_in ds now es args all X (Ok done) old new e x d = (x, subst (λ xs. Delivers ds now es xs (Ok done) new) e d)
@@ -123,7 +124,7 @@ pub not_there : (b : Bool) → true ≡ b → b ≡ false → ⊥
 not_there true e f = absurd (true≢false f)
 not_there false e f = absurd (true≢false e)
 
--- what is due, from a state in which the same channels were named
+-- what is due, from a state in which the same channels were reported
 pub advances_from : (ds : List ℕ) (now : ℕ) (es : List Effect) (s t new : LiveState) → s.named ≡ t.named → Advances ds now es s new → Advances ds now es t new
 advances_from ds now es s t new e a =
     record {

@@ -36,7 +36,7 @@ opening_new ds limit c es lt = sym (ap (λ b. cond b es (answered ds (Open limit
 pub opening_old : (ds : List ℕ) (limit c : ℕ) (es : List Effect) → c ≤ opened (past_of es) → es ≡ opening ds limit c es
 opening_old ds limit c es le = sym (ap (λ b. cond b es (answered ds (Open limit) es)) (le-leb c (opened (past_of es)) le))
 
--- all channels are held exactly where none is vacant
+-- all channels are held exactly if none is vacant
 some≢none : (c : ℕ) → Some c ≡ None → ⊥
 some≢none c e = cc
 
@@ -70,7 +70,7 @@ pub requests_name : (es : List Effect) (rs : List (Option ℕ)) (asked c : ℕ) 
     → list_any (λ r. is_at r c) rs ≡ is_requested es c
 requests_name es rs asked c a = by_four rs (requested (past_of es)) c a.four a.channels_are
 
--- what is forgotten, from the displays one after another
+-- what is forgotten, display by display
 pub forgotten_is : (ds : List ℕ) (now c : ℕ) (es : List Effect) (d0 d1 d2 d3 a : ℕ) (r : Option ℕ) → d0 ≡ 0 → d1 ≡ 1 → d2 ≡ 2 → d3 ≡ 3
     → a ≡ asked (past_of es) → is_requested es c ≡ true
     → r ≡ requested (past_of (forgotten_on ds now c d3 (forgotten_on ds now c d2 (forgotten_on ds now c d1 (forgotten_on ds now c d0 es))))) a

@@ -1,4 +1,4 @@
--- What is let go, with one step more.
+-- What is released, with one more step.
 use Rattle.std.proofs.Common.{◌≡◌, ℕ, suc, ◌+◌, ◌≤◌, ◌==◌, ◌&&◌, Bool, true, false, not, cond, max, List, [], ◌∷◌, length, reverse, Option, Some, None, refl, sym, ap, ◌∙◌, subst, inl, inr}
 use Rattle.std.specs.Prelude.{nat_lt, nat_le, is_some, slice_get}
 use Rattle.std.proofs.lemmas.Bool.{cases_eq, ne_eqb}
@@ -32,7 +32,7 @@ use Rattle.live_input.specs.Releases.{AreReleasedBut, IsLiveChannel, is_tick, re
 use Rattle.live_input.specs.Standing.{AreReleased, AreSeated, IsOfHeld}
 use Rattle.live_input.proofs.Opened.{opened_at}
 
--- no call but a tick is answered with a mask
+-- only the reply to a tick has a mask
 named_cond : (b : Bool) (x y : Reply) → names_some x ≡ false → names_some y ≡ false → names_some (cond b x y) ≡ false
 named_cond true x y e f = e
 named_cond false x y e f = f
@@ -76,7 +76,7 @@ received_by : (call : Call) (answer : Reply) (c n : ℕ) → is_at (receives_fro
 received_by (Receive k) (Got m) c n e = ap (λ b. cond b (suc n) n) e
 received_by call answer c n e = refl
 
--- all is let go as before, but for what the step receives and names
+-- everything is released as before, except what the step receives and reports
 pub release_but : (ds : List ℕ) (es : List Effect) (call : Call) (d later : Dispatching) → AreReleased es d
     → ((c : ℕ) → 1 ≤ c → gone later c ≡ gone d c) → anrs_released later ≡ anrs_released d
     → AreReleasedBut (receives_from call) (is_tick call) (answered ds call es) later
@@ -86,7 +86,7 @@ release_but ds es call d later g messages anrs =
       anrs_are = λ none. anrs ∙ g.anrs_are ∙ sym (ap length (anrs_kept_law ds call (reply_to es call) es (names_none es call none)));
     }
 
--- where it receives nothing and is no tick, all is
+-- if it receives nothing and is no tick, everything is
 pub release_all : (from : Option ℕ) (ticks : Bool) (es : List Effect) (d : Dispatching) → from ≡ None → ticks ≡ false
     → AreReleasedBut from ticks es d → AreReleased es d
 release_all from ticks es d none no_tick g =
@@ -97,7 +97,7 @@ pub release_same : (ds : List ℕ) (es : List Effect) (call : Call) (d later : D
 release_same ds es call d later none no_tick g messages anrs =
     release_all (receives_from call) (is_tick call) _ later none no_tick (release_but ds es call d later g messages anrs)
 
--- what the call received is let go
+-- what the call received is released
 pub received_go : (from : Option ℕ) (ticks : Bool) (k : ℕ) (es : List Effect) (d later : Dispatching) → from ≡ Some k → ticks ≡ false
     → gone later k ≡ received (past_of es) k → ((c : ℕ) → 1 ≤ c → (c == k) ≡ false → gone later c ≡ gone d c)
     → anrs_released later ≡ anrs_released d → AreReleasedBut from ticks es d → AreReleased es later
@@ -110,7 +110,7 @@ received_go from ticks k es d later some no_tick here others anrs g =
       anrs_are = anrs ∙ g.anrs_are no_tick;
     }
 
--- and what was noted of it
+-- and so is what it recorded
 pub anrs_go : (from : Option ℕ) (ticks : Bool) (es : List Effect) (d later : Dispatching) → from ≡ None
     → ((c : ℕ) → 1 ≤ c → gone later c ≡ gone d c) → anrs_released later ≡ length (anrs es) → AreReleasedBut from ticks es d → AreReleased es later
 anrs_go from ticks es d later none messages anrs g =

@@ -1,4 +1,4 @@
--- What holds where a call was done, by what it ensures there.
+-- What holds if a call succeeded, by what it ensures then.
 use Rattle.std.specs.Prelude.{Result, Ok, Err, IfOk, OnErr, OnOk}
 
 pub if_ok_on : {A E : Type 0} (r : Result A E) (P : A → Type 0) (X : Type 0) → IfOk r P → ((a : A) → P a → X) → OnOk r X

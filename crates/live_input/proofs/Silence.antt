@@ -36,7 +36,7 @@ use Rattle.dispatch_tables.specs.Lawful.{Lawful}
 use Rattle.dispatch_tables.proofs.Lawfuls.{lawful_last}
 use Rattle.live_input.proofs.Unshown.{none_pass, no_watcher, no_pointer, not_target, not_focused, no_keys}
 
--- nothing is told of pointers where a window holds none, before and after
+-- nothing is sent for pointers if a window holds none, before and after
 no_cancels : (d : ℕ) (last : List Pointer) (before later : ℕ → Bool) → ((i : ℕ) → before i ≡ false) → cancels d last before later ≡ []
 no_cancels d last before later b =
     ap (cancels_of d (listing before last) (listing later last))
@@ -81,7 +81,7 @@ flat_none : (f : ℕ → List Motion) (ds : List ℕ) → ((d : ℕ) → f d ≡
 flat_none f [] e = refl
 flat_none f (d ∷ ds) e = ap₂ (λ xs ys. xs ++ ys) (e d) (flat_none f ds e)
 
--- nor of keys where it holds none and keys do not go to it
+-- nor for keys if it holds none and keys do not go to it
 none_sent : (o : Option Args) (loses : Bool) → keys_sent o false loses [] ≡ []
 none_sent None true = refl
 none_sent None false = refl

@@ -1,4 +1,4 @@
--- The service with one call more.
+-- The service with one more call.
 use Rattle.std.proofs.Common.{◌≡◌, ℕ, suc, ◌+◌, ◌==◌, ◌≤◌, ◌<◌, Bool, true, false, cond, List, ◌∷◌, slice_index_or, slice_set, Option, None, refl, sym, ap, ◌∙◌, subst, inl, inr, arith}
 use Rattle.std.proofs.lemmas.Bool.{true≢false, cases_eq, cases_lt, eq-eqb, ne_eqb, or_right, or_left, lt-ltb}
 use Rattle.std.proofs.lemmas.List.{get_or-set_same, get_or-set_other, length-set}
@@ -70,7 +70,7 @@ same_seats h k seats as_many same a =
     }
 
 module _ (ds : List ℕ) (es : List Effect) (s : LiveState) (h : LiveIs ds es s) (d : Dispatching) (same : d.displays ≡ s.dispatcher.displays) where
-  -- the dispatcher stands for one step more, which is answered as it is to be
+  -- the dispatcher stands for one more step, with the required reply
   pub stands_more : (call : Call) (answer : Reply) → StandsFor (step s.dispatcher.displays call answer es) d
       → (answer ≡ reply_to es call) × StandsFor (answered ds call es) d
   stands_more call answer stands =
@@ -82,7 +82,7 @@ module _ (ds : List ℕ) (es : List Effect) (s : LiveState) (h : LiveIs ds es s)
   lawful_of : {fs : List Effect} → StandsFor fs d → Lawful ds fs
   lawful_of {fs} stands = subst (λ ys. Lawful ys fs) (same ∙ h.displays_are) stands.lawful
 
-  -- a plain call leaves all that is kept beside the dispatcher
+  -- a plain call leaves everything kept beside the dispatcher
   pub plain_goes : (call : Call) → is_plain call ≡ true → IsOfHeld s.seats call
       → StandsFor (answered ds call es) d → AreReleased (answered ds call es) d
       → LiveIs ds (answered ds call es) (record s { dispatcher = d })

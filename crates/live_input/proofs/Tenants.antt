@@ -1,4 +1,4 @@
--- Whose a channel is, and what is let go of it, with one step more.
+-- Which client owns a channel, and what is released of it, with one more step.
 use Rattle.std.proofs.Common.{◌≡◌, ℕ, suc, ◌+◌, ◌-◌, ◌≤◌, ◌<◌, ◌==◌, Bool, true, false, cond, List, [], ◌∷◌, ◌++◌, length, map, Option, None, Some, refl, sym, ap, ap₂, ◌∙◌, subst, inl, inr, arith, append_assoc}
 use Rattle.std.proofs.lemmas.Bool.{true≢false, cases_Bool, cases_eq, cases_lt, eq-eqb, ne_eqb}
 use Rattle.std.proofs.lemmas.List.{length-reverse}
@@ -31,7 +31,7 @@ use Rattle.live_input.proofs.Silence.{sent_nothing}
 use Rattle.live_input.proofs.Unsent.{unsent_law}
 use Rattle.live_input.proofs.Vacant.{seat_set, seat_stays}
 
--- a step tells something more
+-- a step sends something more
 sent_more : (now : ℕ) (bs : List Body) (ms : List Message) → (new : List Message) × (sent_on now bs ms ≡ new ++ ms)
 sent_more now [] ms = ([], refl)
 sent_more now (b ∷ bs) ms =
@@ -47,7 +47,7 @@ received_more (Receive k) (Got m) c n = by_channel (c == k)
     by_channel false = omega arith
 received_more call answer c n = omega arith
 
--- what a client is sent later stands before what its channel had
+-- what a client is sent later stands in front of what its channel had
 pub begins_more : (ds : List ℕ) (call : Call) (answer : Reply) (es : List Effect) (c n : ℕ) → Begins es c n → Begins (step ds call answer es) c n
 begins_more ds call answer es c n b =
     let more = sent_more (clock ((call, answer) ∷ past_of es)) (sent_to (sent_by (said_at ds call answer es) (opened ((call, answer) ∷ past_of es))) c) (stream es c) in
@@ -66,7 +66,7 @@ map_none : {X Y : Type 0} (f : X → Y) (xs : List X) → map f xs ≡ [] → xs
 map_none f [] e = refl
 map_none f (x ∷ xs) e = absurd cc
 
--- what is said of a channel by what would be kept of it
+-- what can be said about a channel from what would be kept of it
 done_by : (es : List Effect) (c : ℕ) (s : ChannelState) → channel_at es c 0 0 ≡ s → s.received ≡ length s.messages → s.unfinished ≡ [] → IsDone es c
 done_by es c s e all none =
     record {
@@ -75,7 +75,7 @@ done_by es c s e all none =
       finished_all = map_none _ (unfinished es c) (ap (λ (x : ChannelState). x.unfinished) e ∙ none);
     }
 
--- a channel that is sent nothing, and that nobody receives from or finishes of, stays done
+-- a channel that is sent nothing, and from which nothing is received or finished, stays done
 pub done_more : (ds : List ℕ) (call : Call) (answer : Reply) (es : List Effect) (c : ℕ) → Lawful ds (step ds call answer es)
     → said_at ds call answer es c ≡ [] → part_of call answer c ≡ Untouched → IsDone es c → IsDone (step ds call answer es) c
 done_more ds call answer es c l none untouched d =
@@ -106,7 +106,7 @@ done_new ds limit k es c l none lt =
     spare_none : (n : ℕ) → 0 ≡ 0 - n
     spare_none n = omega arith
 
--- a window of a channel that nobody holds is not shown
+-- the window of a channel that no client holds is not shown
 pub not_shown : (es : List Effect) (seats : List Seat) (ws : List Window) (c : ℕ) → ((d : ℕ) → is_named ws d ≡ true → IsHeld d seats)
     → is_held (seat_of seats c) ≡ false → is_named ws c ≡ false
 not_shown es seats ws c shown e =
@@ -115,7 +115,7 @@ not_shown es seats ws c shown e =
       | inr n ↦ n
     ]
 
--- what a call does to a channel on which nobody is open: nothing
+-- a call does nothing to a channel on which no client is open
 held_other : (seats : List Seat) (c k : ℕ) → IsHeld k seats → is_held (seat_of seats c) ≡ false → (c == k) ≡ false
 held_other seats c k h e = ne_eqb c k (λ same. true≢false (sym h.2 ∙ ap (λ n. is_held (seat_of seats n)) (sym same) ∙ e))
 
@@ -130,7 +130,7 @@ part_none seats (Receive k) (Got m) c own e new = ap (λ b. cond b Receives Unto
 part_none seats (Finish now k seq) Done c own e new = ap (λ b. cond b (Finishes seq) Untouched) (held_other seats c k own e)
 part_none seats call answer c own e new = refl
 
--- whose the channels are, with one step more
+-- which clients own the channels, with one more step
 pub tenants_more : (ds : List ℕ) (call : Call) (answer : Reply) (es : List Effect) (seats : List Seat) → Lawful ds (step ds call answer es) → AreTenants es seats
     → ((c : ℕ) → is_named (windows_after call (snapshot (past_of es))) c ≡ true → IsHeld c seats)
     → ((y : ℕ) → y < 4 → IsOfSome (requested_after call y (requested (past_of es) y)) seats)
@@ -151,7 +151,7 @@ tenants_more ds call answer es seats l t shown asked untouched new =
       begun = λ c held. begins_more ds call answer es c (seat_of seats c).before (t.begun c held);
     }
 
--- the seat of a channel on which all is done, and whose window is not shown, is vacated
+-- the seat of a channel on which everything is done, and whose window is not shown, is vacated
 pub tenants_less : (es : List Effect) (seats : List Seat) (c before : ℕ) → length seats ≡ 64 → 1 ≤ c → c ≤ 64 → AreTenants es seats
     → is_named (snapshot (past_of es)) c ≡ false → ((y : ℕ) → y < 4 → is_at (requested (past_of es) y) c ≡ false) → IsDone es c
     → AreTenants es (with_seat c (record { holder = None; before = before }) seats)
@@ -184,7 +184,7 @@ tenants_less es seats c before all from to t hidden unasked done =
     asks None e h = tt
     asks (Some d) e h = stays d (λ same. true≢false (sym (eq-eqb c d (sym same)) ∙ e)) h
 
--- a client begins on a channel on which nobody was open
+-- a client is opened on a channel on which none was open
 pub tenants_new : (ds : List ℕ) (es : List Effect) (seats : List Seat) (c generation : ℕ) → Lawful ds es → AllRise (past_of es)
     → AreSeated (past_of es) seats → AreTenants es seats → 1 ≤ c → c ≤ 64 → c ≤ opened (past_of es) → is_held (seat_of seats c) ≡ false
     → AreTenants es (with_seat c (record { holder = Some generation; before = length (stream es c) }) seats)

@@ -1,4 +1,4 @@
--- The owner of a channel whose window is not shown knows of nothing that is down, and of no focus.
+-- The owner of a channel whose window is not shown knows of nothing that is down, and has no focus.
 use Rattle.std.proofs.Common.{◌≡◌, ℕ, ◌==◌, Bool, true, false, cond, List, [], ◌∷◌, ◌++◌, filter, Some, None, refl, ap, ◌∙◌, subst}
 use Rattle.std.proofs.Math.Path.{fun_ext}
 use Rattle.std.specs.List.{list_any}
@@ -42,7 +42,7 @@ pub knows_all : (ds : List ℕ) (es : List Effect) (w : ℕ) → Lawful ds es �
 knows_all ds es w l r lives =
     subst (λ xs. stream_state (stream xs w) ≡ Some (known_state xs w)) l.whole (whole_law ds (past_of es) w l.legal r lives)
 
--- messages behind others that leave nothing known say what they say by themselves
+-- messages after others that leave nothing known say the same as on their own
 pub state_alone : (newer older : List Message) → stream_state older ≡ Some unsent → stream_state (newer ++ older) ≡ stream_state newer
 state_alone [] older e = e
 state_alone (m ∷ ms) older e = ap (λ o. option_and_then (λ s. after_body s m.body) o) (state_alone ms older e)

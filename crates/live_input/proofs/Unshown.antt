@@ -27,7 +27,7 @@ use Rattle.dispatch_history.proofs.HolderLaws.{holder_law}
 use Rattle.dispatch_tables.specs.Lawful.{Lawful}
 use Rattle.dispatch_tables.proofs.Lawfuls.{lawful_always}
 
--- of a list of which nothing passes nothing is left
+-- if nothing of a list passes, nothing of it remains
 pub none_pass : {X : Type 0} (p : X → Bool) → ((x : X) → p x ≡ false) → (xs : List X) → filter p xs ≡ []
 none_pass p f [] = refl
 none_pass p f (x ∷ xs) = ap (λ b. cond b (x ∷ filter p xs) (filter p xs)) (f x) ∙ none_pass p f xs
@@ -95,7 +95,7 @@ none_left false o = refl
 abbrev HoldsNone : ℕ → List Effect → Type 0
 HoldsNone w es = is_target (past_of es) w ≡ false → keys es w ≡ []
 
--- where it was not the target before, it held none
+-- if it was not the target before, it held none
 was_none : (ds : List ℕ) (w : ℕ) (call : Call) (answer : Reply) (es : List Effect) → is_target (past_of es) w ≡ false → keys es w ≡ [] → keys (step ds call answer es) w ≡ []
 was_none ds w call answer es t k =
     let o = args_of call answer (inbound (past_of es)) in
@@ -104,7 +104,7 @@ was_none ds w call answer es t k =
     ∙ none_given (goes_down o) (cond b [] (filter (λ k. not (ends o k)) []))
     ∙ none_left b o
 
--- where it was the target, and is not any more, it loses all
+-- if it was the target, and no longer is, it loses all keys
 loses_them : (ds : List ℕ) (w : ℕ) (call : Call) (answer : Reply) (es : List Effect) → args_of call answer (inbound (past_of es)) ≡ None
     → is_target (past_of es) w ≡ true → is_target ((call, answer) ∷ past_of es) w ≡ false → keys (step ds call answer es) w ≡ []
 loses_them ds w call answer es none was not_now =

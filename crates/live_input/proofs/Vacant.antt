@@ -1,4 +1,4 @@
--- The first channel that nobody holds.
+-- The first channel that no client holds.
 use Rattle.std.proofs.Common.{◌≡◌, ℕ, ◌+◌, ◌-◌, ◌≤◌, ◌<◌, ◌&&◌, Bool, true, false, not, cond, List, [], ◌∷◌, length, slice_index_or, Option, Some, None, option_map, refl, sym, ap, ◌∙◌, subst, inl, inr, arith}
 use Rattle.std.specs.List.{position, position_or_len}
 use Rattle.std.proofs.lemmas.Bool.{and_parts, true≢false, cases_eq, cases_lt, not-true, not-false, lt-ltb, le-ltb}
@@ -11,7 +11,7 @@ use Rattle.live_input.specs.Opening.{IsNext}
 use Rattle.live_input.specs.Seats.{is_held, seat_of, vacant, first_vacant, is_full, with_seat}
 use Rattle.live_input.specs.Standing.{AreSeated}
 
--- where all seats are held, no place is vacant
+-- if all seats are held, no place is vacant
 all_held : (seats : List Seat) → is_full seats ≡ true → position_or_len (λ s. not (is_held s)) seats ≡ length seats
 all_held [] e = refl
 all_held (s ∷ ss) e = let x = and_parts (is_held s) (is_full ss) e in by_seat (is_held s) x.0 (all_held ss x.1)
@@ -21,7 +21,7 @@ all_held (s ∷ ss) e = let x = and_parts (is_held s) (is_full ss) e in by_seat 
     by_seat true x more = omega (arith, more)
     by_seat false x more = absurd (true≢false (sym x))
 
--- and where one is not, some place is
+-- and if one is not, some place is
 some_vacant : (seats : List Seat) → is_full seats ≡ false → position_or_len (λ s. not (is_held s)) seats < length seats
 some_vacant [] e = absurd (true≢false e)
 some_vacant (s ∷ ss) e = by_seat (is_held s) refl (λ k. some_vacant ss k)

@@ -1,4 +1,4 @@
--- Two clients of one channel, one after the other: what the second one is sent, by hand.
+-- Two clients of one channel, one after the other: what the second one is sent, worked out by hand.
 use Rattle.std.proofs.Common.{◌≡◌, List, [], ◌∷◌, ◌++◌, reverse, Some, refl}
 use Rattle.input_types.specs.declared.motion.MotionAction.TheVariants.{Down, Up}
 use Rattle.window_snapshot.specs.declared.window.Window.{Window}

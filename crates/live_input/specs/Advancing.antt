@@ -8,14 +8,15 @@ use Rattle.live_input.specs.Settling.{Follows, next_due, is_named_in}
 use Rattle.live_input.specs.Standing.{LiveIs}
 use Rattle.live_input.specs.State.{LiveState}
 
--- Some of what is due up to now was done, in order; the channels that were named by it are noted beside those before.
+-- Some of what is due up to now was done, in order; the channels that it reported are recorded with those before.
 pub record Advances (displays : List ℕ) (now : ℕ) (es : List Effect) (old new : LiveState) : Type 0 where
   pub calls : List Call
   pub follows : Follows (next_due now) displays es calls
   pub is : LiveIs displays (extend displays es calls) new
   pub named_are : (c : ℕ) → mask_has new.named c ≡ (mask_has old.named c || is_named_in displays es calls c)
 
--- All of it was done, and the mask has exactly the channels that were named by it, or before it where that was not told.
+-- All of it was done, and the mask contains exactly the channels that were reported by it, or before it without being
+-- returned.
 pub record Advanced (displays : List ℕ) (now : ℕ) (es : List Effect) (mask : ℕ) (old new : LiveState) : Type 0 where
   pub calls : List Call
   pub follows : Follows (next_due now) displays es calls

@@ -1,4 +1,4 @@
--- What calls of the service come to.
+-- The results of calls of the service.
 use Rattle.std.specs.Prelude.{ℕ, ◌≡◌, ◌-◌, Bool, true, false, List, Option, Some, None, Result, Ok, Err}
 use Rattle.input_types.specs.declared.message.Message.{Message}
 use Rattle.dispatch_calls.specs.declared.call.Call.{Call}
@@ -15,7 +15,7 @@ use Rattle.live_input.specs.declared.refused.PilferRefused.TheVariants as pilfer
 use Rattle.live_input.specs.Standing.{LiveIs}
 use Rattle.live_input.specs.State.{LiveState}
 
--- a call did what it says
+-- a call succeeded
 abbrev pub is_done : Reply → Bool
 is_done Done = true
 is_done answer = false
@@ -25,21 +25,21 @@ abbrev pub is_no_spy : Reply → Bool
 is_no_spy NotSpy = true
 is_no_spy answer = false
 
--- args were taken
+-- args were accepted
 abbrev pub is_taken : Reply → Bool
 is_taken Taken = true
 is_taken answer = false
 
--- a message as its client gets it: its number counts from the first one for the client
+-- a message as its client receives it: numbered from the first one for the client
 abbrev pub for_client : Seat → Message → Message
 for_client s m = record { seq = m.seq - s.before; moment = m.moment; body = m.body }
 
--- what a client gets of the answer to a receive
+-- what a client gets from the reply to a receive
 abbrev pub handed : Seat → Option Message → Option Message
 handed s None = None
 handed s (Some m) = Some (for_client s m)
 
--- The clients and the devices are the same, and so are the limit and what is still to be handed in.
+-- The clients and the devices are the same, and so are the limit and what must still be handed in.
 pub record SameClients (old new : LiveState) : Type 0 where
   pub seats_are : new.seats ≡ old.seats
   pub opened_is : new.opened ≡ old.opened
@@ -53,7 +53,7 @@ pub record SameSeats (old new : LiveState) : Type 0 where
   pub opened_is : new.opened ≡ old.opened
   pub limit_is : new.limit ≡ old.limit
 
--- After a finish by this call the service stands for the history with it. Without memory nothing changes.
+-- After a finish by this call the service stands for the history with it. If memory runs out, nothing changes.
 abbrev pub Finishes : List ℕ → List Effect → Call → Result (Unit {0}) FinishRefused → (old new : LiveState) → Type 0
 Finishes displays es call (Ok done) old new =
     (is_done (reply_to es call) ≡ true) × LiveIs displays (answered displays call es) new
@@ -62,7 +62,7 @@ Finishes displays es call (Err finish.UnknownSeq) old new =
     (is_done (reply_to es call) ≡ false) × LiveIs displays (answered displays call es) new
 Finishes displays es call (Err finish.Memory) old new = new ≡ old
 
--- So does it after a pilfer, which says which of the two reasons of a refusal it is.
+-- The same holds after a pilfer, which also says why it was refused.
 abbrev pub Pilfers : List ℕ → List Effect → Call → Result (Unit {0}) PilferRefused → (old new : LiveState) → Type 0
 Pilfers displays es call (Ok done) old new = (is_done (reply_to es call) ≡ true) × LiveIs displays (answered displays call es) new
 Pilfers displays es call (Err pilfer.NotOpen) old new = ⊥

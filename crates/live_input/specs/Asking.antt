@@ -1,4 +1,4 @@
--- What can be asked of clients.
+-- What can be asked about clients.
 use Rattle.std.specs.Prelude.{ℕ, ◌||◌, Bool, not, is_some, List, Option, Some, None, if◌then◌else◌}
 use Rattle.window_snapshot.specs.Mask.{is_channel}
 use Rattle.dispatch_history.specs.Delivery.{able, oldest}
@@ -16,6 +16,6 @@ abbrev pub client_of_some : List Seat → Option ℕ → Option Client
 client_of_some seats None = None
 client_of_some seats (Some c) = client_on seats c
 
--- a channel responds where it is able to take input, and where nothing of it is unfinished
+-- a channel responds if it can take input, or if none of its messages is unfinished
 abbrev pub responds : List Effect → ℕ → Bool
 responds es c = able es c || not (is_some (oldest es c))

@@ -1,4 +1,4 @@
--- What the history comes to when a client is closed.
+-- How the history grows when a client is closed.
 use Rattle.std.specs.Prelude.{ℕ, Bool, not, ◌==◌, List, filter, None, if◌then◌else◌}
 use Rattle.std.specs.List.{list_any}
 use Rattle.window_snapshot.specs.declared.window.Window.{Window}
@@ -14,12 +14,13 @@ use Rattle.dispatch_history.specs.Legal.{answered}
 abbrev pub without : ℕ → List Window → List Window
 without c ws = filter (λ v. not (v.channel == c)) ws
 
--- Where a channel has a window, the windows are shown without it: so its pointers and keys are cancelled, and it loses the focus.
+-- If a channel has a window, the windows are shown without it, so its pointers and keys are cancelled, and it loses
+-- the focus.
 abbrev pub hidden : List ℕ → (now channel : ℕ) → List Effect → List Effect
 hidden displays now c es =
     let shown = snapshot (past_of es) in if is_named shown c then answered displays (Windows now (without c shown)) es else es
 
--- Where the focus of a display was requested for a channel, it is requested for none.
+-- If the focus of a display was requested for a channel, it is requested for none.
 abbrev pub forgotten_on : List ℕ → (now channel display : ℕ) → List Effect → List Effect
 forgotten_on displays now c y es = if is_at (requested (past_of es) y) c then answered displays (FocusOn now y None) es else es
 
@@ -36,8 +37,8 @@ abbrev pub forgotten_each : List ℕ → (now channel : ℕ) → List Effect →
 forgotten_each displays now c es =
     forgotten_on displays now c 3 (forgotten_on displays now c 2 (forgotten_on displays now c 1 (forgotten_on displays now c 0 es)))
 
--- Where the focus of some display was requested for a channel, it is requested for none on each such display, and then again on the
--- display that was asked for last.
+-- If the focus of some display was requested for a channel, it is requested for none on each such display, and then
+-- again on the display of the last request.
 abbrev pub forgotten : List ℕ → (now channel : ℕ) → List Effect → List Effect
 forgotten displays now c es =
     if is_requested es c then asked_again displays now (asked (past_of es)) (forgotten_each displays now c es) else es

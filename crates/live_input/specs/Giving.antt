@@ -1,4 +1,4 @@
--- What devices give, and what it comes to.
+-- What devices deliver, and how the history grows by it.
 use Rattle.std.specs.Prelude.{ℕ, ◌≡◌, ◌&&◌, ◌⊎◌, Bool, true, false, List, [], ◌∷◌, ◌++◌, map, Result, Ok, Err}
 use Rattle.input_types.specs.declared.message.Args.{Args}
 use Rattle.dispatch_calls.specs.declared.call.Call.TheVariants.{Notify}
@@ -17,13 +17,13 @@ use Rattle.live_input.specs.State.{LiveState}
 abbrev pub notified : List ℕ → (now : ℕ) → List Effect → List Args → List Effect
 notified displays now es args = extend displays es (map (Notify now) args)
 
--- all of them are taken: each fits what its device did before
+-- all of them are accepted: each fits what its device did before
 abbrev pub all_taken : List ℕ → (now : ℕ) → List Effect → List Args → Bool
 all_taken displays now es [] = true
 all_taken displays now es (a ∷ later) =
     is_taken (reply_to es (Notify now a)) && all_taken displays now (answered displays (Notify now a) es) later
 
--- Some of these args are handed in: once those that are still to be are handed in too, all were.
+-- Some of these args are handed in: once the remaining ones are handed in too, all were.
 pub record HandedInPart (displays : List ℕ) (now : ℕ) (es : List Effect) (args : List Args) (s : LiveState) : Type 0 where
   pub so_far : List Effect
   pub is : LiveIs displays so_far s
@@ -34,12 +34,12 @@ pub record DispatchedInPart (displays : List ℕ) (now : ℕ) (es : List Effect)
   pub none : s.pending ≡ []
   pub reaches : Reaches displays (next_waiting now) (notified displays now es args) s
 
--- All of them are handed in, and all that waits was dispatched.
+-- All of them are handed in, and everything that waits was dispatched.
 pub record Dispatched (displays : List ℕ) (now : ℕ) (es : List Effect) (args : List Args) (s : LiveState) : Type 0 where
   pub none : s.pending ≡ []
   pub settles : Settles displays (next_waiting now) (notified displays now es args) s
 
--- Args are handed in and dispatched; those that do not fit are not taken. Where memory is wanted, it is done in part.
+-- Args are handed in and dispatched; those that do not fit are not accepted. If memory runs out, this is done in part.
 abbrev pub Delivers : List ℕ → (now : ℕ) → List Effect → List Args → Result (Unit {0}) ArgsRefused → LiveState → Type 0
 Delivers displays now es args (Ok done) s = (all_taken displays now es args ≡ true) × Dispatched displays now es args s
 Delivers displays now es args (Err Inconsistent) s = (all_taken displays now es args ≡ false) × Dispatched displays now es args s
@@ -47,8 +47,8 @@ Delivers displays now es args (Err Waits) s = HandedInPart displays now es args 
 Delivers displays now es args (Err NoDevice) s = ⊥
 Delivers displays now es args (Err Memory) s = ⊥
 
--- What a device gives is put behind what is still to be handed in, and delivered with that; and this is so of the devices then. Where it cannot
--- be put there, nothing changes.
+-- What a device delivers is queued behind what must still be handed in, and delivered with that; the devices are then
+-- these. If it cannot be queued, nothing changes.
 abbrev pub Gives :
     List ℕ → (now : ℕ) → List Effect → List Args → (devices : Type 0) → Result (Unit {0}) ArgsRefused → (old new : LiveState) → Type 0
 Gives displays now es args devices (Err Memory) old new = new ≡ old

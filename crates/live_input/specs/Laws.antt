@@ -1,4 +1,4 @@
--- What is proved of channels and of their clients. Each law is the clause of a function of its own.
+-- Proved facts about channels and their clients. Each law is the clause of a function of its own.
 use Rattle.std.specs.Prelude.{ℕ, ◌≡◌, ◌≤◌, ◌<◌, false, true, List, [], ◌∷◌, ◌++◌, drop, length, reverse, slice_get, Some}
 use Rattle.input_types.specs.declared.message.Message.{Message}
 use Rattle.input_types.specs.StreamRule.{stream_state, unsent}
@@ -35,26 +35,28 @@ SilenceLaw =
     → is_named (snapshot ((call, answer) ∷ past_of es)) c ≡ false
     → said_at displays call answer es c ≡ []
 
--- The owner of a live channel whose window is not shown knows from all of its messages of nothing that is down, and of no focus.
+-- After all of its messages, the owner of a live channel whose window is not shown knows of nothing that is down, and
+-- has no focus.
 abbrev pub UnsentLaw : Type 0
 UnsentLaw =
     (displays : List ℕ) (es : List Effect) (c : ℕ)
     → Lawful displays es → AllRise (past_of es) → live (past_of es) c ≡ true → is_named (snapshot (past_of es)) c ≡ false
     → stream_state (stream es c) ≡ Some unsent
 
--- Messages behind others after which nothing is known say what they say by themselves.
+-- Messages after others that leave nothing known say the same as on their own.
 abbrev pub AloneLaw : Type 0
 AloneLaw = (newer older : List Message) → stream_state older ≡ Some unsent → stream_state (newer ++ older) ≡ stream_state newer
 
--- What a client was sent since it was opened is well-formed by itself, from the empty state: it was never told what belongs to a client
--- before it. And while it is open, it knows from that just what its window holds.
+-- What a client was sent since it was opened is well-formed by itself, from the empty state: it was never sent
+-- anything that belongs to an earlier client. While it is open, it knows from that exactly what its window holds.
 abbrev pub OwnLaw : Type 0
 OwnLaw =
     (displays : List ℕ) (es : List Effect) (s : LiveState) (k : Client)
     → LiveIs displays es s → is_open s.seats k ≡ true
     → stream_state (sent_since (seat_of s.seats k.channel) (stream es k.channel)) ≡ Some (known_state es k.channel)
 
--- These messages are numbered from 1, their moments do not fall, and all that its channel had before it was received before it.
+-- These messages are numbered from 1, their moments never decrease, and everything that its channel had before the
+-- client was received before it.
 abbrev pub OwnNumbersLaw : Type 0
 OwnNumbersLaw =
     (displays : List ℕ) (es : List Effect) (s : LiveState) (k : Client)
@@ -63,7 +65,7 @@ OwnNumbersLaw =
     × NeverFalls (clock (past_of es)) (sent_since (seat_of s.seats k.channel) (stream es k.channel))
     × ((seat_of s.seats k.channel).before ≤ received (past_of es) k.channel)
 
--- What it takes is the next one of these, in their order.
+-- It receives these messages in their order.
 abbrev pub NextLaw : Type 0
 NextLaw =
     (displays : List ℕ) (es : List Effect) (s : LiveState) (k : Client) (m : Message)
@@ -71,8 +73,8 @@ NextLaw =
     → let seat = seat_of s.seats k.channel in handed seat (got (reply_to es (Receive k.channel))) ≡ Some m
     → slice_get (reverse (sent_since seat (stream es k.channel))) (taken seat es k.channel) ≡ Some m
 
--- A channel that was opened, and on which nobody is open, has no window, and the focus of no display was requested last for it; none of its
--- messages is unfinished, and none is kept.
+-- An opened channel on which no client is open has no window, and no display's focus was last requested for it. None
+-- of its messages is unfinished, and none is kept.
 abbrev pub VacantLaw : Type 0
 VacantLaw =
     (displays : List ℕ) (es : List Effect) (s : LiveState) (c : ℕ)
@@ -81,7 +83,7 @@ VacantLaw =
     × ((y : ℕ) → y < 4 → is_at (requested (past_of es) y) c ≡ false)
     × (unfinished es c ≡ []) × (messages_of es s.dispatcher c ≡ Some [])
 
--- It is sent nothing by any call, as long as nobody is opened on it.
+-- No call sends it anything until a client is opened on it.
 abbrev pub ClosedLaw : Type 0
 ClosedLaw =
     (displays : List ℕ) (call : Call) (es : List Effect) (s t : LiveState) (c : ℕ)
@@ -89,7 +91,7 @@ ClosedLaw =
     → is_held (seat_of s.seats c) ≡ false → is_held (seat_of t.seats c) ≡ false
     → stream (answered displays call es) c ≡ stream es c
 
--- Of a channel that was opened just the messages are kept that were not received yet, and at most 64 are published and not finished.
+-- Of an opened channel, exactly the messages not yet received are kept, and at most 64 are published and not finished.
 abbrev pub KeptLaw : Type 0
 KeptLaw =
     (displays : List ℕ) (es : List Effect) (s : LiveState) (c : ℕ)
@@ -97,7 +99,7 @@ KeptLaw =
     → (messages_of es s.dispatcher c ≡ Some (drop (received (past_of es) c) (reverse (stream es c))))
     × (length (unfinished es c) ≤ 64)
 
--- No naming of a timeout is kept.
+-- No ANR is kept.
 abbrev pub AnrsLaw : Type 0
 AnrsLaw =
     (displays : List ℕ) (es : List Effect) (s : LiveState)

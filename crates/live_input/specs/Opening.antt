@@ -18,7 +18,8 @@ use Rattle.live_input.specs.State.{LiveState}
 abbrev pub opening : List ℕ → (limit channel : ℕ) → List Effect → List Effect
 opening displays limit c es = if nat_le c (opened (past_of es)) then es else answered displays (Open limit) es
 
--- The client has the first vacant channel, and a generation that no client had before. The other seats stay as they are.
+-- The client has the first vacant channel, and a generation that no earlier client had. The other seats stay as they
+-- are.
 pub record Opens (client : Client) (old new : LiveState) : Type 0 where
   pub first : first_vacant old.seats ≡ Some client.channel
   pub generation_is : client.generation ≡ old.opened + 1
@@ -37,8 +38,8 @@ pub record IsNext (c : ℕ) (es : List Effect) : Type 0 where
   pub to : c ≤ 64
   pub next : c ≤ opened (past_of es) + 1
 
--- After that the service stands for the history with what opens the channel, and the client's seat says how many messages of the channel
--- are from before it.
+-- After that the service stands for the history with the call that opens the channel, if any, and the client's seat
+-- says how many messages of the channel are from before it.
 pub record OpensOn (displays : List ℕ) (es : List Effect) (client : Client) (old new : LiveState) : Type 0 where
   pub is : LiveIs displays (opening displays old.limit client.channel es) new
   pub before_is : (seat_of new.seats client.channel).before ≡ length (stream (opening displays old.limit client.channel es) client.channel)
@@ -53,8 +54,9 @@ pub record Closes (client : Client) (old new : LiveState) : Type 0 where
   pub devices_are : new.devices ≡ old.devices
   pub pending_is : new.pending ≡ old.pending
 
--- A client that is open is closed: its window is hidden, its requests are forgotten, and all that is left for it is received and finished.
--- Without memory it is still open, and the service stands for some history, with some of these calls.
+-- An open client is closed: its window is hidden, its requests are withdrawn, and everything left for it is received
+-- and finished. If memory runs out, it is still open, and the service stands for some history with some of these
+-- calls.
 abbrev pub CloseGoes : List ℕ → (now : ℕ) → Client → List Effect → Result (Unit {0}) CloseRefused → (old new : LiveState) → Type 0
 CloseGoes displays now k es (Ok done) old new =
     Closes k old new

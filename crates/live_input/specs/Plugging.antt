@@ -10,7 +10,8 @@ use Rattle.live_input.specs.State.{LiveState}
 abbrev pub is_slots : ℕ → Bool
 is_slots n = nat_le 1 n && nat_le n 16
 
--- The device has the least number of its display that is free, and begins as its plan says. It is refused where no number is free.
+-- The device gets the lowest free number of its display, and starts as its plan says. It is refused if no number is
+-- free.
 abbrev pub Adds : (plan : ℕ → DevicePlan) → (display : ℕ) → Result ℕ AddRefused → (old new : LiveState) → Type 0
 Adds plan y (Ok d) old new = IsFirstFree old.dispatcher.displays old.devices y (Some d) × StandsAt (plan d) [] d new.devices
 Adds plan y (Err TooMany) old new = IsFirstFree old.dispatcher.displays old.devices y None

@@ -1,4 +1,4 @@
--- What is let go after a call.
+-- What is released after a call.
 use Rattle.std.specs.Prelude.{ℕ, ◌≡◌, ◌≤◌, Bool, true, false, List, length, Option, Some, None}
 use Rattle.focus_resolver.specs.Resolver.{is_at}
 use Rattle.dispatch_calls.specs.declared.call.Call.{Call}
@@ -19,7 +19,7 @@ abbrev pub is_tick : Call → Bool
 is_tick (Tick now) = true
 is_tick call = false
 
--- what was received is let go, but for that of a channel, and all namings are, but where there are new ones
+-- what was received is released, except that of one channel, and all ANRs are, unless there are new ones
 pub record AreReleasedBut (from : Option ℕ) (ticks : Bool) (es : List Effect) (d : Dispatching) : Type 0 where
   pub messages_are : (c : ℕ) → 1 ≤ c → is_at from c ≡ false → gone d c ≡ received (past_of es) c
   pub anrs_are : ticks ≡ false → anrs_released d ≡ length (anrs es)

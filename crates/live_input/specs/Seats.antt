@@ -1,11 +1,11 @@
--- Who is open on which channel.
+-- Which client is open on which channel.
 use Rattle.std.specs.Prelude.{ℕ, ◌≡◌, ◌≤◌, ◌-◌, ◌+◌, min, ◌^◌, Bool, true, false, ◌==◌, ◌&&◌, not, is_some, List, slice_index_or, slice_set, Option, Some, None, option_map}
 use Rattle.std.specs.List.{list_all, position}
 use Rattle.window_snapshot.specs.Mask.{is_channel}
 use Rattle.live_input.specs.declared.client.Client.{Client}
 use Rattle.live_input.specs.declared.client.Seat.{Seat}
 
--- a channel on which nobody is open
+-- a channel on which no client is open
 abbrev pub vacant : Seat
 vacant = record { holder = None; before = 0 }
 
@@ -13,11 +13,11 @@ vacant = record { holder = None; before = 0 }
 abbrev pub seat_of : List Seat → ℕ → Seat
 seat_of seats c = slice_index_or seats (c - 1) vacant
 
--- somebody is open on it
+-- a client is open on it
 abbrev pub is_held : Seat → Bool
 is_held s = is_some s.holder
 
--- somebody is open on a channel
+-- a client is open on a channel
 abbrev pub IsHeld : ℕ → List Seat → Type 0
 IsHeld c seats = (1 ≤ c) × (c ≤ 64) × (is_held (seat_of seats c) ≡ true)
 
@@ -34,7 +34,7 @@ is_open seats k = is_channel k.channel && is_of k.generation (seat_of seats k.ch
 abbrev pub is_full : List Seat → Bool
 is_full seats = list_all is_held seats
 
--- the first channel that nobody holds, if there is one
+-- the first channel that no client holds, if there is one
 abbrev pub first_vacant : List Seat → Option ℕ
 first_vacant seats = option_map (λ i. i + 1) (position (λ s. not (is_held s)) seats)
 

@@ -21,8 +21,8 @@ abbrev pub may_ask : List Seat → Option Client → Bool
 may_ask seats None = true
 may_ask seats (Some k) = is_open seats k
 
--- After a request the service stands for the history with it. One for a client that is not open is refused, and changes nothing; want of
--- memory changes nothing either.
+-- After a request the service stands for the history with it. A request for a client that is not open is refused and
+-- changes nothing; if memory runs out, nothing changes either.
 abbrev pub FocusGoes : List ℕ → (now display : ℕ) → Option Client → List Effect → Result (Unit {0}) FocusRefused → (old new : LiveState) → Type 0
 FocusGoes displays now display client es (Ok done) old new =
     (may_ask old.seats client ≡ true) × LiveIs displays (answered displays (FocusOn now display (channel_of client)) es) new

@@ -24,7 +24,7 @@ pub record AreRequested (h : History) (channels : List (Option ℕ)) (display : 
   pub display_is : display ≡ asked h
   pub within : display < 4
 
--- every channel that was opened is live, and those that clients hold were opened
+-- every opened channel is live, and those that clients hold were opened
 pub record AreSeated (h : History) (seats : List Seat) : Type 0 where
   pub all : length seats ≡ 64
   pub lives : (c : ℕ) → 1 ≤ c → c ≤ opened h → live h c ≡ true
@@ -35,7 +35,7 @@ pub record IsDone (es : List Effect) (c : ℕ) : Type 0 where
   pub received_all : received (past_of es) c ≡ length (stream es c)
   pub finished_all : unfinished es c ≡ []
 
--- A channel is a client's since it had this many messages: after those nothing is known, and they were received.
+-- A channel has belonged to a client since it had this many messages: these leave nothing known, and were received.
 pub record Begins (es : List Effect) (c before : ℕ) : Type 0 where
   pub newer : List Message
   pub older : List Message
@@ -44,7 +44,7 @@ pub record Begins (es : List Effect) (c before : ℕ) : Type 0 where
   pub ended : stream_state older ≡ Some unsent
   pub taken : before ≤ received (past_of es) c
 
--- these are windows of clients that are open
+-- these are windows of open clients
 abbrev pub AreOfHeld : List Window → List Seat → Type 0
 AreOfHeld ws seats = (c : ℕ) → is_named ws c ≡ true → IsHeld c seats
 
@@ -53,21 +53,21 @@ abbrev pub IsOfSome : Option ℕ → List Seat → Type 0
 IsOfSome None seats = Unit {0}
 IsOfSome (Some c) seats = IsHeld c seats
 
--- Only clients that are open have windows, and the focus was requested last only for such. Of a channel that nobody is open on all is received and finished; a client begins with nothing
--- of those before it.
+-- Only open clients have windows, and the last focus requests are only for open clients. On a channel on which no
+-- client is open, everything is received and finished. A client starts with nothing from those before it.
 pub record AreTenants (es : List Effect) (seats : List Seat) : Type 0 where
   pub shown : AreOfHeld (snapshot (past_of es)) seats
   pub asked : (y : ℕ) → y < 4 → IsOfSome (requested (past_of es) y) seats
   pub left : (c : ℕ) → 1 ≤ c → c ≤ opened (past_of es) → is_held (seat_of seats c) ≡ false → IsDone es c
   pub begun : (c : ℕ) → IsHeld c seats → Begins es c (seat_of seats c).before
 
--- of each channel just the messages that were received are let go, and all namings are
+-- exactly the received messages of each channel are released, and so are all ANRs
 pub record AreReleased (es : List Effect) (d : Dispatching) : Type 0 where
   pub messages_are : (c : ℕ) → 1 ≤ c → gone d c ≡ received (past_of es) c
   pub anrs_are : anrs_released d ≡ length (anrs es)
 
--- The service, whose devices are on these displays, stands for a history with these effects: its dispatcher does, and what is kept beside
--- that is what the history says.
+-- The service, whose devices are on these displays, stands for a history with these effects: its dispatcher does, and
+-- what is kept besides agrees with the history.
 pub record LiveIs (displays : List ℕ) (es : List Effect) (s : LiveState) : Type 0 where
   pub stands : StandsFor es s.dispatcher
   pub displays_are : s.dispatcher.displays ≡ displays
@@ -89,7 +89,7 @@ is_plain (FocusOn now display channel) = false
 is_plain (Remove now channel) = false
 is_plain call = true
 
--- a message is received or finished only by a client that is open
+-- only an open client receives or finishes a message
 abbrev pub IsOfHeld : List Seat → Call → Type 0
 IsOfHeld seats (Receive c) = IsHeld c seats
 IsOfHeld seats (Finish now c seq) = IsHeld c seats

@@ -6,10 +6,11 @@ use Rattle.window_snapshot.specs.declared.window.Window.{Window}
 use Rattle.dispatcher.specs.Dispatching.{Dispatching}
 use Rattle.live_input.specs.declared.client.Seat.{Seat}
 
--- how long each client may leave a message unfinished; the dispatcher; who is open on which channel, and how many clients were opened so
--- far; the windows that were given last; for each display the channel for which the focus was requested last, and the display for which
--- one was requested last; the channels that were named unresponsive, of which the caller was not told yet; the readers of the devices that are
--- plugged in, that of device 1 first; what devices gave that is still to be handed in, the oldest first
+-- how long each client may leave a message unfinished; the dispatcher; which client is open on which channel, and how
+-- many clients were opened so far; the last windows; for each display the channel for which the focus was last
+-- requested, and the display of the last request; the channels that were reported unresponsive and not yet returned
+-- to the caller; the readers of the plugged-in devices, starting with device 1; what devices delivered that must
+-- still be handed in, oldest first
 pub record LiveState : Type 0 where
   pub limit : ℕ
   pub dispatcher : Dispatching

@@ -20,18 +20,18 @@ use Rattle.live_input.specs.State.{LiveState}
 abbrev pub window_of : ClientWindow → Window
 window_of w = record { channel = w.client.channel; display = w.display; frame = w.frame; region = w.region; flags = w.flags }
 
--- the place of the first window whose client is not open
+-- the index of the first window whose client is not open
 abbrev pub first_stale : List Seat → List ClientWindow → Option ℕ
 first_stale seats ws = position (λ w. not (is_open seats w.client)) ws
 
--- A snapshot is made of the windows where they make one. Want of memory is free.
+-- The windows make a snapshot if they can. Memory may run out at any time.
 abbrev pub IsSnapshotOf : List Window → Result (List Window) SnapshotError → Type 0
 IsSnapshotOf ws (Ok shown) = (shown ≡ ws) × (snapshot_of ws ≡ Ok ws)
 IsSnapshotOf ws (Err snapshot.Memory) = Unit {0}
 IsSnapshotOf ws (Err error) = snapshot_of ws ≡ Err error
 
--- After windows are shown the service stands for the history with that. Windows of a client that is not open, too many of them, and two of
--- one client are refused, in this order; what is refused changes nothing.
+-- After windows are shown, the service stands for the history with that call. Windows of a client that is not open,
+-- too many windows, and two windows of one client are refused, in this order. A refusal changes nothing.
 abbrev pub WindowsGo :
     List ℕ → (now : ℕ) → List ClientWindow → List Effect → Result (Unit {0}) WindowsRefused → (old new : LiveState) → Type 0
 WindowsGo displays now ws es (Ok done) old new =

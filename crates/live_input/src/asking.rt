@@ -1,4 +1,4 @@
-//! What can be asked of clients.
+//! What can be asked about clients.
 ghost use Rattle.std.specs.Prelude.{◌≡◌, ◌||◌, ℕ, true, false, not, is_some, List};
 ghost use Rattle.bits32.specs.Set.{is_in};
 ghost use Rattle.routing_rules.specs.Marks.{held};
@@ -35,8 +35,7 @@ impl Live {
         }
     }
 
-    /// The client that keys go to, if there is one: the one that has the focus of the display for which it was
-    /// requested last.
+    /// The client that keys go to, if there is one: the one that has the focus of the display of the last request.
     pub fn key_target(&self) -> Option<Client>
         ensures { (ds : List ℕ) (es : List Effect) → LiveIs ds es self.now
             → result ≡ client_of_some self.now.seats (key_target (past_of es)) }
@@ -44,8 +43,8 @@ impl Live {
         self.focused(self.asked)
     }
 
-    /// Whether a client is open and responds: it was not named unresponsive, or it finished a message since, and then
-    /// none was late. One that has nothing to finish responds.
+    /// Whether a client is open and responds: it was not reported unresponsive, or has since finished a message that
+    /// left none late. A client with nothing to finish responds.
     pub fn is_responsive(&self, client: Client) -> bool
         ensures stale { is_open self.now.seats client ≡ false → result ≡ false }
         ensures open { (ds : List ℕ) (es : List Effect) → LiveIs ds es self.now → is_open self.now.seats client ≡ true
@@ -73,7 +72,7 @@ impl Live {
     }
 }
 
-/// Whether a channel responds whose oldest message that is published and not finished is this, and which is due then.
+/// Whether a channel responds whose oldest published and unfinished message is this, and which is due then.
 fn responds(oldest: Option<u64>, due: Option<u64>) -> bool
     ensures { result ≡ (not (is_some oldest) || is_some due) }
 {

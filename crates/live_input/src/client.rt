@@ -9,8 +9,8 @@ use dispatch_calls::Reply;
 use input_types::Message;
 use window_snapshot::is_channel;
 
-/// A client of a live service: a channel, and which of the clients that were opened on it one after another. Once it is
-/// closed it is stale for good: no call takes it for the one that has its channel later.
+/// A client of a live service: a channel and a generation, since clients are opened on a channel one after another.
+/// Once closed it is stale for good: no call mistakes it for a later client of its channel.
 #[derive(Clone, Copy, Debug, PartialEq, Eq)]
 pub struct Client {
     pub(crate) channel: u32,
@@ -19,8 +19,9 @@ pub struct Client {
 }
 
 impl Client {
-    /// The client of a channel and a generation, as [`channel`](Client::channel) and [`generation`](Client::generation)
-    /// gave them. Any numbers may be given: each call asks whether the client is open.
+    /// The client of a channel and a generation, as [`channel`](Client::channel) and
+    /// [`generation`](Client::generation) gave them. Any numbers may be given: each call checks whether the client is
+    /// open.
     pub fn of(channel: u32, generation: u64) -> Client
         ensures { result ≡ record { channel = channel; generation = generation } }
     {
@@ -37,7 +38,7 @@ impl Client {
         self.channel
     }
 
-    /// How many clients were opened up to this one, on any channel: no two clients of a service have the same.
+    /// How many clients were opened up to this one, on any channel. It differs for any two clients of a service.
     pub fn generation(&self) -> u64
         ensures { result ≡ self.now.generation }
     {
@@ -54,7 +55,7 @@ pub(crate) struct Seat {
 }
 
 impl Seat {
-    /// Whether somebody is open on it.
+    /// Whether a client is open on it.
     pub(crate) fn is_held(&self) -> bool
         ensures { result ≡ is_held self.now }
     {
@@ -68,7 +69,7 @@ impl Seat {
         self.before.saturating_add(seq)
     }
 
-    /// What the client gets of the answer to a receive.
+    /// What the client gets from the reply to a receive.
     pub(crate) fn handed(&self, reply: &Reply) -> Option<Message>
         ensures { result ≡ handed self.now (got reply.now) }
     {
@@ -78,7 +79,7 @@ impl Seat {
         }
     }
 
-    /// A message as the client gets it.
+    /// A message as the client receives it.
     fn for_client(&self, message: &Message) -> Message
         ensures { result ≡ for_client self.now message.now }
     {
@@ -128,7 +129,7 @@ pub(crate) fn client_of(channel: u32, holder: Option<u64>) -> Option<Client>
     }
 }
 
-/// A client has the seat of a channel.
+/// Gives the seat of a channel to a client.
 pub(crate) fn occupy(seats: &mut [Seat; 64], channel: u32, generation: u64, before: u64)
     requires { is_channel channel ≡ true }
     ensures { seats.new ≡ with_seat channel (record { holder = Some generation; before = before }) seats.old }
@@ -139,7 +140,7 @@ pub(crate) fn occupy(seats: &mut [Seat; 64], channel: u32, generation: u64, befo
     };
 }
 
-/// Nobody has the seat of a channel any more.
+/// Vacates the seat of a channel.
 pub(crate) fn vacate(seats: &mut [Seat; 64], channel: u32)
     requires { is_channel channel ≡ true }
     ensures { seats.new ≡ with_seat channel

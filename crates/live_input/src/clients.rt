@@ -43,10 +43,10 @@ impl Live {
         }
     }
 
-    /// A client more, on the first channel on which nobody is open.
+    /// Opens a client on the first channel on which none is open.
     ///
-    /// A channel that was used is used again; what it was sent before is none of the new client's. Its generation is
-    /// one that no client had before.
+    /// A used channel is used again; the new client sees nothing that was sent to it before. No earlier client had
+    /// its generation.
     pub fn open(&mut self) -> Result<Client, OpenRefused>
         ensures full { (result ≡ Err OpenRefused.Full) ↔ (is_full self.old.seats ≡ true) }
         ensures seat { IfOk result (λ client. Opens client self.old self.new) }
@@ -74,8 +74,7 @@ impl Live {
         }
     }
 
-    /// A channel that was not opened yet is opened. The answer is how many messages it has. Without memory nothing
-    /// changes.
+    /// Opens a channel that was not opened yet. Returns how many messages it has. If memory runs out, nothing changes.
     fn open_channel(&mut self, channel: u32) -> Result<u64, AllocError>
         ensures after { (ds : List ℕ) (es : List Effect) → LiveIs ds es self.old → IsNext channel es
             → OnOk result (LiveIs ds (opening ds self.old.limit channel es) self.new) }
@@ -96,9 +95,9 @@ impl Live {
         }
     }
 
-    /// A client less. Its window is not shown any more, so its pointers and keys are cancelled and it loses the focus;
-    /// the focus is requested for it on no display, and keys go to the display to which they went; all its messages are
-    /// received and finished. Nothing of it is left, and its channel can be used again.
+    /// Closes a client. Its window is no longer shown, so its pointers and keys are cancelled and it loses the focus.
+    /// Its focus requests are withdrawn, and keys stay on the display to which they went. All its messages are
+    /// received and finished. Nothing of it remains, and its channel can be used again.
     pub fn close(&mut self, now: Moment, client: Client) -> Result<(), CloseRefused>
         ensures stale { is_open self.old.seats client ≡ false
             → (result ≡ Err CloseRefused.NotOpen) × (self.new ≡ self.old) }
@@ -119,7 +118,7 @@ impl Live {
         }
     }
 
-    /// Nothing is left of the client of a channel.
+    /// Removes everything of the client of a channel.
     fn empty(&mut self, now: Moment, channel: u32) -> Result<(), AllocError>
         ensures done { (ds : List ℕ) (es : List Effect) → LiveIs ds es self.old → IsHeld channel self.old.seats
             → OnOk result (Settles ds (next_left now channel)
@@ -138,7 +137,7 @@ impl Live {
     }
 }
 
-/// The first channel on which nobody is open.
+/// The first channel on which no client is open.
 fn first_vacant(seats: &[Seat; 64]) -> Option<u32>
     ensures value { result ≡ first_vacant seats.now }
     ensures channel { (c : ℕ) → result ≡ Some c → is_channel c ≡ true }
@@ -149,7 +148,7 @@ fn first_vacant(seats: &[Seat; 64]) -> Option<u32>
     }
 }
 
-/// The place of the first seat on which nobody is.
+/// The index of the first vacant seat.
 fn place_vacant(seats: &[Seat]) -> Option<usize>
     ensures { result ≡ position (λ s. not (is_held s)) seats.now }
 {

@@ -23,7 +23,7 @@ use std::alloc::{AllocError, Global};
 use window_snapshot::{Snapshot, Window};
 
 impl Live {
-    /// The windows are shown without that of a channel, where it has one. Without memory nothing changes.
+    /// Shows the windows without that of a channel, if it has one. If memory runs out, nothing changes.
     pub(crate) fn hide(&mut self, now: Moment, channel: u32) -> Result<(), AllocError>
         ensures after { (ds : List ℕ) (es : List Effect) → LiveIs ds es self.old
             → OnOk result (LiveIs ds (hidden ds now channel es) self.new) }
@@ -39,7 +39,7 @@ impl Live {
         self.show(now, others)
     }
 
-    /// Where the focus of a display was requested for a channel, it is requested for none. Without memory nothing
+    /// If the focus of a display was requested for a channel, requests it for none. If memory runs out, nothing
     /// changes.
     fn forget_on(&mut self, now: Moment, display: DisplayId, channel: u32) -> Result<(), AllocError>
         ensures after { (ds : List ℕ) (es : List Effect) → LiveIs ds es self.old
@@ -56,8 +56,8 @@ impl Live {
         }
     }
 
-    /// The focus of each display that was requested for a channel is requested for none, and then keys go to the
-    /// display to which they went.
+    /// Requests the focus of each display that was requested for a channel for none, and then restores the display to
+    /// which keys went.
     pub(crate) fn forget(&mut self, now: Moment, channel: u32) -> Result<(), AllocError>
         ensures after { (ds : List ℕ) (es : List Effect) → LiveIs ds es self.old
             → OnOk result (LiveIs ds (forgotten ds now channel es) self.new) }
@@ -85,7 +85,7 @@ impl Live {
         self.requested[usize::from(display.get())]
     }
 
-    /// All messages of a channel are received and finished, and the channel lets them go.
+    /// Receives and finishes all messages of a channel, which releases them.
     pub(crate) fn drain(&mut self, now: Moment, channel: u32) -> Result<(), AllocError>
         ensures done { (ds : List ℕ) (es : List Effect) → LiveIs ds es self.old → IsHeld channel self.old.seats
             → OnOk result (Settles ds (next_left now channel) es self.new) }
@@ -123,7 +123,7 @@ fn next_left(dispatcher: &Dispatcher, now: Moment, channel: u32) -> Option<Call>
     }
 }
 
-/// The number of the oldest message of a channel that is published and not finished.
+/// The number of the oldest published and unfinished message of a channel.
 pub(crate) fn oldest(dispatcher: &Dispatcher, channel: u32) -> Option<u64>
     ensures { (es : List Effect) → IsAfter es dispatcher.now → is_opened es channel ≡ true
         → result ≡ option_map (λ m. m.seq) (oldest es channel) }
@@ -177,7 +177,7 @@ fn without(alloc: Global, windows: &Snapshot, channel: u32) -> Result<Snapshot, 
     }
 }
 
-/// Copies of the windows but for that of a channel.
+/// Copies of the windows except that of a channel.
 fn copies(alloc: Global, windows: &[Window], channel: u32) -> Result<Vec<Window>, AllocError>
     ensures { IfOk result (λ others. others.items ≡ without channel windows.now) }
 {

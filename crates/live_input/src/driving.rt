@@ -1,4 +1,4 @@
-//! Args that wait, and what is due.
+//! Waiting args, and what is due.
 ghost use Rattle.std.specs.Prelude.{◌≡◌, ◌⊎◌, ℕ, ◌||◌, true, List, [], Option, IfOk, OnOk, OnErr};
 ghost use Rattle.dispatch_calls.specs.declared.call.Call.TheVariants.{Tick};
 ghost use Rattle.dispatch_history.specs.Delivery.{is_named_by};
@@ -20,7 +20,7 @@ use input_types::Moment;
 use std::alloc::AllocError;
 
 impl Live {
-    /// Args that wait are dispatched, until none wait.
+    /// Dispatches waiting args until none wait.
     pub(crate) fn dispatch_waiting(&mut self, now: Moment) -> Result<(), AllocError>
         ensures goes { (ds : List ℕ) (es : List Effect) → LiveIs ds es self.old
             → Reaches ds (next_waiting now) es self.new }
@@ -39,7 +39,7 @@ impl Live {
     }
 
     /// The first moment at which something is due: a client that leaves a message unfinished for too long, or the
-    /// repeat of a key that is held.
+    /// repeat of a held key.
     pub fn due(&self) -> Option<u64>
         ensures { (ds : List ℕ) (es : List Effect) → LiveIs ds es self.now
             → result ≡ sooner (timeout es) (next_repeat es) }
@@ -47,9 +47,9 @@ impl Live {
         sooner(timeout(&self.dispatcher), self.dispatcher.repeat_due())
     }
 
-    /// All is done that is due up to now, one after another, each at its moment, after what devices gave that is still
-    /// to be handed in. The answer is the mask of the channels that were named unresponsive, by this call and by those
-    /// before it that ended for want of memory.
+    /// Runs everything that is due up to now, one call after another, each at its moment, after handing in what
+    /// devices delivered and still waits for that. Returns the mask of the channels that were reported unresponsive,
+    /// by this call and by those before it that ran out of memory.
     pub fn advance(&mut self, now: Moment) -> Result<u64, AllocError>
         ensures ok { (ds : List ℕ) (es : List Effect) → LiveIs ds es self.old
             → IfOk result (λ mask. Advanced ds now (notified ds now es self.old.pending) mask self.old self.new) }
@@ -66,7 +66,7 @@ impl Live {
         }
     }
 
-    /// All is done that is due up to now.
+    /// Runs everything that is due up to now.
     fn catch_up(&mut self, now: Moment) -> Result<u64, AllocError>
         ensures ok { (ds : List ℕ) (es : List Effect) → LiveIs ds es self.old
             → IfOk result (λ mask. Advanced ds now es mask self.old self.new) }
@@ -85,7 +85,7 @@ impl Live {
         Err(AllocError)
     }
 
-    /// One call. The channels that it names unresponsive are noted.
+    /// Makes one call, and records the channels that it reports unresponsive.
     fn note(&mut self, call: &Call) -> Result<(), AllocError>
         ensures after { (ds : List ℕ) (es : List Effect) → LiveIs ds es self.old → is_plain call.now ≡ true
             → IsOfHeld self.old.seats call.now → OnOk result (LiveIs ds (answered ds call.now es) self.new) }
@@ -105,7 +105,7 @@ impl Live {
     }
 }
 
-/// The mask of the channels that a call named unresponsive.
+/// The mask of the channels that a call reported unresponsive.
 fn named_by(call: &Call, reply: &Reply) -> u64
     ensures { (c : ℕ) → mask_has result c ≡ is_named_by call.now reply.now c }
 {
@@ -115,7 +115,7 @@ fn named_by(call: &Call, reply: &Reply) -> u64
     }
 }
 
-/// The mask of the channels that the answer to a tick names.
+/// The mask of the channels in the reply to a tick.
 fn named_in(reply: &Reply) -> u64
     ensures { (now c : ℕ) → mask_has result c ≡ is_named_by (Tick now) reply.now c }
 {

@@ -1,4 +1,4 @@
-//! What devices give: events, and args that are ready.
+//! What devices deliver: events, and args that are ready.
 ghost use Rattle.std.specs.Prelude.{◌≡◌, ◌==◌, ◌&&◌, ◌≤◌, ℕ, true, false, List, [], ◌∷◌, drop, slice_get, Err, IfOk, OnOk, OnErr};
 ghost use Rattle.dispatch_calls.specs.declared.call.Call.TheVariants.{Notify};
 ghost use Rattle.dispatch_history.specs.Effect.{Effect};
@@ -21,13 +21,13 @@ use raw_events::RawEvent;
 use std::alloc::AllocError;
 
 impl Live {
-    /// An event of a device, as the kernel's `struct input_event` has it: its reader takes it, and what that gives is
-    /// dispatched to the windows.
+    /// Hands in an event of a device, as in the kernel's `struct input_event`. Its reader cooks it, and the resulting
+    /// args are dispatched to the windows.
     ///
-    /// After a SYN_DROPPED the device begins anew, and all that was down on it is cancelled. What it holds then is
-    /// handed in as events too: each slot with a finger, with its tracking id and position, and a SYN_REPORT. libevdev
-    /// has them (`libevdev_get_slot_value`) once its sync is done, whose events are only what has changed. So it is for
-    /// a device that is plugged in while fingers are down.
+    /// After a SYN_DROPPED the device is reset, and everything that was down on it is cancelled. The caller must then
+    /// hand in the device's current state as events too: each slot with a finger, with its tracking id and position,
+    /// and a SYN_REPORT. libevdev provides it (`libevdev_get_slot_value`) once its sync is done; the events of the
+    /// sync only contain what has changed. The same applies to a device that is plugged in while fingers are down.
     pub fn event(
         &mut self,
         now: Moment,
@@ -60,7 +60,7 @@ impl Live {
         }
     }
 
-    /// Motions and keys that are ready, of a device that is plugged in, are dispatched to the windows.
+    /// Dispatches motions and keys that are ready, of a plugged-in device, to the windows.
     pub fn args(&mut self, now: Moment, args: Args) -> Result<(), ArgsRefused>
         ensures none { is_there self.old.devices (device_of args) ≡ false
             → (result ≡ Err ArgsRefused.NoDevice) × (self.new ≡ self.old) }
@@ -80,7 +80,7 @@ impl Live {
         }
     }
 
-    /// All that is still to be handed in is handed in, and dispatched.
+    /// Hands in everything that still waits for that, and dispatches it.
     pub(crate) fn deliver(&mut self, now: Moment) -> Result<(), ArgsRefused>
         ensures after { (ds : List ℕ) (es : List Effect) → LiveIs ds es self.old
             → Delivers ds now es self.old.pending result self.new }
@@ -103,7 +103,7 @@ impl Live {
         }
     }
 
-    /// What is still to be handed in is handed in, one after another. The answer is whether all of it was taken.
+    /// Hands in what still waits for that, one after another. Returns whether all of it was accepted.
     pub(crate) fn hand_in(&mut self, now: Moment) -> Result<bool, AllocError>
         ensures after { (ds : List ℕ) (es : List Effect) → LiveIs ds es self.old
             → OnOk result (LiveIs ds (notified ds now es self.old.pending) self.new) }
@@ -128,7 +128,7 @@ impl Live {
         Err(AllocError)
     }
 
-    /// Args are put behind those that wait, where they fit those that came before. The answer is whether they do.
+    /// Queues args behind those that wait, if they fit earlier ones. Returns whether they do.
     fn notify(&mut self, now: Moment, args: Args) -> Result<bool, AllocError>
         ensures after { (ds : List ℕ) (es : List Effect) → LiveIs ds es self.old
             → OnOk result (LiveIs ds (answered ds (Notify now args) es) self.new) }
@@ -145,7 +145,7 @@ impl Live {
     }
 }
 
-/// Whether all before fitted, and the next one does.
+/// Whether all earlier args fitted, and the next ones do.
 fn still_fits(fits: bool, is_taken: bool) -> bool
     ensures { result ≡ (fits && is_taken) }
 {

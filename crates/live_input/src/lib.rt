@@ -15,13 +15,13 @@
 //! finish 1, of the first client            NotOpen
 //! ```
 //!
-//! A [`Live`] is a dispatcher with the seats of 64 channels. What it keeps stands for a history of the dispatcher's
-//! calls (`LiveIs` of specs/Standing), as the dispatcher does: each call of the service is a stated list of those, and
-//! after it the service stands for the same history with these calls more (specs/Opening, Closing, Settling and
-//! Showing). So all that the history's definitions say of what windows are sent holds here.
+//! A [`Live`] is a dispatcher with the seats of 64 channels. Like the dispatcher, it stands for a history of the
+//! dispatcher's calls (`LiveIs` of specs/Standing). Each call of the service makes a stated list of these, and the
+//! service then stands for the history extended by them (specs/Opening, Closing, Settling and Showing). So everything
+//! that the history's definitions say about what windows are sent holds here.
 //!
-//! Why a channel can be used again: a channel whose window is not shown is sent nothing, and all that it was sent
-//! leaves nothing known (`laws`).
+//! A channel can be used again because one whose window is not shown is sent nothing, and what it was sent leaves
+//! nothing known (`laws`).
 #![tactic(auto)]
 
 mod asking;

@@ -20,25 +20,25 @@ use window_snapshot::Snapshot;
 
 /// A live service: the dispatcher, with clients and devices that come and go.
 ///
-/// What it keeps stands for a history of the dispatcher's calls, as the dispatcher does: each call of the service is a
-/// stated list of those, and after it the service stands for the same history with these calls more.
+/// Like the dispatcher, it stands for a history of the dispatcher's calls. Each call of the service makes a stated
+/// list of these, and the service then stands for the history extended by them.
 #[derive(Drop)]
 pub struct Live {
     pub(crate) alloc: Global,
     pub(crate) limit: Limit,
     pub(crate) dispatcher: Dispatcher,
-    /// That of channel 1 first.
+    /// Starting with channel 1.
     pub(crate) seats: [Seat; 64],
     /// How many clients were opened so far.
     pub(crate) opened: u64,
     pub(crate) windows: Snapshot,
-    /// For which channel the focus of each display was requested last, and for which display it was.
+    /// For which channel the focus of each display was last requested, and the display of the last request.
     pub(crate) requested: [Option<u32>; 4],
     pub(crate) asked: DisplayId,
-    /// The channels that were named unresponsive by an `advance` that ended for want of memory.
+    /// The channels that were reported unresponsive by an `advance` that ran out of memory.
     pub(crate) named: u64,
     pub(crate) devices: DeviceTable,
-    /// What devices gave that is still to be handed in, the oldest first: some only after want of memory.
+    /// What devices delivered that must still be handed in, oldest first. It is empty unless memory ran out.
     pub(crate) pending: Vec<Args>,
 }
 
@@ -63,7 +63,7 @@ impl Model for Live {
 
 impl Live {
     /// A service without clients, whose devices are on these displays. A client that leaves a message unfinished for
-    /// the limit is named unresponsive.
+    /// the limit is reported unresponsive.
     pub fn new(alloc: Global, limit: Limit, displays: &Displays) -> Result<Live, AllocError>
         ensures start { IfOk result (λ l. LiveIs displays.now [] l) }
         ensures limit { IfOk result (λ l. l.limit ≡ limit) }
@@ -89,15 +89,15 @@ impl Live {
         })
     }
 
-    /// The greatest moment that was handed in.
+    /// The clock: the latest moment of any call.
     pub fn clock(&self) -> Moment
         ensures { (ds : List ℕ) (es : List Effect) → LiveIs ds es self.now → result ≡ clock (past_of es) }
     {
         self.dispatcher.clock()
     }
 
-    /// One call of the dispatcher; what it received is let go, and what was noted of a tick. Without memory nothing
-    /// changes.
+    /// Makes one call of the dispatcher, and releases what it received and what a tick recorded. If memory runs out,
+    /// nothing changes.
     pub(crate) fn apply(&mut self, call: &Call) -> Result<Reply, AllocError>
         ensures after { (ds : List ℕ) (es : List Effect) → LiveIs ds es self.old → is_plain call.now ≡ true
             → IsOfHeld self.old.seats call.now → OnOk result (LiveIs ds (answered ds call.now es) self.new) }
@@ -115,7 +115,7 @@ impl Live {
         }
     }
 
-    /// One call of the dispatcher whose answer is not read. Without memory nothing changes.
+    /// Makes one call of the dispatcher without reading its reply. If memory runs out, nothing changes.
     pub(crate) fn make(&mut self, call: &Call) -> Result<(), AllocError>
         ensures after { (ds : List ℕ) (es : List Effect) → LiveIs ds es self.old → is_plain call.now ≡ true
             → IsOfHeld self.old.seats call.now → OnOk result (LiveIs ds (answered ds call.now es) self.new) }
@@ -132,7 +132,7 @@ impl Live {
     }
 }
 
-/// Nobody is open on any channel.
+/// Seats with no client open on any channel.
 fn vacant() -> [Seat; 64]
     ensures { result ≡ replicate 64 vacant }
 {

@@ -1,4 +1,4 @@
-//! What clients get, and what they are done with.
+//! What clients receive and finish.
 ghost use Rattle.std.specs.Prelude.{◌≡◌, ◌+◌, ◌&&◌, ℕ, true, false, List, Option, None, Ok, Err, IfOk, IfSome, OnOk, OnErr, is_some, if◌then◌else◌};
 ghost use Rattle.dispatch_calls.specs.declared.call.Call.TheVariants.{Receive, Finish, Pilfer};
 ghost use Rattle.dispatch_history.specs.Effect.{Effect, past_of};
@@ -23,9 +23,9 @@ use std::alloc::AllocError;
 use window_snapshot::mask_with;
 
 impl Live {
-    /// The next message of a client, which the service lets go: None where there is none, and for one that is not open.
-    /// Its number is counted from the messages that its channel had before the client. Without memory, which is asked
-    /// for only where the calls cannot be counted in 64 bits, nothing changes.
+    /// Receives the next message of a client, which the service releases: None if there is none, or if the client is
+    /// not open. Its number does not count the messages that its channel had before the client. If memory runs out,
+    /// nothing changes; that happens only if the calls can no longer be counted in 64 bits.
     pub fn next(&mut self, client: Client) -> Result<Option<Message>, AllocError>
         ensures stale { is_open self.old.seats client ≡ false → (result ≡ Ok None) × (self.new ≡ self.old) }
         ensures message { (ds : List ℕ) (es : List Effect) → LiveIs ds es self.old
@@ -55,7 +55,7 @@ impl Live {
         }
     }
 
-    /// A client is done with a message that it got.
+    /// A client finishes a message that it received.
     pub fn finish(&mut self, now: Moment, client: Client, seq: u64) -> Result<(), FinishRefused>
         ensures stale { is_open self.old.seats client ≡ false
             → (result ≡ Err FinishRefused.NotOpen) × (self.new ≡ self.old) }
@@ -119,7 +119,7 @@ impl Live {
         }
     }
 
-    /// The mask of the channels that have a message for their client: bit `channel - 1` stands for a channel.
+    /// The mask of the channels with a message for their client: bit `channel - 1` stands for a channel.
     pub fn waiting(&self) -> u64
         ensures { (ds : List ℕ) (es : List Effect) → LiveIs ds es self.now
             → (c : ℕ) → mask_has result c ≡ (is_channel c && is_some (got (reply_to es (Receive c)))) }
@@ -140,7 +140,7 @@ fn waiting(dispatcher: &Dispatcher) -> u64
     mask
 }
 
-/// The mask with a channel, where that has a message.
+/// The mask, with a channel added if it has a message.
 fn with_waiting(dispatcher: &Dispatcher, mask: u64, channel: u32) -> u64
     ensures { (es : List Effect) → StandsFor es dispatcher.now
         → result ≡ (if is_some (got (reply_to es (Receive channel))) then mask_with mask channel else mask) }
@@ -152,7 +152,7 @@ fn with_waiting(dispatcher: &Dispatcher, mask: u64, channel: u32) -> u64
     }
 }
 
-/// Whether a call did what it says.
+/// Whether a call succeeded.
 fn is_done(reply: &Reply) -> bool
     ensures { result ≡ is_done reply.now }
 {

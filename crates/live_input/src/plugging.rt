@@ -16,10 +16,10 @@ use key_layout::Layout;
 use touch_mapper::Cook;
 
 impl Live {
-    /// A touch device of a display is plugged in, with 1 to 16 slots, whose positions become pixels by `cook`. It has
-    /// the least number of its display that is free.
+    /// Plugs in a touch device of a display, with 1 to 16 slots; `cook` turns its positions into pixels. It gets the
+    /// lowest free number of its display.
     ///
-    /// Fingers that are down on it already are handed in as events, as after a SYN_DROPPED.
+    /// The caller hands in fingers that are already down on it as events, as after a SYN_DROPPED.
     pub fn add_touch(
         &mut self,
         display: DisplayId,
@@ -45,8 +45,8 @@ impl Live {
         Ok(device)
     }
 
-    /// A device with keys is plugged in, whose layout says which key code each scan code has. It has the least number
-    /// of its display that is free; its keys go where all keys go.
+    /// Plugs in a device with keys, whose layout says which key code each scan code has. It gets the lowest free
+    /// number of its display; its keys go where all keys go.
     pub fn add_keys(&mut self, display: DisplayId, layout: Layout) -> Result<DeviceId, AddRefused>
         ensures added { Adds (λ d. Keys (record { device = d; layout = layout })) display result self.old self.new }
         ensures rest { self.new ≡ record self.old { devices = self.new.devices } }
@@ -62,7 +62,7 @@ impl Live {
         Ok(device)
     }
 
-    /// A device is unplugged. Its pointers and keys are cancelled as by a reset, and its number is free.
+    /// Unplugs a device. Its pointers and keys are cancelled as by a reset, and its number is free again.
     pub fn remove_device(&mut self, now: Moment, device: DeviceId) -> Result<(), ArgsRefused>
         ensures none { is_there self.old.devices device ≡ false
             → (result ≡ Err ArgsRefused.NoDevice) × (self.new ≡ self.old) }

@@ -5,62 +5,62 @@
 pub enum OpenRefused {
     /// 64 clients are open.
     Full,
-    /// Want of memory, or of generations: 2^64 - 1 clients were opened.
+    /// Out of memory, or out of generations: 2^64 - 1 clients were opened.
     Memory,
 }
 
 /// Why a client is not closed.
 #[derive(Clone, Copy, Debug, PartialEq, Eq)]
 pub enum CloseRefused {
-    /// It is not open, or not any more. Nothing changed.
+    /// It is not open, or no longer open. Nothing changed.
     NotOpen,
-    /// Want of memory. The client is still open, but may have lost its window and its requests of the focus.
+    /// Out of memory. The client is still open, but may have lost its window and its focus requests.
     Memory,
 }
 
 /// Why windows are not shown. Nothing changed.
 #[derive(Clone, Copy, Debug, PartialEq, Eq)]
 pub enum WindowsRefused {
-    /// The client of the window at this place, from 0, is not open. It is the first such window.
+    /// The client of the window at this index, from 0, is not open. It is the first such window.
     NotOpen { place: usize },
     /// More than 64 windows, all of clients that are open.
     TooMany,
     /// A client has two windows.
     Twice { channel: u32 },
-    /// Want of memory.
+    /// Out of memory.
     Memory,
 }
 
 /// Why the focus is not requested. Nothing changed.
 #[derive(Clone, Copy, Debug, PartialEq, Eq)]
 pub enum FocusRefused {
-    /// The client is not open, or not any more.
+    /// The client is not open, or no longer open.
     NotOpen,
-    /// Want of memory.
+    /// Out of memory.
     Memory,
 }
 
 /// Why a message is not finished. Nothing changed but the clock.
 #[derive(Clone, Copy, Debug, PartialEq, Eq)]
 pub enum FinishRefused {
-    /// The client is not open, or not any more.
+    /// The client is not open, or no longer open.
     NotOpen,
-    /// The client did not get the message, or finished it already.
+    /// The client did not receive the message, or finished it already.
     UnknownSeq,
-    /// Want of memory, which is asked for only where the calls cannot be counted in 64 bits.
+    /// Out of memory, which happens only if the calls can no longer be counted in 64 bits.
     Memory,
 }
 
 /// Why a device is not pilfered. Nothing changed but the clock.
 #[derive(Clone, Copy, Debug, PartialEq, Eq)]
 pub enum PilferRefused {
-    /// The client is not open, or not any more.
+    /// The client is not open, or no longer open.
     NotOpen,
-    /// The windows that are shown have no spy of this client.
+    /// No spy of this client is among the windows shown.
     NotSpy,
     /// The spy holds no pointer of the device.
     NothingHeld,
-    /// Want of memory.
+    /// Out of memory.
     Memory,
 }
 
@@ -73,17 +73,17 @@ pub enum AddRefused {
     BadSlots,
 }
 
-/// Why what a device gives is not dispatched.
+/// Why what a device delivers is not dispatched.
 #[derive(Clone, Copy, Debug, PartialEq, Eq)]
 pub enum ArgsRefused {
     /// The device is not plugged in. Nothing changed.
     NoDevice,
-    /// Some of it does not fit what was handed in of its device before, and was not taken. The rest was dispatched.
-    /// What a device's own events give always fits where no args were handed in for it.
+    /// Some of it does not fit what its device did before, and was not accepted. The rest was dispatched. A device's
+    /// own events always fit unless args were handed in for it too.
     Inconsistent,
-    /// Want of memory, and nothing was taken. Nothing changed.
+    /// Out of memory; nothing was accepted. Nothing changed.
     Memory,
-    /// Want of memory after it was taken: it waits, in its order, and is dispatched by the next call that has the
-    /// memory and gives something or advances.
+    /// Out of memory after it was accepted: it waits in order, and the next call that has the memory and delivers
+    /// something or advances dispatches it.
     Waits,
 }

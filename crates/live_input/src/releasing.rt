@@ -1,4 +1,4 @@
-//! What is let go, so that nothing grows for weeks.
+//! What is released, so that nothing grows over weeks.
 ghost use Rattle.std.specs.Prelude.{◌≡◌, List, Option};
 ghost use Rattle.dispatch_history.specs.Effect.{Effect};
 ghost use Rattle.dispatcher.specs.Dispatching.{StandsFor};
@@ -8,7 +8,7 @@ ghost use Rattle.live_input.specs.Standing.{AreReleased};
 use dispatch_calls::Call;
 use dispatcher::Dispatcher;
 
-/// After a call the message that it received is let go, and what was noted of a tick.
+/// Releases, after a call, the message that it received and what a tick recorded.
 pub(crate) fn release_after(dispatcher: &mut Dispatcher, call: &Call)
     ensures stays { (es : List Effect) → StandsFor es dispatcher.old → StandsFor es dispatcher.new }
     ensures displays { dispatcher.new.displays ≡ dispatcher.old.displays }
@@ -32,7 +32,7 @@ fn receives_from(call: &Call) -> Option<u32>
     }
 }
 
-/// Whether a call is a tick. No other call names a channel unresponsive.
+/// Whether a call is a tick. No other call reports a channel unresponsive.
 fn is_tick(call: &Call) -> bool
     ensures { result ≡ is_tick call.now }
 {

@@ -8,7 +8,7 @@ use dispatch_calls::Call;
 use dispatcher::Dispatcher;
 use input_types::Moment;
 
-/// The pump by which the first args that wait are dispatched, where some wait.
+/// The pump that dispatches the first waiting args, if any wait.
 pub(crate) fn next_waiting(dispatcher: &Dispatcher, now: Moment) -> Option<Call>
     ensures { (es : List Effect) → IsAfter es dispatcher.now → result ≡ next_waiting now es }
 {
@@ -19,8 +19,8 @@ pub(crate) fn next_waiting(dispatcher: &Dispatcher, now: Moment) -> Option<Call>
     }
 }
 
-/// What is done next of what is due up to now: args that wait are dispatched; else the sooner of the first timeout and
-/// the next repeat.
+/// What is done next of everything due up to now: waiting args are dispatched, or else the earlier of the first
+/// timeout and the next repeat.
 pub(crate) fn next_due(dispatcher: &Dispatcher, now: Moment) -> Option<Call>
     ensures { (es : List Effect) → IsAfter es dispatcher.now → result ≡ next_due now es }
 {
@@ -31,7 +31,7 @@ pub(crate) fn next_due(dispatcher: &Dispatcher, now: Moment) -> Option<Call>
     }
 }
 
-/// When the first channel is due to be named unresponsive.
+/// When the first channel is due to be reported unresponsive.
 pub(crate) fn timeout(dispatcher: &Dispatcher) -> Option<u64>
     ensures { (es : List Effect) → IsAfter es dispatcher.now → result ≡ timeout es }
 {
@@ -41,7 +41,7 @@ pub(crate) fn timeout(dispatcher: &Dispatcher) -> Option<u64>
     }
 }
 
-/// The sooner of two moments that may be there.
+/// The earlier of two optional moments.
 pub(crate) fn sooner(first: Option<u64>, second: Option<u64>) -> Option<u64>
     ensures { result ≡ sooner first second }
 {
@@ -52,7 +52,7 @@ pub(crate) fn sooner(first: Option<u64>, second: Option<u64>) -> Option<u64>
     }
 }
 
-/// The sooner of a timeout and a repeat, where that is not later than now; of one moment the timeout.
+/// The earlier of a timeout and a repeat, if that is not later than now; at equal moments the timeout.
 fn sooner_call(now: Moment, timeout: Option<u64>, repeat: Option<u64>) -> Option<Call>
     ensures { result ≡ sooner_call now timeout repeat }
 {
@@ -69,7 +69,7 @@ fn sooner_call(now: Moment, timeout: Option<u64>, repeat: Option<u64>) -> Option
     }
 }
 
-/// A tick at the moment of a timeout, where that is not later than now.
+/// A tick at the moment of a timeout, if that is not later than now.
 fn tick_by(now: Moment, timeout: Option<u64>) -> Option<Call>
     ensures { result ≡ tick_by now timeout }
 {
@@ -87,7 +87,7 @@ fn tick_by(now: Moment, timeout: Option<u64>) -> Option<Call>
     }
 }
 
-/// A pump at the moment of a repeat, where that is not later than now.
+/// A pump at the moment of a repeat, if that is not later than now.
 fn repeat_by(now: Moment, repeat: Option<u64>) -> Option<Call>
     ensures { result ≡ repeat_by now repeat }
 {
@@ -110,13 +110,13 @@ fn moment_by(now: Moment, us: u64) -> Moment
     requires { us ≤ now }
     ensures { result ≡ us }
 {
-    // For the proof alone: a moment says that it is in range only where it is read.
+    // For the proof alone: the range of a moment is known only where it is read.
     let _latest = now.get();
     Moment::new(us).unwrap()
 }
 
-/// What is left to do on a channel of which so many messages were received, of so many, and whose oldest message that
-/// is published and not finished has this number.
+/// What is left to do on a channel of which so many of so many messages were received, and whose oldest published and
+/// unfinished message has this number.
 pub(crate) fn left_call(
     now: Moment,
     channel: u32,

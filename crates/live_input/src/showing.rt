@@ -16,7 +16,7 @@ use std::alloc::AllocError;
 use window_snapshot::Snapshot;
 
 impl Live {
-    /// The windows are these from now on, all of clients that are open. Without memory nothing changes.
+    /// Replaces the windows by these, all of open clients. If memory runs out, nothing changes.
     pub(crate) fn show(&mut self, now: Moment, snapshot: Snapshot) -> Result<(), AllocError>
         ensures after { (ds : List ℕ) (es : List Effect) → LiveIs ds es self.old
             → AreOfHeld snapshot self.old.seats
@@ -39,7 +39,7 @@ impl Live {
         }
     }
 
-    /// The focus of a display is requested for a channel, or for none. Without memory nothing changes.
+    /// Requests the focus of a display for a channel, or for none. If memory runs out, nothing changes.
     pub(crate) fn request(
         &mut self,
         now: Moment,
@@ -69,7 +69,7 @@ impl Live {
         }
     }
 
-    /// The focus of a display is requested for a client, or for none. Keys go to the display of the last request.
+    /// Requests the focus of a display for a client, or for none. Keys go to the display of the last request.
     pub fn focus(
         &mut self,
         now: Moment,

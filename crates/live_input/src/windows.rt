@@ -14,7 +14,7 @@ use std::alloc::{AllocError, Global};
 use touch_region::{Rect, Region};
 use window_snapshot::{Snapshot, SnapshotError, Window, WindowFlags};
 
-/// A window of a client. A client has one window at most.
+/// A window of a client. A client has at most one window.
 #[derive(Drop)]
 pub struct ClientWindow {
     pub client: Client,
@@ -24,7 +24,7 @@ pub struct ClientWindow {
     pub frame: Rect,
     /// Where the window can be touched, in display pixels.
     pub region: Region,
-    /// What it asks of the dispatcher.
+    /// The flags that it asks of the dispatcher.
     pub flags: WindowFlags,
 }
 
@@ -51,8 +51,8 @@ impl ClientWindow {
 }
 
 impl Live {
-    /// The windows are these from now on, front to back. The first one whose client is not open is refused before any
-    /// other reason.
+    /// Replaces the windows by these, front to back. A window whose client is not open is refused before any other
+    /// reason.
     pub fn windows(&mut self, now: Moment, windows: Vec<ClientWindow>) -> Result<(), WindowsRefused>
         ensures after { (ds : List ℕ) (es : List Effect) → LiveIs ds es self.old
             → WindowsGo ds now windows.items es result self.old self.new }
@@ -74,7 +74,7 @@ impl Live {
     }
 }
 
-/// The place of the first window whose client is not open.
+/// The index of the first window whose client is not open.
 fn first_stale(seats: &[Seat; 64], windows: &[ClientWindow]) -> Option<usize>
     ensures { result ≡ first_stale seats.now windows.now }
 {

@@ -25,7 +25,7 @@ pub(crate) struct Guests {
     pub finished: u64,
     /// How many messages the client that stays took.
     pub kept: u64,
-    /// How often a client was named unresponsive.
+    /// How often a client was reported unresponsive.
     pub named: u64,
 }
 
@@ -39,7 +39,7 @@ fn part(left: i32, right: i32) -> Rect {
     }
 }
 
-/// The windows are that of the client that stays, and that of a guest where there is one.
+/// Shows the window of the client that stays, and that of a guest if there is one.
 fn show(service: &mut Service, now: Moment, idle: Client, guest: Option<Client>) -> Option<()> {
     let mut windows = Vec::new(service.alloc);
     windows

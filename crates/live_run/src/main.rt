@@ -1,6 +1,6 @@
 //! A live service for as long as its input says.
 //!
-//! Each line of standard input is a run, and is answered by a line when it is done:
+//! Each line of standard input is a run, and has a line of output when it is done:
 //!
 //! ```text
 //! visits 2        two clients come and go, one after another, with 10,000 events each
@@ -11,8 +11,8 @@
 //! All visits are to one service, on which one client stays and never finishes a message. The rounds are to services of
 //! their own. A round is a packet of the panel, the message that it is for each window, and the finish of that.
 //!
-//! A line is read when the one before it is answered, so a script that waits for an answer finds the program as the run
-//! left it: it may read how much memory it has, and how much time it used.
+//! A line is read after the answer to the previous one, so a script that waits for an answer finds the program as the
+//! run left it: it can read how much memory and time the program uses.
 #![tactic(auto)]
 
 mod guests;
@@ -23,7 +23,7 @@ use crate::guests::Guests;
 use std::alloc::{AllocError, Global};
 use std::io;
 
-/// The number of a line, behind its word.
+/// The number of a line, after its word.
 fn number(text: &str) -> u64 {
     text.parse().unwrap_or(0)
 }

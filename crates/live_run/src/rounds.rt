@@ -87,7 +87,7 @@ fn move_ten(service: &mut Service, now: Moment, round: u64) -> Option<()> {
     service.report(now)
 }
 
-/// Each client takes all that it has. The answer is how many messages that were.
+/// Each client receives all its messages. Returns how many there were.
 fn take_all(service: &mut Service, clients: &[Client]) -> Option<u64> {
     let mut taken: u64 = 0;
     for client in clients {
@@ -97,7 +97,7 @@ fn take_all(service: &mut Service, clients: &[Client]) -> Option<u64> {
     Some(taken)
 }
 
-/// Each client takes a message and is done with it. The answer is how many messages that were.
+/// Each client receives a message and finishes it. Returns how many messages there were.
 fn take_each(service: &mut Service, now: Moment, clients: &[Client]) -> Option<u64> {
     let mut taken: u64 = 0;
     for client in clients {

@@ -58,7 +58,7 @@ fn seq_of(message: &Message) -> Option<u64> {
     Some(message.seq)
 }
 
-/// Each call answers None where the service refuses it.
+/// Each call returns None if the service refuses it.
 impl Service {
     /// A service without clients, whose clients may leave a message unfinished for five seconds.
     pub(crate) fn new(alloc: Global) -> Option<Service> {
@@ -103,7 +103,7 @@ impl Service {
         self.event(now, EV_SYN, SYN_REPORT, 0)
     }
 
-    /// A client takes its next message. The answer is its number, where there is one.
+    /// A client receives its next message. Returns its number, if there is one.
     fn take(&mut self, client: Client) -> Result<Option<u64>, AllocError> {
         match self.live.next(client) {
             Ok(Some(message)) => Ok(seq_of(&message)),
@@ -112,7 +112,7 @@ impl Service {
         }
     }
 
-    /// A client takes its next message and is done with it. The answer is how many that were.
+    /// A client receives its next message and finishes it. Returns how many there were.
     pub(crate) fn take_one(&mut self, now: Moment, client: Client) -> Option<u64> {
         match self.take(client).ok()? {
             Some(seq) => {
@@ -123,7 +123,7 @@ impl Service {
         }
     }
 
-    /// A client takes all that it has, and is done with it if it finishes. The answer is how many messages that were.
+    /// A client receives all its messages, and finishes them if it is one that does. Returns how many there were.
     pub(crate) fn take_all(&mut self, now: Moment, client: Client, finishes: bool) -> Option<u64> {
         let mut taken: u64 = 0;
         for _ in 0..u64::MAX {

@@ -37,7 +37,7 @@ regrouped k Latest ss ts ms ns gs hs waits marks given g = record {
   falls = g.falls;
 }
 
--- the messages of some items, the newest first, and of a batch or a message more
+-- the messages of some items, newest first, and of a batch or a message more
 given_more : (k : ℕ) (before : List Item) (ss : List Sample) → with_waiting k ss (reverse (map messages_of before)) ≡ reverse (map messages_of (before ++ batch_of k ss))
 given_more k before [] = ap (λ is. reverse (map messages_of is)) (sym (append-nil before))
 given_more k before (s ∷ ss) =

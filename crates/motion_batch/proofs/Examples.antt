@@ -75,7 +75,7 @@ pub own_moment_before
     ≡ batch 1 (sample 2 2000 (0 ∷ []) ∷ []) ∷ batch 1 (sample 3 3000 (0 ∷ []) ∷ []) ∷ []
 own_moment_before = refl
 
--- a frame gives out a part of what waits, and the rest waits on
+-- a frame releases a part of what waits, and the rest keeps waiting
 pub part_of_a_batch : pending 1 (framed 2500 ∷ taken (finger_moves 3 3000) ∷ taken (finger_moves 2 2000) ∷ []) ≡ sample 3 3000 (0 ∷ []) ∷ []
 part_of_a_batch = refl
 

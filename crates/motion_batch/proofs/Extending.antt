@@ -1,4 +1,4 @@
--- What goes on with the moves that wait.
+-- What continues the waiting moves.
 use Rattle.std.proofs.Common.{◌≡◌, ℕ, zero, suc, ◌-◌, ◌&&◌, ◌<◌, ◌==◌, false, List, [], ◌∷◌, length, Some, refl, ap, arith, Bool, true}
 use Rattle.std.specs.Prelude.{slice_get}
 use Rattle.input_types.specs.declared.message.Body.{Body}
@@ -6,7 +6,7 @@ use Rattle.input_types.specs.declared.pointer.Pointer.{Pointer}
 use Rattle.motion_batch.specs.declared.sample.Sample.{Sample}
 use Rattle.motion_batch.specs.Rule.{extends, has_same_ids, is_move, pointers_of}
 
--- the last of the moves that wait decides
+-- the last of the waiting moves decides
 last_decides : (n : ℕ) (ss : List Sample) (b : Body) (s : Sample) → length ss ≡ suc n → slice_get ss n ≡ Some s → extends ss b ≡ (is_move b && has_same_ids s.pointers (pointers_of b))
 last_decides n [] b s h e = absurd (omega (arith, h))
 last_decides zero (t ∷ []) b s h e = let same : t ≡ s = cc in ap (λ (x : Sample). is_move b && has_same_ids x.pointers (pointers_of b)) same
@@ -18,7 +18,7 @@ pub extends_last : (ss : List Sample) (b : Body) (s : Sample) → slice_get ss (
 extends_last [] b s e = absurd (cc)
 extends_last (t ∷ ss) b s e = last_decides (length ss) (t ∷ ss) b s refl (let size : suc (length ss) - 1 ≡ length ss = omega arith in rw size at e)
 
--- only a move goes on with them
+-- only a move continues them
 pub extends_moves : (ss : List Sample) (b : Body) → is_move b ≡ false → extends ss b ≡ false
 extends_moves [] b e = refl
 extends_moves (s ∷ []) b e = rw e refl

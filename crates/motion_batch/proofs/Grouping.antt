@@ -1,4 +1,4 @@
--- Messages in groups: what waits is a group of its own, and nothing goes on with a group that was given out.
+-- Messages in groups: what waits is a group of its own, and nothing continues a released group.
 use Rattle.std.proofs.Common.{◌≡◌, ℕ, suc, ◌≤◌, ◌==◌, ◌&&◌, not, Bool, true, false, if◌then◌else◌, List, [], ◌∷◌, ◌++◌, map, reverse, length, Option, Some, None, refl, sym, ◌∙◌, ap, arith}
 use Rattle.std.proofs.lemmas.Bool.Decides.{nat_tests}
 use Rattle.std.proofs.lemmas.List.{length-map, length-reverse, map-append, reverse-append}
@@ -9,7 +9,7 @@ use Rattle.motion_batch.specs.Pairs.{Mark, unparted, grouped, groups_of, joins, 
 use Rattle.motion_batch.specs.Rule.{has_same_ids, is_due, reaches}
 use Rattle.motion_batch.specs.Unbatch.{move_of}
 
--- samples, the newest first, as messages of a device
+-- samples, newest first, as messages of a device
 abbrev pub marked : ℕ → List Sample → List Mark → List Mark
 marked k [] rest = rest
 marked k (q ∷ qs) rest = unparted (move_of k q) ∷ marked k qs rest
@@ -30,7 +30,7 @@ abbrev pub Falling : List Sample → Type 0
 Falling [] = Unit {0}
 Falling (q ∷ qs) = AllBelow q.moment qs × Falling qs
 
--- a message does not stand in the newest group
+-- a message is not in the newest group
 abbrev pub Shut : List Mark → Message → Type 0
 Shut rest n = grouped rest n (groups_of rest) ≡ (n ∷ []) ∷ groups_of rest
 
@@ -84,7 +84,7 @@ waiting_group k (q ∷ qs) rest chained few shut =
     one_group k q qs rest false chained (omega (arith, few)) shut
     ∙ sym (ap (λ xs. with_waiting k xs (groups_of rest)) (reverse_with q qs) ∙ waiting_some k (reverse qs) q (groups_of rest) ∙ ap (λ xs. map (move_of k) xs ∷ groups_of rest) (sym (reverse_with q qs)))
 
--- of samples, the newest first, those that a frame leaves and those that it gives out
+-- of samples, newest first, those that a frame leaves and those that it gives out
 abbrev pub newer : Option ℕ → List Sample → List Sample
 newer at [] = []
 newer at (q ∷ qs) = if is_due at q then [] else q ∷ newer at qs

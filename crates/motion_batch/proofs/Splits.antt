@@ -1,4 +1,4 @@
--- What a frame gives out and what it leaves.
+-- What a frame releases and what it leaves.
 use Rattle.std.proofs.Common.{◌≡◌, ℕ, suc, ◌≤◌, true, false, if◌then◌else◌, List, [], ◌∷◌, ◌++◌, reverse, length, take, drop, Option, refl, sym, ◌∙◌, ap, subst, arith}
 use Rattle.std.proofs.lemmas.List.{take-append-le, drop-append-le}
 use Rattle.motion_batch.specs.declared.sample.Sample.{Sample}

@@ -49,7 +49,7 @@ alone [] n groups e = refl
 alone (x ∷ xs) n [] e = refl
 alone (x ∷ xs) n (g ∷ gs) e = apart x xs n (g ∷ gs) g gs refl (not_move x n (length g) e)
 
--- the last of the moves that wait decides
+-- the last of the waiting moves decides
 extends_end : (xs : List Sample) (q : Sample) (b : Body) → extends (xs ++ q ∷ []) b ≡ (is_move b && has_same_ids q.pointers (pointers_of b))
 extends_end [] q b = refl
 extends_end (x ∷ []) q b = refl

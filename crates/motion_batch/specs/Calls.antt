@@ -7,13 +7,13 @@ use Rattle.motion_batch.specs.declared.item.Item.{Item}
 use Rattle.motion_batch.specs.declared.sample.Sample.{Sample}
 use Rattle.motion_batch.specs.Rule.{added_by, batch_of, class_of, due_of, kept_after, left_by}
 
--- a call that was answered, not for want of memory: a message was taken, a frame came at a moment, or all was flushed
+-- a call that did not run out of memory: a message was taken, a frame came at a moment, or everything was flushed
 pub data Call : Type 0 where
   taken : Message → Call
   framed : ℕ → Call
   flushed : Call
 
--- the moves of a class that wait after these calls, of which the newest stands first
+-- the moves of a class that wait after these calls, newest first
 abbrev pub pending : ℕ → List Call → List Sample
 pending k [] = []
 pending k (taken m ∷ calls) = if class_of m.body == k then kept_after (pending k calls) m else pending k calls
@@ -43,7 +43,7 @@ added (taken m) calls = added_by (pending (class_of m.body) calls) m
 added (framed at) calls = due_of_rows (Some at) 1 (rows_of calls)
 added flushed calls = due_of_rows None 1 (rows_of calls)
 
--- all items of these calls, in the order in which they were given out
+-- all items of these calls, in the order in which they were released
 abbrev pub items : List Call → List Item
 items [] = []
 items (call ∷ calls) = items calls ++ added call calls
@@ -61,7 +61,7 @@ AreOfDevices (taken m ∷ calls) = IsOfDevice m.body × AreOfDevices calls
 AreOfDevices (framed at ∷ calls) = AreOfDevices calls
 AreOfDevices (flushed ∷ calls) = AreOfDevices calls
 
--- a batcher that was called so, the newest call first: its rows are what waits of each device
+-- a batcher after these calls, newest first: its rows are the waiting moves of each device
 pub record RowsStandFor (calls : List Call) (rows : List (List Sample)) : Type 0 where
   pub rows_are : rows ≡ rows_of calls
   pub devices_are : AreOfDevices calls

@@ -1,4 +1,4 @@
--- What a message, or a frame, does to the moves of its device that wait.
+-- How a message or a frame changes the waiting moves of its device.
 use Rattle.std.specs.Prelude.{ℕ, suc, ◌++◌, ◌==◌, ◌&&◌, nat_le, Bool, true, false, if◌then◌else◌}
 use Rattle.std.specs.Prelude.{List, [], ◌∷◌, length, take, drop, Option, Some, None}
 use Rattle.input_types.specs.declared.message.Body.{Body}
@@ -44,13 +44,13 @@ has_same_ids [] [] = true
 has_same_ids (p ∷ ps) (q ∷ qs) = p.id == q.id && has_same_ids ps qs
 has_same_ids _ _ = false
 
--- a message goes on with the last of the moves that wait: it is a move, and both list the same ids
+-- a message continues the last of the waiting moves: it is a move, and both list the same ids
 abbrev pub extends : List Sample → Body → Bool
 extends [] b = false
 extends (s ∷ []) b = is_move b && has_same_ids s.pointers (pointers_of b)
 extends (s ∷ t ∷ ss) b = extends (t ∷ ss) b
 
--- samples of a device as a batch; none where there are none
+-- samples of a device as a batch; none if there are none
 abbrev pub batch_of : ℕ → List Sample → List Item
 batch_of d [] = []
 batch_of d (s ∷ ss) = Batch (record { device = d; samples = s ∷ ss }) ∷ []
@@ -59,7 +59,7 @@ batch_of d (s ∷ ss) = Batch (record { device = d; samples = s ∷ ss }) ∷ []
 abbrev pub is_full : List Sample → Bool
 is_full ss = length ss == 256
 
--- a full batch is given out at once
+-- a full batch is released at once
 abbrev pub full_of : ℕ → List Sample → List Item
 full_of d ss = if is_full ss then batch_of d ss else []
 
@@ -67,8 +67,8 @@ full_of d ss = if is_full ss then batch_of d ss else []
 abbrev pub below_most : List Sample → List Sample
 below_most ss = if is_full ss then [] else ss
 
--- The items that a message adds, of whose class these moves wait: what it does not go on with is given out first. A
--- move then waits with those that it goes on with, and every other message is given out by itself.
+-- The items that a message adds, if these moves of its class wait: waiting moves that it does not continue are
+-- released first. A move then waits, with those that it continues, and every other message is released by itself.
 abbrev pub added_by : List Sample → Message → List Item
 added_by ss m =
     if extends ss m.body then full_of (class_of m.body) (ss ++ sample_of m ∷ [])
@@ -86,7 +86,7 @@ abbrev pub reaches : Option ℕ → ℕ → Bool
 reaches None moment = true
 reaches (Some at) moment = nat_le moment at
 
--- a frame gives out a move whose moment is not above its own
+-- a frame releases a move whose moment is not above its own
 abbrev pub is_due : Option ℕ → Sample → Bool
 is_due at s = reaches at s.moment
 
@@ -95,7 +95,7 @@ abbrev pub count_due : Option ℕ → List Sample → ℕ
 count_due at [] = 0
 count_due at (s ∷ ss) = if is_due at s then suc (count_due at ss) else 0
 
--- the moves that a frame gives out, up to the first that is not due
+-- the moves that a frame releases, up to the first that is not due
 abbrev pub due_of : Option ℕ → List Sample → List Sample
 due_of at ss = take (count_due at ss) ss
 

@@ -1,4 +1,4 @@
--- Items as the messages that they are.
+-- Items as messages.
 use Rattle.std.specs.Prelude.{ℕ, ◌++◌, ◌==◌, List, [], ◌∷◌, map}
 use Rattle.std.specs.List.{filter}
 use Rattle.input_types.specs.declared.message.Body.TheVariants.{Motion}
@@ -41,7 +41,7 @@ items_of k is = filter (λ i. item_class i == k) is
 abbrev pub of_class : ℕ → List Message → List Message
 of_class k ms = filter (λ m. class_of m.body == k) ms
 
--- the messages that these calls, the newest first, took, in the order in which they were taken
+-- the messages that these calls, newest first, took, in the order in which they were taken
 abbrev pub messages : List Call → List Message
 messages [] = []
 messages (taken m ∷ calls) = messages calls ++ m ∷ []

@@ -9,7 +9,7 @@ use input_types::{Body, DeviceId, Message, Moment};
 use std::alloc::{AllocError, Global};
 use std::marker::Model;
 
-/// The moves of each device that wait. Contracts see them as a list of eight lists of samples, that of device 1 first.
+/// The waiting moves of each device. Contracts see them as a list of eight lists of samples, starting with device 1.
 #[derive(Drop)]
 pub struct Batcher {
     pending: [Pending; 8],
@@ -28,7 +28,7 @@ impl Model for Batcher {
 }
 
 impl Batcher {
-    /// Nothing was taken yet.
+    /// A batcher that has taken nothing.
     pub fn new(alloc: Global) -> Batcher
         ensures { RowsStandFor [] result }
     {
@@ -47,7 +47,7 @@ impl Batcher {
         }
     }
 
-    /// Takes a message, and appends the items that it gives out. Without memory nothing changes.
+    /// Takes a message, and appends the items that it releases. If memory runs out, nothing changes.
     #[tactic(auto, using(crate::proofs::Rows::no_others))]
     pub fn take(&mut self, message: &Message, out: &mut Vec<Item>) -> Result<(), AllocError>
         ensures items { (calls : List Call) → RowsStandFor calls self.old
@@ -71,8 +71,8 @@ impl Batcher {
         }
     }
 
-    /// A frame begins: in rising device, appends the moves of each device up to this moment as one batch. Without
-    /// memory nothing changes.
+    /// Begins a frame: appends, in rising device, the moves of each device up to this moment as one batch. If memory
+    /// runs out, nothing changes.
     #[tactic(auto, using(crate::proofs::Batched::batched_then))]
     pub fn frame(&mut self, at: Moment, out: &mut Vec<Item>) -> Result<(), AllocError>
         ensures items { (calls : List Call) → RowsStandFor calls self.old
@@ -87,7 +87,7 @@ impl Batcher {
         self.give(&Some(at), out)
     }
 
-    /// A frame for all moves. Without memory nothing changes.
+    /// Begins a frame for all moves. If memory runs out, nothing changes.
     #[tactic(auto, using(crate::proofs::Batched::batched_then, crate::proofs::Batched::flushed_then))]
     pub fn flush(&mut self, out: &mut Vec<Item>) -> Result<(), AllocError>
         ensures items { (calls : List Call) → RowsStandFor calls self.old
@@ -104,7 +104,7 @@ impl Batcher {
         self.give(&None, out)
     }
 
-    /// Gives out what is due at a moment.
+    /// Releases what is due at a moment.
     fn give(&mut self, at: &Option<Moment>, out: &mut Vec<Item>) -> Result<(), AllocError>
         ensures items { OnOk result (out.new.items ≡ out.old.items ++ due_of_rows at.now 1 self.old) }
         ensures kept { OnOk result (self.new ≡ rows_left at.now self.old) }
@@ -120,7 +120,7 @@ impl Batcher {
         Ok(())
     }
 
-    /// Appends what is due at a moment, or as much of it as memory serves for.
+    /// Appends what is due at a moment, or as much of it as memory allows.
     fn append_due(&self, at: &Option<Moment>, out: &mut Vec<Item>) -> Result<(), AllocError>
         ensures items { OnOk result (out.new.items ≡ out.old.items ++ due_of_rows at.now 1 self.now) }
         ensures front { take (length out.old.items) out.new.items ≡ out.old.items }

@@ -1,4 +1,4 @@
-//! What a batcher gives out.
+//! What a batcher releases.
 ghost use Rattle.std.specs.Prelude.{◌≡◌, ◌≤◌, ◌++◌, [], ◌∷◌, length, IfOk};
 ghost use Rattle.std.specs.Option.{option_to_list};
 ghost use Rattle.motion_batch.specs.Rule.{batch_of};
@@ -30,7 +30,7 @@ impl Model for Batch {
 }
 
 impl Batch {
-    /// The device that the moves are of.
+    /// The device of the moves.
     pub fn device(&self) -> DeviceId
         ensures { result ≡ self.now.device }
     {
@@ -47,7 +47,7 @@ impl Batch {
     }
 }
 
-/// What an application takes at once.
+/// What an application receives at once.
 #[derive(Drop)]
 pub enum Item {
     /// A message by itself.
@@ -56,7 +56,7 @@ pub enum Item {
     Batch(Batch),
 }
 
-/// These samples of a device as a batch; None where there are none.
+/// These samples of a device as a batch; None if there are none.
 pub(crate) fn batch_of(
     alloc: Global,
     device: DeviceId,

@@ -1,4 +1,4 @@
-//! Successive moves of one device as one motion with history, once a frame, as an application takes them.
+//! Batches successive moves of one device into one motion with history, once a frame, as an application receives them.
 //!
 //! A finger goes down at 1000, moves at 2000, 3000 and 9000 and goes up at 9500 microseconds; a frame comes at 8000:
 //!
@@ -11,10 +11,10 @@
 //! take UP 9500        Batch of the move at 9000, One UP
 //! ```
 //!
-//! A move waits until a frame at its moment or later, a message of its device that does not go on with it, or a batch
-//! of 256 samples. A message goes on with the moves before it where it is a move of the same pointers. So no move is
-//! lost, none is sent twice, and no order within a device changes: as messages, the items of a device are what was
-//! taken of it.
+//! A move waits until a frame at its moment or later, a message of its device that does not continue it, or a full
+//! batch of 256 samples. A message continues the moves before it if it is a move of the same pointers. So no move is
+//! lost, none is sent twice, and the order within a device never changes: as messages, the items of a device are what
+//! was taken of it.
 #![tactic(auto)]
 
 mod batcher;

@@ -1,4 +1,4 @@
-//! The moves of one device that are not given out yet.
+//! The moves of one device that are not yet released.
 ghost use Rattle.std.specs.Prelude.{◌≡◌, ◌≤◌, ◌+◌, ◌++◌, [], ◌∷◌, length, OnOk, OnErr, IfOk};
 ghost use Rattle.std.specs.Option.{option_to_list};
 ghost use Rattle.input_types.specs.declared.message.Body.TheVariants.{Motion as MotionBody};
@@ -36,7 +36,7 @@ fn has_same_ids(left: &[Pointer], right: &[Pointer]) -> bool
     others.is_empty()
 }
 
-/// Whether a frame at a moment gives a sample out; one without a moment gives out all.
+/// Whether a frame at a moment releases a sample; one without a moment releases all.
 fn is_due(at: &Option<Moment>, sample: &Sample) -> bool
     ensures { result ≡ is_due at.now sample.now }
 {
@@ -46,7 +46,7 @@ fn is_due(at: &Option<Moment>, sample: &Sample) -> bool
     }
 }
 
-/// The moves of one device that wait, at most 255. Contracts see the list.
+/// The waiting moves of one device, at most 255. Contracts see the list.
 #[derive(Drop)]
 pub(crate) struct Pending {
     samples: Vec<Sample>,
@@ -64,7 +64,7 @@ impl Model for Pending {
 }
 
 impl Pending {
-    /// Nothing waits.
+    /// No moves wait.
     pub(crate) fn new(alloc: Global) -> Pending
         ensures { result ≡ [] }
     {
@@ -73,7 +73,7 @@ impl Pending {
         }
     }
 
-    /// Takes a motion of the device of these moves, and appends what it gives out. Without memory nothing changes.
+    /// Takes a motion of the device of these moves, and appends what it releases. If memory runs out, nothing changes.
     #[tactic(auto, using(crate::proofs::Extending::extends_moves))]
     pub(crate) fn take(
         &mut self,
@@ -103,7 +103,7 @@ impl Pending {
         }
     }
 
-    /// Whether a move goes on with those that wait: it is of the same pointers.
+    /// Whether a move continues the waiting ones: it has the same pointers.
     #[tactic(auto, using(crate::proofs::Extending::extends_last))]
     fn extends(&self, motion: &Motion) -> bool
         ensures { result ≡ extends self.now (MotionBody motion.now) }
@@ -117,7 +117,7 @@ impl Pending {
         }
     }
 
-    /// Puts one more sample behind those that wait. A full batch is given out.
+    /// Appends one more sample to the waiting ones. A full batch is released.
     fn extend(
         &mut self,
         alloc: Global,
@@ -140,7 +140,7 @@ impl Pending {
         Ok(())
     }
 
-    /// Gives out those that wait, and begins with a sample.
+    /// Releases the waiting moves, and starts with a sample.
     fn begin(
         &mut self,
         alloc: Global,
@@ -162,7 +162,7 @@ impl Pending {
         Ok(())
     }
 
-    /// Gives out those that wait, and then a message by itself.
+    /// Releases the waiting moves, and then a message by itself.
     fn end(
         &mut self,
         alloc: Global,
@@ -186,7 +186,7 @@ impl Pending {
         Ok(())
     }
 
-    /// How many of those that wait a frame gives out.
+    /// How many of the waiting moves a frame releases.
     fn count_due(&self, at: &Option<Moment>) -> usize
         ensures value { result ≡ count_due at.now self.now }
         ensures few { result ≤ length self.now }
@@ -198,7 +198,7 @@ impl Pending {
         count
     }
 
-    /// The batch that a frame gives out; None where nothing that waits is due.
+    /// The batch that a frame releases; None if no waiting move is due.
     pub(crate) fn due(
         &self,
         alloc: Global,
@@ -211,7 +211,7 @@ impl Pending {
         batch_of(alloc, device, self.samples.split_at(count).0)
     }
 
-    /// Drops those that a frame gave out.
+    /// Drops those that a frame released.
     pub(crate) fn drop_due(&mut self, at: &Option<Moment>)
         ensures { self.new ≡ left_by at.now self.old }
     {

@@ -36,7 +36,7 @@ fn the_first_args_stay_until_they_are_taken(rt: HostRuntime) -> Result<(), Fail>
     Ok(())
 }
 
-/// A channel that has to finish a message within 5 seconds, with one message, that its window has the focus.
+/// A channel that must finish a message within 5 seconds, with one message: its window has the focus.
 fn with_focus(alloc: Global) -> Result<Channel, Fail> {
     let limit = Limit::new(5_000_000).ok_or("a limit")?;
     let mut channel = Channel::new(alloc, limit);

@@ -49,7 +49,7 @@ fn lose(state: &mut TouchState, window: u32, ids: [u8; 2]) {
     }
 }
 
-/// The window begins to pilfer, where it holds something.
+/// The window begins to pilfer, if it holds something.
 fn start_pilfer(state: &mut TouchState, window: u32) {
     if is_channel(window) && mask_has(state.holders(), window) {
         state.start_pilfer(window);
@@ -195,7 +195,7 @@ fn a_window_loses_pointers(rt: HostRuntime) -> Result<(), Fail> {
     Ok(())
 }
 
-/// The spy, window 1, pilfers; answered is what the windows 1, 2 and 64 lose.
+/// The spy, window 1, pilfers; returns what the windows 1, 2 and 64 lose.
 fn pilfered(state: &mut TouchState) -> [u32; 3] {
     if !mask_has(state.holders(), 1) {
         return [0, 0, 0];

@@ -11,7 +11,7 @@ use Rattle.touch_state.proofs.Sets.{none_in, not_empty, and_true, and_false}
 use Rattle.pilfer_monitor.specs.Pilfer.{pilfered, set_of}
 use Rattle.pilfer_monitor.proofs.Tables.{set_of-set}
 
--- what holds nothing has nothing
+-- a window that holds nothing has no ids
 nothing_held : (t : Touches) (w i : ℕ) → any t w ≡ false → holds t w i ≡ false
 nothing_held t w i n =
     elim (cases_Bool (holds t w i)) [
@@ -19,7 +19,7 @@ nothing_held t w i n =
       | inr f ↦ f
     ]
 
--- where nothing is given, who holds something held something
+-- if nothing is given, a window that holds something held something
 pub any_before : (a b : Touches) (takes : ℕ → ℕ → Bool) (place : ℕ) (p : ℕ → Bool) → Changes a b none takes place p → (w : ℕ) → any b w ≡ true → any a w ≡ true
 any_before a b takes place p c w h =
     elim (cases_Bool (any a w)) [
@@ -27,7 +27,7 @@ any_before a b takes place p c w h =
       | inr n ↦ absurd (both_ways (any b w) (ap (λ x. not (x == 0)) (none_in (held b w) (λ i. c.hold w i ∙ ap (λ x. x && not (takes w i)) (nothing_held a w i n)))) h)
     ]
 
--- nothing changes, where what is taken is not held
+-- nothing changes if what is taken is not held
 pub unchanged : (t : Touches) (takes : ℕ → ℕ → Bool) → ((w : ℕ) → pilfering t w ≡ true → any t w ≡ true)
     → ((w i : ℕ) → holds t w i ≡ true → takes w i ≡ false) → (place : ℕ) → Changes t t none takes place nobody
 unchanged t takes within free place =
@@ -50,7 +50,7 @@ unchanged t takes within free place =
     alike true a f = rw (f refl) refl
     alike false a f = sym (and_false a)
 
--- the same change, told otherwise
+-- the same change, stated in another way
 pub resent : (a b : Touches) (takes others : ℕ → ℕ → Bool) (place : ℕ) (p : ℕ → Bool) → ((w i : ℕ) → holds a w i ≡ true → takes w i ≡ others w i)
     → Changes a b none takes place p → Changes a b none others place p
 resent a b takes others place p same c =
@@ -96,7 +96,7 @@ two_changes a b c first second all p f s together place =
     within y true q e = rw (e refl) refl
     within y false q e = refl
 
--- who holds something is a channel
+-- a window that holds something has the number of a channel
 held_low : (t : Touches) (w i : ℕ) → holds t w i ≡ true → (0 < w) × (w ≤ 64)
 held_low t w i h =
     elim (cases_Bool (is_channel w)) [

@@ -21,7 +21,7 @@ impl Model for Losses {
 }
 
 impl Losses {
-    /// These sets, that of channel 1 first.
+    /// These sets, starting with channel 1.
     pub(crate) fn new(lost: [Bits32; 64]) -> Losses
         ensures { result ≡ lost }
     {

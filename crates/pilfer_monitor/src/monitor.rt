@@ -11,7 +11,7 @@ use touch_state::TouchState;
 use window_snapshot::mask_has;
 
 /// The window of a channel, which holds something, takes what it holds from all other windows, and is pilfering from
-/// then on. The answer is what each window held and lost.
+/// then on. Returns what each window held and lost.
 pub fn pilfer(state: &mut TouchState, channel: u32) -> Losses
     requires channel { is_channel channel ≡ true }
     requires holds { any state.old channel ≡ true }
@@ -28,7 +28,7 @@ pub fn pilfer(state: &mut TouchState, channel: u32) -> Losses
     Losses::new(lost)
 }
 
-/// Removes these ids from a window, unless it is the spy; the answer is those that it held.
+/// Removes these ids from a window, unless it is the spy, and returns those that it held.
 fn remove(state: &mut TouchState, channel: u32, spy: u32, ids: Bits32) -> Bits32
     requires { is_channel channel ≡ true }
     ensures state { (place : ℕ) →
@@ -58,7 +58,7 @@ fn common(a: Bits32, b: Bits32) -> Bits32
     both
 }
 
-/// The set, and a number where both sets have it.
+/// The set, with a number added if both sets contain it.
 fn with_common(set: Bits32, a: Bits32, b: Bits32, id: u8) -> Bits32
     requires { id < 32 }
     ensures { (i : ℕ) → is_in i result ≡ (is_in i set || (i == id && (is_in i a && is_in i b))) }

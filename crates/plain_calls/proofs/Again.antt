@@ -1,4 +1,4 @@
--- Messages that are sent in numbers and read again.
+-- Messages written as numbers and read back.
 use Rattle.std.proofs.Common.{◌≡◌, ◌∙◌, ℕ, ◌+◌, ◌≤◌, ◌^◌, ◌&&◌, nat_eq, nat_le, Bool, true, false, List, [], ◌∷◌, map, take, drop, length, slice_get, Option, Some, None, refl, sym, ap, arith}
 use Rattle.std.specs.Prelude.{cond, replicate}
 use Rattle.std.specs.Option.{option_map, option_and_then}
@@ -89,7 +89,7 @@ seq_sent (MotionBody m) seq moment = refl
 seq_sent (Key k) seq moment = refl
 seq_sent (Focus has) seq moment = refl
 
--- a message by its number, its moment and what it says, as they were read
+-- a message by its number, its moment and its body, as they were read
 abbrev message_by : ℕ → Option ℕ → Option Body → Option Message
 message_by seq t b = option_and_then (λ us. option_map (λ said. record { seq = seq; moment = us; body = said }) b) t
 

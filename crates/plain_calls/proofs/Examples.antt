@@ -38,7 +38,7 @@ longest_limit = refl
 too_short : limit_of 999 ≡ None
 too_short = refl
 
--- channel 0 is nobody's
+-- channel 0 belongs to no client
 nobody : maybe_client (record { generation = 7; channel = 0 }) ≡ None
 nobody = refl
 
@@ -59,7 +59,7 @@ one_pointer = refl
 twice : pointers_from 0 (plain ∷ plain ∷ []) ≡ None
 twice = refl
 
--- of a layout that is refused the line alone is sent
+-- for a refused layout only the line is reported
 small_letters : by_line (Err (BadName 2)) ≡ Err 2
 small_letters = refl
 

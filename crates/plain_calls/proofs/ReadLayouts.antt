@@ -14,7 +14,7 @@ read_no_text bs h =
     elim (is_utf8 bs) as (λ b. is_utf8 bs ≡ b → cond b (by_line (layout_of bs)) (Err 0) ≡ Err 0)
     [ true ↦ λ e. absurd (h (IsUtf8-from_is_utf8 bs e)) | false ↦ λ e. refl ] refl
 
--- and bytes that are the text `ts`, of which this is said
+-- and bytes that are the text `ts`, with this result
 pub read_text : (bs ts : List ℕ) (told : Result Codes LayoutError) → ts ≡ bs → IsUtf8 bs → layout_of ts ≡ told → layout_from bs ≡ by_line told
 read_text bs ts told same is_text said =
     ap (λ b. cond b (by_line (layout_of bs)) (Err 0)) (is_utf8-from_IsUtf8 bs is_text) ∙ ap (λ t. by_line (layout_of t)) (sym same) ∙ ap by_line said

@@ -1,4 +1,4 @@
--- Pointers, or others, that were read, in front of those that are left.
+-- Pointers, or other values, that were read, in front of the remaining ones.
 use Rattle.std.proofs.Common.{◌≡◌, ℕ, ◌+◌, ◌<◌, ◌≤◌, ◌&&◌, nat_le, List, [], ◌∷◌, ◌++◌, Option, Some, None, Result, Ok, Err, true, false, refl, sym, ap, arith}
 use Rattle.std.proofs.lemmas.Bool.Decides.{nat_tests}
 use Rattle.std.specs.Option.{option_map}
@@ -23,7 +23,7 @@ pub in_front_more : {A : Type 0} (front : List A) (p : A) (read : Option (List A
 in_front_more front p None = refl
 in_front_more front p (Some ps) = ap (λ qs. Some qs) (sym (append_assoc front (p ∷ []) ps))
 
--- the first of those that are left goes to those in front
+-- the first remaining one joins those in front
 pub taken : (front : List Pointer) (least : ℕ) (p : PlainPointer) (ps : List PlainPointer) → (nat_le least p.id && nat_le p.id 31) ≡ true
     → in_front front (pointers_from least (p ∷ ps)) ≡ in_front (front ++ pointer_of p ∷ []) (pointers_from (p.id + 1) ps)
 taken front least p ps h = rw h (in_front_more front (pointer_of p) (pointers_from (p.id + 1) ps))
@@ -42,7 +42,7 @@ EndsBelow-append [] p n h = h
 EndsBelow-append (q ∷ []) p n h = h
 EndsBelow-append (q ∷ r ∷ ps) p n h = EndsBelow-append (r ∷ ps) p n h
 
--- what an answer that is no error ensures
+-- what a successful call ensures
 pub when_ok : {T E : Type 0} (r : Result T E) (P : Type 0) → OnOk r P → false ≡ is_err r → P
 when_ok (Ok x) P h e = h
 when_ok (Err x) P h e = absurd (cc e)

@@ -1,4 +1,4 @@
--- What can be asked of clients, as the service says it.
+-- What can be asked about clients, in terms of the service.
 use Rattle.std.specs.Prelude.{◌≡◌, ℕ, Bool, true, false, List, Option, None, if◌then◌else◌}
 use Rattle.bits32.specs.Set.{is_in}
 use Rattle.routing_rules.specs.Marks.{held}
@@ -22,7 +22,7 @@ use Rattle.plain_calls.specs.declared.client.PlainClient.{PlainClient}
 abbrev pub client_on : LiveState → ℕ → Option Client
 client_on s c = if is_channel c then client_at s.seats c else None
 
--- a client that may be there is sent
+-- an optional client is returned
 abbrev pub AnswersClient : ℕ → Option Client → (before after : PlainClient) → Type 0
 AnswersClient status r before after = (status ≡ answer_status r) × (after ≡ written plain_client r before)
 
@@ -49,6 +49,6 @@ pub record Holds (s : LiveState) (client : Client) (device ids : ℕ) : Type 0 w
       (ds : List ℕ) (es : List Effect) → LiveIs ds es s → is_open s.seats client ≡ true
       → (i : ℕ) → is_in i ids ≡ has (held (marks es)) client.channel device i
 
--- the greatest moment that was handed in
+-- the clock: the latest moment of any call
 abbrev pub IsClock : LiveState → ℕ → Type 0
 IsClock s t = (ds : List ℕ) (es : List Effect) → LiveIs ds es s → t ≡ clock (past_of es)

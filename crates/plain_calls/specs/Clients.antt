@@ -11,6 +11,6 @@ client_of k = record { channel = k.channel; generation = k.generation }
 abbrev pub plain_client : Client → PlainClient
 plain_client k = record { generation = k.generation; channel = k.channel }
 
--- no client where the channel is 0, which no client has, and else the one of these numbers
+-- no client if the channel is 0, which no client has, otherwise the one of these numbers
 abbrev pub maybe_client : PlainClient → Option Client
 maybe_client k = if nat_eq k.channel 0 then None else Some (client_of k)

@@ -1,4 +1,4 @@
--- What is due, and what devices give, as the service says it.
+-- What is due, and what devices deliver, in terms of the service.
 use Rattle.std.specs.Prelude.{◌≡◌, ◌⊎◌, ◌==◌, ◌≤◌, ◌-◌, ℕ, ℤ, true, false, List, [], ◌∷◌, slice_set, Option, None, Result, Err, IfOk, OnOk, OnErr}
 use Rattle.std.specs.declared.alloc.AllocError.{AllocError}
 use Rattle.input_types.specs.declared.message.Args.{Args}
@@ -47,7 +47,7 @@ OthersStay device old new = (d : ℕ) → 1 ≤ d → (d == device) ≡ false �
 abbrev pub event : (now device kind code : ℕ) → ℤ → RawEvent
 event now device kind code value = record { device = device; moment = now; kind = kind; code = code; value = value }
 
--- what an event of a device comes to
+-- the result of an event of a device
 pub record Happened (now device : ℕ) (e : RawEvent) (old new : LiveState) (r : Result (Unit {0}) ArgsRefused) : Type 0 where
   pub none : is_there old.devices device ≡ false → (r ≡ Err NoDevice) × (new ≡ old)
   pub after :
@@ -58,7 +58,7 @@ pub record Happened (now device : ℕ) (e : RawEvent) (old new : LiveState) (r :
   pub seats : SameSeats old new
   pub named : new.named ≡ old.named
 
--- what args that are ready come to
+-- the result of args that are ready
 pub record HandedIn (now : ℕ) (args : Args) (old new : LiveState) (r : Result (Unit {0}) ArgsRefused) : Type 0 where
   pub none : is_there old.devices (device_of args) ≡ false → (r ≡ Err NoDevice) × (new ≡ old)
   pub after :
@@ -68,7 +68,7 @@ pub record HandedIn (now : ℕ) (args : Args) (old new : LiveState) (r : Result 
   pub seats : SameSeats old new
   pub named : new.named ≡ old.named
 
--- what the removal of a device comes to
+-- the result of removing a device
 pub record Removed (now device : ℕ) (old new : LiveState) (r : Result (Unit {0}) ArgsRefused) : Type 0 where
   pub none : is_there old.devices device ≡ false → (r ≡ Err NoDevice) × (new ≡ old)
   pub after :
@@ -83,7 +83,7 @@ pub record Beside (old new : LiveState) : Type 0 where
   pub others : (d : ℕ) → 1 ≤ d → is_there old.devices d ≡ true → reader_of new.devices d ≡ reader_of old.devices d
   pub stands : (ds : List ℕ) (es : List Effect) → LiveIs ds es old → LiveIs ds es new
 
--- what a touch device that is plugged in comes to
+-- the result of plugging in a touch device
 pub record TouchAdded (display slots : ℕ) (cook : Cooking) (old new : LiveState) (r : Result ℕ AddRefused) : Type 0 where
   pub bad : is_slots slots ≡ false → r ≡ Err BadSlots
   pub added :
@@ -91,7 +91,7 @@ pub record TouchAdded (display slots : ℕ) (cook : Cooking) (old new : LiveStat
   pub beside : Beside old new
   pub err : OnErr r (new ≡ old)
 
--- what a device with keys that is plugged in comes to
+-- the result of plugging in a device with keys
 pub record KeysAdded (display : ℕ) (layout : Codes) (old new : LiveState) (r : Result ℕ AddRefused) : Type 0 where
   pub added : Adds (λ d. Keys (record { device = d; layout = layout })) display r old new
   pub beside : Beside old new

@@ -1,4 +1,4 @@
--- What clients get, and what they are done with, as the service says it.
+-- What clients receive and finish, in terms of the service.
 use Rattle.std.specs.Prelude.{◌≡◌, ◌+◌, ◌&&◌, ℕ, true, false, List, Option, None, Result, Ok, Err, IfOk, IfSome, OnOk, OnErr, is_some}
 use Rattle.std.specs.declared.alloc.AllocError.{AllocError}
 use Rattle.input_types.specs.declared.message.Message.{Message}
@@ -20,7 +20,7 @@ use Rattle.live_input.specs.Standing.{LiveIs}
 use Rattle.live_input.specs.State.{LiveState}
 use Rattle.live_input.specs.Outgoing.{taken}
 
--- what the next message of a client comes to
+-- the result of receiving the next message of a client
 pub record Received (client : Client) (old new : LiveState) (r : Result (Option Message) AllocError) : Type 0 where
   pub stale : is_open old.seats client ≡ false → (r ≡ Ok None) × (new ≡ old)
   pub message :
@@ -39,7 +39,7 @@ pub record Received (client : Client) (old new : LiveState) (r : Result (Option 
   pub named : new.named ≡ old.named
   pub err : OnErr r (new ≡ old)
 
--- what it comes to that a client is done with a message
+-- the result of finishing a message
 pub record Finished (now : ℕ) (client : Client) (seq : ℕ) (old new : LiveState) (r : Result (Unit {0}) FinishRefused) : Type 0 where
   pub stale : is_open old.seats client ≡ false → (r ≡ Err finish.NotOpen) × (new ≡ old)
   pub after :
@@ -48,7 +48,7 @@ pub record Finished (now : ℕ) (client : Client) (seq : ℕ) (old new : LiveSta
   pub clients : SameClients old new
   pub named : new.named ≡ old.named
 
--- what a pilfer comes to
+-- the result of a pilfer
 pub record Pilfered (now : ℕ) (client : Client) (device : ℕ) (old new : LiveState) (r : Result (Unit {0}) PilferRefused) : Type 0 where
   pub stale : is_open old.seats client ≡ false → (r ≡ Err pilfer.NotOpen) × (new ≡ old)
   pub after :

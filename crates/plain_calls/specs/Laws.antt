@@ -1,4 +1,4 @@
--- What is sent in numbers is read again.
+-- What is written as numbers reads back unchanged.
 use Rattle.std.specs.Prelude.{◌≡◌, ℕ, ◌+◌, ◌≤◌, ◌^◌, true, List, [], ◌∷◌, length, Some, ⊤}
 use Rattle.input_types.specs.declared.message.Body.{Body}
 use Rattle.input_types.specs.declared.message.Body.TheVariants.{Motion as MotionBody, Key, Focus}
@@ -20,7 +20,7 @@ pub record IsMotion (m : Motion) : Type 0 where
   pub count : length m.pointers ≤ 16
   pub ids : HaveIds 0 m.pointers
 
--- the numbers of what a message says are in their ranges
+-- the numbers of a message's body are in their ranges
 abbrev pub IsBody : Body → Type 0
 IsBody (MotionBody m) = IsMotion m
 IsBody (Key k) = is_device k.key.device ≡ true
@@ -31,6 +31,7 @@ pub record IsMessage (m : Message) : Type 0 where
   pub moment : m.moment ≤ 10 ^ 18
   pub body : IsBody m.body
 
--- A message that was sent in numbers, and handed in again, is the same message: nothing of it is lost, and no two are sent alike.
+-- A message written as numbers and handed in again is the same message: nothing of it is lost, and no two messages
+-- have the same numbers.
 abbrev pub ReadAgainLaw : Type 0
 ReadAgainLaw = (m : Message) → IsMessage m → message_of (plain_message m) ≡ Some m

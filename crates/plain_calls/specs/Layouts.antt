@@ -24,18 +24,18 @@ abbrev pub by_line : Result Codes LayoutError → Result Codes ℕ
 by_line (Ok codes) = Ok codes
 by_line (Err e) = Err (line_of e)
 
--- the keys of a layout's text, or the first line of it that is refused, from 1 on; 0 where the bytes are no text in UTF-8
+-- the keys of a layout's text, or its first refused line, from 1 on; 0 if the bytes are not UTF-8 text
 abbrev pub layout_from : List ℕ → Result Codes ℕ
 layout_from bytes = if is_utf8 bytes then by_line (layout_of bytes) else Err 0
 
--- What was read is what the text says. Want of memory is free.
+-- What was read is what the text says. Memory may run out at any time.
 abbrev pub IsLayout : Result Codes NoLayout → Result Codes ℕ → Type 0
 IsLayout (Ok codes) due = due ≡ Ok codes
 IsLayout (Err (Line n)) due = due ≡ Err n
 IsLayout (Err Memory) due = Unit {0}
 
--- What a device with keys comes to, by whether memory was wanting. Where it was, nothing changes; else its text is no layout, and the line is sent,
--- or it is plugged in.
+-- The result of plugging in a device with keys, by whether memory ran out. If it did, nothing changes. Otherwise
+-- either its text is not a layout, and the line is reported, or the device is plugged in.
 abbrev pub AddsKeys :
     Bool → Result Codes ℕ → ℕ → (display : ℕ) → (old new : LiveState) → (device device_after line line_after : ℕ) → Type 0
 AddsKeys true layout status y old new device device_after line line_after =

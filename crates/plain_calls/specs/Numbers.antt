@@ -18,6 +18,6 @@ display_of n = if nat_le n 3 then Some n else None
 abbrev pub limit_of : ℕ → Option ℕ
 limit_of us = if nat_le 1000 us && nat_le us 600000000 then Some us else None
 
--- 1 for what is so, and 0 for what is not
+-- 1 for true, and 0 for false
 abbrev pub flag : Bool → ℕ
 flag b = if b then 1 else 0

@@ -1,4 +1,4 @@
--- What C hands in for a message, and what it says.
+-- What C hands in for a message, and what it stands for.
 use Rattle.std.specs.Prelude.{ℕ, ◌+◌, ◌&&◌, nat_eq, nat_le, List, [], ◌∷◌, take, slice_get, Option, Some, None, if◌then◌else◌}
 use Rattle.std.specs.Option.{option_map, option_and_then}
 use Rattle.input_types.specs.declared.key.KeyMsg.{KeyMsg}
@@ -46,7 +46,7 @@ key_of m =
     then Some (record { key = record { device = m.device; scan = m.scan; code = m.code; meta = m.meta; down = nat_eq m.down 1 }; flags = m.flags; repeat = m.repeat })
     else None
 
--- what a message says, by its kind: 0 for a motion, 1 for a key, 2 for the focus
+-- the body of a message, by its kind: 0 for a motion, 1 for a key, 2 for the focus
 abbrev pub body_of : PlainMessage → Option Body
 body_of m =
     if nat_eq m.kind 0 then option_map MotionBody (motion_of m)
@@ -54,11 +54,11 @@ body_of m =
     else if nat_eq m.kind 2 && nat_le m.focus 1 then Some (Focus (nat_eq m.focus 1))
     else None
 
--- a message whose numbers are in their ranges; those that its kind does not have are not looked at
+-- a message whose numbers are in their ranges; those that its kind does not have are ignored
 abbrev pub message_of : PlainMessage → Option Message
 message_of m = option_and_then (λ t. option_map (λ b. record { seq = m.seq; moment = t; body = b }) (body_of m)) (moment_of m.moment_us)
 
--- what a device gives that is ready, by its kind: 0 for a motion, 1 for a key, 3 where the device lost events
+-- ready args of a device, by kind: 0 for a motion, 1 for a key, 3 if the device lost events
 abbrev pub args_of : PlainMessage → Option Args
 args_of m =
     if nat_eq m.kind 0 then option_map args.Motion (motion_of m)

@@ -12,11 +12,12 @@ use Rattle.plain_calls.specs.declared.plugging.PlainCook.{PlainCook}
 abbrev pub axis_of : PlainAxis → Axis
 axis_of a = record { min = a.min; max = a.max }
 
--- the rotations by their numbers, which are those of Surface.ROTATION_90 and its kin
+-- the rotations by their numbers, which are those of Surface.ROTATION_90 and the like
 abbrev pub rotations : List Rotation
 rotations = R0 ∷ R90 ∷ R180 ∷ R270 ∷ []
 
--- how positions become pixels, where the axes have a position, the display has 1 to 16,384 pixels each way, and the rotation is one
+-- how positions become pixels, if the axes have a position, the display has 1 to 16,384 pixels each way, and the
+-- rotation is one
 abbrev pub cook_of : PlainCook → Option Cooking
 cook_of p =
     option_and_then (λ r. if can_cook (axis_of p.x) (axis_of p.y) p.width p.height

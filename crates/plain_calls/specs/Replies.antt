@@ -42,19 +42,19 @@ windows_status (Err windows.TooMany) = status.too_many
 windows_status (Err (windows.Twice channel)) = status.is_twice
 windows_status (Err windows.Memory) = status.no_memory
 
--- which window or which channel a refusal of windows names
+-- which window or which channel a refusal of windows reports
 abbrev pub named_by : Result (Unit {0}) WindowsRefused → Option ℕ
 named_by (Err (windows.NotOpen place)) = Some place
 named_by (Err (windows.Twice channel)) = Some channel
 named_by reply = None
 
--- the status of a request of the focus
+-- the status of a focus request
 abbrev pub focus_status : Result (Unit {0}) FocusRefused → ℕ
 focus_status (Ok done) = status.is_ok
 focus_status (Err focus.NotOpen) = status.not_open
 focus_status (Err focus.Memory) = status.no_memory
 
--- the status where a client is done with a message
+-- the status of finishing a message
 abbrev pub finish_status : Result (Unit {0}) FinishRefused → ℕ
 finish_status (Ok done) = status.is_ok
 finish_status (Err finish.NotOpen) = status.not_open
@@ -75,7 +75,7 @@ add_status (Ok device) = status.is_ok
 add_status (Err add.TooMany) = status.too_many
 add_status (Err add.BadSlots) = status.bad_slots
 
--- the status of what a device gave, or of its removal
+-- the status of what a device delivered, or of its removal
 abbrev pub args_status : Result (Unit {0}) ArgsRefused → ℕ
 args_status (Ok done) = status.is_ok
 args_status (Err args.NoDevice) = status.no_device
@@ -88,7 +88,7 @@ abbrev pub next_status : Result (Option Message) AllocError → ℕ
 next_status (Ok message) = answer_status message
 next_status (Err error) = status.no_memory
 
--- the message of an answer, where there is one
+-- the message of a reply, if there is one
 abbrev pub message_in : Result (Option Message) AllocError → Option Message
 message_in (Ok message) = message
 message_in (Err error) = None

@@ -1,7 +1,7 @@
 -- The statuses of the calls.
 use Rattle.std.specs.Prelude.{ℕ}
 
--- the call was made
+-- the call succeeded
 abbrev pub is_ok : ℕ
 is_ok = 0
 
@@ -13,7 +13,7 @@ is_free = 1
 abbrev pub is_taken : ℕ
 is_taken = 2
 
--- want of memory
+-- out of memory
 abbrev pub no_memory : ℕ
 no_memory = 3
 
@@ -21,11 +21,11 @@ no_memory = 3
 abbrev pub out_of_range : ℕ
 out_of_range = 4
 
--- the message may not come where it came
+-- the message was not allowed when it came
 abbrev pub is_broken : ℕ
 is_broken = 5
 
--- there is no room for all that is to be sent
+-- there is no room for the whole result
 abbrev pub no_room : ℕ
 no_room = 6
 
@@ -37,15 +37,15 @@ not_open = 8
 abbrev pub is_full : ℕ
 is_full = 9
 
--- there is nothing to tell
+-- there is nothing to return
 abbrev pub is_nothing : ℕ
 is_nothing = 10
 
--- the client did not get the message, or finished it already
+-- the client did not receive the message, or finished it already
 abbrev pub unknown_seq : ℕ
 unknown_seq = 11
 
--- the windows that are shown have no spy of the client
+-- no spy of the client is among the windows shown
 abbrev pub not_spy : ℕ
 not_spy = 12
 
@@ -61,7 +61,7 @@ no_device = 14
 abbrev pub is_inconsistent : ℕ
 is_inconsistent = 15
 
--- args wait for memory
+-- args wait because memory ran out
 abbrev pub it_waits : ℕ
 it_waits = 16
 
@@ -77,7 +77,7 @@ is_twice = 18
 abbrev pub bad_slots : ℕ
 bad_slots = 19
 
--- the text is no key layout
+-- the text is not a key layout
 abbrev pub bad_layout : ℕ
 bad_layout = 20
 

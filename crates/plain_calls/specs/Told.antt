@@ -15,15 +15,15 @@ use Rattle.plain_calls.specs.declared.message.PlainPointer.{PlainPointer}
 abbrev pub plain_pointer : Pointer → PlainPointer
 plain_pointer p = record { x = p.at.x; y = p.at.y; id = p.id }
 
--- a place that no pointer has
+-- an unused pointer slot
 abbrev pub no_pointer : PlainPointer
 no_pointer = record { x = pos 0; y = pos 0; id = 0 }
 
--- sixteen places with the pointers in front
+-- sixteen pointer slots, used ones first
 abbrev pub places_of : List Pointer → List PlainPointer
 places_of ps = map plain_pointer ps ++ drop (length ps) (replicate 16 no_pointer)
 
--- a message of which only its number and its moment are sent so far
+-- a message with only its number and its moment filled in
 abbrev pub numbered : (seq moment : ℕ) → PlainMessage
 numbered seq moment = record {
   seq = seq;
@@ -68,7 +68,7 @@ with_key k p = record p {
   down = flag k.key.down;
 }
 
--- a message that says this; the numbers that its kind does not have are 0
+-- a message with this body; the numbers that its kind does not have are 0
 abbrev pub with_body : Body → PlainMessage → PlainMessage
 with_body (MotionBody m) p = with_motion m p
 with_body (Key k) p = with_key k p

@@ -18,7 +18,7 @@ use Rattle.plain_calls.specs.declared.windows.Unread.TheVariants.{Range, Memory}
 abbrev pub rect_of : PlainRect → Rect
 rect_of r = record { left = r.left; top = r.top; right = r.right; bottom = r.bottom }
 
--- the region of rectangles, where they make one: at most 64, each with its edges in order
+-- the region of rectangles, if they make one: at most 64, each with its edges in order
 abbrev pub region_from : List PlainRect → Option (List Rect)
 region_from rects = ok_of (region_of (map rect_of rects))
 
@@ -27,12 +27,12 @@ abbrev pub window_with : PlainWindow → (display : ℕ) → (region : List Rect
 window_with w y region =
     record { client = client_of w.client; display = y; frame = rect_of w.frame; region = region; flags = record { bits = w.flags } }
 
--- a window whose display is one, and whose rectangles make a region
+-- a window with a valid display, and whose rectangles make a region
 abbrev pub window_from : PlainWindow → List PlainRect → Option ClientWindow
 window_from w rects = option_and_then (λ y. option_map (window_with w y) (region_from rects)) (display_of w.display)
 
--- The windows, front to back. Each has as many rectangles as it says, which stand behind those of the windows before it; what is left of them is
--- not looked at.
+-- The windows, front to back. Each has as many rectangles as it says, taken after those of the windows before it;
+-- surplus rectangles are ignored.
 abbrev pub windows_from : List PlainWindow → List PlainRect → Option (List ClientWindow)
 windows_from [] rects = Some []
 windows_from (w ∷ ws) rects =
@@ -40,7 +40,7 @@ windows_from (w ∷ ws) rects =
     then option_and_then (λ v. option_map (λ vs. v ∷ vs) (windows_from ws (drop w.rects rects))) (window_from w (take w.rects rects))
     else None
 
--- What was read is what the numbers say, or nothing where one is out of its range. Want of memory is free.
+-- What was read is what the numbers say, or nothing if one is out of its range. Memory may run out at any time.
 abbrev pub IsRead : {A : Type 0} → Result A Unread → Option A → Type 0
 IsRead (Ok a) due = due ≡ Some a
 IsRead (Err Range) due = due ≡ None

@@ -1,4 +1,4 @@
-//! What can be asked of clients.
+//! What can be asked about clients.
 ghost use Rattle.std.specs.Prelude.{◌≡◌};
 ghost use Rattle.live_input.specs.Seats.{is_open};
 ghost use Rattle.plain_calls.specs.Asking.{client_on, AnswersClient, HasFocus, GetsKeys, Responds, Holds, IsClock};
@@ -12,7 +12,7 @@ use crate::numbers::{device_of, display_of, flag};
 use crate::status::{NOTHING, OK, RANGE};
 use live_input::{Client, Live};
 
-/// A client is told where there is one. `NOTHING` where there is none; `client` then stays as it was.
+/// Returns an optional client. `NOTHING` if there is none; `client` then stays as it was.
 fn send(found: Option<Client>, client: &mut PlainClient) -> u32
     ensures { AnswersClient result found client.old client.new }
 {
@@ -32,14 +32,14 @@ pub fn is_open(live: &Live, client: &PlainClient) -> u8
     flag(live.is_open(client.read()))
 }
 
-/// The client that is open on a channel. `NOTHING` where none is.
+/// The client that is open on a channel. `NOTHING` if none is.
 pub fn client_at(live: &Live, channel: u32, client: &mut PlainClient) -> u32
     ensures { AnswersClient result (client_on live.now channel) client.old client.new }
 {
     send(live.client_at(channel), client)
 }
 
-/// The client that has the focus of a display. `NOTHING` where none has.
+/// The client that has the focus of a display. `NOTHING` if none has.
 pub fn focused(live: &Live, display: u8, client: &mut PlainClient) -> u32
     ensures { Reads (display_of display) result (client.new ≡ client.old)
         (λ y. Replies answer_status result
@@ -51,7 +51,7 @@ pub fn focused(live: &Live, display: u8, client: &mut PlainClient) -> u32
     send(live.focused(display), client)
 }
 
-/// The client that keys go to. `NOTHING` where there is none.
+/// The client that keys go to. `NOTHING` if there is none.
 pub fn key_target(live: &Live, client: &mut PlainClient) -> u32
     ensures { Replies answer_status result
         (λ r. GetsKeys live.now r × (client.new ≡ written plain_client r client.old)) }
@@ -78,7 +78,7 @@ pub fn holds(live: &Live, client: &PlainClient, device: u8, ids: &mut u32) -> u3
     OK
 }
 
-/// The greatest moment that was handed in, in microseconds.
+/// The clock: the latest moment of any call, in microseconds.
 pub fn clock(live: &Live) -> u64
     ensures { IsClock live.now result }
 {

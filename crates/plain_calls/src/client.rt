@@ -4,7 +4,8 @@ ghost use Rattle.plain_calls.specs.Clients.{client_of, plain_client, maybe_clien
 
 use live_input::Client;
 
-/// A client: `struct inputflinger_client`. Any numbers may be handed in; those of no client that is open are refused.
+/// A client: `struct inputflinger_client`. Any numbers may be handed in; those of a client that is not open are
+/// refused.
 #[repr(C)]
 #[derive(Clone, Copy, Debug)]
 pub struct PlainClient {
@@ -22,7 +23,7 @@ impl PlainClient {
         Client::of(self.channel, self.generation)
     }
 
-    /// No client where the channel is 0.
+    /// No client if the channel is 0.
     pub(crate) fn read_if_any(&self) -> Option<Client>
         ensures { result ≡ maybe_client self.now }
     {

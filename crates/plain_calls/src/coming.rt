@@ -12,7 +12,7 @@ use crate::replies::close_status;
 use crate::status::{FULL, MEMORY, OK, RANGE};
 use live_input::{Live, OpenRefused};
 
-/// A client more. `FULL` where 64 are open, and `MEMORY` for want of memory; `client` then stays as it was.
+/// Opens a client. `FULL` if 64 are open, and `MEMORY` if memory runs out; `client` then stays as it was.
 pub fn open(live: &mut Live, client: &mut PlainClient) -> u32
     ensures { Replies open_status result
         (λ r. Opened live.old live.new r × (client.new ≡ written plain_client (ok_of r) client.old)) }
@@ -27,8 +27,8 @@ pub fn open(live: &mut Live, client: &mut PlainClient) -> u32
     }
 }
 
-/// A client less. `NOT_OPEN` where it is not open, and `MEMORY` for want of memory: it is still open then, but may have
-/// lost its window and its requests of the focus.
+/// Closes a client. `NOT_OPEN` if it is not open, and `MEMORY` if memory runs out: it is still open then, but may
+/// have lost its window and its focus requests.
 pub fn close(live: &mut Live, now_us: u64, client: &PlainClient) -> u32
     ensures { Reads (moment_of now_us) result (live.new ≡ live.old)
         (λ now. Replies close_status result (Closed now (client_of client.now) live.old live.new)) }

@@ -1,4 +1,4 @@
-//! What is due, and what devices give.
+//! What is due, and what devices deliver.
 ghost use Rattle.std.specs.Prelude.{◌≡◌};
 ghost use Rattle.plain_calls.specs.Calling.{Reads, Replies, ok_of, answer_status, written};
 ghost use Rattle.plain_calls.specs.Driving.{IsDue, CaughtUp, Happened, HandedIn, Removed, event};
@@ -12,7 +12,7 @@ use crate::replies::args_status;
 use crate::status::{MEMORY, NOTHING, OK, RANGE};
 use live_input::Live;
 
-/// The first moment at which something is due. `NOTHING` where nothing is; `moment` then stays as it was.
+/// The first moment at which something is due. `NOTHING` if nothing is; `moment` then stays as it was.
 pub fn due(live: &Live, moment_us: &mut u64) -> u32
     ensures { Replies answer_status result
         (λ r. IsDue live.now r × (moment_us.new ≡ written (λ t. t) r moment_us.old)) }
@@ -26,8 +26,8 @@ pub fn due(live: &Live, moment_us: &mut u64) -> u32
     }
 }
 
-/// All is done that is due up to now. `mask` is that of the channels that were named unresponsive. `MEMORY` for want of
-/// memory: some of it may be done, and `mask` stays as it was.
+/// Runs everything that is due up to now. `mask` is that of the channels reported unresponsive. `MEMORY` if memory
+/// runs out: some of it may be done, and `mask` stays as it was.
 pub fn advance(live: &mut Live, now_us: u64, mask: &mut u64) -> u32
     ensures { Reads (moment_of now_us) result ((live.new ≡ live.old) × (mask.new ≡ mask.old))
         (λ now. Replies advance_status result (λ r. CaughtUp now live.old live.new r
@@ -45,7 +45,7 @@ pub fn advance(live: &mut Live, now_us: u64, mask: &mut u64) -> u32
     }
 }
 
-/// An event of a device, with the type, code and value of the kernel's `struct input_event`.
+/// Hands in an event of a device, with the type, code and value of the kernel's `struct input_event`.
 pub fn event(live: &mut Live, now_us: u64, device: u8, kind: u16, code: u16, value: i32) -> u32
     ensures { Reads (moment_of now_us) result (live.new ≡ live.old)
         (λ now. Reads (device_of device) result (live.new ≡ live.old)
@@ -61,8 +61,8 @@ pub fn event(live: &mut Live, now_us: u64, device: u8, kind: u16, code: u16, val
     args_status(live.event(now, device, kind, code, value))
 }
 
-/// A motion or a key that is ready, or a reset of a device: what the message says, whose number and moment are not
-/// looked at.
+/// Hands in a ready motion or key, or a reset of a device: the body of the message, whose number and moment are
+/// ignored.
 pub fn args(live: &mut Live, now_us: u64, message: &PlainMessage) -> u32
     ensures { Reads (moment_of now_us) result (live.new ≡ live.old)
         (λ now. Reads (args_of message.now) result (live.new ≡ live.old)
@@ -77,7 +77,7 @@ pub fn args(live: &mut Live, now_us: u64, message: &PlainMessage) -> u32
     args_status(live.args(now, args))
 }
 
-/// A device is unplugged.
+/// Unplugs a device.
 pub fn remove_device(live: &mut Live, now_us: u64, device: u8) -> u32
     ensures { Reads (moment_of now_us) result (live.new ≡ live.old)
         (λ now. Reads (device_of device) result (live.new ≡ live.old)

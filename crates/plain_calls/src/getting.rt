@@ -1,4 +1,4 @@
-//! What clients get, and what they are done with.
+//! What clients receive and finish.
 ghost use Rattle.std.specs.Prelude.{◌≡◌};
 ghost use Rattle.plain_calls.specs.Calling.{Reads, Replies, written};
 ghost use Rattle.plain_calls.specs.Clients.{client_of};
@@ -14,8 +14,8 @@ use crate::replies::{finish_status, pilfer_status};
 use crate::status::{MEMORY, NOTHING, OK, RANGE};
 use live_input::Live;
 
-/// The next message of a client. `NOTHING` where there is none, and for a client that is not open; `MEMORY` where the
-/// calls cannot be counted in 64 bits. `message` then stays as it was.
+/// Receives the next message of a client. `NOTHING` if there is none, or if the client is not open; `MEMORY` if the
+/// calls can no longer be counted in 64 bits. `message` then stays as it was.
 pub fn next(live: &mut Live, client: &PlainClient, message: &mut PlainMessage) -> u32
     ensures { Replies next_status result (λ r. Received (client_of client.now) live.old live.new r
         × (message.new ≡ written plain_message (message_in r) message.old)) }
@@ -30,8 +30,8 @@ pub fn next(live: &mut Live, client: &PlainClient, message: &mut PlainMessage) -
     }
 }
 
-/// A client is done with a message that it got. `NOT_OPEN` where it is not open, and `UNKNOWN_SEQ` where it did not get
-/// the message or finished it already.
+/// A client finishes a message that it received. `NOT_OPEN` if it is not open, and `UNKNOWN_SEQ` if it did not
+/// receive the message or finished it already.
 pub fn finish(live: &mut Live, now_us: u64, client: &PlainClient, seq: u64) -> u32
     ensures { Reads (moment_of now_us) result (live.new ≡ live.old)
         (λ now. Replies finish_status result (Finished now (client_of client.now) seq live.old live.new)) }
@@ -57,7 +57,7 @@ pub fn pilfer(live: &mut Live, now_us: u64, client: &PlainClient, device: u8) ->
     pilfer_status(live.pilfer(now, client.read(), device))
 }
 
-/// The mask of the channels that have a message for their client.
+/// The mask of the channels with a message for their client.
 pub fn waiting(live: &Live) -> u64
     ensures { AreWaiting live.now result }
 {

@@ -16,9 +16,9 @@ use std::str;
 /// Why a layout was not read.
 #[derive(Clone, Copy, Debug, PartialEq, Eq)]
 pub(crate) enum NoLayout {
-    /// This line is refused, from 1 on; 0 where the bytes are no text in UTF-8.
+    /// This line is refused, from 1 on; 0 if the bytes are not UTF-8 text.
     Line(u64),
-    /// Want of memory.
+    /// Out of memory.
     Memory,
 }
 
@@ -38,9 +38,9 @@ fn read_layout(alloc: Global, bytes: &[u8]) -> Result<Layout, NoLayout>
     }
 }
 
-/// A device with keys of a display is plugged in, whose layout is a text in the form of Android's `.kl` files.
-/// `BAD_LAYOUT` where it is none, `line` is that of its first refused line then; `TOO_MANY` where all numbers of the
-/// display are taken; `MEMORY` for want of memory. `device` then stays as it was.
+/// Plugs in a device with keys on a display, with a layout in the form of Android's `.kl` files. `BAD_LAYOUT` if the
+/// text is not a layout; `line` is then its first refused line. `TOO_MANY` if all numbers of the display are taken,
+/// and `MEMORY` if memory runs out. On an error `device` stays as it was.
 pub fn add_keys(
     alloc: Global,
     live: &mut Live,
@@ -67,7 +67,7 @@ pub fn add_keys(
     }
 }
 
-/// A device with keys of this layout is plugged in.
+/// Plugs in a device with keys of this layout.
 fn plug_in(live: &mut Live, display: DisplayId, layout: Layout, device: &mut u8) -> u32
     ensures { (line : ℕ) → AddsKeys (nat_eq result no_memory) (Ok layout) result display live.old live.new
         device.old device.new line line }

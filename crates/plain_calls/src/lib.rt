@@ -1,7 +1,7 @@
 //! The live service in plain numbers, as programs in C call it.
 //!
-//! A program in C hands in numbers and structs of numbers, and gets a status and such structs. Each call here reads the
-//! numbers, makes one call of `live_input`, and answers the status of its reply, one for each refusal:
+//! A program in C hands in numbers and structs of numbers, and gets back a status and such structs. Each call here
+//! reads the numbers, makes one call of `live_input`, and returns the status of its reply, one for each refusal:
 //!
 //! ```text
 //! coming::open                                              0, and the client is generation 1, channel 1
@@ -12,8 +12,8 @@
 //! getting::finish   1, of generation 7, channel 1           8, NOT_OPEN
 //! ```
 //!
-//! A number that is out of its range is sent before anything changes (`Reads` of specs/Calling). A clause says what the
-//! reply behind the status is, and that all holds of it that `live_input` says of its call (`Replies`).
+//! A number out of its range is reported before anything changes (`Reads` of specs/Calling). A clause says which
+//! reply the status stands for, and that everything that `live_input` says about its call holds (`Replies`).
 #![tactic(auto)]
 
 pub mod asking;

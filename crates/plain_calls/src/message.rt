@@ -15,14 +15,14 @@ pub struct PlainPointer {
     pub id: u32,
 }
 
-/// A message: `struct inputflinger_message`. Its kind says which of the other numbers are looked at.
+/// A message: `struct inputflinger_message`. Its kind says which of the other numbers are read.
 #[repr(C)]
 #[derive(Clone, Copy, Debug)]
 pub struct PlainMessage {
     pub seq: u64,
     /// At most 10^18.
     pub moment_us: u64,
-    /// 0 for a motion, 1 for a key, 2 for the focus; 3 for what a device gives where it lost events.
+    /// 0 for a motion, 1 for a key, 2 for the focus; 3 for a device that lost events.
     pub kind: u32,
     pub flags: u32,
     /// The meta bits of a key.
@@ -37,9 +37,9 @@ pub struct PlainMessage {
     pub index: u8,
     /// How many pointers a motion has, at most 16.
     pub count: u8,
-    /// 1 where a key goes down, 0 where it goes up.
+    /// 1 if a key goes down, 0 if it goes up.
     pub down: u8,
-    /// 1 where the window gets the focus, 0 where it loses it.
+    /// 1 if the window gains the focus, 0 if it loses it.
     pub focus: u8,
     pub pointers: [PlainPointer; 16],
 }
@@ -47,7 +47,7 @@ pub struct PlainMessage {
 impl PlainMessage {
     ghost use Rattle.plain_calls.specs.Plain.{message_of, args_of, body_of, motion_of, key_of};
 
-    /// The message; None where a number is out of its range.
+    /// The message; None if a number is out of its range.
     pub fn read(&self) -> Option<Message>
         ensures { result ≡ message_of self.now }
     {
@@ -60,8 +60,7 @@ impl PlainMessage {
         })
     }
 
-    /// What a device gives that is ready; None where a number is out of its range. A key's flags and its repeat number
-    /// are not looked at.
+    /// Ready args of a device; None if a number is out of its range. A key's flags and its repeat number are ignored.
     pub(crate) fn args(&self) -> Option<Args>
         ensures { result ≡ args_of self.now }
     {

@@ -1,11 +1,11 @@
-//! Numbers that C hands in and gets.
+//! Numbers that C hands in and gets back.
 ghost use Rattle.std.specs.Prelude.{◌≡◌};
 ghost use Rattle.gesture_verifier.specs.Told.{is_device};
 ghost use Rattle.plain_calls.specs.Numbers.{moment_of, device_of, display_of, limit_of, flag};
 
 use input_types::{DeviceId, DisplayId, Limit, Moment};
 
-/// The moment at so many microseconds, where they are at most 10^18.
+/// The moment at so many microseconds, if they are at most 10^18.
 pub(crate) fn moment_of(us: u64) -> Option<Moment>
     ensures { result ≡ moment_of us }
 {
@@ -15,7 +15,7 @@ pub(crate) fn moment_of(us: u64) -> Option<Moment>
     Some(Moment::new(us).unwrap())
 }
 
-/// The device of a number, where that is 1 to 8.
+/// The device of a number, if it is 1 to 8.
 pub(crate) fn device_of(number: u8) -> Option<DeviceId>
     ensures { result ≡ device_of number }
 {
@@ -25,7 +25,7 @@ pub(crate) fn device_of(number: u8) -> Option<DeviceId>
     Some(DeviceId::new(number).unwrap())
 }
 
-/// The display of a number, where that is 0 to 3.
+/// The display of a number, if it is 0 to 3.
 pub(crate) fn display_of(number: u8) -> Option<DisplayId>
     ensures { result ≡ display_of number }
 {
@@ -35,7 +35,7 @@ pub(crate) fn display_of(number: u8) -> Option<DisplayId>
     Some(DisplayId::new(number).unwrap())
 }
 
-/// The limit of so many microseconds, where they are 1,000 to 600,000,000.
+/// The limit of so many microseconds, if they are 1,000 to 600,000,000.
 pub fn limit_of(us: u64) -> Option<Limit>
     ensures { result ≡ limit_of us }
 {
@@ -52,7 +52,7 @@ pub(crate) fn is_device(number: u8) -> bool
     1 <= number && number <= DeviceId::MAX
 }
 
-/// 1 for what is so, and 0 for what is not.
+/// 1 for true, and 0 for false.
 pub fn flag(is_so: bool) -> u8
     ensures { result ≡ flag is_so }
 {

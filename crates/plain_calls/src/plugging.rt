@@ -34,7 +34,7 @@ pub struct PlainCook {
 }
 
 impl PlainCook {
-    /// How positions become pixels; None where a number is out of its range.
+    /// How positions become pixels; None if a number is out of its range.
     fn read(&self) -> Option<Cook>
         ensures { result ≡ cook_of self.now }
     {
@@ -66,8 +66,8 @@ fn rotation_of(number: u8) -> Option<Rotation>
     rotations.get(usize::from(number)).copied()
 }
 
-/// A panel of a display is plugged in, with 1 to 16 slots. `BAD_SLOTS` for another number of them, and `TOO_MANY` where
-/// all numbers of the display are taken; `device` then stays as it was.
+/// Plugs in a panel on a display, with 1 to 16 slots. `BAD_SLOTS` for another number of slots, and `TOO_MANY` if all
+/// numbers of the display are taken; `device` then stays as it was.
 pub fn add_touch(live: &mut Live, display: u8, slots: u8, cook: &PlainCook, device: &mut u8) -> u32
     ensures { Reads (display_of display) result ((live.new ≡ live.old) × (device.new ≡ device.old))
         (λ y. Reads (cook_of cook.now) result ((live.new ≡ live.old) × (device.new ≡ device.old))

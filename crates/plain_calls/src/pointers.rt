@@ -21,7 +21,7 @@ pub(crate) fn action_of(number: u8) -> Option<MotionAction>
     actions.get(usize::from(number)).copied()
 }
 
-/// The pointers, where their ids rise and are at most 31.
+/// The pointers, if their ids rise and are at most 31.
 pub(crate) fn pointers_of(rows: &[PlainPointer]) -> Option<Pointers>
     requires { length rows.now ≤ 16 }
     ensures { result ≡ pointers_from 0 rows.now }

@@ -18,7 +18,7 @@ pub(crate) fn close_status(reply: Result<(), CloseRefused>) -> u32
     }
 }
 
-/// The status of a request of the focus.
+/// The status of a focus request.
 pub(crate) fn focus_status(reply: Result<(), FocusRefused>) -> u32
     ensures { result ≡ focus_status reply }
 {
@@ -29,7 +29,7 @@ pub(crate) fn focus_status(reply: Result<(), FocusRefused>) -> u32
     }
 }
 
-/// The status where a client is done with a message.
+/// The status of finishing a message.
 pub(crate) fn finish_status(reply: Result<(), FinishRefused>) -> u32
     ensures { result ≡ finish_status reply }
 {
@@ -54,7 +54,7 @@ pub(crate) fn pilfer_status(reply: Result<(), PilferRefused>) -> u32
     }
 }
 
-/// The status of what a device gave, or of its removal.
+/// The status of what a device delivered, or of its removal.
 pub(crate) fn args_status(reply: Result<(), ArgsRefused>) -> u32
     ensures { result ≡ args_status reply }
 {

@@ -5,7 +5,7 @@ ghost use Rattle.plain_calls.specs.Screens.{displays_of};
 
 use input_types::{DeviceId, DisplayId, Displays};
 
-/// The display of each device number: `struct inputflinger_displays`. That of device 1 stands first.
+/// The display of each device number: `struct inputflinger_displays`. It starts with device 1.
 #[repr(C)]
 #[derive(Clone, Copy, Debug)]
 pub struct PlainDisplays {
@@ -14,7 +14,7 @@ pub struct PlainDisplays {
 }
 
 impl PlainDisplays {
-    /// The displays; None where a number is none of a display.
+    /// The displays; None if a number is not that of a display.
     pub fn read(&self) -> Option<Displays>
         ensures { result ≡ displays_of self.now }
     {

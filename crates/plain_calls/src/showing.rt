@@ -17,9 +17,9 @@ use input_types::Moment;
 use live_input::{ClientWindow, Live, WindowsRefused};
 use std::alloc::Global;
 
-/// The windows are these from now on, front to back. `NOT_OPEN` where the client of one is not open, `named` is its
-/// place then; `TOO_MANY` for more than 64; `TWICE` where a client has two, `named` is its channel then; `MEMORY` for
-/// want of memory. Nothing changes then.
+/// Replaces the windows by these, front to back. `NOT_OPEN` if the client of one is not open; `named` is then its
+/// index. `TOO_MANY` for more than 64. `TWICE` if a client has two; `named` is then its channel. `MEMORY` if memory
+/// runs out. On an error nothing changes.
 pub fn windows(
     alloc: Global,
     live: &mut Live,
@@ -42,7 +42,7 @@ pub fn windows(
     }
 }
 
-/// The windows are shown.
+/// Shows the windows.
 fn show(live: &mut Live, now: Moment, windows: Vec<ClientWindow>, named: &mut u64) -> u32
     ensures { ShowsRead (nat_eq result no_memory) (Some windows.items) result now live.old live.new
         named.old named.new }
@@ -62,8 +62,8 @@ fn show(live: &mut Live, now: Moment, windows: Vec<ClientWindow>, named: &mut u6
     }
 }
 
-/// The focus of a display is requested for a client, or for none where the channel is 0. `NOT_OPEN` where the client is
-/// not open, and `MEMORY` for want of memory. Nothing changes then.
+/// Requests the focus of a display for a client, or for none if the channel is 0. `NOT_OPEN` if the client is not
+/// open, and `MEMORY` if memory runs out. On an error nothing changes.
 pub fn focus(live: &mut Live, now_us: u64, display: u8, client: &PlainClient) -> u32
     ensures { Reads (moment_of now_us) result (live.new ≡ live.old)
         (λ now. Reads (display_of display) result (live.new ≡ live.old)

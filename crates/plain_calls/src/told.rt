@@ -18,7 +18,7 @@ impl PlainMessage {
         plain
     }
 
-    /// A message of which only its number and its moment are sent so far.
+    /// A message with only its number and its moment filled in.
     fn numbered(seq: u64, moment: Moment) -> PlainMessage
         ensures { result ≡ numbered seq moment }
     {
@@ -41,7 +41,7 @@ impl PlainMessage {
         }
     }
 
-    /// What the message says is sent too.
+    /// Fills in the message's body.
     fn send(&mut self, body: &Body)
         ensures { self.new ≡ with_body body.now self.old }
     {
@@ -93,7 +93,7 @@ fn plain_pointer(pointer: &Pointer) -> PlainPointer
     }
 }
 
-/// Writes pointers to the places at the front.
+/// Writes pointers to the first slots.
 fn write_pointers(places: &mut [PlainPointer; 16], pointers: &[Pointer])
     requires { length pointers.now ≤ 16 }
     ensures { places.new ≡ map plain_pointer pointers.now ++ drop (length pointers.now) places.old }

@@ -10,7 +10,7 @@ use live_input::ClientWindow;
 use std::alloc::{AllocError, AllocFailed, Global};
 use touch_region::{Rect, Region, RegionError};
 
-/// A rectangle of display pixels: `struct inputflinger_rect`. It has the points with `left <= x < right` and
+/// A rectangle of display pixels: `struct inputflinger_rect`. It contains the points with `left <= x < right` and
 /// `top <= y < bottom`.
 #[repr(C)]
 #[derive(Clone, Copy, Debug)]
@@ -30,7 +30,7 @@ pub struct PlainWindow {
     pub frame: PlainRect,
     /// As `WindowFlags` has them.
     pub flags: u32,
-    /// How many of the rectangles that are handed in beside the windows are those in which it can be touched.
+    /// How many of the rectangles handed in with the windows make up the region in which it can be touched.
     pub rects: u32,
     /// 0 to 3.
     pub display: u8,
@@ -41,7 +41,7 @@ pub struct PlainWindow {
 pub(crate) enum Unread {
     /// A number is out of its range.
     Range,
-    /// Want of memory.
+    /// Out of memory.
     Memory,
 }
 
@@ -119,7 +119,7 @@ impl PlainWindow {
     }
 }
 
-/// The windows, front to back. Each has as many of the rectangles as it says, behind those of the windows before it.
+/// The windows, front to back. Each takes as many of the rectangles as it says, after those of the windows before it.
 pub(crate) fn read_windows(
     alloc: Global,
     rows: &[PlainWindow],

@@ -1,4 +1,4 @@
--- What a run of the program inside another one comes to.
+-- The result of a run of the program inside another one.
 use Rattle.std.specs.Prelude.{codes, ◌≡◌, ◌↔◌, ℕ, nat_le, ◌&&◌, min, if◌then◌else◌, Bool, true, false, List, [], ◌∷◌, ◌++◌, length, take, drop, Option, Some, None}
 use Rattle.outside_io.specs.Trace.{Reading, Writing}
 use Rattle.outside_io.specs.Outside.{Entry}
@@ -9,7 +9,7 @@ use Rattle.plain_calls.specs.Status.{is_ok, no_room, no_threads}
 use Rattle.plain_run.specs.declared.lent.Lent.{Lent}
 use Rattle.plain_run.specs.declared.ran.PlainRan.{PlainRan}
 
--- the first so many of three files under their names, where there are so many
+-- the first so many of three files under their names, if there are so many
 abbrev pub files_from : (count : ℕ) → (first second third : List ℕ) → Option (List Entry)
 files_from count first second third =
     if nat_le count 3 then Some (take count ((codes "1", first) ∷ (codes "2", second) ∷ (codes "3", third) ∷ [])) else None
@@ -41,18 +41,19 @@ pub record RunsTo (words : List (List ℕ)) (files : List Entry) (text line : Li
       Ends (asked words (Some files) [] readings 0 faults) (sink_ends 0 write_faults unwritten wrote) (sink_ends 0 send_faults unwritten told) status
   pub usage : (form_of words ≡ None) ↔ (status ≡ 2)
 
--- A text goes to a buffer: its front, as much as there is room for. Behind it the buffer is as it was, and the length of the text is sent.
+-- A text goes to a buffer: as much of its front as there is room for. The buffer after it stays as it was, and the
+-- length of the text is returned.
 abbrev pub Fills : (text before after : List ℕ) → (len : ℕ) → Type 0
 Fills text before after len =
     (len ≡ length text) × (after ≡ take (min (length before) (length text)) text ++ drop (min (length before) (length text)) before)
 
--- what a caller lends: two buffers, and where it is told what the run came to
+-- what a caller lends: two buffers, and where the result of the run is written
 pub record Places : Type 0 where
   pub out : List ℕ
   pub err : List ℕ
   pub ran : PlainRan
 
--- these buffers, and this is sent
+-- these buffers, and this result is written
 abbrev pub places : (out err : List ℕ) → PlainRan → Places
 places out err ran = record { out = out; err = err; ran = ran }
 
@@ -74,7 +75,7 @@ abbrev pub RunsAlone : (race : Bool) → List (List ℕ) → List Entry → ℕ 
 RunsAlone true words files status before after = (status ≡ no_threads) × (after ≡ before)
 RunsAlone false words files status before after = Ran words files status before after
 
--- What a run comes to, by whether memory for its words was wanting: then nothing changes.
+-- The result of a run, by whether memory for its words ran out: then nothing changes.
 abbrev pub RunGoes : (wanting : Bool) → List (List ℕ) → List Entry → ℕ → (before after : Places) → Type 0
 RunGoes true words files status before after = after ≡ before
 RunGoes false words files status before after = RunsAlone (is_race (form_of words)) words files status before after

@@ -1,7 +1,7 @@
 //! Texts that go to buffers.
 ghost use Rattle.plain_run.specs.Running.{Fills};
 
-/// Writes the front of a text to a buffer, as much as has room, and answers how long the text is.
+/// Writes as much of the front of a text to a buffer as fits, and returns the length of the text.
 pub(crate) fn fill(buffer: &mut [u8], text: &[u8]) -> usize
     ensures { Fills text.now buffer.old buffer.new result }
 {

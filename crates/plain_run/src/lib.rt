@@ -1,7 +1,7 @@
 //! A run of the program inside another one: its words and up to three files come as bytes, and what it prints goes to
 //! buffers of the caller.
 //!
-//! The words stand one on a line, and name the files `1`, `2` and `3`:
+//! The words are one per line, and name the files `1`, `2` and `3`:
 //!
 //! ```text
 //! verify --stream 1    one file, and room for 100 bytes and 100    0: the status is 0, and `well formed 1 2` is sent

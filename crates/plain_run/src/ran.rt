@@ -4,9 +4,9 @@
 #[repr(C)]
 #[derive(Clone, Copy, Debug)]
 pub struct PlainRan {
-    /// How long the text is that the program prints to its standard output, in bytes.
+    /// The length of the text that the program prints to its standard output, in bytes.
     pub out_len: usize,
-    /// How long its line on standard error is.
+    /// The length of its line on standard error.
     pub err_len: usize,
     /// The status that it ended with, 0 to 7.
     pub status: u32,

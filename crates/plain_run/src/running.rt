@@ -15,12 +15,12 @@ use lent_io::LentFile;
 use plain_calls::status::{MEMORY, NO_THREADS, OK, RANGE, ROOM};
 use std::alloc::Global;
 
-/// Runs the program. `words` are those behind its name, one on a line; where a line is no UTF-8 there are none, which
-/// are those of no command. What it prints goes to `out`, and the line that says why there is nothing to `err`, each as
-/// far as there is room, and what is behind stays; `ran` says how many bytes they have.
+/// Runs the program. `words` are those after its name, one per line; if a line is not UTF-8 there are none, which is
+/// no command. What it prints goes to `out`, and the line that says why it prints nothing goes to `err`, each as far
+/// as there is room; the rest of each buffer stays. `ran` says how many bytes they have.
 ///
-/// `ROOM` where one of them is longer than its buffer; `RANGE` for more than three files, `NO_THREADS` for the words of
-/// `race`, and `MEMORY` where there is no memory for the words: then nothing ran, and nothing changed.
+/// `ROOM` if one of them is longer than its buffer. `RANGE` for more than three files, `NO_THREADS` for the words of
+/// `race`, and `MEMORY` if there is no memory for the words: then nothing ran, and nothing changed.
 pub fn run(
     alloc: Global,
     words: &[u8],

@@ -7,8 +7,7 @@ use std::alloc::{AllocError, Global};
 use std::str;
 use text_lines::first_line;
 
-/// The words of a text, one of each line; none where a line is no text in UTF-8, as a program has none whose words are
-/// no text.
+/// The words of a text, one per line; none if a line is not UTF-8 text, as for a program whose words are not text.
 pub(crate) fn words_of(alloc: Global, bytes: &[u8]) -> Result<Vec<String>, AllocError>
     ensures { IfOk result (λ words. map string_bytes words.items ≡ words_of bytes.now) }
 {
@@ -18,7 +17,7 @@ pub(crate) fn words_of(alloc: Global, bytes: &[u8]) -> Result<Vec<String>, Alloc
     }
 }
 
-/// The words, where each line is a text in UTF-8.
+/// The words, if each line is UTF-8 text.
 fn words_in(alloc: Global, bytes: &[u8]) -> Result<Option<Vec<String>>, AllocError>
     ensures { IfOk result (λ told. option_map (λ words. map string_bytes words.items) told
         ≡ words_in (lines_of bytes.now)) }

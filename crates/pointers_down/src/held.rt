@@ -8,7 +8,7 @@ ghost use Rattle.input_types.specs.Gestures.{ids_of, same_ids, allowed, is_end_f
 use bits32::Bits32;
 use input_types::{FLAG_CANCELED, Motion, MotionAction, Pointers};
 
-/// The ids that are down after a motion on a device where `held` are down; None where it may not come then.
+/// The ids that are down after a motion on a device where `held` are down; None if it may not come then.
 pub fn next_held(held: Bits32, motion: &Motion) -> Option<Bits32>
     ensures { option_map members result ≡ after_motion (members held) motion.now }
 {
@@ -33,7 +33,7 @@ pub fn listed(pointers: &Pointers) -> Bits32
     set
 }
 
-/// The ids that are down after an action that lists `ids`, with this index and these flags; None where it may not come.
+/// The ids that are down after an action that lists `ids`, with this index and these flags; None if it may not come.
 fn after_listing(
     held: Bits32,
     action: MotionAction,
@@ -83,7 +83,7 @@ pub fn is_same(a: Bits32, b: Bits32) -> bool
     a.bits() == b.bits()
 }
 
-/// The set, where the condition holds.
+/// The set if the condition holds, or else None.
 fn when(condition: bool, set: Bits32) -> Option<Bits32>
     ensures { result ≡ allowed condition set }
 {
@@ -97,7 +97,7 @@ pub fn ends(flags: u32) -> bool
     flags == 0 || flags == FLAG_CANCELED
 }
 
-/// The set without the number at place `index` of its rising list, or None exactly where there is no such place.
+/// The set without the number at index `index` of its rising list, or None exactly if there is no such index.
 pub fn without(set: Bits32, index: u8) -> Option<Bits32>
     ensures { option_map members result ≡ allowed (nat_lt index (length (members set))) (remove (members set) index) }
 {

@@ -1,7 +1,7 @@
 //! The pointers that are down on one device, as a set of ids, after each of its motions.
 //!
-//! One table says which motion may come next, both of what a device does and of what a window is sent. A second finger
-//! goes down while pointer 0 is, and then the first one goes up:
+//! One table says which motion may come next, both for a device and for a window's stream. A second finger goes down
+//! while pointer 0 is down, and then the first one goes up:
 //!
 //! ```text
 //! down    motion                      down after it
@@ -10,7 +10,7 @@
 //! {1}     MOVE 0                      None: it has to list what is down
 //! ```
 //!
-//! [`next_held`] is this table: the ids after a motion, or None exactly where the motion may not come.
+//! [`next_held`] is this table: the ids after a motion, or None exactly if the motion may not come.
 #![tactic(auto)]
 
 mod held;

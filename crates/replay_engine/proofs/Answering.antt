@@ -29,7 +29,7 @@ pub reads_words : (q : Asked) (command : Command) → form_of q.words ≡ Some c
     → ReadsInTurn q (λ rs. Unit {0})
 reads_words q command is log = subst (λ o. Logged q.told q.before q.now (files_in o) (λ rs. Unit {0})) (sym is) log
 
--- what a command came to is what its words came to
+-- the result of a command is that of its words
 pub came_so : (q : Asked) (command : Command) (r : Result (List ℕ) Refusal) → form_of q.words ≡ Some command
     → IfOk r (λ text. Answers q.told q.before q.now command (Ok text)) → IfErr r (RefusesCommand q.told q.before q.now command q.faults_before q.faults_now)
     → CameTo q r
@@ -47,7 +47,7 @@ usage_told : (told : Option (List Entry)) → IfTold told (λ es. AnswersTo (by_
 usage_told None = tt
 usage_told (Some es) = (refl, tt)
 
--- words of no form come to the usage, and no file is read
+-- words of no form give the usage, and no file is read
 pub comes_usage : (q : Asked) → form_of q.words ≡ None → q.now ≡ q.before → ComesTo q (Err usage)
 comes_usage q none same = (
   subst (λ o. Logged q.told q.before q.now (files_in o) (λ rs. AnswersTo (by_log rs) o (Err usage))) (sym none)

@@ -1,4 +1,4 @@
--- How a run ends, by what the command came to.
+-- How a run ends, by the result of the command.
 use Rattle.std.proofs.Common.{◌≡◌, ◌≢◌, ◌∙◌, ℕ, List, codes, IsTrue, Ok, Err, refl, sym, subst, arith, inl, inr}
 use Rattle.outside_io.specs.Outside.{Rose}
 use Rattle.text_output.specs.Passing.{StopsWithin, WritesAll, Tells as TellsLine}
@@ -60,7 +60,7 @@ ends_front q out err text comes stops rose line =
       complete = λ read kept. absurd (kept rose);
     }
 
--- a refusal that is the answer was sent
+-- a refusal that is the answer was printed
 pub ends_judged : (q : Asked) (out err : SinkEnds) (x : Refused) (status : ℕ) → IsTrue (is_status status) → status ≡ x.status
     → status ≢ 0 → status ≢ 4 → status ≢ 5 → status ≢ 6 → ComesTo q (Err x) → out.now ≡ out.before
     → TellsLine err.faults_before err.faults_now err.before err.now x.line → Ends q out err status
@@ -130,7 +130,7 @@ ends_memory q out err reads kept line =
       complete = λ read wrote. inr refl;
     }
 
--- the usage was sent
+-- the usage was printed
 pub ends_usage : (q : Asked) (out err : SinkEnds) (status : ℕ) → status ≡ 2 → ComesTo q (Err usage) → out.now ≡ out.before
     → TellsLine err.faults_before err.faults_now err.before err.now usage.line → Ends q out err status
 ends_usage q out err status two comes kept line =
@@ -152,7 +152,7 @@ so_refused q out err NoMemory came kept line = ends_memory q out err came kept l
 so_refused q out err (TooLong what) came kept line =
     ends_judged q out err (refusal_view (TooLong what)) 7 refl refl (λ n. absurd (omega (arith, n))) (λ n. absurd (omega (arith, n))) (λ n. absurd (omega (arith, n))) (λ n. absurd (omega (arith, n))) came kept line
 
--- why there is no text was sent, with its status
+-- the reason for having no text was printed, with its status
 pub ends_refused : (q : Asked) (out err : SinkEnds) (r : Refusal) (status : ℕ) → status ≡ status_of r → CameTo q (Err r) → out.now ≡ out.before
     → TellsLine err.faults_before err.faults_now err.before err.now (refusal_view r).line → Ends q out err status
 ends_refused q out err r status is came kept line = subst (λ n. Ends q out err n) (sym is) (so_refused q out err r came kept line)

@@ -65,11 +65,11 @@ regroup a n p k e =
     ∙ ap (λ (xs : List ℕ). a ++ xs) (sym (append_assoc n (p ++ k) e))
     ∙ sym (append_assoc a (n ++ (p ++ k)) e)
 
--- what stands before what is down
+-- what precedes what is down
 abbrev pub head_text : ℕ → List ℕ
 head_text number = codes "stream: StillDown " ++ decimal number
 
--- what stands behind it
+-- what follows it
 abbrev pub tail_text : Down → List ℕ
 tail_text down = keys_text down.keys ++ codes "\n"
 

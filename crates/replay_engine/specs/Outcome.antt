@@ -1,4 +1,4 @@
--- What a run comes to: how its status, its text and its line go with what the program answers.
+-- The result of a run: how its status, its text and its line relate to what the program answers.
 use Rattle.std.specs.Prelude.{codes, ◌≡◌, ◌≢◌, ℕ, nat_eq, ◌||◌, Bool, List, [], Option, Some, None, Ok, Err, ⊤, IsTrue, ◌⊎◌}
 use Rattle.outside_io.specs.Trace.{Reading, Writing}
 use Rattle.outside_io.specs.Outside.{Entry, Rose}
@@ -11,8 +11,8 @@ use Rattle.command_files.specs.Logged.{Logged}
 use Rattle.command_files.specs.Refused.{Refused}
 use Rattle.command_answers.specs.Program.{IsAnswer, files_of}
 
--- The files lend each name that the words give: that of a recording only where the session is accepted, that of an order file only
--- where both are, and that of the streams that came only where those that were wanted are accepted.
+-- The files lend each name in the words: that of a recording only if the session is accepted, that of an order file
+-- only if both are, and that of the actual streams only if the expected ones are accepted.
 abbrev pub LendsNames : Option (List Entry) → (List ℕ → Bool) → Option Command → Type 0
 LendsNames told lends None = ⊤
 LendsNames told lends (Some (replay files)) = IsTrue (lends files.session) × (IsAccepted told files.session → IsTrue (lends files.events))
@@ -40,7 +40,7 @@ pub record Asked : Type 0 where
   pub faults_before : ℕ
   pub faults_now : ℕ
 
--- what was asked, of these words, over files that tell this and are logged and counted so
+-- what was asked, with these words, over files with these contents, log and count
 abbrev pub asked : List (List ℕ) → Option (List Entry) → List Reading → List Reading → ℕ → ℕ → Asked
 asked words told before now faults_before faults_now =
     record { words = words; told = told; before = before; now = now; faults_before = faults_before; faults_now = faults_now }
@@ -62,7 +62,7 @@ ComesTo q a = ReadsInTurn q (λ readings. IsAnswer (by_log readings) q.words a) 
 abbrev pub WroteAll : Asked → Writing → Writing → Type 0
 WroteAll q before now = (text : List ℕ) × ComesTo q (Ok text) × WritesAll before now text
 
--- the program answers a text, of which the output took a front part, and a write failed
+-- the program answers a text, the output took the front of it, and a write failed
 abbrev pub WroteFront : Asked → Writing → Writing → Type 0
 WroteFront q before now = (text : List ℕ) × ComesTo q (Ok text) × StopsWithin before now text
 
@@ -70,28 +70,30 @@ WroteFront q before now = (text : List ℕ) × ComesTo q (Ok text) × StopsWithi
 abbrev pub RefusedBy : Asked → ℕ → (List ℕ → Type 0) → Type 0
 RefusedBy q status said = (r : Refused) × (r.status ≡ status) × ComesTo q (Err r) × said r.line
 
--- a status that there is
+-- a status that exists
 abbrev pub is_status : ℕ → Bool
 is_status n = nat_eq n 0 || nat_eq n 1 || nat_eq n 2 || nat_eq n 3 || nat_eq n 4 || nat_eq n 5 || nat_eq n 6 || nat_eq n 7
 
--- the status of an answer: 0 for a text, which is written where no fault of the output arose
+-- the status of an answer: 0 for a text, which is written if the output had no fault
 abbrev pub HasStatus : Answer → ℕ → Type 0
 HasStatus (Ok text) status = status ≡ 0
 HasStatus (Err r) status = status ≡ r.status
 
--- Where neither the files nor the output had a fault, the program answers and its status is that of the answer, or memory ran out.
+-- If neither the files nor the output had a fault, the program answers and its status is that of the answer, or
+-- memory ran out.
 abbrev pub Completes : Asked → ℕ → ℕ → ℕ → Type 0
 Completes q out_before out_now status =
     ¬ (Rose q.faults_before q.faults_now) → ¬ (Rose out_before out_now) → ((a : Answer) × ComesTo q a × HasStatus a status) ⊎ (status ≡ 6)
 
--- What the output took, by the status: the whole text of the answer on 0, a front part of it on 5; on any other nothing was handed to it.
+-- What the output took, by the status: the whole text of the answer on 0, the front of it on 5; on any other status
+-- nothing was handed to it.
 pub record Writes (q : Asked) (before now : Writing) (status : ℕ) : Type 0 where
   pub whole : status ≡ 0 → WroteAll q before now
   pub front : status ≡ 5 → WroteFront q before now
   pub nothing : status ≢ 0 → status ≢ 5 → now ≡ before
 
--- What the error sink was sent, by the status. On 1, 2, 3 and 7 that is the line of a refusal with this status, which is the program's
--- answer; on 4, 5 and 6 that of a fault or of want of memory; on 0 nothing.
+-- What the error sink was sent, by the status. On 1, 2, 3 and 7 that is the line of a refusal with this status, which
+-- is the program's answer; on 4, 5 and 6 that of a fault or of running out of memory; on 0 nothing.
 pub record Tells (q : Asked) (faults_before faults_now : ℕ) (before now : Writing) (status : ℕ) : Type 0 where
   pub judged : status ≡ 1 → RefusedBy q 1 (TellsLine faults_before faults_now before now)
   pub usage_told : status ≡ 2 → RefusedBy q 2 (TellsLine faults_before faults_now before now)
@@ -114,13 +116,13 @@ abbrev pub sink_ends : ℕ → ℕ → Writing → Writing → SinkEnds
 sink_ends faults_before faults_now before now =
     record { faults_before = faults_before; faults_now = faults_now; before = before; now = now }
 
--- How a run ends: with a status that there is, and a text, a line and faults that go with it.
+-- How a run ends: with a status that exists, and a text, a line and faults that fit it.
 pub record Ends (q : Asked) (out err : SinkEnds) (status : ℕ) : Type 0 where
   pub is : IsTrue (is_status status)
   pub reads : ReadsInTurn q (λ readings. ⊤)
   pub writes : Writes q out.before out.now status
   pub tells : Tells q err.faults_before err.faults_now err.before err.now status
-  -- a read or a write failed, where the status says so
+  -- a read or a write failed, if the status says so
   pub read : status ≡ 4 → Rose q.faults_before q.faults_now
   pub write : status ≡ 5 → Rose out.faults_before out.faults_now
   pub complete : Completes q out.faults_before out.faults_now status

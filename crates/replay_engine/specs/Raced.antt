@@ -5,6 +5,6 @@ use Rattle.text_output.specs.Passing.{WritesAll}
 use Rattle.replay_actors.specs.declared.part.RaceEnd.{RaceEnd}
 use Rattle.command_answers.specs.RaceEnds.{PrintsEnd}
 
--- The output took a text whole: what the end of a race prints, where the end is one of these.
+-- The output took a text whole: what the end of a race prints, if the end is one of these.
 abbrev pub WroteEnd : (RaceEnd → Type 0) → Writing → Writing → Type 0
 WroteEnd left before now = (text : List ℕ) × PrintsEnd left text × WritesAll before now text

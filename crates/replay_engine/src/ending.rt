@@ -1,4 +1,4 @@
-//! How the program ends: what is written or told, and the status.
+//! How the program ends: what is written or printed, and the status.
 ghost use Rattle.std.specs.Prelude.{codes, ◌≡◌, ◌≢◌, ◌≤◌, ℕ, List, Ok};
 ghost use Rattle.text_output.specs.Passing.{Tells, WritesAll};
 ghost use Rattle.command_files.specs.RefusalView.{refusal_view, status_of};
@@ -11,7 +11,7 @@ use outside_io::Sink;
 use text_output::{tell, write_text};
 use text_pieces::Pieces;
 
-/// Tells a line, and answers the status that goes with it.
+/// Prints a line, and returns the status that goes with it.
 pub fn end_with<E: Sink>(status: u8, line: &str, err: &mut E) -> u8
     ensures status { result ≡ status }
     ensures line { Tells (E.faults err.old) (E.faults err.new) (E.writing err.old) (E.writing err.new) line.now }
@@ -34,7 +34,7 @@ fn status_of(refusal: &Refusal) -> u8
     }
 }
 
-/// Tells why a run writes no text, and answers the status. It takes no memory.
+/// Prints why a run writes no text, and returns the status. It allocates no memory.
 fn end_refused<E: Sink>(refusal: &Refusal, err: &mut E) -> u8
     ensures status { result ≡ status_of refusal.now }
     ensures line { Tells (E.faults err.old) (E.faults err.new) (E.writing err.old) (E.writing err.new)
@@ -53,7 +53,7 @@ fn end_refused<E: Sink>(refusal: &Refusal, err: &mut E) -> u8
     status_of(refusal)
 }
 
-/// Ends a program that finds no memory for its words.
+/// Ends a program that has no memory for its words.
 pub fn no_memory<E: Sink>(err: &mut E) -> u8
     ensures status { result ≡ 6 }
     ensures line { Tells (E.faults err.old) (E.faults err.new) (E.writing err.old) (E.writing err.new)
@@ -63,7 +63,7 @@ pub fn no_memory<E: Sink>(err: &mut E) -> u8
     end_with(6, "no memory\n", err)
 }
 
-/// Writes the text of an answer, or tells why there is none, and answers the status.
+/// Writes the text of an answer, or prints why there is none, and returns the status.
 pub fn end_answered<O: Sink, E: Sink>(
     answer: Result<Pieces, Refusal>,
     out: &mut O,

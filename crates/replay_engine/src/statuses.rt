@@ -1,4 +1,4 @@
-//! The lines that say why a command writes no text. None of them asks for memory.
+//! The lines that say why a command writes no text. None of them allocates memory.
 ghost use Rattle.std.specs.Prelude.{◌≡◌, ◌≤◌, ◌++◌, codes, decimal};
 ghost use Rattle.std.specs.Fmt.{signed_decimal};
 ghost use Rattle.session_plan.specs.ErrorLine.{error_line, refused_line};
@@ -17,11 +17,11 @@ use raw_events::LineError;
 use session_plan::PlanError;
 use text_output::{tell, tell_named, tell_pair};
 
-/// The line that tells the commands.
+/// The line that lists the commands.
 pub const USAGE: &str =
     "usage: inputflinger replay|race|check|verify|work|batch|hover|emit|inspect|why|judge|compare\n";
 
-/// Tells a line that ends with a number.
+/// Prints a line that ends with a number.
 pub fn tell_number<E: Sink>(err: &mut E, words: &str, number: u64)
     ensures line { Tells (E.faults err.old) (E.faults err.new) (E.writing err.old) (E.writing err.new)
         ((words.now ++ decimal number) ++ codes "\n") }
@@ -31,7 +31,7 @@ pub fn tell_number<E: Sink>(err: &mut E, words: &str, number: u64)
     tell_named(err, words, digits.format(number));
 }
 
-/// Tells a line that ends with two numbers.
+/// Prints a line that ends with two numbers.
 fn tell_numbers<E: Sink>(err: &mut E, words: &str, first: u64, second: u64)
     ensures line { Tells (E.faults err.old) (E.faults err.new) (E.writing err.old) (E.writing err.new)
         ((words.now ++ (decimal first ++ (codes " " ++ decimal second))) ++ codes "\n") }
@@ -42,7 +42,7 @@ fn tell_numbers<E: Sink>(err: &mut E, words: &str, first: u64, second: u64)
     tell_pair(err, words, digits.format(first), others.format(second));
 }
 
-/// The number of the line that a layout is refused for.
+/// The number of the line for which a layout is refused.
 fn line_of(error: LayoutError) -> u64
     ensures { result ≡ refused_line error }
 {
@@ -54,7 +54,7 @@ fn line_of(error: LayoutError) -> u64
     }
 }
 
-/// Tells the key of a number that is outside its range.
+/// Prints the key of a number that is outside its range.
 fn tell_out_of_range<E: Sink>(err: &mut E, key: &str, value: i64)
     ensures line { Tells (E.faults err.old) (E.faults err.new) (E.writing err.old) (E.writing err.new)
         ((codes "session: OutOfRange " ++ (key.now ++ (codes " " ++ signed_decimal value))) ++ codes "\n") }
@@ -64,7 +64,7 @@ fn tell_out_of_range<E: Sink>(err: &mut E, key: &str, value: i64)
     tell_pair(err, "session: OutOfRange ", key, digits.format(value));
 }
 
-/// Tells why a session is refused.
+/// Prints why a session is refused.
 pub fn tell_session<E: Sink>(err: &mut E, error: &PlanError)
     ensures line { Tells (E.faults err.old) (E.faults err.new) (E.writing err.old) (E.writing err.new)
         (error_line error.now ++ codes "\n") }
@@ -88,7 +88,7 @@ pub fn tell_session<E: Sink>(err: &mut E, error: &PlanError)
     }
 }
 
-/// Tells why a recording is refused.
+/// Prints why a recording is refused.
 pub fn tell_recording<E: Sink>(err: &mut E, error: &LineError)
     ensures line { Tells (E.faults err.old) (E.faults err.new) (E.writing err.old) (E.writing err.new)
         (recording_line error.now ++ codes "\n") }
@@ -102,7 +102,7 @@ pub fn tell_recording<E: Sink>(err: &mut E, error: &LineError)
     }
 }
 
-/// Tells why an order file is refused.
+/// Prints why an order file is refused.
 pub fn tell_order<E: Sink>(err: &mut E, error: OrderError)
     ensures line { Tells (E.faults err.old) (E.faults err.new) (E.writing err.old) (E.writing err.new)
         (order_line error ++ codes "\n") }
@@ -114,7 +114,7 @@ pub fn tell_order<E: Sink>(err: &mut E, error: OrderError)
     }
 }
 
-/// Tells where streams are not the same.
+/// Prints where streams differ.
 #[tactic(auto, unfolding(compare_text::specs::Lines::refusal_line))]
 fn tell_same<E: Sink>(err: &mut E, error: CompareError)
     ensures line { Tells (E.faults err.old) (E.faults err.new) (E.writing err.old) (E.writing err.new)
@@ -131,7 +131,7 @@ fn tell_same<E: Sink>(err: &mut E, error: CompareError)
     }
 }
 
-/// Tells why a stream file is refused.
+/// Prints why a stream file is refused.
 pub fn tell_stream<E: Sink>(err: &mut E, error: &StreamError)
     ensures line { Tells (E.faults err.old) (E.faults err.new) (E.writing err.old) (E.writing err.new)
         (stream_line error.now ++ codes "\n") }
@@ -150,7 +150,7 @@ pub fn tell_stream<E: Sink>(err: &mut E, error: &StreamError)
     }
 }
 
-/// Tells what is longer than its limit.
+/// Prints what is longer than its limit.
 pub fn tell_too_long<E: Sink>(err: &mut E, what: Subject)
     ensures line { Tells (E.faults err.old) (E.faults err.new) (E.writing err.old) (E.writing err.new)
         (too_long (subject_word what)).line }

@@ -25,7 +25,7 @@ pub fn is_alone(words: &[String]) -> bool
     !matches!(command_of(words), Some(Command::Race(_)))
 }
 
-/// Runs a command that starts no threads. What is said of it is what [`run`] says of all commands. It waits for nobody.
+/// Runs a command that starts no threads, with the contract that [`run`] has for all commands. It never waits.
 pub fn run_alone<F: Files, O: Sink, E: Sink>(
     alloc: Global,
     words: &[String],
@@ -58,22 +58,23 @@ pub fn run_alone<F: Files, O: Sink, E: Sink>(
     }
 }
 
-/// Runs a command, with threads where it is `race`, at whose lanes the gate stands: `words` are those behind the
-/// program's name. The answer is the status that the program ends with.
+/// Runs a command, with threads if it is `race`, whose lanes the gate controls. `words` are those after the program's
+/// name. Returns the status with which the program ends.
 ///
 /// | status | where |
 /// |---|---|
 /// | 0 | the whole text was written to `out` |
-/// | 1 | a line of an order or of a stream file is bad, asks for a step that does not exist, or may not come; or streams |
-/// |   | are not to be written as a recording, are not whole, or are not those that were wanted |
+/// | 1 | a line of an order or of a stream file is bad, requests a step that does not exist, or may not come; or streams |
+/// |   | cannot be written as a recording, are not whole, or differ from the expected ones |
 /// | 2 | the words are not of the form of a command |
 /// | 3 | the session or a line of the recording is refused |
 /// | 4 | a file could not be read |
 /// | 5 | a part of the text could not be written |
-/// | 6 | want of memory |
+/// | 6 | out of memory |
 /// | 7 | a file, the steps of a session, or a run are longer than their limit |
 ///
-/// On each status but 0 a line on `err` says why, as `session: Missing display`, `read failed` or `too long: run`.
+/// For each status except 0 a line on `err` says why, such as `session: Missing display`, `read failed` or `too long:
+/// run`.
 pub fn run<R: Threads + Wait + Sync, F: Files, O: Sink, E: Sink, G: Gate + Sync>(
     rt: &R,
     alloc: Global,
@@ -104,8 +105,8 @@ pub fn run<R: Threads + Wait + Sync, F: Files, O: Sink, E: Sink, G: Gate + Sync>
     run_by(rt, alloc, words, files, out, err, &runner)
 }
 
-/// Runs a command as [`run`] does, where the lanes of `race` are run by the caller's function. The order that is
-/// written is that of an end which the function answered.
+/// Runs a command as [`run`] does, but the caller's function runs the lanes of `race`. The written order is that of
+/// an end which this function returned.
 pub fn run_by<R: Wait, F: Files, O: Sink, E: Sink, K: Fn(Start) -> Result<RaceEnd, AllocError>>(
     rt: &R,
     alloc: Global,

@@ -1,4 +1,5 @@
-//! The lines that say why streams are not whole. What is still down has no bound, so it is written as it is found.
+//! The lines that say why streams are not whole. The amount that is still down is unbounded, so it is written as it
+//! is found.
 ghost use Rattle.std.specs.Prelude.{◌≡◌, ◌≤◌, ◌++◌, codes, decimal, map, OnOk, OnErr};
 ghost use Rattle.bits32.specs.Set.{members};
 ghost use Rattle.outside_io.specs.Outside.{Rose};
@@ -13,14 +14,14 @@ use judge_text::{HeldIds, JudgeError, StillDown, word};
 use outside_io::{Failed, Sink};
 use text_output::{Line, tell, tell_pair};
 
-/// The mark before the id at a place of its list.
+/// The mark before the id at an index of its list.
 fn mark(place: u32) -> &'static str
     ensures { result.now ≡ mark_at place }
 {
     if place == 0 { ":" } else { "," }
 }
 
-/// Adds the id at a place of its list.
+/// Adds the id at an index of its list.
 fn add_id<E: Sink>(line: &mut Line, err: &mut E, place: u32, id: u8) -> Result<(), Failed>
     ensures ok { OnOk result (WritesUpTo (E.writing err.old) (E.writing err.new)
         (line.old ++ (mark_at place ++ decimal id)) line.new) }
@@ -133,7 +134,7 @@ fn write_still_down<E: Sink>(err: &mut E, number: u64, down: &StillDown) -> Resu
     line.end(err)
 }
 
-/// Tells the line of a section that leaves something down.
+/// Prints the line of a section that leaves something down.
 fn tell_still_down<E: Sink>(err: &mut E, number: u64, down: &StillDown)
     ensures line { Tells (E.faults err.old) (E.faults err.new) (E.writing err.old) (E.writing err.new)
         (refusal_line (JudgeError.StillDown number down.now) ++ codes "\n") }
@@ -142,7 +143,7 @@ fn tell_still_down<E: Sink>(err: &mut E, number: u64, down: &StillDown)
     let _ = write_still_down(err, number, down);
 }
 
-/// Tells why streams are not whole.
+/// Prints why streams are not whole.
 #[tactic(auto, unfolding(judge_text::specs::Lines::refusal_line))]
 pub fn tell_whole<E: Sink>(err: &mut E, error: &JudgeError)
     ensures line { Tells (E.faults err.old) (E.faults err.new) (E.writing err.old) (E.writing err.new)

@@ -70,7 +70,7 @@ in_which test good passes (v ∷ vs) w h = first (test v) refl h (in_which test 
           | inr t ↦ let x = r t in (x.0, or_right (v.channel == w) _ x.1)
         ]
 
--- who gets a pointer is able and is named
+-- a window that gets a pointer is able and is in the snapshot
 abbrev IsGood : Scene → ℕ → Type 0
 IsGood s w = (s.able w ≡ true) × (is_named s.windows w ≡ true)
 

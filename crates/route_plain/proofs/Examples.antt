@@ -14,7 +14,7 @@ use Rattle.route_plain.specs.Route.{said_up_to, said_at, step_of, state_after}
 abbrev next : List Window → ℕ → Turn → State → State
 next ws able t st = state_after (scene_before st ws 3 able) (step_of t ws) st
 
--- the state after some turns, the newest first
+-- the state after some turns, newest first
 abbrev after_turns : List Window → ℕ → List Turn → State
 after_turns ws able [] = fresh
 after_turns ws able (t ∷ past) = next ws able t (after_turns ws able past)

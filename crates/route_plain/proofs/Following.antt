@@ -41,7 +41,7 @@ began_is f [] w d b = refl
 began_is f (h ∷ hs) w d b =
     found_at f h hs w d b.0 (began_is f hs w d b.1) (is_of w d h) refl
 
--- of two windows the one that began first is told by their numbers
+-- their numbers say which of two windows began first
 below_is : (a b : Bool) (m n : ℕ) → is_below (cond a (Some m) None) (cond b (Some n) None) ≡ (a && b && nat_lt m n)
 below_is true true m n = refl
 below_is true false m n = refl

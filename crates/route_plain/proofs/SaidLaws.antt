@@ -41,7 +41,7 @@ said_step f k out new ms e i m =
     e ∙ ap₂ (λ xs ys. xs ++ to_channel (k + 1) ys) i m ∙ ap (λ n. said_up_to f k ++ to_channel n (f n)) (add-one k) ∙ sym (said_more f k)
     ∙ ap (said_up_to f) (sym (add-one k))
 
--- where each channel is sent nothing, nothing is said
+-- if each channel is sent nothing, nothing is sent
 pub said_nothing : (f : ℕ → List Motion) (n : ℕ) → ((c : ℕ) → f c ≡ []) → said_up_to f n ≡ []
 said_nothing f zero e = said_none f
 said_nothing f (suc n) e = said_more f n ∙ ap₂ (λ xs ms. xs ++ to_channel (suc n) ms) (said_nothing f n e) (e (suc n))
@@ -127,7 +127,7 @@ said_of_motion_is s m n hs gained loss x p q =
     (fun_ext
     (λ c. sym (one_device (λ d. sent_motion s m (changed m) c (s.holds c d) (after s (mark s (Moves m)) c d)) m.device p q)))
 
--- what is said where a channel is removed is nothing
+-- nothing is sent when a channel is removed
 pub said_of_removal : (s : Scene) (c : ℕ) → said_at s (Removes c) ≡ []
 said_of_removal s c = said_nothing (sent_all s (Removes c)) 64 (λ w. refl)
 

@@ -34,7 +34,7 @@ up_sent d ids left lost last k p lt e l f =
     ∙ ap (λ qs. up_of d p.id (listing ids last) ∷ cancelled_ups d qs (listing lost (drop (k + 1) last)))
     (listing-less ids p.id last ∙ ap (λ g. listing g last) (sym f))
 
--- another one is passed over
+-- another one is skipped
 pub up_passed : (lost : ℕ → Bool) (last : List Pointer) (k : ℕ) (p : Pointer) → k < length last → p ≡ get_or last k p → lost p.id ≡ false
     → listing lost (drop k last) ≡ listing lost (drop (k + 1) last)
 up_passed lost last k p lt e l =

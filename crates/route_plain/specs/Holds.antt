@@ -19,11 +19,11 @@ pairs_of hs = map pair_of hs
 abbrev pub is_of : ℕ → ℕ → Hold → Bool
 is_of w d h = h.window == w && h.device == d
 
--- the number of the turn at which the window began to hold something of the device, where it holds something of it
+-- the number of the turn at which the window began to hold something of the device, if it holds something of it
 abbrev pub began : List Hold → ℕ → ℕ → Option ℕ
 began hs w d = option_map (λ h. h.since) (find (is_of w d) hs)
 
--- one number is below another, where there are both
+-- one number is below another, if both exist
 abbrev pub is_below : Option ℕ → Option ℕ → Bool
 is_below (Some m) (Some n) = nat_lt m n
 is_below _ _ = false
@@ -40,6 +40,6 @@ is_pilfering ps w d = list_any (λ p. p.window == w && p.device == d) ps
 abbrev pub ids_with : ℕ → List Hold → ℕ → ℕ → ℕ
 ids_with set hs w d = fold (λ s h. marked h.id s) set (filter (is_of w d) hs)
 
--- a mask with the windows of the holds besides
+-- a mask with the windows of the holds added
 abbrev pub channels_with : ℕ → List Hold → ℕ
 channels_with mask hs = fold (λ m h. mask_with m h.window) mask hs

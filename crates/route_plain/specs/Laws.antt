@@ -19,8 +19,8 @@ abbrev pub BeganBy : (ℕ → ℕ → ℕ) → List Hold → Type 0
 BeganBy f [] = Unit {0}
 BeganBy f (h ∷ hs) = (h.since ≡ f h.window h.device) × BeganBy f hs
 
--- What the router keeps is what the marks of its turns say, the newest first: how many there were, who holds what,
--- since which turn a window holds something of a device, who is pilfering, and that there are eight devices.
+-- What the router keeps is what the marks of its turns say, newest first: how many there were, who holds what, since
+-- which turn a window holds something of a device, who is pilfering, and that there are eight devices.
 pub record Follows (ms : List Mark) (st : State) : Type 0 where
   pub turns : st.turns ≡ length ms
   pub holds : pairs_of st.holds ≡ held ms
@@ -52,18 +52,18 @@ SceneLaw =
 abbrev pub Holders : (ℕ → Bool) → List Hold → Type 0
 Holders test hs = (w d i : ℕ) → has (pairs_of hs) w d i ≡ true → test w ≡ true
 
--- all that a window holds is taken
+-- everything that a window holds is taken
 abbrev pub drops : Taking → ℕ → Bool
 drops (Dropped windows) w = windows w
 drops t w = false
 
--- the windows that are named after a step
+-- the windows in the snapshot after a step
 abbrev pub named_after : Scene → Step → ℕ → Bool
 named_after s (Shows stays) w = stays w
 named_after s e w = is_named s.windows w
 
--- Who holds something after a turn is able to take input, where all were before, and is none of those from which the
--- turn takes all.
+-- A window that holds something after a turn can take input, if all could before, and is not one from which the turn
+-- takes everything.
 abbrev pub AbleLaw : Type 0
 AbleLaw =
     (st : State) (s : Scene) (e : Step)
@@ -80,8 +80,8 @@ abbrev pub IsOfDevices : Step → Type 0
 IsOfDevices (Moves m) = (1 ≤ m.device) × (m.device ≤ 8)
 IsOfDevices e = Unit {0}
 
--- What is held of a device after a turn is down on it, and its last motion listed it, where both were so before and the
--- turn's motion may come then.
+-- What is held of a device after a turn is down on it, and its last motion listed it, if both held before and the
+-- turn's motion may come.
 abbrev pub DownLaw : Type 0
 DownLaw =
     (st : State) (windows windows' : List Window) (live able live' able' : ℕ) (e : Step) (d : ℕ) (down next : List ℕ)

@@ -36,7 +36,7 @@ unfoldable pub said_up_to : (ℕ → List Motion) → ℕ → List Said
 said_up_to outgoing zero = []
 said_up_to outgoing (suc c) = said_up_to outgoing c ++ to_channel (suc c) (outgoing (suc c))
 
--- what is said at a step: to each of the 64 channels, in rising channel, what it is sent
+-- what is sent at a step: for each of the 64 channels, in rising channel, its messages
 abbrev pub said_at : Scene → Step → List Said
 said_at s e = said_up_to (sent_all s e) 64
 
@@ -44,11 +44,11 @@ said_at s e = said_up_to (sent_all s e) 64
 abbrev pub holds_left : Taking → List Hold → List Hold
 holds_left t hs = filter (λ h. not (takes t h.window h.device h.id)) hs
 
--- a pair that is given at turn n: the window began with it, where it held nothing of the device before
+-- a pair that is given at turn n: the window began with it, if it held nothing of the device before
 abbrev pub hold_from : ℕ → List Hold → Pair → Hold
 hold_from n hs q = record { window = q.window; device = q.device; id = q.id; since = unwrap_or (began hs q.window q.device) n }
 
--- the holds after a step that is turn n: those that it does not take, and behind them those that it gives
+-- the holds after a step that is turn n: those that it does not take, followed by those that it gives
 abbrev pub holds_after : Scene → Step → ℕ → List Hold → List Hold
 holds_after s e n hs = holds_left (taken s e) hs ++ map (hold_from n hs) (given s e)
 

@@ -1,4 +1,4 @@
--- What a window is sent, with what the telling looks at.
+-- What a window is sent, and what that depends on.
 use Rattle.std.specs.Prelude.{ℕ, flat_map, List}
 use Rattle.input_types.specs.declared.motion.Motion.{Motion}
 use Rattle.routing_rules.specs.Scene.{Scene}
@@ -10,7 +10,7 @@ use Rattle.routing_rules.specs.Outgoing.{cancels, sent_motion, after, devices}
 abbrev pub sent_moved : Scene → Mark → Motion → ℕ → List Motion
 sent_moved s k m w = sent_motion s m (changed m) w (s.holds w m.device) (after s k w m.device)
 
--- what window w is told of device d at a step with this mark that is no motion: what is taken is cancelled
+-- what window w is sent for device d at a step with this mark that is no motion: what is taken is cancelled
 abbrev pub sent_lost : Scene → Mark → ℕ → ℕ → List Motion
 sent_lost s k w d = cancels d (s.last d) (s.holds w d) (after s k w d)
 

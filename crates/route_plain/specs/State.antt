@@ -8,8 +8,8 @@ use Rattle.route_plain.specs.declared.hold.Hold.{Hold}
 use Rattle.route_plain.specs.declared.hold.Pilferer.{Pilferer}
 use Rattle.route_plain.specs.Holds.{pairs_of, is_earlier, is_pilfering}
 
--- how many turns there were; who holds what; who is pilfering; and for each device, 1 first, its pointers at the places
--- where its last motion listed them
+-- how many turns there were; who holds what; who is pilfering; and for each device, starting with 1, its pointers at
+-- the positions that its last motion listed
 pub record State : Type 0 where
   pub turns : ℕ
   pub holds : List Hold

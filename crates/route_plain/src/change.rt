@@ -22,7 +22,7 @@ use bits32::Bits32;
 use input_types::{DeviceId, Motion, MotionAction, Pixel, Pointer, PointerId};
 use std::alloc::{AllocError, Global};
 
-/// What a turn gives, in the order in which it stands behind what was held, and what it takes.
+/// What a turn gives, in the order in which it is appended to what was held, and what it takes.
 #[derive(Drop)]
 pub(crate) struct Change {
     pub(crate) gained: Vec<Hold>,

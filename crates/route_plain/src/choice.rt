@@ -14,21 +14,21 @@ use input_types::{DeviceId, Pixel};
 use routing_rules::{Choice, Row};
 use window_snapshot::{Window, mask_has};
 
-/// Whether the window is no spy and holds something of the device.
+/// Whether the window is not a spy and holds something of the device.
 fn is_holder(seen: &Seen, device: DeviceId, window: &Window) -> bool
     ensures { result ≡ is_holder (scene_at seen.now) device window.now }
 {
     !window.is_spy() && holds_any(seen.holds, window.channel, device)
 }
 
-/// Whether it prevents splitting besides.
+/// Whether it also prevents splitting.
 fn is_whole_holder(seen: &Seen, device: DeviceId, window: &Window) -> bool
     ensures { result ≡ (is_holder (scene_at seen.now) device window.now && prevents_splitting window.now) }
 {
     is_holder(seen, device, window) && window.prevents_splitting()
 }
 
-/// Of the best so far and a window behind it, the one that began first.
+/// Of the best window so far and one behind it, the one that began first.
 fn sooner(seen: &Seen, device: DeviceId, best: Option<u32>, channel: u32) -> Option<u32>
     ensures { result ≡ sooner (scene_at seen.now) device best channel }
 {
@@ -106,7 +106,7 @@ fn choose(first: Option<u32>, whole: Option<u32>, touched: Option<u32>, alone: b
     Choice { window, row }
 }
 
-/// What is chosen for a pointer that goes down there, and by which row.
+/// The window that is chosen for a pointer that goes down there, and the row that chose it.
 pub(crate) fn choice_at(seen: &Seen, device: DeviceId, at: Pixel) -> Choice
     ensures { result ≡ choice_at (scene_at seen.now) device at }
 {

@@ -9,8 +9,8 @@ use bits32::Bits32;
 use input_types::{DeviceId, PointerId};
 use window_snapshot::mask_with;
 
-/// A window that holds a pointer of a device: it was given the pointer's down, and is told of it until it goes up or is
-/// taken.
+/// A window that holds a pointer of a device: it was given the pointer's down, and is sent its motions until it goes
+/// up or is taken.
 #[derive(Clone, Copy, Debug, PartialEq, Eq)]
 pub struct Hold {
     /// The window, by the number of its channel.
@@ -63,7 +63,7 @@ pub(crate) fn ids_with(set: Bits32, holds: &[Hold], window: u32, device: DeviceI
         .fold(set, |ids, hold| with_id(ids, hold.id))
 }
 
-/// The mask with the windows of the holds besides.
+/// The mask with the windows of the holds added.
 pub(crate) fn channels_with(mask: u64, holds: &[Hold]) -> u64
     ensures { result ≡ channels_with mask holds.now }
 {

@@ -1,9 +1,9 @@
 //! The plain router: each pointer to its windows, over a plain list of who holds what.
 //!
 //! [`Plain`] keeps a list of holds: which window holds which pointer of which device, in the order in which it was
-//! given, and since which turn the window holds something of the device. Each [`Turn`] changes the list by the rules of
-//! `routing_rules`, and answers what each channel is sent. It is slow and easy to believe; a faster router is held
-//! against it.
+//! given, and since which turn the window holds something of the device. Each [`Turn`] changes the list by the rules
+//! of `routing_rules`, and returns what each channel is sent. It is slow and easy to believe; a faster router is
+//! compared with it.
 //!
 //! Two windows stand side by side, 1 on the left and 2 on the right, both live and responsive. The turns are those of
 //! two fingers:
@@ -16,7 +16,7 @@
 //! Windows, the snapshot being empty                2: CANCEL 1@700,400                     none
 //! ```
 //!
-//! A finger that stays within one window costs some walks over the list of holds, and the answer's vector.
+//! A finger that stays within one window costs some walks over the list of holds, and the vector of the result.
 #![tactic(auto)]
 
 mod change;

@@ -11,7 +11,7 @@ use input_types::{
     DeviceId, FLAG_CANCELED, Motion, MotionAction, Pointer, PointerId, Pointers, PushRefused,
 };
 
-/// Puts a pointer behind a list.
+/// Appends a pointer to a list.
 fn put(list: &mut Pointers, pointer: Pointer)
     requires room { length list.old < 16 }
     requires rises { EndsBelow list.old pointer.id }
@@ -98,7 +98,7 @@ pub(crate) fn about(
     }
 }
 
-/// A pointer goes down in a window that then has these.
+/// A pointer goes down in a window that then holds these.
 pub(crate) fn opening(device: DeviceId, id: PointerId, pointers: &Pointers) -> Motion
     ensures { result ≡ opening device id pointers.now }
 {
@@ -108,7 +108,7 @@ pub(crate) fn opening(device: DeviceId, id: PointerId, pointers: &Pointers) -> M
     }
 }
 
-/// A pointer goes up in a window that had these.
+/// A pointer goes up in a window that held these.
 pub(crate) fn closing(
     device: DeviceId,
     id: PointerId,
@@ -147,7 +147,7 @@ fn up_flags(cancelled: bool) -> u32
     if cancelled { FLAG_CANCELED } else { 0 }
 }
 
-/// Whether it is an action with which a pointer goes up.
+/// Whether a pointer goes up with the action.
 pub(crate) fn is_up(action: MotionAction) -> bool
     ensures { result ≡ is_up action }
 {

@@ -22,8 +22,8 @@ use window_snapshot::{Snapshot, Window};
 
 /// The plain router: who holds what, as a list.
 ///
-/// A clause sees how many turns there were, the holds in the order in which they were given, the windows that are
-/// pilfering a device, and for each of the eight devices its pointers at the places where its last motion listed them.
+/// Contracts see how many turns there were, the holds in the order in which they were given, the windows that are
+/// pilfering a device, and for each of the eight devices its pointers at the positions that its last motion listed.
 #[derive(Drop)]
 pub struct Plain {
     turns: u64,
@@ -49,7 +49,7 @@ impl Model for Plain {
 }
 
 impl Plain {
-    /// The router before the first turn. It takes no memory.
+    /// The router before the first turn. It allocates no memory.
     pub fn new(alloc: Global) -> Plain
         ensures { result ≡ fresh }
     {
@@ -61,20 +61,20 @@ impl Plain {
         }
     }
 
-    /// Takes a turn, and answers what is said: in rising channel, and to one channel in the order in which it is sent
-    /// it. Places are display pixels; whoever sends the motions takes off the origins of the windows. There is one
-    /// display: each device reaches each live window.
+    /// Takes a turn, and returns what is sent: in rising channel, and for one channel in the order of sending.
+    /// Positions are display pixels; the sender subtracts the origins of the windows. There is one display: each
+    /// device reaches each live window.
     ///
-    /// `snapshot` is the current one, in a `Windows` turn the new one. `live` is the mask of the live channels and
-    /// `able` that of those that are responsive besides.
+    /// `snapshot` is the current one, in a `Windows` turn the new one. `live` is the mask of the live channels, and
+    /// `able` that of those that are also responsive.
     ///
-    /// The clauses hold of every turn. That nothing is said to a channel that is not live, and that each channel's
-    /// motions are a stream, rests on three conditions, which the layer above keeps: a motion may come after those of
-    /// its device before it, by the rule of devices; `able` lies within `live`; and each window that holds something is
-    /// in `able` and, but in a `Windows` turn, is named by the snapshot. [`crate::laws::holders`] says that a turn
-    /// leaves them as they were.
+    /// The clauses hold for every turn. That nothing is sent to a channel that is not live, and that each channel's
+    /// motions are a stream, rests on three conditions, which the layer above keeps: a motion may come after earlier
+    /// ones of its device, by the rule of devices; `able` is within `live`; and each window that holds something is
+    /// in `able` and, except in a `Windows` turn, in the snapshot. [`crate::laws::holders`] says that a turn leaves
+    /// them as they were.
     ///
-    /// For want of memory the router is as it was before.
+    /// If memory runs out, the router is as before.
     pub fn turn(
         &mut self,
         turn: &Turn,
@@ -118,7 +118,7 @@ impl Plain {
     }
 }
 
-/// Takes the holds away that a turn takes.
+/// Removes the holds that a turn takes.
 fn lose(holds: &mut Vec<Hold>, loss: &Loss, windows: &[Window])
     ensures items { holds.new.items ≡ holds_left (taking_of windows.now loss.now) holds.old.items }
     ensures len { vec_len holds.new ≤ vec_len holds.old }
@@ -127,7 +127,7 @@ fn lose(holds: &mut Vec<Hold>, loss: &Loss, windows: &[Window])
     holds.retain(|hold| !is_taken(loss, windows, hold));
 }
 
-/// Puts the holds behind that a turn gives; there is room.
+/// Appends the holds that a turn gives; there is room.
 fn gain(holds: &mut Vec<Hold>, gained: &[Hold])
     requires { vec_len holds.old + length gained.now ≤ vec_capacity holds.old }
     ensures { holds.new.items ≡ holds.old.items ++ gained.now }
@@ -138,7 +138,7 @@ fn gain(holds: &mut Vec<Hold>, gained: &[Hold])
     }
 }
 
-/// Notes the window that pilfers at a turn; there is room.
+/// Records the window that pilfers at a turn; there is room.
 fn note_pilferer(pilferers: &mut Vec<Pilferer>, turn: &Turn)
     requires { vec_len pilferers.old + 1 ≤ vec_capacity pilferers.old }
     ensures { (w : List Window) → pilferers.new.items ≡ with_pilferer (step_of turn.now w) pilferers.old.items }
@@ -153,14 +153,14 @@ fn note_pilferer(pilferers: &mut Vec<Pilferer>, turn: &Turn)
     }
 }
 
-/// Lets go the pilferers that hold nothing of their device.
+/// Removes the pilferers that hold nothing of their device.
 fn keep_pilferers(pilferers: &mut Vec<Pilferer>, holds: &[Hold])
     ensures { pilferers.new.items ≡ filter (λ p. has_any (pairs_of holds.now) p.window p.device) pilferers.old.items }
 {
     pilferers.retain(|pilferer| holds_any(holds, pilferer.window, pilferer.device));
 }
 
-/// Notes where a motion's pointers are.
+/// Records where a motion's pointers are.
 fn note_places(last: &mut [Pointers], turn: &Turn)
     requires { length last.old ≡ 8 }
     ensures { (w : List Window) → last.new ≡ last_after (step_of turn.now w) last.old }

@@ -26,7 +26,7 @@ use input_types::{DeviceId, Motion, MotionAction, Pixel, Pointer};
 use std::alloc::{AllocError, Global};
 use window_snapshot::{Window, mask_has};
 
-/// What is said at a turn that changes this.
+/// What is sent at a turn that changes this.
 pub(crate) fn said_at(
     alloc: Global,
     seen: &Seen,
@@ -46,7 +46,7 @@ pub(crate) fn said_at(
     }
 }
 
-/// What is said of a motion.
+/// What is sent for a motion.
 fn said_of_motion(
     alloc: Global,
     seen: &Seen,
@@ -74,7 +74,7 @@ fn said_of_motion(
     Ok(out)
 }
 
-/// Says to a channel what a motion is to it.
+/// Sends a channel its part of a motion.
 fn send_channel(
     out: &mut Vec<Said>,
     channel: u32,
@@ -95,7 +95,7 @@ fn send_channel(
     send_motion(out, channel, seen, motion, &held, watches)
 }
 
-/// What is said of a loss.
+/// What is sent for a loss.
 fn said_of_loss(alloc: Global, seen: &Seen, change: &Change) -> Result<Vec<Said>, AllocError>
     requires { length seen.now.last.now ≡ 8 }
     ensures { let s = scene_at seen.now in
@@ -109,7 +109,7 @@ fn said_of_loss(alloc: Global, seen: &Seen, change: &Change) -> Result<Vec<Said>
     Ok(out)
 }
 
-/// Says to a channel what it loses, device by device.
+/// Sends a channel what it loses, device by device.
 fn send_losses(
     out: &mut Vec<Said>,
     channel: u32,
@@ -131,7 +131,7 @@ fn send_losses(
     Ok(())
 }
 
-/// Says to a channel what it loses of a device.
+/// Sends a channel what it loses of a device.
 fn send_loss(
     out: &mut Vec<Said>,
     channel: u32,

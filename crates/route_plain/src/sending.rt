@@ -1,4 +1,4 @@
-//! What one channel is told of a device.
+//! What one channel is sent for a device.
 ghost use Rattle.std.specs.Prelude.{◌≡◌, ◌++◌, [], ◌∷◌, ◌&&◌, not, length, Some, OnOk};
 ghost use Rattle.std.specs.List.{list_any};
 ghost use Rattle.bits32.specs.Set.{is_in};
@@ -24,7 +24,7 @@ pub(crate) struct Held {
     pub(crate) later: Bits32,
 }
 
-/// Says to a channel what a motion is to it.
+/// Sends a channel its part of a motion.
 pub(crate) fn send_motion(
     out: &mut Vec<Said>,
     channel: u32,
@@ -47,7 +47,7 @@ pub(crate) fn send_motion(
     }
 }
 
-/// Says to a channel what it loses of a device.
+/// Sends a channel what it loses of a device.
 pub(crate) fn send_cancels(
     out: &mut Vec<Said>,
     channel: u32,
@@ -69,7 +69,7 @@ pub(crate) fn send_cancels(
     Ok(())
 }
 
-/// Says to a channel what a motion is to it that has a changed pointer.
+/// Sends a channel its part of a motion that has a changed pointer.
 fn send_changed(
     out: &mut Vec<Said>,
     channel: u32,
@@ -104,7 +104,7 @@ fn send_changed(
     send_rest(out, channel, seen, motion, held, watched)
 }
 
-/// Says to a channel what it loses, else what moves, else that a pointer is outside where it watches this one.
+/// Sends a channel what it loses, or else what moves, or else a touch outside if it watches this pointer.
 fn send_rest(
     out: &mut Vec<Said>,
     channel: u32,
@@ -137,7 +137,7 @@ fn send_rest(
     send_outside(out, channel, motion.device, watched)
 }
 
-/// Says that a pointer is outside, where there is one.
+/// Sends a touch outside, if there is one.
 fn send_outside(
     out: &mut Vec<Said>,
     channel: u32,
@@ -156,7 +156,7 @@ fn send_outside(
     }
 }
 
-/// Says one cancelled up after the other of what the window loses, each listing what is left with it.
+/// Sends a cancelled up for each pointer that the window loses, each listing what remains with it.
 fn send_ups(
     out: &mut Vec<Said>,
     channel: u32,
@@ -188,7 +188,7 @@ fn send_ups(
     Ok(())
 }
 
-/// Says a motion to a channel.
+/// Sends a motion to a channel.
 fn say(out: &mut Vec<Said>, channel: u32, motion: Motion) -> Result<(), AllocError>
     ensures { OnOk result (out.new.items ≡ out.old.items ++ to_channel channel (motion ∷ [])) }
 {

@@ -11,7 +11,7 @@ use crate::seen::Seen;
 use input_types::{DeviceId, Motion, MotionAction, PointerId};
 use window_snapshot::{Window, mask_has};
 
-/// From which window to which one a pointer slips.
+/// The window from which a pointer slips, and the one to which it slips.
 #[derive(Clone, Copy)]
 pub(crate) struct Slip {
     pub(crate) from: u32,
@@ -46,7 +46,7 @@ fn the_one(found: Found) -> Option<u32>
     }
 }
 
-/// Whether the window is no spy and holds the pointer.
+/// Whether the window is not a spy and holds the pointer.
 fn is_holder_of(seen: &Seen, device: DeviceId, id: PointerId, window: &Window) -> bool
     ensures { result ≡ (not (is_spy window.now) && (scene_at seen.now).holds window.now.channel device id) }
 {
@@ -84,7 +84,7 @@ fn is_slippery(seen: &Seen, channel: u32) -> bool
         .any(|window| window.channel == channel && window.is_slippery())
 }
 
-/// From the one holder to the touched window, where it may slip there.
+/// The slip from the only holder to the touched window, if it may slip there.
 fn slips_to(seen: &Seen, holder: Option<u32>, touched: Option<u32>) -> Option<Slip>
     ensures { option_map rule_slip result ≡ slips_to (scene_at seen.now) holder touched }
 {
@@ -100,7 +100,7 @@ fn slips_to(seen: &Seen, holder: Option<u32>, touched: Option<u32>) -> Option<Sl
     }
 }
 
-/// Whether a motion lets a pointer slip: a move that lists it alone.
+/// Whether a motion lets a pointer slip: it is a move that lists only that pointer.
 pub(crate) fn slip_of(seen: &Seen, motion: &Motion) -> Option<Slip>
     ensures { option_map rule_slip result ≡ slip (scene_at seen.now) motion.now }
 {

@@ -1,12 +1,12 @@
-//! The turns of the router, and what is said at them.
+//! The turns of the router, and what is sent at them.
 use input_types::{DeviceId, Motion};
 
-/// A step that changes who holds what, or tells windows of what they hold. Channels are numbers from 1 to 64.
+/// A step that changes who holds what, or sends windows something for what they hold. Channels are numbers from 1 to
+/// 64.
 #[derive(Clone, Copy, Debug, PartialEq, Eq)]
 pub enum Turn {
     /// A motion of a device, in display pixels. An up with FLAG_CANCELED and a `Cancel` of the only pointer, as of a
-    /// finger that became a palm, are ups: the windows that held the pointer lose it, and are told that it is
-    /// cancelled.
+    /// finger that became a palm, are ups: the windows that held the pointer lose it, and are sent its cancel.
     Pointers(Motion),
     /// A device begins anew: all its pointers are taken from all windows.
     Reset(DeviceId),
@@ -16,14 +16,14 @@ pub enum Turn {
         channel: u32,
         device: DeviceId,
     },
-    /// The snapshot is a new one: windows that it does not name lose all that they hold.
+    /// The snapshot is a new one: windows that are not in it lose everything that they hold.
     Windows,
-    /// Channels are found unresponsive: they lose all that they hold.
+    /// Channels are found unresponsive: they lose everything that they hold.
     Mute {
         /// The mask of these channels.
         channels: u64,
     },
-    /// A channel is removed: it loses all that it holds, and is sent nothing.
+    /// A channel is removed: it loses everything that it holds, and is sent nothing.
     Forget {
         /// That channel.
         channel: u32,

@@ -11,7 +11,7 @@ use Rattle.route_split.specs.Tables.{table_of, ChangesAll}
 use Rattle.route_split.specs.Marking.{gives, taking}
 use Rattle.route_split.proofs.Changing.{same_changes, emptied_by}
 
--- what the tables change by with a mark
+-- how a mark changes the tables
 abbrev pub ChangesBy : List Touches → List Touches → Mark → ℕ → Type 0
 ChangesBy ts us k place = ChangesAll ts us (gives k) (takes (taking ts k)) place (pilfers (taking ts k))
 

@@ -14,7 +14,7 @@ use Rattle.touch_state.proofs.Steps.{mask_has-and}
 use Rattle.pilfer_monitor.proofs.Takes.{unchanged, resent, two_changes, one_reached}
 use Rattle.route_split.specs.Tables.{is_device, no_table, table_of, IsTables, IsFresh, ChangesAll}
 
--- the same change, told otherwise
+-- the same change, stated in another way
 pub same_change : (a b : Touches) (g g' t t' : ℕ → ℕ → Bool) (place : ℕ) (p p' : ℕ → Bool)
     → ((w i : ℕ) → g w i ≡ g' w i) → ((w i : ℕ) → t w i ≡ t' w i) → ((w : ℕ) → p w ≡ p' w)
     → Changes a b g t place p → Changes a b g' t' place p'
@@ -92,7 +92,7 @@ tables_after ts us g t place p c whole =
       within = λ d w h. (and_parts (any (table_of us d) w) (p w d || pilfering (table_of ts d) w) (sym ((c d).pilfer w) ∙ h)).0;
     }
 
--- the same change of all tables, told otherwise
+-- the same change of all tables, stated in another way
 pub same_changes : (ts us : List Touches) (g g' t t' : ℕ → ℕ → ℕ → Bool) (place : ℕ) (p p' : ℕ → ℕ → Bool)
     → ((w d i : ℕ) → g w d i ≡ g' w d i) → ((w d i : ℕ) → t w d i ≡ t' w d i) → ((w d : ℕ) → p w d ≡ p' w d)
     → ChangesAll ts us g t place p → ChangesAll ts us g' t' place p'
@@ -104,7 +104,7 @@ same_changes ts us g g' t t' place p p' eg et ep c d =
 pub unchanged_all : (ts : List Touches) (place : ℕ) → IsTables ts → ChangesAll ts ts (λ w d i. false) (λ w d i. false) place (λ w d. false)
 unchanged_all ts place tables d = unchanged (table_of ts d) none (tables.within d) (λ w i h. refl) place
 
--- where there is no table nothing is held, and never was
+-- a number without a table holds nothing, and never did
 no_row_at : (w : ℕ) → (held no_table w ≡ 0) × (since no_table w ≡ 0)
 no_row_at w = by_channel (is_channel w) refl
   where
@@ -125,7 +125,7 @@ held_device ts w d i h =
       | inr f ↦ absurd (both_ways (holds (table_of ts d) w i) (ap (λ z. holds z w i) (no_device ts d f) ∙ nothing_at w i) h)
     ]
 
--- what is taken of no device, of one more, and of all
+-- what is taken from no device, from one more, and from all
 pub none_emptied : (ts : List Touches) (m : ℕ → Bool) (place : ℕ) → IsTables ts
     → ChangesAll ts ts (λ w d i. none w i) (λ w d i. nat_le d 0 && m w) place (λ w d. nobody w)
 none_emptied ts m place tables d =
@@ -153,7 +153,7 @@ all_emptied old ts m k le c place d =
     resent (table_of old d) (table_of ts d) (λ w i. nat_le d k && m w) (λ w i. m w) place nobody
     (λ w i h. let p = held_device old w d i h in ap (λ b. b && m w) (le-leb d k (omega (arith, le, p.1)))) (c place d)
 
--- who holds something is a channel
+-- a window that holds something has the number of a channel
 pub held_channel : (t : Touches) (w i : ℕ) → holds t w i ≡ true → is_channel w ≡ true
 held_channel t w i h =
     elim (cases_Bool (is_channel w)) [
@@ -163,7 +163,7 @@ held_channel t w i h =
           absurd (both_ways (holds t w i) (nothing ∙ (rw (bit_at-zero i) refl)) h)
     ]
 
--- what is taken of windows, by a mask that says it of channels
+-- what is taken from windows, by a mask of channels
 pub emptied_by : (old ts : List Touches) (mask : ℕ) (m : ℕ → Bool) (place : ℕ) → ((w : ℕ) → is_channel w ≡ true → mask_has mask w ≡ m w)
     → ChangesAll old ts (λ w d i. none w i) (λ w d i. mask_has mask w) place (λ w d. nobody w)
     → ChangesAll old ts (λ w d i. none w i) (λ w d i. m w) place (λ w d. nobody w)
@@ -196,7 +196,7 @@ all_of_it t v set b e q w i h =
       | inr n ↦ rw (ne_eqb w v n) refl
     ]
 
--- tables in which nobody holds anything
+-- tables in which no window holds anything
 no_table_fresh : IsFresh no_table
 no_table_fresh =
     record {

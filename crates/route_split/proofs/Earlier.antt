@@ -5,7 +5,7 @@ use Rattle.window_snapshot.specs.Mask.{is_channel}
 use Rattle.touch_state.specs.Rows.{no_row}
 use Rattle.touch_state.specs.Touches.{Touches, any}
 
--- who holds something is a channel
+-- a window that holds something has the number of a channel
 pub any_channel : (t : Touches) (w : ℕ) → any t w ≡ true → is_channel w ≡ true
 any_channel t w h =
     elim (cases_Bool (is_channel w)) [

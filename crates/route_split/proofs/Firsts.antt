@@ -16,7 +16,7 @@ abbrev LeqAll : (ℕ → ℕ) → ℕ → List ℕ → Type 0
 LeqAll f n [] = Unit {0}
 LeqAll f n (y ∷ ys) = (n ≤ f y) × LeqAll f n ys
 
--- a test finds those of the first list that are at or below all of the other
+-- a test selects those of the first list that are at or below all of the other
 abbrev Finds : (ℕ → ℕ) → (ℕ → Bool) → (xs all : List ℕ) → Type 0
 Finds f e [] all = Unit {0}
 Finds f e (x ∷ xs) all = ((e x ≡ true → LeqAll f (f x) all) × (LeqAll f (f x) all → e x ≡ true)) × Finds f e xs all
@@ -96,7 +96,7 @@ earliest_found : (t : Touches) (windows : List Window) (reach able d : ℕ) (e :
 earliest_found t windows reach able d e [] hs m = refl
 earliest_found t windows reach able d e (b ∷ xs) hs m = walk t windows reach able d e b xs hs.0 hs.1 m
 
--- what a list has
+-- what is in a list
 abbrev has : List ℕ → ℕ → Bool
 has xs y = list_any (λ z. z == y) xs
 

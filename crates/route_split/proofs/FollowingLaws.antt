@@ -15,7 +15,7 @@ use Rattle.route_split.specs.Marking.{gives, taking}
 use Rattle.route_split.proofs.Changing.{held_channel}
 use Rattle.route_split.specs.Following.{StartLaw, StepLaw, SceneLaw}
 
--- where the pairs of a window are those of its set, the set is empty where there are none
+-- if the pairs of a window are those of its set, the set is empty exactly if there are none
 any_by_holds : (qs : List Pair) (t : Touches) (w d : ℕ) → ((i : ℕ) → has qs w d i ≡ holds t w i) → has_any qs w d ≡ any t w
 any_by_holds qs t w d same =
     elim (cases_Bool (has_any qs w d)) [
@@ -47,7 +47,7 @@ turned false true false = refl
 turned false false true = refl
 turned false false false = refl
 
--- what is kept, where the same is taken of what is held
+-- what is kept, if the same is taken from what is held
 pub kept_of : (h t u : Bool) → (h ≡ true → t ≡ u) → (h && not t) ≡ (h && not u)
 kept_of true t u f = ap not (f refl)
 kept_of false t u f = refl

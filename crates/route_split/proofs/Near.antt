@@ -1,4 +1,4 @@
--- A motion sees of a scene what is of its device.
+-- A motion depends only on its own device's part of a scene.
 use Rattle.std.proofs.Common.{◌≡◌, ℕ, List, [], Option, Some, None, refl, ap, sym, ◌∙◌}
 use Rattle.input_types.specs.declared.axis.Pixel.{Pixel}
 use Rattle.input_types.specs.declared.motion.Motion.{Motion}
@@ -99,7 +99,7 @@ pub chooses : (s : Scene) (ts : List Touches) (t : Touches) (windows : List Wind
 chooses s ts t windows reach able d at f e q =
     ap (λ (x : Scene). choice_at x d at) (sym (near_is s ts windows reach able d f e ∙ ap (scene_with windows reach able) q))
 
--- so are those who get a pointer
+-- so are the windows that get a pointer
 pub takers_near : (s : Scene) (ts : List Touches) (t : Touches) (windows : List Window) (reach able d : ℕ) (at : Pixel)
     → Stands s ts → Sees s windows reach able d → table_of ts d ≡ t → takers (scene_with windows reach able t) d at ≡ takers s d at
 takers_near s ts t windows reach able d at f e q =

@@ -1,4 +1,4 @@
--- Who holds nothing and is given nothing is sent nothing.
+-- A window that holds nothing and is given nothing is sent nothing.
 use Rattle.std.proofs.Common.{ℕ, Bool, true, false, not, ◌&&◌, ◌||◌, ◌==◌, ◌≡◌, ◌≢◌, ◌⊎◌, if◌then◌else◌, [], ◌∷◌, Option, Some, None, refl, sym, ap, ap₂, ◌∙◌, inl, inr}
 use Rattle.std.proofs.lemmas.Bool.{cases_Bool, cases_eq, eq-eqb, ne_eqb, both_ways, and_right}
 use Rattle.input_types.specs.declared.motion.Motion.{Motion}

@@ -1,4 +1,4 @@
--- What a window is told of a motion, by what it holds before and later.
+-- What a window is sent for a motion, by what it holds before and after.
 use Rattle.std.proofs.Common.{ℕ, Bool, true, false, not, ◌&&◌, ◌||◌, ◌==◌, cond, ◌≡◌, if◌then◌else◌, List, [], ◌∷◌, length, Option, Some, None, refl, sym, ap, ◌∙◌, inl, inr, arith}
 use mathlib.Core.Path.{fun_ext}
 use Rattle.std.specs.Prelude.{IfSome}
@@ -81,7 +81,7 @@ or_else-nil (x ∷ xs) = refl
 pub none_sent : (s : Scene) (m : Motion) (w : ℕ) (before later : ℕ → Bool) → sent_motion s m None w before later ≡ sent_rest m None (s.last m.device) before later
 none_sent s m w before later = ap (or_else (cancels m.device (s.last m.device) before later)) (sym (or_else-nil (moves m.device (listing later m.pointers))))
 
--- what it holds later it held, where the changed pointer is not given
+-- if the changed pointer is not given, what it holds after the motion it held before
 pub within_before : (p : Pointer) (before later : ℕ → Bool) → OnlyNew (Some p) before later → (later p.id && not (before p.id)) ≡ false
     → (i : ℕ) → later i ≡ true → before i ≡ true
 within_before p before later new f i l =
@@ -140,7 +140,7 @@ pub none_move : (d : ℕ) (ps : List Pointer) (ys : List Motion) → (length ps 
 none_move d [] ys e = refl
 none_move d (p ∷ ps) ys e = let z : length (p ∷ ps) ≡ 0 = eqb-true (length (p ∷ ps)) 0 e in absurd (omega (arith, z))
 
--- some of a list are listed whose ids are in a set
+-- some pointers of a list have ids in a set
 pub some_listed : (f : ℕ → Bool) (ps : List Pointer) → list_any (λ p. f p.id) ps ≡ true → (length (listing f ps) == 0) ≡ false
 some_listed f [] h = absurd (true≢false (sym h))
 some_listed f (p ∷ ps) h = by_test (f p.id) h (some_listed f ps)
@@ -158,7 +158,7 @@ not_lost : (b : Bool) → (b && not b) ≡ false
 not_lost true = refl
 not_lost false = refl
 
--- where a window holds still what it held, none of it goes up, and some of it is listed, just that moves
+-- if a window still holds what it held, none of it goes up, and some of it is listed, exactly that moves
 pub move_sent : (s : Scene) (m : Motion) (w : ℕ) (held : ℕ → Bool) → IfSome (changed m) (λ p. (is_up m.action && held p.id) ≡ false)
     → (length (listing held m.pointers) == 0) ≡ false
     → sent_motion s m (changed m) w held held ≡ plain m.device Move (listing held m.pointers) ∷ []

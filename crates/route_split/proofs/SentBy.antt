@@ -1,4 +1,4 @@
--- What is told by the rules, where what is held before and later is known.
+-- What the rules send, if what is held before and after is known.
 use Rattle.std.specs.Prelude.{IfSome}
 use Rattle.std.proofs.Common.{ℕ, Bool, true, false, not, ◌&&◌, ◌||◌, ◌==◌, ◌≡◌, if◌then◌else◌, List, [], Option, Some, None, refl, sym, ap, ap₂, ◌∙◌, subst}
 use Rattle.std.specs.List.{list_any}
@@ -79,7 +79,7 @@ only_new s m w before later p q =
     subst (λ b. OnlyNew (changed m) b later) p
     (subst (λ l. OnlyNew (changed m) (s.holds w m.device) l) q (only_new_at s m w m.device (λ i. takes (mark s (Moves m)).taken w m.device i) (changed m)))
 
--- what is told of a motion
+-- what is sent for a motion
 pub sent_by : (s : Scene) (m : Motion) (w : ℕ) (t : Sends) (before later : ℕ → Bool) → s.holds w m.device ≡ before → after s (mark s (Moves m)) w m.device ≡ later
     → IsSent t (sent_motion s m (changed m) w before later) m.device (s.last m.device) before
     → IsSent t (outgoing s (Moves m) w m.device) m.device (s.last m.device) (s.holds w m.device)
@@ -90,7 +90,7 @@ sent_by s m w t before later p q is =
     subst (λ b. IsSent t (outgoing s (Moves m) w m.device) m.device (s.last m.device) b) (sym p)
     (subst (λ ms. IsSent t ms m.device (s.last m.device) before) (sym e) is)
 
--- what is told of a step that is no motion
+-- what is sent at a step that is no motion
 pub gives_none : (k : Mark) (e : Step) (w d i : ℕ) → IsStepOf k e → gives k w d i ≡ false
 gives_none (Empty device) (Resets v) w d i h = refl
 gives_none (Pilfer device window) (Pilfers v x) w d i h = refl
@@ -129,7 +129,7 @@ lost_by s k e w d t before later h n p q is =
 pub still_held : (ts : List Touches) (k : Mark) (e : Step) (w d i : ℕ) → IsStepOf k e → holds_after ts k w d i ≡ true → holds_at ts w d i ≡ true
 still_held ts k e w d i h l = was_held (gives k w d i) (holds_at ts w d i) (takes (taking ts k) w d i) (gives_none k e w d i h) l
 
--- what follows of each value follows of one that may be there
+-- what follows for each value follows for an optional one
 pub then_some : {A : Type 0} {P Q : A → Type 0} (o : Option A) → IfSome o P → ((x : A) → P x → Q x) → IfSome o Q
 then_some None h f = tt
 then_some (Some x) h f = f x h

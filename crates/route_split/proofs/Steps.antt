@@ -1,4 +1,4 @@
--- The marks of steps that are no motions.
+-- The marks of steps other than motions.
 use Rattle.std.proofs.Common.{ℕ, Bool, not, ◌==◌, ◌&&◌, refl, ap, ap₂, ◌∙◌}
 use Rattle.routing_rules.specs.Scene.{Resets, Pilfers, Shows, Mutes, Removes, NoOp as NoOps}
 use Rattle.route_split.specs.declared.mark.Mark.TheVariants.{NoOp, Empty, Pilfer, Unnamed, Mute, Forget}

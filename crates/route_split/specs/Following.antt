@@ -9,14 +9,14 @@ use Rattle.route_split.specs.declared.mark.Mark.{Mark}
 use Rattle.route_split.specs.Tables.{table_of, holds_at, any_at, pilfering_at, Stands, IsFresh, ChangesAll}
 use Rattle.route_split.specs.Marking.{gives, taking, IsMark}
 
--- The tables say what the marks say, the newest first: who holds what, since when, and who is pilfering.
+-- The tables agree with the marks, newest first, on who holds what, since when, and who is pilfering.
 pub record Follows (ms : List RuleMark) (ts : List Touches) : Type 0 where
   pub holds_are : (w d i : ℕ) → has (held ms) w d i ≡ holds_at ts w d i
   pub any_are : (w d : ℕ) → has_any (held ms) w d ≡ any_at ts w d
   pub since_are : (w d : ℕ) → since ms w d ≡ since_of (table_of ts d) w
   pub pilfering_are : (w d : ℕ) → pilfering ms w d ≡ pilfering_at ts w d
 
--- of two windows that hold something after these marks, the first began at an earlier place
+-- of two windows that hold something after these marks, the first began at an earlier index
 abbrev pub began_earlier : List RuleMark → (v w device : ℕ) → Bool
 began_earlier ms v w d = has_any (held ms) v d && has_any (held ms) w d && nat_lt (since ms v d) (since ms w d)
 
@@ -27,11 +27,12 @@ pub record IsAfter (s : Scene) (ms : List RuleMark) : Type 0 where
   pub earlier_are : s.earlier ≡ began_earlier ms
   pub pilfering_are : s.pilfering ≡ pilfering ms
 
--- Before the first step nobody holds anything.
+-- Before the first step no window holds anything.
 abbrev pub StartLaw : Type 0
 StartLaw = (ts : List Touches) → ((d : ℕ) → IsFresh (table_of ts d)) → Follows [] ts
 
--- Tables that follow the marks so far follow one mark more, once they have changed by it at the place that counts those before.
+-- Tables that follow the marks so far follow one more mark, once they have changed by it at the index that counts the
+-- marks before.
 abbrev pub StepLaw : Type 0
 StepLaw =
     (ms : List RuleMark) (m : RuleMark) (ts us : List Touches) (k : Mark)

@@ -32,13 +32,13 @@ taking ts (Unnamed stays) = Dropped (λ w. not (mask_has stays w))
 taking ts (Mute channels) = Dropped (mask_has channels)
 taking ts (Forget window) = Dropped (λ w. w == window)
 
--- each window that it names alone is a channel
+-- each single window that it names is a channel
 abbrev pub IsWhole : Mark → Type 0
 IsWhole (Slip device id from to) = (is_channel from ≡ true) × (is_channel to ≡ true)
 IsWhole (Pilfer device window) = is_channel window ≡ true
 IsWhole _ = Unit {0}
 
--- It is a mark of the rules: it gives the same pairs, in whatever order they are listed, it takes the same from channels, and the same
+-- It is a mark of the rules: it gives the same pairs, in any order, it takes the same from channels, and the same
 -- window pilfers.
 pub record IsMark (ts : List Touches) (k : Mark) (m : RuleMark) : Type 0 where
   pub given_are : (w d i : ℕ) → has m.given w d i ≡ gives k w d i
@@ -69,12 +69,12 @@ abbrev pub AreLosses : List Touches → Mark → (lost : List ℕ) → Type 0
 AreLosses ts (Pilfer device spy) lost = AreLostTo (table_of ts device) spy lost
 AreLosses ts k lost = ⊥
 
--- The tables changed by a mark: windows hold what they hold after it, and where one pilfers these are the losses.
+-- The tables changed by a mark: windows hold what they hold after it, and if one pilfers, these are the losses.
 pub record IsChanged (old new : List Touches) (k : Mark) (losses : Option (List ℕ)) : Type 0 where
   pub holds_are : (w d i : ℕ) → holds_at new w d i ≡ holds_after old k w d i
   pub losses_are : IfSome losses (AreLosses old k)
 
--- a step that is no motion leaves this mark; of windows that stay, or are found unresponsive, the channels matter alone
+-- a step that is no motion leaves this mark; only the channels matter of windows that stay or are found unresponsive
 abbrev pub IsStepOf : Mark → Step → Type 0
 IsStepOf (Empty device) (Resets d) = d ≡ device
 IsStepOf (Pilfer device window) (Pilfers w d) = (w ≡ window) × (d ≡ device)
@@ -84,7 +84,7 @@ IsStepOf (Forget window) (Removes w) = w ≡ window
 IsStepOf NoOp NoOps = Unit {0}
 IsStepOf _ _ = ⊥
 
--- with the step a channel is removed
+-- the step removes a channel
 abbrev pub is_forget : Mark → Bool
 is_forget (Forget window) = true
 is_forget k = false
@@ -99,6 +99,6 @@ is_given_some (Give device id windows) w d = d == device && mask_has windows w
 is_given_some (Slip device id from to) w d = d == device && (is_channel w && w == to)
 is_given_some _ w d = false
 
--- a window may be sent something of a device at a step with this mark: it holds something of it, or is given something
+-- a window may be sent something for a device at a step with this mark: it holds something of it, or is given something
 abbrev pub may_be_sent : List Touches → Mark → (window device : ℕ) → Bool
 may_be_sent ts k w d = any_at ts w d || is_given_some k w d

@@ -25,7 +25,7 @@ scene_with windows reach able t =
 abbrev pub scene_at : Seen → Scene
 scene_at m = scene_with m.windows.now m.reach m.able m.table.now
 
--- a scene has these windows, these channels that a device can reach, and these that are able to take input
+-- a scene has these windows, these channels that a device can reach, and these that can take input
 pub record Sees (s : Scene) (windows : List Window) (reach able device : ℕ) : Type 0 where
   pub windows_are : s.windows ≡ windows
   pub reach_is : s.reach device ≡ mask_has reach

@@ -1,4 +1,4 @@
--- A pointer that slips, as it is found.
+-- A pointer that slips, as found from the tables.
 use Rattle.std.specs.Prelude.{ℕ, Option, Some, None}
 use Rattle.routing_rules.specs.Slip.{Slip as RuleSlip}
 use Rattle.route_split.specs.declared.slip.Way.{Way}

@@ -43,14 +43,14 @@ fn plain_windows(seen: &Seen) -> u64
         .fold(0, |mask, window| mask_with(mask, window.channel))
 }
 
-/// Whether a window is no spy and prevents splitting.
+/// Whether a window is not a spy and prevents splitting.
 fn is_whole(window: &Window) -> bool
     ensures { result ≡ (not (is_spy window.now) && prevents_splitting window.now) }
 {
     !window.is_spy() && window.prevents_splitting()
 }
 
-/// The mask of those that prevent splitting besides.
+/// The mask of those that also prevent splitting.
 fn whole_windows(seen: &Seen) -> u64
     ensures { result
         ≡ mask_of (filter (λ v. not (is_spy v) && prevents_splitting v) seen.now.windows.now) }
@@ -62,14 +62,14 @@ fn whole_windows(seen: &Seen) -> u64
         .fold(0, |mask, window| mask_with(mask, window.channel))
 }
 
-/// Whether a window is no spy and in a mask.
+/// Whether a window is not a spy, and is in a mask.
 fn is_plain_in(mask: u64, window: &Window) -> bool
     ensures { result ≡ (not (is_spy window.now) && mask_has mask window.now.channel) }
 {
     !window.is_spy() && mask_has(mask, window.channel)
 }
 
-/// Whether it prevents splitting besides.
+/// Whether it also prevents splitting.
 fn is_whole_in(mask: u64, window: &Window) -> bool
     ensures { result ≡ (not (is_spy window.now) && prevents_splitting window.now && mask_has mask window.now.channel) }
 {
@@ -83,7 +83,7 @@ fn front_plain<'a>(windows: &'a [Window], mask: u64) -> Option<&'a Window>
     windows.iter().find(|window| is_plain_in(mask, window))
 }
 
-/// The front one of those that prevent splitting besides.
+/// The front one of those that also prevent splitting.
 fn front_whole<'a>(windows: &'a [Window], mask: u64) -> Option<&'a Window>
     ensures { option_copied result
         ≡ find (λ v. not (is_spy v) && prevents_splitting v && mask_has mask v.channel) windows.now }
@@ -155,7 +155,7 @@ fn choose(first: Option<u32>, whole: Option<u32>, touched: Option<u32>, alone: b
     Choice { window, row }
 }
 
-/// What is chosen, and by which row.
+/// The chosen window, and the row that chose it.
 pub(crate) fn choice_at(seen: &Seen, device: DeviceId, at: Pixel) -> Choice
     ensures { result ≡ choice_at (scene_at seen.now) device at }
 {

@@ -27,7 +27,7 @@ pub(crate) fn given_windows(mark: &Mark, device: DeviceId) -> u64
     }
 }
 
-/// The mask, where it counts, and else none.
+/// The mask if it counts, and otherwise the empty mask.
 fn mask_where(hit: bool, mask: u64) -> u64
     ensures { (w : ℕ) → mask_has result w ≡ (hit && mask_has mask w) }
 {

@@ -19,7 +19,7 @@ pub(crate) fn holding(table: &TouchState, id: PointerId) -> u64
     mask
 }
 
-/// The mask with a window besides, where it holds the pointer.
+/// The mask, with a window added if it holds the pointer.
 fn with_one(mask: u64, channel: u32, hit: bool) -> u64
     requires { is_channel channel ≡ true }
     ensures { (w : ℕ) → mask_has result w ≡ (mask_has mask w || (w == channel && hit)) }

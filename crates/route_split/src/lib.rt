@@ -1,4 +1,4 @@
-//! Who holds what of eight touch devices, in tables of bits, by the rules of routing.
+//! Who holds what of eight touch devices, in tables of bits, by the routing rules.
 //!
 //! Two windows stand side by side, 1 on the left and 2 on the right. A finger, pointer 0 of device 1, is down on the
 //! left one, and a second one goes down on the right one:
@@ -9,13 +9,13 @@
 //! after it  1 holds {0}, 2 holds {1}
 //! ```
 //!
-//! [`Touches::mark_of`] finds what a motion gives and takes; the marks of all other steps are named by [`Mark`] itself.
+//! [`Touches::mark_of`] finds what a motion gives and takes; [`Mark`] itself names the marks of all other steps.
 //! [`Touches::concerned`] says which windows can be sent anything at the step. [`Touches::change`] changes the tables
-//! by the mark, and answers what each window lost where one pilfers. Then [`Touches::sends`] says what a window is sent
-//! of a motion, by what it held before and holds now. None of these takes memory or fails.
+//! by the mark, and returns what each window lost if one pilfers. Then [`Touches::sends`] says what a window is sent
+//! for a motion, by what it held before and holds now. None of these allocates memory or fails.
 //!
 //! The tables stand for a scene of the rules (`Stands` of specs/Tables), and for the marks of all steps so far
-//! (`Follows` of specs/Following): each mark by which they change is one mark more.
+//! (`Follows` of specs/Following): each mark that changes them adds one.
 #![tactic(auto)]
 
 mod choice;

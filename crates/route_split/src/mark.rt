@@ -1,8 +1,8 @@
 //! What a step gives and takes.
 use input_types::{DeviceId, PointerId};
 
-/// What a step gives to windows and takes from them. A window goes by the number of its channel, and masks are sets of
-/// channels.
+/// What a step gives to windows and takes from them. A window is named by the number of its channel, and masks are
+/// sets of channels.
 #[derive(Clone, Copy, Debug)]
 pub enum Mark {
     /// A step that changes nothing.
@@ -25,7 +25,7 @@ pub enum Mark {
         from: u32,
         to: u32,
     },
-    /// A device begins anew: all its pointers are taken from all windows.
+    /// A device is reset: all its pointers are taken from all windows.
     Empty {
         device: DeviceId,
     },
@@ -34,15 +34,15 @@ pub enum Mark {
         device: DeviceId,
         window: u32,
     },
-    /// A new snapshot, in which these windows stay: all is taken from the others.
+    /// A new snapshot, in which these windows stay: everything is taken from the others.
     Unnamed {
         stays: u64,
     },
-    /// These windows are found unresponsive: all is taken from them.
+    /// These windows are found unresponsive: everything is taken from them.
     Mute {
         channels: u64,
     },
-    /// A channel is removed: all is taken from its window.
+    /// A channel is removed: everything is taken from its window.
     Forget {
         window: u32,
     },

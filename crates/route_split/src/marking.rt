@@ -14,7 +14,7 @@ use std::alloc::{AllocError, Global};
 use touch_state::TouchState;
 use window_snapshot::{mask_has, mask_with};
 
-/// A state for each device in which nobody holds anything.
+/// A state for each device, in which no window holds anything.
 pub(crate) fn fresh_states(alloc: Global) -> Result<Vec<TouchState>, AllocError>
     ensures tables { IfOk result (λ v. IsTables v.items) }
     ensures fresh { IfOk result (λ v. (d : ℕ) → IsFresh (table_of v.items d)) }
@@ -29,7 +29,7 @@ pub(crate) fn fresh_states(alloc: Global) -> Result<Vec<TouchState>, AllocError>
     Ok(states)
 }
 
-/// The place of a device's state.
+/// The index of a device's state.
 pub(crate) fn index_of(device: DeviceId) -> usize
     ensures value { result ≡ device - 1 }
     ensures range { result < 8 }
@@ -38,7 +38,7 @@ pub(crate) fn index_of(device: DeviceId) -> usize
     usize::from(device.get()) - 1
 }
 
-/// Changes the states by a mark, and answers what each window lost, where one pilfers that holds something.
+/// Changes the states by a mark. Returns what each window lost, if one that holds something pilfers.
 #[inline(always)]
 pub(crate) fn change_by(states: &mut [TouchState], mark: &Mark, place: u64) -> Option<Losses>
     requires tables { IsTables states.old }
@@ -56,7 +56,7 @@ pub(crate) fn change_by(states: &mut [TouchState], mark: &Mark, place: u64) -> O
     }
 }
 
-/// The same of a mark with which no window pilfers.
+/// The same for a mark in which no window pilfers.
 pub(crate) fn change_plain(states: &mut [TouchState], mark: &Mark, place: u64)
     requires tables { IsTables states.old }
     requires whole { IsWhole mark.now }
@@ -140,8 +140,8 @@ fn empty(states: &mut [TouchState], device: DeviceId)
     states[index_of(device)].reset();
 }
 
-/// Takes what a window holds of a device from all other windows; where it holds something, it pilfers the device from
-/// then on. Answers what each window lost then.
+/// Takes what a window holds of a device from all other windows. If it holds something, it pilfers the device from
+/// then on, and the result is what each window lost.
 fn pilfer_of(states: &mut [TouchState], device: DeviceId, window: u32) -> Option<Losses>
     requires tables { IsTables states.old }
     requires channel { is_channel window ≡ true }
@@ -154,7 +154,7 @@ fn pilfer_of(states: &mut [TouchState], device: DeviceId, window: u32) -> Option
     pilfer_one(&mut states[index_of(device)], window)
 }
 
-/// The same of the state of that device.
+/// The same for the state of that device.
 fn pilfer_one(state: &mut TouchState, window: u32) -> Option<Losses>
     requires { is_channel window ≡ true }
     ensures changes { (place : ℕ) →
@@ -179,7 +179,7 @@ fn empty_windows(states: &mut [TouchState], emptied: u64)
     }
 }
 
-/// The same of the state of one device.
+/// The same for the state of one device.
 fn empty_windows_of(state: &mut TouchState, emptied: u64)
     ensures { (place : ℕ) → Changes state.old state.new none (λ w i. mask_has emptied w) place nobody }
 {
@@ -192,7 +192,7 @@ fn empty_windows_of(state: &mut TouchState, emptied: u64)
     }
 }
 
-/// Takes everything from one window, where it is to be taken.
+/// Takes everything from one window, if it must be taken.
 fn empty_window(state: &mut TouchState, channel: u32, emptied: bool)
     requires { is_channel channel ≡ true }
     ensures { (place : ℕ) → Changes state.old state.new none (λ w i. w == channel && emptied) place nobody }

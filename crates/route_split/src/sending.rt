@@ -1,4 +1,4 @@
-//! What a window is told of a motion.
+//! What a window is sent for a motion.
 ghost use Rattle.std.specs.Prelude.{◌≡◌, ℕ, [], ◌∷◌, List, Bool, true, false, not, ◌&&◌, IfSome, if◌then◌else◌};
 ghost use Rattle.std.specs.List.{list_any};
 ghost use Rattle.bits32.specs.Set.{is_in};
@@ -21,7 +21,7 @@ use bits32::Bits32;
 use input_types::{DeviceId, Motion, MotionAction, Pointer, PointerId, Pointers, PushRefused};
 use split_motion::{part, plain, split};
 
-/// What a window is told of a motion with which it goes from holding one set to holding the other.
+/// What a window is sent for a motion with which it goes from holding one set to holding another.
 pub(crate) fn sends_of(motion: &Motion, before: Bits32, later: Bits32, watches: bool) -> Sends
     ensures { (s : Scene) (w : ℕ) → watches ≡ is_watching s motion.now (changed motion.now) w
         → AreListed (λ i. is_in i before) (λ i. is_in i later) (s.last motion.now.device)
@@ -36,8 +36,8 @@ pub(crate) fn sends_of(motion: &Motion, before: Bits32, later: Bits32, watches: 
     }
 }
 
-/// The ids that move, where the set stays, none of its ids goes up with the motion, and some of them are listed. So it
-/// is with a Move, and where another window's pointer goes down or up.
+/// The ids that move, if the set stays, none of its ids goes up with the motion, and some of them are listed. This is
+/// the case for a Move, and when another window's pointer goes down or up.
 #[inline(always)]
 pub(crate) fn moving_of(motion: &Motion, before: Bits32, later: Bits32) -> Option<Bits32>
     ensures { IfSome result (λ ids. (s : Scene) (w : ℕ)
@@ -57,7 +57,7 @@ pub(crate) fn moving_of(motion: &Motion, before: Bits32, later: Bits32) -> Optio
     }
 }
 
-/// Whether the changed pointer has an id of the set, and goes up.
+/// Whether the id of the changed pointer is in the set, and it goes up.
 fn is_lifted(motion: &Motion, held: Bits32) -> bool
     ensures { result ≡ false
         → IfSome (changed motion.now) (λ p. (is_up motion.now.action && is_in p.id held) ≡ false) }
@@ -68,7 +68,7 @@ fn is_lifted(motion: &Motion, held: Bits32) -> bool
     }
 }
 
-/// The same of a motion about a pointer.
+/// The same for a motion about a pointer.
 fn sends_changed(
     motion: &Motion,
     pointer: Pointer,
@@ -95,7 +95,7 @@ fn sends_changed(
 
 /// A window that holds these ids is sent a down of the changed pointer.
 ///
-/// Like the other functions of what is seldom told it is not inlined: each list of pointers costs where it may be made,
+/// Like the other functions for rare messages it is not inlined: each list of pointers costs wherever it may be made,
 /// and most motions only move.
 #[inline(never)]
 fn sends_down(motion: &Motion, later: Bits32) -> Sends
@@ -105,7 +105,7 @@ fn sends_down(motion: &Motion, later: Bits32) -> Sends
     one_of(split(&as_down(motion), later))
 }
 
-/// A window that holds these ids is told that the changed pointer goes up.
+/// A window that holds these ids is sent an up of the changed pointer.
 #[inline(never)]
 fn sends_up(motion: &Motion, held: Bits32) -> Sends
     ensures { (d : ℕ) (last : List Listed) (before : ℕ → Bool) →
@@ -114,7 +114,7 @@ fn sends_up(motion: &Motion, held: Bits32) -> Sends
     one_of(split(motion, held))
 }
 
-/// A window is told that a pointer is outside of it.
+/// A window is sent a touch outside.
 #[inline(never)]
 fn sends_outside(device: DeviceId, pointer: Pointer) -> Sends
     ensures { result ≡ One (plain device Outside (pointer ∷ [])) }
@@ -136,15 +136,15 @@ fn goes_up(action: MotionAction, id: PointerId, before: Bits32) -> bool
     is_up(action) && has_id(before, id)
 }
 
-/// The pointer, where it is watched.
+/// The pointer, if it is watched.
 fn watched_of(pointer: Pointer, watches: bool) -> Option<Pointer>
     ensures { result ≡ (if watches then Some pointer else None) }
 {
     if watches { Some(pointer) } else { None }
 }
 
-/// What it is told of pointers that are neither given nor go up: some are lost, else some move, else a pointer is
-/// outside.
+/// What a window is sent for pointers that are neither given nor go up: some are lost, or else some move, or else a
+/// pointer is outside.
 fn sends_rest(motion: &Motion, before: Bits32, later: Bits32, watched: Option<Pointer>) -> Sends
     ensures { (last : List Listed) → AreListed (λ i. is_in i before) (λ i. is_in i later) last
         → ((i : ℕ) → is_in i later ≡ true → is_in i before ≡ true)
@@ -176,7 +176,7 @@ fn has_some(pointers: &Pointers, set: Bits32) -> bool
         .any(|pointer| set.has(pointer.id.get()))
 }
 
-/// The motion, where there is one.
+/// The motion, if there is one.
 fn one_of(motion: Option<Motion>) -> Sends
     ensures { (d : ℕ) (last : List Listed) (before : ℕ → Bool) → IsSent result (if_some motion) d last before }
 {
@@ -199,7 +199,7 @@ fn as_down(motion: &Motion) -> Motion
     }
 }
 
-/// Whether it is an action with which a pointer goes up.
+/// Whether a pointer goes up with the action.
 fn is_up(action: MotionAction) -> bool
     ensures { result ≡ is_up action }
 {

@@ -5,14 +5,14 @@ ghost use Rattle.bits32.specs.Set.{is_in};
 use bits32::Bits32;
 use input_types::PointerId;
 
-/// Whether a set has an id.
+/// Whether a set contains an id.
 pub(crate) fn has_id(set: Bits32, id: PointerId) -> bool
     ensures { result ≡ is_in id set }
 {
     set.has(id.get())
 }
 
-/// The set with an id.
+/// The set with an id added.
 pub(crate) fn with_id(set: Bits32, id: PointerId) -> Bits32
     ensures { (i : ℕ) → is_in i result ≡ (i == id || is_in i set) }
 {
@@ -30,7 +30,7 @@ pub(crate) fn without_id(set: Bits32, id: PointerId) -> Bits32
     rest
 }
 
-/// The set without a number, where another set has that.
+/// The set without a number, if another set contains it.
 fn without_one(set: Bits32, ids: Bits32, id: u8) -> Bits32
     requires { id < 32 }
     ensures { (i : ℕ) → is_in i result ≡ (if is_in id ids then not (i == id) && is_in i set else is_in i set) }
@@ -42,7 +42,7 @@ fn without_one(set: Bits32, ids: Bits32, id: u8) -> Bits32
     rest
 }
 
-/// The numbers of a set that another does not have.
+/// The numbers of a set that are not in another.
 pub(crate) fn without(set: Bits32, ids: Bits32) -> Bits32
     ensures { (i : ℕ) → is_in i result ≡ (is_in i set && not (is_in i ids)) }
 {
@@ -53,7 +53,7 @@ pub(crate) fn without(set: Bits32, ids: Bits32) -> Bits32
     rest
 }
 
-/// The same, where both are mostly equal.
+/// The same, for sets that are mostly equal.
 pub(crate) fn lost_of(before: Bits32, later: Bits32) -> Bits32
     ensures { (i : ℕ) → is_in i result ≡ (is_in i before && not (is_in i later)) }
 {

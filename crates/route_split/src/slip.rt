@@ -12,7 +12,7 @@ use crate::seen::{Seen, holds_pointer};
 use input_types::{DeviceId, Motion, MotionAction, Pointer, PointerId};
 use window_snapshot::{Window, mask_has};
 
-/// From which window to which one a pointer slips.
+/// The window from which a pointer slips, and the one to which it slips.
 #[derive(Clone, Copy, Debug)]
 pub struct Way {
     pub from: u32,
@@ -47,7 +47,7 @@ fn the_one(found: Found) -> Option<u32>
     }
 }
 
-/// Whether the window is no spy and holds the pointer.
+/// Whether the window is not a spy and holds the pointer.
 fn is_holder_of(seen: &Seen, device: DeviceId, id: PointerId, window: &Window) -> bool
     ensures { result ≡ (not (is_spy window.now) && (scene_at seen.now).holds window.now.channel device id) }
 {
@@ -86,7 +86,7 @@ fn is_slippery(seen: &Seen, channel: u32) -> bool
         .any(|window| window.channel == channel && window.is_slippery())
 }
 
-/// From a slippery holder to the window at the pointer's place, where that is another, able one.
+/// The slip from a slippery holder to the window at the pointer's position, if that is another one that is able.
 fn slips_from(seen: &Seen, device: DeviceId, from: u32, pointer: Pointer) -> Option<Way>
     requires slippery { shows (scene_at seen.now) is_slippery from ≡ true }
     requires channel { is_channel from ≡ true }
@@ -106,7 +106,7 @@ fn slips_from(seen: &Seen, device: DeviceId, from: u32, pointer: Pointer) -> Opt
     }
 }
 
-/// From the one holder of a pointer to the window at its place, where it may slip there.
+/// The slip from the only holder of a pointer to the window at its position, if it may slip there.
 fn slips(seen: &Seen, device: DeviceId, pointer: Pointer) -> Option<Way>
     ensures channels { IfSome result (λ x. (is_channel x.from ≡ true) × (is_channel x.to ≡ true)) }
     ensures slip { let s = scene_at seen.now in option_map rule_slip result
@@ -125,7 +125,7 @@ fn slips(seen: &Seen, device: DeviceId, pointer: Pointer) -> Option<Way>
     }
 }
 
-/// Whether a motion lets a pointer slip: a move that lists it alone.
+/// Whether a motion lets a pointer slip: it is a move that lists only that pointer.
 pub(crate) fn slip_of(seen: &Seen, motion: &Motion) -> Option<Way>
     ensures channels { IfSome result (λ x. (is_channel x.from ≡ true) × (is_channel x.to ≡ true)) }
     ensures slip { option_map rule_slip result ≡ slip (scene_at seen.now) motion.now }

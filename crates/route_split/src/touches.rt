@@ -41,7 +41,7 @@ use window_snapshot::Snapshot;
 /// which device.
 #[derive(Drop)]
 pub struct Touches {
-    /// The state of each device, that of device 1 first.
+    /// The state of each device, starting with device 1.
     states: Vec<TouchState>,
 }
 
@@ -58,7 +58,7 @@ impl Model for Touches {
 }
 
 impl Touches {
-    /// Nobody holds anything.
+    /// Tables in which no window holds anything.
     pub fn new(alloc: Global) -> Result<Touches, AllocError>
         ensures { IfOk result (λ t. (d : ℕ) → IsFresh (table_of t d)) }
     {
@@ -88,8 +88,8 @@ impl Touches {
         self.states[index_of(device)].pilfering()
     }
 
-    /// The mark of a motion: who gets a pointer that goes down, from whom one goes that goes up, and between which
-    /// windows one slips. The masks are those of the channels that the device can reach, and of those that are able to
+    /// The mark of a motion: which windows get a pointer that goes down, which lose one that goes up, and between
+    /// which windows one slips. The masks are those of the channels that the device can reach, and of those that can
     /// take input.
     pub fn mark_of(&self, motion: &Motion, windows: &Snapshot, reach: u64, able: u64) -> Mark
         ensures mark { (s : Scene) → Stands s self.now → Sees s windows.now reach able motion.now.device
@@ -105,8 +105,9 @@ impl Touches {
         mark_of(&seen, motion)
     }
 
-    /// The window that is chosen for a pointer of a device that goes down at a place, and the row of the table by which
-    /// it is. The masks are those of the channels that the device can reach, and of those that are able to take input.
+    /// The window that is chosen for a pointer of a device that goes down at a position, and the row of the table
+    /// that chose it. The masks are those of the channels that the device can reach, and of those that can take
+    /// input.
     pub fn choice(
         &self,
         device: DeviceId,
@@ -127,8 +128,8 @@ impl Touches {
         choice_at(&seen, device, at)
     }
 
-    /// The mask of the windows that get a pointer of a device that goes down at a place. The masks are those of the
-    /// channels that the device can reach, and of those that are able to take input.
+    /// The mask of the windows that get a pointer of a device that goes down at a position. The masks are those of
+    /// the channels that the device can reach, and of those that can take input.
     pub fn takers(
         &self,
         device: DeviceId,
@@ -149,8 +150,8 @@ impl Touches {
         takers(&seen, device, at)
     }
 
-    /// From which window to which one the pointer of a motion slips; None exactly where it slips nowhere. The masks are
-    /// those of the channels that the device can reach, and of those that are able to take input.
+    /// The window from which the pointer of a motion slips, and the one to which it slips; None exactly if it does
+    /// not slip. The masks are those of the channels that the device can reach, and of those that can take input.
     pub fn slip(&self, motion: &Motion, windows: &Snapshot, reach: u64, able: u64) -> Option<Way>
         ensures { (s : Scene) → Stands s self.now → Sees s windows.now reach able motion.now.device
             → option_map rule_slip result ≡ slip s motion.now }
@@ -171,17 +172,17 @@ impl Touches {
         holding(&self.states[index_of(device)], id)
     }
 
-    /// The mask of the windows that may be sent something of a device at the step of a mark: those that hold something
-    /// of it, and those that are given something. At a motion its `watchers` may be sent something besides.
+    /// The mask of the windows that may be sent something for a device at the step of a mark: those that hold
+    /// something of it, and those that are given something. At a motion, its `watchers` may be sent something too.
     pub fn concerned(&self, mark: &Mark, device: DeviceId) -> u64
         ensures { (w : ℕ) → mask_has result w ≡ may_be_sent self.now mark.now w device }
     {
         self.holders(device) | given_windows(mark, device)
     }
 
-    /// What a window is told of a motion, once the tables have changed by its mark; `before` are the ids that it held
-    /// of the motion's device before, and `watches` says whether the window is one of the motion's `watchers`. What
-    /// windows held has to be listed in the last motion of the device.
+    /// What a window is sent for a motion, once the tables have changed by its mark. `before` are the ids that it
+    /// held of the motion's device before, and `watches` says whether the window is one of the motion's `watchers`.
+    /// The last motion of the device must list what windows held.
     pub fn sends(&self, motion: &Motion, window: u32, before: Bits32, watches: bool) -> Sends
         requires { is_channel window ≡ true }
         ensures { (s : Scene)
@@ -197,8 +198,8 @@ impl Touches {
         sends_of(motion, before, later, watches)
     }
 
-    /// The ids that move in a window, where it is sent just that of the motion: it held them before the step, as these
-    /// are, and holds them still. None says nothing of what it is sent.
+    /// The ids that move in a window, if that is all that it is sent for the motion: it held exactly these before the
+    /// step, and still holds them. None says nothing about what it is sent.
     #[inline(always)]
     pub fn moving(&self, motion: &Motion, window: u32, before: Bits32) -> Option<Bits32>
         requires { is_channel window ≡ true }
@@ -212,8 +213,8 @@ impl Touches {
         moving_of(motion, before, self.held(window, motion.device))
     }
 
-    /// Changes the tables by the mark of a step, at a place, which is how many steps were before it. Answers what each
-    /// window lost, where one pilfers that holds something.
+    /// Changes the tables by the mark of a step, at an index, which is the number of steps before it. Returns what
+    /// each window lost, if one that holds something pilfers.
     #[inline(always)]
     pub fn change(&mut self, mark: &Mark, place: u64) -> Option<Losses>
         requires { IsWhole mark.now }
@@ -224,7 +225,7 @@ impl Touches {
         change_by(&mut self.states, mark, place)
     }
 
-    /// The same of a mark with which no window pilfers, so that no list is made of what windows lost.
+    /// The same for a mark in which no window pilfers, so that no list of losses is made.
     #[inline(always)]
     pub fn change_plain(&mut self, mark: &Mark, place: u64)
         requires whole { IsWhole mark.now }
@@ -235,13 +236,14 @@ impl Touches {
         change_plain(&mut self.states, mark, place);
     }
 
-    /// With a step that gives and takes nothing the tables stay as they are. It does nothing, and its clause says so.
+    /// A step that gives and takes nothing leaves the tables as they are. This function does nothing, and its clause
+    /// says so.
     #[inline(always)]
     pub fn rest(&self)
         ensures { (place : ℕ) → ChangesAll self.now self.now (gives NoOp) (takes (taking self.now NoOp)) place
             (pilfers (taking self.now NoOp)) }
     {
-        // Read for its clause alone: what always holds of the tables is not seen before.
+        // Read for its clause alone: the invariant of the tables is not visible before.
         let _count = self.states.len();
     }
 }

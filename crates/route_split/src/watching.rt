@@ -1,4 +1,4 @@
-//! Who watches for touches outside of it.
+//! Which windows watch for touches outside of them.
 ghost use Rattle.std.specs.Prelude.{◌≡◌, ℕ};
 ghost use Rattle.window_snapshot.specs.Hits.{is_watcher_at};
 ghost use Rattle.window_snapshot.specs.Mask.{mask_has};
@@ -12,9 +12,9 @@ use crate::motion::changed;
 use input_types::{Motion, MotionAction, Pixel};
 use window_snapshot::Snapshot;
 
-/// The mask of the windows that are told of a motion that it is outside of them, where they hold none of its pointers:
-/// at the down that begins a gesture the able watchers at its place, and else nobody. The masks are those of the
-/// channels that the device can reach, and of those that are able to take input.
+/// The mask of the windows that are sent a motion as a touch outside if they hold none of its pointers: at the down
+/// that begins a gesture, the able watchers at its position; at any other motion, none. The masks are those of the
+/// channels that the device can reach, and of those that can take input.
 pub fn watchers(motion: &Motion, windows: &Snapshot, reach: u64, able: u64) -> u64
     ensures { (s : Scene) → Sees s windows.now reach able motion.now.device → (w : ℕ)
         → mask_has result w ≡ is_watching s motion.now (changed motion.now) w }
@@ -28,14 +28,14 @@ pub fn watchers(motion: &Motion, windows: &Snapshot, reach: u64, able: u64) -> u
     }
 }
 
-/// The watchers at a place.
+/// The watchers at a position.
 fn watchers_at(windows: &Snapshot, at: Pixel, reach: u64) -> u64
     ensures { (c : ℕ) → mask_has result c ≡ is_watcher_at windows.now (mask_has reach) at.x at.y c }
 {
     windows.watchers(at.x, at.y, reach)
 }
 
-/// Whether it is an action that begins a gesture.
+/// Whether the action begins a gesture.
 fn is_first(action: MotionAction) -> bool
     ensures { result ≡ is_first action }
 {

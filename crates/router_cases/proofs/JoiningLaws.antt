@@ -1,4 +1,4 @@
--- The two routers follow the same steps and tell the same.
+-- The two routers follow the same steps and send the same.
 use Rattle.std.proofs.Common.{ℕ, zero, suc, Bool, true, false, ◌==◌, ◌≤◌, ◌<◌, ◌-◌, ◌^◌, nat_le, ◌≡◌, List, [], ◌∷◌, ◌++◌, filter, refl, sym, ap, ap₂, ◌∙◌, if◌then◌else◌, subst, cond, inl, inr, arith}
 use Rattle.std.specs.List.{list_any}
 use Rattle.std.proofs.lemmas.Bool.{both_ways, and_from, or_cases, or_left, or_right, eqb-true, le-leb}
@@ -41,7 +41,7 @@ motions_are Nothing ms d last before h = h
 motions_are (One m) ms d last before h = h
 motions_are (Cancels lost) ms d last before h = h
 
--- what is told of a device is the word of the answer
+-- what is sent for a device is what the answer says
 one_asked : (b : Bool) (ms ns : List Motion) → (b ≡ true → ms ≡ ns) → (b ≡ false → ms ≡ []) → ms ≡ (if b then ns else [])
 one_asked true ms ns f g = f refl
 one_asked false ms ns f g = g refl

@@ -39,7 +39,7 @@ StartLaw = (ts : List Touches) → ((d : ℕ) → IsFresh (table_of ts d)) → J
 abbrev pub SceneLaw : Type 0
 SceneLaw = (n : ℕ) (st : State) (ts : List Touches) (windows : List Window) (live able : ℕ) → Joined n st ts → Stands (scene_before st windows live able) ts
 
--- the motions of an answer of the split router, where the window holds these ids of the device, whose last places these are
+-- the motions of an answer of the split router, if the window holds these ids of the device, at these last positions
 abbrev pub motions_of : Sends → (d : ℕ) → (last : List Pointer) → (before : ℕ → Bool) → List Motion
 motions_of Nothing d last before = []
 motions_of (One m) d last before = m ∷ []
@@ -55,16 +55,16 @@ abbrev pub Answers : Scene → Step → ((window device : ℕ) → Sends) → Ty
 Answers s e answer =
     (w d : ℕ) → is_channel w ≡ true → is_device d ≡ true → is_asked e d ≡ true → IsSent (answer w d) (outgoing s e w d) d (s.last d) (s.holds w d)
 
--- what it tells a window of a device
+-- what it sends to a window for a device
 abbrev pub word : Scene → Step → ((window device : ℕ) → Sends) → (window device : ℕ) → List Motion
 word s e answer w d = if is_asked e d then motions_of (answer w d) d (s.last d) (s.holds w d) else []
 
--- what it tells a window: device by device
+-- what it sends to a window: device by device
 abbrev pub words : Scene → Step → ((window device : ℕ) → Sends) → (window : ℕ) → List Motion
 words s e answer w = flat_map (word s e answer w) devices
 
--- Whatever the step: where the split router finds its mark, changes its tables by it and answers, both routers tell each of the 64
--- windows the same, word for word, and they followed the same steps again.
+-- Whatever the step: if the split router finds its mark, changes its tables by it and answers, both routers send each
+-- of the 64 windows exactly the same, and follow the same steps again.
 abbrev pub StepLaw : Type 0
 StepLaw =
     (n : ℕ) (st : State) (ts us : List Touches) (windows : List Window) (live able : ℕ) (e : Step) (k : Mark) (answer : (window device : ℕ) → Sends)

@@ -1,8 +1,8 @@
 //! The two routers side by side.
 //!
-//! The plain router keeps a list of who holds what, and the split one tables of bits. That both tell each window the
-//! same at each step, and stand for equal scenes again, is proved ([`laws`]), and seen besides: in a test both take
-//! some hundred turns that chance makes.
+//! The plain router keeps a list of who holds what, and the split one tables of bits. Both send each window the same
+//! at each step, and stand for equal scenes again: this is proved ([`laws`]), and also tested with some hundred
+//! random turns.
 //!
 //! ```text
 //! turn                          plain                                   split

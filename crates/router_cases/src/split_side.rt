@@ -70,7 +70,7 @@ impl SplitSide {
         Ok(said)
     }
 
-    /// A channel that is removed is sent nothing any more, and what it was sent is forgotten.
+    /// A removed channel is sent nothing more, and what it was sent is dropped.
     fn forget(&mut self, turn: &Turn) {
         if let Turn::Forget { channel } = turn {
             if let Some(state) = self.states.get_mut(place_of(*channel)) {
@@ -97,7 +97,7 @@ impl SplitSide {
         Ok(())
     }
 
-    /// The ids of a device that a window was told of and is not told the end of.
+    /// The ids of a device that are still down in a window's stream.
     fn sent_ids(&self, channel: u32, device: DeviceId) -> Bits32 {
         let mut ids = Bits32::empty();
         if let Some(state) = self.states.get(place_of(channel)) {
@@ -108,7 +108,7 @@ impl SplitSide {
         ids
     }
 
-    /// Tells each window what it lost of each device; of a channel that is removed nobody is sent.
+    /// Sends each window what it lost of each device; removing a channel sends nothing.
     fn send_losses(
         &mut self,
         said: &mut Vec<Said>,
@@ -140,7 +140,7 @@ impl SplitSide {
         }
     }
 
-    /// The ids that a window was told of and does not hold.
+    /// The ids that are down in a window's stream and that it does not hold.
     fn not_held(&self, channel: u32, device: DeviceId) -> Bits32
         requires { is_channel channel ≡ true }
     {
@@ -154,7 +154,7 @@ impl SplitSide {
         lost
     }
 
-    /// Tells a window what the router answered, and adds it to what is said.
+    /// Sends a window what the router answered, and adds it to what was sent.
     fn send(
         &mut self,
         said: &mut Vec<Said>,
@@ -198,7 +198,7 @@ impl SplitSide {
     }
 }
 
-/// What a window lost to a spy, where that pilfered the device.
+/// What a window lost to a spy that pilfered the device.
 fn pilfered(losses: Option<&Losses>, is_device: bool, channel: u32) -> Bits32
     requires { is_channel channel ≡ true }
 {

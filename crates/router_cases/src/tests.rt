@@ -1,4 +1,4 @@
-//! Both routers tell each window the same.
+//! Both routers send each window the same.
 
 use crate::sides::run;
 use std::test::Fail;

@@ -1,4 +1,4 @@
--- What a motion gives and takes is of its device and of its changed pointer alone.
+-- A motion gives and takes only its own device's changed pointer.
 use Rattle.std.proofs.Common.{ℕ, Bool, true, false, not, ◌&&◌, ◌||◌, ◌==◌, ◌≡◌, ◌⊎◌, inl, inr, List, [], ◌∷◌, Option, Some, None, refl, sym, ap, ap₂}
 use Rattle.std.proofs.lemmas.Bool.{and_left, and_right, eqb-false, ne_eqb, eq-eqb, and_from}
 use Rattle.input_types.specs.declared.motion.Motion.{Motion}
@@ -13,7 +13,7 @@ use Rattle.routing_rules.specs.Slip.{Slip, slip}
 use Rattle.routing_rules.specs.Given.{pairs, slips_in, slips_out, given_by, taken_by, mark, changed}
 use Rattle.routing_rules.specs.Outgoing.{after, is_up}
 
--- one of two numbers is another one
+-- the pairs of numbers (d, i) and (e, j) differ
 abbrev pub Apart_from : (d i e j : ℕ) → Type 0
 Apart_from d i e j = ((d == e) ≡ false) ⊎ ((i == j) ≡ false)
 
@@ -78,7 +78,7 @@ none_taken s m PointerUp w e j = refl
 none_taken s m Cancel w e j = refl
 none_taken s m Outside w e j = refl
 
--- what is neither given nor taken is held as before
+-- a pair that is neither given nor taken is held as before
 as_before : (g b t : Bool) → g ≡ false → t ≡ false → (g || b && not t) ≡ b
 as_before g b t e f = rw (e, f) (and_true b)
   where
@@ -97,7 +97,7 @@ after_none s m c w e j =
     as_before (has (given_by s m m.action (changed m)) w e j) (s.holds w e j) (takes (taken_by s m m.action (changed m)) w e j)
     (rw c (none_given s m m.action w e j)) (rw c (none_taken s m m.action w e j))
 
--- an up takes its pointer from all
+-- an up takes its pointer from every window
 up_taken : (s : Scene) (m : Motion) (a : MotionAction) (p : Pointer) (w : ℕ) → is_up a ≡ true
     → (has (given_by s m a (Some p)) w m.device p.id ≡ false) × (takes (taken_by s m a (Some p)) w m.device p.id ≡ true)
 up_taken s m Up p w u = (refl, and_from _ _ (eq-eqb m.device m.device refl) (eq-eqb p.id p.id refl))

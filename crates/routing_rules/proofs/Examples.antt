@@ -1,4 +1,4 @@
--- Worked examples, each one step of a gesture. They compute.
+-- Worked examples, each one step of a gesture. Each is checked by computation.
 use Rattle.std.specs.Prelude.{ℕ, false, not, ◌==◌, ◌≡◌, List, [], ◌∷◌, filter, refl}
 use Rattle.input_types.specs.declared.motion.MotionAction.TheVariants.{Down, Move, Cancel, Outside, PointerDown, PointerUp}
 use Rattle.input_types.specs.declared.motion.Motion.{Motion}

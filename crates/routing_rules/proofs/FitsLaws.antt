@@ -1,4 +1,4 @@
--- A scene that fits what is down is followed by one that does.
+-- If a scene fits the ids that are down, so does the next scene.
 use Rattle.std.proofs.Common.{ℕ, zero, suc, Bool, true, false, not, cond, ◌&&◌, ◌==◌, ◌≡◌, List, [], ◌∷◌, filter, length, remove, if◌then◌else◌, Option, Some, None, slice_get, refl, sym, ap, ◌∙◌, subst, inl, inr}
 use Rattle.std.specs.List.{list_any}
 use Rattle.std.proofs.lemmas.Bool.{eqb-true, eq-eqb, cases_Bool, both_ways, and_parts, and_right, or_cases, or_left, or_right}
@@ -22,7 +22,7 @@ use Rattle.routing_rules.proofs.SentLaws.{Lies, lies, fresh_id, filter_none, oth
 abbrev pub among : ℕ → List ℕ → Bool
 among i xs = list_any (λ j. j == i) xs
 
--- an id of another place stays where one goes
+-- removing one id leaves an id at another index
 pub in_remove : (ps : List Pointer) (k i : ℕ) → among i (remove (ids_of ps) k) ≡ true → among i (ids_of ps) ≡ true
 in_remove [] zero i e = e
 in_remove [] (suc k) i e = e
@@ -44,7 +44,7 @@ stays_in (q ∷ ps) (suc k) i p e n h =
       | inr t ↦ or_right (q.id == i) (among i (remove (ids_of ps) k)) (stays_in ps k i p e n t)
     ]
 
--- what a step that is no motion leaves fits
+-- a step other than a motion leaves a scene that fits
 smaller_fits : (s t : Scene) (d : ℕ) (down : List ℕ) → Fits s d down → ((w i : ℕ) → t.holds w d i ≡ true → s.holds w d i ≡ true) → t.last d ≡ s.last d
     → Fits t d down
 smaller_fits s t d down f sub e =
@@ -58,7 +58,7 @@ smaller_fits s t d down f sub e =
           ∙ filter-filter_sub (t.holds w d) (s.holds w d) down (sub w);
     }
 
--- nothing is held, of what nothing is down
+-- no window holds an id of a device on which nothing is down
 empty_fits : (t : Scene) (d : ℕ) → IsRising (t.last d) → ((w i : ℕ) → t.holds w d i ≡ false) → Fits t d []
 empty_fits t d r none =
     record {
@@ -134,7 +134,7 @@ motion_step s t m d down next f r false q n same e =
     subst (Fits t d) z
     (smaller_fits s t d down f (λ w i h. sym (other_motion s m w d q (changed m) refl i) ∙ sym (same w i) ∙ h) e)
 
--- what is held after a step that gives nothing was held before it
+-- a step that gives nothing leaves only pairs that were held before it
 kept_held : (b c t : Bool) → t ≡ (b && not c) → t ≡ true → b ≡ true
 kept_held b c t e h = (and_parts b (not c) (sym e ∙ h)).0
 

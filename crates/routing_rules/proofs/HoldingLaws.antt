@@ -1,4 +1,4 @@
--- Holding: one step, and the list of pairs that tells it.
+-- Holding: one step, and the list of pairs that records it.
 use Rattle.std.proofs.Common.{ℕ, Bool, true, false, not, ◌&&◌, ◌||◌, ◌==◌, IsTrue, ◌≡◌, ◌⊎◌, inl, inr, List, [], ◌∷◌, ◌++◌, refl, sym, ap, ◌∙◌}
 use Rattle.std.proofs.lemmas.Bool.{and_parts, and_from, or_cases, or_left, or_right, eqb-true, eq-eqb, not-true, true≢false}
 use Rattle.std.proofs.lemmas.Map.Views.{any-filter_same}

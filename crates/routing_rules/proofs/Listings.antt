@@ -1,4 +1,4 @@
--- Lists of pointers with different ids, and what a set has of them.
+-- Lists of pointers with different ids, and the part of them that is in a set.
 use Rattle.std.proofs.Common.{ℕ, zero, suc, Bool, true, false, not, cond, ◌&&◌, ◌||◌, ◌==◌, ◌≡◌, ◌<◌, ◌≤◌, List, [], ◌∷◌, filter, length, remove, Some, slice_get, refl, sym, ap, ◌∙◌, subst, inl, inr, arith}
 use Rattle.std.specs.List.{list_any}
 use Rattle.std.proofs.lemmas.Bool.{eqb-true, eq-eqb, ne_eqb, cases_Bool, both_ways, true≢false, or_cases, or_left, or_right, and_parts, and_from, and_right}
@@ -37,7 +37,7 @@ ids_of-listing f (p ∷ ps) = by_test (f p.id) (ids_of-listing f ps)
     by_test true e = ap (λ xs. p.id ∷ xs) e
     by_test false e = e
 
--- two sets that agree on the ids of a list have the same of it
+-- two sets that agree on the ids of a list select the same pointers from it
 pub listing_same : (f g : ℕ → Bool) (ps : List Pointer) → ((i : ℕ) → has_id i ps ≡ true → f i ≡ g i) → listing f ps ≡ listing g ps
 listing_same f g [] same = refl
 listing_same f g (p ∷ ps) same =
@@ -45,7 +45,7 @@ listing_same f g (p ∷ ps) same =
     let r : listing f ps ≡ listing g ps = listing_same f g ps (λ i h. same i (or_right _ _ h)) in
     λ k. cond (e k) (p ∷ r k) (r k)
 
--- Without one of its pointers a list of different ids is what another set has of it.
+-- A list of different ids without one of its pointers is the part of it that another set selects.
 abbrev pub Removes_one : (f g : ℕ → Bool) (i : ℕ) (ps : List Pointer) → Type 0
 Removes_one f g i ps =
     (remove (ids_of (listing f ps)) (index_in i (listing f ps)) ≡ ids_of (listing g ps))
@@ -130,7 +130,7 @@ listing-less f i (p ∷ ps) = first (f p.id) (p.id == i) (listing-less f i ps)
     first false c e = e
     first true c e = λ k. cond (not (p.id == i)) (p ∷ e k) (e k)
 
--- a smaller set has no more
+-- a smaller set selects no more pointers
 pub length-listing_le : (f g : ℕ → Bool) (ps : List Pointer) → ((j : ℕ) → has_id j ps ≡ true → f j ≡ true → g j ≡ true)
     → length (listing f ps) ≤ length (listing g ps)
 length-listing_le f g [] sub = omega arith
@@ -148,7 +148,7 @@ pub length-ids_of : (ps : List Pointer) → length (ids_of ps) ≡ length ps
 length-ids_of [] = refl
 length-ids_of (p ∷ ps) = ap suc (length-ids_of ps)
 
--- a smaller set has the same of a list as of what a larger set has of it
+-- a smaller set selects the same from a list as from what a larger set selects from it
 pub filter-filter_sub : (l b : ℕ → Bool) (xs : List ℕ) → ((j : ℕ) → l j ≡ true → b j ≡ true) → filter l (filter b xs) ≡ filter l xs
 filter-filter_sub l b [] sub = refl
 filter-filter_sub l b (x ∷ xs) sub = first (b x) (l x) refl (sub x) (filter-filter_sub l b xs sub)
@@ -160,7 +160,7 @@ filter-filter_sub l b (x ∷ xs) sub = first (b x) (l x) refl (sub x) (filter-fi
     first false true p s r = absurd (true≢false (sym (s refl)))
     first false false p s r = r
 
--- what a set has does not change where an id goes that is not in it
+-- removing an id that is not in the set does not change what it selects
 pub filter-remove : (f : ℕ → Bool) (ps : List Pointer) (k : ℕ) (p : Pointer) → slice_get ps k ≡ Some p → f p.id ≡ false
     → filter f (remove (ids_of ps) k) ≡ filter f (ids_of ps)
 filter-remove f [] k p e n = absurd (cc e)

@@ -11,7 +11,7 @@ use Rattle.routing_rules.specs.Given.{changed}
 use Rattle.routing_rules.specs.Outgoing.{is_up, is_down}
 use Rattle.routing_rules.proofs.Listings.{some_at, same_ids_is, length-ids_of}
 
--- what is allowed comes only where it is
+-- a message that is allowed may come only where it is
 pub allowed_parts : {X : Type 0} (b : Bool) (x y : X) → allowed b x ≡ Some y → (b ≡ true) × (x ≡ y)
 allowed_parts true x y e = (refl, cc)
 allowed_parts false x y e = cc

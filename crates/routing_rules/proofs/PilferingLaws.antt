@@ -1,4 +1,4 @@
--- Pilfering: one step, and the test that tells it.
+-- Pilfering: one step, and the test for it.
 use Rattle.std.proofs.Common.{ℕ, ◌||◌, IsTrue, ◌≡◌, ◌⊎◌, inl, inr, List, [], ◌∷◌, ◌++◌, refl, sym, ap, subst}
 use Rattle.std.proofs.lemmas.Bool.{and_parts, and_from, or_cases, or_left, or_right, true≢false}
 use Rattle.routing_rules.specs.Pairs.{has_any}
@@ -8,7 +8,7 @@ use Rattle.routing_rules.specs.Places.{HoldsAny, HoldsThroughout, IsPilfering}
 use Rattle.routing_rules.specs.Laws.{PilferingStep, PilferingLaw}
 use Rattle.routing_rules.proofs.HoldingLaws.{held_any_law}
 
--- one step, by where the place is at which it pilfered
+-- one step, by the index of the step that pilfered
 pilfering_step_at : (m : Mark) (before : List Mark) (w d : ℕ) (later : List Mark) (mark : Mark) (rest : List Mark)
     → m ∷ before ≡ later ++ mark ∷ rest → IsTrue (pilfers mark.taken w d) → HoldsThroughout later (mark ∷ rest) w d
     → HoldsAny (m ∷ before) w d × (IsTrue (pilfers m.taken w d) ⊎ IsPilfering before w d)

@@ -56,7 +56,7 @@ lies m p b l down next c fresh gone (closes q d e g u) =
       kept_is = λ n. ap (filter l) (sym e) ∙ sym (filter-remove l m.pointers m.index p c lp) ∙ ap (filter l) g;
     }
 
--- a pointer that goes down was held by nobody
+-- no window held a pointer before it goes down
 pub fresh_id : (s : Scene) (m : Motion) (p : Pointer) (w : ℕ) (down : List ℕ) → Fits s m.device down → Apart m.pointers → changed m ≡ Some p
     → remove (ids_of m.pointers) m.index ≡ down → s.holds w m.device p.id ≡ false
 fresh_id s m p w down f a c e =
@@ -86,7 +86,7 @@ shape_of s m p w down next f a c kind =
       listed = f.held_is_listed w;
     }
 
--- what a step takes that is no motion is cancelled
+-- what a step other than a motion takes is cancelled
 taken_fits : (s : Scene) (w d : ℕ) (down : List ℕ) (l : ℕ → Bool) → Fits s d down → ((j : ℕ) → l j ≡ true → s.holds w d j ≡ true)
     → sent_ids (filter (s.holds w d) down) (cancels d (s.last d) (s.holds w d) l) ≡ Some (filter l down)
 taken_fits s w d down l f sub =
@@ -140,7 +140,7 @@ own_motion s m w down next f r e =
     came true e = (refl, e)
     came false e = cc
 
--- what is held as before, of what is down as before
+-- if what is held and what is down stay the same
 unchanged : (b l : ℕ → Bool) (down next : List ℕ) → ((j : ℕ) → l j ≡ b j) → Some down ≡ Some next → Some (filter b down) ≡ Some (filter l next)
 unchanged b l down next same e =
     let q : down ≡ next = cc in
@@ -171,7 +171,7 @@ pub filter_none : (l : ℕ → Bool) (xs : List ℕ) → ((j : ℕ) → l j ≡ 
 filter_none l [] none = refl
 filter_none l (x ∷ xs) none = rw (none x) (filter_none l xs none)
 
--- a device that begins anew
+-- a device that is reset
 reset_leaves : (b : ℕ → Bool) (e d : ℕ) (down next : List ℕ) (c : Bool) → (e == d) ≡ c → cond c (Some []) (Some down) ≡ Some next
     → filter (λ j. b j && not (d == e)) down ≡ filter (λ j. b j && not (d == e)) next
 reset_leaves b e d down next true t q =
@@ -210,7 +210,7 @@ sent_law s (Removes v) w d down next f r l e =
 sent_law s NoOp w d down next f r l e =
     unchanged (s.holds w d) (λ j. s.holds w d j && not false) down next (λ j. and_not (s.holds w d j) false refl) e
 
--- nothing lost, nothing told
+-- nothing lost, nothing sent
 listing_none : (f : ℕ → Bool) (ps : List Pointer) → ((j : ℕ) → f j ≡ false) → listing f ps ≡ []
 listing_none f [] none = refl
 listing_none f (p ∷ ps) none = rw (none p.id) (listing_none f ps none)

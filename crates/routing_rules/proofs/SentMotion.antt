@@ -1,4 +1,4 @@
--- What a window is told of a motion of its device fits what it was sent before.
+-- What a window is sent for a motion of its device fits what it was sent before.
 use Rattle.std.proofs.Common.{ℕ, Bool, true, false, not, cond, ◌&&◌, ◌==◌, ◌≡◌, List, [], ◌∷◌, filter, Some, refl, sym, ap, ◌∙◌, subst, inl, inr}
 use Rattle.std.specs.Option.{option_and_then}
 use Rattle.std.proofs.lemmas.Bool.{eqb-true, cases_Bool, true≢false, and_parts, not-true, not-false}
@@ -13,8 +13,8 @@ use Rattle.routing_rules.specs.Fits.{sent_ids}
 use Rattle.routing_rules.proofs.Listings.{has_id, Apart, Removes_one, index-listing, ids_of-listing, filter-filter_sub}
 use Rattle.routing_rules.proofs.SentRows.{opening_fits, closing_fits, moves_fit, cancels_fit, or_else_fits}
 
--- How a window's ids before and later lie in a motion of its device about pointer p, with what is down on the device before and
--- after it.
+-- How a window's ids before and after lie in a motion of its device about pointer p, with what is down on the device
+-- before and after it.
 pub record Shape (s : Scene) (m : Motion) (p : Pointer) (b l : ℕ → Bool) (down next : List ℕ) : Type 0 where
   pub apart : Apart m.pointers
   pub last_apart : Apart (s.last m.device)
@@ -38,7 +38,7 @@ held_before b l i n same j e =
     here true y n e = not-false y n
     here false y n e = absurd (true≢false (sym e))
 
--- being told of a touch outside changes nothing
+-- an OUTSIDE message changes nothing
 outside_if : (d : ℕ) (p : Pointer) (ids : List ℕ) (c : Bool) → sent_ids ids (cond c (plain d Outside (p ∷ []) ∷ []) []) ≡ Some ids
 outside_if d p ids true = refl
 outside_if d p ids false = refl
@@ -46,7 +46,7 @@ outside_if d p ids false = refl
 outside_fits : (s : Scene) (m : Motion) (p : Pointer) (w : ℕ) (ids : List ℕ) → sent_ids ids (outside s m p w) ≡ Some ids
 outside_fits s m p w ids = outside_if m.device p ids (is_first m.action && s.able w && is_watcher_at s.windows (s.reach m.device) p.at.x p.at.y w)
 
--- neither given nor upped
+-- the pointer is neither given nor goes up
 otherwise_fits : (s : Scene) (m : Motion) (p : Pointer) (w : ℕ) (b l : ℕ → Bool) (down next : List ℕ) → Shape s m p b l down next
     → (l p.id && not (b p.id)) ≡ false
     → sent_ids (filter b down)

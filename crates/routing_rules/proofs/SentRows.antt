@@ -10,7 +10,7 @@ use Rattle.routing_rules.specs.Outgoing.{listing, index_in, opening, closing, mo
 use Rattle.routing_rules.specs.Fits.{sent_ids}
 use Rattle.routing_rules.proofs.Listings.{has_id, Apart, Removes_one, index-listing, listing_same, listing-less, length-listing_le, length-ids_of, has_id-listing, apart-listing, same_ids_refl}
 
--- what is allowed comes
+-- a message that is allowed may come
 pub comes : {X : Type 0} (b : Bool) (x : X) → b ≡ true → allowed b x ≡ Some x
 comes b x e = rw e refl
 
@@ -55,19 +55,19 @@ closing_fits d i false has (p ∷ []) e lt =
 closing_fits d i true has (p ∷ q ∷ ps) e lt = up_more (ids_of (p ∷ q ∷ ps)) has (index_in i (p ∷ q ∷ ps)) flag_canceled e lt (omega arith) refl
 closing_fits d i false has (p ∷ q ∷ ps) e lt = up_more (ids_of (p ∷ q ∷ ps)) has (index_in i (p ∷ q ∷ ps)) 0 e lt (omega arith) refl
 
--- what a window holds moves
+-- the pointers that a window holds move
 pub moves_fit : (d : ℕ) (ps : List Pointer) → sent_ids (ids_of ps) (moves d ps) ≡ Some (ids_of ps)
 moves_fit d [] = refl
 moves_fit d (p ∷ ps) =
     ap (option_and_then (λ next. sent_ids next [])) (comes _ (ids_of (p ∷ ps)) (and_from _ _ (same_ids_refl (ids_of (p ∷ ps))) refl))
 
--- the first of two lists that has something fits where each does, the second from what is left where the first has nothing
+-- the first non-empty list of two fits if each fits, the second from what is left if the first is empty
 pub or_else_fits : (ids next : List ℕ) (xs ys : List Motion) → sent_ids ids xs ≡ Some next → (ids ≡ next → sent_ids ids ys ≡ Some next)
     → sent_ids ids (or_else xs ys) ≡ Some next
 or_else_fits ids next [] ys e f = f (cc)
 or_else_fits ids next (x ∷ xs) ys e f = e
 
--- What is lost of a set on the way to a smaller one: the larger set is the smaller one with what is lost, no two of which are one.
+-- What a set loses on the way to a smaller one: the larger set is the smaller set with the lost ids, which all differ.
 pub record IsLost (ps lost : List Pointer) (h l : ℕ → Bool) : Type 0 where
   pub splits : (j : ℕ) → has_id j ps ≡ true → h j ≡ (l j || has_id j lost)
   pub disjoint : (j : ℕ) → has_id j lost ≡ true → l j ≡ false

@@ -1,4 +1,4 @@
--- Since when a window holds something: one step, and the number that tells it.
+-- Since when a window holds something: one step, and the number that records it.
 use Rattle.std.proofs.Common.{ℕ, false, not, IsTrue, ◌≡◌, ◌↔◌, ◌⊎◌, inl, inr, List, [], ◌∷◌, ◌++◌, length, refl, sym, ap, ◌∙◌, subst₂}
 use Rattle.std.proofs.lemmas.Bool.{and_parts, and_from, not-true, cases_Bool, both_ways}
 use Rattle.routing_rules.specs.Pairs.{has_any}
@@ -25,7 +25,7 @@ begins_is m before w d = (
 same_begins : (m m' : Mark) (before before' : List Mark) (w d : ℕ) → m ≡ m' → before ≡ before' → Begins m before w d → Begins m' before' w d
 same_begins m m' before before' w d p q b = subst₂ (λ x xs. Begins x xs w d) p q b
 
--- one step, by where the place is at which it began
+-- one step, by the index of the step at which it began
 since_step_at : (m : Mark) (before : List Mark) (w d n : ℕ) (later : List Mark) (mark : Mark) (rest : List Mark)
     → m ∷ before ≡ later ++ mark ∷ rest → Begins mark rest w d → length rest ≡ n → NoneBegins later (mark ∷ rest) w d
     → (Begins m before w d × (length before ≡ n)) ⊎ ((¬ Begins m before w d) × IsSince before w d n)

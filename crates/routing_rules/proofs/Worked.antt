@@ -30,8 +30,8 @@ cancelled action index ps = record { device = 1; action = action; index = index;
 abbrev pub pair : ℕ → ℕ → Pair
 pair w i = record { window = w; device = 1; id = i }
 
--- a scene in which all channels are able, nobody pilfers, and of two windows that hold something the one with the lesser
--- number began first
+-- a scene in which all channels are able, no window pilfers, and of two windows that hold something the one with the
+-- lower number began first
 abbrev pub scene : List Window → List Pair → List Pointer → Scene
 scene windows qs last =
     scene_of windows (λ d w. true) (λ w. true) qs (λ v w d. has_any qs v d && has_any qs w d && nat_lt v w) (λ w d. false) (λ d. last)

@@ -13,7 +13,7 @@ use Rattle.routing_rules.specs.Scene.{Scene, shows, which}
 abbrev pub is_holder : Scene → ℕ → Window → Bool
 is_holder s d v = not (is_spy v) && s.any v.channel d
 
--- of the best so far and a window behind it, the one that began first; where neither did, the one in front
+-- of the best window so far and one behind it, the one that began first; if neither did, the one in front
 abbrev pub sooner : Scene → ℕ → Option ℕ → ℕ → Option ℕ
 sooner s d None w = Some w
 sooner s d (Some v) w = Some (if s.earlier w v d then w else v)
@@ -22,12 +22,10 @@ sooner s d (Some v) w = Some (if s.earlier w v d then w else v)
 abbrev pub earliest : Scene → ℕ → List ℕ → Option ℕ
 earliest s d ws = fold (sooner s d) None ws
 
--- The choice, as a table: of the earliest holder, the earliest holder that prevents splitting, and the touched window with
--- whether that is on its own. Each row has its name.
--- First: nobody holds anything: the touched window, if there is one.
--- Unsplit: some holder prevents splitting: the earliest such holder.
--- Nothing: nothing is touched: the earliest holder.
--- Whole: the touched window is on its own: the earliest holder. Split: else the touched window.
+-- The choice, as a table: of the earliest holder, the earliest holder that prevents splitting, and the touched window
+-- and whether that is on its own. First: no window holds anything: the touched window, if there is one. Unsplit: some
+-- holder prevents splitting: the earliest such holder. Nothing: nothing is touched: the earliest holder. Whole: the
+-- touched window is on its own: the earliest holder. Split: else the touched window.
 abbrev pub choose : Option ℕ → Option ℕ → Option ℕ → Bool → Choice
 choose None whole touched alone = record { window = touched; row = First }
 choose (Some first) (Some whole) touched alone = record { window = Some whole; row = Unsplit }
@@ -62,7 +60,7 @@ abbrev pub is_candidate : Scene → ℕ → Pixel → Option ℕ → ℕ → Boo
 is_candidate s d at None w = is_spy_at s.windows (s.reach d) at.x at.y w
 is_candidate s d at (Some c) w = w == c || is_spy_at s.windows (s.reach d) at.x at.y w
 
--- a target is a candidate that is pilfering the device, and where none is, every candidate
+-- a target is a candidate that is pilfering the device, or any candidate if none is
 abbrev pub is_target : Scene → ℕ → (ℕ → Bool) → ℕ → Bool
 is_target s d candidate w =
     candidate w && (s.pilfering w d || not (list_any (λ v. candidate v.channel && s.pilfering v.channel d) s.windows))

@@ -1,4 +1,4 @@
--- How what a window is told of a device fits what it was sent before.
+-- How what a window is sent for a device fits what it was sent before.
 use Rattle.std.specs.Prelude.{ℕ, Bool, true, false, ◌==◌, ◌≡◌, List, [], ◌∷◌, length, filter, Option, Some, None, if◌then◌else◌}
 use Rattle.std.specs.List.{list_any}
 use Rattle.std.specs.Option.{option_and_then}
@@ -9,19 +9,19 @@ use Rattle.input_types.specs.Gestures.{after_motion, ids_of}
 use Rattle.input_types.specs.Pointers.{IsRising}
 use Rattle.routing_rules.specs.Scene.{Scene, Step, Moves, Resets, Removes}
 
--- the ids of a device that a window knows to be down after it is sent these motions, where each of them may come
+-- the ids of a device that a window knows to be down after these motions; None unless each of them may come
 abbrev pub sent_ids : List ℕ → List Motion → Option (List ℕ)
 sent_ids ids [] = Some ids
 sent_ids ids (m ∷ ms) = option_and_then (λ next. sent_ids next ms) (after_motion ids m)
 
--- the ids that are down on a device after a step, where its motion may come then
+-- the ids that are down on a device after a step; None unless its motion may come
 abbrev pub down_after : Step → ℕ → List ℕ → Option (List ℕ)
 down_after (Moves m) d down =
     if m.device == d then (if is_of_device m.action (length m.pointers) then after_motion down m else None) else Some down
 down_after (Resets e) d down = if e == d then Some [] else Some down
 down_after e d down = Some down
 
--- the pointers of a step's motion have rising ids
+-- the ids of the pointers of a step's motion rise
 abbrev pub Rises : Step → Type 0
 Rises (Moves m) = IsRising m.pointers
 Rises e = Unit {0}

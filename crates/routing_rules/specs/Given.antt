@@ -11,7 +11,7 @@ use Rattle.routing_rules.specs.Scene.{Scene, Step, Moves, Resets, Pilfers, Shows
 use Rattle.routing_rules.specs.Choice.{takers}
 use Rattle.routing_rules.specs.Slip.{Slip, slip}
 
--- the pointer that goes down or up with a motion; of a move it is the first one
+-- the pointer that goes down or up with a motion; for a move, the first one
 abbrev pub changed : Motion → Option Pointer
 changed m = slice_get m.pointers m.index
 
@@ -29,14 +29,14 @@ abbrev pub slips_out : ℕ → ℕ → Option Slip → Taking
 slips_out d i None = Nothing
 slips_out d i (Some x) = Slipped x.from d i
 
--- what a motion gives of its changed pointer: a down to its takers, and a move where it slips
+-- what a motion gives of its changed pointer: a down to its takers, and a move if it slips
 abbrev pub given_by : Scene → Motion → MotionAction → Option Pointer → List Pair
 given_by s m Down (Some p) = pairs m.device p.id (takers s m.device p.at)
 given_by s m PointerDown (Some p) = pairs m.device p.id (takers s m.device p.at)
 given_by s m Move (Some p) = slips_in m.device p.id (slip s m)
 given_by s m _ _ = []
 
--- what it takes of it: an up takes it from all, also where a device cancels its last pointer, and a move where it slips
+-- what it takes of it: an up takes it from all, even if a device cancels its last pointer, and a move if it slips
 abbrev pub taken_by : Scene → Motion → MotionAction → Option Pointer → Taking
 taken_by s m Up (Some p) = Lifted m.device p.id
 taken_by s m PointerUp (Some p) = Lifted m.device p.id
@@ -44,13 +44,14 @@ taken_by s m Cancel (Some p) = Lifted m.device p.id
 taken_by s m Move (Some p) = slips_out m.device p.id (slip s m)
 taken_by s m _ _ = Nothing
 
--- what a step gives to windows: only motions give
+-- what a step gives to windows; only motions give anything
 abbrev pub given : Scene → Step → List Pair
 given s (Moves m) = given_by s m m.action (changed m)
 given s _ = []
 
--- what a step takes from windows: a reset all of its device; a pilfer what the spy holds from all others; a snapshot all
--- from windows that do not stay; what mutes or removes a window all from it
+-- what a step takes from windows: a reset takes everything of its device; a pilfer takes what the spy holds from all
+-- other windows; a snapshot takes everything from windows that do not stay; a step that mutes or removes a window
+-- takes everything from it
 abbrev pub taken : Scene → Step → Taking
 taken s (Moves m) = taken_by s m m.action (changed m)
 taken s (Resets d) = Emptied d

@@ -1,4 +1,4 @@
--- What steps leave behind, newest first: who holds what after them, since when, and who is pilfering.
+-- Marks that steps leave, newest first, and what follows from them: who holds what, since when, and who is pilfering.
 use Rattle.std.specs.Prelude.{ℕ, Bool, false, not, ◌&&◌, ◌||◌, if◌then◌else◌, List, [], ◌∷◌, ◌++◌, length, filter}
 use Rattle.routing_rules.specs.Pairs.{Pair, has_any}
 use Rattle.routing_rules.specs.Taking.{Taking, takes, pilfers}
@@ -8,7 +8,7 @@ pub record Mark : Type 0 where
   pub given : List Pair
   pub taken : Taking
 
--- the pairs that a step leaves of those that were there
+-- the pairs that remain after a step
 abbrev pub kept : Taking → List Pair → List Pair
 kept t qs = filter (λ q. not (takes t q.window q.device q.id)) qs
 
@@ -17,12 +17,12 @@ abbrev pub held : List Mark → List Pair
 held [] = []
 held (m ∷ before) = kept m.taken (held before) ++ m.given
 
--- with this step window w goes from holding no pointer of device d to holding one
+-- at this step window w goes from holding no pointer of device d to holding one
 abbrev pub begins : Mark → List Mark → ℕ → ℕ → Bool
 begins m before w d = has_any (held (m ∷ before)) w d && not (has_any (held before) w d)
 
--- the last place at which window w went from holding no pointer of device d to holding one, and 0 without one;
--- the place of a step is how many steps are before it
+-- the index of the last step at which window w went from holding no pointer of device d to holding one, or 0 if there
+-- is none; the index of a step is the number of steps before it
 abbrev pub since : List Mark → ℕ → ℕ → ℕ
 since [] w d = 0
 since (m ∷ before) w d = if begins m before w d then length before else since before w d

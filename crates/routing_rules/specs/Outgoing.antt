@@ -1,4 +1,4 @@
--- What a window is told of a device at a step.
+-- What a window is sent for a device at a step.
 use Rattle.std.specs.Prelude.{ℕ, Bool, true, false, not, ◌==◌, ◌&&◌, ◌||◌, suc, if◌then◌else◌, List, [], ◌∷◌, filter, flat_map, Option, Some, None}
 use Rattle.input_types.specs.declared.motion.Motion.{Motion}
 use Rattle.input_types.specs.declared.motion.MotionAction.{MotionAction}
@@ -20,52 +20,52 @@ after s m w d i = has m.given w d i || s.holds w d i && not (takes m.taken w d i
 abbrev pub listing : (ℕ → Bool) → List Pointer → List Pointer
 listing set ps = filter (λ p. set p.id) ps
 
--- the place of an id among pointers
+-- the index of an id among pointers
 abbrev pub index_in : ℕ → List Pointer → ℕ
 index_in i [] = 0
 index_in i (p ∷ ps) = if p.id == i then 0 else suc (index_in i ps)
 
--- a motion of a device without flags and without an index
+-- a motion of a device without flags or index
 abbrev pub plain : ℕ → MotionAction → List Pointer → Motion
 plain d action ps = record { device = d; action = action; index = 0; flags = 0; pointers = ps }
 
--- the pointer goes down in a window that then has these: its first one, or a further one
+-- the pointer goes down in a window that then holds these: a Down if it is the first one, a PointerDown if not
 abbrev pub opening : ℕ → ℕ → List Pointer → Motion
 opening d i (p ∷ []) = plain d Down (p ∷ [])
 opening d i ps = record { device = d; action = PointerDown; index = index_in i ps; flags = 0; pointers = ps }
 
--- the pointer goes up in a window that had these: its last one, or one of several; a cancelled up of the last one is a Cancel, and
--- one of several has the flag
+-- the pointer goes up in a window that held these: the last one, or one of several; a cancelled up is a Cancel for
+-- the last one, and carries the flag for one of several
 abbrev pub closing : ℕ → ℕ → Bool → List Pointer → Motion
 closing d i cancelled (p ∷ []) = plain d (if cancelled then Cancel else Up) (p ∷ [])
 closing d i cancelled ps =
     record { device = d; action = PointerUp; index = index_in i ps; flags = if cancelled then flag_canceled else 0; pointers = ps }
 
--- lost pointers, one cancelled up after the other, each listing what is still held with it
+-- the cancelled ups of lost pointers, one after the other, each listing what is still held with it
 abbrev pub cancelled_ups : ℕ → List Pointer → List Pointer → List Motion
 cancelled_ups d ps [] = []
 cancelled_ups d ps (p ∷ lost) =
     record { device = d; action = PointerUp; index = index_in p.id ps; flags = flag_canceled; pointers = ps }
     ∷ cancelled_ups d (filter (λ q. not (q.id == p.id)) ps) lost
 
--- pointers that are taken: of the ones that a window had, with what is lost of them and what it keeps,
--- nothing where nothing is lost, one cancel where nothing is kept, and else a cancelled up for each lost one
+-- what a window is sent if pointers are taken from it: nothing if none is lost, one Cancel if none is kept, and
+-- otherwise a cancelled up for each lost one
 abbrev pub cancels_of : ℕ → (had kept lost : List Pointer) → List Motion
 cancels_of d had kept [] = []
 cancels_of d had [] (p ∷ lost) = plain d Cancel had ∷ []
 cancels_of d had (q ∷ kept) (p ∷ lost) = cancelled_ups d had (p ∷ lost)
 
--- the window held the ids `before` and holds the ids `later`, its pointers being at their last places
+-- the window held the ids `before` and holds the ids `later`; its pointers are at their last positions
 abbrev pub cancels : ℕ → List Pointer → (before later : ℕ → Bool) → List Motion
 cancels d last before later =
     cancels_of d (listing before last) (listing later last) (listing (λ i. before i && not (later i)) last)
 
--- a motion that moves what the window holds, where it holds something
+-- a Move of what the window holds, if it holds something
 abbrev pub moves : ℕ → List Pointer → List Motion
 moves d [] = []
 moves d (p ∷ ps) = plain d Move (p ∷ ps) ∷ []
 
--- the motion is one with which a pointer goes up, or is cancelled
+-- a pointer goes up or is cancelled with this motion
 abbrev pub is_up : MotionAction → Bool
 is_up Up = true
 is_up PointerUp = true
@@ -77,30 +77,31 @@ abbrev pub is_cancelled : MotionAction → ℕ → Bool
 is_cancelled Cancel flags = true
 is_cancelled _ flags = flags == flag_canceled
 
--- the motion is one with which a pointer goes down
+-- a pointer goes down with this motion
 abbrev pub is_down : MotionAction → Bool
 is_down Down = true
 is_down PointerDown = true
 is_down _ = false
 
--- the motion is one that begins a gesture
+-- the motion begins a gesture
 abbrev pub is_first : MotionAction → Bool
 is_first Down = true
 is_first _ = false
 
--- what a window that watches for touches outside of it is told of a gesture that begins
+-- what a window that watches for touches outside of it is sent when a gesture begins
 abbrev pub outside : Scene → Motion → Pointer → ℕ → List Motion
 outside s m p w =
     if is_first m.action && s.able w && is_watcher_at s.windows (s.reach m.device) p.at.x p.at.y w then plain m.device Outside (p ∷ []) ∷ [] else []
 
--- the first of two lists that has something
+-- the first non-empty list of two
 abbrev pub or_else : List Motion → List Motion → List Motion
 or_else [] ys = ys
 or_else (x ∷ xs) ys = x ∷ xs
 
--- What window w is told of a motion of its device, with the ids that it holds before and later. The first row that fits:
--- the pointer is given to it: it goes down; an up is of a pointer that it held: it goes up, cancelled where that is; pointers are
--- taken from it otherwise: they are cancelled; it holds something: that moves; it watches: the touch was outside.
+-- What window w is sent for a motion of its device, from the ids that it holds before and after. The first row that
+-- fits applies. The pointer is given to it: a down. A pointer that it held goes up: an up, cancelled if the motion's
+-- is. Pointers are taken from it otherwise: they are cancelled. It holds something: a move. It watches: a touch
+-- outside.
 abbrev pub sent_motion : Scene → Motion → Option Pointer → ℕ → (before later : ℕ → Bool) → List Motion
 sent_motion s m None w before later = or_else (cancels m.device (s.last m.device) before later) (moves m.device (listing later m.pointers))
 sent_motion s m (Some p) w before later =
@@ -109,15 +110,16 @@ sent_motion s m (Some p) w before later =
     else or_else (cancels m.device (s.last m.device) before later)
     (or_else (moves m.device (listing later m.pointers)) (outside s m p w))
 
--- What window w is told of device d at a step with this mark: of a motion of the device by those rows, and nothing of one of
--- another device; nobody is sent anything where a channel is removed; and else what is taken is cancelled.
+-- What window w is sent for device d at a step with this mark. A motion of the device follows those rows, and a
+-- motion of another device sends nothing. Removing a channel sends nothing to anyone. At any other step, what is
+-- taken is cancelled.
 abbrev pub sent_with : Scene → Step → Mark → ℕ → ℕ → List Motion
 sent_with s (Moves m) k w d = if m.device == d then sent_motion s m (changed m) w (s.holds w d) (after s k w d) else []
 sent_with s (Removes v) k w d = []
 sent_with s NoOp k w d = []
 sent_with s _ k w d = cancels d (s.last d) (s.holds w d) (after s k w d)
 
--- what window w is told of device d at a step
+-- what window w is sent for device d at a step
 abbrev pub outgoing : Scene → Step → ℕ → ℕ → List Motion
 outgoing s e w d = sent_with s e (mark s e) w d
 

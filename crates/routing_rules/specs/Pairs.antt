@@ -8,10 +8,10 @@ pub record Pair : Type 0 where
   pub device : ℕ
   pub id : ℕ
 
--- the list has the pair of this window, device and id
+-- the list contains the pair of this window, device and id
 abbrev pub has : List Pair → ℕ → ℕ → ℕ → Bool
 has qs w d i = list_any (λ q. q.window == w && q.device == d && q.id == i) qs
 
--- the list has some pair of this window and device
+-- the list contains some pair of this window and device
 abbrev pub has_any : List Pair → ℕ → ℕ → Bool
 has_any qs w d = list_any (λ q. q.window == w && q.device == d) qs

@@ -1,10 +1,10 @@
--- The same three words as facts about places: some place does it, and no later place undoes it.
+-- The same three notions as facts about indices: a step does it, and no later step undoes it.
 use Rattle.std.specs.Prelude.{ℕ, false, IsTrue, ◌≡◌, List, [], ◌∷◌, ◌++◌, length}
 use Rattle.routing_rules.specs.Pairs.{has}
 use Rattle.routing_rules.specs.Taking.{takes, pilfers}
 use Rattle.routing_rules.specs.Marks.{Mark}
 
--- a place among the marks, newest first: the later ones, the mark of the place, and those before it
+-- an index among the marks, newest first: the later ones, the mark at the index, and those before it
 pub record Place (ms : List Mark) : Type 0 where
   pub later : List Mark
   pub mark : Mark
@@ -16,7 +16,7 @@ abbrev pub NoneTakes : List Mark → ℕ → ℕ → ℕ → Type 0
 NoneTakes [] w d i = Unit {0}
 NoneTakes (m ∷ ms) w d i = (takes m.taken w d i ≡ false) × NoneTakes ms w d i
 
--- window w holds pointer i of device d: some place gives it and no later place takes it
+-- window w holds pointer i of device d: some step gives it and no later step takes it
 abbrev pub Holds : List Mark → ℕ → ℕ → ℕ → Type 0
 Holds ms w d i = (at : Place ms) × IsTrue (has at.mark.given w d i) × NoneTakes at.later w d i
 
@@ -24,7 +24,7 @@ Holds ms w d i = (at : Place ms) × IsTrue (has at.mark.given w d i) × NoneTake
 abbrev pub HoldsAny : List Mark → ℕ → ℕ → Type 0
 HoldsAny ms w d = (i : ℕ) × Holds ms w d i
 
--- with the mark m, window w goes from holding no pointer of device d to holding one
+-- at the mark m, window w goes from holding no pointer of device d to holding one
 abbrev pub Begins : Mark → List Mark → ℕ → ℕ → Type 0
 Begins m before w d = (¬ HoldsAny before w d) × HoldsAny (m ∷ before) w d
 
@@ -33,7 +33,7 @@ abbrev pub NoneBegins : List Mark → List Mark → ℕ → ℕ → Type 0
 NoneBegins [] before w d = Unit {0}
 NoneBegins (m ∷ later) before w d = (¬ Begins m (later ++ before) w d) × NoneBegins later before w d
 
--- n is the last place at which window w went from holding no pointer of device d to holding one
+-- n is the index of the last step at which window w went from holding no pointer of device d to holding one
 abbrev pub IsSince : List Mark → ℕ → ℕ → ℕ → Type 0
 IsSince ms w d n =
     (at : Place ms) × Begins at.mark at.before w d × (length at.before ≡ n) × NoneBegins at.later (at.mark ∷ at.before) w d
@@ -43,7 +43,7 @@ abbrev pub HoldsThroughout : List Mark → List Mark → ℕ → ℕ → Type 0
 HoldsThroughout [] before w d = HoldsAny before w d
 HoldsThroughout (m ∷ later) before w d = HoldsAny (m ∷ (later ++ before)) w d × HoldsThroughout later before w d
 
--- window w is pilfering device d: at some place it pilfered it, and it has held a pointer of it after each place since
+-- window w is pilfering device d: it pilfered it at some step, and has held a pointer of it after each step since
 abbrev pub IsPilfering : List Mark → ℕ → ℕ → Type 0
 IsPilfering ms w d =
     (at : Place ms) × IsTrue (pilfers at.mark.taken w d) × HoldsThroughout at.later (at.mark ∷ at.before) w d

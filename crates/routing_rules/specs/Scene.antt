@@ -1,4 +1,4 @@
--- What the rules of routing see of the moment before a step, and what a step is to them.
+-- What the routing rules see before a step, and what a step is to them.
 use Rattle.std.specs.Prelude.{ℕ, Bool, not, ◌==◌, ◌&&◌, List, map, filter}
 use Rattle.std.specs.List.{list_any}
 use Rattle.input_types.specs.declared.motion.Motion.{Motion}
@@ -7,13 +7,14 @@ use Rattle.window_snapshot.specs.declared.window.Window.{Window}
 use Rattle.window_snapshot.specs.Named.{is_named, is_shown_on}
 use Rattle.routing_rules.specs.Pairs.{Pair, has, has_any}
 
--- The moment before a step. A window goes by the number of its channel, and all places are pixels of the display of the device.
+-- The state before a step. A window is named by the number of its channel, and all positions are display pixels of
+-- the device.
 pub record Scene : Type 0 where
   -- the windows of the current snapshot, front to back
   pub windows : List Window
   -- a motion of the device can reach the channel: it is live, and its window is on the display of the device
   pub reach : (device channel : ℕ) → Bool
-  -- the channel is able to take input: live, and not unresponsive
+  -- the channel can take input: it is live, and not unresponsive
   pub able : ℕ → Bool
   -- the window holds the pointer of the device with this id
   pub holds : ℕ → ℕ → ℕ → Bool
@@ -23,16 +24,16 @@ pub record Scene : Type 0 where
   pub earlier : (v w device : ℕ) → Bool
   -- the window is pilfering the device
   pub pilfering : ℕ → ℕ → Bool
-  -- the pointers of the device at the places where its last motion listed them
+  -- the pointers of the device at the positions that its last motion listed
   pub last : ℕ → List Pointer
 
 -- what a step can be to the rules
 pub data Step : Type 0 where
   -- a motion of a device, which fits those before it
   Moves : Motion → Step
-  -- a device begins anew
+  -- a device is reset
   Resets : (device : ℕ) → Step
-  -- a window that is a spy, and holds something of the device, pilfers it
+  -- a spy that holds something of the device pilfers it
   Pilfers : (window device : ℕ) → Step
   -- a new snapshot, in which these windows stay: it names them, and none of them on another display than before
   Shows : (stays : ℕ → Bool) → Step
@@ -43,15 +44,15 @@ pub data Step : Type 0 where
   -- anything else
   NoOp : Step
 
--- a window is missed at the next snapshot where that does not have it on the display on which the one before has it
+-- a window is missing from the next snapshot if that does not show it on the display on which the one before does
 abbrev pub is_missed : (before next : List Window) → ℕ → Bool
 is_missed before next w = list_any (λ v. v.channel == w && not (is_shown_on next v.display w)) before
 
--- from one snapshot to the next a window stays where the next one names it, and not on another display than before
+-- a window stays from one snapshot to the next if the next one names it, on no other display than before
 abbrev pub stays : (before next : List Window) → ℕ → Bool
 stays before next w = is_named next w && not (is_missed before next w)
 
--- the current snapshot has a window of this channel that passes the test
+-- a window of this channel in the current snapshot passes the test
 abbrev pub shows : Scene → (Window → Bool) → ℕ → Bool
 shows s test w = list_any (λ v. v.channel == w && test v) s.windows
 
@@ -59,7 +60,7 @@ shows s test w = list_any (λ v. v.channel == w && test v) s.windows
 abbrev pub which : Scene → (Window → Bool) → List ℕ
 which s test = map (λ v. v.channel) (filter test s.windows)
 
--- the scene of these windows and channels where windows hold just these pairs
+-- the scene of these windows and channels in which windows hold exactly these pairs
 abbrev pub scene_of : List Window → (ℕ → ℕ → Bool) → (ℕ → Bool) → List Pair → (ℕ → ℕ → ℕ → Bool) → (ℕ → ℕ → Bool) → (ℕ → List Pointer) → Scene
 scene_of windows reach able qs earlier pilfering last =
     record {

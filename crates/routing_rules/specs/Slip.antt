@@ -8,12 +8,12 @@ use Rattle.window_snapshot.specs.Window.{is_spy, is_slippery}
 use Rattle.window_snapshot.specs.Hits.{touched}
 use Rattle.routing_rules.specs.Scene.{Scene, shows, which}
 
--- from which window to which one a pointer slips
+-- the window from which a pointer slips, and the one to which it slips
 pub record Slip : Type 0 where
   pub from : ℕ
   pub to : ℕ
 
--- the only element of a list that has one alone
+-- the only element of a list of one
 abbrev pub only : {X : Type 0} → List X → Option X
 only [] = None
 only (x ∷ []) = Some x
@@ -23,12 +23,13 @@ only (x ∷ y ∷ xs) = None
 abbrev pub holders_of : Scene → ℕ → ℕ → List ℕ
 holders_of s d i = which s (λ v. not (is_spy v) && s.holds v.channel d i)
 
--- from the one holder to the touched window: where the holder is slippery and the touched window is another, able one
+-- a pointer slips from its only holder to the touched window if the holder is slippery and the touched window is
+-- another one that is able
 abbrev pub slips_to : Scene → Option ℕ → Option ℕ → Option Slip
 slips_to s (Some v) (Some t) = if shows s is_slippery v && not (t == v) && s.able t then Some (record { from = v; to = t }) else None
 slips_to s _ _ = None
 
--- a motion lets a pointer slip where it is a move that lists it alone
+-- a motion lets a pointer slip if it is a move that lists only that pointer
 abbrev pub slip_of : Scene → ℕ → MotionAction → Option Pointer → Option Slip
 slip_of s d Move (Some p) = slips_to s (only (holders_of s d p.id)) (touched s.windows (s.reach d) p.at.x p.at.y)
 slip_of s d _ _ = None

@@ -7,12 +7,12 @@ use Rattle.window_snapshot.specs.Hits.{is_watcher_at}
 use Rattle.routing_rules.specs.Scene.{Scene}
 use Rattle.routing_rules.specs.Outgoing.{plain, is_first}
 
--- the window watches for touches outside of it, where this pointer begins a gesture
+-- the window watches for touches outside of it, and this pointer begins a gesture
 abbrev pub is_watching : Scene → Motion → Option Pointer → ℕ → Bool
 is_watching s m None w = false
 is_watching s m (Some p) w = is_first m.action && s.able w && is_watcher_at s.windows (s.reach m.device) p.at.x p.at.y w
 
--- a window is told that a pointer is outside, where there is one
+-- a window is sent a touch outside, if there is such a pointer
 abbrev pub outside_of : ℕ → Option Pointer → List Motion
 outside_of d None = []
 outside_of d (Some p) = plain d Outside (p ∷ []) ∷ []

@@ -1,7 +1,7 @@
 //! The window that is chosen for a pointer that goes down, and why.
 
 /// The row of the table of the choice by which a window is chosen. A holder is a window without SPY that holds some
-/// pointer of the device; the touched window is the one under the place.
+/// pointer of the device; the touched window is the one under the pointer.
 #[derive(Clone, Copy, Debug, PartialEq, Eq)]
 pub enum Row {
     /// There is no holder: the touched window is chosen, if there is one.
@@ -16,8 +16,8 @@ pub enum Row {
     Split,
 }
 
-/// The window that is chosen, by its channel, and the row by which it is. There is none only in the row `First`, where
-/// nothing is touched.
+/// The channel of the chosen window, and the row that chose it. It is None only in the row `First`, if nothing is
+/// touched.
 #[derive(Clone, Copy, Debug, PartialEq, Eq)]
 pub struct Choice {
     pub window: Option<u32>,

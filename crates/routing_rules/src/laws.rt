@@ -1,9 +1,9 @@
-//! What is proved of who holds what, and of what windows are sent. Each function has the laws as its clauses, and does
-//! nothing.
+//! Proved facts about who holds what, and about what windows are sent. Each function has the laws as its clauses, and
+//! does nothing.
 ghost use Rattle.routing_rules.specs.Laws.{HoldsStep, HeldStep, HeldLaw, HeldAnyLaw, SinceStep, SinceLaw, PilferingStep, PilferingLaw, SentLaw, QuietLaw, FitsStep};
 
-/// Who holds a pointer: some step gave it, and no later one took it. The list of pairs that is computed step by step
-/// tells exactly this.
+/// Who holds a pointer: some step gave it, and no later one took it. The list of pairs, computed step by step, says
+/// exactly this.
 pub fn holding()
     ensures step { HoldsStep }
     ensures list_step { HeldStep }
@@ -11,8 +11,8 @@ pub fn holding()
     ensures any { HeldAnyLaw }
 {}
 
-/// Since when a window holds something of a device: since the last step with which it went from nothing to something.
-/// The number that is computed is the place of that step.
+/// Since when a window holds something of a device: since the last step at which it went from nothing to something.
+/// The computed number is the index of that step.
 pub fn beginning()
     ensures step { SinceStep }
     ensures number { SinceLaw }
@@ -24,9 +24,9 @@ pub fn pilfering()
     ensures test { PilferingLaw }
 {}
 
-/// What a window is sent at a step may come after what it was sent before, by the rule of streams; it then knows to be
-/// down just what it holds. So each motion lists what the window holds, and its index is right. A step that is no
-/// motion of a device and takes nothing of it tells nothing of it.
+/// What a window is sent at a step may follow what it was sent before, by the rule of streams, and the window then
+/// knows exactly what it holds. So each motion lists what the window holds, and its index is right. A step that is no
+/// motion of a device and takes nothing of it sends nothing for it.
 pub fn sending()
     ensures fits { SentLaw }
     ensures quiet { QuietLaw }

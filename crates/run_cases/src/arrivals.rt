@@ -2,7 +2,7 @@
 use replay_actors::Gate;
 use std::sync::atomic::{AtomicU64, Ordering};
 
-/// How often each lane has arrived. It holds nobody.
+/// How often each lane has arrived. It holds no lane.
 #[derive(Drop)]
 pub(crate) struct Arrivals {
     reader: AtomicU64,
@@ -24,7 +24,7 @@ impl Arrivals {
         }
     }
 
-    /// How often each lane has arrived, in the order of their seats. None where one came at another turn than its next,
+    /// How often each lane has arrived, in the order of their seats. None if one came at another turn than its next,
     /// or where another lane came.
     pub(crate) fn counted(&self) -> Option<[u64; 5]> {
         if self.astray.load(Ordering::SeqCst) != 0 {

@@ -79,7 +79,7 @@ fn add_each<R: Threads + Wait + Sync>(
     Ok(())
 }
 
-/// Adds a tap, by reads of any length, and what stands behind it.
+/// Adds a tap, by reads of any length, and what follows it.
 fn add_taps<R: Threads + Wait + Sync>(rt: &R, text: &mut Vec<u8>) -> io::Result<()> {
     let tap = outgoing(
         "a tap",

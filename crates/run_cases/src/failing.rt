@@ -22,7 +22,7 @@ fn is_front(part: &[u8], whole: &[u8], taken: usize, number: u64) -> bool
     whole.starts_with(part) && len % taken == 0 && 0 < number && (len / taken) as u64 == number - 1
 }
 
-/// Whether a run with a fault came to what it is to come to, where one without it comes to `whole`.
+/// Whether a run with a fault has the required result, if one without it gives `whole`.
 fn is_wanted(whole: &Ran, taken: usize, fault: Fault, ran: &Ran) -> bool
     requires { 0 < taken }
 {
@@ -70,7 +70,7 @@ fn add_again(text: &mut Vec<u8>, again: u64) -> Result<(), AllocError> {
     add_line(text, line.as_str())
 }
 
-/// Adds a text, of which a line that comes again and again is sent once, and then how often more.
+/// Adds a text, in which a repeated line is printed once, and then how often it is repeated.
 fn add_sent(text: &mut Vec<u8>, outgoing: &[u8]) -> Result<(), AllocError> {
     let mut last: &[u8] = &[];
     let mut again = 0u64;
@@ -129,7 +129,7 @@ fn fail_in_turn<R: Threads + Wait + Sync>(
     Ok(())
 }
 
-/// Adds what a case comes to, and what it comes to where the calls of its kinds fail in turn.
+/// Adds the result of a case, and its results when the calls of its kinds fail in turn.
 pub(crate) fn add_case<R: Threads + Wait + Sync>(
     rt: &R,
     text: &mut Vec<u8>,
@@ -143,7 +143,7 @@ pub(crate) fn add_case<R: Threads + Wait + Sync>(
     Ok(())
 }
 
-/// Adds whether a case comes to the same by reads of at most `piece` bytes.
+/// Adds whether a case has the same result by reads of at most `piece` bytes.
 pub(crate) fn add_pieces<R: Threads + Wait + Sync>(
     rt: &R,
     text: &mut Vec<u8>,
@@ -171,7 +171,7 @@ fn is_twice(both: &[u8], once: &[u8]) -> bool {
     first == once && second == once
 }
 
-/// Adds whether a case comes to the same again where it is run twice over the same files and streams.
+/// Adds whether a case has the same result if it is run twice over the same files and streams.
 pub(crate) fn add_twice<R: Threads + Wait + Sync>(
     rt: &R,
     text: &mut Vec<u8>,

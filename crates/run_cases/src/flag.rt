@@ -38,7 +38,7 @@ impl Flag {
         self.given_up.store(1, Ordering::SeqCst);
     }
 
-    /// Whether the lane has arrived, and nobody who waited for it gave up.
+    /// Whether the lane has arrived, and no lane that waited for it gave up.
     pub(crate) fn held(&self) -> bool {
         self.arrived.load(Ordering::SeqCst) == 1 && self.given_up.load(Ordering::SeqCst) == 0
     }

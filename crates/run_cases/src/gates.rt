@@ -1,4 +1,4 @@
-//! Gates that hold a lane until another has come, and tell whether it was so.
+//! Gates that hold a lane until another has come, and report whether it did.
 //!
 //! Where the script (lane 2) is held at its first call until the reader (lane 0) arrives at its third, the history
 //! begins so, but for the calls of other lanes:
@@ -9,10 +9,10 @@
 //! the script   Windows { now: 0, .. }
 //! ```
 //!
-//! A third call of the reader may stand before or behind that of the script. Where the two lanes meet at their first
+//! A third call of the reader may come before or after that of the script. If the two lanes meet at their first
 //! calls, both have arrived before either call is made, which lanes of one thread never do.
 //!
-//! No wait is endless: one that takes too many turns gives up and lets the lane go on, and the gate tells so.
+//! No wait is endless: one that takes too many turns gives up and lets the lane continue, and the gate reports it.
 use crate::flag::Flag;
 use replay_actors::Gate;
 

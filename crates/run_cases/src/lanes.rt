@@ -1,5 +1,5 @@
-//! Races of lanes that a gate holds at a turn, over a core of their own. What is told of them does not depend on how
-//! the threads are scheduled.
+//! Races of lanes that a gate holds at a turn, over their own core. What is printed does not depend on how the
+//! threads are scheduled.
 //!
 //! That two lanes meet shows that they run beside each other; that one lane is ahead where the other is held shows that
 //! the history is in the order in which the threads made their calls. Args that come when the dispatcher is about to

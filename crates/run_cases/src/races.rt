@@ -55,7 +55,7 @@ fn add_first(text: &mut Vec<u8>, outgoing: &str) -> Result<(), AllocError> {
     Ok(())
 }
 
-/// Adds the lines that tell how many messages each channel was sent.
+/// Adds the lines that say how many messages each channel was sent.
 fn add_ends(text: &mut Vec<u8>, outgoing: &str) -> Result<(), AllocError> {
     for line in outgoing.lines() {
         if line.starts_with("end ") {

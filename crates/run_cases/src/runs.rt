@@ -15,8 +15,8 @@ const WRITES: usize = 512;
 /// Files by their names, each in parts.
 pub(crate) type Files<'a> = &'a [(&'a str, &'a [&'a str])];
 
-/// What is run: the words behind the program's name, the files that there are, and the most bytes that a write takes.
-/// Calls of these kinds fail in turn.
+/// What is run: the words after the program's name, the files, and the most bytes that a write takes. Calls of these
+/// kinds fail in turn.
 #[derive(Clone, Copy)]
 pub(crate) struct Case<'a> {
     pub name: &'a str,

@@ -26,7 +26,7 @@ do = \"windows\"
 windows = [ { channel = \"main\", frame = [0, 0, 1080, 2400] } ]
 ";
 
-/// A tap as a phone gives it, without the newline behind it.
+/// A tap as a phone reports it, without the newline after it.
 pub(crate) const TAP: &str = "add device 1: /dev/input/event2\r
   name:     \"touch\"\r
 [   12345.100000] /dev/input/event2: 0003 0039 0000002d\r
@@ -38,7 +38,7 @@ pub(crate) const TAP: &str = "add device 1: /dev/input/event2\r
 [   12345.180000] /dev/input/event2: 0001 014a 00000000\r
 [   12345.180000] /dev/input/event2: 0000 0000 00000000";
 
-/// A finger behind the tap, which has no place of its own.
+/// A finger after the tap, without a position of its own.
 pub(crate) const FINGER: &str = "
 [   12346.000000] /dev/input/event2: 0003 0039 0000002f
 [   12346.000000] /dev/input/event2: 0000 0000 00000000
@@ -155,7 +155,7 @@ pub(crate) const TWO_DOWNS: &str = "channel 1 main
 end 1 sent 2 received 2 finished 2
 ";
 
-/// Moves between two frames and behind them.
+/// Moves between two frames and after them.
 pub(crate) const MOVES: &str = "channel 1 main
 1 1000 motion 1 DOWN 0@10,20
 2 2000 motion 1 MOVE 0@11,20

@@ -1,4 +1,4 @@
--- The args of a given order are taken.
+-- The args of a given order are accepted.
 use Rattle.std.proofs.Common.{◌≡◌, ℕ, ◌+◌, ◌==◌, Bool, true, false, cond, List, [], ◌∷◌, ◌++◌, reverse, Option, Some, None, refl, sym, ap, ◌∙◌, subst, append_assoc, append-nil}
 use Rattle.std.specs.Prelude.{Result, Ok, Err}
 use Rattle.dispatch_calls.specs.declared.call.Call.{Call}
@@ -35,7 +35,7 @@ others_hand_none l (s ∷ ss) h =
       | false ↦ (h.0, others_hand_none l ss h.1)
     ]
 
--- whatever calls these lines have, none of their args is refused
+-- whatever the calls of these lines are, none of their args is refused
 abbrev TakesAll : List ℕ → List Line → ℕ → List Cooked → List Cooked → List ScriptStep → Type 0
 TakesAll ds lines n front left ss =
     (es : List Effect) (calls : List Call) → Keeps front left (past_of es) → line_calls n left ss lines ≡ Ok calls → NoneRefused (past_of (extend ds es calls))

@@ -1,4 +1,4 @@
--- Calls that hand in nothing refuse nothing, and args that keep the rule of their device are taken.
+-- Calls that hand in nothing refuse nothing, and args that keep the rule of their device are accepted.
 use Rattle.std.proofs.Common.{◌≡◌, ℕ, ◌+◌, ◌==◌, ◌&&◌, not, nat_lt, nat_le, Bool, true, false, cond, is_some, List, [], ◌∷◌, ◌++◌, length, reverse, map, Option, Some, None, refl, sym, ap, ◌∙◌, subst, option_and_then, unwrap_or, arith, append_assoc, length-append, max}
 use Rattle.std.specs.Prelude.{slice_get}
 use Rattle.std.specs.List.{list_any}

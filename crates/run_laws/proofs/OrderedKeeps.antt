@@ -1,4 +1,4 @@
--- The args of the ordered run are taken.
+-- The args of the ordered run are accepted.
 use Rattle.std.proofs.Common.{◌≡◌, ◌⊎◌, ℕ, zero, suc, ◌+◌, ◌-◌, ◌==◌, ◌&&◌, not, nat_lt, nat_le, Bool, true, false, cond, List, [], ◌∷◌, ◌++◌, length, map, filter, flat_map, replicate, Option, Some, None, refl, sym, ap, ◌∙◌, subst, inl, inr, append_assoc}
 use Rattle.std.specs.Prelude.{fold, slice_get}
 use Rattle.dispatch_history.specs.KeySent.{repeat_due}

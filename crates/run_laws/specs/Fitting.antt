@@ -12,7 +12,7 @@ use Rattle.dispatch_history.specs.Plan.{Cooked, ScriptStep}
 abbrev pub KeepRule : List Cooked → Type 0
 KeepRule cs = (d : ℕ) → IsTrue (is_some (device_state d (reverse (map (λ (a : Cooked). a.args) cs))))
 
--- args with their moments, which stand with the newest first, in the order in which they are handed in
+-- args with their moments, newest first, turned into the order in which they are handed in
 abbrev pub handed : List (ℕ × Args) → List Cooked
 handed gs = map (λ (g : ℕ × Args). record { moment = g.0; args = g.1 }) (reverse gs)
 

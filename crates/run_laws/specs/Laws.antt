@@ -1,4 +1,4 @@
--- What is proved of the runs of a plan. Each law is the clause of a function of its own.
+-- Proved facts about the runs of a plan. Each law is the clause of a function of its own.
 use Rattle.std.specs.Prelude.{◌≡◌, ℕ, List, map, reverse, is_some, IsTrue, Ok}
 use Rattle.input_types.specs.declared.message.Args.{Args}
 use Rattle.input_types.specs.DeviceRule.{device_state}
@@ -13,7 +13,8 @@ use Rattle.schedule.specs.Planned.{IsRun, plan_of}
 use Rattle.schedule.specs.Run.{IsWithin, IsTooLong}
 use Rattle.run_laws.specs.Fitting.{KeepRule, HandNone, NoneRefused, handed}
 
--- Where the args of a plan keep the rule of each device, none of them is refused in the ordered run, however far that has come.
+-- If the args of a plan keep the rule of each device, none of them is refused in the ordered run, however far that
+-- has come.
 abbrev pub OrderedTakes : Type 0
 OrderedTakes = (plan : Plan) (es : List Effect) → KeepRule plan.cooked → HandNone plan.steps → Rounds plan es → NoneRefused (past_of es)
 
@@ -31,6 +32,6 @@ HandedKeep = (gs : List (ℕ × Args)) → ((d : ℕ) → IsTrue (is_some (devic
 abbrev pub StepsHandNone : Type 0
 StepsHandNone = (plan : RunPlan) → IsRun plan → HandNone (plan_of plan).steps
 
--- A plan whose ordered run is within the limits has no rounds that are too long: it comes to one of both, never to both.
+-- A plan whose ordered run is within the limits has no rounds that are too long: it is one or the other, never both.
 abbrev pub OneOutcome : Type 0
 OneOutcome = (plan : Plan) (es fs : List Effect) → Ordered plan es → IsWithin es → Rounds plan fs → IsTooLong fs → ⊥

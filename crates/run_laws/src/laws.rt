@@ -2,21 +2,20 @@
 ghost use Rattle.dispatch_history.specs.Laws.{OrderedUnique};
 ghost use Rattle.run_laws.specs.Laws.{GivenTakes, HandedKeep, OneOutcome, OrderedTakes, StepsHandNone};
 
-/// Where the args of a plan keep the rule of each device, none of them is refused in its runs.
+/// If the args of a plan keep the rule of each device, none of them is refused in its runs.
 pub fn taking()
     ensures ordered { OrderedTakes }
     ensures given { GivenTakes }
 {}
 
-/// What makes that so: the rule of devices holds of what their readers give, in the order in which it is handed in, and
+/// This holds because what the readers deliver keeps the rule of devices, in the order in which it is handed in, and
 /// no step of a script hands in args.
 pub fn fitting()
     ensures args { HandedKeep }
     ensures steps { StepsHandNone }
 {}
 
-/// A plan comes to one answer: at most one ordered run, and where that is within the limits no rounds of it are too
-/// long.
+/// A plan has one result: at most one ordered run, and if that is within the limits, no rounds of it are too long.
 pub fn answering()
     ensures run { OrderedUnique }
     ensures outcome { OneOutcome }

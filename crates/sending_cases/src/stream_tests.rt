@@ -101,7 +101,7 @@ fn told(alloc: Global, items: &[Item]) -> Result<Vec<(u64, usize)>, AllocError> 
     Ok(told)
 }
 
-/// A finger goes down, moves twice before a frame and once behind it, and goes up.
+/// A finger goes down, moves twice before a frame and once after it, and goes up.
 fn one_finger(alloc: Global) -> Result<Vec<(u64, usize)>, Fail> {
     let mut batcher = Batcher::new(alloc);
     let mut out = Vec::new(alloc);

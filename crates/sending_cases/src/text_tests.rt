@@ -89,7 +89,7 @@ fn key_up() -> Result<Message, Fail> {
     })
 }
 
-/// The section of channel 64, with both messages, and a naming of it behind.
+/// The section of channel 64, with both messages, followed by an ANR of it.
 fn section_and_anr(alloc: Global) -> Result<Vec<u8>, Fail> {
     let counts = Counts {
         sent: 2,

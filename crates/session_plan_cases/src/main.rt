@@ -1,9 +1,9 @@
 //! Sessions and what is read from them.
 //!
-//! Standard input is a list of cases. A case is the bytes of a session file, and then a line that begins with `=> ` and
-//! has what `Plan::read` is to answer: the line of the refusal, or the plan in the words of `plan_text`, or `cuts`,
-//! which wants a plan or a refusal for each prefix of the session. A case that is answered otherwise is printed, and at
-//! the end how many were not.
+//! Standard input is a list of cases. A case is the bytes of a session file, and then a line that begins with `=> `
+//! and has what `Plan::read` must return: the line of the refusal, or the plan in the words of `plan_text`, or
+//! `cuts`, which wants a plan or a refusal for each prefix of the session. A case with another result is printed, and
+//! at the end how many there were.
 #![tactic(auto)]
 
 use input_types::{DeviceId, DisplayId, Rotation};
@@ -146,7 +146,7 @@ fn devices_text(alloc: Global, plan: &Plan) -> Result<String, AllocError> {
     Ok(text)
 }
 
-/// The whole plan on one line. The displays of the devices are told where there is more than one display.
+/// The whole plan on one line. It includes the displays of the devices if there is more than one display.
 fn plan_text(alloc: Global, plan: &Plan) -> Result<String, AllocError> {
     let end = plan.end.get();
     let mut text = String::from_str(alloc, "plan")?;
@@ -177,7 +177,7 @@ fn answer(alloc: Global, session: &[u8]) -> Result<String, AllocError> {
     }
 }
 
-/// Whether each prefix of a session is a plan or is refused; want of memory is neither.
+/// Whether each prefix of a session is a plan or is refused; running out of memory is neither.
 fn cuts_are_read(alloc: Global, session: &[u8]) -> bool {
     for end in 0..session.len() {
         if let Err(PlanError::Memory) = Plan::read(alloc, session.split_at(end).0) {

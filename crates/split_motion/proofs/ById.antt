@@ -30,7 +30,7 @@ later_above p (q ∷ ps) j r h =
       | inr t ↦ omega (arith, r.0, later_above q ps j r.1 t)
     ]
 
--- a set without ids of the list has nothing of it
+-- a set without ids of the list selects nothing from it
 pub none_listed : (f : ℕ → Bool) (ps : List Pointer) → ((i : ℕ) → has_id i ps ≡ true → f i ≡ false)
     → listing f ps ≡ []
 none_listed f [] out = refl
@@ -38,14 +38,14 @@ none_listed f (p ∷ ps) out =
     let first : f p.id ≡ false = out p.id (or_left _ _ (eq-eqb p.id p.id refl)) in
     rw first (none_listed f ps (λ i h. out i (or_right _ _ h)))
 
--- a larger set has all of the list
+-- a larger set selects the whole list
 all_listed : (f : ℕ → Bool) (ps : List Pointer) → ((i : ℕ) → has_id i ps ≡ true → f i ≡ true) → listing f ps ≡ ps
 all_listed f [] all = refl
 all_listed f (p ∷ ps) all =
     let first : f p.id ≡ true = all p.id (or_left _ _ (eq-eqb p.id p.id refl)) in
     rw first (ap (λ qs. p ∷ qs) (all_listed f ps (λ i h. all i (or_right _ _ h))))
 
--- A set with the id of a pointer more, all of whose other ids are lower, has this pointer more.
+-- A set with one more id, above all its other ids, selects one more pointer.
 pub one_more : (f g : ℕ → Bool) (ps : List Pointer) (k : ℕ) (p : Pointer) → IsRising ps → slice_get ps k ≡ Some p
     → ((j : ℕ) → has_id j ps ≡ true → f j ≡ true → j < p.id) → ((j : ℕ) → g j ≡ (j == p.id || f j))
     → listing g ps ≡ listing f ps ++ p ∷ []
@@ -81,7 +81,7 @@ one_more f g (q ∷ ps) (suc k) p r e low more =
     by_test true = refl
     by_test false = refl
 
--- an id of the list is that of a pointer at some place
+-- an id of the list is that of a pointer at some index
 record Found (i : ℕ) (ps : List Pointer) : Type 0 where
   place : ℕ
   pointer : Pointer
@@ -167,7 +167,7 @@ none_in set [] out = refl
 none_in set (p ∷ ps) out =
     or_from _ _ (out p.id (or_left _ _ (eq-eqb p.id p.id refl))) (none_in set ps (λ i h. out i (or_right _ _ h)))
 
--- and some one is where the set has one of them
+-- and some pointer is in the set if it contains one of the ids
 some_in : (set i : ℕ) (ps : List Pointer) → has_id i ps ≡ true → is_in i set ≡ true
     → list_any (λ p. is_in p.id set) ps ≡ true
 some_in set i [] h t = absurd (false≢true h)
@@ -177,7 +177,7 @@ some_in set i (p ∷ ps) h t =
       | inr e ↦ or_right _ _ (some_in set i ps e t)
     ]
 
--- some pointer is in a set where this and the ids have a number together
+-- some pointer is in a set if the set and the ids have a number in common
 pub some_of : (ids set : ℕ) (ps : List Pointer) → ids < 2 ^ 32 → AreIds ids ps
     → not (bit_and ids set == 0) ≡ list_any (λ p. is_in p.id set) ps
 some_of ids set ps fits are =

@@ -1,4 +1,4 @@
--- What a window holds after a motion with which nothing slips.
+-- What a window holds after a motion without a slip.
 use Rattle.std.proofs.Common.{ℕ, Bool, true, false, not, cond, ◌&&◌, ◌||◌, ◌≡◌, length, Some, None, if◌then◌else◌, refl, sym, ap, ap₂, ◌∙◌, inr}
 use Rattle.std.proofs.lemmas.Bool.{eq-eqb, both_ways, true≢false}
 use Rattle.input_types.specs.declared.motion.Motion.{Motion}
@@ -20,7 +20,7 @@ use Rattle.routing_rules.proofs.SentLaws.{fresh_id}
 use Rattle.split_motion.specs.Laws.{KeepsLaw}
 use Rattle.split_motion.proofs.SplitLaws.{up_not_down}
 
--- neither a down nor an up, where nothing slips, gives and takes nothing
+-- a motion that is neither a down nor an up, without a slip, gives and takes nothing
 nothing_moved : (s : Scene) (m : Motion) (a : MotionAction) (p : Pointer) (w : ℕ) → is_down a ≡ false → is_up a ≡ false → slip s m ≡ None
     → (has (given_by s m a (Some p)) w m.device p.id ≡ false) × (takes (taken_by s m a (Some p)) w m.device p.id ≡ false)
 nothing_moved s m Down p w d u e = absurd (true≢false d)

@@ -1,4 +1,4 @@
--- What a window is told of a motion is the motion, split.
+-- What a window is sent for a motion is the motion, split.
 use Rattle.std.proofs.Common.{ℕ, Bool, true, false, not, ◌&&◌, ◌==◌, ◌≡◌, List, [], ◌∷◌, Option, Some, None, if◌then◌else◌, refl, sym, ap, ◌∙◌, subst, inl, inr}
 use Rattle.std.proofs.lemmas.Bool.{cases_Bool, eqb-true, and_from, and_right, true≢false}
 use Rattle.input_types.specs.declared.motion.Motion.{Motion}
@@ -19,7 +19,7 @@ sent_part : (m : Motion) (o : Option Pointer) (held : ℕ → Bool) (i : ℕ) (p
 sent_part m o held i [] h = absurd (true≢false (sym h))
 sent_part m o held i (q ∷ qs) h = refl
 
--- it has the changed pointer, where the window holds that
+-- it contains the changed pointer if the window holds that
 in_part : (m : Motion) (p : Pointer) (held : ℕ → Bool) → changed m ≡ Some p → held p.id ≡ true → has_id p.id (listing held m.pointers) ≡ true
 in_part m p held c h = has_id-listing held p.id m.pointers ∙ and_from (held p.id) (has_id p.id m.pointers) h (id_at m.pointers m.index p c)
 
@@ -29,7 +29,7 @@ moving : (m : Motion) (o : Option Pointer) (held : ℕ → Bool) (ps : List Poin
 moving m o held [] e all = refl
 moving m o held (q ∷ qs) e all = ap (λ x. x ∷ []) (all q qs)
 
--- an up is no down
+-- an up is not a down
 pub up_not_down : (a : MotionAction) → is_up a ≡ true → is_down a ≡ false
 up_not_down Up e = refl
 up_not_down PointerUp e = refl
@@ -44,7 +44,7 @@ agree : (l b : ℕ → Bool) (i : ℕ) → ((j : ℕ) → (j == i) ≡ false →
 agree l b i others e j =
     elim (cases_Bool (j == i)) [ inl t ↦ subst (λ x. l x ≡ b x) (sym (eqb-true j i t)) e | inr n ↦ others j n ]
 
--- where a window holds what it held, and its pointer neither goes down nor up
+-- if a window holds what it held, and its pointer goes neither down nor up
 same_sent : (s : Scene) (m : Motion) (p : Pointer) (w : ℕ) (before later held : ℕ → Bool) → ((j : ℕ) → later j ≡ before j)
     → ((j : ℕ) → held j ≡ later j) → (later p.id && not (before p.id)) ≡ false → (is_up m.action && before p.id) ≡ false
     → (held p.id && is_down m.action) ≡ false → (held p.id && is_up m.action) ≡ false

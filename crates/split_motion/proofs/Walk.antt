@@ -1,4 +1,4 @@
--- A walk over those of some pointers that are in a set, the least id first.
+-- A walk over the pointers that are in a set, in rising order of id.
 use Rattle.std.proofs.Common.{◌≡◌, ◌≢◌, ℕ, suc, ◌^◌, ◌<◌, ◌≤◌, ◌==◌, ◌&&◌, ◌||◌, not, Bool, true, false, cond, List, [], ◌∷◌, ◌++◌, length, slice_get, Some, ◌∙◌, refl, sym, ap, subst, inl, inr, arith}
 use Rattle.std.specs.Int.{w32, trailing_zeros}
 use Rattle.std.specs.Int.RustNames.{bit_and}

@@ -1,4 +1,4 @@
--- A motion of a device, as a window is sent it that holds some of its pointers.
+-- A motion of a device, as sent to a window that holds some of its pointers.
 use Rattle.std.specs.Prelude.{ℕ, Bool, ◌&&◌, List, [], ◌∷◌, Option, Some, None, if◌then◌else◌}
 use Rattle.input_types.specs.declared.motion.Motion.{Motion}
 use Rattle.input_types.specs.declared.motion.MotionAction.TheVariants.{Down, Move}
@@ -6,9 +6,9 @@ use Rattle.input_types.specs.declared.pointer.Pointer.{Pointer}
 use Rattle.routing_rules.specs.Given.{changed}
 use Rattle.routing_rules.specs.Outgoing.{listing, plain, opening, closing, is_up, is_down, is_cancelled}
 
--- What a window is told that has these pointers of the motion, of which the set holds: the changed pointer goes down
--- in it, where the motion is a down and the window holds that; it goes up, where the motion is an up of it, cancelled
--- where that is; else what the window holds moves.
+-- What a window with these pointers of the motion, those in the set, is sent. The changed pointer goes down in it, if
+-- the motion is a down and the window holds that pointer. It goes up, if the motion is an up of it, cancelled if the
+-- motion is. Otherwise what the window holds moves.
 abbrev pub part_about : Motion → Option Pointer → (held : ℕ → Bool) → List Pointer → Motion
 part_about m None held ps = plain m.device Move ps
 part_about m (Some p) held ps =
@@ -16,7 +16,7 @@ part_about m (Some p) held ps =
     else if held p.id && is_up m.action then closing m.device p.id (is_cancelled m.action m.flags) ps
     else plain m.device Move ps
 
--- nothing, where it has none of them
+-- nothing, if it has none of them
 abbrev pub part_of : Motion → Option Pointer → (held : ℕ → Bool) → List Pointer → Option Motion
 part_of m p held [] = None
 part_of m p held (q ∷ qs) = Some (part_about m p held (q ∷ qs))

@@ -1,4 +1,4 @@
-//! Pointers that are found by their ids.
+//! Pointers, found by their ids.
 ghost use Rattle.std.specs.Prelude.{◌≡◌, ℕ, ◌==◌};
 ghost use Rattle.std.specs.List.{list_any};
 ghost use Rattle.bits32.specs.Set.{is_in};
@@ -8,11 +8,11 @@ use bits32::Bits32;
 use input_types::Pointers;
 use std::marker::Model;
 
-/// The pointers of a motion, each of which is found by its id without a look at the others.
+/// The pointers of a motion. Each is found by its id without looking at the others.
 #[derive(Drop)]
 pub struct PointersById<'a> {
     pointers: &'a Pointers,
-    /// The ids that they have.
+    /// Their ids.
     ids: Bits32,
 }
 

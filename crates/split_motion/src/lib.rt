@@ -8,11 +8,11 @@
 //! the window that holds {1} is sent  UP 1@700,400
 //! ```
 //!
-//! Had finger 1 become a palm, the latter would be sent a `CANCEL`. A window that holds both is sent the motion as it
+//! If finger 1 became a palm, the latter would be sent a `CANCEL`. A window that holds both is sent the motion as it
 //! is, and one that holds neither is sent nothing.
 //!
-//! Which window holds what is not known here. What is proved, besides what the motion is, is that it is what the
-//! rules of routing tell a window of the motion ([`laws`]).
+//! This crate does not know which window holds what. It proves what the split motion is, and that this is what the
+//! routing rules send to a window ([`laws`]).
 #![tactic(auto)]
 
 mod by_id;

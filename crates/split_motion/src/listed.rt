@@ -32,7 +32,7 @@ pub fn part_but(pointers: &Pointers, set: Bits32) -> Pointers
     listed
 }
 
-/// The place of an id in a list, and how many pointers it has where it lists no such one.
+/// The index of an id in a list, or the length of the list if the id is not in it.
 fn index_in(pointers: &Pointers, id: PointerId) -> u8
     ensures { result ≡ index_in id pointers.now }
 {
@@ -45,7 +45,7 @@ fn index_in(pointers: &Pointers, id: PointerId) -> u8
     count as u8
 }
 
-/// A motion that lists these pointers, without flags and without an index.
+/// A motion that lists these pointers, without flags or index.
 pub fn plain(device: DeviceId, action: MotionAction, pointers: Pointers) -> Motion
     ensures { result ≡ plain device action pointers }
 {

@@ -1,4 +1,4 @@
-//! What a window is told of a motion of its device.
+//! What a window is sent for a motion of its device.
 ghost use Rattle.std.specs.Prelude.{◌≡◌};
 ghost use Rattle.bits32.specs.Set.{is_in};
 ghost use Rattle.routing_rules.specs.Given.{changed};
@@ -9,8 +9,8 @@ use crate::listed::{about, part, plain};
 use bits32::Bits32;
 use input_types::{DeviceId, FLAG_CANCELED, Motion, MotionAction, Pointer, PointerId, Pointers};
 
-/// The motion of a window that holds these ids, after a pointer is given and before one goes up. None exactly where
-/// it has none of the motion's pointers.
+/// The motion for a window that holds these ids, after a pointer is given and before one goes up. None exactly if it
+/// holds none of the motion's pointers.
 pub fn split(motion: &Motion, held: Bits32) -> Option<Motion>
     ensures { result ≡ split_of motion.now (λ i. is_in i held) }
 {
@@ -21,7 +21,7 @@ pub fn split(motion: &Motion, held: Bits32) -> Option<Motion>
     Some(part_about(motion, held, pointers))
 }
 
-/// The same where it has these pointers of the motion.
+/// The same for a window with these pointers of the motion.
 fn part_about(motion: &Motion, held: Bits32, pointers: Pointers) -> Motion
     ensures { result ≡ part_about motion.now (changed motion.now) (λ i. is_in i held) pointers }
 {
@@ -42,14 +42,14 @@ fn part_about(motion: &Motion, held: Bits32, pointers: Pointers) -> Motion
     }
 }
 
-/// The pointer that goes down or up with a motion, and the first one of a move.
+/// The pointer that goes down or up with a motion, or the first one of a move.
 fn changed(motion: &Motion) -> Option<Pointer>
     ensures { result ≡ changed motion.now }
 {
     motion.pointers.get(usize::from(motion.index))
 }
 
-/// A pointer goes down in a window that then has these.
+/// A pointer goes down in a window that then holds these.
 fn opening(device: DeviceId, id: PointerId, pointers: Pointers) -> Motion
     ensures { result ≡ opening device id pointers }
 {
@@ -59,7 +59,7 @@ fn opening(device: DeviceId, id: PointerId, pointers: Pointers) -> Motion
     }
 }
 
-/// A pointer goes up, or is cancelled, in a window that had these.
+/// A pointer goes up, or is cancelled, in a window that held these.
 fn closing(device: DeviceId, id: PointerId, cancelled: bool, pointers: Pointers) -> Motion
     ensures { result ≡ closing device id cancelled pointers }
 {
@@ -79,7 +79,7 @@ fn closing(device: DeviceId, id: PointerId, cancelled: bool, pointers: Pointers)
     }
 }
 
-/// Whether it is an action with which a pointer goes up.
+/// Whether a pointer goes up with the action.
 fn is_up(action: MotionAction) -> bool
     ensures { result ≡ is_up action }
 {
@@ -89,7 +89,7 @@ fn is_up(action: MotionAction) -> bool
     }
 }
 
-/// Whether it is an action with which a pointer goes down.
+/// Whether a pointer goes down with the action.
 fn is_down(action: MotionAction) -> bool
     ensures { result ≡ is_down action }
 {

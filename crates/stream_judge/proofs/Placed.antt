@@ -1,4 +1,4 @@
--- The lines of a stream file stand where they may stand.
+-- The lines of a stream file are where they may be.
 use Rattle.std.proofs.Common.{◌≡◌, ℕ, ◌+◌, Bool, true, false, if◌then◌else◌, List, [], ◌∷◌, Option, Some, None, Result, Ok, Err, refl}
 use Rattle.stream_text.specs.declared.stream_line.StreamLine.{StreamLine}
 use Rattle.stream_text.specs.declared.stream_lines.Place.{Place}

@@ -1,4 +1,4 @@
--- One message more behind those of a section.
+-- One more message after those of a section.
 use Rattle.std.proofs.Common.{◌≡◌, ℕ, suc, ◌+◌, Bool, true, false, if◌then◌else◌, List, [], ◌∷◌, ◌++◌, length, Some, None, is_some, refl, ap, ◌∙◌, arith}
 use Rattle.input_types.specs.declared.message.Message.{Message}
 use Rattle.input_types.specs.StreamRule.{is_well_formed}
@@ -19,7 +19,7 @@ passed_step line past m ms behind later true h =
     later h ∙ ap (λ k. break_from k (past_from (m ∷ past) ms) behind) n
 passed_step line past m ms behind later false h = cc h
 
--- where those of a section are no break, what stands behind them decides
+-- if the messages of a section have no break, what follows them decides
 passed : (line : ℕ) (past ms behind : List Message) → break_from line past ms ≡ None
     → break_from line past (ms ++ behind) ≡ break_from (line + length ms) (past_from past ms) behind
 passed line past [] behind h = let e : line + 0 ≡ line = omega arith in rw e refl
@@ -42,7 +42,7 @@ passed_more messages m old new h s =
       stands = rw (past_more [] messages m) s;
     }
 
--- a message that may not come is a break, whatever stands behind it
+-- a message that may not come is a break, whatever follows it
 pub breaks_here : (messages : List Message) (m : Message) (told : Told) → HasPassed messages told → is_well_formed (m ∷ past_of messages) ≡ false
     → (line : ℕ) (behind : List Message) → break_from line [] (messages ++ m ∷ behind) ≡ Some (line + length messages)
 breaks_here messages m told h e line behind =

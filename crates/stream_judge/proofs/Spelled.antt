@@ -1,4 +1,4 @@
--- A message that a line can say has a reason exactly where it may not come.
+-- A message that a line can express has a reason exactly if it may not come.
 use Rattle.std.proofs.Common.{◌≡◌, ℕ, Bool, ◌+◌, ◌<◌, ◌&&◌, not, nat_eq, nat_lt, true, false, if◌then◌else◌, List, [], ◌∷◌, length, Option, Some, None, is_some, inl, inr, refl, sym, ap, ◌∙◌, arith}
 use Rattle.std.proofs.lemmas.Bool.{lt-ltb}
 use Rattle.std.proofs.lemmas.Bool.Decides.{nat_tests}

@@ -7,13 +7,13 @@ use std::alloc::{AllocError, AllocFailed};
 /// Why a stream file is refused. Lines are numbered from 1.
 #[derive(Clone, Copy, Debug, PartialEq, Eq)]
 pub enum FileError {
-    /// The line is not of the grammar of stream files, or is missing: the first such one.
+    /// The line does not follow the grammar of stream files, or is missing. It is the first such line.
     BadLine { line: u64 },
 
-    /// The message of the line may not come after those before it in its section: the first such one.
+    /// The message of the line may not come after those before it in its section. It is the first such message.
     NotWellFormed { line: u64 },
 
-    /// Want of memory.
+    /// Out of memory.
     Memory,
 }
 

@@ -34,8 +34,8 @@ impl Judge {
         }
     }
 
-    /// Takes the next message of the section, and answers whether it may come. One that may not leaves the judge as it
-    /// was, and so does want of memory, which comes only at a key message.
+    /// Takes the next message of the section, and returns whether it may come. A message that may not come leaves the
+    /// judge as it was. So does running out of memory, which only a key message can do.
     pub fn take(&mut self, message: &Message) -> Result<bool, AllocError>
         ensures ok { (messages : List Told) → HasPassed messages self.old
             → IfOk result (λ may. Passes messages message.now may self.new) }

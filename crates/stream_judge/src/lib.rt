@@ -1,6 +1,6 @@
-//! Whether the messages of a stream file may come as they stand there.
+//! Whether the messages of a stream file may come in their order.
 //!
-//! A stream file is judged in two steps: each line has to be of the grammar, and each message has to be one that its
+//! A stream file is judged in two steps: each line must follow the grammar, and each message must be one that its
 //! window may be sent after those before it in its section. In
 //!
 //! ```text
@@ -10,11 +10,11 @@
 //! end 1 sent 2 received 2 finished 2
 //! ```
 //!
-//! the message of line 3 may not come, since the finger is down already. A line that is not of the grammar comes first,
-//! wherever it stands.
+//! the message of line 3 may not come, since the finger is down already. A line that does not follow the grammar
+//! takes precedence, wherever it is.
 //!
-//! `Judge` goes through the messages of one section, and `refusal` says why a file is refused once a message was found
-//! that may not come.
+//! `Judge` goes through the messages of one section, and `refusal` says why a file is refused once a message that may
+//! not come was found.
 #![tactic(auto)]
 
 mod error;

@@ -1,12 +1,12 @@
-//! The rest of a file behind a break.
+//! The rest of a file after a break.
 ghost use Rattle.std.specs.Prelude.{◌≡◌};
 ghost use Rattle.stream_judge.specs.Judged.{refused_at};
 
 use crate::error::FileError;
 use stream_text::StreamLines;
 
-/// Why a file is refused, the message of whose line `line` may not come: the first bad line behind it counts, where
-/// there is one. The lines are read to their end.
+/// Why a file is refused in which the message of line `line` may not come: the first bad line after it takes
+/// precedence, if there is one. Reads the lines to their end.
 pub fn refusal(line: u64, lines: &mut StreamLines<'_>) -> FileError
     ensures { result ≡ refused_at line lines.old.events }
 {

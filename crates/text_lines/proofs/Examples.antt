@@ -22,6 +22,6 @@ blanks_in_front = refl
 first_word : word_len (codes "key 30 A") ≡ 3
 first_word = refl
 
--- no byte is the last one of nothing
+-- an empty text has no last byte
 nothing_ends : ends_in 13 [] ≡ false
 nothing_ends = refl

@@ -6,12 +6,12 @@ use Rattle.std.specs.List.{prefix_len}
 abbrev pub is_blank : ℕ → Bool
 is_blank b = b == 32 || b == 9
 
--- the bytes behind the blanks in front, of which there may be none
+-- the bytes after the leading blanks, if any
 abbrev pub skip_blanks : List ℕ → List ℕ
 skip_blanks [] = []
 skip_blanks (b ∷ bs) = if is_blank b then skip_blanks bs else b ∷ bs
 
--- how many bytes stand in front of the first blank
+-- the number of bytes before the first blank
 abbrev pub word_len : List ℕ → ℕ
 word_len bs = prefix_len (λ b. not (is_blank b)) bs
 

@@ -1,7 +1,7 @@
--- How a number is written behind words.
+-- How a number is written after some words.
 use Rattle.std.specs.Prelude.{ℕ, List, ◌++◌}
 use Rattle.std.specs.Fmt.{decimal}
 
--- a number behind some words
+-- some words, then a number
 unfoldable pub labeled : List ℕ → ℕ → List ℕ
 labeled words n = words ++ decimal n

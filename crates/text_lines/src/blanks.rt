@@ -10,7 +10,7 @@ pub fn is_blank(b: u8) -> bool
     b == b' ' || b == b'\t'
 }
 
-/// The bytes behind the blanks in front.
+/// The bytes after the leading blanks.
 #[inline(always)]
 pub fn skip_blanks(bytes: &[u8]) -> &[u8]
     ensures { result.now ≡ skip_blanks bytes.now }
@@ -25,7 +25,7 @@ pub fn skip_blanks(bytes: &[u8]) -> &[u8]
     rest
 }
 
-/// How many bytes stand in front of the first blank.
+/// The number of bytes before the first blank.
 #[inline(always)]
 pub fn word_len(bytes: &[u8]) -> usize
     ensures value { result ≡ word_len bytes.now }

@@ -1,8 +1,8 @@
-//! Texts as lines, and lines as words: what recordings, key layouts and stream files have in common.
+//! Texts as lines, and lines as words: shared by the readers of recordings, key layouts and stream files.
 //!
-//! A text of the bytes `a b`, a newline and `c` has two lines: `a b`, which a newline ends, and `c`, which none does.
-//! The first line has two words, with one blank between them. Words and numbers are put at the end of a text as
-//! getevent, streams and orders have them: numbers in decimal digits.
+//! A text of the bytes `a b`, a newline and `c` has two lines: `a b`, which ends in a newline, and `c`, which does
+//! not. The first line has two words, with one blank between them. Words and numbers are appended in the form of
+//! getevent, streams and orders: numbers in decimal digits.
 #![tactic(auto)]
 
 mod blanks;

@@ -5,7 +5,7 @@ ghost use Rattle.text_lines.specs.Lines.{lines_of};
 
 use memchr::memchr;
 
-/// How many bytes stand before the first newline, or in all where there is none.
+/// The number of bytes before the first newline, or of all bytes if there is none.
 #[inline(always)]
 pub fn line_len(bytes: &[u8]) -> usize
     ensures value { result ≡ prefix_len (λ b. not (b == 10)) bytes.now }
@@ -24,11 +24,11 @@ pub struct FirstLine<'a> {
     pub text: &'a [u8],
     /// Whether a newline ends it.
     pub ended: bool,
-    /// What stands behind the line and its newline.
+    /// The text after the line and its newline.
     pub rest: &'a [u8],
 }
 
-/// The first line, and what stands behind it.
+/// The first line, and the text after it.
 #[inline(always)]
 pub fn first_line(bytes: &[u8]) -> FirstLine<'_>
     requires { 0 < length bytes.now }

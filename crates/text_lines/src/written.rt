@@ -1,4 +1,4 @@
-//! Words and numbers at the end of a text.
+//! Appends words and numbers to a text.
 ghost use Rattle.std.specs.Prelude.{◌≡◌, ◌++◌, IfOk, decimal};
 ghost use Rattle.std.specs.Fmt.{signed_decimal};
 ghost use Rattle.text_lines.specs.Written.{labeled};
@@ -6,7 +6,7 @@ ghost use Rattle.text_lines.specs.Written.{labeled};
 use itoa::Buffer;
 use std::alloc::AllocError;
 
-/// Adds a word, as it is.
+/// Appends a word.
 #[inline]
 pub fn add_word(text: &mut Vec<u8>, word: &str) -> Result<(), AllocError>
     ensures { IfOk result (λ _. text.new.items ≡ text.old.items ++ word.now) }
@@ -14,7 +14,7 @@ pub fn add_word(text: &mut Vec<u8>, word: &str) -> Result<(), AllocError>
     text.extend_from_slice(word.as_bytes())
 }
 
-/// Adds a number in decimal digits.
+/// Appends a number in decimal digits.
 #[inline(always)]
 pub fn add_number(text: &mut Vec<u8>, number: u64) -> Result<(), AllocError>
     ensures { IfOk result (λ _. text.new.items ≡ text.old.items ++ decimal number) }
@@ -23,7 +23,7 @@ pub fn add_number(text: &mut Vec<u8>, number: u64) -> Result<(), AllocError>
     text.extend_from_slice(buffer.format(number).as_bytes())
 }
 
-/// Adds a number that may be negative.
+/// Appends a signed number in decimal digits.
 #[inline(always)]
 pub fn add_signed(text: &mut Vec<u8>, number: i32) -> Result<(), AllocError>
     ensures { IfOk result (λ _. text.new.items ≡ text.old.items ++ signed_decimal number) }
@@ -32,7 +32,7 @@ pub fn add_signed(text: &mut Vec<u8>, number: i32) -> Result<(), AllocError>
     text.extend_from_slice(buffer.format(number).as_bytes())
 }
 
-/// Adds a number behind some words.
+/// Appends some words, then a number.
 #[inline]
 #[tactic(auto, unfolding(crate::specs::Written::labeled))]
 pub fn add_labeled(text: &mut Vec<u8>, words: &str, number: u64) -> Result<(), AllocError>

@@ -27,6 +27,6 @@ passed = (
   (third ∷ [], [], refl, (refl, (omega arith, (omega arith, refl))), refl),
 )
 
--- a write of the front of `on` alone is none of that piece
+-- a write of only the front of `on` is not a write of that piece
 cut_short : Passes (111 ∷ 110 ∷ []) (record { handed = 111 ∷ []; count = 1 } ∷ []) (110 ∷ []) → ⊥
 cut_short p = cc (p.0)

@@ -1,4 +1,4 @@
--- Writes one after another: what each leaves is handed on.
+-- Consecutive writes: what each leaves is passed on.
 use Rattle.std.specs.Prelude.{Result, Ok, Err, OnOk, OnErr}
 use Rattle.std.proofs.Common.{◌≡◌, ◌∙◌, ◌<◌, ◌≤◌, ℕ, List, [], ◌∷◌, ◌++◌, length, take, drop, refl, sym, ap, subst, append_assoc, append-nil}
 use Rattle.std.proofs.lemmas.List.{take-append-drop}
@@ -6,7 +6,7 @@ use Rattle.outside_io.specs.Trace.{Write, Writing}
 use Rattle.text_output.specs.Passing.{PassAll, Passes, StopsWithin, WritesAll, WritesPiece, WritesUpTo}
 use Rattle.text_output.specs.Together.{together}
 
--- what holds where a call ended so
+-- what holds if a call ended in this way
 pub on_err_any : {A E : Type 0} (r : Result A E) (P : Type 0) → P → OnErr r P
 on_err_any (Ok x) P h = tt
 on_err_any (Err x) P h = h

@@ -4,19 +4,19 @@ use Rattle.outside_io.specs.Trace.{Write, Writing}
 use Rattle.outside_io.specs.Outside.{Rose}
 use Rattle.text_output.specs.Together.{together}
 
--- Writes of a piece, in their order: each is handed all that is left of it and takes some of that, from the front. What none of them took
--- is left.
+-- Writes of a piece, in order: each is handed all that remains of it and takes some of that, from the front. What
+-- none of them took remains.
 abbrev pub Passes : List ℕ → List Write → List ℕ → Type 0
 Passes piece [] left = piece ≡ left
 Passes piece (w ∷ ws) left =
     (w.handed ≡ piece) × ((0 < w.count) × ((w.count ≤ length piece) × Passes (drop w.count piece) ws left))
 
--- writes of some pieces, one behind the other, none of which leaves anything
+-- writes of some pieces, one after the other, none of which leaves anything
 abbrev pub PassAll : List (List ℕ) → List Write → Type 0
 PassAll [] ws = ws ≡ []
 PassAll (p ∷ ps) ws = (own : List Write) × (others : List Write) × (ws ≡ own ++ others) × Passes p own [] × PassAll ps others
 
--- a piece was written up to these bytes, which are left of it
+-- a piece was written up to these bytes, which remain of it
 pub record WritesPiece (before now : Writing) (piece left : List ℕ) : Type 0 where
   pub taken : List ℕ
   pub parts : piece ≡ taken ++ left
@@ -25,7 +25,7 @@ pub record WritesPiece (before now : Writing) (piece left : List ℕ) : Type 0 w
   pub writes : now.writes ≡ before.writes ++ asked
   pub passes : Passes piece asked left
 
--- a text was written piece by piece, up to these bytes, which are left of it
+-- a text was written piece by piece, up to these bytes, which remain of it
 pub record WritesUpTo (before now : Writing) (text left : List ℕ) : Type 0 where
   pub pieces : List (List ℕ)
   pub parts : text ≡ together pieces ++ left
@@ -38,7 +38,7 @@ pub record WritesUpTo (before now : Writing) (text left : List ℕ) : Type 0 whe
 abbrev pub WritesAll : Writing → Writing → List ℕ → Type 0
 WritesAll before now text = WritesUpTo before now text []
 
--- A write of the text failed, and none came behind it: it was handed all that was left of a piece, and took nothing.
+-- A write of the text failed, and none followed it: it was handed all that remained of a piece, and took nothing.
 pub record StopsWithin (before now : Writing) (text : List ℕ) : Type 0 where
   -- the pieces before that one
   pub left : List ℕ
@@ -55,7 +55,7 @@ pub record StopsWithin (before now : Writing) (text : List ℕ) : Type 0 where
   pub took : now.took ≡ until.took
   pub writes : now.writes ≡ until.writes ++ record { handed = rest; count = 0 } ∷ []
 
--- a line is sent: the sink takes it, or it has a fault and takes a front part of it
+-- a line is printed: the sink takes it, or has a fault and takes the front of it
 abbrev pub Tells : ℕ → ℕ → Writing → Writing → List ℕ → Type 0
 Tells faults_before faults_now before now line =
     WritesAll before now line ⊎ (Rose faults_before faults_now × StopsWithin before now line)

@@ -1,7 +1,7 @@
 -- Parts of a text.
 use Rattle.std.specs.Prelude.{ℕ, List, [], ◌∷◌, ◌++◌}
 
--- the parts, one behind the other
+-- the parts, one after the other
 abbrev pub together : List (List ℕ) → List ℕ
 together [] = []
 together (p ∷ ps) = p ++ together ps

@@ -1,8 +1,8 @@
-//! Writing a whole text to a sink, and telling a line.
+//! Writing a whole text to a sink, and printing a line.
 //!
-//! Each write is handed all that is left of a piece of the text, so that nothing is written twice and nothing is left
-//! out; behind a write that fails none comes. Nothing here asks for memory: a line that stands in parts is put together
-//! in a buffer of the frame.
+//! Each write is handed all that remains of a piece of the text, so nothing is written twice and nothing is left out;
+//! no write follows one that fails. Nothing here allocates memory: a line in parts is assembled in a buffer on the
+//! stack.
 //!
 //! For example, a sink that takes two bytes a write, and the text `one` in the pieces `on` and `e`:
 //!

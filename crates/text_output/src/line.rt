@@ -8,8 +8,8 @@ use arrayvec::ArrayVec;
 use outside_io::{Failed, Sink};
 use std::marker::Model;
 
-/// The end of a line that is written part by part: what was added and not handed to the sink yet. It holds up to 256
-/// bytes, so that a line that is no longer is one write.
+/// The end of a line that is written part by part: what was added and not yet handed to the sink. It holds up to 256
+/// bytes, so a line of at most that length is one write.
 #[derive(Drop)]
 pub struct Line {
     held: ArrayVec<u8, 256>,
@@ -24,7 +24,7 @@ impl Model for Line {
 }
 
 impl Line {
-    /// A line without a byte.
+    /// An empty line.
     pub fn new() -> Line
         ensures { result ≡ [] }
     {
@@ -33,7 +33,7 @@ impl Line {
         }
     }
 
-    /// Adds a part of the line; where it has no room, what is held is written, and then the part.
+    /// Adds a part of the line. If there is no room for it, writes what is held, and then the part.
     pub fn add<E: Sink>(&mut self, err: &mut E, part: &str) -> Result<(), Failed>
         ensures ok { OnOk result (WritesUpTo (E.writing err.old) (E.writing err.new) (self.old ++ part.now) self.new) }
         ensures err { OnErr result (StopsWithin (E.writing err.old) (E.writing err.new) (self.old ++ part.now)) }

@@ -5,7 +5,7 @@ ghost use Rattle.text_output.specs.Passing.{StopsWithin, WritesAll};
 use outside_io::{Failed, Sink};
 use text_pieces::Pieces;
 
-/// Writes all of the text: the whole rest of it is handed to each write.
+/// Writes all of the text: each write is handed the whole rest of it.
 pub fn write_all<O: Sink>(out: &mut O, text: &[u8]) -> Result<(), Failed>
     ensures ok { OnOk result (WritesAll (O.writing out.old) (O.writing out.new) text.now) }
     ensures err { OnErr result (StopsWithin (O.writing out.old) (O.writing out.new) text.now) }

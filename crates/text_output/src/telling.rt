@@ -21,7 +21,7 @@ fn write_parts<E: Sink>(err: &mut E, parts: &[&str]) -> Result<(), Failed>
     line.end(err)
 }
 
-/// Tells a line on a sink; a fault of it changes nothing else.
+/// Prints a line on a sink; a fault of the sink changes nothing else.
 pub fn tell<E: Sink>(err: &mut E, line: &str)
     ensures line { Tells (E.faults err.old) (E.faults err.new) (E.writing err.old) (E.writing err.new) line.now }
     ensures later { E.faults err.old ≤ E.faults err.new }
@@ -29,7 +29,7 @@ pub fn tell<E: Sink>(err: &mut E, line: &str)
     let _ = write_all(err, line.as_bytes());
 }
 
-/// Tells a line that stands in parts.
+/// Prints a line in parts.
 pub fn tell_parts<E: Sink>(err: &mut E, parts: &[&str])
     ensures line { Tells (E.faults err.old) (E.faults err.new) (E.writing err.old) (E.writing err.new)
         (together (map (λ p. p.now) parts.now)) }
@@ -38,7 +38,7 @@ pub fn tell_parts<E: Sink>(err: &mut E, parts: &[&str])
     let _ = write_parts(err, parts);
 }
 
-/// Tells a line of words and what they are about.
+/// Prints a line of words and what they are about.
 pub fn tell_named<E: Sink>(err: &mut E, words: &str, name: &str)
     ensures line { Tells (E.faults err.old) (E.faults err.new) (E.writing err.old) (E.writing err.new)
         ((words.now ++ name.now) ++ codes "\n") }
@@ -47,7 +47,7 @@ pub fn tell_named<E: Sink>(err: &mut E, words: &str, name: &str)
     tell_parts(err, &[words, name, "\n"]);
 }
 
-/// Tells a line of words and two things that they are about, with a space between these.
+/// Prints a line of words and two things that they are about, with a space between these.
 pub fn tell_pair<E: Sink>(err: &mut E, words: &str, first: &str, second: &str)
     ensures line { Tells (E.faults err.old) (E.faults err.new) (E.writing err.old) (E.writing err.new)
         ((words.now ++ (first.now ++ (codes " " ++ second.now))) ++ codes "\n") }

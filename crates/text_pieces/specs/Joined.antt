@@ -3,7 +3,7 @@ use Rattle.std.specs.Prelude.{ℕ, List, [], ◌∷◌, ◌++◌}
 use Rattle.std.specs.declared.alloc.Global.{Global}
 use Rattle.std.specs.declared.vec.Vec.{Vec}
 
--- the bytes of the pieces, one piece behind the other
+-- the bytes of the pieces, one after the other
 abbrev pub joined : List (Vec ℕ Global) → List ℕ
 joined [] = []
 joined (p ∷ ps) = p.items ++ joined ps

@@ -6,7 +6,7 @@ use std::alloc::{AllocError, Global};
 use std::marker::Model;
 use std::mem;
 
-/// The most bytes of two pieces that are made one, 64 KiB: a short text is one piece.
+/// The most bytes up to which two pieces are merged, 64 KiB: a short text is one piece.
 const SHORT: usize = 65536;
 
 /// A text in pieces. Contracts see its bytes.
@@ -26,7 +26,7 @@ impl Model for Pieces {
 }
 
 impl Pieces {
-    /// A text without a byte.
+    /// An empty text.
     pub fn new(alloc: Global) -> Pieces
         ensures { result ≡ [] }
     {
@@ -46,7 +46,7 @@ impl Pieces {
         }
     }
 
-    /// Puts a piece behind the others. After want of memory the text is as before.
+    /// Appends a piece. If memory runs out, the text is as before.
     pub fn push(&mut self, piece: Vec<u8>) -> Result<(), AllocError>
         ensures ok { OnOk result (self.new ≡ self.old ++ piece.items) }
         ensures err { OnErr result (self.new ≡ self.old) }
@@ -58,7 +58,7 @@ impl Pieces {
         }
     }
 
-    /// Puts a piece of its own behind the others.
+    /// Appends an owned piece.
     #[tactic(auto, using(crate::proofs::OneMore::joined_more))]
     fn begin(&mut self, piece: Vec<u8>) -> Result<(), AllocError>
         ensures ok { OnOk result (self.new ≡ self.old ++ piece.items) }

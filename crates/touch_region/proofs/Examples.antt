@@ -1,4 +1,4 @@
--- Worked examples: what the definitions say of rectangles that are written out.
+-- Worked examples: the definitions on concrete rectangles.
 use Rattle.std.specs.Prelude.{◌≡◌, true, false, pos, negsuc, List, ℕ, [], ◌∷◌, replicate, Ok, Err, refl}
 use Rattle.touch_region.specs.declared.rectangle.Rect.{Rect}
 use Rattle.touch_region.specs.declared.region.RegionError.TheVariants.{TooMany, BadRect}

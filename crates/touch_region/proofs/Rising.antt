@@ -61,7 +61,7 @@ module _ {X : Type 0} (from until : X → ℤ) (test : X → Bool) (z : ℤ)
     (begun : (x : X) → test x ≡ true → from x ≤ℤ z) (open' : (x : X) → test x ≡ true → z <ℤ until x)
     (xs : List X) (apart : AreApart from until xs) (i : ℕ)
     (point : IsPartitionPoint (λ x. int_le (until x) z ≡ true) (λ x. int_le (until x) z ≡ false) xs i) where
-  -- where one of them passes, it is the first that has not ended
+  -- if one of them passes, it is the first that has not ended
   place : (k : ℕ) (x : X) → k < length xs → get_or xs k x ≡ x → test x ≡ true → k ≡ i
   place k x within at passes =
       elim (cases_order k i) as (λ _. k ≡ i) [
@@ -114,11 +114,11 @@ module _ {X : Type 0} (until : X → ℤ) (hold : X → ℤ → Bool) (target : 
     (until_is : (x : X) (z : ℤ) → hold x z ≡ true → z <ℤ until x)
     (ended : All (λ x. until x ≤ℤ low) xs)
     (old : (z : ℤ) → z <ℤ low → list_any (λ x. hold x z) xs ≡ target z) where
-  -- where nothing is from low to high, they stay as they are
+  -- if nothing lies from low to high, they stay as they are
   pub still : ((z : ℤ) → low ≤ℤ z → z <ℤ high → target z ≡ false) → (z : ℤ) → z <ℤ high → list_any (λ x. hold x z) xs ≡ target z
   still none z h = by_lt_z z low (λ below. old z below) (λ above. past until hold until_is low xs ended z above ∙ sym (none z above h))
 
-  -- one more that has all from low to high
+  -- one more span that covers everything from low to high
   pub and_one : (x : X) → ((z : ℤ) → z <ℤ low → hold x z ≡ false) → ((z : ℤ) → low ≤ℤ z → z <ℤ high → hold x z ≡ target z)
       → (z : ℤ) → z <ℤ high → list_any (λ y. hold y z) (xs ++ x ∷ []) ≡ target z
   and_one x before here z h =

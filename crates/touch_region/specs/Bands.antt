@@ -17,7 +17,7 @@ pub record Row : Type 0 where
 abbrev pub bands_hold : List Row → ℤ → ℤ → Bool
 bands_hold rows x y = list_any (λ r. is_between r.top y r.bottom && spans_hold r.spans x) rows
 
--- the columns and the rows that a rectangle has
+-- the columns and the rows of a rectangle
 abbrev pub columns_of : Rect → Span
 columns_of rect = record { from = rect.left; until = rect.right }
 
@@ -35,13 +35,13 @@ pub record AreBands (rects : List Rect) (rows : List Row) : Type 0 where
 abbrev pub HasBands : List Rect → List Row → Type 0
 HasBands rects rows = 1 < length rects → AreBands rects rows
 
--- the bands above y = limit have the points of the rectangles there, and no band reaches below it
+-- the bands above y = limit contain the points of the rectangles there, and no band reaches below it
 pub record BandsAbove (limit : ℤ) (rects : List Rect) (rows : List Row) : Type 0 where
   pub apart : AreApart (λ r. r.top) (λ r. r.bottom) rows
   pub ended : All (λ r. r.bottom ≤ℤ limit) rows
   pub same : (x y : ℤ) → y <ℤ limit → bands_hold rows x y ≡ region_holds rects x y
 
--- the spans left of x = limit have the points of the rectangles there in row y, and no span reaches right of it
+-- the spans left of x = limit contain the points of the rectangles there in row y, and no span reaches right of it
 pub record SpansLeft (limit : ℤ) (rects : List Rect) (y : ℤ) (spans : List Span) : Type 0 where
   pub apart : AreApart (λ s. s.from) (λ s. s.until) spans
   pub ended : All (λ s. s.until ≤ℤ limit) spans

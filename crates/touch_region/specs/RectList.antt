@@ -8,7 +8,7 @@ use Rattle.touch_region.specs.Rectangle.{rect_holds, is_ordered}
 abbrev pub region_holds : List Rect → ℤ → ℤ → Bool
 region_holds rects x y = list_any (λ rect. rect_holds rect x y) rects
 
--- the place, from 0, of the first rectangle whose edges are not in order
+-- the index, from 0, of the first rectangle whose edges are not in order
 abbrev pub first_bad : List Rect → Option ℕ
 first_bad rects = position (λ rect. not (is_ordered rect)) rects
 

@@ -1,4 +1,4 @@
--- Which points a rectangle has, and which rectangles have their edges in order.
+-- Which points a rectangle contains, and which rectangles have their edges in order.
 use Rattle.std.specs.Prelude.{Bool, ◌&&◌, ℤ}
 use Rattle.std.specs.Int.RustNames.{int_le}
 use Rattle.touch_region.specs.declared.rectangle.Rect.{Rect}

@@ -10,11 +10,11 @@ abbrev pub region_unless : List Rect → Option ℕ → Result (List Rect) Regio
 region_unless rects None = Ok rects
 region_unless rects (Some i) = Err (BadRect i)
 
--- the region of these rectangles: more than 64 are too many, and then the first bad one is named
+-- the region of these rectangles: more than 64 are refused, and otherwise the first bad one is reported
 abbrev pub region_of : List Rect → Result (List Rect) RegionError
 region_of rects = if nat_lt 64 (length rects) then Err TooMany else region_unless rects (first_bad rects)
 
--- a call answers this, unless memory ran out
+-- the result of a call, unless memory ran out
 abbrev pub Gives : Result (List Rect) RegionError → Result (List Rect) RegionError → Type 0
 Gives (Err Memory) due = Unit {0}
 Gives answer due = answer ≡ due

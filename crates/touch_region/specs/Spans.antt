@@ -1,4 +1,4 @@
--- Spans one behind the other, and the edges of spans.
+-- Spans one after the other, and the edges of spans.
 use Rattle.std.specs.Prelude.{Bool, ℤ, ◌≤ℤ◌, ◌<ℤ◌, List, ◌⊎◌}
 use Rattle.std.specs.List.{list_any, All, AllPairs, Contains}
 use Rattle.touch_region.specs.declared.span.Span.{Span}
@@ -8,7 +8,7 @@ use Rattle.touch_region.specs.Between.{is_between}
 abbrev pub spans_hold : List Span → ℤ → Bool
 spans_hold spans x = list_any (λ s. is_between s.from x s.until) spans
 
--- none is empty, and each has ended where the next ones begin
+-- no span is empty, and each ends before the next ones begin
 pub record AreApart {X : Type 0} (from until : X → ℤ) (xs : List X) : Type 0 where
   pub wide : All (λ x. from x <ℤ until x) xs
   pub rising : AllPairs (λ x y. until x ≤ℤ from y) xs

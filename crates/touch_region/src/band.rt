@@ -1,4 +1,4 @@
-//! Bands: the points of a list of rectangles row by row, so that a point is found without a look at each rectangle.
+//! Bands: the points of a list of rectangles row by row, so that a point is found without testing each rectangle.
 
 ghost use Rattle.std.specs.Prelude.{◌≡◌, ◌&&◌, ℤ, ◌+◌, ◌≤◌, length, map, IfOk, int_le, ◌≤ℤ◌};
 ghost use Rattle.touch_region.specs.Between.{is_between};
@@ -13,7 +13,7 @@ use std::marker::Model;
 
 /// The rows of pixels from `top` until `bottom`. In each of them the same spans belong to the region.
 ///
-/// A clause sees a band as its edges and the list of its spans, which stand from left to right without overlap.
+/// Contracts see a band as its edges and the list of its spans, which run from left to right without overlap.
 #[derive(Drop)]
 pub(crate) struct Band {
     top: i32,
@@ -127,7 +127,7 @@ fn rows_of(alloc: Global, rects: &[Rect]) -> Result<Vec<Span>, AllocError>
     rects.iter().map(|rect| rect.rows()).collect(alloc)
 }
 
-/// Adds the band between two neighbouring edges to those above it, where some rectangle has points there.
+/// Adds the band between two neighbouring edges to those above it, if some rectangle has points there.
 fn add_band(
     alloc: Global,
     bands: &mut Vec<Band>,
@@ -167,7 +167,7 @@ fn spans_at(alloc: Global, rects: &[Rect], columns: &[i32], y: i32) -> Result<Ve
     Ok(spans)
 }
 
-/// Adds the span between two neighbouring edges to those left of it, where some rectangle has points there in row y.
+/// Adds the span between two neighbouring edges to those left of it, if some rectangle has points there in row y.
 fn add_span(
     spans: &mut Vec<Span>,
     rects: &[Rect],
@@ -187,7 +187,7 @@ fn add_span(
     Ok(())
 }
 
-/// Whether one of the rectangles has the point.
+/// Whether one of the rectangles contains the point.
 fn region_holds(rects: &[Rect], x: i32, y: i32) -> bool
     ensures { result ≡ region_holds rects.now x y }
 {

@@ -1,9 +1,9 @@
 //! The part of the display on which a window can be touched.
 //!
 //! A window is touched inside its region, a list of rectangles in display pixels. Rectangles are half-open, as
-//! everywhere in Android's input code: the rectangle `[10, 10, 20, 20]` has the pixel (10, 10) and not the pixel
-//! (20, 10), so two windows side by side share no pixel. Of the region `[10, 10, 20, 20]` and `[15, 15, 30, 18]` the
-//! points (19, 19) and (29, 17) are part, each by one of the two, and (29, 19) is not.
+//! everywhere in Android's input code: the rectangle `[10, 10, 20, 20]` contains the pixel (10, 10) and not the pixel
+//! (20, 10), so two windows side by side share no pixel. The region `[10, 10, 20, 20]` and `[15, 15, 30, 18]`
+//! contains the points (19, 19) and (29, 17), each in one of the two rectangles, but not (29, 19).
 #![tactic(auto)]
 
 mod band;

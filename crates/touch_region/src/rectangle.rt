@@ -4,7 +4,7 @@ ghost use Rattle.std.specs.Prelude.{◌≡◌};
 
 use crate::span::{Span, is_between};
 
-/// A rectangle in display pixels, half-open: it has the points with `left <= x < right` and `top <= y < bottom`.
+/// A rectangle in display pixels, half-open: it contains the points with `left <= x < right` and `top <= y < bottom`.
 ///
 /// Any four numbers make a rectangle, so one whose right edge is not right of its left edge has no point.
 #[derive(Clone, Copy, PartialEq, Eq, Debug)]
@@ -13,9 +13,9 @@ pub struct Rect {
     pub left: i32,
     /// The least y of its points; y grows downwards.
     pub top: i32,
-    /// The x behind the last column of its points.
+    /// The x just right of its last column.
     pub right: i32,
-    /// The y behind the last row of its points.
+    /// The y just below its last row.
     pub bottom: i32,
 }
 
@@ -30,15 +30,15 @@ impl Rect {
         is_between(self.left, x, self.right) && is_between(self.top, y, self.bottom)
     }
 
-    /// Whether the left edge is not right of the right one, and the top edge not below the bottom one. Equal edges are
-    /// in order, and leave the rectangle without a point.
+    /// Whether the left edge is not right of the right one, and the top edge not below the bottom one. Equal edges
+    /// are in order, but the rectangle then has no points.
     pub fn is_ordered(&self) -> bool
         ensures { result ≡ is_ordered self.now }
     {
         self.left <= self.right && self.top <= self.bottom
     }
 
-    /// The columns of pixels that it has.
+    /// Its columns of pixels.
     pub(crate) fn columns(&self) -> Span
         ensures { result ≡ columns_of self.now }
     {
@@ -48,7 +48,7 @@ impl Rect {
         }
     }
 
-    /// The rows of pixels that it has.
+    /// Its rows of pixels.
     pub(crate) fn rows(&self) -> Span
         ensures { result ≡ rows_of self.now }
     {

@@ -8,17 +8,17 @@ use crate::rectangle::Rect;
 use std::alloc::AllocError;
 use std::marker::Model;
 
-/// How many rectangles a region has at most.
+/// The most rectangles that a region can have.
 pub const MAX_RECTS: usize = 64;
 
 /// The part of the display on which a window can be touched: every point that lies in one of its rectangles.
 ///
-/// A clause sees a region as the list of its rectangles, in display pixels, in the order in which they were given.
-/// There are at most 64, each with its edges in order. A region without rectangles, or with empty ones alone, has no
-/// point.
+/// Contracts see a region as the list of its rectangles, in display pixels, in the order in which they were given.
+/// There are at most 64, each with its edges in order. A region with no rectangles, or only empty ones, has no
+/// points.
 ///
-/// Two or more rectangles have bands beside them, in which two binary searches find a point: one for the band, one in
-/// it for the span. One rectangle, as nearly every window has, is looked at itself.
+/// Two or more rectangles are stored with bands, in which two binary searches find a point: one for the band, one in
+/// it for the span. A single rectangle, which nearly every window has, is tested directly.
 #[derive(Drop)]
 pub struct Region {
     rects: Vec<Rect>,
@@ -38,18 +38,18 @@ impl Model for Region {
     ghost invariant = { λ r. IsRegion r.rects.items × HasBands r.rects.items r.bands.items };
 }
 
-/// Why a list of rectangles is no region.
+/// Why a list of rectangles is not a region.
 #[derive(Clone, Copy, PartialEq, Eq, Debug)]
 pub enum RegionError {
     /// More than 64 rectangles.
     TooMany,
-    /// The rectangle at the place `i`, counted from 0, has its left edge right of its right one, or its top edge below
-    /// its bottom one; no rectangle before it has.
+    /// The rectangle at index `i`, counted from 0, has its left edge right of its right one, or its top edge below
+    /// its bottom one. It is the first such rectangle.
     BadRect {
-        /// The place of that rectangle.
+        /// The index of that rectangle.
         i: u32,
     },
-    /// No memory for the bands. One rectangle asks for none.
+    /// Out of memory for the bands. A single rectangle needs none.
     Memory,
 }
 
@@ -65,8 +65,8 @@ impl Region {
     ghost use Rattle.touch_region.specs.Region.{region_of, Gives};
     ghost use Rattle.touch_region.specs.RectList.{region_holds, IsRegion};
 
-    /// The region of these rectangles. More than 64 are refused before any of them is looked at; then the first whose
-    /// edges are not in order is refused. Two or more rectangles take memory, one or none do not.
+    /// The region of these rectangles. More than 64 are refused before any of them is examined; then the first whose
+    /// edges are not in order is refused. Two or more rectangles allocate memory, one or none do not.
     pub fn new(rects: Vec<Rect>) -> Result<Region, RegionError>
         ensures region { Gives result (region_of rects.items) }
         ensures no_memory { length rects.items ≤ 1 → result ≡ region_of rects.items }
@@ -124,7 +124,7 @@ impl Region {
 
 ghost use Rattle.touch_region.specs.RectList.{first_bad};
 
-// The place of the first rectangle whose edges are not in order.
+// The index of the first rectangle whose edges are not in order.
 fn first_bad(rects: &[Rect]) -> Option<usize>
     ensures { result ≡ first_bad rects.now }
 {

@@ -29,7 +29,7 @@ pub(crate) fn is_between(from: i32, x: i32, until: i32) -> bool
     from <= x && x < until
 }
 
-/// Whether x lies in one of the spans, which stand one behind the other.
+/// Whether x lies in one of the spans, which stand one after the other.
 pub(crate) fn spans_hold(spans: &[Span], x: i32) -> bool
     requires { AreApart (λ s. s.from) (λ s. s.until) spans.now }
     ensures { result ≡ spans_hold spans.now x }
@@ -41,7 +41,7 @@ pub(crate) fn spans_hold(spans: &[Span], x: i32) -> bool
     }
 }
 
-/// The edges of these spans in rising order, each as often as it stands there.
+/// The edges of these spans in rising order, duplicates included.
 pub(crate) fn edges_of(alloc: Global, spans: &[Span]) -> Result<Vec<i32>, AllocError>
     ensures edges { IfOk result (λ edges. AreEdges edges.items spans.now) }
     ensures two_each { IfOk result (λ edges. length edges.items ≡ 2 * length spans.now) }

@@ -26,13 +26,13 @@ pair_any (q ∷ qs) w d i h =
       | inr t ↦ or_right (q.window == w && q.device == d) (has_any qs w d) (pair_any qs w d i t)
     ]
 
--- two truths with the same cause are the same
+-- two truth values with the same condition are equal
 alike : (a b : Bool) → (a ≡ true → b ≡ true) → (b ≡ true → a ≡ true) → a ≡ b
 alike true b f g = sym (f refl)
 alike false true f g = g refl
 alike false false f g = refl
 
--- a window holds something where it holds a pointer
+-- a window holds something if it holds a pointer
 pub any_agrees : (t : Touches) (qs : List Pair) (w d : ℕ) → ((i : ℕ) → holds t w i ≡ has qs w d i) → any t w ≡ has_any qs w d
 any_agrees t qs w d same =
     alike (any t w) (has_any qs w d)

@@ -1,4 +1,4 @@
--- The least place at which one of some windows began.
+-- The least index at which one of some windows began.
 use Rattle.std.proofs.Common.{ℕ, ◌+◌, ◌-◌, ◌<◌, ◌≤◌, ◌≡◌, ◌≢◌, ◌&&◌, ◌==◌, not, IsTrue, ◌↔◌, Bool, true, false, List, get_or, Option, Some, None, refl, sym, ap, ◌∙◌, inl, inr, arith}
 use Rattle.std.specs.Prelude.{bit_and}
 use Rattle.std.proofs.lemmas.Bool.{cases_eq, cases_lt, lt-ltb, le-ltb, both_ways, eq-eqb, eqb-true, and_parts, and_from, leb-true}
@@ -11,11 +11,11 @@ use Rattle.touch_state.proofs.Passes.{row_of-at}
 use Rattle.touch_state.proofs.Sets.{and_false}
 use Rattle.touch_state.proofs.Steps.{mask_has-and}
 
--- of no row
+-- for no row
 pub least_none : (rows : List Row) (hits : ℕ) → IsLeastSince rows hits 0 None
 least_none rows hits w le = let z : w ≡ 0 = omega (arith, le) in ap (mask_has hits) z
 
--- of one row more
+-- for one more row
 pub least_more : (rows : List Row) (hits k : ℕ) (least : Option ℕ) → k < 64 → IsLeastSince rows hits k least
     → IsLeastSince rows hits (k + 1) (sooner (mask_has hits (k + 1)) (get_or rows k no_row).since least)
 least_more rows hits k least lt l = by_hit (mask_has hits (k + 1)) refl least l
@@ -65,7 +65,7 @@ least_more rows hits k least lt l = by_hit (mask_has hits (k + 1)) refl least l
           ],
     )
 
--- above the windows of the mask there is nothing to find
+-- there is nothing to find above the windows of the mask
 pub least_whole : (rows : List Row) (hits k : ℕ) (least : Option ℕ) → k ≤ 64 → ((w : ℕ) → k < w → mask_has hits w ≡ false)
     → IsLeastSince rows hits k least → IsLeastSince rows hits 64 least
 least_whole rows hits k None le above none = λ w lw.
@@ -94,7 +94,7 @@ earliest_none t holders among k none w = (
       absurd (both_ways (mask_has (bit_and holders among) w) (none w (low (bit_and holders among) w h)) h),
 )
 
--- those that began at the least place
+-- those that began at the least index
 pub earliest_some : (t : Touches) (holders among least result : ℕ) → Kept t.rows holders t.pilferers
     → IsLeastSince t.rows (bit_and holders among) 64 (Some least)
     → ((w : ℕ) → mask_has result w ≡ (mask_has (bit_and holders among) w && (row_of t.rows w).since == least))

@@ -10,7 +10,7 @@ or_false : (b : Bool) → (b || false) ≡ b
 or_false true = refl
 or_false false = refl
 
--- in the middle of it: the rows before place k are changed, each by its window, and the others are not
+-- halfway: the rows before index k are changed, each by its window, and the others are not
 abbrev pub Passed : (ℕ → Row → Row) → (old new : List Row) → ℕ → Type 0
 Passed f old new k =
     (j : ℕ) → get_or new j no_row ≡ (if nat_lt j k then f (j + 1) (get_or old j no_row) else get_or old j no_row)
@@ -59,7 +59,7 @@ passed_all f old new n p le outside w = by_channel (is_channel w) refl
         rw e (here ∙ ap (λ v. f v row) back)
     by_channel false e = rw e (sym (outside w e))
 
--- the row at a place, by its window
+-- the row at an index, by its window
 pub row_of-at : (rows : List Row) (k : ℕ) → k < 64 → row_of rows (k + 1) ≡ get_or rows k no_row
 row_of-at rows k lt =
     let channel : is_channel (k + 1) ≡ true = and_from _ _ (lt-ltb 0 (k + 1) (omega arith)) (le-leb (k + 1) 64 (omega (arith, lt))) in

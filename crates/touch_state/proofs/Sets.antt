@@ -18,7 +18,7 @@ pub and_false : (b : Bool) → (b && false) ≡ false
 and_false true = refl
 and_false false = refl
 
--- nothing is taken of nothing
+-- nothing is taken from an empty set
 pub nothing_taken : (takes : ℕ → Bool) → IsTaken takes no_row no_row
 nothing_taken takes = record { ids = λ i. rw (bit_at-zero i) refl; since = refl }
 

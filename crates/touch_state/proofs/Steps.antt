@@ -1,4 +1,4 @@
--- What a change of the table is to the state.
+-- How a change of the table changes the state.
 use Rattle.std.proofs.Common.{ℕ, zero, suc, ◌-◌, ◌<◌, ◌≡◌, ◌≢◌, ◌&&◌, ◌||◌, ◌==◌, min, not, Bool, true, false, ◌⊎◌, List, replicate, get_or, if◌then◌else◌, refl, sym, ap, ◌∙◌, subst, inl, inr, arith}
 use Rattle.std.specs.Prelude.{bit_and}
 use Rattle.std.specs.Int.{bit_at}
@@ -41,7 +41,7 @@ kept_after rows holders pilferers are =
       pilfer = λ w h. (and_parts (mask_has pilferers w) (mask_has holders w) (sym (mask_has-and pilferers holders w) ∙ h)).1;
     }
 
--- how a row changes where its window is given these ids and loses those, at a place
+-- how a row changes if its window is given these ids and loses those, at an index
 pub record Turns (old new : Row) (gives takes : ℕ → Bool) (place : ℕ) : Type 0 where
   pub ids : (i : ℕ) → is_in i new.ids ≡ (gives i || is_in i old.ids && not (takes i))
   pub since : new.since ≡ (if not (new.ids == 0) && not (not (old.ids == 0)) then place else old.since)
@@ -65,7 +65,7 @@ changes old rows holders gives takes place are turns =
     swap false true = refl
     swap false false = refl
 
--- nothing begins where nothing is given
+-- nothing begins if nothing is given
 not_begun : (x y : Bool) → (x ≡ true → y ≡ true) → (x && not y) ≡ false
 not_begun true y e = rw (e refl) refl
 not_begun false y e = refl

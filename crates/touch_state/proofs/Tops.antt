@@ -1,4 +1,4 @@
--- Above the highest bit of a mask stands none of its windows.
+-- No window of a mask is above its highest bit.
 use Rattle.std.proofs.Common.{ℕ, suc, ◌+◌, ◌-◌, ◌^◌, ◌<◌, ◌≤◌, ◌≡◌, ◌&&◌, ◌==◌, not, Bool, false, List, refl, ap, sym, ◌∙◌, inl, inr, arith}
 use Rattle.std.specs.Int.{bit_at, leading_zeros, w64}
 use Rattle.std.proofs.lemmas.Bool.{cases_Bool, cases_lt, eqb-true, both_ways}
@@ -25,7 +25,7 @@ top_above mask w fits lt =
     no_bit : bit_at mask (w - 1) ≡ 0 → mask_has mask w ≡ false
     no_bit e = ap (λ b. is_channel w && (b == 1)) e ∙ and_false (is_channel w)
 
--- who is no holder holds nothing
+-- a window that is not a holder holds nothing
 pub held_none : (rows : List Row) (holders pilferers w : ℕ) → Kept rows holders pilferers → mask_has holders w ≡ false → (row_of rows w).ids ≡ 0
 held_none rows holders pilferers w k none =
     elim (cases_Bool ((row_of rows w).ids == 0)) [
@@ -33,6 +33,6 @@ held_none rows holders pilferers w k none =
       | inr f ↦ absurd (both_ways (not ((row_of rows w).ids == 0)) (sym (k.hold w) ∙ none) (ap not f))
     ]
 
--- nor does he where something is taken from him
+-- nor does it after something is taken from it
 pub taken_none : (takes : ℕ → Bool) (old new : Row) → IsTaken takes old new → old.ids ≡ 0 → new.ids ≡ 0
 taken_none takes old new t e = none_in new.ids (λ i. t.ids i ∙ (rw (e, bit_at-zero i) refl))

@@ -1,4 +1,4 @@
--- How a touch state says what the marks of steps say of its device.
+-- How a touch state agrees with the marks of steps for its device.
 use Rattle.std.specs.Prelude.{ℕ, ◌≡◌, List, ◌∷◌, length}
 use Rattle.routing_rules.specs.Pairs.{has}
 use Rattle.routing_rules.specs.Taking.{takes, pilfers}
@@ -11,7 +11,7 @@ pub record Agrees (t : Touches) (ms : List Mark) (d : ℕ) : Type 0 where
   pub began : (w : ℕ) → since t w ≡ since_by ms w d
   pub pilfer : (w : ℕ) → pilfering t w ≡ pilfering_by ms w d
 
--- A state that agrees still does after a step, where it changes as the step's mark says, at the place of the step.
+-- A state that agrees still does after a step, if it changes as the step's mark says, at the index of the step.
 abbrev pub StepLaw : Type 0
 StepLaw =
     (old new : Touches) (m : Mark) (before : List Mark) (d : ℕ)

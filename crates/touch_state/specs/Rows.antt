@@ -1,4 +1,4 @@
--- The table of what each window has, and how it says what they hold.
+-- The table of the windows, and what it says that they hold.
 use Rattle.std.specs.Prelude.{ℕ, ◌-◌, ◌≤◌, nat_lt, Option, Some, None, Bool, true, false, not, ◌&&◌, ◌==◌, ◌≡◌, List, slice_index_or, if◌then◌else◌}
 use Rattle.bits32.specs.Set.{is_in, marked}
 use Rattle.window_snapshot.specs.Mask.{is_channel, mask_has}
@@ -12,7 +12,7 @@ no_row = record { ids = 0; since = 0 }
 abbrev pub row_of : List Row → ℕ → Row
 row_of rows w = if is_channel w then slice_index_or rows (w - 1) no_row else no_row
 
--- the row after the window is given an id at a place, where it is given that
+-- the row after the window may have been given an id at an index
 abbrev pub after_give : Bool → ℕ → ℕ → Row → Row
 after_give hit id place row =
     if hit then record { ids = marked id row.ids; since = if row.ids == 0 then place else row.since } else row
@@ -31,19 +31,19 @@ abbrev pub IsSlipped : (from to : Bool) → ℕ → ℕ → Row → Row → Type
 IsSlipped from true id place old new = new ≡ after_give true id place old
 IsSlipped from false id place old new = IsTaken (λ i. from && i == id) old new
 
--- one mask has the windows that hold something, and the other some of these
+-- one mask contains the windows that hold something, and the other some of these
 pub record Kept (rows : List Row) (holders pilferers : ℕ) : Type 0 where
   pub hold : (w : ℕ) → mask_has holders w ≡ not ((row_of rows w).ids == 0)
   pub pilfer : (w : ℕ) → mask_has pilferers w ≡ true → mask_has holders w ≡ true
 
--- the lesser of the least place so far and that of a window, where it counts
+-- the lesser of the least index so far and that of a window, if it counts
 abbrev pub sooner : Bool → ℕ → Option ℕ → Option ℕ
 sooner false place least = least
 sooner true place None = Some place
 sooner true place (Some least) = Some (if nat_lt place least then place else least)
 
--- the least place at which a window of the mask began, of those that stand in the first k rows: none where the mask
--- has none of them, and else that of one of them, and at or below that of each of them
+-- the least index at which a window of the mask in the first k rows began: None if there is no such window, otherwise
+-- the index of one of them, at or below that of each
 abbrev pub IsLeastSince : List Row → (hits k : ℕ) → Option ℕ → Type 0
 IsLeastSince rows hits k None = (w : ℕ) → w ≤ k → mask_has hits w ≡ false
 IsLeastSince rows hits k (Some least) =

@@ -1,4 +1,4 @@
--- What 64 windows have of the pointers of one device.
+-- What 64 windows hold of the pointers of one device.
 use Rattle.std.specs.Prelude.{ℕ, Bool, true, false, not, ◌==◌, ◌&&◌, ◌||◌, ◌≤◌, ◌≡◌, IsTrue, List, if◌then◌else◌}
 use Rattle.bits32.specs.Set.{is_in}
 use Rattle.window_snapshot.specs.Mask.{mask_has}
@@ -16,7 +16,7 @@ pub record Touches : Type 0 where
 abbrev pub held : Touches → ℕ → ℕ
 held t w = (row_of t.rows w).ids
 
--- the place at which the window last went from holding nothing to holding something
+-- the index of the step at which the window last went from holding nothing to holding something
 abbrev pub since : Touches → ℕ → ℕ
 since t w = (row_of t.rows w).since
 
@@ -32,10 +32,9 @@ holds t w i = is_in i (held t w)
 abbrev pub any : Touches → ℕ → Bool
 any t w = not (held t w == 0)
 
--- A change at a place that gives these pointers, takes those, and with which these windows pilfer the device. A
--- window holds what it is given, and what it held and is not taken; it began here where it held nothing before and
--- holds something after; and it is pilfering where it holds something, and either pilfers here or was pilfering
--- before.
+-- A change at an index that gives these pointers, takes those, and in which these windows pilfer the device. A window
+-- holds what it is given, and what it held that is not taken. It begins here if it held nothing before and holds
+-- something after. It is pilfering if it holds something, and either pilfers here or was pilfering before.
 pub record Changes (old new : Touches) (gives takes : (window id : ℕ) → Bool) (place : ℕ) (pilfers : ℕ → Bool) : Type 0 where
   pub device : new.device ≡ old.device
   pub hold : (w i : ℕ) → holds new w i ≡ (gives w i || holds old w i && not (takes w i))
@@ -70,7 +69,7 @@ of_set v set w i = w == v && is_in i set
 abbrev pub nobody : ℕ → Bool
 nobody w = false
 
--- the window holds something, and the mask has it
+-- the window holds something, and is in the mask
 abbrev pub is_holder_in : Touches → ℕ → ℕ → Bool
 is_holder_in t among w = any t w && mask_has among w
 

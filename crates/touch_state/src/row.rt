@@ -1,4 +1,4 @@
-//! What each window has of the device.
+//! What each window holds of the device.
 ghost use Rattle.std.specs.Prelude.{◌≡◌, ℕ, ◌<◌, ◌≤◌, true, false, ◌==◌, not, ◌&&◌, ◌||◌, if◌then◌else◌};
 ghost use Rattle.bits32.specs.Set.{is_in};
 ghost use Rattle.window_snapshot.specs.Mask.{is_channel, mask_has};
@@ -8,12 +8,12 @@ use bits32::Bits32;
 use input_types::PointerId;
 use window_snapshot::{mask_has, mask_with};
 
-/// What a window has of the device.
+/// What a window holds of the device.
 #[derive(Clone, Copy, Debug)]
 pub(crate) struct Row {
     /// The ids of the pointers that it holds.
     pub(crate) ids: Bits32,
-    /// The place at which it last went from holding nothing to holding something.
+    /// The index of the step at which it last went from holding nothing to holding something.
     pub(crate) since: u64,
 }
 
@@ -27,7 +27,7 @@ pub(crate) fn no_row() -> Row
     }
 }
 
-/// The row after the window is given an id at a place, where it is given that.
+/// The row after the window may have been given an id at an index.
 fn after_give(row: Row, hit: bool, id: PointerId, place: u64) -> Row
     ensures { result ≡ after_give hit id place row }
 {
@@ -56,7 +56,7 @@ fn lifted(row: Row, id: PointerId) -> Row
     }
 }
 
-/// The set without a number, where another set has that.
+/// The set without a number, if another set contains it.
 fn without_one(set: Bits32, ids: Bits32, id: u8) -> Bits32
     requires { id < 32 }
     ensures { (i : ℕ) → is_in i result ≡ (if is_in id ids then not (i == id) && is_in i set else is_in i set) }
@@ -95,7 +95,7 @@ fn put(rows: &mut [Row; 64], channel: u32, row: Row)
     rows[channel as usize - 1] = row;
 }
 
-/// Gives an id to one window at a place, and takes it from another.
+/// Gives an id to one window at an index, and takes it from another.
 pub(crate) fn slip(rows: &mut [Row; 64], from: u32, to: u32, id: PointerId, place: u64)
     requires from_is { is_channel from ≡ true }
     requires to_is { is_channel to ≡ true }
@@ -135,7 +135,7 @@ pub(crate) fn empty_all(rows: &mut [Row; 64])
     }
 }
 
-/// Up to which window a mask has windows: above it there is none.
+/// The highest window of a mask.
 pub(crate) fn top_of(mask: u64) -> usize
     ensures above { (w : ℕ) → result < w → mask_has mask w ≡ false }
     ensures few { result ≤ 64 }
@@ -143,7 +143,7 @@ pub(crate) fn top_of(mask: u64) -> usize
     64 - mask.leading_zeros() as usize
 }
 
-/// Gives an id to each window of a mask, at a place; above the top it has none.
+/// Gives an id to each window of a mask, at an index; the mask has no windows above the top.
 pub(crate) fn give_all(rows: &mut [Row; 64], to: u64, id: PointerId, place: u64, top: usize)
     requires few { top ≤ 64 }
     requires above { (w : ℕ) → top < w → mask_has to w ≡ false }
@@ -154,7 +154,7 @@ pub(crate) fn give_all(rows: &mut [Row; 64], to: u64, id: PointerId, place: u64,
     }
 }
 
-/// Takes an id from every window; above the top none holds anything.
+/// Takes an id from every window; no window above the top holds anything.
 pub(crate) fn lift_all(rows: &mut [Row; 64], id: PointerId, top: usize)
     requires few { top ≤ 64 }
     requires above { (w : ℕ) → top < w → (row_of rows.old w).ids ≡ 0 }
@@ -165,7 +165,7 @@ pub(crate) fn lift_all(rows: &mut [Row; 64], id: PointerId, top: usize)
     }
 }
 
-/// The mask with the window of this channel besides, where it holds something.
+/// The mask, with the window of this channel added if it holds something.
 fn noted(holders: u64, channel: u32, row: Row) -> u64
     requires { is_channel channel ≡ true }
     ensures { (w : ℕ) → mask_has result w ≡ (mask_has holders w || (w == channel && not (row.ids == 0))) }
@@ -177,7 +177,7 @@ fn noted(holders: u64, channel: u32, row: Row) -> u64
     }
 }
 
-/// The mask of the windows that hold something; above the top none does.
+/// The mask of the windows that hold something; none above the top does.
 pub(crate) fn holders_of(rows: &[Row; 64], top: usize) -> u64
     requires few { top ≤ 64 }
     requires above { (w : ℕ) → top < w → (row_of rows.now w).ids ≡ 0 }
@@ -190,7 +190,7 @@ pub(crate) fn holders_of(rows: &[Row; 64], top: usize) -> u64
     holders
 }
 
-/// The least place at which one of the windows of a mask began; None exactly where it has none.
+/// The least index at which one of the windows of a mask began; None exactly if the mask is empty.
 pub(crate) fn least_since(rows: &[Row; 64], hits: u64) -> Option<u64>
     ensures { IsLeastSince rows.now hits 64 result }
 {
@@ -202,7 +202,7 @@ pub(crate) fn least_since(rows: &[Row; 64], hits: u64) -> Option<u64>
     least
 }
 
-/// The lesser of a place and that of a row, where the window of the row counts.
+/// The lesser of an index and that of a row, if the window of the row counts.
 fn sooner(least: Option<u64>, hit: bool, row: Row) -> Option<u64>
     ensures { result ≡ sooner hit row.since least }
 {
@@ -221,7 +221,7 @@ fn sooner(least: Option<u64>, hit: bool, row: Row) -> Option<u64>
     }
 }
 
-/// The mask of those windows of a mask that began at a place.
+/// The mask of those windows of a mask that began at an index.
 pub(crate) fn began_at(rows: &[Row; 64], hits: u64, place: u64) -> u64
     ensures { (w : ℕ) → mask_has result w ≡ (mask_has hits w && (row_of rows.now w).since == place) }
 {
@@ -239,7 +239,7 @@ pub(crate) fn began_at(rows: &[Row; 64], hits: u64, place: u64) -> u64
     began
 }
 
-/// The mask with a window besides, where both conditions hold.
+/// The mask, with a window added if both conditions hold.
 fn with_one(mask: u64, channel: u32, hit: bool, began: bool) -> u64
     requires { is_channel channel ≡ true }
     ensures { (w : ℕ) → mask_has result w ≡ (mask_has mask w || (w == channel && (hit && began))) }

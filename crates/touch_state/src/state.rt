@@ -16,15 +16,15 @@ use window_snapshot::mask_with;
 
 /// Which of the windows 1 to 64 hold which pointers of one device, since when, and which of them are pilfering it.
 ///
-/// A window goes by the number of its channel. A place says when a step was: how many steps were before it.
+/// A window is named by the number of its channel. An index says when a step was: how many steps were before it.
 #[derive(Drop)]
 pub struct TouchState {
     device: DeviceId,
-    /// What each window has, that of channel 1 first.
+    /// What each window holds, starting with channel 1.
     rows: [Row; 64],
     /// The mask of the windows that hold something.
     holders: u64,
-    /// The mask of those of them that are pilfering.
+    /// The mask of those that are pilfering.
     pilferers: u64,
 }
 
@@ -63,7 +63,7 @@ impl TouchState {
         self.device
     }
 
-    /// A pointer goes down, at a place, in each window of a mask.
+    /// A pointer goes down, at an index, in each window of a mask.
     pub fn down(&mut self, id: PointerId, to: u64, place: u64)
         ensures { Changes self.old self.new (of_mask to id) none place nobody }
     {
@@ -75,7 +75,7 @@ impl TouchState {
         self.pilferers &= self.holders;
     }
 
-    /// A pointer slips from one window to another, at a place.
+    /// A pointer slips from one window to another, at an index.
     pub fn moved(&mut self, id: PointerId, from: u32, to: u32, place: u64)
         requires from_is { is_channel from ≡ true }
         requires to_is { is_channel to ≡ true }
@@ -132,7 +132,7 @@ impl TouchState {
         row_at(&self.rows, channel).ids
     }
 
-    /// The place at which a window last went from holding nothing to holding something.
+    /// The index of the step at which a window last went from holding nothing to holding something.
     pub fn since(&self, channel: u32) -> u64
         requires { is_channel channel ≡ true }
         ensures { result ≡ since self.now channel }
@@ -155,7 +155,7 @@ impl TouchState {
         self.pilferers
     }
 
-    /// The mask of the holders in a mask that began at the least place.
+    /// The mask of the holders in a mask that began at the least index.
     pub fn earliest(&self, among: u64) -> u64
         ensures { (w : ℕ) → IsTrue (mask_has result w) ↔ IsEarliest self.now among w }
     {

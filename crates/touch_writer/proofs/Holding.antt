@@ -1,4 +1,4 @@
--- Behind a choice no two slots hold contacts with one id.
+-- After a choice no two slots hold contacts with one id.
 use Rattle.std.specs.Prelude.{◌≡◌, ℕ, ◌+◌, ◌<◌, Bool, true, false, ◌||◌, nat_eq, List, [], ◌∷◌, Option, Some, None, if◌then◌else◌}
 use Rattle.std.proofs.Common.{sym, ◌∙◌, ap, refl, arith}
 use Rattle.std.proofs.lemmas.Bool.{ne_eqb}

@@ -1,4 +1,4 @@
--- No choice has fewer events than the one that is found, and of those with as few none has a lower list of slots.
+-- No choice has fewer events than the one that is found, and none with as few has a lower list of slots.
 use Rattle.std.specs.Prelude.{◌≡◌, ℕ, zero, suc, ◌+◌, ◌<◌, ◌≤◌, ◌⊎◌, Bool, true, false, not, ◌&&◌, ◌||◌, nat_eq, nat_lt, nat_le, ℤ, List, [], ◌∷◌, ◌++◌, length, map, Option, Some, None, is_some, if◌then◌else◌}
 use Rattle.std.proofs.Common.{◌∙◌, ap, refl, arith, inl, inr, length-append}
 use Rattle.std.proofs.lemmas.List.{length-map}

@@ -1,4 +1,4 @@
--- What slots hold behind a choice, slot by slot.
+-- What slots hold after a choice, slot by slot.
 use Rattle.std.specs.Prelude.{◌≡◌, ℕ, ◌+◌, ◌<◌, ◌≤◌, Bool, true, false, List, [], ◌∷◌, ◌++◌, length, take, drop, get_or}
 use Rattle.std.proofs.Common.{sym, ◌∙◌, ap, refl, arith, append_assoc, set}
 use Rattle.std.proofs.lemmas.List.{take_more_set, append-nil}

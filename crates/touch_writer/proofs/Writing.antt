@@ -63,7 +63,7 @@ best_is_best s moment want once fits inside =
           best_least want s.current 0 s.places ns s.used other h (omega (arith, same, size, packet_size s moment want other inside));
     }
 
--- the slots behind a choice hold each id once
+-- the slots after a choice hold each id once
 pub once_after : (s : State) (want : List Want) (cs : List Bool) → HoldOnce s.places → IsRising want → HoldOnce (places_after s want cs)
 once_after s want cs once rising = placed_once want s.places cs (news s.places want) s.used once (news_fresh s.places want rising)
 

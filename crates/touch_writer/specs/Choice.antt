@@ -4,8 +4,8 @@ use Rattle.touch_writer.specs.declared.place.Place.{Place}
 use Rattle.touch_writer.specs.declared.want.Want.{Want}
 use Rattle.touch_writer.specs.Places.{kept}
 
--- A choice says of each slot whether a new contact comes into it: into none that holds a kept contact, and into as many
--- as there are new contacts.
+-- A choice says for each slot whether a new contact comes into it: into none that holds a kept contact, and into as
+-- many as there are new contacts.
 abbrev pub IsChoice : List Want → List Place → List Want → List Bool → Type 0
 IsChoice want [] [] [] = Unit {0}
 IsChoice want [] [] (c ∷ cs) = ⊥
@@ -40,7 +40,7 @@ remains want p = stays p (kept want p)
 abbrev pub arrives : Want → ℕ → Place
 arrives n tracking = record { x = n.x; y = n.y; holds = Some (record { id = n.id; tracking = pos tracking }) }
 
--- what the slots hold behind a choice: the new contacts come in rising id, and get the tracking ids from `next` on
+-- what the slots hold after a choice: the new contacts come in rising id, and get the tracking ids from `next` on
 abbrev pub placed : List Want → List Place → List Bool → List Want → ℕ → List Place
 placed want [] cs ns next = []
 placed want (p ∷ ps) [] ns next = remains want p ∷ placed want ps [] ns next

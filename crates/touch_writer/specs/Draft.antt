@@ -13,6 +13,6 @@ pub record Drafted : Type 0 where
 abbrev pub with_changes : Drafted → List (ℕ × ℤ) → Drafted
 with_changes d cs = record { device = d.device; moment = d.moment; events = d.events ++ map (λ c. abs d.device d.moment c) cs }
 
--- the SYN_REPORT behind the events
+-- the SYN_REPORT after the events
 abbrev pub with_report : Drafted → Drafted
 with_report d = record { device = d.device; moment = d.moment; events = d.events ++ report d.device d.moment ∷ [] }

@@ -13,7 +13,7 @@ unfoldable pub digits : ℕ → ℕ → ℕ → List ℕ
 digits base zero x = []
 digits base (suc n) x = digits base n (x / base) ++ digit (x % base) ∷ []
 
--- bytes behind blanks that make them eight, where they are fewer
+-- bytes, padded with blanks in front to eight
 unfoldable pub in_eight : List ℕ → List ℕ
 in_eight bs = replicate (8 - length bs) 32 ++ bs
 

@@ -1,11 +1,11 @@
--- The events that lead from what slots hold to what they shall hold. Codes and values stand for events of type EV_ABS.
+-- The events that lead from what slots hold to what they must hold. Codes and values are those of EV_ABS events.
 use Rattle.std.specs.Prelude.{ℕ, ◌+◌, Bool, true, false, ◌||◌, nat_eq, ℤ, pos, List, [], ◌∷◌, ◌++◌, map, if◌then◌else◌}
 use Rattle.std.specs.Ordering.{int_eq}
 use Rattle.raw_events.specs.declared.event.RawEvent.{RawEvent}
 use Rattle.touch_writer.specs.declared.place.Place.{Place}
 use Rattle.touch_writer.specs.Places.{place_at, tracking}
 
--- a value is said only where it becomes another one
+-- a value is written only if it changes
 abbrev pub said : ℕ → ℤ → ℤ → List (ℕ × ℤ)
 said code old new = if int_eq old new then [] else (code, new) ∷ []
 
@@ -13,12 +13,12 @@ said code old new = if int_eq old new then [] else (code, new) ∷ []
 abbrev pub changes : Place → Place → List (ℕ × ℤ)
 changes old new = said 57 (tracking old) (tracking new) ++ said 53 old.x new.x ++ said 54 old.y new.y
 
--- an ABS_MT_SLOT stands in front of changes, where there are any
+-- an ABS_MT_SLOT precedes changes, if there are any
 abbrev pub in_slot : ℕ → List (ℕ × ℤ) → List (ℕ × ℤ)
 in_slot s [] = []
 in_slot s (c ∷ cs) = (47, pos s) ∷ c ∷ cs
 
--- the changes of the slots from `s` on beside those of the current slot, in rising slot
+-- the changes of the slots from `s` on except the current slot, in rising slot
 abbrev pub others : ℕ → ℕ → List Place → List Place → List (ℕ × ℤ)
 others current s [] new = []
 others current s (p ∷ ps) [] = []
@@ -32,8 +32,8 @@ abs device moment change = record { device = device; moment = moment; kind = 3; 
 abbrev pub report : ℕ → ℕ → RawEvent
 report device moment = record { device = device; moment = moment; kind = 0; code = 0; value = pos 0 }
 
--- The packet that leads from what the slots hold to what they shall hold: the changes of the current slot without an
--- ABS_MT_SLOT, then those of the others, each behind its ABS_MT_SLOT, and a SYN_REPORT.
+-- The packet that leads from what the slots hold to what they must hold: the changes of the current slot without an
+-- ABS_MT_SLOT, then those of the others, each after its ABS_MT_SLOT, and a SYN_REPORT.
 abbrev pub packet : ℕ → ℕ → ℕ → List Place → List Place → List RawEvent
 packet device moment current old new =
     map (λ c. abs device moment c) (changes (place_at current old) (place_at current new) ++ others current 0 old new) ++ report device moment ∷ []
@@ -43,7 +43,7 @@ abbrev pub is_empty : List (ℕ × ℤ) → Bool
 is_empty [] = true
 is_empty (c ∷ cs) = false
 
--- the current slot behind those from `s` on: the last one that has changes, and `now` where none has
+-- the current slot after those from `s` on: the last one that has changes, or `now` if none has
 abbrev pub last_slot : ℕ → ℕ → ℕ → List Place → List Place → ℕ
 last_slot now current s [] new = now
 last_slot now current s (p ∷ ps) [] = now

@@ -28,7 +28,7 @@ abbrev pub tracking_of : Option Touch → ℤ
 tracking_of None = negsuc 0
 tracking_of (Some t) = t.tracking
 
--- the tracking id that was last written to a slot: -1 where it holds no contact
+-- the tracking id that was last written to a slot: -1 if it holds no contact
 abbrev pub tracking : Place → ℤ
 tracking p = tracking_of p.holds
 
@@ -47,11 +47,11 @@ abbrev pub news : List Place → List Want → List Want
 news places [] = []
 news places (w ∷ ws) = if is_held w.id places then news places ws else w ∷ news places ws
 
--- where a contact is wanted, if there is one and it is
+-- the wanted position of a contact, if there is one and it is wanted
 abbrev pub wanted_again : Option Touch → List Want → Option Want
 wanted_again None want = None
 wanted_again (Some t) want = wanted t.id want
 
--- where the contact that a slot holds is wanted, if it is
+-- the wanted position of the contact that a slot holds, if it is wanted
 abbrev pub kept : List Want → Place → Option Want
 kept want p = wanted_again p.holds want

@@ -26,14 +26,14 @@ abbrev pub id_or_spent : Option ℕ → Bool → Option WriteError
 id_or_spent (Some id) spent = Some (NotAssignable id)
 id_or_spent None spent = if spent then Some Spent else None
 
--- Why wanted contacts are refused: more than there are slots, then an id that is neither held nor one of the least ids
--- that are not held, of which as many count as there are new contacts, and then no tracking ids left.
+-- Why wanted contacts are refused: first, more than there are slots; then an id that is neither held nor among the
+-- least ids not held, as many as there are new contacts; then no tracking ids left.
 abbrev pub refusal : State → List Want → Option WriteError
 refusal s want =
     if nat_lt (length s.places) (length want) then Some TooMany
     else id_or_spent (unassignable s.places (length (news s.places want)) want) (nat_lt 2147483647 (s.used + length (news s.places want)))
 
--- A packet is refused exactly where it is to be, and otherwise only for want of memory.
+-- A packet is refused exactly if it must be; otherwise it fails only if memory runs out.
 abbrev pub Answers : Result (Unit {0}) WriteError → Option WriteError → Type 0
 Answers (Ok done) told = told ≡ None
 Answers (Err Memory) told = told ≡ None

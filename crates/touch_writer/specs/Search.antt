@@ -17,8 +17,8 @@ abbrev pub free : List Want → List Place → ℕ
 free want [] = 0
 free want (p ∷ ps) = (if is_some (kept want p) then 0 else 1) + free want ps
 
--- whether the first of the new contacts that are left comes into slot `s`: it may, and it has to, or the packet has no
--- more events then than where it comes into a later slot
+-- whether the first remaining new contact comes into slot `s`: it may, and either it must, or the packet then has no
+-- more events than if it comes into a later slot
 abbrev pub comes : List Want → Place → ℕ → ℕ → ℕ → ℕ → Bool
 comes want p left room here later = not (is_some (kept want p)) && (nat_lt room left || nat_le here later)
 
@@ -53,11 +53,11 @@ pub record IsBest (e : Best) (want : List Want) (current s : ℕ) (ps : List Pla
   pub slots : chosen e.slots s ps ≡ best want current s ps ns next
   pub above : (k : ℕ) → k < s → is_in k e.slots ≡ false
 
--- what stands in a row that is not filled yet
+-- the content of a row that is not filled yet
 abbrev pub blank : Best
 blank = record { events = 0; slots = 0 }
 
--- a row has the best choices where the last 0, 1, 2 and so on of the new contacts are left
+-- a row has the best choices if the last 0, 1, 2 and so on of the new contacts remain
 abbrev pub IsRow : List Best → List Want → ℕ → ℕ → List Place → List Want → ℕ → ℕ → Type 0
 IsRow row want current s ps ns next upto =
     (left : ℕ) → left < upto → IsBest (get_or row left blank) want current s ps (drop (length ns - left) ns) (next + (length ns - left))

@@ -34,7 +34,7 @@ pub record IsWriter (rows : List Place) (slots current used : ℕ) : Type 0 wher
   pub counted : used < 2 ^ 31
   pub once : HoldOnce (take slots rows)
 
--- what the slots hold behind a choice
+-- what the slots hold after a choice
 abbrev pub places_after : State → List Want → List Bool → List Place
 places_after s want choice = placed want s.places choice (news s.places want) s.used
 
@@ -42,7 +42,7 @@ places_after s want choice = placed want s.places choice (news s.places want) s.
 abbrev pub packet_of : State → ℕ → List Want → List Bool → List RawEvent
 packet_of s moment want choice = packet s.device moment s.current s.places (places_after s want choice)
 
--- the writer behind the packet of a choice
+-- the writer after the packet of a choice
 abbrev pub after : State → List Want → List Bool → State
 after s want choice = record {
   device = s.device;
@@ -51,7 +51,7 @@ after s want choice = record {
   used = s.used + length (news s.places want);
 }
 
--- No choice has a packet with fewer events, and of those with as few none has a lower list of slots.
+-- No choice has a packet with fewer events, and none with as few has a lower list of slots.
 pub record IsBestChoice (s : State) (moment : ℕ) (want : List Want) (choice : List Bool) : Type 0 where
   pub is : IsChoice want s.places (news s.places want) choice
   pub fewest : (other : List Bool) → IsChoice want s.places (news s.places want) other

@@ -17,7 +17,7 @@ pub enum WriteError {
     /// No tracking ids are left.
     Spent,
 
-    /// Want of memory.
+    /// Out of memory.
     Memory,
 }
 

@@ -1,4 +1,4 @@
-//! Writes what fingers do as a recording of the kernel's multi-touch protocol B, with as few events as can be.
+//! Writes what fingers do as a recording of the kernel's multi-touch protocol B, with as few events as possible.
 //!
 //! Two fingers come, one after the other, and go:
 //!

@@ -34,7 +34,7 @@ fn add_digits(text: &mut Vec<u8>, base: u32, places: u32, number: u32) -> Result
     Ok(())
 }
 
-/// Adds a number behind blanks that make it eight bytes, where it has fewer.
+/// Adds a number, padded with blanks to eight bytes.
 #[tactic(auto, unfolding(crate::specs::EventText::in_eight))]
 fn add_in_eight(text: &mut Vec<u8>, number: u64) -> Result<(), AllocError>
     ensures { IfOk result (λ _. text.new.items ≡ text.old.items ++ in_eight (decimal number)) }
@@ -105,7 +105,7 @@ impl EventWriter {
         }
     }
 
-    /// Appends the line of an event of the device at `path`, as `getevent -t` prints it. After want of memory `out` is
+    /// Appends the line of an event of the device at `path`, as `getevent -t` prints it. If memory runs out, `out` is
     /// as before.
     pub fn event(
         &mut self,

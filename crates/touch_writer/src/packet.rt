@@ -63,7 +63,7 @@ impl Draft {
         &self.items[..self.used]
     }
 
-    /// Puts an EV_ABS event behind the others.
+    /// Appends an EV_ABS event.
     fn push(&mut self, code: u16, value: i32)
         requires { length self.old.events < 68 }
         ensures { self.new ≡ with_changes self.old ((code, value) ∷ []) }
@@ -78,7 +78,7 @@ impl Draft {
         self.used += 1;
     }
 
-    /// Puts the SYN_REPORT behind the others.
+    /// Appends the SYN_REPORT.
     fn report(&mut self)
         requires { length self.old.events < 68 }
         ensures { self.new ≡ with_report self.old }
@@ -94,7 +94,7 @@ impl Draft {
     }
 }
 
-/// Says a value where it becomes another one.
+/// Writes a value if it changes.
 fn say(draft: &mut Draft, code: u16, old: i32, new: i32)
     requires { length draft.old.events < 68 }
     ensures { draft.new ≡ with_changes draft.old (said code old new) }
@@ -104,7 +104,7 @@ fn say(draft: &mut Draft, code: u16, old: i32, new: i32)
     }
 }
 
-/// Says the changes of a slot.
+/// Writes the changes of a slot.
 fn say_changes(draft: &mut Draft, old: &Place, new: &Place)
     requires { length draft.old.events + 3 ≤ 68 }
     ensures { draft.new ≡ with_changes draft.old (changes_of old.now new.now) }
@@ -128,7 +128,7 @@ fn has_turn(current: usize, slot: usize, old: &Place, new: &Place) -> bool
     slot != current && !is_same(old, new)
 }
 
-/// Says the changes of the slots beside those of the current one, and answers the slot that is current behind them.
+/// Writes the changes of the slots other than the current one, and returns the slot that is current after them.
 fn say_others(draft: &mut Draft, current: usize, old: &[Place], new: &[Place]) -> usize
     requires room { length draft.old.events + 4 * length old.now ≤ 68 }
     requires slots { length new.now ≡ length old.now }
@@ -146,7 +146,7 @@ fn say_others(draft: &mut Draft, current: usize, old: &[Place], new: &[Place]) -
     last
 }
 
-/// The packet that leads from what the slots hold to what they shall hold, and the slot that is current behind it.
+/// The packet that leads from what the slots hold to what they must hold, and the slot that is current after it.
 pub(crate) fn packet(
     device: DeviceId,
     moment: Moment,

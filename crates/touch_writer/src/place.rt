@@ -42,7 +42,7 @@ pub(crate) fn tracking(place: &Place) -> i32
     }
 }
 
-/// Where the contact that a slot holds is wanted, if it is.
+/// The wanted position of the contact that a slot holds, if it is wanted.
 pub(crate) fn kept(want: &[Want], place: &Place) -> Option<Want>
     ensures { result ≡ kept_by want.now place.now }
 {

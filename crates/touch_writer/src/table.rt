@@ -31,7 +31,7 @@ pub struct Case<'a> {
     pub current: usize,
 }
 
-/// How often a value is said: where it becomes another one.
+/// How often a value is written: once if it changes, otherwise never.
 fn says(old: i32, new: i32) -> u32
     ensures value { (code : ℕ) → result ≡ length (said code old new) }
     ensures small { result ≤ 1 }
@@ -59,15 +59,15 @@ fn cost(current: usize, slot: usize, old: &Place, new: &Place) -> u32
     if changes == 0 { 0 } else { changes + 1 }
 }
 
-/// Whether a new contact comes into a slot that it may come into: it has to, or there are no more events then.
+/// Whether a new contact comes into a slot that it may come into: it must, or that takes no more events.
 fn comes_first(free: usize, left: usize, here: u32, later: u32) -> bool
     ensures { result ≡ (nat_lt free left || nat_le here later) }
 {
     free < left || here <= later
 }
 
-/// The best choice for the slots from `slot` on where the last `left` new contacts are left, given those for the slots
-/// behind it, of which `free` hold no kept contact.
+/// The best choice for the slots from `slot` on if the last `left` new contacts remain, given the choices for the
+/// slots after it, of which `free` hold no kept contact.
 fn entry(
     case: &Case,
     slot: usize,
@@ -130,7 +130,7 @@ fn row(case: &Case, slot: usize, place: &Place, free: usize, rest: &[Best; 17]) 
     row
 }
 
-/// What stands in a row that is not filled yet.
+/// The content of a row that is not filled yet.
 fn blank_entry() -> Best
     ensures { result ≡ blank }
 {
@@ -140,7 +140,7 @@ fn blank_entry() -> Best
     }
 }
 
-/// The choice that has the fewest events, and of those with as few the one whose list of slots is the least.
+/// The choice that has the fewest events, and among those with as few the one with the least list of slots.
 pub(crate) fn choose(case: &Case, places: &[Place]) -> Bits32
     requires few { length case.now.news.now ≤ 16 }
     requires slots { length places.now ≤ 16 }
@@ -162,7 +162,7 @@ pub(crate) fn choose(case: &Case, places: &[Place]) -> Bits32
     rest[case.news.len()].slots
 }
 
-/// What a slot holds behind a choice, and how many new contacts have their slots then.
+/// What a slot holds after a choice, and how many new contacts have their slots then.
 fn place_behind(
     case: &Case,
     slot: usize,
@@ -187,7 +187,7 @@ fn place_behind(
     (remains(case.want, place), come)
 }
 
-/// What the slots hold behind a choice.
+/// What the slots hold after a choice.
 pub(crate) fn placed(case: &Case, places: &[Place], slots: Bits32) -> [Place; 16]
     requires few { length case.now.news.now ≤ 16 }
     requires slots { length places.now ≤ 16 }

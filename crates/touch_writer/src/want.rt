@@ -1,10 +1,10 @@
-//! What is wanted of a packet.
+//! What a packet must lead to.
 ghost use Rattle.std.specs.Prelude.{◌≡◌};
 ghost use Rattle.touch_writer.specs.Places.{wanted as wanted_in};
 
 use input_types::PointerId;
 
-/// A contact that is wanted behind a packet: its pointer id, and where it is in the device's units.
+/// A contact that is wanted after a packet: its pointer id, and its position in the device's units.
 #[derive(Clone, Copy, Debug, PartialEq, Eq)]
 pub struct Want {
     pub id: PointerId,

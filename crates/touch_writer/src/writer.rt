@@ -59,9 +59,9 @@ impl Writer {
 
     /// Appends the packet that leads to the wanted contacts, whose ids rise.
     ///
-    /// An id that a slot holds is that of the contact there, which stays in its slot. The new contacts come into slots
-    /// that hold no such contact, in rising id, and get the next tracking ids. Of all choices of slots it is one whose
-    /// packet has the fewest events, and of those the one whose list of slots is the least. After an `Err` the writer
+    /// An id that a slot holds is that of the contact there, which stays in its slot. The new contacts come into
+    /// slots that hold no such contact, in rising id, and get the next tracking ids. Of all choices of slots, this
+    /// one has a packet with the fewest events, and among those the least list of slots. After an `Err` the writer
     /// and the list of events are as before.
     pub fn packet(
         &mut self,

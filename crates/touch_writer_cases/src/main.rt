@@ -1,4 +1,4 @@
-//! Packets of a writer as lines of a recording, and behind each packet the pointers that cooking assigns from it.
+//! Packets of a writer as lines of a recording, and after each packet the pointers that cooking assigns from it.
 //!
 //! Two fingers come one after the other and go, and a tap comes twice to the same place. More contacts than slots and
 //! an id that cooking would not give are refused.

@@ -37,7 +37,7 @@ record Agree (slots : ℕ) (s : State) (events : List RawEvent) (names : List Na
 abbrev body : State → Written → List (ℕ × ℤ)
 body s w = said_in s.current s.places (places_after s w.want w.choice)
 
--- the events behind one packet more
+-- the events after one more packet
 abbrev with_packet : State → Written → List RawEvent → List RawEvent
 with_packet s w events = reverse (packet_of s w.moment w.want w.choice) ++ events
 

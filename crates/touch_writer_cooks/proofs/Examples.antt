@@ -19,7 +19,7 @@ held id x y = record { id = id; x = pos x; y = pos y }
 abbrev written : ℕ → List Want → List Bool → Written
 written moment want choice = record { moment = moment; want = want; choice = choice }
 
--- the packets of a device with two slots, the newest first
+-- the packets of a device with two slots, newest first
 abbrev one : List Written
 one = written 1000 (at 0 100 200 ∷ []) (true ∷ false ∷ []) ∷ []
 
@@ -48,7 +48,8 @@ four_cooked : assigned (named_after (contacts_of 1 2 four)) ≡ []
 unfolding assigned least_free
 four_cooked = refl
 
--- another finger comes in place of the first one, at its place: it gets the id 0 again, and its positions are not said
+-- another finger replaces the first one, at the same position: it gets the id 0 again, and its positions are not
+-- written
 abbrev again : List Written
 again = written 9000 (at 0 100 200 ∷ at 1 300 400 ∷ []) (true ∷ false ∷ []) ∷ three
 

@@ -1,4 +1,4 @@
--- What cooking makes of the packets of a writer. Packets and events stand with the newest first.
+-- What cooking gets from the packets of a writer. Packets and events are newest first.
 use Rattle.std.specs.Prelude.{◌≡◌, ℕ, ◌<◌, ◌≤◌, Bool, List, [], ◌∷◌, ◌++◌, map, reverse, replicate, None}
 use Rattle.raw_events.specs.declared.event.RawEvent.{RawEvent}
 use Rattle.slot_accumulator.specs.declared.contacts.Contact.{Contact}
@@ -11,7 +11,7 @@ use Rattle.touch_writer.specs.Choice.{IsChoice}
 use Rattle.touch_writer.specs.State.{State, packet_of, after}
 use Rattle.touch_writer.specs.Refusal.{refusal}
 
--- a packet: its moment, what was wanted of it, and which slots its new contacts come into
+-- a packet: its moment, the contacts wanted after it, and which slots its new contacts come into
 pub record Written : Type 0 where
   pub moment : ℕ
   pub want : List Want
@@ -21,7 +21,7 @@ pub record Written : Type 0 where
 abbrev pub first : ℕ → ℕ → State
 first device slots = record { device = device; current = 0; places = replicate slots vacant; used = 0 }
 
--- the writer behind its packets
+-- the writer after its packets
 abbrev pub writer_after : ℕ → ℕ → List Written → State
 writer_after device slots [] = first device slots
 writer_after device slots (w ∷ past) = after (writer_after device slots past) w.want w.choice
@@ -54,7 +54,7 @@ abbrev pub MayWriteAll : ℕ → ℕ → List Written → Type 0
 MayWriteAll device slots [] = Unit {0}
 MayWriteAll device slots (w ∷ past) = MayWrite (writer_after device slots past) w × MayWriteAll device slots past
 
--- the pointer that a wanted contact is to be
+-- the pointer that a wanted contact must become
 abbrev pub pointer : Want → Held
 pointer w = record { id = w.id; x = w.x; y = w.y }
 

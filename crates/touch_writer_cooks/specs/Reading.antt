@@ -1,4 +1,4 @@
--- What a reader of recordings makes of the lines of events.
+-- What a reader of recordings gets from the lines of events.
 use Rattle.std.specs.Prelude.{◌≡◌, ℕ, ◌<◌, ◌≤◌, ◌==◌, Bool, true, not, ◌||◌, List, [], ◌∷◌, ◌++◌, length, Some, Ok}
 use Rattle.std.specs.List.{list_all}
 use Rattle.std.specs.Str.{byte}

@@ -1,4 +1,4 @@
-//! What is proved of the packets of a writer. Each function has a law as its clause, and does nothing.
+//! Proved facts about the packets of a writer. Each function has a law as its clause, and does nothing.
 ghost use Rattle.touch_writer_cooks.specs.Cooking.{CookingLaw};
 ghost use Rattle.touch_writer_cooks.specs.Reading.{ReadingLaw};
 

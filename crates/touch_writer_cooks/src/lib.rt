@@ -1,4 +1,4 @@
-//! Cooking gives back what a writer of packets was sent to write.
+//! Cooking gives back what a writer of packets was asked to write.
 //!
 //! A writer is asked for contact 0 at (100, 200), then for contacts 0 and 1, then for contact 1 alone:
 //!
@@ -8,10 +8,10 @@
 //! 1@300,400            SLOT 0, TRACKING_ID -1, SYN_REPORT
 //! ```
 //!
-//! `Slots` reads these events as two slots, and `Ids` names the contacts that they hold at the end of each packet. The
-//! pointers are 0@100,200 first, then 0@100,200 and 1@300,400, and then 1@300,400: those that were asked for. [`laws`]
-//! says that it is so for each list of packets that a writer does not refuse, and that a reader of recordings makes of
-//! the lines of events just these events.
+//! `Slots` reads these events as two slots, and `Ids` names the contacts that they hold at the end of each packet.
+//! The pointers are 0@100,200 first, then 0@100,200 and 1@300,400, and then 1@300,400: those that were asked for.
+//! [`laws`] says that this holds for each list of packets that a writer does not refuse, and that a reader of
+//! recordings gets exactly these events from the lines.
 #![tactic(auto)]
 
 pub mod laws;

@@ -1,4 +1,4 @@
--- What a call answers, from what its steps told.
+-- What a call answers, from what its steps returned.
 use Rattle.std.proofs.Common.{◌≡◌, ℕ, List, [], ◌∷◌, length, sym, ap, subst, ◌∙◌}
 use Rattle.std.specs.Prelude.{Option, Some, None, Ok}
 use Rattle.atomic_table.specs.Table.{Me, rest}
@@ -13,7 +13,7 @@ use Rattle.turnstile.specs.declared.view.View.{View}
 use Rattle.turnstile.proofs.Records.{alone, whole}
 
 module _ {M T C R : Type 0} (legal : T → List (Entry C R) → Type 0) (setup : M → T) (history : M → List (Entry C R)) where
-  -- a call that was answered after the history of the machine that was taken
+  -- a call answered after the history of the machine that was taken
   served_is : (u : View T C R) (m : M) (one two : Me (Option M) (View T C R)) (call : C) (p : Placed R)
       → u.turn ≡ None → one ≡ (hit (history m) u, (0, Some m) ∷ []) → Served legal history one call (Ok p) two
       → (p.place ≡ length (history m)) × LegalFor legal u ((u.mine.number, call, p.reply) ∷ history m) × (two.0 ≡ placed (history m) call p.reply u)

@@ -75,7 +75,7 @@ module _ {C R : Type 0} where
   pub start_whole : (h : List (Entry C R)) → IsStart h h
   start_whole h = ([], refl)
 
-  -- who has the turn knows the history
+  -- the seat with the turn knows the history
   pub turn_mine : (i : ℕ) (h : List (Entry C R)) → turn_of (seat i) i h ≡ Some h
   turn_mine i h = rw (eq-eqb i i refl) refl
 

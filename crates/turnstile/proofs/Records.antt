@@ -29,7 +29,7 @@ module _ {C R : Type 0} where
   each_other h e made (r ∷ rs) none f =
       (fits_other h e made r (bears_not e.0 r (omega arith)) f.0, each_other h e made rs (omega arith) f.1)
 
-  -- number 0 has made another number: records of other numbers stay as they were
+  -- number 0 has handed out another number: records of other numbers stay as they were
   pub fits_made : (h : List (Entry C R)) (made now : ℕ) (r : Record C R) → r.number ≢ 0 → Fits h made r → Fits h now r
   fits_made h made now r ne f = record { own = f.own; zero_made = λ z. absurd (ne z); others_made = f.others_made }
 
@@ -42,7 +42,7 @@ module _ {C R : Type 0} where
   each_append h made [] qs f g = g
   each_append h made (r ∷ rs) qs f g = (f.0, each_append h made rs qs f.1 g)
 
-  -- what the rule says of a record is what its seat is sent
+  -- what the rule says about a record is what its seat learns
   pub owns : (h : List (Entry C R)) (made : ℕ) → ((k : ℕ) → made < k → calls_by k h ≡ []) → (r : Record C R) → Fits h made r → Owns h r
   owns h made none_above r f = record { own = f.own; above = λ z k a. none_above k (subst (λ m. m < k) (f.zero_made z) a) }
 

@@ -1,4 +1,4 @@
--- Each kind of step keeps the rule, and tells what it is to tell.
+-- Each kind of step keeps the rule, and returns what it must return.
 use Rattle.std.proofs.Common.{◌≡◌, ℕ, ◌+◌, ◌==◌, eqb, false, List, [], ◌∷◌, length, get_or, set, sym, refl, ap, subst, ◌∙◌, arith}
 use mathlib.Core.Option.{some, none}
 use lib.ListN.{get_elem?}
@@ -28,7 +28,7 @@ module _ {M T C R : Type 0} (legal : T → List (Entry C R) → Type 0) (setup :
       × H (record { words = set words i (f (get_or words i 0)); homes = homes_after s.homes c a; views = set s.views id w })
       × tells (get_or words i 0) (w, carried_after c a)
 
-  -- what the rule says of a seat that has drawn nothing is what it is sent
+  -- what the rule says about a seat that has drawn nothing is what it learns
   finds : (s : St) (h : H s) (id : ℕ) (v : View T C R) → v.spent ≡ false → v.drawn ≡ false → get_elem? s.views id ≡ some v → Finds legal v h.log
   finds s h id v live undrawn at =
       let l = (h.fits id v at).live live in

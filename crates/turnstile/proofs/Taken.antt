@@ -42,12 +42,12 @@ pub same_table : (a b c d : TableId) → a ≡ b → b ≡ c → c ≡ d → a �
 same_table a b c d p q r = p ∙ q ∙ r
 
 module _ {M T C R : Type 0} (legal : T → List (Entry C R) → Type 0) (setup : M → T) (history : M → List (Entry C R)) where
-  -- who holds a machine may free the lock
+  -- a seat that holds a machine may free the lock
   pub holder_frees : (slots id : ℕ) (me : Me (Option M) (View T C R)) (m : M) → HoldsMachine legal setup history me m
       → Allows (Holds legal setup history) slots id me 1 (λ _. 0) (λ _. Frees me)
   holder_frees slots id me m h = free legal setup history slots id me m h.live h.hand h.turn h.setup_is
 
-  -- who took a machine out, stepped it and put it back may commit its entry
+  -- a seat that took a machine out, stepped it and put it back may commit its entry
   pub holder_commits : (slots id : ℕ) (me one two : Me (Option M) (View T C R)) (m0 m next : M) (found : Option M) (number : ℕ) (call : C) (reply : R) (n : ℕ)
       → HoldsMachine legal setup history me m0 → me.1 ≡ (0, found) ∷ rest me.1 → found ≡ Some m → one ≡ (me.0, (0, None) ∷ rest me.1) → two ≡ (one.0, (0, Some next) ∷ rest one.1)
       → number ≡ me.0.mine.number → legal (setup next) (history next) → history next ≡ (number, call, reply) ∷ history m → setup next ≡ setup m → n ≡ length (history next)

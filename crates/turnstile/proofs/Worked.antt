@@ -57,7 +57,7 @@ joined_then = (refl, refl, refl)
 all_there : (made_by_zero (zero_end.mine ∷ zero_end.joined) ≡ 1) × (has 1 (zero_end.mine ∷ zero_end.joined) ≡ true) × (has 2 (zero_end.mine ∷ zero_end.joined) ≡ false)
 all_there = (refl, refl, refl)
 
--- a look tells the length, and changes what the seat has seen
+-- a look returns the length, and changes what the seat has seen
 looked_then : let v = looked three zero_then in (v.seen ≡ 3) × (v.last ≡ 3) × (v.looks ≡ 1) × (v.mine ≡ zero_then.mine)
 looked_then = (refl, refl, refl, refl)
 

@@ -1,4 +1,4 @@
--- A history of answered calls, newest first, and what a number has in it.
+-- A history of answered calls, newest first, and the calls of a number in it.
 use Rattle.std.specs.Prelude.{◌≡◌, ℕ, ◌==◌, List, [], ◌∷◌, ◌++◌, length, map, if◌then◌else◌}
 
 -- an answered call: the number of the seat, the call and the reply

@@ -10,6 +10,6 @@ module _ {M T C R : Type 0} {G : Ghosts M T C R} where
   abbrev pub view : Seat M T C R G → View T C R
   view s = s.token.me.0
 
-  -- a seat is of a turnstile
+  -- a seat belongs to a turnstile
   abbrev pub IsOf : Turnstile M T C R → Seat M T C R G → Type 0
   IsOf t s = s.token.table_id ≡ t.table.shared.table_id

@@ -30,7 +30,7 @@ module _ {M T C R : Type 0} (legal : T → List (Entry C R) → Type 0) (setup :
   Waited n me after = (m : M) × (me.0.setup ≡ Some (setup m)) × Finds legal me.0 (history m) × (after ≡ (hit (history m) (waited n me.0), (0, Some m) ∷ []))
 
 module _ {M T C R : Type 0} (legal : T → List (Entry C R) → Type 0) (history : M → List (Entry C R)) where
-  -- the machine was stepped, and an entry was committed unless there was no memory
+  -- the machine was stepped, and an entry was committed unless memory ran out
   abbrev pub Served : Me (Option M) (View T C R) → C → Result (Placed R) AllocError → Me (Option M) (View T C R) → Type 0
   Served me call (Ok p) after =
       let h = in_hand history me in

@@ -1,4 +1,4 @@
--- What the seats are sent at each kind of step.
+-- What a seat learns at each kind of step.
 use Rattle.std.specs.Prelude.{◌≡◌, ◌≢◌, ℕ, ◌<◌, ◌≤◌, List, [], ◌∷◌, length, Option, Some}
 use Rattle.atomic_table.specs.Table.{Me, rest}
 use Rattle.turnstile.specs.History.{Entry, calls_by, IsStart}
@@ -7,8 +7,8 @@ use Rattle.turnstile.specs.declared.view.Record.{Record}
 use Rattle.turnstile.specs.declared.view.View.{View}
 
 module _ {C R : Type 0} where
-  -- A record's own calls are the entries that bear its number, with their places. Where it is that of number 0, no entry bears a number above
-  -- its `made`
+  -- A record's own calls are the entries that bear its number, with their places. If it is that of number 0, no entry
+  -- bears a number above its `made`
   pub record Owns (h : List (Entry C R)) (r : Record C R) : Type 0 where
     pub own : r.own ≡ calls_by r.number h
     pub above : r.number ≡ 0 → (k : ℕ) → r.made < k → calls_by k h ≡ []
@@ -23,20 +23,21 @@ module _ {T C R : Type 0} (legal : T → List (Entry C R) → Type 0) where
   abbrev pub LegalFor : View T C R → List (Entry C R) → Type 0
   LegalFor v h = (s : T) × (v.setup ≡ Some s) × legal s h
 
-  -- The history that a seat finds is legal and begins with all that the seat had seen. Of the seat's number, and of each that was joined into
-  -- it, it has exactly that one's own calls
+  -- The history that a seat finds is legal and begins with everything that the seat had seen. It contains exactly the
+  -- own calls of the seat's number, and of each number that was joined into it
   pub record Finds (v : View T C R) (h : List (Entry C R)) : Type 0 where
     pub legal_then : LegalFor v h
     pub start : IsStart v.known h
     pub seen : v.seen ≤ length h
     pub own : EachOwns h (v.mine ∷ v.joined)
 
-  -- a look tells the length of the history
+  -- a look returns the length of the history
   abbrev pub Looks : {M : Type 0} → Me (Option M) (View T C R) → ℕ → Me (Option M) (View T C R) → Type 0
   Looks me n after = (h : List (Entry C R)) × Finds me.0 h × (n ≡ length h) × (after ≡ (looked h me.0, me.1))
 
   module _ {M : Type 0} (setup : M → T) (history : M → List (Entry C R)) where
-    -- A take that finds the lock free takes the slot with the machine, whose history the seat then knows. One that does not is a miss
+    -- A take that finds the lock free takes the slot with the machine, whose history the seat then knows. Any other
+    -- take is a miss
     abbrev pub Takes : Me (Option M) (View T C R) → ℕ → Me (Option M) (View T C R) → Type 0
     Takes me n after =
         (n ≡ 0 → (m : M) × (me.0.setup ≡ Some (setup m)) × Finds me.0 (history m) × (after ≡ (hit (history m) me.0, (0, Some m) ∷ me.1)))

@@ -1,4 +1,4 @@
--- What each kind of step does to the view of the seat that makes it.
+-- How each kind of step changes the view of the seat that makes it.
 use Rattle.std.specs.Prelude.{ℕ, ◌+◌, max, nat_le, true, false, List, [], ◌∷◌, ◌++◌, length, Option, Some, None, if◌then◌else◌}
 use Rattle.turnstile.specs.History.{Entry}
 use Rattle.turnstile.specs.declared.view.View.{View}
@@ -97,7 +97,7 @@ module _ {T C R : Type 0} where
     hits = v.hits + 1;
   }
 
-  -- a call for which the machine found no memory
+  -- a call in which the machine ran out of memory
   abbrev pub failed : View T C R → View T C R
   failed v = record v { hits = v.hits + 1 }
 
@@ -105,6 +105,6 @@ module _ {T C R : Type 0} where
   abbrev pub next_seat : View T C R → View T C R
   next_seat v = newcomer v.setup (v.mine.made + 1) v.seen v.known
 
-  -- number 0 with one number more split off from it
+  -- number 0 with one more number split off from it
   abbrev pub split_off : View T C R → View T C R
   split_off v = record v { mine = record (v.mine) { made = v.mine.made + 1 } }

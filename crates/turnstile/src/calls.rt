@@ -59,7 +59,7 @@ impl<M: Machine> Turnstile<M> {
             == 0
     }
 
-    // Frees the lock, with which the slot goes home, and wakes one who waits.
+    // Frees the lock, which returns the slot, and wakes one waiting thread.
     fn free(&self, token: &mut Token<M>)
         requires { (token.old.table_id ≡ self.now.table.shared.table_id)
             × Holding M.legal M.setup M.history token.old.me }
@@ -127,10 +127,10 @@ impl<M: Machine> Turnstile<M> {
         unreachable!()
     }
 
-    /// Answers a call, where no other seat has the turn, and never waits. The call is then one entry of the history,
-    /// at the place that is answered. `Busy` comes exactly where the one compare-exchange of this call found the lock
-    /// taken, and hands the call back. `Memory` comes where the machine found none: the call is dropped, and there is
-    /// no entry.
+    /// Answers a call if no other seat has the turn, and never waits. The call is then one entry of the history, at
+    /// the returned place. Returns `Busy` exactly if the one compare-exchange of this call found the lock taken, and
+    /// hands the call back. Returns `Memory` if the machine ran out of memory: the call is dropped, and there is no
+    /// entry.
     pub fn try_step(
         &self,
         seat: &mut Seat<M>,
@@ -151,7 +151,7 @@ impl<M: Machine> Turnstile<M> {
         Ok(placed)
     }
 
-    /// The same, but it tries again until it has the turn, and sleeps between two tries.
+    /// The same, but tries again until it has the turn, and sleeps between tries.
     pub fn step<R: Wait>(
         &self,
         rt: &R,
@@ -169,7 +169,7 @@ impl<M: Machine> Turnstile<M> {
         Ok(placed)
     }
 
-    /// The length of the history, all of which the seat has then seen. It does not take the lock.
+    /// The length of the history, all of which the seat has then seen. Does not take the lock.
     pub fn look(&self, seat: &mut Seat<M>) -> u64
         requires { IsOf self.now seat.old }
         ensures same { IsOf self.now seat.new }
@@ -179,8 +179,8 @@ impl<M: Machine> Turnstile<M> {
         seat.seen
     }
 
-    /// A new seat, split off from that of number 0: its number is the next one, and it has seen what seat 0 has. It
-    /// does not take the lock, and today it needs no memory.
+    /// Splits a new seat off seat 0. Its number is the next one, and it has seen what seat 0 has. Does not take the
+    /// lock, and currently needs no memory.
     pub fn try_split(&self, seat: &mut Seat<M>) -> Result<Seat<M>, AllocError>
         requires seat { IsOf self.now seat.old }
         requires zero { (view seat.old).mine.number ≡ 0 }
@@ -202,7 +202,7 @@ impl<M: Machine> Turnstile<M> {
         })
     }
 
-    /// One seat takes in another, and has then seen what either had.
+    /// Joins another seat into this one, which has then seen what either had.
     pub fn join(&self, seat: &mut Seat<M>, other: Seat<M>)
         requires seat { IsOf self.now seat.old }
         requires other { IsOf self.now other }
@@ -218,8 +218,8 @@ impl<M: Machine> Turnstile<M> {
 }
 
 impl<M: Machine + Drop> Turnstile<M> {
-    /// A turnstile over a machine that has answered no call, and its first seat, which has the number 0. Without memory
-    /// the machine is dropped.
+    /// A turnstile over a machine that has answered no call, and its first seat, number 0. If memory runs out, the
+    /// machine is dropped.
     pub fn new(alloc: Global, machine: M) -> Result<(Turnstile<M>, Seat<M>), AllocError>
         requires { M.history machine ≡ [] }
         ensures { IfOk result (λ r. IsOf r.0 r.1 × (view r.1 ≡ newcomer (Some (M.setup machine)) 0 0 [])) }
@@ -240,7 +240,7 @@ impl<M: Machine + Drop> Turnstile<M> {
         Ok((Turnstile { table, sleepers }, seat))
     }
 
-    /// Waits for the turn, and gives the machine with its history.
+    /// Waits for the turn, and returns the machine with its history.
     pub fn close<R: Wait>(self, rt: &R, seat: Seat<M>) -> M
         requires { IsOf self seat }
         ensures setup { (view seat).setup ≡ Some (M.setup result) }

@@ -1,8 +1,8 @@
 //! One history for all threads that share a machine.
 //!
 //! A machine answers calls one after another, and its history has each answered call with its reply, newest first.
-//! Threads call it through a turnstile, which lets one of them in at a time. Each thread has a seat of its own, with a
-//! number of its own. Over a machine that counts, three calls by two seats go like this:
+//! Threads call it through a turnstile, which lets one of them in at a time. Each thread has its own seat, with its
+//! own number. Three calls by two seats on a counting machine:
 //!
 //! ```text
 //! new                          seat 0, which has seen nothing
@@ -13,8 +13,8 @@
 //! seat 0 looks                 3
 //! ```
 //!
-//! What a seat is told of is one history: each later one begins with all that the seat had seen, and of the seat's
-//! number it has the seat's own calls and no others.
+//! A seat learns of one history: each later one begins with everything that the seat had seen, and contains exactly
+//! the seat's own calls under its number.
 #![tactic(auto)]
 
 mod calls;

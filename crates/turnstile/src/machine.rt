@@ -1,4 +1,4 @@
-//! What stands in a turnstile, and what a call through it answers.
+//! The machine in a turnstile, and what a call through it returns.
 ghost use Rattle.std.specs.Prelude.{◌≡◌, List, [], ◌∷◌, length, MatchResult};
 ghost use Rattle.turnstile.specs.History.{Entry};
 
@@ -13,7 +13,7 @@ pub trait Machine {
 
     type Reply;
 
-    /// Which histories may be, with a setup.
+    /// Which histories are possible with a setup.
     ghost legal: { Self.Setup → List (Entry Self.Call Self.Reply) → Type 0 };
 
     /// What a contract sees of a machine: its setup and its history.
@@ -21,8 +21,8 @@ pub trait Machine {
 
     ghost history: { Self → List (Entry Self.Call Self.Reply) };
 
-    /// Answers a call of the seat with this number. The history has then one entry more, of that number, the call and
-    /// the reply. Without memory nothing changes.
+    /// Answers a call of the seat with this number. The history then has one more entry, with that number, the call
+    /// and the reply. If memory runs out, nothing changes.
     fn step(&mut self, seat: u64, call: Self::Call) -> Result<Self::Reply, AllocError>
         requires { legal (setup self.old) (history self.old) }
         ensures legal { legal (setup self.new) (history self.new) }
@@ -34,7 +34,7 @@ pub trait Machine {
     fn places(&self) -> u64
         ensures { result ≡ length (history self.now) };
 
-    /// A machine that has answered nothing may be.
+    /// The empty history is possible.
     ghost empty: { (s : Self.Setup) → legal s [] };
 }
 
@@ -50,6 +50,6 @@ pub struct Placed<R> {
 pub enum TryRefused<C> {
     /// Another seat had the turn. The call comes back.
     Busy(C),
-    /// The machine found no memory. The call is dropped.
+    /// The machine ran out of memory. The call is dropped.
     Memory,
 }

@@ -6,7 +6,7 @@ use crate::view::View;
 use atomic_table::{Join, Play, Split, TableRule};
 use std::snapshot::Snapshot;
 
-/// What holds between any two steps: word 0 is the length of the history, word 1 the lock, and the slot has the
+/// The invariant between any two steps: word 0 is the length of the history, word 1 the lock, and the slot has the
 /// machine.
 pub struct Order;
 
@@ -19,7 +19,7 @@ impl<M: Machine> TableRule<Option<M>, View<M::Setup, M::Call, M::Reply>, Snapsho
     ghost first = { λ key. newcomer (Some (M.setup key.value)) 0 0 [] };
 }
 
-/// A compare-exchange of the lock: a hit where it was free, else a miss.
+/// A compare-exchange of the lock: a hit if it was free, otherwise a miss.
 pub struct Take;
 
 impl<M: Machine> Play<Option<M>, View<M::Setup, M::Call, M::Reply>> for Take {

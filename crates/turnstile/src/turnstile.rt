@@ -26,7 +26,7 @@ pub struct Turnstile<M: Machine> {
         Order,
         Global,
     >,
-    // How many threads sleep, or are about to. Nothing is proved of it: it only spares a wake where nobody sleeps.
+    // How many threads sleep, or are about to. Nothing is proved about it: it only saves a wake if no thread sleeps.
     pub(crate) sleepers: AtomicU64,
     ghost sized: { (table.shared.table_id.words ≡ 2) × (table.shared.table_id.slots ≡ 1) },
 }

@@ -1,7 +1,7 @@
 //! What a seat knows.
 use std::collections::LinkedList;
 
-/// A number with what it did. No value of it is made.
+/// A number and what it did. No value of this type exists at run time.
 pub struct Record<C, R> {
     pub number: u64,
     /// How many numbers were split off from this one; 0 for every number but 0.
@@ -10,9 +10,9 @@ pub struct Record<C, R> {
     pub own: LinkedList<(u64, C, R)>,
 }
 
-/// What a seat knows, for contracts alone. No value of it is made.
+/// What a seat knows, for contracts alone. No value of this type exists at run time.
 pub struct View<T, C, R> {
-    /// That of the machine. None where the seat was joined into another.
+    /// That of the machine. None if the seat was joined into another.
     pub setup: Option<T>,
     /// The seat's own record.
     pub mine: Record<C, R>,
@@ -30,7 +30,7 @@ pub struct View<T, C, R> {
     pub last: u64,
     /// The records of the seats that were joined into it, newest first, each followed by those joined into that one.
     pub joined: LinkedList<Record<C, R>>,
-    /// The whole history, where the seat has the turn.
+    /// The whole history, if the seat has the turn.
     pub turn: Option<LinkedList<(u64, C, R)>>,
     /// It has drawn a number that no seat has yet.
     pub drawn: bool,

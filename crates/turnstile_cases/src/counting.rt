@@ -77,7 +77,7 @@ fn one_history<R: Wait + Print>(rt: &R, alloc: Global) -> io::Result<()> {
     Ok(())
 }
 
-/// What the others do while a step is held open, which is then let go.
+/// What the others do while a step is held open, which is then released.
 fn beside<M: Machine<Setup = u64, Call = u64, Reply = u64>, R: Print>(
     rt: &R,
     flags: &Flags,

@@ -42,7 +42,7 @@ fn beside<'a, R: Print>(
     }
 }
 
-/// Tries a call that has to be answered, and prints the answer.
+/// Tries a call that must be answered, and prints the answer.
 fn try_step<'a, R: Print>(
     rt: &R,
     alloc: Global,
@@ -77,7 +77,7 @@ fn step_windows<'a, R: Wait>(
 }
 
 /// Seat 0 shows a window, and is held open there. Another seat does not wait for it, and its call, tried again, is
-/// answered at a later place; a finger that is pumped then goes to the window.
+/// answered at a later place; a finger that is then pumped goes to the window.
 fn held_open<R: Threads + Wait + Print + Sync>(rt: &R, alloc: Global) -> io::Result<()> {
     let flags = Flags::new();
     let core = Core::new(alloc, &Displays::new())?;
@@ -104,7 +104,7 @@ fn held_open<R: Threads + Wait + Print + Sync>(rt: &R, alloc: Global) -> io::Res
     )
 }
 
-/// Tries a call of a service that has to be answered, and prints the answer.
+/// Tries a call of a service that must be answered, and prints the answer.
 fn try_call<R: Print>(
     rt: &R,
     alloc: Global,

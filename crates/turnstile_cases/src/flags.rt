@@ -6,7 +6,7 @@ use std::thread::yield_now;
 /// waited for. At each turn others run.
 const TURNS: u64 = 50_000_000;
 
-/// What a step tells of itself, and what it waits for.
+/// What a step reports about itself, and what it waits for.
 #[derive(Drop)]
 pub(crate) struct Flags {
     inside: AtomicU64,
@@ -32,7 +32,7 @@ impl Flags {
         reaches_one(&self.inside)
     }
 
-    /// A step is inside, until it is let go or the wait gives up.
+    /// A step is inside until it is released or the wait gives up.
     pub(crate) fn hold(&self) {
         self.inside.store(1, Ordering::SeqCst);
         reaches_one(&self.open);

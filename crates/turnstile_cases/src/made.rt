@@ -106,7 +106,7 @@ pub(crate) fn name_of(call: &Call) -> &'static str {
     }
 }
 
-/// Prints a reply, with the line of its message where it has one.
+/// Prints a reply, with the line of its message if it has one.
 pub(crate) fn print_reply<R: Print>(
     rt: &R,
     alloc: Global,

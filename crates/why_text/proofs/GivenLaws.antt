@@ -1,4 +1,4 @@
--- A window is told that a pointer goes down exactly where it is given the pointer.
+-- A window is sent a pointer's down exactly if it is given the pointer.
 use Rattle.std.proofs.Common.{◌≡◌, ℕ, zero, suc, Bool, true, false, not, ◌&&◌, ◌||◌, ◌==◌, cond, List, [], ◌∷◌, map, filter, find, length, option_map, if◌then◌else◌, slice_get, Option, Some, None, refl, sym, ap, ◌∙◌, subst, ◌⊎◌, inl, inr}
 use Rattle.std.specs.List.{list_any}
 use Rattle.std.proofs.lemmas.Bool.{and_parts, or_cases, or_left, or_right, true≢false, eqb-true, eq-eqb, cases_Bool, both_ways, not-true}
@@ -27,7 +27,7 @@ use Rattle.routing_rules.proofs.SentLaws.{fresh_id}
 use Rattle.why_text.specs.Down.{down_of}
 use Rattle.why_text.specs.Laws.{GivenLaw, OthersLaw, is_given, is_to, sends_down}
 
--- nothing of what is sent otherwise tells of a pointer that goes down
+-- no other message contains a pointer's down
 no_ups : (d : ℕ) (ps lost : List Pointer) → sends_down (cancelled_ups d ps lost) ≡ false
 no_ups d ps [] = refl
 no_ups d ps (p ∷ lost) = no_ups d (filter (λ q. not (q.id == p.id)) ps) lost
@@ -67,7 +67,7 @@ an_opening d i [] = refl
 an_opening d i (p ∷ []) = refl
 an_opening d i (p ∷ q ∷ ps) = refl
 
--- of the rows of what a window is told of a motion, the first one alone
+-- of the rows of what a window is sent for a motion, only the first one
 by_rows : (s : Scene) (m : Motion) (p : Pointer) (w : ℕ) (b l : ℕ → Bool) (gained upped : Bool)
     → sends_down
     (cond gained (opening m.device p.id (listing l m.pointers) ∷ [])
@@ -89,7 +89,7 @@ new_is_given false true true = refl
 new_is_given false true false = refl
 new_is_given false false t = refl
 
--- what the window is told of the motion, where one of its pointers changes
+-- what the window is sent for the motion, if one of its pointers changes
 sent_of : (s : Scene) (m : Motion) (p : Pointer) (w : ℕ)
     → sends_down (sent_motion s m (Some p) w (s.holds w m.device) (after s (mark s (Moves m)) w m.device))
     ≡ (has (given s (Moves m)) w m.device p.id && not (s.holds w m.device p.id))
@@ -108,7 +108,7 @@ own_pair d i (v ∷ ws) w = rw (eq-eqb d d refl, eq-eqb i i refl, own_pair d i w
     own true b = refl
     own false b = refl
 
--- a pointer that goes down was held by nobody
+-- no window held a pointer before it goes down
 pub fresh_at : (s : Scene) (m : Motion) (p : Pointer) (w : ℕ) (down next : List ℕ) → Fits s m.device down → IsRising m.pointers → changed m ≡ Some p
     → is_down m.action ≡ true → Kind m down next → s.holds w m.device p.id ≡ false
 fresh_at s m p w down next f r c h (opens q d e g) = fresh_id s m p w down f (apart_rising m.pointers r) c e

@@ -1,4 +1,4 @@
--- Which windows are told of a touch outside of them.
+-- Which windows are sent a touch outside.
 use Rattle.std.proofs.Common.{◌≡◌, ℕ, zero, suc, Bool, true, false, not, ◌&&◌, ◌||◌, ◌==◌, cond, List, [], ◌∷◌, length, if◌then◌else◌, slice_get, Some, None, refl, sym, ap, ◌∙◌, arith, ◌⊎◌, inl, inr}
 use Rattle.std.specs.List.{list_any}
 use Rattle.std.proofs.lemmas.Bool.{and_parts, true≢false, eqb-true, eq-eqb}
@@ -24,7 +24,7 @@ use Rattle.why_text.specs.Down.{down_of, is_outside}
 use Rattle.why_text.specs.Laws.{OutsideLaw}
 use Rattle.why_text.proofs.GivenLaws.{fresh_at, own_pair}
 
--- the motions tell of a touch outside
+-- the motions contain a touch outside
 abbrev sends_outside : List Motion → Bool
 sends_outside ms = list_any (λ n. is_outside n.action) ms
 
@@ -34,12 +34,12 @@ not_opening d i [] = refl
 not_opening d i (p ∷ []) = refl
 not_opening d i (p ∷ q ∷ ps) = refl
 
--- where a test fails nothing is sent, and else just this
+-- if a test fails nothing is sent, and otherwise exactly this
 sent_if : (d : ℕ) (p : Pointer) (c : Bool) → sends_outside (cond c (plain d Outside (p ∷ []) ∷ []) []) ≡ c
 sent_if d p true = refl
 sent_if d p false = refl
 
--- a motion that moves does not, and where it moves nothing what stands behind it decides
+-- a move does not, and if it moves nothing, what follows it decides
 moved_or : (d : ℕ) (ps : List Pointer) (xs : List Motion) (c : Bool) → sends_outside xs ≡ c → (ps ≡ [] ⊎ (c ≡ false)) → sends_outside (or_else (moved d ps) xs) ≡ c
 moved_or d [] xs c e h = e
 moved_or d (p ∷ ps) xs c e (inl n) = absurd (cc n)

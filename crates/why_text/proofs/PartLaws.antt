@@ -1,4 +1,4 @@
--- The windows that are given a pointer and the mute ones part its targets.
+-- The targets of a pointer are divided into the windows that are given it and the mute ones.
 use Rattle.std.proofs.Common.{◌≡◌, ℕ, zero, suc, Bool, true, false, not, ◌&&◌, ◌||◌, ◌==◌, cond, List, [], ◌∷◌, map, filter, find, take, option_map, Option, Some, None, refl, sym, ap, ◌∙◌, subst, inl, inr}
 use Rattle.std.specs.Prelude.{fold}
 use Rattle.std.specs.List.{list_any, prefix_len}
@@ -15,7 +15,7 @@ use Rattle.routing_rules.specs.Choice.{is_holder, is_alone, sooner, earliest, ch
 use Rattle.why_text.specs.Down.{down_of, may_get, targets}
 use Rattle.why_text.specs.Laws.{PartsLaw}
 
--- the channel passes a test, where there is one; and all of these channels do
+-- the channel passes a test, if there is one; and all of these channels do
 abbrev Passes : (ℕ → Bool) → Option ℕ → Type 0
 Passes P None = Unit {0}
 Passes P (Some c) = P c ≡ true

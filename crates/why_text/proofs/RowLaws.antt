@@ -1,4 +1,4 @@
--- The row of a choice says what holds at that moment.
+-- The row of a choice says what holds before the step.
 use Rattle.std.proofs.Common.{◌≡◌, ℕ, Bool, true, false, ◌&&◌, ◌||◌, cond, List, [], ◌∷◌, map, filter, Option, Some, None, refl, sym, subst}
 use Rattle.std.specs.Prelude.{fold, is_some}
 use Rattle.std.specs.List.{list_any}
@@ -15,7 +15,7 @@ best_stays : (s : Scene) (d b : ℕ) (ws : List ℕ) → is_some (fold (sooner s
 best_stays s d b [] = refl
 best_stays s d b (w ∷ ws) = best_stays s d (cond (s.earlier w b d) w b) ws
 
--- there is an earliest of the windows that pass a test exactly where one passes it
+-- there is an earliest of the windows that pass a test exactly if one passes it
 is_earliest : (s : Scene) (d : ℕ) (test : Window → Bool) (vs : List Window)
     → is_some (fold (sooner s d) None (map (λ v. v.channel) (filter test vs))) ≡ list_any test vs
 is_earliest s d test [] = refl

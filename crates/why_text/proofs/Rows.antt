@@ -1,4 +1,4 @@
--- Worked examples: what the text tells of the causes. All of them compute.
+-- Worked examples of the text of the causes. Each is checked by computation.
 use Rattle.std.specs.Prelude.{codes, ◌≡◌, ℕ, Bool, true, false, List, [], ◌∷◌, ◌++◌, reverse, Some, None, refl}
 use Rattle.std.specs.Fmt.{digits}
 use Rattle.input_types.specs.declared.message.Args.TheVariants.{Motion as MotionArgs, Key as KeyOfDevice, Reset}
@@ -66,7 +66,7 @@ the_first_finger_touches_nothing :
 unfolding digits channels_that ids_that
 the_first_finger_touches_nothing = refl
 
--- Window 1 is a spy (16 is SPY) in front of window 2. It pilfers, and asks for what it cannot have.
+-- Window 1 is a spy (16 is SPY) in front of window 2. It pilfers, and then requests a pilfer that is refused.
 a_spy_pilfers :
     why
     (open_two ++ Windows 0 (window 1 16 0 0 1080 2400 ∷ window 2 0 0 0 1080 2400 ∷ []) ∷ [] ++ first_finger
@@ -105,7 +105,7 @@ it_loses_all_that_it_holds :
 unfolding digits channels_that ids_that
 it_loses_all_that_it_holds = refl
 
--- A device begins anew. Window 1 holds a key of it, and window 2 a pointer.
+-- A device is reset. Window 1 holds a key of it, and window 2 a pointer.
 a_device_begins_anew :
     why
     (side_by_side 0 0 ++ FocusOn 0 0 (Some 1) ∷ [] ++ pressed 1000 115 true ++ moved 2000 Down 0 (at 0 700 400 ∷ []) ++ dispatch 3000 (Reset 1))

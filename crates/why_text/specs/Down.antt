@@ -11,9 +11,9 @@ use Rattle.routing_rules.specs.Scene.{Scene, Moves}
 use Rattle.routing_rules.specs.Choice.{choice_at, is_candidate, is_target, takers}
 use Rattle.routing_rules.specs.Outgoing.{outgoing}
 
--- The causes of a down: the window under the place, the choice with its row, the spies at the place, the candidates that are
--- pilfering the device, the windows that get the pointer, the targets that are not able to, and the windows that are told of a
--- touch outside of them.
+-- The causes of a down: the window under the position, the choice with its row, the spies at the position, the
+-- candidates that are pilfering the device, the windows that get the pointer, the targets that are not able to, and
+-- the windows that are sent a touch outside.
 pub record Down : Type 0 where
   pub touched : Option ℕ
   pub choice : Choice
@@ -31,7 +31,7 @@ may_get s m p = is_candidate s m.device p.at (choice_at s m.device p.at).window
 abbrev pub targets : Scene → Motion → Pointer → ℕ → Bool
 targets s m p = is_target s m.device (may_get s m p)
 
--- the motion tells of a touch outside
+-- the motion is a touch outside
 abbrev pub is_outside : MotionAction → Bool
 is_outside Outside = true
 is_outside action = false

@@ -1,4 +1,4 @@
--- What is proved of the causes of a run. Each law is the clause of a function of its own.
+-- Proved facts about the causes of a run. Each law is the clause of a function of its own.
 use Rattle.std.specs.Prelude.{ℕ, Bool, true, false, not, ◌==◌, ◌&&◌, ◌||◌, ◌≡◌, if◌then◌else◌, List, [], ◌∷◌, is_some, Option, Some, None}
 use Rattle.std.specs.List.{list_any}
 use Rattle.input_types.specs.declared.axis.Pixel.{Pixel}
@@ -34,7 +34,7 @@ has_holder s d = list_any (is_holder s d) s.windows
 abbrev pub has_whole_holder : Scene → ℕ → Bool
 has_whole_holder s d = list_any (λ v. is_holder s d v && prevents_splitting v) s.windows
 
--- What each row says of the moment, and two of them of the window that is chosen.
+-- What each row says about the scene, and what two of them say about the chosen window.
 abbrev pub RowSays : Scene → ℕ → (touched chosen : Option ℕ) → Row → Type 0
 RowSays s d touched chosen First = (has_holder s d ≡ false) × (chosen ≡ touched)
 RowSays s d touched chosen Unsplit = (has_holder s d ≡ true) × (has_whole_holder s d ≡ true)
@@ -43,7 +43,7 @@ RowSays s d touched chosen Whole = (has_holder s d ≡ true) × (has_whole_holde
 RowSays s d touched chosen Split =
     (has_holder s d ≡ true) × (has_whole_holder s d ≡ false) × (is_some touched ≡ true) × (is_alone s d touched ≡ false) × (chosen ≡ touched)
 
--- The row of a choice says what holds at that moment.
+-- The row of a choice says what holds before the step.
 abbrev pub RowLaw : Type 0
 RowLaw =
     (s : Scene) (d : ℕ) (at : Pixel) (k : Choice) → choice_at s d at ≡ k
@@ -55,11 +55,11 @@ PartsLaw =
     (s : Scene) (m : Motion) (p : Pointer) (w : ℕ)
     → ((down_of s m p).given w && (down_of s m p).mute w ≡ false) × (((down_of s m p).given w || (down_of s m p).mute w) ≡ targets s m p w)
 
--- the motions tell of a pointer that goes down
+-- the motions contain a pointer's down
 abbrev pub sends_down : List Motion → Bool
 sends_down ms = list_any (λ n. is_down n.action) ms
 
--- the window is the one that a pointer slips to
+-- the window is the one to which a pointer slips
 abbrev pub is_to : Option Slip → ℕ → Bool
 is_to None w = false
 is_to (Some way) w = way.to == w
@@ -69,18 +69,18 @@ abbrev pub is_given : Scene → Motion → Option Pointer → ℕ → Bool
 is_given s m None w = false
 is_given s m (Some p) w = if is_down m.action then (down_of s m p).given w else is_to (slip s m) w
 
--- A window is told that a pointer goes down exactly where it is among those that are given it, or a pointer slips to it.
+-- A window is sent a pointer's down exactly if it is among those that are given the pointer, or a pointer slips to it.
 abbrev pub GivenLaw : Type 0
 GivenLaw =
     (s : Scene) (m : Motion) (w : ℕ) (down next : List ℕ)
     → Fits s m.device down → IsRising m.pointers → down_after (Moves m) m.device down ≡ Some next
     → sends_down (outgoing s (Moves m) w m.device) ≡ is_given s m (changed m) w
 
--- No other step tells that of the device, and no motion of another device.
+-- No other step sends a down for the device, and neither does a motion of another device.
 abbrev pub OthersLaw : Type 0
 OthersLaw = (s : Scene) (e : Step) (w d : ℕ) → is_motion_of e d ≡ false → sends_down (outgoing s e w d) ≡ false
 
--- A window is told of a touch outside of it exactly where it watches for such touches, and is not given the pointer.
+-- A window is sent a touch outside exactly if it watches for such touches and is not given the pointer.
 abbrev pub OutsideLaw : Type 0
 OutsideLaw =
     (s : Scene) (m : Motion) (p : Pointer) (w : ℕ) (down next : List ℕ)
@@ -94,7 +94,7 @@ is_silent (Receive channel) reply = true
 is_silent (Pump now) Idle = true
 is_silent call reply = false
 
--- Such a step tells nothing.
+-- Such a step sends nothing.
 abbrev pub SilentLaw : Type 0
 SilentLaw =
     (displays : List ℕ) (x : Effect) (before : List Effect) (call : Call) (reply : Reply)
@@ -109,6 +109,6 @@ may_move_focus (FocusOn now display channel) reply = true
 may_move_focus (Remove now channel) Done = true
 may_move_focus call reply = false
 
--- No other step tells a change of the focus.
+-- No other step sends a focus change.
 abbrev pub FocusLaw : Type 0
 FocusLaw = (call : Call) (reply : Reply) (h : History) → may_move_focus call reply ≡ false → focus_words h ((call, reply) ∷ h) ≡ []

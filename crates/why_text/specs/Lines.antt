@@ -31,7 +31,7 @@ use Rattle.why_text.specs.Words.{set_word, channel_word, channels_that, windows_
 use Rattle.why_text.specs.Down.{Down, down_of}
 use Rattle.why_text.specs.Lost.{lost_word, losers}
 
--- a window of a snapshot behind a space: its channel, its display and its frame
+-- a window of a snapshot after a space: its channel, its display and its frame
 abbrev pub window_words : Window → List ℕ
 window_words v =
     codes " " ++ decimal v.channel ++ codes "@" ++ decimal v.display ++ codes ":" ++ signed_decimal v.frame.left ++ codes ","
@@ -49,11 +49,11 @@ gone_word w lost = codes "gone " ++ decimal w ++ codes " " ++ lost
 abbrev pub gone_words : Effect → List Effect → List (List ℕ)
 gone_words x before = map (λ w. gone_word w (lost_word x before w)) (losers x before)
 
--- a pointer of a device with its place on the display
+-- a pointer of a device with its position on the display
 abbrev pub pointer_words : ℕ → Pointer → List ℕ
 pointer_words d p = decimal d ++ codes " " ++ decimal p.id ++ codes " " ++ signed_decimal p.at.x ++ codes "," ++ signed_decimal p.at.y
 
--- the window under the place, and the choice with its row
+-- the window under the position, and the choice with its row
 abbrev pub choice_words : Down → List ℕ
 choice_words k =
     codes " touched " ++ channel_word k.touched ++ codes " row " ++ row_word k.choice.row ++ codes " chosen " ++ channel_word k.choice.window
@@ -117,7 +117,7 @@ key_line k x before =
     if k.down then key_down_word k (key_target (past_of before)) (first_of (key_holders (x ∷ before) k))
     else key_up_word k (first_of (key_holders before k))
 
--- a device begins anew, with these windows
+-- a device is reset, with these windows
 abbrev pub reset_word : ℕ → (ℕ → Bool) → List ℕ
 reset_word d held = codes "reset " ++ decimal d ++ codes " from " ++ windows_word held
 
@@ -125,7 +125,7 @@ reset_word d held = codes "reset " ++ decimal d ++ codes " from " ++ windows_wor
 abbrev pub reset_words : ℕ → Scene → List Effect → List ℕ
 reset_words d s before = reset_word d (λ w. s.any w d || list_any (λ k. k.device == d) (keys before w))
 
--- what a step that dispatches args tells of them
+-- the lines of a step that dispatches args
 abbrev pub args_words : List ℕ → Option Args → Effect → List Effect → List (List ℕ)
 args_words displays None x before = []
 args_words displays (Some (MotionArgs m)) x before = motion_words (scene displays before) m (changed m)
@@ -150,32 +150,32 @@ abbrev pub pilfer_done : Scene → ℕ → ℕ → List ℕ
 pilfer_done s c d =
     let ids = ids_that (s.holds c d) in taken_word ids (λ w. list_any (λ i. s.holds w d i && takes (Pilfered c d (s.holds c d)) w d i) ids)
 
--- what it is answered, where it is not done
+-- its reply, if it is refused
 abbrev pub refusal_word : Reply → List ℕ
 refusal_word Gone = codes "Gone"
 refusal_word NotSpy = codes "NotSpy"
 refusal_word NothingHeld = codes "NothingHeld"
 refusal_word reply = []
 
--- a pilfer by a window of a device, and what comes of it
+-- a pilfer by a window of a device, and its result
 abbrev pub pilfer_word : ℕ → ℕ → (what : List ℕ) → List ℕ
 pilfer_word c d what = codes "pilfer " ++ decimal c ++ codes " " ++ decimal d ++ codes " " ++ what
 
--- that is what it took, or what it was answered
+-- the result is what it took, or the reply
 abbrev pub pilfer_words : Reply → Scene → ℕ → ℕ → List ℕ
 pilfer_words Done s c d = pilfer_word c d (pilfer_done s c d)
 pilfer_words reply s c d = pilfer_word c d (refusal_word reply)
 
--- the number of a message, where there is one
+-- the number of a message, if there is one
 abbrev pub seq_word : Option Message → List ℕ
 seq_word None = []
 seq_word (Some m) = decimal m.seq
 
--- a window is named unresponsive, with the number of a message, and what it loses
+-- a window is reported unresponsive, with the number of a message, and what it loses
 abbrev pub timeout_word : ℕ → (seq lost : List ℕ) → List ℕ
 timeout_word c seq lost = codes "timeout " ++ decimal c ++ codes " " ++ seq ++ codes " " ++ lost
 
--- the message is its oldest one that is published and not finished
+-- the message is its oldest published and unfinished one
 abbrev pub timeout_words : Effect → List Effect → ℕ → List ℕ
 timeout_words x before c = timeout_word c (seq_word (oldest before c)) (lost_word x before c)
 
@@ -183,12 +183,12 @@ timeout_words x before c = timeout_word c (seq_word (oldest before c)) (lost_wor
 abbrev pub removed_word : ℕ → (lost : List ℕ) → List ℕ
 removed_word c lost = codes "removed " ++ decimal c ++ codes " " ++ lost
 
--- what is removed loses all, where it was there
+-- a removed channel loses everything, if it was open
 abbrev pub removed_words : Reply → Effect → List Effect → ℕ → List ℕ
 removed_words Done x before c = removed_word c (lost_word x before c)
 removed_words reply x before c = removed_word c (codes "Gone")
 
--- a window answers again
+-- a window responds again
 abbrev pub responsive_word : ℕ → List ℕ
 responsive_word c = codes "responsive " ++ decimal c
 

@@ -23,7 +23,7 @@ ids_lost x before w d = ids_that (λ i. holds before w d i && not (holds (x ∷ 
 abbrev pub keys_lost : Effect → List Effect → ℕ → List KeyArgs
 keys_lost x before w = filter (λ k. not (list_any (same_key k) (keys (x ∷ before) w))) (keys before w)
 
--- the ids of a device in front of which the device stands; nothing where there are none
+-- the ids of a device, after the device; nothing if there are none
 abbrev pub ids_item : ℕ → List ℕ → List (List ℕ)
 ids_item d [] = []
 ids_item d (i ∷ is) = (decimal d ++ codes ":" ++ joined (i ∷ is)) ∷ []
@@ -42,7 +42,7 @@ spaced [] = []
 spaced (a ∷ []) = a
 spaced (a ∷ b ∷ items) = a ++ codes " " ++ spaced (b ∷ items)
 
--- these, or `-` where there is none
+-- these, or `-` if there is none
 abbrev pub items_word : List (List ℕ) → List ℕ
 items_word [] = codes "-"
 items_word (a ∷ items) = spaced (a ∷ items)

@@ -14,11 +14,11 @@ same_channel None None = true
 same_channel (Some c) (Some e) = c == e
 same_channel a b = false
 
--- a change from one channel to another, behind some words; no line where there is none
+-- a change from one channel to another, after some words; no line if there is none
 abbrev pub change_words : List ℕ → Option ℕ → Option ℕ → List (List ℕ)
 change_words words a b = if same_channel a b then [] else (words ++ channel_word a ++ codes " " ++ channel_word b) ∷ []
 
--- the changes of the focus of each display, by rising display, and then that of the key target
+-- the focus changes of each display, by rising display, and then that of the key target
 abbrev pub focus_words : (before after : History) → List (List ℕ)
 focus_words before after =
     flat_map (λ y. change_words (codes "focus " ++ decimal y ++ codes " ") (focus before y) (focus after y)) all_displays
@@ -37,7 +37,7 @@ line t words = decimal t ++ codes " " ++ words ++ codes "\n"
 abbrev pub step_text : List ℕ → Effect → List Effect → List ℕ
 step_text displays x before = flat_map (line (clock x.past)) (step_words displays x.past x before)
 
--- the text of the causes of a history with these effects, step by step, where the devices are on these displays
+-- the text of the causes of a history with these effects, step by step, for devices on these displays
 abbrev pub why_text : List ℕ → List Effect → List ℕ
 why_text displays [] = []
 why_text displays (x ∷ before) = why_text displays before ++ step_text displays x before

@@ -16,7 +16,7 @@ abbrev pub set_word : List ℕ → List ℕ
 set_word [] = codes "-"
 set_word (n ∷ ns) = joined (n ∷ ns)
 
--- a channel by its number, or `-` where there is none
+-- a channel by its number, or `-` if there is none
 abbrev pub channel_word : Option ℕ → List ℕ
 channel_word None = codes "-"
 channel_word (Some c) = decimal c

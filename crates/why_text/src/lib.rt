@@ -11,8 +11,8 @@
 //! ```
 //!
 //! The text is a function of the effects of the run. Its words are those of the rules: the touched window, the choice
-//! with its row, who gets a pointer and who would if it were able (`routing_rules`), what windows hold before and after
-//! a step, and who has the focus (`dispatch_history`). Nothing is worked out by a second rule.
+//! with its row, which windows get a pointer and which would if they were able (`routing_rules`), what windows hold
+//! before and after a step, and which has the focus (`dispatch_history`). No second rule is involved.
 //!
 //! The definitions stand in specs/:
 //!

@@ -17,7 +17,7 @@ pub third_of_seed_0 : drawn_after 182605794 ≡ 1291394886
 unfolding drawn_after
 third_of_seed_0 = refl
 
--- the greatest first number, and the seed behind it, which begins as seed 0 does
+-- the greatest first number, and the next seed, which begins as seed 0 does
 pub greatest_first_number : first_number 2147483645 ≡ 2147483646
 unfolding first_number
 greatest_first_number = refl

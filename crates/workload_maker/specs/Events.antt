@@ -26,7 +26,7 @@ slot_event at slot = axis_event at 47 (pos slot)
 abbrev pub begin_event : ℕ → ℕ → RawEvent
 begin_event at contact = axis_event at 57 (pos contact)
 
--- the slot has no contact any more, ABS_MT_TRACKING_ID with -1
+-- the slot no longer has a contact, ABS_MT_TRACKING_ID with -1
 abbrev pub end_event : ℕ → RawEvent
 end_event at = axis_event at 57 (negsuc 0)
 
@@ -62,7 +62,8 @@ ended slot f = record { number = f.number; contacts = f.contacts; held = cleared
 unfoldable pub ends : ℕ → Bool
 ends number = number % 4 == 0
 
--- what is said of the slot: it gets a contact where it has none; else a number decides whether its contact ends or moves
+-- the changes of the slot: it gets a contact if it has none; otherwise a number decides whether its contact ends or
+-- moves
 abbrev pub slot_events : ℕ → ℕ → Fingers → List RawEvent
 slot_events at slot f =
     if is_in slot f.held

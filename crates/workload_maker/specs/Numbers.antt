@@ -1,5 +1,5 @@
--- The numbers that a workload is drawn with: Lehmer's generator, where each number is the one before it times 48271, modulo the
--- prime 2 ^ 31 - 1.
+-- The random numbers of a workload: Lehmer's generator, in which each number is the previous one times 48271, modulo
+-- the prime 2 ^ 31 - 1.
 use Rattle.std.specs.Prelude.{ℕ, ◌+◌, ◌*◌, ◌%◌}
 
 -- the number that the numbers of a seed come after: never 0, and below the prime

@@ -13,7 +13,7 @@ impl Tracker {
         self.pending
     }
 
-    /// A moment before which no channel is due. Nothing is looked for.
+    /// A moment before which no channel is due. It does not search.
     pub fn least(&self) -> u64
         ensures { NoneBelow (due_of self.now) result }
     {

@@ -3,7 +3,7 @@ use Rattle.anr_tracker.proofs.Firsts.{due_but}
 use Rattle.anr_tracker.proofs.Least.{NoneAt}
 use Rattle.anr_tracker.proofs.tracker.first_of.Given as goal
 
--- what comes first of the channels that were looked at, none of which is due at the least moment
+-- what comes first of the examined channels, none of which is due at the least moment
 abbrev pub invariant-loop-rest : goal.invariant-loop-rest
 invariant-loop-rest l = IsFirst (due_but l.rest (due_of l.dues)) l.first × NoneAt (due_of l.dues) l.rest l.least
 

@@ -1,4 +1,4 @@
--- What is handed in is taken.
+-- What is handed in is accepted.
 use Rattle.answer_laws.proofs.Taking.{order_takes, run_takes}
 use Rattle.answer_laws.proofs.laws.taking.Goals as goal
 

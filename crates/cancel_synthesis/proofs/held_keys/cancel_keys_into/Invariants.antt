@@ -2,7 +2,7 @@ use Rattle.std.proofs.Common.{◌≡◌, ◌≤◌, ◌+◌, ◌++◌, drop, len
 use Rattle.cancel_synthesis.specs.Ends.{keys_cancelled}
 use Rattle.cancel_synthesis.proofs.held_keys.cancel_keys_into.Given as goal
 
--- the ups of the keys that were looked at, and room for the others
+-- the ups of the keys seen so far, and room for the others
 abbrev pub invariant-loop-kept : goal.invariant-loop-kept
 invariant-loop-kept l =
     (l.out.items ++ keys_cancelled (drop l.kept-index l.keys) ≡ keys_cancelled l.keys)

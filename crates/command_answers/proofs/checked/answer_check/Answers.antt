@@ -1,4 +1,4 @@
--- A session, a recording and an order that are accepted, and what comes of them.
+-- A session, a recording and an order that are accepted, and their result.
 use Rattle.std.proofs.Common.{◌∙◌, ℕ, Bool, IsTrue, List, [], ◌∷◌, Option, Ok, ap, sym, subst}
 use Rattle.std.proofs.lemmas.Result.{err_from_is_err_and}
 use Rattle.outside_io.specs.Outside.{Entry}

@@ -1,4 +1,4 @@
--- The run of the order with what the devices of the session give.
+-- The run of the order with what the devices of the session deliver.
 use Rattle.std.proofs.Common.{◌≡◌, ◌∙◌, List, ap, map, reverse}
 use Rattle.given_run.specs.declared.cooked.Cooked.{Cooked}
 use Rattle.given_run.specs.Planned.{cooked_of}

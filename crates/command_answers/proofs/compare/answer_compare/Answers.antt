@@ -1,4 +1,4 @@
--- The streams that were wanted are accepted, and those that came are read.
+-- The expected streams are accepted, and the actual ones are read.
 use Rattle.std.proofs.Common.{ℕ, List, [], ◌∷◌, Option, Ok, Err, subst, sym}
 use Rattle.std.proofs.lemmas.Result.{err_from_is_err_and}
 use Rattle.outside_io.specs.Outside.{Entry}

@@ -1,4 +1,4 @@
--- The streams that came are accepted, and compared with those that were wanted.
+-- The actual streams are accepted, and compared with the expected ones.
 use Rattle.std.proofs.Common.{ℕ, List, [], Ok, subst, sym}
 use Rattle.std.proofs.lemmas.Result.{err_from_is_err_and}
 use Rattle.command_files.specs.Inputs.{got_file, stream_limit}

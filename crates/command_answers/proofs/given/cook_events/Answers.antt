@@ -1,4 +1,4 @@
--- One event more, and all events.
+-- One more event, and all events.
 use Rattle.std.proofs.Common.{◌≡◌, ◌∙◌, List, ◌∷◌, ◌++◌, ap, sym, subst, take, reverse}
 use Rattle.input_types.specs.declared.message.Args.{Args}
 use Rattle.raw_events.specs.declared.event.RawEvent.{RawEvent}

@@ -1,4 +1,4 @@
--- A session and a recording that are accepted, and what comes of them.
+-- A session and a recording that are accepted, and their result.
 use Rattle.std.proofs.Common.{List, [], ◌∷◌, Option, Ok, ◌∙◌, ap, sym, subst}
 use Rattle.std.proofs.lemmas.Result.{err_from_is_err_and}
 use Rattle.outside_io.specs.Outside.{Entry}

@@ -1,4 +1,4 @@
--- What is sent after all events.
+-- What is written after all events.
 use Rattle.std.proofs.Common.{◌∙◌, List, ◌++◌, Ok, ap, sym, reverse, []}
 use Rattle.std.proofs.lemmas.List.{append-nil}
 use Rattle.raw_events.specs.declared.event.RawEvent.{RawEvent}

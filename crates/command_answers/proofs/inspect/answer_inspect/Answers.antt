@@ -1,4 +1,4 @@
--- A session that is accepted, and what is told of it and of its recording.
+-- A session that is accepted, and the text about it and its recording.
 use Rattle.std.proofs.Common.{List, [], ◌∷◌, Option, Ok, Err, subst}
 use Rattle.std.proofs.lemmas.Result.{err_from_is_err_and}
 use Rattle.outside_io.specs.Outside.{Entry}

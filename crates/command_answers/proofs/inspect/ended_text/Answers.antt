@@ -1,4 +1,4 @@
--- The end of a recording that was counted, and what is told of it.
+-- The end of a recording that was counted, and the text about it.
 use Rattle.std.proofs.lemmas.Result.{err_from_is_err_and}
 use Rattle.command_answers.specs.Inspect.{session_view}
 use Rattle.command_answers.proofs.Counts.{counts_refused}

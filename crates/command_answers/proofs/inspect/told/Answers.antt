@@ -1,4 +1,4 @@
--- What is told of what was counted.
+-- The text of the counts.
 use Rattle.std.proofs.Common.{reverse, ◌∙◌}
 use Rattle.raw_events.specs.Recording.{lines_of}
 use Rattle.command_files.specs.Cooked.{plans_of}

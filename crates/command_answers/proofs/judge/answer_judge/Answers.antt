@@ -1,4 +1,4 @@
--- A stream file that is accepted, and what is answered of its bytes.
+-- A stream file that is accepted, and the answer for its bytes.
 use Rattle.std.proofs.lemmas.Result.{err_from_is_err_and}
 use Rattle.command_answers.specs.Judge.{JudgeAnswers}
 use Rattle.command_answers.proofs.Streams.{stream_refused, stream_stops, stream_sent}

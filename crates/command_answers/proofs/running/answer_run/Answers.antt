@@ -1,4 +1,4 @@
--- A session that is accepted, and what its recording comes to.
+-- A session that is accepted, and the result for its recording.
 use Rattle.std.proofs.Common.{List, [], ◌∷◌, Option, Ok, Err, subst}
 use Rattle.std.proofs.lemmas.Result.{err_from_is_err_and}
 use Rattle.outside_io.specs.Outside.{Entry}

@@ -1,4 +1,4 @@
--- The sections, and then the namings.
+-- The sections, and then the ANRs.
 use Rattle.std.proofs.Common.{◌≡◌, ◌∙◌, ◌++◌, ℕ, List, ap, map}
 use Rattle.dispatch_history.specs.Due.{anrs}
 use Rattle.schedule.specs.declared.keeping.Lines.TheVariants.{Kept}

@@ -1,4 +1,4 @@
--- One event more, and all events.
+-- One more event, and all events.
 use Rattle.std.proofs.Common.{◌≡◌, ◌∙◌, List, ◌∷◌, ◌++◌, ap, sym, subst, length, reverse, arith, []}
 use Rattle.std.proofs.lemmas.List.{append-nil, append_assoc, reverse-append, reverse-reverse}
 use Rattle.raw_events.specs.declared.event.RawEvent.{RawEvent}

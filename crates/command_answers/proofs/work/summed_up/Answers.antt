@@ -1,4 +1,4 @@
--- The first lines, the last lines of the channels, and the namings.
+-- The first lines, the last lines of the channels, and the ANRs.
 use Rattle.std.proofs.Common.{◌∙◌, ◌++◌, ℕ, List, ap}
 use Rattle.std.proofs.lemmas.List.{append_assoc}
 use Rattle.dispatch_calls.specs.declared.counts.Anr.{Anr}

@@ -1,4 +1,4 @@
--- One device more.
+-- One more device.
 use Rattle.std.proofs.Common.{◌≡◌, ◌+◌, ◌<◌, get_or, length, refl}
 use Rattle.command_files.specs.Cooked.{device_plan}
 use Rattle.command_files.proofs.Readers.{plans_next, count_push}

@@ -1,4 +1,4 @@
--- One device more.
+-- One more device.
 use Rattle.std.proofs.Common.{◌≡◌, ◌<◌, get_or, length, arith}
 use Rattle.command_files.proofs.Readers.{plans_next, readers_so_far, stand_push, numbered_push}
 use Rattle.command_files.proofs.devices.readers_of.Goals as goal

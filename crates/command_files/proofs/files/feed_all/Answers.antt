@@ -1,4 +1,4 @@
--- One piece more, and the end.
+-- One more piece, and the end.
 use Rattle.std.proofs.Common.{◌≡◌, ◌∙◌, ◌+◌, ℕ, List, length, ap, refl, sym, subst, arith, rules}
 use Rattle.std.proofs.lemmas.List.{length-append}
 use Rattle.command_files.proofs.Readings.{gives_on, none_gives}

@@ -1,4 +1,4 @@
--- What a read gives is logged, and put behind the bytes.
+-- What a read gives is logged, and appended to the bytes.
 use Rattle.command_files.proofs.Readings.{failed_gives, few_kept}
 use Rattle.command_files.proofs.files.read_piece.Goals as goal
 

@@ -1,4 +1,4 @@
--- One event more, and all events.
+-- One more event, and all events.
 use Rattle.std.proofs.Common.{◌≡◌, List, ◌++◌, ap, sym, subst, take, take_all, reverse}
 use Rattle.raw_events.specs.declared.event.RawEvent.{RawEvent}
 use Rattle.device_reader.specs.CookedList.{ReadersStandFor}

@@ -1,4 +1,4 @@
--- A name of none of the commands before it.
+-- A name that is none of the earlier commands.
 use Rattle.std.proofs.Common.{rules, ◌≡◌, ◌∙◌, length}
 use Rattle.command_words.specs.Forms.{batch_of, check_of, command_with, emit_of, hover_of, looking_with, race_of, replay_of, value_of, verify_of, work_of}
 use Rattle.command_words.proofs.command.command_with.Goals as goal

@@ -3,7 +3,7 @@ use Rattle.compare_text.specs.Compared.{first_difference}
 use Rattle.compare_text.specs.Indexed.{is_good, points_at}
 use Rattle.compare_text.proofs.compare.difference.Given as goal
 
--- the first difference of the points that are left is that of all
+-- the first difference of the remaining points is that of all
 abbrev pub invariant-points : goal.invariant-points
 invariant-points l = record {
   wanted : is_good l.wanted.events ≡ true;

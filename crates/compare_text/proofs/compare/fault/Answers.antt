@@ -1,4 +1,4 @@
--- One section more.
+-- One more section.
 use Rattle.std.proofs.Common.{refl, sym, ap, ◌+◌, ◌∙◌, map, length-set, arith}
 use Rattle.compare_text.specs.Compared.{fault_of}
 use Rattle.compare_text.specs.Indexed.{seen}

@@ -4,7 +4,7 @@ use Rattle.compare_text.specs.Indexed.{seen}
 use Rattle.compare_text.specs.Pairing.{left_from}
 use Rattle.compare_text.proofs.compare.fault.Given as goal
 
--- the first fault of the sections that are left, of both files, is that of all
+-- the first fault of the remaining sections of both files is that of all
 abbrev pub invariant-loop-section : goal.invariant-loop-section
 invariant-loop-section l = record {
   room : length l.from ≡ 65;

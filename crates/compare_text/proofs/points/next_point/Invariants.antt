@@ -2,7 +2,7 @@ use Rattle.std.proofs.Common.{◌≡◌, ◌≤◌, true}
 use Rattle.compare_text.specs.Indexed.{is_good, points_at}
 use Rattle.compare_text.proofs.points.next_point.Given as goal
 
--- what is passed over is no point
+-- what is skipped is no point
 abbrev pub invariant-lines : goal.invariant-lines
 invariant-lines l = record {
   good : is_good l.lines.events ≡ true;

@@ -1,4 +1,4 @@
--- What a note says is sent.
+-- The message of a note is sent.
 use Rattle.std.proofs.Common.{◌≡◌, ◌⊎◌, ◌+◌, ◌-◌, ◌≤◌, ◌<◌, length, get_or, slice_set, Option, sym, ◌∙◌, ap, arith, inl, inr}
 use Rattle.std.proofs.lemmas.Result.{on_ok_weaker}
 use Rattle.cursor_core.specs.declared.note.Note.{Note}

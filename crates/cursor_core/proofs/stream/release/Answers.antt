@@ -1,4 +1,4 @@
--- The row of a channel is let go.
+-- The row of a channel is released.
 use Rattle.std.proofs.Common.{◌≡◌, ◌⊎◌, ◌+◌, ◌-◌, ◌≤◌, ◌<◌, length, get_or, slice_set, ◌∙◌, ap, arith, inl, inr}
 use Rattle.cursor_core.specs.Kept.{Row}
 use Rattle.cursor_core.proofs.Rows.{released, nothing_gone}

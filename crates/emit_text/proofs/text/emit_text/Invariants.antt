@@ -6,7 +6,8 @@ use Rattle.emit_text.specs.Reading.{IsSpentAt, RestOfFile}
 use Rattle.emit_text.specs.Written.{Wrote}
 use Rattle.emit_text.proofs.text.emit_text.Given as goal
 
--- What is answered of the lines that are left is what is answered of the file. Each line has a byte, and takes at most 16 tracking ids.
+-- The answer for the remaining lines is the answer for the file. Each line has a byte, and takes at most 16 tracking
+-- ids.
 abbrev pub invariant-lines : goal.invariant-lines
 invariant-lines l = record {
   known : (events : List RawEvent) × Wrote events l.emission.packets

@@ -1,4 +1,4 @@
--- At the end of the loop no place is left, so the keys are those of all places.
+-- At the end of the loop no place remains, so the keys are those of all places.
 use Rattle.std.proofs.Common.{◌≡◌, ℕ, List, [], ◌++◌, map, sym, ◌∙◌, append-nil}
 use Rattle.std.proofs.lemmas.Map.Iter.{rest_all}
 use Rattle.std.specs.Map.{keys_of}

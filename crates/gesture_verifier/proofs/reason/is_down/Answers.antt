@@ -1,4 +1,4 @@
--- An id below 32 is listed where its bit is set, and no other id is.
+-- An id below 32 is listed if its bit is set, and no other id is.
 use Rattle.std.proofs.Common.{refl, ◌≡◌, ◌≤◌, ℕ, arith, Bool, ◌&&◌, true, false, nat_lt}
 use Rattle.std.proofs.lemmas.Bool.{lt-ltb}
 use Rattle.std.proofs.lemmas.Bool.Decides.{nat_tests}

@@ -1,4 +1,4 @@
--- A step of another lane is passed over; the first one of the lane is its next.
+-- A step of another lane is skipped; the first one of the lane is its next.
 use Rattle.std.proofs.Common.{◌∙◌, ap, sym}
 use Rattle.std.proofs.lemmas.Bool.{ne_eqb}
 use Rattle.std.proofs.lemmas.Option.{get_or_from_slice_get}

@@ -2,7 +2,7 @@ use Rattle.std.proofs.Common.{◌≡◌, ◌-◌, length}
 use Rattle.given_run.specs.Lanes.{calls_from}
 use Rattle.given_run.proofs.lanes.next_place.Given as goal
 
--- no step of the lane was passed over
+-- no step of the lane was skipped
 abbrev pub invariant-steps : goal.invariant-steps
 invariant-steps l = calls_from l.steps l.lane l.at ≡ calls_from l.steps l.lane l.from
 

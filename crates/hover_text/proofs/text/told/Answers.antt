@@ -1,4 +1,4 @@
--- Where nothing was let go, what is left is the whole stream.
+-- If nothing was released, what remains is the whole stream.
 use Rattle.cursor_core.specs.Kept.{gone}
 use Rattle.hover_text.proofs.Sections.{none_sent, sent_whole}
 use Rattle.hover_text.proofs.text.told.Goals as goal

@@ -1,4 +1,4 @@
--- A channel has a message where the dispatcher lends one.
+-- A channel has a message if the dispatcher lends one.
 use Rattle.std.proofs.Common.{is_some, cond, sym, ap, ◌∙◌}
 use Rattle.window_snapshot.specs.Mask.{mask_with}
 use Rattle.live_input.proofs.Awaiting.{some_copied}

@@ -1,4 +1,4 @@
--- What is let go is that of the call.
+-- What is released is that of the call.
 use Rattle.std.proofs.Common.{◌≡◌, Some, sym, ◌∙◌, subst}
 use Rattle.dispatcher.proofs.Standing.{after_of}
 use Rattle.live_input.specs.Releases.{IsLiveChannel, receives_from}

@@ -1,4 +1,4 @@
--- The value is a number of 32 bits, so the event has it as it was handed in.
+-- The value is a 32-bit number, so the event has it unchanged.
 use Rattle.std.proofs.Common.{◌∷◌, ◌∙◌, w32, sym, ap, subst}
 use Rattle.std.proofs.lemmas.Int.{to_z-of_z}
 use Rattle.device_reader.specs.Cooked.{args_of}

@@ -1,4 +1,4 @@
--- What a layout's text says, whose first refused line is sent alone.
+-- What a layout's text says; only its first refused line is reported.
 use Rattle.std.proofs.Common.{Err, subst}
 use Rattle.key_layout.specs.Layout.{Answers, Codes, layout_of}
 use Rattle.plain_calls.proofs.ReadLayouts.{read_no_text, read_text}

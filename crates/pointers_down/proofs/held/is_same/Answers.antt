@@ -1,4 +1,4 @@
--- Sets are equal exactly where their lists are.
+-- Sets are equal exactly if their lists are.
 use Rattle.pointers_down.proofs.Sets.{same_lists}
 use Rattle.pointers_down.proofs.held.is_same.Goals as goal
 

@@ -1,4 +1,4 @@
--- It was told why there is no text.
+-- The reason for having no text was printed.
 use Rattle.std.proofs.Common.{◌∙◌, refl, subst, sym}
 use Rattle.replay_engine.specs.Refusing.{CameTo}
 use Rattle.replay_engine.proofs.Endings.{ends_refused, not_whole}

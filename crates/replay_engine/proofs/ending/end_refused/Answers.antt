@@ -1,4 +1,4 @@
--- The line of each refusal was sent.
+-- The line of each refusal was printed.
 use Rattle.replay_engine.proofs.ending.end_refused.Goals as goal
 use Rattle.replay_engine.proofs.ending.end_refused.Goals.{in-Session, in-Recording, in-Order, in-Stream, in-ReadFailed, in-NoMemory, in-TooLong}
 

@@ -1,4 +1,4 @@
--- The number stands behind the key.
+-- The number follows the key.
 use Rattle.std.proofs.Common.{◌∙◌, ◌++◌, ℕ, List, codes, ap, subst, to_z-of_z}
 use Rattle.std.specs.Fmt.{signed_decimal}
 use Rattle.text_output.specs.Passing.{Tells}

@@ -1,4 +1,4 @@
--- What a command came to is written or told.
+-- The result of a command is written, or the reason printed.
 use Rattle.std.proofs.Common.{map, string_bytes, sym, refl, subst}
 use Rattle.command_answers.specs.Program.{IsAlone}
 use Rattle.command_words.specs.CommandView.{alone_view}

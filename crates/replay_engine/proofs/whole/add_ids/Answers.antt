@@ -64,7 +64,7 @@ loop-place-preserved g c =
       | in_default w ↦ absurd (w.in_default.not-Some _ (c.nth.ensures ∙ slice_get-get_or ids at 0 (omega (arith, c.loop-place-test.true, c.count-place-end.ensures))))
     ]
 
--- all that is left is held
+-- everything that remains is held
 pub returns-clause-ok : goal.returns-clause-ok
 returns-clause-ok g c =
     let ids = members c.args.ids in

@@ -45,7 +45,7 @@ loop-key-preserved g c =
       later = omega (arith, c.loop-key.invariant.later, c.in_ok-add_key.ensures.later);
     }
 
--- all that is left is held
+-- everything that remains is held
 pub returns-clause-ok : goal.returns-clause-ok
 returns-clause-ok g c =
     subst (λ (xs : List ℕ). WritesUpTo (g.E.Sink.writing c.args.err.now) (g.E.Sink.writing c.loop-key.err) (c.args.line.now ++ keys_text c.args.keys.now) xs)

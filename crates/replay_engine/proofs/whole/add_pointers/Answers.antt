@@ -45,7 +45,7 @@ loop-held-preserved g c =
       later = omega (arith, c.loop-held.invariant.later, c.in_ok-add_held.ensures.later);
     }
 
--- all that is left is held
+-- everything that remains is held
 pub returns-clause-ok : goal.returns-clause-ok
 returns-clause-ok g c =
     subst (λ (xs : List ℕ). WritesUpTo (g.E.Sink.writing c.args.err.now) (g.E.Sink.writing c.loop-held.err) (c.args.line.now ++ pointers_text (seen c.args.pointers.now)) xs)

@@ -1,4 +1,4 @@
--- The word of the reason stands behind the number.
+-- The word of the reason follows the number.
 use Rattle.judge_text.specs.Lines.{refusal_line}
 use Rattle.replay_engine.proofs.whole.tell_whole.Goals as goal
 

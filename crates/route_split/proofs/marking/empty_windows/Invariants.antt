@@ -4,7 +4,7 @@ use Rattle.touch_state.specs.Touches.{none, nobody}
 use Rattle.route_split.specs.Tables.{ChangesAll, IsTables}
 use Rattle.route_split.proofs.marking.empty_windows.Given as goal
 
--- it is taken of the devices up to this number
+-- it is taken from the devices up to this number
 abbrev pub invariant-loop-number : goal.invariant-loop-number
 invariant-loop-number l =
     IsTables l.states

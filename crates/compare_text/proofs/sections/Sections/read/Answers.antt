@@ -1,4 +1,4 @@
--- One line more.
+-- One more line.
 use Rattle.std.proofs.Common.{◌+◌, [], refl, sym, ap, ◌∙◌, arith}
 use Rattle.stream_text.specs.StreamFile.{Unread, with_event}
 use Rattle.compare_text.specs.declared.section.Opened.{Opened}

@@ -1,4 +1,4 @@
--- A step lets nothing go.
+-- A step releases nothing.
 use Rattle.std.proofs.Common.{◌≡◌, ℕ, List, length, ◌∙◌, ap, arith}
 use Rattle.std.proofs.lemmas.List.{with_items_is}
 use Rattle.cursor_core.specs.declared.message.HoverMsg.{HoverMsg}

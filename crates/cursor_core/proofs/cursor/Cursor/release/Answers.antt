@@ -1,4 +1,4 @@
--- What is let go of a channel.
+-- What is released of a channel.
 use Rattle.std.proofs.Common.{◌≡◌, List, length, sym, ◌∙◌, ap, subst, arith}
 use Rattle.std.proofs.lemmas.List.{with_items_is}
 use Rattle.cursor_core.specs.Cursor.{CursorStandsFor}

@@ -1,4 +1,4 @@
--- A motion has a reason exactly where it may not come; the ids of a motion rise.
+-- A motion has a reason exactly if it may not come; the ids of a motion rise.
 use Rattle.std.proofs.Common.{sym, ap, ◌∙◌, is_some}
 use Rattle.gesture_verifier.specs.Reasons.{first_fitting, motion_reasons}
 use Rattle.gesture_verifier.specs.Told.{Told, state_of}

@@ -1,4 +1,4 @@
--- What is due of the key of the message is kept, and what is due of others stays.
+-- The due number of the message's key is kept, and those of others stay.
 use Rattle.std.proofs.Common.{refl}
 use Rattle.gesture_verifier.specs.Told.{Told}
 use Rattle.gesture_verifier.proofs.Tables.{key_taken}

@@ -1,4 +1,4 @@
--- The line that stands there.
+-- The line at that index.
 use Rattle.std.proofs.Common.{◌≡◌, ◌∙◌, sym, subst}
 use Rattle.std.specs.Prelude.{IfOk, Some}
 use Rattle.stream_text.specs.declared.order_line.OrderLine.{OrderLine}

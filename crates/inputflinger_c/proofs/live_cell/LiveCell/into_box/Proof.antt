@@ -77,7 +77,7 @@ module _ {M : Type 1} {𝓤 : Ura M} (𝓛 : Logic 𝓤) (at_mem : Memory → SP
     abbrev call : Asks.Ghost
     call = ((([], ([], tt)), (full_share, (full_share, tt)), tt, (alloc, (at, tt)), (v ∷ [], (ptr_val at ∷ [], tt))), state)
 
-    -- what it asks for is made of what the cell owns, for the tokens of such a lifetime are to be had for nothing
+    -- what it asks for is made of what the cell owns, since the tokens of such a lifetime cost nothing
     asked : ent 𝓤 (sep 𝓤 (sem 𝓛 (live_owns alloc at (Some state))) (sem 𝓛 (global.row.own_val alloc (v ∷ [])))) (Asks.pre call)
     asked =
         qed 𝓛 (‵ (live_owns alloc at (Some state)) ∷ ‵ (global.row.own_val alloc (v ∷ [])) ∷ []) ∵

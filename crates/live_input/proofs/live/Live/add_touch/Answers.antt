@@ -1,4 +1,4 @@
--- The device is one that was not there.
+-- The device was not plugged in before.
 use Rattle.std.proofs.Common.{Some, None, sym, ap, ◌∙◌, subst}
 use Rattle.device_table.specs.Table.{IsFirstFree, is_free, reader_of}
 use Rattle.live_input.specs.Standing.{LiveIs}

@@ -1,4 +1,4 @@
--- What is due is done after what is still to be handed in.
+-- Everything due is done after what must still be handed in.
 use Rattle.std.proofs.Common.{inl, inr}
 use Rattle.live_input.proofs.Handing.{advanced_from, advances_from}
 use Rattle.live_input.proofs.Results.{if_ok, on_err}

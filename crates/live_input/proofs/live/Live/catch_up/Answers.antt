@@ -1,4 +1,4 @@
--- What is due is done, one call after another.
+-- Everything due is done, one call after another.
 use Rattle.std.proofs.Common.{refl, sym, ap, ◌∙◌, subst}
 use Rattle.dispatch_history.specs.Ordered.{extend}
 use Rattle.dispatcher.proofs.Standing.{after_of}

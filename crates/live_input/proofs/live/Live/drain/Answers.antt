@@ -1,4 +1,4 @@
--- What is left is done, one call after another.
+-- Everything left is done, one call after another.
 use Rattle.std.proofs.Common.{sym, ap, ◌∙◌, subst}
 use Rattle.dispatch_history.specs.Ordered.{extend}
 use Rattle.dispatcher.proofs.Standing.{after_of}

@@ -1,4 +1,4 @@
--- What a client had is taken from it, one after the other.
+-- What a client had is taken from it, step by step.
 use Rattle.std.proofs.Common.{None, slice_index_or, sym, ap, ◌∙◌, subst}
 use Rattle.live_input.specs.Closing.{hidden}
 use Rattle.live_input.specs.Seats.{is_held, seat_of}

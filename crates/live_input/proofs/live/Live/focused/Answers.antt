@@ -1,4 +1,4 @@
--- The channel that was asked for has the focus where it may.
+-- The requested channel has the focus if it may.
 use Rattle.std.proofs.Common.{◌≡◌, sym, ap, ◌∙◌}
 use Rattle.dispatch_history.specs.Effect.{past_of}
 use Rattle.dispatch_history.specs.History.{snapshot}

@@ -1,4 +1,4 @@
--- What is still to be handed in is, one after another.
+-- What must still be handed in is, one after another.
 use Rattle.std.proofs.Common.{◌≡◌, drop, slice_get, Some, sym, ap, ◌∙◌, subst}
 use Rattle.live_input.specs.Giving.{HandedInPart}
 use Rattle.live_input.specs.Standing.{LiveIs}

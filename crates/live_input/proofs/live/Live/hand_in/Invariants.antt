@@ -5,7 +5,7 @@ use Rattle.live_input.specs.Standing.{LiveIs}
 use Rattle.live_input.proofs.Handing.{HandsIn}
 use Rattle.live_input.proofs.live.Live.hand_in.Given as goal
 
--- some of what was to be handed in is
+-- some of what had to be handed in is
 abbrev pub invariant-loop : goal.invariant-loop
 invariant-loop l =
     record {

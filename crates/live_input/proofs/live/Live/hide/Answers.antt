@@ -1,4 +1,4 @@
--- The windows are shown without that of the channel, where it has one.
+-- The windows are shown without that of the channel, if it has one.
 use Rattle.std.proofs.Common.{◌≡◌, cond, sym, ap, ◌∙◌, subst}
 use Rattle.std.specs.Prelude.{OnOk}
 use Rattle.window_snapshot.specs.Named.{is_named}

@@ -1,4 +1,4 @@
--- Keys go where the display does that was asked for last.
+-- Keys go to the display of the last request.
 use Rattle.std.proofs.Common.{ap, ◌∙◌}
 use Rattle.dispatch_history.specs.Effect.{past_of}
 use Rattle.dispatch_history.specs.Focus.{focus}

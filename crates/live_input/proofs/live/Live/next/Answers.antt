@@ -1,4 +1,4 @@
--- A message is handed out, and let go.
+-- A message is handed out and released.
 use Rattle.std.proofs.Common.{◌≡◌, ◌+◌, refl, sym, ap, ap₂, ◌∙◌, subst}
 use Rattle.std.specs.Prelude.{IfSome}
 use Rattle.dispatcher.specs.Access.{got}

@@ -1,4 +1,4 @@
--- The names of the call are noted beside those before.
+-- The channels reported by the call are recorded with those before.
 use Rattle.std.proofs.Common.{◌||◌, sym, ap, ap₂, ◌∙◌, subst}
 use Rattle.window_snapshot.specs.Mask.{mask_has}
 use Rattle.dispatch_history.specs.Delivery.{is_named_by}

@@ -1,4 +1,4 @@
--- Args are taken where the dispatcher takes them.
+-- Args are accepted if the dispatcher accepts them.
 use Rattle.std.proofs.Common.{refl, ap, ◌∙◌}
 use Rattle.live_input.specs.Answers.{is_taken}
 use Rattle.live_input.proofs.live.Live.notify.Goals as goal

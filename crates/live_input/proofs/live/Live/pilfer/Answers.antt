@@ -1,4 +1,4 @@
--- A pilfer that is neither done nor one without a spy holds nothing.
+-- In a pilfer that neither succeeded nor lacks a spy, the spy holds nothing.
 use Rattle.std.proofs.Common.{refl, sym, ap, ◌∙◌}
 use Rattle.live_input.specs.Answers.{is_done, is_no_spy}
 use Rattle.live_input.proofs.live.Live.pilfer.Goals as goal

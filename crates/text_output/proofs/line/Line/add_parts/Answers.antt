@@ -41,7 +41,7 @@ loop-part-preserved g c =
       later = omega (arith, c.loop-part.invariant.later, c.in_ok-add.ensures.later);
     }
 
--- all that is left is held
+-- everything that remains is held
 pub returns-clause-ok : goal.returns-clause-ok
 returns-clause-ok g c =
     subst (λ (xs : List ℕ). WritesUpTo (g.E.Sink.writing c.args.err.now) (g.E.Sink.writing c.loop-part.err) (c.args.self.now ++ parts_of c.args.parts.now) xs)
