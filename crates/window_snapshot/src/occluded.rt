@@ -36,8 +36,8 @@ impl Snapshot {
         obscured_mask(self.windows(), x, y, live)
     }
 
-    /// The mask of the windows whose frames have a point in common with a window of another owner in front of them, with
-    /// a channel in the mask `live`.
+    /// The mask of the windows whose frames have a point in common with that of a window of another owner in front of
+    /// them, with a channel in the mask `live`.
     pub fn overlapped(&self, live: u64) -> u64
         ensures { (c : ℕ) → mask_has result c ≡ (is_channel c && is_overlapped_on self.now (mask_has live) c) }
     {
