@@ -2,6 +2,7 @@
 use Rattle.std.specs.Prelude.{◌≡◌, ℕ, ℤ, pos, negsuc, true, List, [], ◌∷◌, Some, None, refl}
 use Rattle.touch_region.specs.declared.rectangle.Rect.{Rect}
 use Rattle.raw_events.specs.declared.event.RawEvent.{RawEvent}
+use Rattle.window_snapshot.specs.declared.occlusion.Occlusion.TheVariants.{Block}
 use Rattle.window_snapshot.specs.declared.window.Window.{Window}
 use Rattle.cursor_core.specs.declared.call.CursorCall.{CursorCall}
 use Rattle.cursor_core.specs.declared.call.CursorCall.TheVariants.{Moved, Windows, Remove}
@@ -16,7 +17,7 @@ use Rattle.cursor_core.specs.Told.{stream, was_removed}
 abbrev window : ℕ → ℕ → ℕ → ℕ → ℕ → Window
 window channel left top right bottom =
     let frame : Rect = record { left = pos left; top = pos top; right = pos right; bottom = pos bottom } in
-    record { channel = channel; display = 0; frame = frame; region = frame ∷ []; flags = record { bits = 0 } }
+    record { channel = channel; display = 0; frame = frame; region = frame ∷ []; flags = record { bits = 0 }; owner = 0; opacity = 100; occlusion = Block }
 
 abbrev send : ℕ → HoverAction → ℕ → ℕ → HoverMsg
 send moment action x y = record { moment = moment; action = action; at = record { x = pos x; y = pos y } }

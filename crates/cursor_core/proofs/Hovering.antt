@@ -8,7 +8,7 @@ use Rattle.input_types.specs.declared.axis.Pixel.{Pixel}
 use Rattle.window_snapshot.specs.declared.window.Window.{Window}
 use Rattle.window_snapshot.specs.Hits.{takes_touch, touched}
 use Rattle.window_snapshot.specs.Named.{is_shown_on, origin as corner_of_frame, window_of}
-use Rattle.window_snapshot.proofs.Told.{touched_is_live}
+use Rattle.window_snapshot.proofs.Touching.{touched_is_live}
 use Rattle.cursor_core.specs.declared.call.CursorCall.{CursorCall}
 use Rattle.cursor_core.specs.declared.call.CursorCall.TheVariants.{Moved, Windows, Remove}
 use Rattle.cursor_core.specs.Calls.{Screen, corner_of, cursor, has_moved, hovered, hovered_by, live, origin, windows}

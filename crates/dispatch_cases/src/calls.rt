@@ -4,7 +4,7 @@ use input_types::{Args, Body, DeviceId, DisplayId, Limit, Message, Moment};
 use std::alloc::Global;
 use stream_text::StreamLine;
 use touch_region::{Rect, Region};
-use window_snapshot::{Snapshot, Window};
+use window_snapshot::{Occlusion, Percent, Snapshot, Window};
 
 /// A device with this number.
 pub(crate) fn device(n: u64) -> Option<DeviceId> {
@@ -45,6 +45,9 @@ fn window(alloc: Global, on: [u64; 2], edges: [u64; 4], flags: u64) -> Option<Wi
         frame,
         region: Region::new(rects).ok()?,
         flags: bitflags::Flags::from_bits_retain(bits),
+        owner: 0,
+        opacity: Percent::whole(),
+        occlusion: Occlusion::Block,
     })
 }
 

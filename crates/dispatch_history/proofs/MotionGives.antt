@@ -11,7 +11,7 @@ use Rattle.touch_region.specs.RectList.{region_holds}
 use Rattle.window_snapshot.specs.declared.window.Window.{Window}
 use Rattle.window_snapshot.specs.Hits.{touched, takes_touch, spies_touch, in_front, is_spy_at}
 use Rattle.window_snapshot.specs.Window.{is_slippery, is_spy, is_touchable, is_hit, prevents_splitting}
-use Rattle.window_snapshot.proofs.Anr.{named_passes}
+use Rattle.window_snapshot.proofs.Naming.{named_passes}
 use Rattle.routing_rules.specs.Pairs.{has}
 use Rattle.routing_rules.specs.Scene.{Scene, shows, which}
 use Rattle.routing_rules.specs.Choice.{takers, is_target, is_candidate, is_holder, is_alone, chosen, choose, earliest, sooner}

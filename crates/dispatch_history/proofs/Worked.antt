@@ -2,6 +2,7 @@
 -- first.
 use Rattle.std.specs.Prelude.{ℕ, pos, Bool, List, [], ◌∷◌, map, reverse, replicate}
 use Rattle.touch_region.specs.declared.rectangle.Rect.{Rect}
+use Rattle.window_snapshot.specs.declared.occlusion.Occlusion.TheVariants.{Block}
 use Rattle.window_snapshot.specs.declared.window.Window.{Window}
 use Rattle.input_types.specs.declared.key.KeyArgs.{KeyArgs}
 use Rattle.input_types.specs.declared.message.Args.{Args}
@@ -22,12 +23,12 @@ rectangle l t r b = record { left = pos l; top = pos t; right = pos r; bottom = 
 
 -- a window whose frame begins at the corner of the display
 abbrev pub window_of : (channel flags : ℕ) → List Rect → Window
-window_of c f region = record { channel = c; frame = rectangle 0 0 0 0; region = region; flags = record { bits = f }; display = 0 }
+window_of c f region = record { channel = c; frame = rectangle 0 0 0 0; region = region; flags = record { bits = f }; display = 0; owner = 0; opacity = 100; occlusion = Block }
 
 -- a window whose region is its frame
 abbrev pub window : (channel flags left top right bottom : ℕ) → Window
 window c f l t r b =
-    record { channel = c; frame = rectangle l t r b; region = rectangle l t r b ∷ []; flags = record { bits = f }; display = 0 }
+    record { channel = c; frame = rectangle l t r b; region = rectangle l t r b ∷ []; flags = record { bits = f }; display = 0; owner = 0; opacity = 100; occlusion = Block }
 
 -- pointer i at a place
 abbrev pub at : ℕ → ℕ → ℕ → Pointer

@@ -4,6 +4,7 @@ use Rattle.std.specs.Fmt.{digits}
 use Rattle.input_types.specs.declared.axis.Rotation.{Rotation}
 use Rattle.input_types.specs.declared.axis.Rotation.TheVariants.{R0, R90}
 use Rattle.touch_region.specs.declared.rectangle.Rect.{Rect}
+use Rattle.window_snapshot.specs.declared.occlusion.Occlusion.TheVariants.{Block}
 use Rattle.window_snapshot.specs.declared.window.Window.{Window}
 use Rattle.raw_events.specs.declared.event.RawEvent.{RawEvent}
 use Rattle.session_plan.specs.declared.plan.Act.{Act}
@@ -21,7 +22,7 @@ use Rattle.hover_text.specs.Text.{hovered_text}
 abbrev window : ℕ → ℕ → ℕ → ℕ → ℕ → Window
 window channel left top right bottom =
     let frame : Rect = record { left = pos left; top = pos top; right = pos right; bottom = pos bottom } in
-    record { channel = channel; display = 0; frame = frame; region = frame ∷ []; flags = record { bits = 0 } }
+    record { channel = channel; display = 0; frame = frame; region = frame ∷ []; flags = record { bits = 0 }; owner = 0; opacity = 100; occlusion = Block }
 
 abbrev left : Window
 left = window 1 0 0 540 2400

@@ -3,6 +3,7 @@ use Rattle.std.specs.Prelude.{ℕ, ◌≡◌, not, List, map, Option, Some, None
 use Rattle.std.specs.List.{position}
 use Rattle.window_snapshot.specs.declared.snapshot.SnapshotError.{SnapshotError}
 use Rattle.window_snapshot.specs.declared.snapshot.SnapshotError.TheVariants as snapshot
+use Rattle.window_snapshot.specs.declared.occlusion.Occlusion.TheVariants.{Block}
 use Rattle.window_snapshot.specs.declared.window.Window.{Window}
 use Rattle.window_snapshot.specs.Snapshot.{snapshot_of}
 use Rattle.dispatch_calls.specs.declared.call.Call.TheVariants.{Windows}
@@ -18,7 +19,16 @@ use Rattle.live_input.specs.State.{LiveState}
 
 -- the window by its channel
 abbrev pub window_of : ClientWindow → Window
-window_of w = record { channel = w.client.channel; display = w.display; frame = w.frame; region = w.region; flags = w.flags }
+window_of w = record {
+  channel = w.client.channel;
+  display = w.display;
+  frame = w.frame;
+  region = w.region;
+  flags = w.flags;
+  owner = 0;
+  opacity = 100;
+  occlusion = Block;
+}
 
 -- the index of the first window whose client is not open
 abbrev pub first_stale : List Seat → List ClientWindow → Option ℕ

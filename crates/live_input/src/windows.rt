@@ -12,7 +12,7 @@ use crate::refused::WindowsRefused;
 use input_types::{DisplayId, Moment};
 use std::alloc::{AllocError, Global};
 use touch_region::{Rect, Region};
-use window_snapshot::{Snapshot, SnapshotError, Window, WindowFlags};
+use window_snapshot::{Occlusion, Percent, Snapshot, SnapshotError, Window, WindowFlags};
 
 /// A window of a client. A client has at most one window.
 #[derive(Drop)]
@@ -46,6 +46,9 @@ impl ClientWindow {
             frame,
             region,
             flags,
+            owner: 0,
+            opacity: Percent::whole(),
+            occlusion: Occlusion::Block,
         }
     }
 }

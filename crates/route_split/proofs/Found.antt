@@ -12,7 +12,7 @@ use Rattle.window_snapshot.specs.Named.{is_named}
 use Rattle.window_snapshot.specs.Window.{is_spy}
 use Rattle.window_snapshot.specs.Hits.{is_spy_at}
 use Rattle.window_snapshot.proofs.Masks.{mask_has-live, mask_has_channel}
-use Rattle.window_snapshot.proofs.Anr.{named_passes}
+use Rattle.window_snapshot.proofs.Naming.{named_passes}
 use Rattle.routing_rules.specs.Scene.{Scene}
 use Rattle.routing_rules.specs.Choice.{is_candidate, is_target, chosen, takers, is_candidate_of}
 use Rattle.routing_rules.specs.Given.{pairs}

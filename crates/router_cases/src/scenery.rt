@@ -8,7 +8,7 @@ use route_plain::Turn;
 use std::alloc::Global;
 use std::test::Fail;
 use touch_region::{Rect, Region};
-use window_snapshot::{Snapshot, Window, WindowFlags, mask_with};
+use window_snapshot::{Occlusion, Percent, Snapshot, Window, WindowFlags, mask_with};
 
 /// A window of the whole width: its channel, its upper and lower edge, and its flags.
 type Band = (u32, i32, i32, WindowFlags);
@@ -28,6 +28,9 @@ fn window(alloc: Global, band: &Band) -> Result<Window, Fail> {
         frame,
         region,
         flags,
+        owner: 0,
+        opacity: Percent::whole(),
+        occlusion: Occlusion::Block,
     })
 }
 

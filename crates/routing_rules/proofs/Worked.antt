@@ -4,6 +4,7 @@ use Rattle.input_types.specs.declared.motion.Motion.{Motion}
 use Rattle.input_types.specs.declared.motion.MotionAction.{MotionAction}
 use Rattle.input_types.specs.declared.pointer.Pointer.{Pointer}
 use Rattle.touch_region.specs.declared.rectangle.Rect.{Rect}
+use Rattle.window_snapshot.specs.declared.occlusion.Occlusion.TheVariants.{Block}
 use Rattle.window_snapshot.specs.declared.window.Window.{Window}
 use Rattle.window_snapshot.specs.Named.{is_shown_on}
 use Rattle.routing_rules.specs.Pairs.{Pair, has_any}
@@ -13,7 +14,7 @@ use Rattle.routing_rules.specs.Scene.{Scene, scene_of}
 abbrev pub window : (channel flags left top right bottom : ℕ) → Window
 window c f l t r b =
     let frame : Rect = record { left = pos l; top = pos t; right = pos r; bottom = pos b } in
-    record { channel = c; display = 0; frame = frame; region = frame ∷ []; flags = record { bits = f } }
+    record { channel = c; display = 0; frame = frame; region = frame ∷ []; flags = record { bits = f }; owner = 0; opacity = 100; occlusion = Block }
 
 -- pointer i at a place
 abbrev pub at : ℕ → ℕ → ℕ → Pointer

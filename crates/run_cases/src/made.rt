@@ -11,7 +11,7 @@ use std::alloc::Global;
 use std::io;
 use std::io::ErrorKind;
 use touch_region::{Rect, Region};
-use window_snapshot::{Snapshot, Window, WindowFlags};
+use window_snapshot::{Occlusion, Percent, Snapshot, Window, WindowFlags};
 
 /// The left half of the display.
 const LEFT: Rect = Rect {
@@ -53,6 +53,9 @@ fn window(alloc: Global, channel: u32, frame: Rect) -> io::Result<Window> {
         frame,
         region,
         flags: WindowFlags::from_bits_retain(0),
+        owner: 0,
+        opacity: Percent::whole(),
+        occlusion: Occlusion::Block,
     })
 }
 

@@ -6,7 +6,7 @@ use input_types::{DisplayId, Moment, Pixel};
 use std::alloc::Global;
 use std::test::Fail;
 use touch_region::{Rect, Region, RegionError};
-use window_snapshot::{Snapshot, Window, WindowFlags};
+use window_snapshot::{Occlusion, Percent, Snapshot, Window, WindowFlags};
 
 /// A rectangle by its left, upper, right and lower edge.
 fn rect(left: i32, top: i32, right: i32, bottom: i32) -> Rect {
@@ -27,6 +27,9 @@ fn window(alloc: Global, channel: u32, frame: Rect, flags: WindowFlags) -> Resul
         frame,
         region,
         flags,
+        owner: 0,
+        opacity: Percent::whole(),
+        occlusion: Occlusion::Block,
     })
 }
 

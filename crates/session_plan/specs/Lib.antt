@@ -13,6 +13,7 @@ pub mod Reading
 pub mod Rectangles
 pub mod Session
 pub mod Steps
+pub mod Trust
 pub mod Valid
 pub mod View
 pub mod Windows

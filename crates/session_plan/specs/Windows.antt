@@ -1,5 +1,5 @@
 -- The windows of a step.
-use Rattle.std.specs.Prelude.{ℕ, codes, not, List, [], Result, Ok}
+use Rattle.std.specs.Prelude.{ℕ, codes, pos, not, List, [], Result, Ok}
 use Rattle.toml.specs.Data.{Data, get}
 use Rattle.window_snapshot.specs.declared.window.Window.{Window}
 use Rattle.window_snapshot.specs.Named.{is_named}
@@ -11,8 +11,9 @@ use Rattle.session_plan.specs.Fault.{Fault, ◌>>=◌}
 use Rattle.session_plan.specs.Flags.{bits_at}
 use Rattle.session_plan.specs.Keys.{key_of}
 use Rattle.session_plan.specs.Plan.{ChannelData}
-use Rattle.session_plan.specs.Reading.{required, needs, text_at, tables, at_most, each}
+use Rattle.session_plan.specs.Reading.{required, needs, number_or, text_at, tables, at_most, each}
 use Rattle.session_plan.specs.Rectangles.{rect_of, region_at}
+use Rattle.session_plan.specs.Trust.{occlusion_at}
 
 -- a window of a step, behind these, of a session with so many displays
 unfoldable pub window_of : List ChannelData → ℕ → Place → List Window → Data → Result Window Fault
@@ -25,7 +26,19 @@ window_of channels displays place found d = do
   frame ← rect_of (key_of place (codes "frame")) there
   region ← region_at place frame d
   bits ← bits_at place d
-  Ok (record { channel = channel; display = display; frame = frame; region = region; flags = record { bits = bits } })
+  owner ← number_or 0 place (codes "owner") (pos 0) (pos 4294967295) d
+  opacity ← number_or 100 place (codes "opacity") (pos 0) (pos 100) d
+  occlusion ← occlusion_at place d
+  Ok (record {
+    channel = channel;
+    display = display;
+    frame = frame;
+    region = region;
+    flags = record { bits = bits };
+    owner = owner;
+    opacity = opacity;
+    occlusion = occlusion;
+  })
 
 -- the windows of step k, front to back, of a session with so many displays
 unfoldable pub windows_of : List ChannelData → ℕ → ℕ → Data → Result (List Window) Fault

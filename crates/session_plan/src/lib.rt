@@ -78,6 +78,7 @@ mod reading;
 mod rectangle;
 mod session;
 mod step;
+mod trust;
 mod window;
 
 pub use error::PlanError;

@@ -16,8 +16,9 @@ use crate::error::PlanError;
 use crate::flags::flags;
 use crate::key::{Place, key_text};
 use crate::plan::ChannelPlan;
-use crate::reading::{at_most, required, tables, text_at};
+use crate::reading::{at_most, number_or, required, tables, text_at};
 use crate::rectangle::{rect, region};
+use crate::trust::{occlusion, percent};
 use std::alloc::Global;
 use toml::Value;
 use window_snapshot::{MAX_WINDOWS, Snapshot, SnapshotError, Window};
@@ -58,12 +59,18 @@ fn window(
     let frame = rect(alloc, place, "frame", frame)?;
     let region = region(alloc, place, frame, table)?;
     let flags = flags(alloc, place, table)?;
+    let owner = number_or(alloc, 0, place, "owner", 0, 4_294_967_295, table)?;
+    let opacity = number_or(alloc, 100, place, "opacity", 0, 100, table)?;
+    let occlusion = occlusion(alloc, place, table)?;
     Ok(Window {
         channel,
         display,
         frame,
         region,
         flags,
+        owner: owner as u32,
+        opacity: percent(opacity),
+        occlusion,
     })
 }
 

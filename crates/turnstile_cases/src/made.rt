@@ -10,7 +10,7 @@ use std::io;
 use std::io::ErrorKind;
 use stream_text::message_text;
 use touch_region::{Rect, Region};
-use window_snapshot::{Snapshot, Window, WindowFlags};
+use window_snapshot::{Occlusion, Percent, Snapshot, Window, WindowFlags};
 
 const DISPLAY: Rect = Rect {
     left: 0,
@@ -38,6 +38,9 @@ pub(crate) fn show(alloc: Global) -> io::Result<Call> {
         frame: DISPLAY,
         region,
         flags: WindowFlags::from_bits_retain(0),
+        owner: 0,
+        opacity: Percent::whole(),
+        occlusion: Occlusion::Block,
     };
     let mut windows = Vec::new(alloc);
     windows.push(window)?;

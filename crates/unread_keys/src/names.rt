@@ -44,7 +44,19 @@ pub(crate) fn is_read(kind: Kind, key: &str) -> bool
         Kind::Focus => is_one_of(&["at_us", "lane", "do", "display", "channel"], key),
         Kind::Pilfer => is_one_of(&["at_us", "lane", "do", "channel", "device"], key),
         Kind::Remove => is_one_of(&["at_us", "lane", "do", "channel"], key),
-        Kind::Window => is_one_of(&["channel", "display", "frame", "region", "flags"], key),
+        Kind::Window => is_one_of(
+            &[
+                "channel",
+                "display",
+                "frame",
+                "region",
+                "flags",
+                "owner",
+                "opacity",
+                "occlusion",
+            ],
+            key,
+        ),
     }
 }
 

@@ -2,6 +2,7 @@
 use Rattle.std.specs.Prelude.{ℕ, ◌≡◌, Bool, true, false, pos, List, [], ◌∷◌, map, Some, None, Ok, Err, refl}
 use Rattle.touch_region.specs.declared.rectangle.Rect.{Rect}
 use Rattle.window_snapshot.specs.declared.snapshot.SnapshotError.TheVariants.{Twice}
+use Rattle.window_snapshot.specs.declared.occlusion.Occlusion.TheVariants.{Block}
 use Rattle.window_snapshot.specs.declared.window.Window.{Window}
 use Rattle.window_snapshot.specs.Hits.{touched, spies, watchers, is_spy_at, is_watcher_at}
 use Rattle.window_snapshot.specs.Mask.{mask_has, mask_with}
@@ -13,7 +14,7 @@ rect left top right bottom = record { left = pos left; top = pos top; right = po
 
 -- a window that can be touched all over its frame
 abbrev pub window : ℕ → Rect → ℕ → Window
-window channel frame flags = record { channel = channel; display = 0; frame = frame; region = frame ∷ []; flags = record { bits = flags } }
+window channel frame flags = record { channel = channel; display = 0; frame = frame; region = frame ∷ []; flags = record { bits = flags }; owner = 0; opacity = 100; occlusion = Block }
 
 abbrev pub all_live : ℕ → Bool
 all_live c = true
@@ -93,7 +94,7 @@ unnamed_has_no_origin = refl
 
 -- two windows, the second one on another display
 abbrev pub two_displays : List Window
-two_displays = window 1 (rect 0 0 9 9) 0 ∷ record { channel = 2; display = 1; frame = rect 0 0 9 9; region = rect 0 0 9 9 ∷ []; flags = record { bits = 0 } } ∷ []
+two_displays = window 1 (rect 0 0 9 9) 0 ∷ record { channel = 2; display = 1; frame = rect 0 0 9 9; region = rect 0 0 9 9 ∷ []; flags = record { bits = 0 }; owner = 0; opacity = 100; occlusion = Block } ∷ []
 
 pub display_of_the_second : display_of two_displays 2 ≡ Some 1
 display_of_the_second = refl

@@ -1,6 +1,7 @@
 pub mod Examples
 pub mod Fronts
 pub mod Masks
-pub mod Anr
+pub mod Naming
+pub mod Occluding
 pub mod Parts
-pub mod Told
+pub mod Touching

@@ -8,7 +8,7 @@ use Rattle.window_snapshot.specs.declared.window.Window.{Window}
 use Rattle.window_snapshot.specs.Mask.{is_channel, mask_has, mask_with}
 use Rattle.window_snapshot.specs.MaskOf.{mask_of}
 use Rattle.window_snapshot.specs.Named.{is_named}
-use Rattle.window_snapshot.proofs.Anr.{named_passes}
+use Rattle.window_snapshot.proofs.Naming.{named_passes}
 
 or_false : (t u : Bool) → u ≡ false → t ≡ (t || u)
 or_false true u e = refl

@@ -3,6 +3,8 @@ pub mod Hits
 pub mod Mask
 pub mod MaskOf
 pub mod Named
+pub mod Occlusion
+pub mod Opaque
 pub mod Snapshot
 pub mod Window
 pub mod WindowList

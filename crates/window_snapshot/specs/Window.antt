@@ -31,6 +31,10 @@ is_spy w = has_flag w 16
 abbrev pub prevents_splitting : Window → Bool
 prevents_splitting w = has_flag w 32
 
+-- with TRUSTED_OVERLAY
+abbrev pub is_trusted_overlay : Window → Bool
+is_trusted_overlay w = has_flag w 64
+
 -- the point hits the window: it is touchable, its channel is live, and its region has the point
 abbrev pub is_hit : (ℕ → Bool) → ℤ → ℤ → Window → Bool
 is_hit live x y w = is_touchable w && live w.channel && region_holds w.region x y

@@ -31,6 +31,9 @@ impl WindowFlags {
     /// The fingers of one gesture are not divided between it and other windows.
     pub const PREVENT_SPLITTING: WindowFlags = WindowFlags { bits: 32 };
 
+    /// It is the system's own and misleads nobody: it neither obscures nor blocks windows of other owners.
+    pub const TRUSTED_OVERLAY: WindowFlags = WindowFlags { bits: 64 };
+
     const FLAGS: &'static [Flag<WindowFlags>] = &[
         Flag {
             name: "NOT_TOUCHABLE",
@@ -55,6 +58,10 @@ impl WindowFlags {
         Flag {
             name: "PREVENT_SPLITTING",
             value: WindowFlags::PREVENT_SPLITTING,
+        },
+        Flag {
+            name: "TRUSTED_OVERLAY",
+            value: WindowFlags::TRUSTED_OVERLAY,
         },
     ];
 }

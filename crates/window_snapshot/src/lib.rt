@@ -13,10 +13,13 @@
 mod flags;
 mod hits;
 mod mask;
+mod occluded;
+mod occlusion;
 mod snapshot;
 mod window;
 
 pub use flags::WindowFlags;
 pub use mask::{is_channel, mask_first, mask_has, mask_less, mask_with, mask_without};
+pub use occlusion::{Occlusion, Percent};
 pub use snapshot::{MAX_WINDOWS, Snapshot, SnapshotError};
 pub use window::Window;

@@ -190,7 +190,7 @@ fn is_named(windows: &[Window], channel: u32) -> bool
 }
 
 /// The place of the channel's window.
-fn place_in(windows: &[Window], channel: u32) -> Option<usize>
+pub(crate) fn place_in(windows: &[Window], channel: u32) -> Option<usize>
     ensures { result ≡ place_of windows.now channel }
 {
     windows.iter().position(|window| window.channel == channel)

@@ -3,6 +3,7 @@ ghost use Rattle.std.specs.Prelude.{◌≡◌, IfOk};
 
 use crate::flags::WindowFlags;
 use crate::mask::mask_has;
+use crate::occlusion::{Occlusion, Percent};
 use bitflags::Flags;
 use input_types::DisplayId;
 use std::alloc::AllocError;
@@ -22,11 +23,17 @@ pub struct Window {
     pub region: Region,
     /// What it asks of the dispatcher.
     pub flags: WindowFlags,
+    /// Whose it is, as any number. Windows of one owner trust each other.
+    pub owner: u32,
+    /// How much it hides of what is behind it.
+    pub opacity: Percent,
+    /// Whether a touch may go through it to a window of another owner.
+    pub occlusion: Occlusion,
 }
 
 impl Window {
     ghost use Rattle.window_snapshot.specs.Mask.{mask_has};
-    ghost use Rattle.window_snapshot.specs.Window.{is_spy, is_touchable, is_focusable, watches_outside, is_slippery, prevents_splitting, is_hit};
+    ghost use Rattle.window_snapshot.specs.Window.{is_spy, is_touchable, is_focusable, watches_outside, is_slippery, prevents_splitting, is_trusted_overlay, is_hit};
 
     /// Whether it has the flag SPY.
     pub fn is_spy(&self) -> bool
@@ -70,6 +77,13 @@ impl Window {
         self.flags.contains(WindowFlags::PREVENT_SPLITTING)
     }
 
+    /// Whether it has the flag TRUSTED_OVERLAY.
+    pub fn is_trusted_overlay(&self) -> bool
+        ensures { result ≡ is_trusted_overlay self.now }
+    {
+        self.flags.contains(WindowFlags::TRUSTED_OVERLAY)
+    }
+
     /// Whether its channel is in the mask `live`, it is touchable and its region has the point.
     pub fn is_hit(&self, x: i32, y: i32, live: u64) -> bool
         ensures { result ≡ is_hit (mask_has live) x y self.now }
@@ -88,6 +102,9 @@ impl Window {
             frame: self.frame,
             region,
             flags: self.flags,
+            owner: self.owner,
+            opacity: self.opacity,
+            occlusion: self.occlusion,
         })
     }
 }

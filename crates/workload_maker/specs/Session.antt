@@ -7,11 +7,12 @@ use Rattle.session_plan.specs.declared.plan.Display.{Display}
 use Rattle.session_plan.specs.declared.plan.Step.{Step}
 use Rattle.session_plan.specs.Plan.{ChannelData, DeviceData, PlanData}
 use Rattle.touch_region.specs.declared.rectangle.Rect.{Rect}
+use Rattle.window_snapshot.specs.declared.occlusion.Occlusion.TheVariants.{Block}
 use Rattle.window_snapshot.specs.declared.window.Window.{Window}
 
 -- the window of a channel that is touched in its whole frame, with these bits for its flags
 abbrev pub window : ℕ → ℕ → Rect → Window
-window channel bits frame = record { channel = channel; display = 0; frame = frame; region = frame ∷ []; flags = record { bits = bits } }
+window channel bits frame = record { channel = channel; display = 0; frame = frame; region = frame ∷ []; flags = record { bits = bits }; owner = 0; opacity = 100; occlusion = Block }
 
 -- the rectangle with these edges: left, top, right, bottom
 abbrev pub frame : ℕ → ℕ → ℕ → ℕ → Rect

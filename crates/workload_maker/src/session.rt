@@ -13,7 +13,7 @@ use input_types::{Axis, DisplayId, Limit, Moment, Rotation};
 use session_plan::{Act, ChannelPlan, DeviceKind, DevicePlan, Display, Plan, Step};
 use std::alloc::{AllocError, Global};
 use touch_region::{Rect, Region};
-use window_snapshot::{Snapshot, Window, WindowFlags};
+use window_snapshot::{Occlusion, Percent, Snapshot, Window, WindowFlags};
 
 /// The session that the events of a workload belong to.
 pub(crate) fn session(alloc: Global) -> Result<Plan, AllocError>
@@ -160,6 +160,9 @@ fn window(
             frame,
             region,
             flags,
+            owner: 0,
+            opacity: Percent::whole(),
+            occlusion: Occlusion::Block,
         }),
         Err(_) => unreachable!(),
     }

@@ -4,7 +4,7 @@ use Rattle.std.proofs.lemmas.Int.{to_z-of_z}
 use Rattle.window_snapshot.specs.Hits.{is_spy_at, takes_touch}
 use Rattle.window_snapshot.specs.Mask.{mask_has}
 use Rattle.window_snapshot.proofs.Fronts.{before_first_at, before_first_none}
-use Rattle.window_snapshot.proofs.Told.{mask_has-spies, same_at}
+use Rattle.window_snapshot.proofs.Touching.{mask_has-spies, same_at}
 use Rattle.window_snapshot.proofs.snapshot.Snapshot.spies.Goals as goal
 
 pub returns-in-Some : goal.returns-in-Some

@@ -4,7 +4,7 @@ use Rattle.std.proofs.lemmas.Int.{to_z-of_z}
 use Rattle.window_snapshot.specs.Hits.{is_watcher_at, takes_touch}
 use Rattle.window_snapshot.specs.Mask.{mask_has}
 use Rattle.window_snapshot.proofs.Fronts.{before_first_at, find_at_place, find_none}
-use Rattle.window_snapshot.proofs.Told.{mask_has-watchers, mask_has-no_watchers, same_at}
+use Rattle.window_snapshot.proofs.Touching.{mask_has-watchers, mask_has-no_watchers, same_at}
 use Rattle.window_snapshot.proofs.snapshot.Snapshot.watchers.Goals as goal
 
 pub returns-in-Some : goal.returns-in-Some

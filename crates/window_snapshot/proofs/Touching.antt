@@ -9,7 +9,7 @@ use Rattle.window_snapshot.specs.Mask.{mask_has}
 use Rattle.window_snapshot.specs.MaskOf.{mask_of}
 use Rattle.window_snapshot.specs.Named.{is_named}
 use Rattle.window_snapshot.proofs.Masks.{mask_has-live, mask_has-zero, mask_has_channel}
-use Rattle.window_snapshot.proofs.Anr.{named_passes, found_passes}
+use Rattle.window_snapshot.proofs.Naming.{named_passes, found_passes}
 use Rattle.window_snapshot.specs.Window.{is_hit}
 
 hit_is_live : (live : ℕ → Bool) (x y : ℤ) (w : Window) → is_hit live x y w ≡ true → live w.channel ≡ true
