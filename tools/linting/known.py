@@ -10,8 +10,9 @@ STEP = {
     "pilfer": ("at_us", "lane", "do", "channel", "device"),
     "remove": ("at_us", "lane", "do", "channel"),
 }
-WINDOW = ("channel", "display", "frame", "region", "flags")
-FLAGS = ("NOT_TOUCHABLE", "SPY", "PREVENT_SPLITTING", "SLIPPERY", "WATCH_OUTSIDE_TOUCH", "NOT_FOCUSABLE")
+WINDOW = ("channel", "display", "frame", "region", "flags", "owner", "opacity", "occlusion")
+FLAGS = ("NOT_TOUCHABLE", "SPY", "PREVENT_SPLITTING", "SLIPPERY", "WATCH_OUTSIDE_TOUCH", "NOT_FOCUSABLE", "TRUSTED_OVERLAY")
+OCCLUSIONS = ("block", "opacity", "allow")
 ROTATIONS = (0, 90, 180, 270)
 
 # The key names that have a key code.

@@ -162,6 +162,9 @@ class Judge(Reading):
             entry.said["frame"] = self.rectangle(entry, "frame", node)
         self.region(entry)
         self.flags(entry)
+        self.number(entry, "owner", 0, 2**32 - 1)
+        self.number(entry, "opacity", 0, 100)
+        self.occlusion(entry)
 
     def rectangle_form(self, entry, key, node):
         """Whether a node is four integers in order."""
@@ -210,3 +213,12 @@ class Judge(Reading):
             self.unknown(entry, "flags", '"%s" is no flag%s' % (shown(inner.value), hint), inner.at)
         if not wrong and all(inner.kind == "text" for inner in node.value):
             entry.said["flags"] = {inner.value for inner in node.value}
+
+    def occlusion(self, entry):
+        node = entry.node.get("occlusion")
+        if node is None or not self.has_kind(entry, "occlusion", node, "text", "a text"):
+            return
+        if node.value in known.OCCLUSIONS:
+            entry.said["occlusion"] = node.value
+        else:
+            self.wrong(entry, "occlusion", '"%s" is none of %s' % (shown(node.value), ", ".join(known.OCCLUSIONS)), node.at)
