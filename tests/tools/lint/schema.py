@@ -13,6 +13,7 @@ KINDS = [
     (r"integer, (-?\d+)", "integer", int),
     (r"text", "string", None),
     (r"text, empty", "string", lambda: ""),
+    (r"text, `(\w+)`", "string", str),
     (r"text, no channel", "string", lambda: ABSENT),
     (r"truth value, true", "boolean", lambda: True),
     (r"array of tables, none", "array of object", lambda: []),
