@@ -41,3 +41,18 @@ against_dist() {
         echo 'the one in dist/ is not the one that dist/MANIFEST tells of'
     fi
 }
+
+# Why a file of dist/ is not that of these sources; nothing where it is. MANIFEST has a line for each file: its name, its size and its SHA-256.
+against_dist_file() {
+    told=$(manifest "$1" 2>/dev/null) || told=
+    if [ ! -e "$top/dist/$1" ] || [ -z "$told" ]; then
+        echo "there is no $1 in dist/"
+    elif [ "$(manifest sources)" != "$("$top/packaging/sources")" ]; then
+        echo "the $1 of dist/ was built from other sources"
+    elif [ "$told" != "$(size_and_sum "$top/dist/$1")" ]; then
+        echo "the $1 of dist/ is not the one that dist/MANIFEST tells of"
+    fi
+}
+
+# size_and_sum FILE: what MANIFEST says of a file.
+size_and_sum() { echo "$(wc -c <"$1" | tr -d ' ') $(sha256sum <"$1" | cut -d ' ' -f 1)"; }
