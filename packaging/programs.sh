@@ -42,6 +42,10 @@ against_dist() {
     fi
 }
 
+# The files of dist/ that are the library, for C on this machine and on others.
+dist_library='inputflinger.h libinputflinger.a libinputflinger.so.1 libinputflinger.bc.xz
+    aarch64/libinputflinger.a aarch64/libinputflinger.so.1 riscv64/libinputflinger.a riscv64/libinputflinger.so.1'
+
 # size_and_sum FILE: what MANIFEST says of a file.
 size_and_sum() { echo "$(wc -c <"$1" | tr -d ' ') $(sha256sum <"$1" | cut -d ' ' -f 1)"; }
 
