@@ -22,8 +22,7 @@ def test_structs_have_the_sizes_of_the_header() -> None:
 
 def test_each_call_of_the_header_is_declared() -> None:
     declared = set(re.findall(r"^int inputflinger_(\w+)\(", header(), re.M))
-    assert declared - set(native.CALLS) == {"status_text"} & declared
-    assert set(native.CALLS) <= declared
+    assert declared == set(native.CALLS)
 
 
 def test_numbers_are_those_of_the_header() -> None:
