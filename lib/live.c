@@ -2,8 +2,7 @@
  * The calls of a live service, as a program has them: a pointer that is NULL and the size of a struct are answered here,
  * and all else by the proved calls.
  */
-#include <stdlib.h>
-
+#include "heap.h"
 #include "proved.h"
 #include "sized.h"
 
@@ -137,11 +136,15 @@ static int show(struct inputflinger_live *live, uint64_t now_us, const struct in
 static int show_sized(struct inputflinger_live *live, uint64_t now_us, const void *windows, size_t window_size,
 		size_t windows_len, const struct inputflinger_rect *rects, size_t rects_len, uint64_t *named)
 {
-	struct inputflinger_window *own = calloc(windows_len, sizeof *own), room;
+	struct inputflinger_window *own, room;
+	struct tried block = {0};
 	int status = INPUTFLINGER_OK;
 
-	if (own == NULL)
+	if (live->is_open && windows_len <= SIZE_MAX / sizeof *own)
+		block = rattle_alloc(windows_len * sizeof *own, _Alignof(struct inputflinger_window));
+	if (!block.ok)
 		return live->is_open ? INPUTFLINGER_NO_MEMORY : INPUTFLINGER_FREE;
+	own = block.at;
 	for (size_t i = 0; i < windows_len && status == INPUTFLINGER_OK; i++) {
 		const void *given = (const unsigned char *)windows + i * window_size;
 
@@ -153,7 +156,7 @@ static int show_sized(struct inputflinger_live *live, uint64_t now_us, const voi
 	}
 	if (status == INPUTFLINGER_OK)
 		status = show(live, now_us, own, windows_len, rects, rects_len, named);
-	free(own);
+	rattle_dealloc(own);
 	return status;
 }
 
