@@ -1,5 +1,5 @@
 # Which program of this tree can answer at once. For scripts that have set `top` to the folder of the tree and read this file.
-# shellcheck shell=sh disable=SC2154
+# shellcheck shell=sh disable=SC2154,SC2034
 
 program=$top/crates/inputflinger_main/out/inputflinger_main
 dist=$top/dist/inputflinger
