@@ -48,7 +48,7 @@
  *
  * Threads
  *
- * A handle belongs to one thread at a time. Different handles share nothing. The library starts no threads, and keeps
+ * A handle belongs to one thread at a time, for the calls that take a const handle too. Different handles share nothing. The library starts no threads, and keeps
  * nothing between calls except what handles own.
  *
  * Statuses
@@ -60,6 +60,16 @@
  *
  * If several refusals hold, INPUTFLINGER_NULL comes first, then INPUTFLINGER_FREE, and then the first in the call's
  * list. INPUTFLINGER_NO_MEMORY has no fixed rank: the call answers it where it first needs memory that is not there.
+ *
+ * Structs that grow
+ *
+ * A later release may add members at the end of a message, a fault, a state, a panel and a window. A program that was
+ * compiled before still runs, since each call that takes one of them also takes its size: those calls are inline here,
+ * and hand the size that this header gives the struct to the function of the library whose name ends in _sized. A binding
+ * of another language calls that function with the size of its own struct. A member that your struct does not have counts
+ * as 0, which always means what the release before did. Members that your struct has and the library does not have must be
+ * 0, or the answer is INPUTFLINGER_OUT_OF_RANGE; the library writes them as 0. A size below that of the first release is
+ * INPUTFLINGER_OUT_OF_RANGE. No other struct ever changes.
  *
  * Times are microseconds of a clock of your own, at most 10^18. Each call that takes the time now accepts an earlier one
  * than the call before it: the latest time that was handed in counts.
@@ -74,6 +84,14 @@
 #ifdef __cplusplus
 extern "C" {
 #endif
+
+/* The release of this header. inputflinger_version tells that of the library which a program runs with. */
+#define INPUTFLINGER_VERSION_MAJOR 1
+#define INPUTFLINGER_VERSION_MINOR 0
+#define INPUTFLINGER_VERSION_MICRO 0
+
+/* The release of the library, as "1.0.0"; "1.0.0+next" if it has changes that no release has. */
+const char *inputflinger_version(void);
 
 /* The answer of a call. */
 enum inputflinger_status {
@@ -122,6 +140,36 @@ enum inputflinger_status {
 	/* The words are those of race, which starts threads. */
 	INPUTFLINGER_NO_THREADS = 21
 };
+
+/* What a status means, in one English line without a full stop; "unknown status" for a number that is none. Never NULL. */
+const char *inputflinger_status_text(int status);
+
+struct inputflinger_client;
+struct inputflinger_fault;
+struct inputflinger_judge;
+struct inputflinger_live;
+struct inputflinger_message;
+struct inputflinger_panel;
+struct inputflinger_rect;
+struct inputflinger_state;
+struct inputflinger_window;
+
+/*
+ * The calls that take a struct that may grow, with its size. The inline calls below, which document them, hand in sizeof.
+ */
+int inputflinger_judge_step_sized(struct inputflinger_judge *judge, const struct inputflinger_message *message,
+				  size_t message_size, struct inputflinger_fault *fault, size_t fault_size);
+int inputflinger_judge_state_sized(const struct inputflinger_judge *judge, struct inputflinger_state *state,
+				   size_t state_size);
+int inputflinger_live_add_touch_sized(struct inputflinger_live *live, uint8_t display, uint8_t slots,
+				      const struct inputflinger_panel *panel, size_t panel_size, uint8_t *device);
+int inputflinger_live_args_sized(struct inputflinger_live *live, uint64_t now_us,
+				 const struct inputflinger_message *message, size_t message_size);
+int inputflinger_live_windows_sized(struct inputflinger_live *live, uint64_t now_us,
+				    const struct inputflinger_window *windows, size_t window_size, size_t windows_len,
+				    const struct inputflinger_rect *rects, size_t rects_len, uint64_t *named);
+int inputflinger_live_next_sized(struct inputflinger_live *live, const struct inputflinger_client *client,
+				 struct inputflinger_message *message, size_t message_size);
 
 /* The kinds of messages. */
 enum inputflinger_kind {
@@ -292,8 +340,11 @@ int inputflinger_judge_new(struct inputflinger_judge *judge);
  *     INPUTFLINGER_NO_MEMORY     only for a key message: the judge is unchanged
  *     INPUTFLINGER_NULL          judge or message is NULL
  */
-int inputflinger_judge_step(struct inputflinger_judge *judge, const struct inputflinger_message *message,
-			    struct inputflinger_fault *fault);
+static inline int inputflinger_judge_step(struct inputflinger_judge *judge, const struct inputflinger_message *message,
+					  struct inputflinger_fault *fault)
+{
+	return inputflinger_judge_step_sized(judge, message, sizeof *message, fault, sizeof *fault);
+}
 
 /*
  * Reports which pointers are down on each device, and whether the window has the focus. At the end of a whole stream
@@ -303,7 +354,10 @@ int inputflinger_judge_step(struct inputflinger_judge *judge, const struct input
  *     INPUTFLINGER_FREE  the handle is free
  *     INPUTFLINGER_NULL  judge or state is NULL
  */
-int inputflinger_judge_state(struct inputflinger_judge *judge, struct inputflinger_state *state);
+static inline int inputflinger_judge_state(const struct inputflinger_judge *judge, struct inputflinger_state *state)
+{
+	return inputflinger_judge_state_sized(judge, state, sizeof *state);
+}
 
 /*
  * Reports the keys that are down, by rising device and scan code. They are written to the front of keys, which has room
@@ -315,7 +369,7 @@ int inputflinger_judge_state(struct inputflinger_judge *judge, struct inputfling
  *     INPUTFLINGER_NO_ROOM    there are more keys than room: count is written, and no key
  *     INPUTFLINGER_NULL       judge or count is NULL, or keys is NULL and room is not 0
  */
-int inputflinger_judge_keys(struct inputflinger_judge *judge, struct inputflinger_key *keys, size_t room, size_t *count);
+int inputflinger_judge_keys(const struct inputflinger_judge *judge, struct inputflinger_key *keys, size_t room, size_t *count);
 
 /*
  * Frees a judge. The handle is then free.
@@ -457,8 +511,11 @@ int inputflinger_live_free(struct inputflinger_live *live);
  *     INPUTFLINGER_BAD_SLOTS     slots is not 1 to 16
  *     INPUTFLINGER_TOO_MANY      every number of the display has a device
  */
-int inputflinger_live_add_touch(struct inputflinger_live *live, uint8_t display, uint8_t slots,
-				const struct inputflinger_panel *panel, uint8_t *device);
+static inline int inputflinger_live_add_touch(struct inputflinger_live *live, uint8_t display, uint8_t slots,
+					      const struct inputflinger_panel *panel, uint8_t *device)
+{
+	return inputflinger_live_add_touch_sized(live, display, slots, panel, sizeof *panel, device);
+}
 
 /*
  * Plugs in a device with keys on a display, 0 to 3, and writes its number to device. Its layout is a text of len bytes in
@@ -511,7 +568,11 @@ int inputflinger_live_event(struct inputflinger_live *live, uint64_t now_us, uin
  * statuses are those of inputflinger_live_event; INPUTFLINGER_OUT_OF_RANGE is also answered for a number of the message,
  * and for a focus message, which no device can hand in.
  */
-int inputflinger_live_args(struct inputflinger_live *live, uint64_t now_us, const struct inputflinger_message *message);
+static inline int inputflinger_live_args(struct inputflinger_live *live, uint64_t now_us,
+					 const struct inputflinger_message *message)
+{
+	return inputflinger_live_args_sized(live, now_us, message, sizeof *message);
+}
 
 /*
  * Clients. Up to 64 are open at a time; any number may come and go.
@@ -544,7 +605,7 @@ int inputflinger_live_open(struct inputflinger_live *live, struct inputflinger_c
 int inputflinger_live_close(struct inputflinger_live *live, uint64_t now_us, const struct inputflinger_client *client);
 
 /* Reports whether a client is open. */
-int inputflinger_live_is_open(struct inputflinger_live *live, const struct inputflinger_client *client, bool *is_open);
+int inputflinger_live_is_open(const struct inputflinger_live *live, const struct inputflinger_client *client, bool *is_open);
 
 /*
  * Reports the client that is open on a channel.
@@ -552,7 +613,7 @@ int inputflinger_live_is_open(struct inputflinger_live *live, const struct input
  *     INPUTFLINGER_OK       client is written
  *     INPUTFLINGER_NOTHING  no client is open on the channel, or there is no such channel
  */
-int inputflinger_live_client_at(struct inputflinger_live *live, uint32_t channel, struct inputflinger_client *client);
+int inputflinger_live_client_at(const struct inputflinger_live *live, uint32_t channel, struct inputflinger_client *client);
 
 /*
  * Windows and the focus.
@@ -578,8 +639,13 @@ int inputflinger_live_client_at(struct inputflinger_live *live, uint32_t channel
  *     INPUTFLINGER_TWICE         a client has two windows; named is its channel
  *     INPUTFLINGER_NO_MEMORY     the windows stay as they were
  */
-int inputflinger_live_windows(struct inputflinger_live *live, uint64_t now_us, const struct inputflinger_window *windows,
-			      size_t windows_len, const struct inputflinger_rect *rects, size_t rects_len, uint64_t *named);
+static inline int inputflinger_live_windows(struct inputflinger_live *live, uint64_t now_us,
+					    const struct inputflinger_window *windows, size_t windows_len,
+					    const struct inputflinger_rect *rects, size_t rects_len, uint64_t *named)
+{
+	return inputflinger_live_windows_sized(live, now_us, windows, sizeof *windows, windows_len, rects, rects_len,
+					       named);
+}
 
 /*
  * Requests the focus of a display, 0 to 3, for a client, or for none if client is NULL or its channel is 0. Keys go to
@@ -618,7 +684,7 @@ int inputflinger_live_pilfer(struct inputflinger_live *live, uint64_t now_us, co
  */
 
 /* Reports the channels that have a message for their client: bit channel - 1 stands for a channel. */
-int inputflinger_live_waiting(struct inputflinger_live *live, uint64_t *mask);
+int inputflinger_live_waiting(const struct inputflinger_live *live, uint64_t *mask);
 
 /*
  * Hands a client its next message, which the service releases. Its seq counts from 1 for the client; its positions are
@@ -628,8 +694,11 @@ int inputflinger_live_waiting(struct inputflinger_live *live, uint64_t *mask);
  *     INPUTFLINGER_NOTHING    there is none, or the client is not open
  *     INPUTFLINGER_NO_MEMORY  only if the calls can no longer be counted in 64 bits
  */
-int inputflinger_live_next(struct inputflinger_live *live, const struct inputflinger_client *client,
-			   struct inputflinger_message *message);
+static inline int inputflinger_live_next(struct inputflinger_live *live, const struct inputflinger_client *client,
+					 struct inputflinger_message *message)
+{
+	return inputflinger_live_next_sized(live, client, message, sizeof *message);
+}
 
 /*
  * Reports that a client is done with the message of this seq, which it received.
@@ -660,7 +729,7 @@ int inputflinger_live_finish(struct inputflinger_live *live, uint64_t now_us, co
  *     INPUTFLINGER_OK       moment_us is written
  *     INPUTFLINGER_NOTHING  nothing is due
  */
-int inputflinger_live_due(struct inputflinger_live *live, uint64_t *moment_us);
+int inputflinger_live_due(const struct inputflinger_live *live, uint64_t *moment_us);
 
 /*
  * Runs everything that is due up to now, each at its time, after input that still waits for memory. mask has the channels
@@ -673,7 +742,7 @@ int inputflinger_live_due(struct inputflinger_live *live, uint64_t *moment_us);
 int inputflinger_live_advance(struct inputflinger_live *live, uint64_t now_us, uint64_t *mask);
 
 /* Reports the latest time that was handed in. */
-int inputflinger_live_clock(struct inputflinger_live *live, uint64_t *moment_us);
+int inputflinger_live_clock(const struct inputflinger_live *live, uint64_t *moment_us);
 
 /*
  * Reports the client that has the focus of a display, 0 to 3.
@@ -682,13 +751,13 @@ int inputflinger_live_clock(struct inputflinger_live *live, uint64_t *moment_us)
  *     INPUTFLINGER_NOTHING       none has it
  *     INPUTFLINGER_OUT_OF_RANGE  display
  */
-int inputflinger_live_focused(struct inputflinger_live *live, uint8_t display, struct inputflinger_client *client);
+int inputflinger_live_focused(const struct inputflinger_live *live, uint8_t display, struct inputflinger_client *client);
 
 /* Reports the client that keys go to: INPUTFLINGER_OK, or INPUTFLINGER_NOTHING if there is none. */
-int inputflinger_live_key_target(struct inputflinger_live *live, struct inputflinger_client *client);
+int inputflinger_live_key_target(const struct inputflinger_live *live, struct inputflinger_client *client);
 
 /* Reports whether a client is open and responds: it was not reported, or none of its messages is late any more. */
-int inputflinger_live_is_responsive(struct inputflinger_live *live, const struct inputflinger_client *client,
+int inputflinger_live_is_responsive(const struct inputflinger_live *live, const struct inputflinger_client *client,
 				    bool *is_responsive);
 
 /*
@@ -697,7 +766,7 @@ int inputflinger_live_is_responsive(struct inputflinger_live *live, const struct
  *     INPUTFLINGER_OK            ids is written
  *     INPUTFLINGER_OUT_OF_RANGE  device
  */
-int inputflinger_live_holds(struct inputflinger_live *live, const struct inputflinger_client *client, uint8_t device,
+int inputflinger_live_holds(const struct inputflinger_live *live, const struct inputflinger_client *client, uint8_t device,
 			    uint32_t *ids);
 
 /* A file that a run reads: its bytes, which may be NULL if there are none. */

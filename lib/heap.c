@@ -2,18 +2,9 @@
  * The allocator of the library, over malloc. A block of 0 bytes is as aligned as one of `align` bytes. Where there is no memory, the pointer leads
  * to a byte that nobody owns.
  */
-#include <stdbool.h>
-#include <stddef.h>
 #include <stdlib.h>
 
-struct tried {
-	bool ok;
-	void *at;
-};
-
-struct tried rattle_alloc(size_t size, size_t align);
-struct tried rattle_realloc(void *at, size_t kept, size_t size, size_t align);
-void rattle_dealloc(void *at);
+#include "heap.h"
 
 static char nothing;
 

@@ -1,10 +1,16 @@
 /*
- * The calls of a live service, as a program has them: a pointer that is NULL is answered here, and all else by the proved
- * calls.
+ * The calls of a live service, as a program has them: a pointer that is NULL and the size of a struct are answered here,
+ * and all else by the proved calls.
  */
-#include "inputflinger.h"
-
+#include "heap.h"
 #include "proved.h"
+#include "sized.h"
+
+/* What a call answers whose struct has a size that no release has, or more in it than this one knows. */
+static int other_size(const struct inputflinger_live *live)
+{
+	return live->is_open ? INPUTFLINGER_OUT_OF_RANGE : INPUTFLINGER_FREE;
+}
 
 int inputflinger_live_new(struct inputflinger_live *live, uint64_t limit_us,
 		const struct inputflinger_displays *displays)
@@ -23,11 +29,16 @@ int inputflinger_live_free(struct inputflinger_live *live)
 	return (int)inputflinger_proved_live_free(live);
 }
 
-int inputflinger_live_add_touch(struct inputflinger_live *live, uint8_t display, uint8_t slots,
-		const struct inputflinger_panel *panel, uint8_t *device)
+int inputflinger_live_add_touch_sized(struct inputflinger_live *live, uint8_t display, uint8_t slots,
+		const struct inputflinger_panel *panel, size_t panel_size, uint8_t *device)
 {
+	struct inputflinger_panel room;
+
 	if (live == NULL || panel == NULL || device == NULL)
 		return INPUTFLINGER_NULL;
+	panel = sized_given(&room, sizeof room, PANEL_FIRST, panel, panel_size);
+	if (panel == NULL)
+		return other_size(live);
 	return (int)inputflinger_proved_live_add_touch(live, display, slots, panel, device);
 }
 
@@ -57,11 +68,16 @@ int inputflinger_live_event(struct inputflinger_live *live, uint64_t now_us, uin
 	return (int)inputflinger_proved_live_event(live, now_us, device, type, code, value);
 }
 
-int inputflinger_live_args(struct inputflinger_live *live, uint64_t now_us,
-		const struct inputflinger_message *message)
+int inputflinger_live_args_sized(struct inputflinger_live *live, uint64_t now_us,
+		const struct inputflinger_message *message, size_t message_size)
 {
+	struct inputflinger_message room;
+
 	if (live == NULL || message == NULL)
 		return INPUTFLINGER_NULL;
+	message = sized_given(&room, sizeof room, MESSAGE_FIRST, message, message_size);
+	if (message == NULL)
+		return other_size(live);
 	return (int)inputflinger_proved_live_args(live, now_us, message);
 }
 
@@ -79,38 +95,80 @@ int inputflinger_live_close(struct inputflinger_live *live, uint64_t now_us, con
 	return (int)inputflinger_proved_live_close(live, now_us, client);
 }
 
-int inputflinger_live_is_open(struct inputflinger_live *live, const struct inputflinger_client *client, bool *is_open)
+int inputflinger_live_is_open(const struct inputflinger_live *live, const struct inputflinger_client *client, bool *is_open)
 {
+	struct inputflinger_live own;
 	uint8_t told = 0;
 	uint32_t status;
 
 	if (live == NULL || client == NULL || is_open == NULL)
 		return INPUTFLINGER_NULL;
-	status = inputflinger_proved_live_is_open(live, client, &told);
+	own = *live;
+	status = inputflinger_proved_live_is_open(&own, client, &told);
 	if (status == INPUTFLINGER_OK)
 		*is_open = told != 0;
 	return (int)status;
 }
 
-int inputflinger_live_client_at(struct inputflinger_live *live, uint32_t channel, struct inputflinger_client *client)
+int inputflinger_live_client_at(const struct inputflinger_live *live, uint32_t channel, struct inputflinger_client *client)
 {
+	struct inputflinger_live own;
+
 	if (live == NULL || client == NULL)
 		return INPUTFLINGER_NULL;
-	return (int)inputflinger_proved_live_client_at(live, channel, client);
+	own = *live;
+	return (int)inputflinger_proved_live_client_at(&own, channel, client);
 }
 
-int inputflinger_live_windows(struct inputflinger_live *live, uint64_t now_us,
-		const struct inputflinger_window *windows, size_t windows_len, const struct inputflinger_rect *rects,
-		size_t rects_len, uint64_t *named)
+/* Shows windows of our own size. */
+static int show(struct inputflinger_live *live, uint64_t now_us, const struct inputflinger_window *windows,
+		size_t windows_len, const struct inputflinger_rect *rects, size_t rects_len, uint64_t *named)
 {
 	static const struct inputflinger_window no_window;
 	static const struct inputflinger_rect no_rect;
 	uint64_t unread = 0;
 
-	if (live == NULL || (windows == NULL && windows_len != 0) || (rects == NULL && rects_len != 0))
-		return INPUTFLINGER_NULL;
 	return (int)inputflinger_proved_live_windows(live, now_us, windows != NULL ? windows : &no_window,
 			windows_len, rects != NULL ? rects : &no_rect, rects_len, named != NULL ? named : &unread);
+}
+
+/* Shows windows of another size, as copies of our own size. */
+static int show_sized(struct inputflinger_live *live, uint64_t now_us, const void *windows, size_t window_size,
+		size_t windows_len, const struct inputflinger_rect *rects, size_t rects_len, uint64_t *named)
+{
+	struct inputflinger_window *own, room;
+	struct tried block = {0};
+	int status = INPUTFLINGER_OK;
+
+	if (live->is_open && windows_len <= SIZE_MAX / sizeof *own)
+		block = rattle_alloc(windows_len * sizeof *own, _Alignof(struct inputflinger_window));
+	if (!block.ok)
+		return live->is_open ? INPUTFLINGER_NO_MEMORY : INPUTFLINGER_FREE;
+	own = block.at;
+	for (size_t i = 0; i < windows_len && status == INPUTFLINGER_OK; i++) {
+		const void *given = (const unsigned char *)windows + i * window_size;
+
+		given = sized_given(&room, sizeof room, WINDOW_FIRST, given, window_size);
+		if (given == NULL)
+			status = other_size(live);
+		else
+			memcpy(&own[i], given, sizeof own[i]);
+	}
+	if (status == INPUTFLINGER_OK)
+		status = show(live, now_us, own, windows_len, rects, rects_len, named);
+	rattle_dealloc(own);
+	return status;
+}
+
+int inputflinger_live_windows_sized(struct inputflinger_live *live, uint64_t now_us,
+		const struct inputflinger_window *windows, size_t window_size, size_t windows_len,
+		const struct inputflinger_rect *rects, size_t rects_len, uint64_t *named)
+{
+	if (live == NULL || (windows == NULL && windows_len != 0) || (rects == NULL && rects_len != 0))
+		return INPUTFLINGER_NULL;
+	if (window_size == sizeof *windows || windows_len == 0)
+		return show(live, now_us, windows, windows_len, rects, rects_len, named);
+	return show_sized(live, now_us, windows, window_size, windows_len, rects, rects_len, named);
 }
 
 int inputflinger_live_focus(struct inputflinger_live *live, uint64_t now_us, uint8_t display,
@@ -131,19 +189,32 @@ int inputflinger_live_pilfer(struct inputflinger_live *live, uint64_t now_us,
 	return (int)inputflinger_proved_live_pilfer(live, now_us, client, device);
 }
 
-int inputflinger_live_waiting(struct inputflinger_live *live, uint64_t *mask)
+int inputflinger_live_waiting(const struct inputflinger_live *live, uint64_t *mask)
 {
+	struct inputflinger_live own;
+
 	if (live == NULL || mask == NULL)
 		return INPUTFLINGER_NULL;
-	return (int)inputflinger_proved_live_waiting(live, mask);
+	own = *live;
+	return (int)inputflinger_proved_live_waiting(&own, mask);
 }
 
-int inputflinger_live_next(struct inputflinger_live *live, const struct inputflinger_client *client,
-		struct inputflinger_message *message)
+int inputflinger_live_next_sized(struct inputflinger_live *live, const struct inputflinger_client *client,
+		struct inputflinger_message *message, size_t message_size)
 {
+	struct inputflinger_message found;
+	uint32_t status;
+
 	if (live == NULL || client == NULL || message == NULL)
 		return INPUTFLINGER_NULL;
-	return (int)inputflinger_proved_live_next(live, client, message);
+	if (message_size == sizeof found)
+		return (int)inputflinger_proved_live_next(live, client, message);
+	if (message_size < MESSAGE_FIRST)
+		return other_size(live);
+	status = inputflinger_proved_live_next(live, client, &found);
+	if (status == INPUTFLINGER_OK)
+		sized_written(message, message_size, &found, sizeof found);
+	return (int)status;
 }
 
 int inputflinger_live_finish(struct inputflinger_live *live, uint64_t now_us,
@@ -154,11 +225,14 @@ int inputflinger_live_finish(struct inputflinger_live *live, uint64_t now_us,
 	return (int)inputflinger_proved_live_finish(live, now_us, client, seq);
 }
 
-int inputflinger_live_due(struct inputflinger_live *live, uint64_t *moment_us)
+int inputflinger_live_due(const struct inputflinger_live *live, uint64_t *moment_us)
 {
+	struct inputflinger_live own;
+
 	if (live == NULL || moment_us == NULL)
 		return INPUTFLINGER_NULL;
-	return (int)inputflinger_proved_live_due(live, moment_us);
+	own = *live;
+	return (int)inputflinger_proved_live_due(&own, moment_us);
 }
 
 int inputflinger_live_advance(struct inputflinger_live *live, uint64_t now_us, uint64_t *mask)
@@ -168,45 +242,59 @@ int inputflinger_live_advance(struct inputflinger_live *live, uint64_t now_us, u
 	return (int)inputflinger_proved_live_advance(live, now_us, mask);
 }
 
-int inputflinger_live_clock(struct inputflinger_live *live, uint64_t *moment_us)
+int inputflinger_live_clock(const struct inputflinger_live *live, uint64_t *moment_us)
 {
+	struct inputflinger_live own;
+
 	if (live == NULL || moment_us == NULL)
 		return INPUTFLINGER_NULL;
-	return (int)inputflinger_proved_live_clock(live, moment_us);
+	own = *live;
+	return (int)inputflinger_proved_live_clock(&own, moment_us);
 }
 
-int inputflinger_live_focused(struct inputflinger_live *live, uint8_t display, struct inputflinger_client *client)
+int inputflinger_live_focused(const struct inputflinger_live *live, uint8_t display, struct inputflinger_client *client)
 {
+	struct inputflinger_live own;
+
 	if (live == NULL || client == NULL)
 		return INPUTFLINGER_NULL;
-	return (int)inputflinger_proved_live_focused(live, display, client);
+	own = *live;
+	return (int)inputflinger_proved_live_focused(&own, display, client);
 }
 
-int inputflinger_live_key_target(struct inputflinger_live *live, struct inputflinger_client *client)
+int inputflinger_live_key_target(const struct inputflinger_live *live, struct inputflinger_client *client)
 {
+	struct inputflinger_live own;
+
 	if (live == NULL || client == NULL)
 		return INPUTFLINGER_NULL;
-	return (int)inputflinger_proved_live_key_target(live, client);
+	own = *live;
+	return (int)inputflinger_proved_live_key_target(&own, client);
 }
 
-int inputflinger_live_is_responsive(struct inputflinger_live *live, const struct inputflinger_client *client,
+int inputflinger_live_is_responsive(const struct inputflinger_live *live, const struct inputflinger_client *client,
 		bool *is_responsive)
 {
+	struct inputflinger_live own;
 	uint8_t told = 0;
 	uint32_t status;
 
 	if (live == NULL || client == NULL || is_responsive == NULL)
 		return INPUTFLINGER_NULL;
-	status = inputflinger_proved_live_is_responsive(live, client, &told);
+	own = *live;
+	status = inputflinger_proved_live_is_responsive(&own, client, &told);
 	if (status == INPUTFLINGER_OK)
 		*is_responsive = told != 0;
 	return (int)status;
 }
 
-int inputflinger_live_holds(struct inputflinger_live *live, const struct inputflinger_client *client,
+int inputflinger_live_holds(const struct inputflinger_live *live, const struct inputflinger_client *client,
 		uint8_t device, uint32_t *ids)
 {
+	struct inputflinger_live own;
+
 	if (live == NULL || client == NULL || ids == NULL)
 		return INPUTFLINGER_NULL;
-	return (int)inputflinger_proved_live_holds(live, client, device, ids);
+	own = *live;
+	return (int)inputflinger_proved_live_holds(&own, client, device, ids);
 }

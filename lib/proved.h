@@ -1,10 +1,13 @@
 /*
  * The exports of crates/inputflinger_c, declared to fit it. Their pointers are never NULL.
+ *
+ * They take a handle that they may write. The calls that only look take its service out and put the same one back, so a
+ * const handle is handed to them as a copy, whose service is the handle's own before and after.
  */
 #ifndef INPUTFLINGER_PROVED_H
 #define INPUTFLINGER_PROVED_H
 
-#include "inputflinger.h"
+#include "export.h"
 
 uint32_t inputflinger_proved_judge_new(struct inputflinger_judge *judge);
 uint32_t inputflinger_proved_judge_step(struct inputflinger_judge *judge, const struct inputflinger_message *message,

@@ -2,8 +2,6 @@
  * A run of the program, as a caller has it: pointers that are NULL and more files than there may be are answered here, and
  * all else by the proved call.
  */
-#include "inputflinger.h"
-
 #include "proved.h"
 
 #define FILES_MOST 3

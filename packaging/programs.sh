@@ -1,5 +1,5 @@
 # Which program of this tree can answer at once. For scripts that have set `top` to the folder of the tree and read this file.
-# shellcheck shell=sh disable=SC2154
+# shellcheck shell=sh disable=SC2154,SC2034
 
 program=$top/crates/inputflinger_main/out/inputflinger_main
 dist=$top/dist/inputflinger
@@ -14,7 +14,7 @@ newer_source() {
 is_proved() { [ -x "$program" ] && [ -z "$(newer_source)" ]; }
 
 # manifest KEY: what dist/MANIFEST says of it.
-manifest() { sed -n "s/^$1: *//p" "$top/dist/MANIFEST"; }
+manifest() { sed -n "s|^$1: *||p" "$top/dist/MANIFEST"; }
 
 # library_of PROGRAM: the newest version of the C library that a name of the program asks for; where none does, GLIBC_2.0.
 library_of() {
@@ -40,4 +40,50 @@ against_dist() {
     elif [ "$(manifest sha256)" != "$(sha256sum <"$dist" | cut -d ' ' -f 1)" ]; then
         echo 'the one in dist/ is not the one that dist/MANIFEST tells of'
     fi
+}
+
+# The files of dist/ that are the library, for C on this machine and on others.
+dist_library='inputflinger.h libinputflinger.a libinputflinger.so.1 libinputflinger.bc.xz
+    aarch64/libinputflinger.a aarch64/libinputflinger.so.1 riscv64/libinputflinger.a riscv64/libinputflinger.so.1'
+
+# size_and_sum FILE: what MANIFEST says of a file.
+size_and_sum() { echo "$(wc -c <"$1" | tr -d ' ') $(sha256sum <"$1" | cut -d ' ' -f 1)"; }
+
+# against_dist_file NAME: why a file of dist/ was not made of the crates as they are; nothing where it was. MANIFEST has a line for each file: its
+# name, its size and its SHA-256.
+against_dist_file() {
+    told=$(manifest "$1" 2>/dev/null) || told=
+    if [ ! -e "$top/dist/$1" ] || [ -z "$told" ]; then
+        echo "there is no $1 in dist/"
+    elif [ "$(manifest sources)" != "$("$top/packaging/sources")" ]; then
+        echo "the $1 of dist/ was built from other sources"
+    elif [ "$told" != "$(size_and_sum "$top/dist/$1")" ]; then
+        echo "the $1 of dist/ is not the one that dist/MANIFEST tells of"
+    fi
+}
+
+# Why the library of dist/ cannot be installed as it is; nothing where it can.
+against_dist_library() {
+    for name in libinputflinger.a libinputflinger.so.1 inputflinger.h; do
+        why=$(against_dist_file $name)
+        [ -z "$why" ] || break
+    done
+    if [ -n "$why" ]; then
+        echo "$why"
+    elif [ "$(manifest c-sources)" != "$("$top/packaging/sources" --c)" ]; then
+        echo 'the library of dist/ was built from other sources in C'
+    elif [ "$(uname -sm)" != "$(manifest machine)" ]; then
+        echo "the library of dist/ is for $(manifest machine)"
+    elif ! has_library "$(manifest c-library)"; then
+        echo "the library of dist/ needs the C library $(manifest c-library)"
+    fi
+}
+
+# Whether `make -C lib` made the library here, and no source is newer.
+is_library_made() {
+    for name in libinputflinger.a libinputflinger.so.1; do
+        [ -e "$top/lib/out/$name" ] || return 1
+    done
+    [ -z "$(find "$top/crates.txt" "$top/crates" "$top/lib" "$top/include" -name out -prune -o -name must-fail -prune -o -type f \
+        \( -name '*.rt' -o -name '*.antt' -o -name crates.txt -o -name '*.[ch]' \) -newer "$top/lib/out/libinputflinger.so.1" -print | head -n 1)" ]
 }

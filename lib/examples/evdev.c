@@ -6,6 +6,9 @@
  *     evdev FILE 1080 2400         a file of struct input_event of a panel whose positions are these pixels
  *
  * Two clients have a window each, the left and the right half of the screen. Each is done with a message at once.
+ *
+ * A compositor does not end for want of memory, nor because of a device that contradicts itself: such a status is told on
+ * standard error, and the loop goes on (passed, hand_in).
  */
 #include <errno.h>
 #include <fcntl.h>
@@ -27,6 +30,10 @@ struct loop {
 	struct inputflinger_live live;
 	uint8_t panel;
 	uint64_t now;
+	/* An event was not taken: the panel has to begin anew. */
+	bool lost;
+	/* The panel began anew: what the kernel's slots have is to be handed in. */
+	bool begun_anew;
 };
 
 static void fail(const char *what, const char *why)
@@ -37,10 +44,20 @@ static void fail(const char *what, const char *why)
 
 static void demand(int status, const char *what)
 {
-	if (status != INPUTFLINGER_OK) {
-		fprintf(stderr, "evdev: %s: status %d\n", what, status);
-		exit(1);
-	}
+	if (status != INPUTFLINGER_OK)
+		fail(what, inputflinger_status_text(status));
+}
+
+/* Whether what was handed in was taken. False for want of memory alone, where nothing changed. */
+static bool passed(int status, const char *what)
+{
+	if (status == INPUTFLINGER_OK)
+		return true;
+	/* What waits is dispatched by a later call; of what does not fit the rest was dispatched. */
+	if (status != INPUTFLINGER_NO_MEMORY && status != INPUTFLINGER_WAITS && status != INPUTFLINGER_INCONSISTENT)
+		fail(what, inputflinger_status_text(status));
+	fprintf(stderr, "evdev: %s: %s\n", what, inputflinger_status_text(status));
+	return status != INPUTFLINGER_NO_MEMORY;
 }
 
 static uint64_t clock_us(void)
@@ -95,15 +112,28 @@ static void advance(struct loop *loop, uint64_t now)
 	uint64_t late;
 
 	loop->now = now;
-	demand(inputflinger_live_advance(&loop->live, now, &late), "advance");
+	/* Where only a part is done for want of memory, the next call does the rest and tells who is late. */
+	if (!passed(inputflinger_live_advance(&loop->live, now, &late), "advance"))
+		return;
 	for (uint32_t channel = 1; late != 0; channel++, late >>= 1)
 		if (late & 1)
 			printf("channel %" PRIu32 ": does not respond\n", channel);
 }
 
+static bool give(struct loop *loop, uint16_t type, uint16_t code, int32_t value)
+{
+	return passed(inputflinger_live_event(&loop->live, loop->now, loop->panel, type, code, value), "event");
+}
+
+/* Hands in an event. Behind one that was not taken the panel begins anew, as after a SYN_DROPPED of the kernel. */
 static void hand_in(struct loop *loop, uint16_t type, uint16_t code, int32_t value)
 {
-	demand(inputflinger_live_event(&loop->live, loop->now, loop->panel, type, code, value), "event");
+	if (loop->lost) {
+		loop->lost = !give(loop, EV_SYN, SYN_DROPPED, 0);
+		loop->begun_anew = !loop->lost;
+	}
+	if (!loop->lost)
+		loop->lost = !give(loop, type, code, value);
 }
 
 static void take(struct loop *loop, const struct input_event *event)
@@ -136,6 +166,7 @@ static void take_sync(struct loop *loop, struct libevdev *device)
 {
 	struct input_event unread;
 
+	loop->begun_anew = false;
 	while (libevdev_next_event(device, LIBEVDEV_READ_FLAG_SYNC, &unread) == LIBEVDEV_READ_STATUS_SYNC)
 		;
 	hand_in(loop, EV_SYN, SYN_REPORT, 0);
@@ -150,7 +181,7 @@ static bool read_all(struct loop *loop, struct libevdev *device)
 
 	while ((status = libevdev_next_event(device, LIBEVDEV_READ_FLAG_NORMAL, &event)) >= 0) {
 		take(loop, &event);
-		if (status == LIBEVDEV_READ_STATUS_SYNC)
+		if (status == LIBEVDEV_READ_STATUS_SYNC || loop->begun_anew)
 			take_sync(loop, device);
 	}
 	return status == -EAGAIN;

@@ -162,6 +162,10 @@ static void begin(struct life *life, struct inputflinger_client *spy, struct inp
 	static const struct inputflinger_rect whole = {0, 0, 1000, 1000}, both[2] = {{0, 0, 1000, 1000}, {0, 0, 1000, 1000}};
 	static const char layout[] = "key 30 A\nkey 48 B\n";
 	struct inputflinger_window windows[2] = {{{0, 0}, whole, INPUTFLINGER_SPY, 1, 0}, {{0, 0}, whole, 0, 1, 0}};
+	struct {
+		struct inputflinger_window now;
+		uint64_t more;
+	} longer[2] = {{.more = 0}, {.more = 0}};
 	uint64_t line = 77;
 	uint8_t device = 77;
 
@@ -176,6 +180,10 @@ static void begin(struct life *life, struct inputflinger_client *spy, struct inp
 	windows[0].client = *spy;
 	windows[1].client = *behind;
 	AGAIN(inputflinger_live_windows(&life->live, 0, windows, 2, both, 2, NULL));
+	/* The same as a later release may have it, which takes memory for the copies. */
+	longer[0].now = windows[0];
+	longer[1].now = windows[1];
+	AGAIN(inputflinger_live_windows_sized(&life->live, 0, &longer[0].now, sizeof *longer, 2, both, 2, NULL));
 	AGAIN(inputflinger_live_focus(&life->live, 0, 0, behind));
 }
 

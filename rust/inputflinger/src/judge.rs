@@ -4,6 +4,7 @@ use crate::message::Message;
 use crate::sys;
 use std::error::Error;
 use std::fmt;
+use std::mem::size_of;
 use std::ptr;
 
 /// Why a message may not come: the first reason that holds of those of its kind.
@@ -176,8 +177,16 @@ impl Judge {
         }
         let mut fault = sys::Fault::default();
         // SAFETY: all three are of the declared types, and nobody else's during the call.
-        match unsafe { sys::inputflinger_judge_step(&mut self.handle, &message.plain, &mut fault) }
-        {
+        let status = unsafe {
+            sys::inputflinger_judge_step_sized(
+                &mut self.handle,
+                &message.plain,
+                size_of::<sys::Message>(),
+                &mut fault,
+                size_of::<sys::Fault>(),
+            )
+        };
+        match status {
             sys::OK => Ok(()),
             sys::OUT_OF_RANGE => Err(StepError::OutOfRange),
             sys::BROKEN => Err(StepError::Broken(Fault::of(&fault))),
@@ -187,10 +196,11 @@ impl Judge {
     }
 
     /// Which pointers are down on each device, and whether the window has the focus.
-    pub fn state(&mut self) -> State {
+    pub fn state(&self) -> State {
         let mut state = sys::State::default();
         // SAFETY: both are of the declared types, and nobody else's during the call.
-        let status = unsafe { sys::inputflinger_judge_state(&mut self.handle, &mut state) };
+        let size = size_of::<sys::State>();
+        let status = unsafe { sys::inputflinger_judge_state_sized(&self.handle, &mut state, size) };
         debug_assert_eq!(status, sys::OK);
         State {
             ids: state.ids,
@@ -205,14 +215,14 @@ impl Judge {
     /// # Errors
     ///
     /// Memory was wanting. The judge is as it was.
-    pub fn keys_down(&mut self) -> Result<Vec<HeldKey>, NoMemory> {
+    pub fn keys_down(&self) -> Result<Vec<HeldKey>, NoMemory> {
         let mut places = Vec::new();
         loop {
             let mut count = 0;
             // SAFETY: the pointer and the length are those of one vector, and all is nobody else's during the call.
             let status = unsafe {
                 sys::inputflinger_judge_keys(
-                    &mut self.handle,
+                    &self.handle,
                     places.as_mut_ptr(),
                     places.len(),
                     &mut count,

@@ -5,6 +5,7 @@ use crate::message::{Action, Key, Message, Pointer};
 use crate::sys;
 use std::error::Error;
 use std::fmt;
+use std::mem::size_of;
 use std::ptr;
 
 /// A client of a [`Live`]: a channel, 1 to 64, and which of the clients that were opened one after another. Once it is
@@ -342,7 +343,8 @@ impl Live {
         let mut device = 0;
         // SAFETY: all are of the declared types, and nobody else's during the call. So it is below.
         done(unsafe {
-            sys::inputflinger_live_add_touch(&mut self.handle, display, slots, &panel, &mut device)
+            let (live, size) = (&mut self.handle, size_of::<sys::Panel>());
+            sys::inputflinger_live_add_touch_sized(live, display, slots, &panel, size, &mut device)
         })?;
         Ok(device)
     }
@@ -416,8 +418,7 @@ impl Live {
         if message.is_too_long {
             return Err(LiveError::OutOfRange);
         }
-        // SAFETY: as above.
-        done(unsafe { sys::inputflinger_live_args(&mut self.handle, now_us, &message.plain) })
+        self.hand_in(now_us, &message.plain)
     }
 
     /// Hands in that a device lost events: all that is down on it is cancelled.
@@ -431,8 +432,13 @@ impl Live {
             device,
             ..sys::Message::default()
         };
+        self.hand_in(now_us, &message)
+    }
+
+    fn hand_in(&mut self, now_us: u64, message: &sys::Message) -> Result<(), LiveError> {
+        let size = size_of::<sys::Message>();
         // SAFETY: as above.
-        done(unsafe { sys::inputflinger_live_args(&mut self.handle, now_us, &message) })
+        done(unsafe { sys::inputflinger_live_args_sized(&mut self.handle, now_us, message, size) })
     }
 
     /// Opens a client on the first channel that nobody has.
@@ -458,19 +464,18 @@ impl Live {
     }
 
     /// Whether a client is open.
-    pub fn is_open(&mut self, client: Client) -> bool {
+    pub fn is_open(&self, client: Client) -> bool {
         let mut is_open = false;
         // SAFETY: as above.
-        unsafe { sys::inputflinger_live_is_open(&mut self.handle, &client.plain, &mut is_open) };
+        unsafe { sys::inputflinger_live_is_open(&self.handle, &client.plain, &mut is_open) };
         is_open
     }
 
     /// The client that is open on a channel.
-    pub fn client_at(&mut self, channel: u32) -> Option<Client> {
+    pub fn client_at(&self, channel: u32) -> Option<Client> {
         let mut plain = sys::Client::default();
         // SAFETY: as above.
-        let status =
-            unsafe { sys::inputflinger_live_client_at(&mut self.handle, channel, &mut plain) };
+        let status = unsafe { sys::inputflinger_live_client_at(&self.handle, channel, &mut plain) };
         (status == sys::OK).then_some(Client { plain })
     }
 
@@ -497,10 +502,11 @@ impl Live {
         let mut named = 0;
         // SAFETY: each pointer and length are those of one vector; as above.
         let status = unsafe {
-            sys::inputflinger_live_windows(
+            sys::inputflinger_live_windows_sized(
                 &mut self.handle,
                 now_us,
                 rows.as_ptr(),
+                size_of::<sys::Window>(),
                 rows.len(),
                 rects.as_ptr(),
                 rects.len(),
@@ -547,10 +553,10 @@ impl Live {
     }
 
     /// The channels that have a message for their client: bit `channel - 1` stands for a channel.
-    pub fn waiting(&mut self) -> u64 {
+    pub fn waiting(&self) -> u64 {
         let mut mask = 0;
         // SAFETY: as above.
-        unsafe { sys::inputflinger_live_waiting(&mut self.handle, &mut mask) };
+        unsafe { sys::inputflinger_live_waiting(&self.handle, &mut mask) };
         mask
     }
 
@@ -562,8 +568,10 @@ impl Live {
     pub fn next(&mut self, client: Client) -> Result<Option<Received>, LiveError> {
         let mut message = sys::Message::default();
         // SAFETY: as above.
-        let status =
-            unsafe { sys::inputflinger_live_next(&mut self.handle, &client.plain, &mut message) };
+        let status = unsafe {
+            let (live, size) = (&mut self.handle, size_of::<sys::Message>());
+            sys::inputflinger_live_next_sized(live, &client.plain, &mut message, size)
+        };
         Ok(found(status, message)?.map(|message| Received::of(&message)))
     }
 
@@ -578,10 +586,10 @@ impl Live {
     }
 
     /// The first moment at which something is due: a client that is late, or the repeat of a key that is held.
-    pub fn due(&mut self) -> Option<u64> {
+    pub fn due(&self) -> Option<u64> {
         let mut moment_us = 0;
         // SAFETY: as above.
-        let status = unsafe { sys::inputflinger_live_due(&mut self.handle, &mut moment_us) };
+        let status = unsafe { sys::inputflinger_live_due(&self.handle, &mut moment_us) };
         (status == sys::OK).then_some(moment_us)
     }
 
@@ -598,10 +606,10 @@ impl Live {
     }
 
     /// The greatest moment that was handed in.
-    pub fn clock(&mut self) -> u64 {
+    pub fn clock(&self) -> u64 {
         let mut moment_us = 0;
         // SAFETY: as above.
-        unsafe { sys::inputflinger_live_clock(&mut self.handle, &mut moment_us) };
+        unsafe { sys::inputflinger_live_clock(&self.handle, &mut moment_us) };
         moment_us
     }
 
@@ -610,27 +618,26 @@ impl Live {
     /// # Errors
     ///
     /// `OutOfRange` where there is no such display.
-    pub fn focused(&mut self, display: u8) -> Result<Option<Client>, LiveError> {
+    pub fn focused(&self, display: u8) -> Result<Option<Client>, LiveError> {
         let mut plain = sys::Client::default();
         // SAFETY: as above.
-        let status =
-            unsafe { sys::inputflinger_live_focused(&mut self.handle, display, &mut plain) };
+        let status = unsafe { sys::inputflinger_live_focused(&self.handle, display, &mut plain) };
         found(status, ()).map(|told| told.map(|()| Client { plain }))
     }
 
     /// The client that keys go to.
-    pub fn key_target(&mut self) -> Option<Client> {
+    pub fn key_target(&self) -> Option<Client> {
         let mut plain = sys::Client::default();
         // SAFETY: as above.
-        let status = unsafe { sys::inputflinger_live_key_target(&mut self.handle, &mut plain) };
+        let status = unsafe { sys::inputflinger_live_key_target(&self.handle, &mut plain) };
         (status == sys::OK).then_some(Client { plain })
     }
 
     /// Whether a client is open and responds.
-    pub fn is_responsive(&mut self, client: Client) -> bool {
+    pub fn is_responsive(&self, client: Client) -> bool {
         let mut told = false;
         // SAFETY: as above.
-        unsafe { sys::inputflinger_live_is_responsive(&mut self.handle, &client.plain, &mut told) };
+        unsafe { sys::inputflinger_live_is_responsive(&self.handle, &client.plain, &mut told) };
         told
     }
 
@@ -639,11 +646,11 @@ impl Live {
     /// # Errors
     ///
     /// `OutOfRange` where there is no such device number.
-    pub fn holds(&mut self, client: Client, device: u8) -> Result<u32, LiveError> {
+    pub fn holds(&self, client: Client, device: u8) -> Result<u32, LiveError> {
         let mut ids = 0;
         // SAFETY: as above.
         done(unsafe {
-            sys::inputflinger_live_holds(&mut self.handle, &client.plain, device, &mut ids)
+            sys::inputflinger_live_holds(&self.handle, &client.plain, device, &mut ids)
         })?;
         Ok(ids)
     }

@@ -178,14 +178,20 @@ extern "C" {
         ran: *mut Ran,
     ) -> i32;
     pub fn inputflinger_judge_new(judge: *mut Judge) -> i32;
-    pub fn inputflinger_judge_step(
+    pub fn inputflinger_judge_step_sized(
         judge: *mut Judge,
         message: *const Message,
+        message_size: usize,
         fault: *mut Fault,
+        fault_size: usize,
     ) -> i32;
-    pub fn inputflinger_judge_state(judge: *mut Judge, state: *mut State) -> i32;
+    pub fn inputflinger_judge_state_sized(
+        judge: *const Judge,
+        state: *mut State,
+        state_size: usize,
+    ) -> i32;
     pub fn inputflinger_judge_keys(
-        judge: *mut Judge,
+        judge: *const Judge,
         keys: *mut Key,
         room: usize,
         count: *mut usize,
@@ -193,11 +199,12 @@ extern "C" {
     pub fn inputflinger_judge_free(judge: *mut Judge) -> i32;
     pub fn inputflinger_live_new(live: *mut Live, limit_us: u64, displays: *const Displays) -> i32;
     pub fn inputflinger_live_free(live: *mut Live) -> i32;
-    pub fn inputflinger_live_add_touch(
+    pub fn inputflinger_live_add_touch_sized(
         live: *mut Live,
         display: u8,
         slots: u8,
         panel: *const Panel,
+        panel_size: usize,
         device: *mut u8,
     ) -> i32;
     pub fn inputflinger_live_add_keys(
@@ -217,19 +224,26 @@ extern "C" {
         code: u16,
         value: i32,
     ) -> i32;
-    pub fn inputflinger_live_args(live: *mut Live, now_us: u64, message: *const Message) -> i32;
+    pub fn inputflinger_live_args_sized(
+        live: *mut Live,
+        now_us: u64,
+        message: *const Message,
+        message_size: usize,
+    ) -> i32;
     pub fn inputflinger_live_open(live: *mut Live, client: *mut Client) -> i32;
     pub fn inputflinger_live_close(live: *mut Live, now_us: u64, client: *const Client) -> i32;
     pub fn inputflinger_live_is_open(
-        live: *mut Live,
+        live: *const Live,
         client: *const Client,
         is_open: *mut bool,
     ) -> i32;
-    pub fn inputflinger_live_client_at(live: *mut Live, channel: u32, client: *mut Client) -> i32;
-    pub fn inputflinger_live_windows(
+    pub fn inputflinger_live_client_at(live: *const Live, channel: u32, client: *mut Client)
+        -> i32;
+    pub fn inputflinger_live_windows_sized(
         live: *mut Live,
         now_us: u64,
         windows: *const Window,
+        window_size: usize,
         windows_len: usize,
         rects: *const Rect,
         rects_len: usize,
@@ -247,11 +261,12 @@ extern "C" {
         client: *const Client,
         device: u8,
     ) -> i32;
-    pub fn inputflinger_live_waiting(live: *mut Live, mask: *mut u64) -> i32;
-    pub fn inputflinger_live_next(
+    pub fn inputflinger_live_waiting(live: *const Live, mask: *mut u64) -> i32;
+    pub fn inputflinger_live_next_sized(
         live: *mut Live,
         client: *const Client,
         message: *mut Message,
+        message_size: usize,
     ) -> i32;
     pub fn inputflinger_live_finish(
         live: *mut Live,
@@ -259,18 +274,18 @@ extern "C" {
         client: *const Client,
         seq: u64,
     ) -> i32;
-    pub fn inputflinger_live_due(live: *mut Live, moment_us: *mut u64) -> i32;
+    pub fn inputflinger_live_due(live: *const Live, moment_us: *mut u64) -> i32;
     pub fn inputflinger_live_advance(live: *mut Live, now_us: u64, mask: *mut u64) -> i32;
-    pub fn inputflinger_live_clock(live: *mut Live, moment_us: *mut u64) -> i32;
-    pub fn inputflinger_live_focused(live: *mut Live, display: u8, client: *mut Client) -> i32;
-    pub fn inputflinger_live_key_target(live: *mut Live, client: *mut Client) -> i32;
+    pub fn inputflinger_live_clock(live: *const Live, moment_us: *mut u64) -> i32;
+    pub fn inputflinger_live_focused(live: *const Live, display: u8, client: *mut Client) -> i32;
+    pub fn inputflinger_live_key_target(live: *const Live, client: *mut Client) -> i32;
     pub fn inputflinger_live_is_responsive(
-        live: *mut Live,
+        live: *const Live,
         client: *const Client,
         is_responsive: *mut bool,
     ) -> i32;
     pub fn inputflinger_live_holds(
-        live: *mut Live,
+        live: *const Live,
         client: *const Client,
         device: u8,
         ids: *mut u32,

@@ -1,0 +1,92 @@
+import pytest
+
+from inputflinger import Action, BadLayout, Client, Focus, InputflingerError, Judge, Key, Live, Motion, Panel, Pointer, Rect, Status, Window, WindowError, WindowFlag
+
+PANEL = Panel((0, 1079), (0, 2399), 1080, 2400)
+WHOLE = Rect(0, 0, 1080, 2400)
+EV_SYN, EV_KEY, EV_ABS = 0, 1, 3
+SLOT, POSITION_X, POSITION_Y, TRACKING_ID = 0x2F, 0x35, 0x36, 0x39
+
+
+def refused(call, *arguments) -> Status:
+    with pytest.raises(InputflingerError) as error:
+        call(*arguments)
+    return error.value.status
+
+
+def test_a_finger_of_a_panel_reaches_the_window_below_it() -> None:
+    with Live() as live, Judge() as judge:
+        panel = live.add_touch(PANEL)
+        left, right = live.open(), live.open()
+        live.windows(0, [Window(left, Rect(0, 0, 540, 2400)), Window(right, Rect(540, 0, 1080, 2400))])
+        for kind, code, value in ((EV_ABS, SLOT, 0), (EV_ABS, TRACKING_ID, 45), (EV_ABS, POSITION_X, 600), (EV_ABS, POSITION_Y, 200), (EV_SYN, 0, 0)):
+            live.event(1000, panel, kind, code, value)
+        assert live.waiting() == {2} and live.holds(right, panel) == {0} and live.holds(left, panel) == frozenset()
+        message = live.next(right)
+        assert message == Motion(1, Action.DOWN, (Pointer(0, 60, 200),), seq=1, time_us=1000)
+        judge.step(message)
+        live.remove_device(2000, panel)
+        message = live.next(right)
+        assert message.action == Action.CANCEL
+        judge.step(message)
+        assert judge.is_whole() and live.next(right) is None
+        live.finish(3000, right, 1)
+        assert refused(live.finish, 3000, right, 1) == Status.UNKNOWN_SEQ
+        assert live.clock() == 3000
+
+
+def test_a_key_is_repeated_and_a_client_is_late() -> None:
+    with Live(limit_us=1000000) as live:
+        keys = live.add_keys("key 30 A\n")
+        client = live.open()
+        live.windows(0, [Window(client, WHOLE)])
+        assert live.key_target() is None and live.due() is None
+        live.focus(0, client)
+        assert live.focused() == client and live.key_target() == client
+        live.event(1000, keys, EV_KEY, 30, 1)
+        assert live.next(client) == Focus(True, 1, 0)
+        live.finish(1000, client, 1)
+        assert live.next(client) == Key(1, 30, True, code=29, seq=2, time_us=1000)
+        assert live.due() == 501000
+        assert live.advance(501000) == frozenset()
+        assert live.next(client) == Key(1, 30, True, code=29, repeat=1, seq=3, time_us=501000)
+        assert live.is_responsive(client)
+        assert live.advance(1001000) == {1} and not live.is_responsive(client)
+
+
+def test_clients_come_and_go() -> None:
+    with Live() as live:
+        first = live.open()
+        assert first == Client(1, 1) and live.client_at(1) == first and live.is_open(first)
+        live.close(0, first)
+        assert not live.is_open(first) and live.client_at(1) is None
+        assert live.open() == Client(1, 2)
+        assert refused(live.close, 0, first) == Status.NOT_OPEN
+        with pytest.raises(WindowError) as error:
+            live.windows(0, [Window(live.client_at(1), WHOLE), Window(first, WHOLE)])
+        assert error.value.status == Status.NOT_OPEN and error.value.named == 1
+
+
+def test_a_spy_pilfers() -> None:
+    with Live() as live:
+        panel = live.add_touch(PANEL)
+        spy, behind = live.open(), live.open()
+        live.windows(0, [Window(spy, WHOLE, WindowFlag.SPY), Window(behind, WHOLE)])
+        assert refused(live.pilfer, 0, spy, panel) == Status.NOTHING_HELD
+        live.args(1000, Motion(panel, Action.DOWN, [Pointer(0, 10, 20)]))
+        live.pilfer(2000, spy, panel)
+        assert [live.next(behind).action, live.next(behind).action] == [Action.DOWN, Action.CANCEL]
+        assert refused(live.pilfer, 2000, behind, panel) == Status.NOT_SPY
+
+
+def test_refusals() -> None:
+    assert refused(Live, 999) == Status.OUT_OF_RANGE
+    with Live() as live:
+        assert refused(live.add_touch, PANEL, 4) == Status.OUT_OF_RANGE
+        assert refused(live.add_touch, PANEL, 0, 17) == Status.BAD_SLOTS
+        assert refused(live.event, 0, 1, 0, 0, 0) == Status.NO_DEVICE
+        with pytest.raises(BadLayout) as error:
+            live.add_keys("key 30 A\nkey 30 B\n")
+        assert error.value.line == 2
+        with pytest.raises(OverflowError):
+            live.advance(-1)
