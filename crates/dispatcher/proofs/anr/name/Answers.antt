@@ -11,12 +11,12 @@ use Rattle.dispatcher.proofs.anr.name.Goals as goal
 pub carry_out-requires-clause-timely : goal.carry_out-requires-clause-timely
 carry_out-requires-clause-timely c =
     timely_named c.args.clock c.args.mask c.args.clock c.make_room.new.channels c.name.new.self c.in_ok-name.ensures.ok
-    (timely_room c.args.clock c.args.routing.now.channels c.make_room.new.channels c.in_ok-sent.ensures.same c.requires)
+    (timely_room c.args.clock c.args.routing.now.channels c.make_room.new.channels c.in_ok-outgoing.ensures.same c.requires)
 
-pub carry_out-requires-clause-sent : goal.carry_out-requires-clause-sent
-carry_out-requires-clause-sent c =
-    subst (AreListeners c.in_ok-sent.outgoing c.args.routing.now.touches _) (sym c.in_ok-name.ensures.ok)
-    (record { are = c.in_ok-sent.ensures.outgoing.are; opened = c.in_ok-sent.ensures.outgoing.opened })
+pub carry_out-requires-clause-outgoing : goal.carry_out-requires-clause-outgoing
+carry_out-requires-clause-outgoing c =
+    subst (AreListeners c.in_ok-outgoing.outgoing c.args.routing.now.touches _) (sym c.in_ok-name.ensures.ok)
+    (record { are = c.in_ok-outgoing.ensures.outgoing.are; opened = c.in_ok-outgoing.ensures.outgoing.opened })
 
 pub carry_out-requires-clause-ready : goal.carry_out-requires-clause-ready
 carry_out-requires-clause-ready c =
@@ -24,7 +24,7 @@ carry_out-requires-clause-ready c =
     record { mark = Mute c.args.mask; motion = None; watchers = 0; target = c.unwrap_or.result; keys = c.args.keys; lost = 0; gained = 0 } in
     subst (IsReady c.args.routing.now.touches round) (sym c.in_ok-name.ensures.ok)
     (λ w lives concerned.
-    let has = c.in_ok-sent.ensures.ready w lives concerned in
+    let has = c.in_ok-outgoing.ensures.ready w lives concerned in
     record { room = has.room; track_room = has.track_room })
 
 pub returns-in_err-name-clause-err : goal.returns-in_err-name-clause-err
@@ -32,7 +32,7 @@ returns-in_err-name-clause-err c =
     let old = c.args.routing.now in
     on_err _ c.from_residual-in_err-name.result
     (subst (λ t. SameButRoom old (record old { channels = t })) (sym c.in_err-name.ensures.err)
-    (ap (λ t. record old { channels = t; cancelled = 0 }) c.in_ok-sent.ensures.same, c.in_ok-sent.ensures.room, le_refl old.cancelled))
+    (ap (λ t. record old { channels = t; cancelled = 0 }) c.in_ok-outgoing.ensures.same, c.in_ok-outgoing.ensures.room, le_refl old.cancelled))
 
 pub returns-clause-ok : goal.returns-clause-ok
 returns-clause-ok c =
@@ -51,7 +51,7 @@ returns-clause-ok c =
             gained_is = refl;
           };
       mid = c.make_room.new.channels;
-      same = c.in_ok-sent.ensures.same;
+      same = c.in_ok-outgoing.ensures.same;
       carries =
           subst (λ t. CarriesOut round c.args.place c.args.clock (record old { channels = t }) c.carry_out.new.routing) c.in_ok-name.ensures.ok
           c.carry_out.ensures.carries;

@@ -8,19 +8,19 @@ use Rattle.dispatcher.proofs.carry.send_lightly.Goals as goal
 
 pub send_light-requires-clause-timely : goal.send_light-requires-clause-timely
 send_light-requires-clause-timely c =
-    timely_room c.args.clock c.args.routing.now.channels c.make_light_room.new.channels c.in_ok-sent.ensures.same c.requires.timely
+    timely_room c.args.clock c.args.routing.now.channels c.make_light_room.new.channels c.in_ok-outgoing.ensures.same c.requires.timely
 
 pub returns-clause-ok : goal.returns-clause-ok
 returns-clause-ok c =
     let old = c.args.routing.now in
     record {
       mid = c.make_light_room.new.channels;
-      same = c.in_ok-sent.ensures.same;
+      same = c.in_ok-outgoing.ensures.same;
       carries =
           record {
             touches = c.send_light.ensures.changes;
             channels = subst (λ (os : List Pixel). SendsRound c.args.round.now old.touches os c.args.clock c.make_light_room.new.channels c.send_light.new.channels) c.origins.ensures
-                (record { changed = c.in_ok-sent.outgoing; sends = c.send_light.ensures.outgoing });
+                (record { changed = c.in_ok-outgoing.outgoing; sends = c.send_light.ensures.outgoing });
             gone_are = record { of_channels = c.send_light.ensures.gone; of_anrs = ap (λ n. n.gone) c.send_light.ensures.anrs };
             repeat_is = c.remember.ensures;
             displays_are = refl;
@@ -32,14 +32,14 @@ returns-clause-ok c =
 pub returns-clause-roomy : goal.returns-clause-roomy
 returns-clause-roomy c n list roomy modest = (
   refl,
-  light_roomy n list c.in_ok-sent.outgoing c.args.round.now c.args.routing.now.channels c.make_light_room.new.channels c.send_light.new.channels roomy modest
-      c.in_ok-sent.ensures.same
-      c.in_ok-sent.ensures.room
+  light_roomy n list c.in_ok-outgoing.outgoing c.args.round.now c.args.routing.now.channels c.make_light_room.new.channels c.send_light.new.channels roomy modest
+      c.in_ok-outgoing.ensures.same
+      c.in_ok-outgoing.ensures.room
       c.send_light.ensures.spends
       c.send_light.ensures.left
       c.send_light.ensures.live,
 )
 
-pub returns-in_err-sent-clause-roomy : goal.returns-in_err-sent-clause-roomy
-returns-in_err-sent-clause-roomy c n list roomy modest =
-    absurd (true≢false (sym (c.in_err-sent.ensures.roomy modest.few (room_for_light n list c.args.round.now c.args.routing.now.channels roomy modest))))
+pub returns-in_err-outgoing-clause-roomy : goal.returns-in_err-outgoing-clause-roomy
+returns-in_err-outgoing-clause-roomy c n list roomy modest =
+    absurd (true≢false (sym (c.in_err-outgoing.ensures.roomy modest.few (room_for_light n list c.args.round.now c.args.routing.now.channels roomy modest))))

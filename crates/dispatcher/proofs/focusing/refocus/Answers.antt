@@ -9,9 +9,9 @@ pub returns-clause-ok : goal.returns-clause-ok
 returns-clause-ok c =
     let old = c.args.routing.now in
     let change = c.args.change.now in
-    on_ok _ _ c.send_change-sent.result c.send_change-sent.ensures.ok
-    (carries_with c.args.mark (lost_keys old.focus change.target old.channels) change.lost change.gained c.args.place c.args.clock _ _ old c.send_change-sent.new.routing)
+    on_ok _ _ c.send_change-outgoing.result c.send_change-outgoing.ensures.ok
+    (carries_with c.args.mark (lost_keys old.focus change.target old.channels) change.lost change.gained c.args.place c.args.clock _ _ old c.send_change-outgoing.new.routing)
 
 pub returns-clause-err : goal.returns-clause-err
 returns-clause-err c =
-    same_with c.send_change-sent.result _ _ c.args.routing.now c.send_change-sent.new.routing c.send_change-sent.ensures.err (omega (arith, c.take-keys.ensures, c.keep.ensures, c.send_change-sent.ensures.list))
+    same_with c.send_change-outgoing.result _ _ c.args.routing.now c.send_change-outgoing.new.routing c.send_change-outgoing.ensures.err (omega (arith, c.take-keys.ensures, c.keep.ensures, c.send_change-outgoing.ensures.list))

@@ -10,15 +10,15 @@ use Rattle.dispatcher.proofs.key_steps.route_reset.Goals as goal
 
 pub returns-clause-ok : goal.returns-clause-ok
 returns-clause-ok c =
-    on_ok _ _ c.send_reset-sent.result c.send_reset-sent.ensures.ok
-    (pumps_with (Some (ResetOf c.args.device)) Dispatched c.args.place c.args.clock _ _ c.args.routing.now c.send_reset-sent.new.routing)
+    on_ok _ _ c.send_reset-outgoing.result c.send_reset-outgoing.ensures.ok
+    (pumps_with (Some (ResetOf c.args.device)) Dispatched c.args.place c.args.clock _ _ c.args.routing.now c.send_reset-outgoing.new.routing)
 
 pub returns-clause-roomy : goal.returns-clause-roomy
 returns-clause-roomy c n roomy =
     let old = c.args.routing.now in
-    let outgoing = c.send_reset-sent.ensures.roomy n (subst (λ l. IsRoomy (suc n) l old.channels) (sym c.take-keys.ensures) roomy) in
-    (outgoing.0, longer n _ _ c.send_reset-sent.new.routing.channels (omega (arith, c.keep.ensures, c.send_reset-sent.ensures.list)) outgoing.1)
+    let outgoing = c.send_reset-outgoing.ensures.roomy n (subst (λ l. IsRoomy (suc n) l old.channels) (sym c.take-keys.ensures) roomy) in
+    (outgoing.0, longer n _ _ c.send_reset-outgoing.new.routing.channels (omega (arith, c.keep.ensures, c.send_reset-outgoing.ensures.list)) outgoing.1)
 
 pub returns-clause-err : goal.returns-clause-err
 returns-clause-err c =
-    same_with c.send_reset-sent.result _ _ c.args.routing.now c.send_reset-sent.new.routing c.send_reset-sent.ensures.err (omega (arith, c.take-keys.ensures, c.keep.ensures, c.send_reset-sent.ensures.list))
+    same_with c.send_reset-outgoing.result _ _ c.args.routing.now c.send_reset-outgoing.new.routing c.send_reset-outgoing.ensures.err (omega (arith, c.take-keys.ensures, c.keep.ensures, c.send_reset-outgoing.ensures.list))
