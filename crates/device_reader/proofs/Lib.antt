@@ -4,3 +4,5 @@ pub mod TouchRule
 pub mod Rule
 pub mod Examples
 pub mod All
+pub mod Moves
+pub mod Still

@@ -1,6 +1,12 @@
 -- What the end of a packet adds.
-use Rattle.std.specs.Prelude.{◌≡◌, ℕ, Bool, true, List, ◌∷◌, ◌++◌, map}
-use Rattle.std.proofs.Common.{sym, ◌∙◌, ap, refl}
+use Rattle.std.specs.Prelude.{◌≡◌, ◌<◌, ◌&&◌, ℕ, Bool, true, false, nat_lt, List, [], ◌∷◌, ◌++◌, length, get_or, map}
+use Rattle.std.proofs.Common.{sym, ◌∙◌, ap, refl, subst, arith}
+use Rattle.slot_accumulator.specs.declared.slots.Row.{Row}
+use Rattle.slot_accumulator.specs.SlotContacts.{row_in}
+use Rattle.pointer_ids.specs.Assigned.{unused}
+use Rattle.pointer_ids.specs.Slots.{slot_of, is_written, contact_where, SameFingers, last_packet}
+use Rattle.pointer_ids.proofs.Taken.{none_in}
+use Rattle.pointer_ids.proofs.SameSlots.{same_named, same_refl}
 use Rattle.std.proofs.Math.Path.{fun_ext}
 use Rattle.bits32.specs.Set.{is_in}
 use Rattle.raw_events.specs.declared.event.RawEvent.{RawEvent}
@@ -22,7 +28,23 @@ use Rattle.touch_mapper.specs.Gesture.{after_packet}
 use Rattle.pointer_ids.specs.declared.assigned.Held.{Held}
 use Rattle.touch_mapper.specs.Cooking.{Cooking}
 use Rattle.device_reader.specs.declared.touch.Touch.{Touch}
-use Rattle.device_reader.specs.Cooked.{TouchPlan, TouchStandsFor, cancelled_at, pointers_at, touch_args}
+use Rattle.device_reader.specs.Cooked.{TouchPlan, TouchStandsFor, TouchEnds, cancelled_at, pointers_at, touch_args}
+
+and_false : (a b : Bool) → b ≡ false → (a && b) ≡ false
+and_false true b h = h
+and_false false b h = refl
+
+-- where nothing was written the contacts are where they were
+not_written : (s : ℕ) → is_written 0 s ≡ false
+not_written s = and_false (nat_lt s 16) (is_in s 0) (none_in s)
+
+stays_there : (rows : ℕ → Row) (c : Contact) → contact_where (λ s. is_written 0 s) rows c ≡ c
+stays_there rows c = rw (not_written c.slot) refl
+
+pub none_written : (rows : ℕ → Row) (cs : List Contact) → map (λ c. contact_where (λ s. is_written 0 s) rows c) cs ≡ cs
+none_written rows [] = refl
+none_written rows (c ∷ cs) =
+    ap (λ d. d ∷ map (λ x. contact_where (λ s. is_written 0 s) rows x) cs) (stays_there rows c) ∙ ap (λ ds. c ∷ ds) (none_written rows cs)
 
 -- the motions of the packet that a SYN_REPORT ends
 ends : (plan : TouchPlan) (past : List RawEvent) (e : RawEvent) → is_report e ≡ true
@@ -47,32 +69,33 @@ touch_step plan past e given items ids cs a g h named_is contacts_are pointers_a
     ∙ ap (λ (s : GestureState). gesture s.device (λ i. cancelled_at plan past e i) s.last (placed_all s.cook (assigned (named (named_after (packets plan.slots past)) (contacts_at plan.slots (e ∷ past)))))) state_is)
     ∙ ap (λ xs. given ++ xs) (ends plan past e h)
 
--- the pointers of the last packet are at their pixels
-pub placed_last : (plan : TouchPlan) (past : List RawEvent) (t : Touch) → TouchStandsFor plan past t → t.gestures.last ≡ placed_all t.gestures.cook t.pointers.pointers
-placed_last plan past t h =
-    ap (λ (g : GestureState). g.last) h.gestures_are
-    ∙ ap (λ (c : Cooking). placed_all c (assigned (named_after (packets plan.slots past)))) (sym (ap (λ (g : GestureState). g.cook) h.gestures_are))
-    ∙ ap (λ (hs : List Held). placed_all t.gestures.cook hs) (sym h.pointers_are)
-
-packets_next : (slots : ℕ) (past : List RawEvent) (e : RawEvent) → is_report e ≡ true → contacts_at slots (e ∷ past) ∷ packets slots past ≡ packets slots (e ∷ past)
+pub packets_next : (slots : ℕ) (past : List RawEvent) (e : RawEvent) → is_report e ≡ true → contacts_at slots (e ∷ past) ∷ packets slots past ≡ packets slots (e ∷ past)
 packets_next slots past e h = rw h refl
 
--- what is known of the device stands for the packet too
-pub touch_stands : (plan : TouchPlan) (past : List RawEvent) (e : RawEvent) (t : Touch) (slots : Table) (cs : List Contact) (ids : List Named) (a : Assignment) (g : GestureState)
-    → is_report e ≡ true → TouchStandsFor plan past t → SlotsStandFor (e ∷ past) slots → slots.slots ≡ plan.slots → cs ≡ contacts_in slots
-    → cs ≡ contacts_at plan.slots (e ∷ past) → ids ≡ named t.ids cs → a.pointers ≡ assigned (named t.ids cs) → g ≡ after_packet t.gestures a
-    → TouchStandsFor plan (e ∷ past) (record { slots = slots; contacts = cs; ids = ids; pointers = a; gestures = g })
-touch_stands plan past e t slots cs ids a g ends h stand many are events named_are pointers_are after =
-    let now : ids ≡ named_after (packets plan.slots (e ∷ past)) =
-    named_are ∙ ap (λ ns. named ns cs) h.ids_are ∙ ap (λ xs. named (named_after (packets plan.slots past)) xs) events
-    ∙ ap (λ ps. named_after ps) (packets_next plan.slots past e ends) in
-    let pointers : a.pointers ≡ assigned (named_after (packets plan.slots (e ∷ past))) = pointers_are ∙ ap (λ ns. assigned ns) (sym named_are ∙ now) in
+-- what is known of the device stands for a packet whose fingers were named
+pub packet_named : (plan : TouchPlan) (past : List RawEvent) (e : RawEvent) (t : Touch) (cs : List Contact) (ids : List Named) (a : Assignment) (fingers : List ℕ) (g : GestureState)
+    → is_report e ≡ true → TouchEnds plan past e t → cs ≡ contacts_at plan.slots (e ∷ past) → cs ≡ contacts_in t.slots → ids ≡ named t.ids cs → a.pointers ≡ assigned (named t.ids cs)
+    → ((i : ℕ) → i < length a.pointers → get_or fingers i 0 ≡ slot_of (get_or a.pointers i unused).id ids cs) → g ≡ after_packet t.gestures a
+    → TouchStandsFor plan (e ∷ past) (record { slots = t.slots; written = 0; anew = false; ids = ids; fingers = fingers; gestures = g })
+packet_named plan past e t cs ids a fingers g ends h events are named_are pointers_are slots after =
+    let before : List (List Contact) = packets plan.slots past in
+    let now : List (List Contact) = packets plan.slots (e ∷ past) in
+    let next : cs ∷ before ≡ now = ap (λ xs. xs ∷ before) events ∙ packets_next plan.slots past e ends in
+    let same : named t.ids cs ≡ named_after now = same_named t.ids (named_after before) cs h.ids_are ∙ ap (λ ps. named_after ps) next in
+    let pointers : a.pointers ≡ assigned (named_after now) = pointers_are ∙ ap (λ ns. assigned ns) same in
+    let ids_now : ids ≡ named_after now = named_are ∙ same in
+    let last : cs ≡ last_packet now = ap (λ ps. last_packet ps) next in
     record {
-      slots_stand = stand;
-      slots_are = many;
-      ids_are = now;
-      contacts_are = are;
-      pointers_are = pointers;
-      gestures_are = after ∙ ap (λ (s : GestureState). record { device = s.device; cook = s.cook; last = placed_all s.cook a.pointers }) h.gestures_are
-          ∙ ap (λ (hs : List Held). record { device = plan.device; cook = plan.cook; last = placed_all plan.cook hs }) pointers;
+      slots_stand = h.slots_stand;
+      slots_are = h.slots_are;
+      packets_stand = record {
+        ids_are = subst (λ ns. SameFingers ids ns) ids_now (same_refl ids);
+        fingers_are = λ i lt. slots i (omega (arith, lt, ap (λ (hs : List Held). length hs) pointers))
+            ∙ ap (λ (hs : List Held). slot_of (get_or hs i unused).id ids cs) pointers
+            ∙ ap (λ ns. slot_of (get_or (assigned (named_after now)) i unused).id ns cs) ids_now
+            ∙ ap (λ xs. slot_of (get_or (assigned (named_after now)) i unused).id (named_after now) xs) last;
+        gestures_are = after ∙ ap (λ (s : GestureState). record { device = s.device; cook = s.cook; last = placed_all s.cook a.pointers }) h.gestures_are
+            ∙ ap (λ (hs : List Held). record { device = plan.device; cook = plan.cook; last = placed_all plan.cook hs }) pointers;
+        contacts_are = λ _. sym are ∙ last ∙ sym (none_written (row_in t.slots.rows) (last_packet now));
+      };
     }

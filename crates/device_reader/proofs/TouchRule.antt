@@ -176,7 +176,8 @@ motions_state d (m ∷ ms) ids end tail are state fits =
 pub reset_state : (d : ℕ) (tail : List Args) (s : DeviceState) → device_state d tail ≡ Some s → device_state d (Reset d ∷ tail) ≡ Some nothing_down
 reset_state d tail s state = rw (eq-eqb d d refl, state) refl
 
-no_packet : (slots : ℕ) (e : RawEvent) (past : List RawEvent) → is_report e ≡ false → packets slots (e ∷ past) ≡ packets slots past
+-- an event that ends no packet makes none
+pub no_packet : (slots : ℕ) (e : RawEvent) (past : List RawEvent) → is_report e ≡ false → packets slots (e ∷ past) ≡ packets slots past
 no_packet slots e past h = rw h refl
 
 pub touch_state : (plan : TouchPlan) (past : List RawEvent) (e : RawEvent) (r : Bool) (tail : List Args) → is_report e ≡ r

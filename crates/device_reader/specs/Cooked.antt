@@ -1,12 +1,15 @@
 -- What the dispatcher is given of a device. Events and args stand with the newest first.
-use Rattle.std.specs.Prelude.{◌≡◌, ℕ, Bool, List, [], ◌∷◌, ◌++◌, reverse, Option, Some, None, if◌then◌else◌}
+use Rattle.std.specs.Prelude.{◌≡◌, ◌<◌, ℕ, Bool, false, length, get_or, map, List, [], ◌∷◌, ◌++◌, reverse, Option, Some, None, if◌then◌else◌}
 use Rattle.raw_events.specs.declared.event.RawEvent.{RawEvent}
 use Rattle.input_types.specs.declared.pointer.Pointer.{Pointer}
 use Rattle.input_types.specs.declared.key.KeyArgs.{KeyArgs}
 use Rattle.input_types.specs.declared.message.Args.{Args}
 use Rattle.input_types.specs.declared.message.Args.TheVariants.{Key, Reset}
 use Rattle.raw_events.specs.Packets.{is_report, is_drop, is_void}
-use Rattle.slot_accumulator.specs.SlotContacts.{contacts_at, contacts_in, SlotsStandFor}
+use Rattle.slot_accumulator.specs.declared.contacts.Contact.{Contact}
+use Rattle.slot_accumulator.specs.SlotContacts.{contacts_at, contacts_in, row_in, SlotsStandFor}
+use Rattle.pointer_ids.specs.Assigned.{unused}
+use Rattle.pointer_ids.specs.Slots.{slot_of, is_written, contact_where, SameFingers, last_packet}
 use Rattle.pointer_ids.specs.PointerIds.{named_after, is_cancelled, assigned}
 use Rattle.touch_mapper.specs.Cooking.{Cooking}
 use Rattle.touch_mapper.specs.Gesture.{placed_all, gesture, as_args}
@@ -82,13 +85,28 @@ abbrev pub device_args : DevicePlan → List RawEvent → List Args
 device_args plan [] = []
 device_args plan (e ∷ past) = reverse (args_of plan past e) ++ device_args plan past
 
--- what is known of a touch device stands for some events without a drop
+-- What is known of a touch device stands for its packets, the newest first: the fingers with their ids; the slot of each
+-- pointer; the pointers at their pixels; and, where no tracking id was written since, the contacts now are those of the
+-- last packet, each where its slot says if that was written since.
+pub record PacketsStandFor (plan : TouchPlan) (past : List (List Contact)) (t : Touch) : Type 0 where
+  pub ids_are : SameFingers t.ids (named_after past)
+  pub fingers_are : (i : ℕ) → i < length (assigned (named_after past))
+      → get_or t.fingers i 0 ≡ slot_of (get_or (assigned (named_after past)) i unused).id (named_after past) (last_packet past)
+  pub gestures_are : t.gestures ≡ record { device = plan.device; cook = plan.cook; last = placed_all plan.cook (assigned (named_after past)) }
+  pub contacts_are : t.anew ≡ false
+      → contacts_in t.slots ≡ map (λ c. contact_where (λ s. is_written t.written s) (row_in t.slots.rows) c) (last_packet past)
+
+-- it stands for some events without a drop
 pub record TouchStandsFor (plan : TouchPlan) (past : List RawEvent) (t : Touch) : Type 0 where
   pub slots_stand : SlotsStandFor past t.slots
   pub slots_are : t.slots.slots ≡ plan.slots
-  pub ids_are : t.ids ≡ named_after (packets plan.slots past)
-  pub contacts_are : t.contacts ≡ contacts_in t.slots
-  pub pointers_are : t.pointers.pointers ≡ assigned (named_after (packets plan.slots past))
+  pub packets_stand : PacketsStandFor plan (packets plan.slots past) t
+
+-- only its slots have taken the event that ends a packet
+pub record TouchEnds (plan : TouchPlan) (past : List RawEvent) (e : RawEvent) (t : Touch) : Type 0 where
+  pub slots_stand : SlotsStandFor (e ∷ past) t.slots
+  pub slots_are : t.slots.slots ≡ plan.slots
+  pub ids_are : SameFingers t.ids (named_after (packets plan.slots past))
   pub gestures_are : t.gestures ≡ record { device = plan.device; cook = plan.cook; last = pointers_at plan past }
 
 -- what is known of a device with keys does

@@ -79,51 +79,17 @@ impl DeviceReader {
         }
     }
 
-    /// Takes the next event of the device, and answers what it adds for the dispatcher.
+    /// Takes the next event of the device, and adds what it gives to `args`.
     ///
     /// A packet of a touch device ends at a SYN_REPORT and gives its motions. A key of a device with keys is given at
     /// its own event, and waits for no SYN_REPORT. At a SYN_DROPPED the device begins anew, which is a `Reset`; the
     /// events after it, up to and including the next SYN_REPORT, are passed over, as the kernel's document on event
-    /// codes asks. Keys of a touch device, touch of a device with keys and other events are passed over too. After want
-    /// of memory the reader is as before.
-    pub fn take(&mut self, event: RawEvent) -> Result<Vec<Args>, AllocError>
-        requires { event.device ≡ self.old.device }
-        ensures ok { (plan : DevicePlan) (past : List Event) → DeviceStandsFor plan past self.old → IfOk result
-            (λ v. v.items ≡ args_of plan past event) }
-        ensures after { (plan : DevicePlan) (past : List Event) → DeviceStandsFor plan past self.old
-            → OnOk result (DeviceStandsFor plan (event ∷ past) self.new) }
-        ensures device { self.new.device ≡ self.old.device }
-        ensures err { OnErr result (self.new ≡ self.old) }
-    {
-        let mut args = Vec::new(self.alloc);
-        self.take_into(event, &mut args)?;
-        Ok(args)
-    }
-
-    /// Takes the next event of the device, and adds what `take` answers to `args`. After want of memory the reader and
-    /// `args` are as before.
+    /// codes asks. Keys of a touch device, touch of a device with keys and other events are passed over too. After out
+    /// of memory the reader and `args` are as before.
     ///
     /// Only the end of a packet, a key and a SYN_DROPPED ask for memory, and for none where `args` has room for the
     /// motions of a packet, which are at most `Gestures::MOST`, but for that of a key that goes down.
-    pub fn take_into(&mut self, event: RawEvent, args: &mut Vec<Args>) -> Result<(), AllocError>
-        requires { event.device ≡ self.old.device }
-        ensures ok { (plan : DevicePlan) (past : List Event) → DeviceStandsFor plan past self.old
-            → OnOk result (args.new.items ≡ args.old.items ++ args_of plan past event) }
-        ensures after { (plan : DevicePlan) (past : List Event) → DeviceStandsFor plan past self.old
-            → OnOk result (DeviceStandsFor plan (event ∷ past) self.new) }
-        ensures device { self.new.device ≡ self.old.device }
-        ensures err { OnErr result (self.new ≡ self.old) }
-        ensures given { OnErr result (args.new.items ≡ args.old.items) }
-    {
-        self.take_from(&event, args)
-    }
-
-    /// Does what `take_into` does with an event that is lent.
-    pub(crate) fn take_from(
-        &mut self,
-        event: &RawEvent,
-        args: &mut Vec<Args>,
-    ) -> Result<(), AllocError>
+    pub fn take(&mut self, event: &RawEvent, args: &mut Vec<Args>) -> Result<(), AllocError>
         requires { event.now.device ≡ self.old.device }
         ensures ok { (plan : DevicePlan) (past : List Event) → DeviceStandsFor plan past self.old
             → OnOk result (args.new.items ≡ args.old.items ++ args_of plan past event.now) }
@@ -144,6 +110,20 @@ impl DeviceReader {
             return Ok(());
         }
         take_by_kind(&mut self.kind, event, args)
+    }
+
+    /// Does what `take` does with an event of its own.
+    pub fn take_into(&mut self, event: RawEvent, args: &mut Vec<Args>) -> Result<(), AllocError>
+        requires { event.device ≡ self.old.device }
+        ensures ok { (plan : DevicePlan) (past : List Event) → DeviceStandsFor plan past self.old
+            → OnOk result (args.new.items ≡ args.old.items ++ args_of plan past event) }
+        ensures after { (plan : DevicePlan) (past : List Event) → DeviceStandsFor plan past self.old
+            → OnOk result (DeviceStandsFor plan (event ∷ past) self.new) }
+        ensures device { self.new.device ≡ self.old.device }
+        ensures err { OnErr result (self.new ≡ self.old) }
+        ensures given { OnErr result (args.new.items ≡ args.old.items) }
+    {
+        self.take(&event, args)
     }
 }
 

@@ -89,7 +89,7 @@ fn take_any(
 {
     let i = usize::from(event.device.get() - 1);
     if i < readers.len() {
-        readers[i].take_from(event, args)
+        readers[i].take(event, args)
     } else {
         Ok(())
     }

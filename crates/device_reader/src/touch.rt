@@ -1,26 +1,35 @@
 //! What is known of a touch device.
-ghost use Rattle.std.specs.Prelude.{◌≡◌, ◌≤◌, true, List, [], ◌∷◌, ◌++◌, OnOk, OnErr};
+ghost use Rattle.std.specs.Prelude.{◌≡◌, ◌<◌, ◌≤◌, ◌+◌, ℕ, true, List, [], ◌∷◌, ◌++◌, map, length, get_or, slice_set, vec_len, vec_capacity, OnOk, OnErr};
 ghost use Rattle.raw_events.specs.declared.event.RawEvent.{RawEvent as Event};
 ghost use Rattle.raw_events.specs.Packets.{is_report as ends_packet};
-ghost use Rattle.device_reader.specs.Cooked.{TouchPlan, TouchStandsFor, touch_args};
+ghost use Rattle.slot_accumulator.specs.SlotContacts.{row_in};
+ghost use Rattle.pointer_ids.specs.declared.assigned.Held.{Held as HeldView};
+ghost use Rattle.pointer_ids.specs.Assigned.{unused};
+ghost use Rattle.pointer_ids.specs.Slots.{is_written as was_written, pointer_where};
+ghost use Rattle.input_types.specs.Pointers.{unused as no_pointer};
+ghost use Rattle.touch_mapper.specs.Cooking.{pixel};
+ghost use Rattle.touch_mapper.specs.Gesture.{placed_all};
+ghost use Rattle.device_reader.specs.Cooked.{TouchPlan, TouchStandsFor, TouchEnds, touch_args};
 
+use bits32::Bits32;
 use input_types::{Args, DeviceId};
-use pointer_ids::{Assigned, Ids};
+use pointer_ids::Ids;
 use raw_events::RawEvent;
-use slot_accumulator::{Contacts, Slots, is_report};
+use slot_accumulator::{Change, Row, Slots, is_report};
 use std::alloc::AllocError;
 use touch_mapper::{Cook, Gestures};
 
-/// The slots of a touch device, the contacts of its last packet with their pointer ids, and its gestures. It takes no
-/// memory.
+/// The slots of a touch device, the pointer ids of its last packet, and its gestures. It takes no memory.
 #[derive(Clone, Copy)]
 pub(crate) struct Touch {
     slots: Slots,
-    /// What the slots hold.
-    contacts: Contacts,
+    /// The slots that were written since the last packet.
+    written: Bits32,
+    /// Whether a tracking id was written since the last packet.
+    anew: bool,
     ids: Ids,
-    /// The pointers of the last packet in the device's units.
-    pointers: Assigned,
+    /// The slot of each pointer that is down, at the pointer's index.
+    fingers: [u8; 16],
     gestures: Gestures,
 }
 
@@ -32,9 +41,10 @@ impl Touch {
     {
         Touch {
             slots: Slots::new(slots),
-            contacts: Contacts::empty(),
+            written: Bits32::empty(),
+            anew: false,
             ids: Ids::new(),
-            pointers: Assigned::empty(),
+            fingers: [0; 16],
             gestures: Gestures::new(device, cook),
         }
     }
@@ -51,11 +61,23 @@ impl Touch {
         if is_report(event) {
             return self.end_packet(event, args);
         }
-        self.slots.follow(event, &mut self.contacts);
-        Ok(())
+        match self.slots.write(event) {
+            Change::Nothing => Ok(()),
+            Change::Position(slot) => {
+                self.written.mark(slot);
+                Ok(())
+            }
+            Change::Contacts => {
+                self.anew = true;
+                Ok(())
+            }
+        }
     }
 
     /// Takes the end of a packet, and adds its motions.
+    ///
+    /// Where no tracking id was written and no contact is a palm, the fingers are those of the packet before: only the
+    /// pointers whose slots were written get their pixels anew.
     #[inline(never)]
     fn end_packet(&mut self, event: &RawEvent, args: &mut Vec<Args>) -> Result<(), AllocError>
         requires { ends_packet event.now ≡ true }
@@ -68,10 +90,34 @@ impl Touch {
     {
         // With room for all that a packet makes nothing fails after the slots changed.
         args.reserve(Gestures::MOST)?;
-        self.slots.follow(event, &mut self.contacts);
-        match self.ids.follow(&self.contacts, &mut self.pointers) {
-            Some(moved) => self.gestures.move_into(args, moved, &self.pointers),
-            None => self.gestures.next_into(args, &self.pointers),
+        let palms = self.slots.end_packet();
+        if palms || self.anew {
+            self.next_fingers(args);
+            return Ok(());
+        }
+        move_pointers(&mut self.gestures, &self.slots, self.written, &self.fingers);
+        self.written = Bits32::empty();
+        self.gestures.put_move(args);
+        Ok(())
+    }
+
+    /// Names the fingers of a packet whose end the slots have taken, and adds its motions.
+    #[inline(never)]
+    fn next_fingers(&mut self, args: &mut Vec<Args>)
+        requires { vec_len args.old + 33 ≤ vec_capacity args.old }
+        ensures given { (plan : TouchPlan) (past : List Event) (e : Event) → ends_packet e ≡ true → TouchEnds plan past e self.old
+            → args.new.items ≡ args.old.items ++ touch_args plan past e }
+        ensures after { (plan : TouchPlan) (past : List Event) (e : Event) → ends_packet e ≡ true → TouchEnds plan past e self.old
+            → TouchStandsFor plan (e ∷ past) self.new }
+    {
+        let contacts = self.slots.contacts();
+        let pointers = self.ids.assign(&contacts);
+        self.fingers = self.ids.slots(&contacts, &pointers);
+        self.written = Bits32::empty();
+        self.anew = false;
+        match self.gestures.next(args, &pointers) {
+            Ok(()) => {}
+            Err(_) => unreachable!(),
         }
     }
 
@@ -81,9 +127,50 @@ impl Touch {
             → TouchStandsFor plan [] self.new }
     {
         self.slots.reset();
-        self.contacts = Contacts::empty();
+        self.written = Bits32::empty();
+        self.anew = false;
         self.ids.reset();
-        self.pointers = Assigned::empty();
         self.gestures.reset();
     }
+}
+
+/// Puts the pointers whose slots were written where the slots say.
+#[inline(always)]
+fn move_pointers(gestures: &mut Gestures, slots: &Slots, written: Bits32, fingers: &[u8])
+    requires { length fingers.now ≡ 16 }
+    ensures { (hs : List HeldView) (slot : HeldView → ℕ) → gestures.old.last ≡ placed_all gestures.old.cook hs
+        → ((i : ℕ) → i < length hs → get_or fingers.now i 0 ≡ slot (get_or hs i unused))
+        → gestures.new ≡ record {
+          device = gestures.old.device;
+          cook = gestures.old.cook;
+          last = placed_all gestures.old.cook
+              (map (λ h. pointer_where (λ s. was_written written s) (row_in slots.now.rows) (slot h) h) hs);
+        } }
+{
+    for i in 0..gestures.len() {
+        let slot = fingers[i];
+        if is_written(written, slot) {
+            move_pointer(gestures, i, slots.row(slot));
+        }
+    }
+}
+
+/// Puts the pointer at an index where its slot says.
+#[inline(always)]
+fn move_pointer(gestures: &mut Gestures, i: usize, row: &Row)
+    ensures { gestures.new ≡ record {
+      device = gestures.old.device;
+      cook = gestures.old.cook;
+      last = slice_set gestures.old.last i
+          (record { id = (get_or gestures.old.last i no_pointer).id; at = pixel gestures.old.cook row.now.x row.now.y });
+    } }
+{
+    gestures.move_to(i, row.x, row.y);
+}
+
+/// Whether a slot was written.
+fn is_written(written: Bits32, slot: u8) -> bool
+    ensures { result ≡ was_written written slot }
+{
+    slot < Slots::MAX && written.has(slot)
 }

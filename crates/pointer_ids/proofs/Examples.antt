@@ -7,8 +7,9 @@ use Rattle.pointer_ids.specs.declared.named.Named.{Named}
 use Rattle.pointer_ids.specs.declared.assigned.Held.{Held}
 use Rattle.pointer_ids.specs.PointerIds.{named_after, is_cancelled, assigned, least_free}
 use Rattle.bits32.specs.Set.{is_in}
-use Rattle.pointer_ids.specs.Following.{are_same, moved, moved_to}
-use Rattle.pointer_ids.specs.OnlyMoved.{OnlyMoved, AreElsewhere}
+use Rattle.pointer_ids.specs.Following.{are_same, moved}
+use Rattle.pointer_ids.specs.Slots.{slot_of, is_written, contact_where, pointer_where}
+use Rattle.slot_accumulator.specs.declared.slots.Row.{Row}
 
 -- a contact of this slot and tracking id, at (slot, 0)
 abbrev touch : ℕ → ℕ → Contact
@@ -125,43 +126,23 @@ other_finger = refl
 pub fewer_fingers : are_same two (at 0 45 5 ∷ []) ≡ false
 fewer_fingers = refl
 
--- pointer 3 goes to another place, and pointer 0 stays
-pub three_goes : map (λ (h : Held). moved_to (held 3 9) h) (held 0 1 ∷ held 3 5 ∷ []) ≡ held 0 1 ∷ held 3 9 ∷ []
-three_goes = refl
+-- ---- the slots of fingers
 
-same_ids_there : (i : ℕ) (d : Held) → (get_or (held 0 1 ∷ held 3 5 ∷ []) i d).id ≡ (get_or (held 0 1 ∷ held 3 9 ∷ []) i d).id
-same_ids_there zero d = refl
-same_ids_there (suc zero) d = refl
-same_ids_there (suc (suc i)) d = refl
+-- finger 1 is in slot 0 and finger 0 in slot 1; no finger has id 2
+pub slots_of_two : (slot_of 1 two (at 0 45 5 ∷ at 1 46 6 ∷ []) ≡ 0) × (slot_of 0 two (at 0 45 5 ∷ at 1 46 6 ∷ []) ≡ 1) × (slot_of 2 two (at 0 45 5 ∷ at 1 46 6 ∷ []) ≡ 0)
+slots_of_two = (refl, refl, refl)
 
-first_still : (i : ℕ) (d : Held) → is_in i 2 ≡ false → get_or (held 0 1 ∷ held 3 5 ∷ []) i d ≡ get_or (held 0 1 ∷ held 3 9 ∷ []) i d
-first_still zero d out = refl
-first_still (suc zero) d out = absurd (cc)
-first_still (suc (suc i)) d out = refl
+abbrev rows : ℕ → Row
+rows s = record { tracking = pos 45; x = pos 8; y = pos 9; tool = pos 0 }
 
--- then only the pointer at place 1 moved: it is in the set 2, and place 0 is not
-pub one_place_moved : OnlyMoved 2 (held 0 1 ∷ held 3 5 ∷ []) (held 0 1 ∷ held 3 9 ∷ [])
-one_place_moved = record { many = refl; ids = same_ids_there; still = first_still }
+-- slot 1 was written, slot 0 was not, and there is no slot 16
+pub only_one_is : (is_written 65538 1 ≡ true) × (is_written 65538 0 ≡ false) × (is_written 65538 16 ≡ false)
+only_one_is = (refl, refl, refl)
 
--- it did not where no place is noted, and a pointer with another id is no pointer that moved
-pub no_place_noted : OnlyMoved 0 (held 0 1 ∷ held 3 5 ∷ []) (held 0 1 ∷ held 3 9 ∷ []) → ⊥
-no_place_noted h = omega (arith, ap (λ (q : Held). nat_abs q.x) (h.still 1 (held 0 0) refl))
+pub one_goes : map (λ (c : Contact). contact_where (λ s. is_written 2 s) rows c) (at 0 45 5 ∷ at 1 46 6 ∷ [])
+    ≡ at 0 45 5 ∷ record { slot = 1; tracking = pos 46; x = pos 8; y = pos 9; palm = false } ∷ []
+one_goes = refl
 
-pub another_id : OnlyMoved 3 (held 0 1 ∷ []) (held 2 1 ∷ []) → ⊥
-another_id h = omega (arith, h.ids 0 (held 0 0))
-
-behind_two : (i : ℕ) → is_in (suc (suc i)) 2 ≡ false
-behind_two i = ap (λ b. b == 1) (bit_at_above 2 2 (suc (suc i)) (omega arith) (omega arith))
-
--- the pointer at place 1 is elsewhere
-pub second_elsewhere : AreElsewhere 2 (held 0 1 ∷ held 3 5 ∷ []) (held 0 1 ∷ held 3 9 ∷ [])
-second_elsewhere zero noted = absurd (cc)
-second_elsewhere (suc zero) noted = (omega arith, λ e. omega (arith, ap (λ (q : Held). nat_abs q.x) e))
-second_elsewhere (suc (suc i)) noted = let out : is_in (suc (suc i)) 2 ≡ false = behind_two i in absurd (cc)
-
--- a place where the pointer stays is not noted, nor is one without a pointer
-pub first_is_not : AreElsewhere 3 (held 0 1 ∷ held 3 5 ∷ []) (held 0 1 ∷ held 3 9 ∷ []) → ⊥
-first_is_not h = (h 0 refl).1 refl
-
-pub third_is_not : AreElsewhere 4 (held 0 1 ∷ held 3 5 ∷ []) (held 0 1 ∷ held 3 9 ∷ []) → ⊥
-third_is_not h = omega (arith, (h 2 refl).0)
+pub its_pointer_goes : (pointer_where (λ s. is_written 2 s) rows 1 (held 3 5) ≡ record { id = 3; x = pos 8; y = pos 9 })
+    × (pointer_where (λ s. is_written 2 s) rows 0 (held 0 1) ≡ held 0 1)
+its_pointer_goes = (refl, refl)

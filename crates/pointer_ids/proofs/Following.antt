@@ -8,7 +8,7 @@ use Rattle.slot_accumulator.specs.Contacts.{IsBeforeAll, AreContacts}
 use Rattle.pointer_ids.specs.declared.named.Named.{Named}
 use Rattle.pointer_ids.specs.PointerIds.{fingers, has_id, id_in, named_contact, named_from, named, some_palm}
 use Rattle.pointer_ids.specs.Following.{are_same, moved}
-use Rattle.pointer_ids.proofs.Anr.{drop_at, finger_first}
+use Rattle.pointer_ids.proofs.Naming.{drop_at, finger_first}
 
 pub both_so : (a b : Bool) → (a && b) ≡ true → (a ≡ true) × (b ≡ true)
 both_so true b h = (refl, h)

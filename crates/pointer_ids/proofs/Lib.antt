@@ -1,9 +1,8 @@
 pub mod Taken
-pub mod Anr
+pub mod Naming
 pub mod RisingId
-pub mod Moving
-pub mod Elsewhere
 pub mod Examples
 pub mod Palms
 pub mod Places
 pub mod Following
+pub mod SameSlots

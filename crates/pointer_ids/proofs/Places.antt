@@ -8,7 +8,7 @@ use Rattle.std.proofs.lemmas.Grind.{get_or-set_at}
 use Rattle.std.proofs.lemmas.Option.{slice_get_read}
 use Rattle.pointer_ids.specs.declared.named.Named.{Named}
 use Rattle.pointer_ids.specs.PointerIds.{finger_at}
-use Rattle.pointer_ids.proofs.Anr.{drop_item}
+use Rattle.pointer_ids.proofs.Naming.{drop_item}
 
 -- the table leads to the first finger from place `i` on, counted from 0
 abbrev pub LeadsFrom : ℕ → List ℕ → List Named → Type 0

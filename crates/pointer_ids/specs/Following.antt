@@ -1,9 +1,8 @@
 -- Packets whose fingers are those of the packet before, and no palm: they only moved.
-use Rattle.std.specs.Prelude.{Bool, true, false, not, ◌&&◌, nat_eq, List, [], ◌∷◌, if◌then◌else◌}
+use Rattle.std.specs.Prelude.{Bool, true, false, not, ◌&&◌, List, [], ◌∷◌}
 use Rattle.std.specs.Ordering.{int_eq}
 use Rattle.slot_accumulator.specs.declared.contacts.Contact.{Contact}
 use Rattle.pointer_ids.specs.declared.named.Named.{Named}
-use Rattle.pointer_ids.specs.declared.assigned.Held.{Held}
 use Rattle.pointer_ids.specs.PointerIds.{named_contact}
 
 -- each contact of a packet is the finger at its place in the packet before
@@ -18,7 +17,3 @@ abbrev pub moved : List Named → List Contact → List Named
 moved [] cs = []
 moved (n ∷ ns) [] = []
 moved (n ∷ ns) (c ∷ cs) = named_contact c n.id ∷ moved ns cs
-
--- a pointer after the one with the id of `to` went there
-abbrev pub moved_to : Held → Held → Held
-moved_to to h = if nat_eq h.id to.id then to else h

@@ -1,4 +1,4 @@
 pub mod Assigned
 pub mod PointerIds
 pub mod Following
-pub mod OnlyMoved
+pub mod Slots

@@ -1,5 +1,5 @@
 //! The pointers of a packet in the device's units.
-ghost use Rattle.std.specs.Prelude.{◌≡◌, ◌+◌, ◌<◌, ◌≤◌, [], ◌∷◌, ◌++◌, length, slice_get, slice_set, get_or};
+ghost use Rattle.std.specs.Prelude.{◌≡◌, ◌+◌, ◌<◌, ◌≤◌, [], ◌∷◌, ◌++◌, length, slice_get};
 ghost use Rattle.pointer_ids.specs.Assigned.{IsRising, EndsBelow, unused};
 
 use bits32::Bits32;
@@ -91,18 +91,6 @@ impl Assigned {
         ensures { result ≡ self.now.cancelled }
     {
         self.cancelled
-    }
-
-    /// Puts the pointer at index `i`, counted from 0, at another place.
-    pub(crate) fn set(&mut self, i: usize, held: &Held)
-        requires place { i < length self.old.pointers }
-        requires id { (get_or self.old.pointers i unused).id ≡ held.now.id }
-        ensures { self.new ≡ record {
-          pointers = slice_set self.old.pointers i held.now;
-          cancelled = self.old.cancelled;
-        } }
-    {
-        self.list.set(i, *held);
     }
 
     /// These ids are cancelled, and no others.

@@ -1,15 +1,14 @@
 //! Pointer ids from packet to packet.
-ghost use Rattle.std.specs.Prelude.{◌≡◌, ℕ, ◌+◌, ◌<◌, ◌≤◌, List, [], ◌∷◌, length, find, nat_eq, ◌&&◌, is_some, IfSome};
+ghost use Rattle.std.specs.Prelude.{◌≡◌, ℕ, ◌+◌, ◌<◌, ◌≤◌, List, [], ◌∷◌, length, find, get_or, nat_eq};
 ghost use Rattle.bits32.specs.Set.{is_in, members};
 ghost use Rattle.slot_accumulator.specs.declared.contacts.Contact.{Contact as Touch};
 ghost use Rattle.pointer_ids.specs.PointerIds.{id_in, id_of, taken_after, least_free, has_id};
 ghost use Rattle.pointer_ids.specs.PointerIds.{named as named_in, named_after, has_palm, is_cancelled};
 ghost use Rattle.pointer_ids.specs.PointerIds.{some_palm, assigned, finger_at, ArePlaces};
-ghost use Rattle.pointer_ids.specs.Following.{are_same as same_fingers};
-ghost use Rattle.pointer_ids.specs.OnlyMoved.{OnlyMoved, AreElsewhere};
+ghost use Rattle.pointer_ids.specs.Assigned.{unused};
+ghost use Rattle.pointer_ids.specs.Slots.{slot_of};
 
 use crate::assigned::Assigned;
-use crate::follow::follow_fingers;
 use crate::moved::{are_same, move_fingers};
 use crate::named::{Named, NamedList, name, pointer};
 use bits32::Bits32;
@@ -61,48 +60,24 @@ impl Ids {
             ≡ named_after (now.now ∷ past) }
     {
         let mut pointers = Assigned::empty();
-        self.assign_into(now, &mut pointers);
+        pointers.cancel(name_next(&mut self.last, now));
+        put_by_id(self.last.as_slice(), &mut pointers);
         pointers
     }
 
-    /// Puts what `assign` answers into `pointers`, which has to be as `Assigned::empty` gives it. Nothing is copied
-    /// where it is at hand.
-    pub fn assign_into(&mut self, now: &Contacts, pointers: &mut Assigned)
-        requires { pointers.old ≡ record { pointers = []; cancelled = 0 } }
-        ensures pointers { pointers.new.pointers ≡ assigned (named_in self.old now.now) }
-        ensures cancelled { (i : ℕ) → is_in i pointers.new.cancelled ≡ is_cancelled self.old now.now i }
-        ensures last { self.new ≡ named_in self.old now.now }
-        ensures packets { (past : List (List Touch)) → self.old ≡ named_after past → self.new
-            ≡ named_after (now.now ∷ past) }
+    /// The slot of each pointer that `assign` answered, at the pointer's index, given the contacts of that packet, none
+    /// of which is a palm.
+    pub fn slots(&self, now: &Contacts, pointers: &Assigned) -> [u8; 16]
+        ensures many { length result ≡ 16 }
+        ensures slots { (i : ℕ) → i < length pointers.now.pointers → get_or result i 0
+            ≡ slot_of (get_or pointers.now.pointers i unused).id self.now now.now }
     {
-        pointers.cancel(name_next(&mut self.last, now));
-        put_by_id(self.last.as_slice(), pointers);
-    }
-
-    /// Takes the next packet, as `assign` does, where `pointers` has what it answered for the packet before: then it
-    /// has what it answers for this one. Where the fingers are those of the packet before, each with a pointer, only
-    /// what moved is written, and the answer says at which places; the other pointers are as before.
-    pub fn follow(&mut self, now: &Contacts, pointers: &mut Assigned) -> Option<Bits32>
-        ensures pointers { pointers.old.pointers ≡ assigned self.old → pointers.new.pointers
-            ≡ assigned (named_in self.old now.now) }
-        ensures cancelled { (i : ℕ) → is_in i pointers.new.cancelled ≡ is_cancelled self.old now.now i }
-        ensures last { self.new ≡ named_in self.old now.now }
-        ensures packets { (past : List (List Touch)) → self.old ≡ named_after past → self.new
-            ≡ named_after (now.now ∷ past) }
-        ensures some { is_some result
-            ≡ (nat_eq (length pointers.old.pointers) (length self.old) && same_fingers self.old now.now) }
-        ensures moved { IfSome result (λ places. OnlyMoved places pointers.old.pointers pointers.new.pointers) }
-        ensures places { pointers.old.pointers ≡ assigned self.old
-            → IfSome result (λ places. AreElsewhere places pointers.old.pointers pointers.new.pointers) }
-    {
-        if pointers.len() == self.last.len() {
-            if are_same(self.last.as_slice(), now.as_slice()) {
-                return Some(follow_fingers(&mut self.last, now, pointers));
-            }
+        let mut slots = [0; 16];
+        let held = pointers.as_slice();
+        for i in 0..pointers.len() {
+            slots[i] = slot_of(self.last.as_slice(), now.as_slice(), held[i].id);
         }
-        *pointers = Assigned::empty();
-        self.assign_into(now, pointers);
-        None
+        slots
     }
 
     /// Begins anew, as `new` does.
@@ -111,6 +86,21 @@ impl Ids {
     {
         self.last = NamedList::empty();
     }
+}
+
+/// The slot of the finger with an id, where the contact of each finger is at its place.
+fn slot_of(named: &[Named], now: &[Contact], id: PointerId) -> u8
+    ensures { result ≡ slot_of id named.now now.now }
+{
+    for (i, finger) in named.iter().enumerate() {
+        if i >= now.len() {
+            return 0;
+        }
+        if finger.id == id {
+            return now[i].slot;
+        }
+    }
+    0
 }
 
 /// Names the fingers of the next packet, and answers the ids that are cancelled in it.

@@ -10,7 +10,6 @@
 #![tactic(auto)]
 
 mod assigned;
-mod follow;
 mod ids;
 mod moved;
 mod named;

@@ -287,3 +287,15 @@ palms_noted rows k n past e t h le are kept =
     ∙ palms_same (row_in (take n rows)) (λ s. row s past) k (λ i. is_palm n past i) n t
     (λ s lt. get_or-take n rows s no_row lt ∙ are s lt) kept
     ∙ sym (rw h refl)
+
+-- ---- the contacts of slots are such a list
+
+are_at : (rows : ℕ → Row) (palms : ℤ → Bool) (s : ℕ) (b : Bool) → holds rows s ≡ b → AreContacts (contacts_of rows palms s)
+    → AreContacts (if b then contacts_of rows palms s ++ contact palms s (rows s) ∷ [] else contacts_of rows palms s)
+are_at rows palms s true is before =
+    AreContacts-append (contacts_of rows palms s) (contact palms s (rows s)) before (step_joins rows palms s (contacts_of rows palms s) refl (holds_test rows palms s ∙ is))
+are_at rows palms s false is before = before
+
+pub are_contacts : (rows : ℕ → Row) (palms : ℤ → Bool) (n : ℕ) → AreContacts (contacts_of rows palms n)
+are_contacts rows palms zero = tt
+are_contacts rows palms (suc s) = are_at rows palms s (holds rows s) refl (are_contacts rows palms s)

@@ -1,4 +1,4 @@
--- A contact that gets another place, in a list of contacts and among the slots.
+-- The contacts of slots of which one has another position.
 use Rattle.std.specs.Prelude.{◌≡◌, ◌≢◌, ℕ, zero, suc, ◌<◌, ◌≤◌, Bool, true, false, not, ◌&&◌, ℤ, pos, nat_eq, List, [], ◌∷◌, ◌++◌, length, map, set, get_or, ◌⊎◌, if◌then◌else◌, int_le}
 use Rattle.std.specs.List.{list_any}
 use Rattle.std.proofs.Common.{sym, ◌∙◌, ap, refl, arith, eq-eqb, ne_eqb, inl, inr, get_or-set_same, get_or-set_other}
@@ -6,7 +6,9 @@ use Rattle.std.proofs.lemmas.Bool.{cases_eq}
 use Rattle.std.proofs.lemmas.List.{map-append}
 use Rattle.slot_accumulator.specs.declared.contacts.Contact.{Contact}
 use Rattle.slot_accumulator.specs.declared.slots.Row.{Row}
-use Rattle.slot_accumulator.specs.Contacts.{IsBeforeAll, AreContacts, put_at, unused}
+use Rattle.slot_accumulator.specs.Contacts.{put_at}
+use Rattle.slot_accumulator.specs.Changes.{Changes}
+use Rattle.slot_accumulator.specs.declared.change.Change.TheVariants.{Position}
 use Rattle.slot_accumulator.specs.SlotContacts.{lower_has, holds, contact, contacts_of, row_in}
 use Rattle.slot_accumulator.specs.SlotValues.{row_after}
 use Rattle.slot_accumulator.specs.SlotContacts.{contacts_in, contacts_at, is_palm, SlotsStandFor}
@@ -17,62 +19,6 @@ use Rattle.raw_events.specs.declared.event.RawEvent.{RawEvent}
 
 other_stays : (c : Contact) (slot : ℕ) (x y : ℤ) → nat_eq c.slot slot ≡ false → put_at slot x y c ≡ c
 other_stays c slot x y h = rw h refl
-
--- a list without a contact of the slot stays
-pub none_there : (cs : List Contact) (slot : ℕ) (x y : ℤ) → list_any (λ (c : Contact). nat_eq c.slot slot) cs ≡ false
-    → map (λ (c : Contact). put_at slot x y c) cs ≡ cs
-none_there [] slot x y h = refl
-none_there (c ∷ cs) slot x y h =
-    let here : nat_eq c.slot slot ≡ false = or_left (nat_eq c.slot slot) (list_any (λ (d : Contact). nat_eq d.slot slot) cs) h in
-    let behind : list_any (λ (d : Contact). nat_eq d.slot slot) cs ≡ false = or_right (nat_eq c.slot slot) (list_any (λ (d : Contact). nat_eq d.slot slot) cs) h in
-    ap (λ d. d ∷ map (λ (e : Contact). put_at slot x y e) cs) (other_stays c slot x y here)
-    ∙ ap (λ ds. c ∷ ds) (none_there cs slot x y behind)
-
--- what is behind the contact of the slot stays
-behind_stay : (c : Contact) (cs : List Contact) (slot : ℕ) (x y : ℤ) → IsBeforeAll c cs → c.slot ≡ slot
-    → map (λ (d : Contact). put_at slot x y d) cs ≡ cs
-behind_stay c [] slot x y h is = refl
-behind_stay c (d ∷ ds) slot x y h is =
-    let other : d.slot ≢ slot = λ same. omega (arith, same, is, h.0.0) in
-    ap (λ e. e ∷ map (λ (n : Contact). put_at slot x y n) ds) (other_stays d slot x y (ne_eqb d.slot slot other))
-    ∙ ap (λ es. d ∷ es) (behind_stay c ds slot x y h.1 is)
-
-before_at : (c : Contact) (cs : List Contact) (i : ℕ) (d : Contact) → IsBeforeAll c cs → i < length cs → c.slot < (get_or cs i d).slot
-before_at c [] i d h lt = absurd (omega (arith, lt))
-before_at c (e ∷ es) zero d h lt = h.0.0
-before_at c (e ∷ es) (suc i) d h lt = before_at c es i d h.1 (omega (arith, lt))
-
--- the contact of the slot is set in its place
-pub one_put : (cs : List Contact) (i slot : ℕ) (x y : ℤ) (n : Contact) → AreContacts cs → i < length cs → (get_or cs i unused).slot ≡ slot
-    → n ≡ put_at slot x y (get_or cs i unused) → set cs i n ≡ map (λ (c : Contact). put_at slot x y c) cs
-one_put [] i slot x y n a lt is new = absurd (omega (arith, lt))
-one_put (c ∷ cs) zero slot x y n a lt is new =
-    ap (λ d. d ∷ cs) new ∙ ap (λ ds. put_at slot x y c ∷ ds) (sym (behind_stay c cs slot x y a.1 is))
-one_put (c ∷ cs) (suc i) slot x y n a lt is new =
-    let lower : c.slot < (get_or cs i unused).slot = before_at c cs i unused a.1 (omega (arith, lt)) in
-    let other : c.slot ≢ slot = λ same. omega (arith, same, is, lower) in
-    ap (λ ds. c ∷ ds) (one_put cs i slot x y n a.2 (omega (arith, lt)) is new)
-    ∙ ap (λ d. d ∷ map (λ (e : Contact). put_at slot x y e) cs) (sym (other_stays c slot x y (ne_eqb c.slot slot other)))
-
--- the same, where the list is lent twice
-pub put_there : (cs xs ys : List Contact) (i slot : ℕ) (x y : ℤ) (n : Contact) → AreContacts cs → xs ≡ cs → ys ≡ cs → i < length xs → (get_or xs i unused).slot ≡ slot
-    → n ≡ put_at (get_or ys i unused).slot x y (get_or ys i unused) → set cs i n ≡ map (λ (c : Contact). put_at slot x y c) cs
-put_there cs xs ys i slot x y n a first second lt is new =
-    let here : (get_or cs i unused).slot ≡ slot = ap (λ (zs : List Contact). (get_or zs i unused).slot) (sym first) ∙ is in
-    one_put cs i slot x y n a (omega (arith, lt, ap (λ (zs : List Contact). length zs) first)) here
-    (new ∙ ap (λ (zs : List Contact). put_at (get_or zs i unused).slot x y (get_or zs i unused)) second ∙ ap (λ s. put_at s x y (get_or cs i unused)) here)
-
-before_put : (c : Contact) (cs : List Contact) (slot : ℕ) (x y : ℤ) → IsBeforeAll c cs
-    → IsBeforeAll (put_at slot x y c) (map (λ (d : Contact). put_at slot x y d) cs)
-before_put c [] slot x y h = tt
-before_put c (d ∷ ds) slot x y h = (h.0, before_put c ds slot x y h.1)
-
--- the list is one of contacts still
-pub AreContacts-put : (cs : List Contact) (slot : ℕ) (x y : ℤ) → AreContacts cs → AreContacts (map (λ (c : Contact). put_at slot x y c) cs)
-AreContacts-put [] slot x y a = tt
-AreContacts-put (c ∷ cs) slot x y a = (a.0, before_put c cs slot x y a.1, AreContacts-put cs slot x y a.2)
-
--- ---- the contacts of slots of which one has other positions
 
 lower_tracks : (f g : ℕ → Row) (n : ℕ) (t : ℤ) → ((s : ℕ) → (f s).tracking ≡ (g s).tracking) → lower_has f n t ≡ lower_has g n t
 lower_tracks f g zero t h = refl
@@ -131,6 +77,20 @@ written_put rows at r code v palms n lt other is =
     put_all (row_in (set rows at r)) (row_in rows) palms at r.x r.y n
     (λ s. tracks_by rows at s r lt kept (cases_eq s at))
     (λ s. row_by rows at s r palms lt kept (cases_eq s at))
+
+-- only the contact of the slot is elsewhere, and only the row of the slot is another one
+pub written_changes : (slots : ℕ) (current : ℤ) (rows : List Row) (palms : List ℤ) (at : ℕ) (r : Row) (code : ℕ) (v : ℤ) → at < 16 → length rows ≡ 16
+    → nat_eq code 57 ≡ false → r ≡ row_after code v (row_in rows at)
+    → Changes (Position at) (record { slots = slots; current = current; rows = rows; palms = palms })
+    (record { slots = slots; current = current; rows = set rows at r; palms = palms })
+written_changes slots current rows palms at r code v low whole other is =
+    let inside : at < length rows = omega (arith, low, whole) in (
+      low,
+      written_put rows at r code v (λ t. is_kept palms t) slots inside other is
+          ∙ ap (λ (q : Row). map (λ (c : Contact). put_at at q.x q.y c) (contacts_of (row_in rows) (λ t. is_kept palms t) slots))
+          (sym (get_or-set_same rows at r _ inside)),
+      λ k ne. get_or-set_other rows at k r _ ne,
+    )
 
 -- ---- slots that hold nothing
 

@@ -2,3 +2,4 @@ pub mod Contacts
 pub mod Table
 pub mod SlotValues
 pub mod SlotContacts
+pub mod Changes

@@ -1,10 +1,7 @@
 //! Contacts, and lists of them.
-ghost use Rattle.std.specs.Prelude.{◌≡◌, ◌+◌, ◌<◌, ◌≤◌, List, [], ◌∷◌, ◌++◌, length, slice_get, map, get_or, nat_eq};
-ghost use Rattle.std.specs.Prelude.{MatchOption, false};
-ghost use Rattle.std.specs.List.{list_any};
-ghost use Rattle.slot_accumulator.specs.Contacts.{AreContacts, Joins, has_tracking, put_at, unused};
+ghost use Rattle.std.specs.Prelude.{◌≡◌, ◌+◌, ◌<◌, ◌≤◌, List, [], ◌∷◌, ◌++◌, length, slice_get};
+ghost use Rattle.slot_accumulator.specs.Contacts.{AreContacts, Joins, has_tracking, unused};
 
-use crate::slots::Row;
 use short_list::{Blank, ShortList};
 use std::marker::Model;
 
@@ -98,47 +95,6 @@ impl Contacts {
     {
         self.list.push(contact);
     }
-
-    /// Puts the contact of a slot where its row says, where the list has one.
-    pub(crate) fn put(&mut self, slot: usize, row: &Row)
-        ensures { self.new ≡ map (λ c. put_at slot row.now.x row.now.y c) self.old }
-    {
-        if let Some(i) = index_of(self.list.as_slice(), slot) {
-            let contact = self.list.as_slice()[i];
-            self.list.set(i, placed(&contact, row));
-        }
-    }
-}
-
-/// A contact where a row says.
-fn placed(contact: &Contact, row: &Row) -> Contact
-    ensures { result ≡ put_at contact.now.slot row.now.x row.now.y contact.now }
-{
-    Contact {
-        slot: contact.slot,
-        tracking: contact.tracking,
-        x: row.x,
-        y: row.y,
-        palm: contact.palm,
-    }
-}
-
-/// Where a list has the contact of a slot. Most often all lower slots have one too.
-fn index_of(contacts: &[Contact], slot: usize) -> Option<usize>
-    ensures { MatchOption result (list_any (λ c. nat_eq c.slot slot) contacts.now ≡ false)
-        (λ i. (i < length contacts.now) × ((get_or contacts.now i unused).slot ≡ slot)) }
-{
-    if slot < contacts.len() {
-        if usize::from(contacts[slot].slot) == slot {
-            return Some(slot);
-        }
-    }
-    for (i, contact) in contacts.iter().enumerate() {
-        if usize::from(contact.slot) == slot {
-            return Some(i);
-        }
-    }
-    None
 }
 
 /// Whether a contact of the list has this tracking id.

@@ -16,12 +16,14 @@
 //! finger.
 #![tactic(auto)]
 
+mod change;
 mod contacts;
 mod palm_slots;
 mod palms;
 mod report;
 mod slots;
 
+pub use change::Change;
 pub use contacts::{Contact, Contacts};
 pub use report::is_report;
-pub use slots::Slots;
+pub use slots::{Row, Slots};

@@ -43,6 +43,7 @@ pub(crate) fn no_palm(palm_tool: bool, before: &Palms) -> bool
 }
 
 /// The tracking ids of the palms among the contacts of some slots, given those of the packet before.
+#[inline(never)]
 fn palms(rows: &[Row], before: &Palms) -> Palms
     requires { length rows.now ≤ 16 }
     ensures { (tracking : ℤ) → is_kept result tracking ≡ palm_below (row_in rows.now)

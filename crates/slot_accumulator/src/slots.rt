@@ -1,16 +1,16 @@
 //! The slots of a device.
-ghost use Rattle.std.specs.Prelude.{◌≡◌, ℕ, ◌<◌, ◌≤◌, List, [], ◌∷◌, MatchOption, pos, true, false, not, ◌&&◌};
+ghost use Rattle.std.specs.Prelude.{◌≡◌, ℕ, ◌<◌, ◌≤◌, List, [], ◌∷◌, MatchOption, ℤ, pos, true, false, not, ◌&&◌};
 ghost use Rattle.std.specs.Prelude.{◌||◌, int_le};
-ghost use Rattle.std.specs.List.{list_any};
 ghost use Rattle.raw_events.specs.declared.event.RawEvent.{RawEvent as Event};
 ghost use Rattle.slot_accumulator.specs.SlotValues.{row_after, is_slot};
+ghost use Rattle.slot_accumulator.specs.Changes.{Changes};
 ghost use Rattle.slot_accumulator.specs.Contacts.{has_tracking};
 ghost use Rattle.slot_accumulator.specs.Table.{is_kept};
 ghost use Rattle.raw_events.specs.Packets.{is_report as ends_packet};
 ghost use Rattle.slot_accumulator.specs.SlotContacts.{contact as contact_of, contacts_at, contacts_in, contacts_of};
-ghost use Rattle.slot_accumulator.specs.SlotContacts.{has_palm_tool};
 ghost use Rattle.slot_accumulator.specs.SlotContacts.{row_in, SlotsStandFor};
 
+use crate::change::Change;
 use crate::contacts::{Contact, Contacts, tracked};
 use crate::palm_slots::{no_palm, note_palms, tool_after};
 use crate::palms::{Palms, is_kept};
@@ -107,105 +107,60 @@ impl Slots {
     /// written to it. Those written while the current slot is none of the device's are never seen. A SYN_REPORT notes
     /// which contacts are palms: those whose tool type is MT_TOOL_PALM, and those that were palms at the end of the
     /// packet before.
-    #[inline(always)]
     pub fn take(&mut self, event: RawEvent)
         ensures state { (past : List Event) → SlotsStandFor past self.old → SlotsStandFor (event ∷ past) self.new }
         ensures slots { self.new.slots ≡ self.old.slots }
     {
         if is_report(&event) {
-            self.note();
+            let _ = self.end_packet();
             return;
         }
+        let _ = self.write(&event);
+    }
+
+    /// Takes an event that ends no packet, and answers what it changes among the contacts.
+    #[inline(always)]
+    pub fn write(&mut self, event: &RawEvent) -> Change
+        requires { ends_packet event.now ≡ false }
+        ensures state { (past : List Event) → SlotsStandFor past self.old → SlotsStandFor (event.now ∷ past) self.new }
+        ensures slots { self.new.slots ≡ self.old.slots }
+        ensures change { Changes result self.old self.new }
+    {
         if event.kind != EV_ABS {
-            return;
+            return Change::Nothing;
         }
         if event.code == ABS_MT_SLOT {
             self.current = event.value;
-            return;
-        }
-        if let Some(at) = place(self.current) {
-            let row = self.rows[at];
-            self.rows[at] = written(&row, &event);
-            self.palm_tool = tool_after(event.code, self.palm_tool, &self.rows);
-        }
-    }
-
-    /// Takes the next event of the device, as `take` does, and keeps a list of the contacts: where it had those of
-    /// before, it has those of now. Only a tracking id and a packet with a palm make the list anew.
-    #[inline(always)]
-    pub fn follow(&mut self, event: &RawEvent, contacts: &mut Contacts)
-        ensures state { (past : List Event) → SlotsStandFor past self.old → SlotsStandFor (event.now ∷ past) self.new }
-        ensures slots { self.new.slots ≡ self.old.slots }
-        ensures contacts { contacts.old ≡ contacts_in self.old → contacts.new ≡ contacts_in self.new }
-        ensures events { (past : List Event) → SlotsStandFor past self.old → contacts.old ≡ contacts_in self.old
-            → contacts.new ≡ contacts_at self.old.slots (event.now ∷ past) }
-    {
-        let _ = &self.slots;
-        if self.changes(event, contacts) {
-            self.list_anew(contacts);
-        }
-    }
-
-    /// Takes the next event, and answers whether the list of the contacts has to be made anew. Where not, it is kept.
-    #[inline(always)]
-    fn changes(&mut self, event: &RawEvent, contacts: &mut Contacts) -> bool
-        ensures state { (past : List Event) → SlotsStandFor past self.old → SlotsStandFor (event.now ∷ past) self.new }
-        ensures slots { self.new.slots ≡ self.old.slots }
-        ensures contacts { result ≡ false → contacts.old ≡ contacts_in self.old → contacts.new ≡ contacts_in self.new }
-    {
-        if event.kind == EV_ABS {
-            return self.write(event, contacts);
-        }
-        if is_report(event) {
-            return self.note();
-        }
-        false
-    }
-
-    /// Takes an EV_ABS event, and answers whether the list of the contacts has to be made anew.
-    #[inline(always)]
-    fn write(&mut self, event: &RawEvent, contacts: &mut Contacts) -> bool
-        requires { event.now.kind ≡ 3 }
-        ensures state { (past : List Event) → SlotsStandFor past self.old → SlotsStandFor (event.now ∷ past) self.new }
-        ensures slots { self.new.slots ≡ self.old.slots }
-        ensures contacts { result ≡ false → contacts.old ≡ contacts_in self.old → contacts.new ≡ contacts_in self.new }
-    {
-        if event.code == ABS_MT_SLOT {
-            self.current = event.value;
-            return false;
+            return Change::Nothing;
         }
         if let Some(at) = place(self.current) {
             let row = written(&self.rows[at], event);
             self.rows[at] = row;
             self.palm_tool = tool_after(event.code, self.palm_tool, &self.rows);
             if event.code == ABS_MT_TRACKING_ID {
-                return true;
+                return Change::Contacts;
             }
-            contacts.put(at, &row);
+            return Change::Position(at as u8);
         }
-        false
+        Change::Nothing
     }
 
-    /// Notes the palms at the end of a packet, and answers whether there may be one. Where not, nothing changes.
-    fn note(&mut self) -> bool
+    /// Takes a SYN_REPORT: notes the palms, and answers whether there may be one. Where not, no contact is a palm, none
+    /// was one at the end of the packet before, and nothing changes.
+    #[inline(always)]
+    pub fn end_packet(&mut self) -> bool
         ensures state { (past : List Event) (e : Event) → ends_packet e ≡ true → SlotsStandFor past self.old
             → SlotsStandFor (e ∷ past) self.new }
         ensures slots { self.new.slots ≡ self.old.slots }
         ensures same { result ≡ false → self.new ≡ self.old }
+        ensures none { result ≡ false → (tracking : ℤ) → is_kept self.new.palms tracking ≡ false }
+        ensures contacts { (past : List Event) (e : Event) → ends_packet e ≡ true → SlotsStandFor past self.old
+            → contacts_in self.new ≡ contacts_at self.old.slots (e ∷ past) }
     {
         let none = no_palm(self.palm_tool, &self.palms);
         let rows = self.rows.split_at(usize::from(self.slots)).0;
         note_palms(rows, self.palm_tool, &mut self.palms);
         !none
-    }
-
-    /// Makes a list that of the contacts now.
-    #[inline(never)]
-    fn list_anew(&self, contacts: &mut Contacts)
-        ensures { contacts.new ≡ contacts_in self.now }
-    {
-        *contacts = Contacts::empty();
-        self.contacts_into(contacts);
     }
 
     /// The contacts now: the slots of the device whose tracking id is not negative and is that of no lower slot, each
@@ -215,24 +170,22 @@ impl Slots {
         ensures events { (past : List Event) → SlotsStandFor past self.now → result ≡ contacts_at self.now.slots past }
     {
         let mut contacts = Contacts::empty();
-        self.contacts_into(&mut contacts);
-        contacts
-    }
-
-    /// Puts the contacts of `contacts` into a list that has none. Nothing is copied where the list is at hand.
-    pub fn contacts_into(&self, contacts: &mut Contacts)
-        requires { contacts.old ≡ [] }
-        ensures now { contacts.new ≡ contacts_of (row_in self.now.rows) (λ t. is_kept self.now.palms t)
-            self.now.slots }
-        ensures events { (past : List Event) → SlotsStandFor past self.now → contacts.new
-            ≡ contacts_at self.now.slots past }
-    {
         for slot in 0..self.slots {
             let row = &self.rows[usize::from(slot)];
             if is_contact(row, contacts.as_slice()) {
                 contacts.push(contact(slot, row, &self.palms));
             }
         }
+        contacts
+    }
+
+    /// What was last written to a slot. Slots that the device does not have are read as the kernel's other slots are.
+    #[inline(always)]
+    pub fn row(&self, slot: u8) -> &Row
+        requires { slot < 16 }
+        ensures { result.now ≡ row_in self.now.rows slot }
+    {
+        &self.rows[usize::from(slot)]
     }
 
     /// Begins anew, as after `new` with the same number of slots.

@@ -1,6 +1,7 @@
 pub mod Rising
 pub mod Walk
-pub mod SomeMoved
+pub mod Still
 pub mod Common
 pub mod Fits
 pub mod Examples
+pub mod Shares

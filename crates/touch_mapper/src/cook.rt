@@ -1,5 +1,5 @@
 //! Raw positions as display pixels.
-ghost use Rattle.std.specs.Prelude.{◌≡◌, ◌<◌, ◌≤◌, ◌↔◌, ◌≤ℤ◌, IsTrue, IfOk, IsOk, ◌&&◌, int_le, nat_le, pos};
+ghost use Rattle.std.specs.Prelude.{◌≡◌, ◌*◌, ◌/◌, ◌<◌, ◌≤◌, ◌↔◌, ◌≤ℤ◌, IsTrue, IfOk, IsOk, ◌&&◌, int_le, nat_le, pos};
 ghost use Rattle.touch_mapper.specs.Cooking.{can_cook, natural};
 
 use input_types::{Axis, Pixel, Rotation};
@@ -108,7 +108,24 @@ fn place(axis: &Axis, extent: u16, raw: i32) -> u16
 {
     let above = u64::from(raw.clamp(axis.min, axis.max).abs_diff(axis.min));
     let positions = u64::from(axis.max.abs_diff(axis.min)) + 1;
-    (above * u64::from(extent) / positions) as u16
+    share(above, extent, positions)
+}
+
+/// How many of so many pixels are below a position, where as many positions are below it. Most axes have as many
+/// positions as the display has pixels, and then nothing is divided.
+#[inline(always)]
+#[tactic(auto, using(crate::proofs::Shares::share_less, crate::proofs::Shares::share_same))]
+fn share(below: u64, extent: u16, positions: u64) -> u16
+    requires below { below < positions }
+    requires positions { positions ≤ 4294967296 }
+    requires extent { (1 ≤ extent) × (extent ≤ 16384) }
+    ensures value { result ≡ below * extent / positions }
+    ensures within { result < extent }
+{
+    if positions == u64::from(extent) {
+        return below as u16;
+    }
+    (below * u64::from(extent) / positions) as u16
 }
 
 /// The pixel at a place of the display.

@@ -1,25 +1,25 @@
 //! The motions between two packets.
-ghost use Rattle.std.specs.Prelude.{◌≡◌, ◌+◌, ◌<◌, ◌≤◌, [], ◌∷◌, ◌++◌, length, map, vec_len, vec_capacity};
+ghost use Rattle.std.specs.Prelude.{◌≡◌, ◌+◌, ◌<◌, ◌≤◌, [], ◌∷◌, ◌++◌, length, vec_len, vec_capacity};
 ghost use Rattle.bits32.specs.Set.{is_in};
+ghost use Rattle.input_types.specs.declared.message.Args.TheVariants.{Motion as MotionArgs};
 ghost use Rattle.touch_mapper.specs.Gesture.{gesture as motions_between, motion as motion_of, up as up_of};
-ghost use Rattle.touch_mapper.specs.Gesture.{down as down_of, ups, downs, moves, move_of};
+ghost use Rattle.touch_mapper.specs.Gesture.{down as down_of, ups, downs, moves, move_of, as_args};
 
 use crate::lists::{all_moved, append, in_use, is_changed, is_down, joined, joined_kept, same_ids};
-use crate::motions::FromMotion;
 use bits32::Bits32;
-use input_types::{DeviceId, FLAG_CANCELED, Motion, MotionAction, Pointer, Pointers};
+use input_types::{Args, DeviceId, FLAG_CANCELED, Motion, MotionAction, Pointer, Pointers};
 
 /// Adds the motions between two packets, from the pointers that were down and those that are, where some of the ids
 /// that are gone are cancelled.
-pub fn gesture<T: FromMotion>(
-    given: &mut Vec<T>,
+pub fn gesture(
+    given: &mut Vec<Args>,
     device: DeviceId,
     cancelled: Bits32,
     last: &Pointers,
     now: &Pointers,
 )
     requires { vec_len given.old + (length last.now + length now.now + 1) ≤ vec_capacity given.old }
-    ensures { given.new.items ≡ given.old.items ++ map T.of_motion (motions_between device
+    ensures { given.new.items ≡ given.old.items ++ as_args (motions_between device
         (λ i. is_in i cancelled) last.now now.now) }
 {
     if same_ids(last.as_slice(), now.as_slice()) {
@@ -38,9 +38,9 @@ pub fn gesture<T: FromMotion>(
 }
 
 /// Puts a move of all pointers that are down behind the others, where there are some.
-pub fn put_move<T: FromMotion>(given: &mut Vec<T>, device: DeviceId, now: &Pointers)
+pub fn put_move(given: &mut Vec<Args>, device: DeviceId, now: &Pointers)
     requires { vec_len given.old < vec_capacity given.old }
-    ensures { given.new.items ≡ given.old.items ++ map T.of_motion (move_of device now.now) }
+    ensures { given.new.items ≡ given.old.items ++ as_args (move_of device now.now) }
 {
     if !now.is_empty() {
         put(given, motion(device, MotionAction::Move, 0, 0, now));
@@ -48,15 +48,15 @@ pub fn put_move<T: FromMotion>(given: &mut Vec<T>, device: DeviceId, now: &Point
 }
 
 /// The pointers that are gone go up, the lowest id first.
-fn push_ups<T: FromMotion>(
-    given: &mut Vec<T>,
+fn push_ups(
+    given: &mut Vec<Args>,
     device: DeviceId,
     cancelled: Bits32,
     moved: &Pointers,
     now: &[Pointer],
 )
     requires { vec_len given.old + length moved.now ≤ vec_capacity given.old }
-    ensures items { given.new.items ≡ given.old.items ++ map T.of_motion (ups device
+    ensures items { given.new.items ≡ given.old.items ++ as_args (ups device
         (λ i. is_in i cancelled) now.now [] moved.now) }
     ensures few { vec_len given.new ≤ vec_len given.old + length moved.now }
     ensures room { vec_capacity given.old ≤ vec_capacity given.new }
@@ -77,9 +77,9 @@ fn push_ups<T: FromMotion>(
 }
 
 /// Those that stay move, where one has another pixel.
-fn push_move<T: FromMotion>(given: &mut Vec<T>, device: DeviceId, last: &[Pointer], now: &Pointers)
+fn push_move(given: &mut Vec<Args>, device: DeviceId, last: &[Pointer], now: &Pointers)
     requires { vec_len given.old < vec_capacity given.old }
-    ensures items { given.new.items ≡ given.old.items ++ map T.of_motion (moves device last.now now.now) }
+    ensures items { given.new.items ≡ given.old.items ++ as_args (moves device last.now now.now) }
     ensures few { vec_len given.new ≤ vec_len given.old + 1 }
     ensures room { vec_capacity given.old ≤ vec_capacity given.new }
 {
@@ -90,9 +90,9 @@ fn push_move<T: FromMotion>(given: &mut Vec<T>, device: DeviceId, last: &[Pointe
 }
 
 /// The new pointers go down, the lowest id first.
-fn push_downs<T: FromMotion>(given: &mut Vec<T>, device: DeviceId, last: &[Pointer], now: &Pointers)
+fn push_downs(given: &mut Vec<Args>, device: DeviceId, last: &[Pointer], now: &Pointers)
     requires { vec_len given.old + length now.now ≤ vec_capacity given.old }
-    ensures { given.new.items ≡ given.old.items ++ map T.of_motion (downs device last.now [] now.now) }
+    ensures { given.new.items ≡ given.old.items ++ as_args (downs device last.now [] now.now) }
 {
     let pointers = in_use(now);
     let mut below = Pointers::empty();
@@ -107,13 +107,13 @@ fn push_downs<T: FromMotion>(given: &mut Vec<T>, device: DeviceId, last: &[Point
 }
 
 /// Puts a motion behind the others, for which there is room.
-fn put<T: FromMotion>(given: &mut Vec<T>, motion: Motion)
+fn put(given: &mut Vec<Args>, motion: Motion)
     requires { vec_len given.old < vec_capacity given.old }
-    ensures items { given.new.items ≡ given.old.items ++ T.of_motion motion ∷ [] }
+    ensures items { given.new.items ≡ given.old.items ++ MotionArgs motion ∷ [] }
     ensures len { vec_len given.new ≡ vec_len given.old + 1 }
     ensures room { vec_capacity given.old ≤ vec_capacity given.new }
 {
-    match given.push(T::from_motion(motion)) {
+    match given.push(Args::Motion(motion)) {
         Ok(()) => {}
         Err(_) => unreachable!(),
     }

@@ -1,18 +1,15 @@
 //! Gestures of one device.
-ghost use Rattle.std.specs.Prelude.{◌≡◌, ◌+◌, ◌<◌, ◌≤◌, List, [], ◌++◌, map, vec_len, vec_capacity, IsOk, IfOk, OnErr, OnOk};
-ghost use Rattle.pointer_ids.specs.OnlyMoved.{OnlyMoved};
-ghost use Rattle.pointer_ids.specs.declared.assigned.Held.{Held as HeldView};
-ghost use Rattle.touch_mapper.specs.Gesture.{after_packet, packet_motions, placed_all};
+ghost use Rattle.std.specs.Prelude.{◌≡◌, ◌+◌, ◌<◌, ◌≤◌, [], ◌++◌, length, slice_set, get_or, vec_len, vec_capacity, IsOk, OnErr, OnOk};
+ghost use Rattle.input_types.specs.Pointers.{unused};
+ghost use Rattle.touch_mapper.specs.Cooking.{pixel};
+ghost use Rattle.touch_mapper.specs.Gesture.{after_packet, as_args, move_of, packet_motions};
 
 use crate::cook::Cook;
 use crate::gesture::{gesture, put_move};
 use crate::lists::put_at_pixels;
-use crate::motions::FromMotion;
-use crate::moves::move_some;
-use bits32::Bits32;
-use input_types::{DeviceId, Motion, Pointers};
+use input_types::{Args, DeviceId, Pointers};
 use pointer_ids::Assigned;
-use std::alloc::{AllocError, Global};
+use std::alloc::AllocError;
 use std::marker::Model;
 
 /// The gestures of one device: which pointers were down at the last packet, and at which pixels. It is `Copy` and takes
@@ -59,25 +56,11 @@ impl Gestures {
     /// * A pointer that is cancelled goes up by a `PointerUp` with `FLAG_CANCELED`; the last one by a `Cancel`.
     ///
     /// Each motion lists all pointers that are down, the one that goes up or down included.
-    pub fn next(&mut self, alloc: Global, now: &Assigned) -> Result<Vec<Motion>, AllocError>
-        ensures ok { IfOk result (λ v. v.items ≡ packet_motions self.old now.now) }
-        ensures after { OnOk result (self.new ≡ after_packet self.old now.now) }
-        ensures err { OnErr result (self.new ≡ self.old) }
-    {
-        let mut motions = Vec::new(alloc);
-        self.next_into(&mut motions, now)?;
-        Ok(motions)
-    }
-
-    /// Adds the motions of `next` to those that are given. After want of memory the list is as it was, and with room
-    /// for `MOST` more there is none.
-    pub fn next_into<T: FromMotion>(
-        &mut self,
-        given: &mut Vec<T>,
-        now: &Assigned,
-    ) -> Result<(), AllocError>
-        ensures ok { OnOk result
-            (given.new.items ≡ given.old.items ++ map T.of_motion (packet_motions self.old now.now)) }
+    ///
+    /// They are added to those that are given. After out of memory the list is as it was, and with room for `MOST` more
+    /// there is none.
+    pub fn next(&mut self, given: &mut Vec<Args>, now: &Assigned) -> Result<(), AllocError>
+        ensures ok { OnOk result (given.new.items ≡ given.old.items ++ as_args (packet_motions self.old now.now)) }
         ensures after { OnOk result (self.new ≡ after_packet self.old now.now) }
         ensures err { OnErr result (self.new ≡ self.old) }
         ensures given { OnErr result (given.new.items ≡ given.old.items) }
@@ -91,27 +74,34 @@ impl Gestures {
         Ok(())
     }
 
-    /// Adds the motions of `next`, as `next_into` does, where the packet has the ids of the packet before and only the
-    /// pointers at some places moved. Only those get their pixels anew.
-    pub fn move_into<T: FromMotion>(
-        &mut self,
-        given: &mut Vec<T>,
-        moved: Bits32,
-        now: &Assigned,
-    ) -> Result<(), AllocError>
-        ensures ok { (before : List HeldView) → self.old.last ≡ placed_all self.old.cook before
-            → OnlyMoved moved before now.now.pointers → OnOk result
-            (given.new.items ≡ given.old.items ++ map T.of_motion (packet_motions self.old now.now)) }
-        ensures after { (before : List HeldView) → self.old.last ≡ placed_all self.old.cook before
-            → OnlyMoved moved before now.now.pointers → OnOk result (self.new ≡ after_packet self.old now.now) }
-        ensures err { OnErr result (self.new ≡ self.old) }
-        ensures given { OnErr result (given.new.items ≡ given.old.items) }
-        ensures room { vec_len given.old < vec_capacity given.old → IsOk result }
+    /// How many pointers are down, at most 16.
+    pub fn len(&self) -> usize
+        ensures value { result ≡ length self.now.last }
+        ensures range { result ≤ 16 }
     {
-        given.reserve(1)?;
-        move_some(&self.cook, &mut self.last, moved, now);
+        self.last.len()
+    }
+
+    /// The pointer at index `i`, counted from 0, is at another raw position.
+    #[inline(always)]
+    pub fn move_to(&mut self, i: usize, x: i32, y: i32)
+        ensures { self.new ≡ record {
+          device = self.old.device;
+          cook = self.old.cook;
+          last = slice_set self.old.last i (record { id = (get_or self.old.last i unused).id; at = pixel self.old.cook x y });
+        } }
+    {
+        self.last.move_to(i, self.cook.pixel(x, y));
+    }
+
+    /// Adds the `Move` of all pointers that are down, where there are some: what `next` adds for a packet with the same
+    /// pointers.
+    #[inline(always)]
+    pub fn put_move(&self, given: &mut Vec<Args>)
+        requires { vec_len given.old < vec_capacity given.old }
+        ensures { given.new.items ≡ given.old.items ++ as_args (move_of self.now.device self.now.last) }
+    {
         put_move(given, self.device, &self.last);
-        Ok(())
     }
 
     /// No pointer is down, as after `new`.

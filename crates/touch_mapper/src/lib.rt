@@ -12,9 +12,6 @@ mod cook;
 mod gesture;
 mod gestures;
 mod lists;
-mod motions;
-mod moves;
 
 pub use cook::{BadRange, Cook};
 pub use gestures::Gestures;
-pub use motions::FromMotion;

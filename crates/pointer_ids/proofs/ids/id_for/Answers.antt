@@ -2,7 +2,7 @@
 use Rattle.std.specs.Prelude.{nat_eq, ◌||◌}
 use Rattle.std.proofs.Common.{sym, ◌∙◌, ap}
 use Rattle.bits32.specs.Set.{is_in}
-use Rattle.pointer_ids.proofs.Anr.{taken_new}
+use Rattle.pointer_ids.proofs.Naming.{taken_new}
 use Rattle.pointer_ids.proofs.Taken.{one_more}
 use Rattle.pointer_ids.proofs.ids.id_for.Goals as goal
 

@@ -4,7 +4,7 @@ use Rattle.std.proofs.Common.{arith, sym, ◌∙◌, ap, refl}
 use Rattle.bits32.specs.Set.{is_in, members_below}
 use Rattle.pointer_ids.specs.PointerIds.{has_id}
 use Rattle.pointer_ids.proofs.Taken.{none_in, one_more}
-use Rattle.pointer_ids.proofs.Anr.{marked_next, drop_item}
+use Rattle.pointer_ids.proofs.Naming.{marked_next, drop_item}
 use Rattle.pointer_ids.proofs.ids.ids_of.Goals as goal
 
 pub loop-contact-init : goal.loop-contact-init

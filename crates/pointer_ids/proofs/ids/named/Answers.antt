@@ -5,7 +5,7 @@ use Rattle.std.proofs.Math.Path.{fun_ext}
 use Rattle.bits32.specs.Set.{is_in}
 use Rattle.slot_accumulator.specs.declared.contacts.Contact.{Contact}
 use Rattle.pointer_ids.specs.PointerIds.{fingers, named_contact, named_from}
-use Rattle.pointer_ids.proofs.Anr.{one_named, drop_at, finger_first, palm_first}
+use Rattle.pointer_ids.proofs.Naming.{one_named, drop_at, finger_first, palm_first}
 use Rattle.pointer_ids.proofs.ids.named.Goals.{then-not-contact, else-not-contact}
 use Rattle.pointer_ids.proofs.ids.named.Goals as goal
 

@@ -3,13 +3,17 @@ use Rattle.std.specs.Prelude.{ℕ, Bool, [], ◌++◌, map}
 use Rattle.std.proofs.Common.{sym, ◌∙◌, ap}
 use Rattle.bits32.specs.Set.{is_in}
 use Rattle.input_types.specs.Gestures.{ids_of, same_ids}
+use Rattle.input_types.specs.declared.motion.Motion.{Motion}
+use Rattle.input_types.specs.declared.message.Args.{Args}
+use Rattle.input_types.specs.declared.message.Args.TheVariants.{Motion as MotionArgs}
+use Rattle.touch_mapper.specs.Gesture.{as_args}
 use Rattle.touch_mapper.specs.Gesture.{ups, moves, downs}
 use Rattle.touch_mapper.proofs.Walk.{all_three}
 use Rattle.touch_mapper.proofs.gesture.gesture.Goals as goal
 
 pub returns : goal.returns
-returns g c =
-    let f = g.T.FromMotion.of_motion in
+returns c =
+    let f : Motion → Args = λ m. MotionArgs m in
     let taken : ℕ → Bool = λ i. is_in i c.args.cancelled in
     all_three f c.args.device taken c.args.last.now c.args.now.now c.args.given.now.items c.push_ups.new.given.items c.push_move.new.given.items c.push_downs.new.given.items
     (sym (c.same_ids.ensures

@@ -1,5 +1,9 @@
 use Rattle.std.specs.Prelude.{◌≡◌, ◌+◌, [], ◌∷◌, ◌++◌, length, map, drop}
 use Rattle.std.proofs.Common.{sym, ◌∙◌, ap, arith}
+use Rattle.input_types.specs.declared.motion.Motion.{Motion}
+use Rattle.input_types.specs.declared.message.Args.{Args}
+use Rattle.input_types.specs.declared.message.Args.TheVariants.{Motion as MotionArgs}
+use Rattle.touch_mapper.specs.Gesture.{as_args}
 use Rattle.touch_mapper.specs.Gesture.{kept, down, downs}
 use Rattle.touch_mapper.proofs.Rising.{ends_item, walk_push}
 use Rattle.touch_mapper.proofs.Walk.{downs_pass, downs_push}
@@ -7,11 +11,11 @@ use Rattle.touch_mapper.proofs.gesture.push_downs.Goals.{then-not-is_down, else-
 use Rattle.touch_mapper.proofs.gesture.push_downs.Goals as goal
 
 pub append-requires-clause-rises : goal.append-requires-clause-rises
-append-requires-clause-rises g c =
+append-requires-clause-rises c =
     ends_item c.loop-i.below c.in_use-pointers.result.now c.loop-i.i c.index-pointers-i.result (rw c.loop-i.invariant.whole c.in_use-pointers.ensures.rises) c.loop-i-test.true c.index-pointers-i.is
 
 pub loop-i-preserved : goal.loop-i-preserved
-loop-i-preserved g c =
+loop-i-preserved c =
     elim c.if-not-is_down.branch [
       | then-not-is_down w ↦
           let said : w.down.result ≡ down c.args.device (length c.loop-i.below) ((c.loop-i.below ++ c.index-pointers-i.result ∷ []) ++ kept c.args.last.now (drop (c.loop-i.i + 1) c.in_use-pointers.result.now)) =
@@ -23,9 +27,9 @@ loop-i-preserved g c =
           ∙ ap (λ ys. (c.loop-i.below ++ c.index-pointers-i.result ∷ []) ++ kept c.args.last.now ys) w.split_at.ensures.back) in
           rw (w.given-is, c.append.ensures)
           (record {
-            all = ap (λ ms. ms ++ map g.T.FromMotion.of_motion (downs c.args.device c.args.last.now (c.loop-i.below ++ c.index-pointers-i.result ∷ []) (drop (c.loop-i.i + 1) c.in_use-pointers.result.now)))
-                (w.put.ensures.items ∙ ap (λ m. c.loop-i.given.items ++ g.T.FromMotion.of_motion m ∷ []) said)
-                ∙ downs_push g.T.FromMotion.of_motion c.loop-i.given.items c.args.device c.args.last.now c.loop-i.below c.in_use-pointers.result.now c.loop-i.i c.index-pointers-i.result c.loop-i-test.true c.index-pointers-i.is (sym c.is_down.ensures ∙ w.if-not-is_down.true)
+            all = ap (λ ms. ms ++ as_args (downs c.args.device c.args.last.now (c.loop-i.below ++ c.index-pointers-i.result ∷ []) (drop (c.loop-i.i + 1) c.in_use-pointers.result.now)))
+                (w.put.ensures.items ∙ ap (λ m. c.loop-i.given.items ++ MotionArgs m ∷ []) said)
+                ∙ downs_push (λ (m : Motion). MotionArgs m) c.loop-i.given.items c.args.device c.args.last.now c.loop-i.below c.in_use-pointers.result.now c.loop-i.i c.index-pointers-i.result c.loop-i-test.true c.index-pointers-i.is (sym c.is_down.ensures ∙ w.if-not-is_down.true)
                 ∙ c.loop-i.invariant.all;
             whole = walk_push c.loop-i.below c.in_use-pointers.result.now c.loop-i.i c.index-pointers-i.result c.loop-i-test.true c.index-pointers-i.is ∙ c.loop-i.invariant.whole;
             few = omega (arith, c.loop-i.invariant.few, w.put.ensures.len, c.loop-i-test.true);
@@ -34,7 +38,7 @@ loop-i-preserved g c =
       | else-not-is_down w ↦
           rw (w.given-is, c.append.ensures)
           (record {
-            all = downs_pass g.T.FromMotion.of_motion c.loop-i.given.items c.args.device c.args.last.now c.loop-i.below c.in_use-pointers.result.now c.loop-i.i c.index-pointers-i.result c.loop-i-test.true c.index-pointers-i.is (sym c.is_down.ensures ∙ w.if-not-is_down.false) ∙ c.loop-i.invariant.all;
+            all = downs_pass (λ (m : Motion). MotionArgs m) c.loop-i.given.items c.args.device c.args.last.now c.loop-i.below c.in_use-pointers.result.now c.loop-i.i c.index-pointers-i.result c.loop-i-test.true c.index-pointers-i.is (sym c.is_down.ensures ∙ w.if-not-is_down.false) ∙ c.loop-i.invariant.all;
             whole = walk_push c.loop-i.below c.in_use-pointers.result.now c.loop-i.i c.index-pointers-i.result c.loop-i-test.true c.index-pointers-i.is ∙ c.loop-i.invariant.whole;
             few = omega (arith, c.loop-i.invariant.few);
             capacity = c.loop-i.invariant.capacity;

@@ -3,6 +3,10 @@ use Rattle.std.proofs.Common.{sym, ◌∙◌, ap, subst, arith}
 use Rattle.std.proofs.lemmas.List.{append-nil, at_drop_all}
 use Rattle.bits32.specs.Set.{is_in}
 use Rattle.input_types.specs.declared.pointer.Pointer.{Pointer}
+use Rattle.input_types.specs.declared.motion.Motion.{Motion}
+use Rattle.input_types.specs.declared.message.Args.{Args}
+use Rattle.input_types.specs.declared.message.Args.TheVariants.{Motion as MotionArgs}
+use Rattle.touch_mapper.specs.Gesture.{as_args}
 use Rattle.touch_mapper.specs.Rising.{Rises}
 use Rattle.touch_mapper.specs.Gesture.{up, ups}
 use Rattle.touch_mapper.proofs.Rising.{ends_item, walk_push, rises_skip, room_skip}
@@ -11,17 +15,17 @@ use Rattle.touch_mapper.proofs.gesture.push_ups.Goals.{then-is_down, else-is_dow
 use Rattle.touch_mapper.proofs.gesture.push_ups.Goals as goal
 
 pub append-requires-clause-rises : goal.append-requires-clause-rises
-append-requires-clause-rises g c =
+append-requires-clause-rises c =
     ends_item c.loop-i.below c.in_use-pointers.result.now c.loop-i.i c.index-pointers-i.result c.loop-i.invariant.rises c.loop-i-test.true c.index-pointers-i.is
 
 pub loop-i-preserved : goal.loop-i-preserved
-loop-i-preserved g c =
+loop-i-preserved c =
     let taken : ℕ → Bool = λ i. is_in i c.args.cancelled in
     elim c.if-is_down.branch [
       | then-is_down w ↦
           rw (w.given-is, w.below-is, w.append.ensures)
           (record {
-            all = ups_pass g.T.FromMotion.of_motion c.loop-i.given.items c.args.device taken c.args.now.now c.loop-i.below c.in_use-pointers.result.now c.loop-i.i c.index-pointers-i.result c.loop-i-test.true c.index-pointers-i.is (sym c.is_down.ensures ∙ w.if-is_down.true) ∙ c.loop-i.invariant.all;
+            all = ups_pass (λ (m : Motion). MotionArgs m) c.loop-i.given.items c.args.device taken c.args.now.now c.loop-i.below c.in_use-pointers.result.now c.loop-i.i c.index-pointers-i.result c.loop-i-test.true c.index-pointers-i.is (sym c.is_down.ensures ∙ w.if-is_down.true) ∙ c.loop-i.invariant.all;
             room = subst (λ (xs : List Pointer). length xs ≤ 16) (sym (walk_push c.loop-i.below c.in_use-pointers.result.now c.loop-i.i c.index-pointers-i.result c.loop-i-test.true c.index-pointers-i.is)) c.loop-i.invariant.room;
             rises = subst Rises (sym (walk_push c.loop-i.below c.in_use-pointers.result.now c.loop-i.i c.index-pointers-i.result c.loop-i-test.true c.index-pointers-i.is)) c.loop-i.invariant.rises;
             few = omega (arith, c.loop-i.invariant.few);
@@ -35,9 +39,9 @@ loop-i-preserved g c =
           ∙ ap (λ ps. up c.args.device (taken c.index-pointers-i.result.id) (length c.loop-i.below) ps) (w.joined-all.ensures ∙ ap (λ ys. c.loop-i.below ++ ys) w.split_at.ensures.back) in
           rw (w.given-is, w.below-is)
           (record {
-            all = ap (λ ms. ms ++ map g.T.FromMotion.of_motion (ups c.args.device taken c.args.now.now c.loop-i.below (drop (c.loop-i.i + 1) c.in_use-pointers.result.now)))
-                (w.put.ensures.items ∙ ap (λ m. c.loop-i.given.items ++ g.T.FromMotion.of_motion m ∷ []) said)
-                ∙ ups_push g.T.FromMotion.of_motion c.loop-i.given.items c.args.device taken c.args.now.now c.loop-i.below c.in_use-pointers.result.now c.loop-i.i c.index-pointers-i.result c.loop-i-test.true c.index-pointers-i.is (sym c.is_down.ensures ∙ w.if-is_down.false)
+            all = ap (λ ms. ms ++ as_args (ups c.args.device taken c.args.now.now c.loop-i.below (drop (c.loop-i.i + 1) c.in_use-pointers.result.now)))
+                (w.put.ensures.items ∙ ap (λ m. c.loop-i.given.items ++ MotionArgs m ∷ []) said)
+                ∙ ups_push (λ (m : Motion). MotionArgs m) c.loop-i.given.items c.args.device taken c.args.now.now c.loop-i.below c.in_use-pointers.result.now c.loop-i.i c.index-pointers-i.result c.loop-i-test.true c.index-pointers-i.is (sym c.is_down.ensures ∙ w.if-is_down.false)
                 ∙ c.loop-i.invariant.all;
             room = room_skip c.loop-i.below c.in_use-pointers.result.now c.loop-i.i c.index-pointers-i.result c.loop-i-test.true c.index-pointers-i.is c.loop-i.invariant.room;
             rises = rises_skip c.loop-i.below c.in_use-pointers.result.now c.loop-i.i c.index-pointers-i.result c.loop-i-test.true c.index-pointers-i.is c.loop-i.invariant.rises;
@@ -47,8 +51,8 @@ loop-i-preserved g c =
     ]
 
 pub returns-clause-items : goal.returns-clause-items
-returns-clause-items g c =
-    let f = g.T.FromMotion.of_motion in
+returns-clause-items c =
+    let f : Motion → Args = λ m. MotionArgs m in
     let taken : ℕ → Bool = λ i. is_in i c.args.cancelled in
     sym (at_drop_all (λ xs. c.loop-i.given.items ++ map f (ups c.args.device taken c.args.now.now c.loop-i.below xs)) c.in_use-pointers.result.now c.loop-i.i c.loop-i-test.false
     ∙ append-nil c.loop-i.given.items)

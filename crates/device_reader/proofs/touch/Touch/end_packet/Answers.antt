@@ -1,66 +1,77 @@
--- The end of a packet adds its motions.
-use Rattle.std.specs.Prelude.{List, ◌∷◌, ◌++◌, map}
-use Rattle.std.proofs.Common.{sym, ◌∙◌, ap}
-use Rattle.bits32.specs.Set.{is_in}
-use Rattle.input_types.specs.declared.motion.Motion.{Motion}
+-- Where no tracking id was written and no contact is a palm, a packet is one Move of the fingers of the packet before.
+use Rattle.std.specs.Prelude.{◌≡◌, ℕ, Bool, List, ◌∷◌, ◌++◌, map}
+use Rattle.std.proofs.Common.{sym, ◌∙◌, ap, subst}
+use Rattle.raw_events.specs.declared.event.RawEvent.{RawEvent}
 use Rattle.input_types.specs.declared.message.Args.{Args}
-use Rattle.input_types.specs.declared.message.Args.TheVariants.{Motion as MotionArgs}
-use Rattle.slot_accumulator.specs.SlotContacts.{contacts_at}
-use Rattle.pointer_ids.specs.PointerIds.{assigned}
-use Rattle.touch_mapper.specs.Gesture.{gesture, placed_all}
+use Rattle.slot_accumulator.specs.declared.contacts.Contact.{Contact}
+use Rattle.slot_accumulator.specs.declared.slots.Row.{Row}
+use Rattle.slot_accumulator.specs.Table.{Table}
+use Rattle.slot_accumulator.specs.SlotContacts.{contacts_at, contacts_in, row_in}
+use Rattle.pointer_ids.specs.declared.assigned.Held.{Held}
+use Rattle.pointer_ids.specs.PointerIds.{named_after, assigned}
+use Rattle.pointer_ids.specs.Slots.{slot_of, is_written, contact_where, pointer_where, last_packet}
+use Rattle.touch_mapper.specs.Cooking.{Cooking}
+use Rattle.touch_mapper.specs.Gesture.{as_args, move_of, placed_all}
 use Rattle.touch_mapper.specs.GestureState.{GestureState}
-use Rattle.device_reader.proofs.All.{on_ok}
-use Rattle.device_reader.proofs.Packet.{touch_step, touch_stands, placed_last}
+use Rattle.device_reader.specs.Packets.{packets}
+use Rattle.device_reader.specs.Cooked.{TouchPlan, TouchStandsFor}
+use Rattle.device_reader.proofs.Still.{IsStill, is_still, pointers_now, still_args, packet_still}
 use Rattle.device_reader.proofs.touch.Touch.end_packet.Goals as goal
 
-pub returns-in-Some-clause-ok : goal.returns-in-Some-clause-ok
-returns-in-Some-clause-ok c = λ plan past h.
-    let before : GestureState = c.args.self.now.gestures in
-    let motions : List Args =
-    map (λ (m : Motion). MotionArgs m)
-    (gesture before.device (λ i. is_in i c.follow-2.new.pointers.cancelled) before.last (placed_all before.cook c.follow-2.new.pointers.pointers)) in
-    on_ok c.move_into.result
-    (λ q. touch_step plan past c.args.event.now c.args.args.now.items c.move_into.new.given.items c.args.self.now.ids c.follow.new.contacts c.follow-2.new.pointers before
-    c.requires
-    h.ids_are
-    (c.follow.ensures.events past h.slots_stand h.contacts_are ∙ ap (λ n. contacts_at n (c.args.event.now ∷ past)) h.slots_are)
-    (c.follow-2.ensures.pointers (h.pointers_are ∙ ap (λ ns. assigned ns) (sym h.ids_are))) c.follow-2.ensures.cancelled h.gestures_are
-    (q ∙ ap (λ xs. xs ++ motions) c.reserve.ensures.items))
-    (c.move_into.ensures.ok c.args.self.now.pointers.pointers (placed_last plan past c.args.self.now h) c.in-Some.ensures.moved)
+pub returns-then-palms-clause-after : goal.returns-then-palms-clause-after
+returns-then-palms-clause-after c = λ plan past h.
+    c.next_fingers.ensures.after plan past c.args.event.now c.requires (record {
+      slots_stand = c.end_packet-palms.ensures.state past c.args.event.now c.requires h.slots_stand;
+      slots_are = c.end_packet-palms.ensures.slots ∙ h.slots_are;
+      ids_are = h.packets_stand.ids_are;
+      gestures_are = h.packets_stand.gestures_are;
+    })
 
-pub returns-in-Some-clause-after : goal.returns-in-Some-clause-after
-returns-in-Some-clause-after c = λ plan past h.
-    on_ok c.move_into.result
-    (λ gestures. touch_stands plan past c.args.event.now c.args.self.now c.follow.new.self c.follow.new.contacts c.follow-2.new.self c.follow-2.new.pointers c.move_into.new.self
-    c.requires h
-    (c.follow.ensures.state past h.slots_stand) (c.follow.ensures.slots ∙ h.slots_are) (c.follow.ensures.contacts h.contacts_are)
-    (c.follow.ensures.events past h.slots_stand h.contacts_are ∙ ap (λ n. contacts_at n (c.args.event.now ∷ past)) h.slots_are)
-    c.follow-2.ensures.last
-    (c.follow-2.ensures.pointers (h.pointers_are ∙ ap (λ ns. assigned ns) (sym h.ids_are))) gestures)
-    (c.move_into.ensures.after c.args.self.now.pointers.pointers (placed_last plan past c.args.self.now h) c.in-Some.ensures.moved)
+here_still : (c : goal.After-put_move) (plan : TouchPlan) (past : List RawEvent) → TouchStandsFor plan past c.args.self.now
+    → IsStill (λ s. is_written c.args.self.now.written s) (row_in c.end_packet-palms.new.self.rows) (packets plan.slots past) (contacts_in c.end_packet-palms.new.self)
+here_still c plan past h =
+    is_still c.end_packet-palms.new.self (λ s. is_written c.args.self.now.written s) (packets plan.slots past) (c.end_packet-palms.ensures.none c.if-palms.false)
+    (subst
+    (λ (t : Table). contacts_in t ≡ map (λ (d : Contact). contact_where (λ s. is_written c.args.self.now.written s) (row_in t.rows) d) (last_packet (packets plan.slots past)))
+    (sym (c.end_packet-palms.ensures.same c.if-palms.false)) (h.packets_stand.contacts_are c.if-self.false))
 
-pub returns-in-None-clause-ok : goal.returns-in-None-clause-ok
-returns-in-None-clause-ok c = λ plan past h.
-    let before : GestureState = c.args.self.now.gestures in
-    let motions : List Args =
-    map (λ (m : Motion). MotionArgs m)
-    (gesture before.device (λ i. is_in i c.follow-2.new.pointers.cancelled) before.last (placed_all before.cook c.follow-2.new.pointers.pointers)) in
-    on_ok c.next_into.result
-    (λ q. touch_step plan past c.args.event.now c.args.args.now.items c.next_into.new.given.items c.args.self.now.ids c.follow.new.contacts c.follow-2.new.pointers before
-    c.requires
-    h.ids_are
-    (c.follow.ensures.events past h.slots_stand h.contacts_are ∙ ap (λ n. contacts_at n (c.args.event.now ∷ past)) h.slots_are)
-    (c.follow-2.ensures.pointers (h.pointers_are ∙ ap (λ ns. assigned ns) (sym h.ids_are))) c.follow-2.ensures.cancelled h.gestures_are
-    (q ∙ ap (λ xs. xs ++ motions) c.reserve.ensures.items))
-    c.next_into.ensures.ok
+here_contacts : (c : goal.After-put_move) (plan : TouchPlan) (past : List RawEvent) → TouchStandsFor plan past c.args.self.now
+    → contacts_in c.end_packet-palms.new.self ≡ contacts_at plan.slots (c.args.event.now ∷ past)
+here_contacts c plan past h =
+    c.end_packet-palms.ensures.contacts past c.args.event.now c.requires h.slots_stand ∙ ap (λ n. contacts_at n (c.args.event.now ∷ past)) h.slots_are
 
-pub returns-in-None-clause-after : goal.returns-in-None-clause-after
-returns-in-None-clause-after c = λ plan past h.
-    on_ok c.next_into.result
-    (λ gestures. touch_stands plan past c.args.event.now c.args.self.now c.follow.new.self c.follow.new.contacts c.follow-2.new.self c.follow-2.new.pointers c.next_into.new.self
-    c.requires h
-    (c.follow.ensures.state past h.slots_stand) (c.follow.ensures.slots ∙ h.slots_are) (c.follow.ensures.contacts h.contacts_are)
-    (c.follow.ensures.events past h.slots_stand h.contacts_are ∙ ap (λ n. contacts_at n (c.args.event.now ∷ past)) h.slots_are)
-    c.follow-2.ensures.last
-    (c.follow-2.ensures.pointers (h.pointers_are ∙ ap (λ ns. assigned ns) (sym h.ids_are))) gestures)
-    c.next_into.ensures.after
+here_moved : (c : goal.After-put_move) (plan : TouchPlan) (past : List RawEvent) → TouchStandsFor plan past c.args.self.now
+    → c.move_pointers.new.gestures
+    ≡ record { device = plan.device; cook = plan.cook; last = placed_all plan.cook (assigned (named_after (contacts_in c.end_packet-palms.new.self ∷ packets plan.slots past))) }
+here_moved c plan past h =
+    let before : List (List Contact) = packets plan.slots past in
+    let w : ℕ → Bool = λ s. is_written c.args.self.now.written s in
+    let rows : ℕ → Row = row_in c.end_packet-palms.new.self.rows in
+    let slot : Held → ℕ = λ q. slot_of q.id (named_after before) (last_packet before) in
+    let hs : List Held = assigned (named_after before) in
+    c.move_pointers.ensures hs slot
+    (ap (λ (g : GestureState). g.last) h.packets_stand.gestures_are
+    ∙ ap (λ (k : Cooking). placed_all k hs) (sym (ap (λ (g : GestureState). g.cook) h.packets_stand.gestures_are)))
+    h.packets_stand.fingers_are
+    ∙ ap (λ (g : GestureState). record { device = g.device; cook = g.cook; last = placed_all g.cook (map (λ q. pointer_where w rows (slot q) q) hs) }) h.packets_stand.gestures_are
+    ∙ ap (λ (qs : List Held). record { device = plan.device; cook = plan.cook; last = placed_all plan.cook qs })
+    (sym (pointers_now w rows before (contacts_in c.end_packet-palms.new.self) (here_still c plan past h)))
+
+pub returns-clause-ok : goal.returns-clause-ok
+returns-clause-ok c = λ plan past h.
+    let g : GestureState = c.move_pointers.new.gestures in
+    c.put_move.ensures
+    ∙ ap (λ (xs : List Args). xs ++ as_args (move_of g.device g.last)) c.reserve.ensures.items
+    ∙ ap (λ (xs : List Args). c.args.args.now.items ++ xs)
+    (still_args plan past c.args.event.now (λ s. is_written c.args.self.now.written s) (row_in c.end_packet-palms.new.self.rows) (contacts_in c.end_packet-palms.new.self) g
+    c.requires (here_contacts c plan past h) (here_still c plan past h) (here_moved c plan past h))
+
+pub returns-clause-after : goal.returns-clause-after
+returns-clause-after c = λ plan past h.
+    subst
+    (λ (written : ℕ). TouchStandsFor plan (c.args.event.now ∷ past)
+    (record { slots = c.end_packet-palms.new.self; written = written; anew = c.args.self.now.anew; ids = c.args.self.now.ids; fingers = c.args.self.now.fingers; gestures = c.move_pointers.new.gestures }))
+    (sym c.empty-self.ensures)
+    (packet_still plan past c.args.event.now c.args.self.now c.end_packet-palms.new.self c.move_pointers.new.gestures c.requires h
+    (c.end_packet-palms.ensures.state past c.args.event.now c.requires h.slots_stand) (c.end_packet-palms.ensures.slots ∙ h.slots_are)
+    (here_contacts c plan past h) (here_still c plan past h) (here_moved c plan past h))

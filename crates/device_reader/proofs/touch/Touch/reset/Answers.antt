@@ -1,8 +1,9 @@
 -- Without events no pointer is down.
 use Rattle.std.specs.Prelude.{[]}
-use Rattle.std.proofs.Common.{sym, ◌∙◌, ap}
-use Rattle.pointer_ids.specs.Assigned.{Assignment}
+use Rattle.std.proofs.Common.{sym, ◌∙◌, ap, subst, arith}
 use Rattle.pointer_ids.specs.PointerIds.{assigned}
+use Rattle.pointer_ids.specs.Slots.{SameFingers}
+use Rattle.pointer_ids.proofs.SameSlots.{same_refl}
 use Rattle.touch_mapper.specs.GestureState.{GestureState}
 use Rattle.device_reader.proofs.touch.Touch.reset.Goals as goal
 
@@ -11,8 +12,10 @@ unfolding assigned
 returns c = λ plan past h. record {
   slots_stand = c.reset.ensures.state;
   slots_are = c.reset.ensures.slots ∙ h.slots_are;
-  ids_are = c.reset-2.ensures;
-  contacts_are = c.empty-self.ensures ∙ sym c.reset.ensures.contacts;
-  pointers_are = ap (λ (a : Assignment). a.pointers) c.empty-self-2.ensures;
-  gestures_are = c.reset-3.ensures ∙ ap (λ (g : GestureState). record { device = g.device; cook = g.cook; last = [] }) h.gestures_are;
+  packets_stand = record {
+    ids_are = subst (λ ns. SameFingers c.reset-2.new.self ns) c.reset-2.ensures (same_refl c.reset-2.new.self);
+    fingers_are = λ i lt. absurd (omega (arith, lt));
+    gestures_are = c.reset-3.ensures ∙ ap (λ (g : GestureState). record { device = g.device; cook = g.cook; last = [] }) h.packets_stand.gestures_are;
+    contacts_are = λ _. c.reset.ensures.contacts;
+  };
 }
