@@ -105,9 +105,11 @@ impl Touch {
     #[inline(never)]
     fn next_fingers(&mut self, args: &mut Vec<Args>)
         requires { vec_len args.old + 33 ≤ vec_capacity args.old }
-        ensures given { (plan : TouchPlan) (past : List Event) (e : Event) → ends_packet e ≡ true → TouchEnds plan past e self.old
+        ensures given { (plan : TouchPlan) (past : List Event) (e : Event)
+            → ends_packet e ≡ true → TouchEnds plan past e self.old
             → args.new.items ≡ args.old.items ++ touch_args plan past e }
-        ensures after { (plan : TouchPlan) (past : List Event) (e : Event) → ends_packet e ≡ true → TouchEnds plan past e self.old
+        ensures after { (plan : TouchPlan) (past : List Event) (e : Event)
+            → ends_packet e ≡ true → TouchEnds plan past e self.old
             → TouchStandsFor plan (e ∷ past) self.new }
     {
         let contacts = self.slots.contacts();
@@ -162,7 +164,10 @@ fn move_pointer(gestures: &mut Gestures, i: usize, row: &Row)
       device = gestures.old.device;
       cook = gestures.old.cook;
       last = slice_set gestures.old.last i
-          (record { id = (get_or gestures.old.last i no_pointer).id; at = pixel gestures.old.cook row.now.x row.now.y });
+          (record {
+            id = (get_or gestures.old.last i no_pointer).id;
+            at = pixel gestures.old.cook row.now.x row.now.y;
+          });
     } }
 {
     gestures.move_to(i, row.x, row.y);

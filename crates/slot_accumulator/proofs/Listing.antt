@@ -2,11 +2,10 @@
 use Rattle.std.specs.Prelude.{◌≡◌, ◌≢◌, ℕ, zero, suc, ◌<◌, ◌≤◌, Bool, true, false, not, ◌||◌, ◌&&◌, ℤ, pos, negsuc, nat_eq, ◌≤ℤ◌, List, [], ◌∷◌, ◌++◌, length, take, if◌then◌else◌, int_le}
 use Rattle.std.specs.List.{list_any}
 use Rattle.std.specs.Ordering.{int_eq}
-use Rattle.std.proofs.Common.{sym, ◌∙◌, ap, refl, arith, length-append, take-suc, get_or-take, length-take-le}
+use Rattle.std.proofs.Common.{sym, ◌∙◌, ap, refl, arith, rules, length-append, take-suc, get_or-take, length-take-le}
 use Rattle.std.proofs.lemmas.List.Folds.{list_any-append}
 use Rattle.std.proofs.lemmas.Bool.{eqb-true}
 use Rattle.std.proofs.lemmas.Bool.Decides.{Decides-int_eq}
-use Rattle.std.proofs.Common.{rules}
 use Rattle.slot_accumulator.specs.declared.contacts.Contact.{Contact}
 use Rattle.slot_accumulator.specs.declared.slots.Row.{Row}
 use Rattle.slot_accumulator.specs.Contacts.{IsBefore, IsBeforeAll, AreContacts, Joins, has_tracking}

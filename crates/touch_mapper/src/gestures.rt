@@ -88,7 +88,8 @@ impl Gestures {
         ensures { self.new ≡ record {
           device = self.old.device;
           cook = self.old.cook;
-          last = slice_set self.old.last i (record { id = (get_or self.old.last i unused).id; at = pixel self.old.cook x y });
+          last = slice_set self.old.last i
+              (record { id = (get_or self.old.last i unused).id; at = pixel self.old.cook x y });
         } }
     {
         self.last.move_to(i, self.cook.pixel(x, y));
