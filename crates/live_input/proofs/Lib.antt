@@ -6,7 +6,7 @@ pub mod Fewer
 pub mod Silence
 pub mod Unsent
 pub mod Tenants
-pub mod Releasing
+pub mod Released
 pub mod Stepping
 pub mod Opened
 pub mod Outgoing

@@ -2,7 +2,7 @@
 use Rattle.std.proofs.Common.{◌≡◌, Some, sym, ◌∙◌, subst}
 use Rattle.dispatcher.proofs.Standing.{after_of}
 use Rattle.live_input.specs.Releases.{IsLiveChannel, receives_from}
-use Rattle.live_input.proofs.Releasing.{release_all, anrs_go, no_tick, received_go}
+use Rattle.live_input.proofs.Released.{release_all, anrs_go, no_tick, received_go}
 use Rattle.live_input.proofs.releasing.release_after.Goals as goal
 
 pub returns-in-Some-clause-all : goal.returns-in-Some-clause-all

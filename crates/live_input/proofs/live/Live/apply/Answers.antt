@@ -3,7 +3,7 @@ use Rattle.std.proofs.Common.{sym, ap, ◌∙◌, subst}
 use Rattle.dispatch_history.specs.Legal.{answered}
 use Rattle.live_input.specs.Standing.{IsOfHeld, LiveIs}
 use Rattle.live_input.specs.State.{LiveState}
-use Rattle.live_input.proofs.Releasing.{from_live, release_but}
+use Rattle.live_input.proofs.Released.{from_live, release_but}
 use Rattle.live_input.proofs.Stepping.{plain_goes, stands_more}
 use Rattle.live_input.proofs.live.Live.apply.Goals as goal
 

@@ -9,7 +9,7 @@ use Rattle.live_input.specs.Opening.{opening}
 use Rattle.live_input.specs.Standing.{LiveIs}
 use Rattle.live_input.specs.State.{LiveState}
 use Rattle.live_input.proofs.Opened.{opening_new, opening_old, opening_live, opened_at}
-use Rattle.live_input.proofs.Releasing.{release_same}
+use Rattle.live_input.proofs.Released.{release_same}
 use Rattle.live_input.proofs.Stepping.{open_goes}
 use Rattle.live_input.proofs.live.Live.open_channel.Goals as goal
 

@@ -3,7 +3,7 @@ use Rattle.std.proofs.Common.{refl, sym, ap, ◌∙◌, subst, arith}
 use Rattle.dispatch_calls.specs.declared.call.Call.TheVariants.{FocusOn}
 use Rattle.live_input.specs.Standing.{IsOfSome, LiveIs}
 use Rattle.live_input.specs.State.{LiveState}
-use Rattle.live_input.proofs.Releasing.{release_same}
+use Rattle.live_input.proofs.Released.{release_same}
 use Rattle.live_input.proofs.Stepping.{request_goes_at}
 use Rattle.live_input.proofs.live.Live.request.Goals as goal
 

@@ -4,7 +4,7 @@ use Rattle.dispatch_calls.specs.declared.call.Call.TheVariants.{Windows}
 use Rattle.dispatch_history.specs.History.{windows_after}
 use Rattle.live_input.specs.Standing.{AreOfHeld, LiveIs}
 use Rattle.live_input.specs.State.{LiveState}
-use Rattle.live_input.proofs.Releasing.{release_same}
+use Rattle.live_input.proofs.Released.{release_same}
 use Rattle.live_input.proofs.Stepping.{windows_go}
 use Rattle.live_input.proofs.live.Live.show.Goals as goal
 
