@@ -1,6 +1,5 @@
 -- The contacts of slots of which one has another position.
-use Rattle.std.specs.Prelude.{◌≡◌, ◌≢◌, ℕ, zero, suc, ◌<◌, ◌≤◌, Bool, true, false, not, ◌&&◌, ℤ, pos, nat_eq, List, [], ◌∷◌, ◌++◌, length, map, set, get_or, ◌⊎◌, if◌then◌else◌, int_le}
-use Rattle.std.specs.List.{list_any}
+use Rattle.std.specs.Prelude.{◌≡◌, ◌≢◌, ℕ, zero, suc, ◌<◌, ◌≤◌, Bool, true, false, not, ◌&&◌, ℤ, pos, nat_eq, List, [], ◌∷◌, ◌++◌, length, map, set, ◌⊎◌, if◌then◌else◌, int_le}
 use Rattle.std.proofs.Common.{sym, ◌∙◌, ap, refl, arith, eq-eqb, ne_eqb, inl, inr, get_or-set_same, get_or-set_other}
 use Rattle.std.proofs.lemmas.Bool.{cases_eq}
 use Rattle.std.proofs.lemmas.List.{map-append}
@@ -14,7 +13,7 @@ use Rattle.slot_accumulator.specs.SlotValues.{row_after}
 use Rattle.slot_accumulator.specs.SlotContacts.{contacts_in, contacts_at, is_palm, SlotsStandFor}
 use Rattle.slot_accumulator.specs.SlotValues.{row}
 use Rattle.slot_accumulator.specs.Table.{Table, is_kept}
-use Rattle.slot_accumulator.proofs.Listing.{or_left, or_right, contacts_same}
+use Rattle.slot_accumulator.proofs.Listing.{contacts_same}
 use Rattle.raw_events.specs.declared.event.RawEvent.{RawEvent}
 
 other_stays : (c : Contact) (slot : ℕ) (x y : ℤ) → nat_eq c.slot slot ≡ false → put_at slot x y c ≡ c

@@ -1,6 +1,5 @@
 -- What an event that ends no packet changes among the contacts.
-use Rattle.std.specs.Prelude.{◌≡◌, ◌≢◌, ℕ, ◌<◌, List, map}
-use Rattle.slot_accumulator.specs.declared.contacts.Contact.{Contact}
+use Rattle.std.specs.Prelude.{◌≡◌, ◌≢◌, ℕ, ◌<◌, map}
 use Rattle.slot_accumulator.specs.declared.change.Change.{Change}
 use Rattle.slot_accumulator.specs.declared.change.Change.TheVariants.{Nothing, Position, Contacts}
 use Rattle.slot_accumulator.specs.Contacts.{put_at}

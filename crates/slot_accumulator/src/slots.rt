@@ -134,6 +134,17 @@ impl Slots {
             return Change::Nothing;
         }
         if let Some(at) = place(self.current) {
+            // Most events are positions, which say nothing of palms.
+            if event.code == ABS_MT_POSITION_X {
+                let row = with_x(&self.rows[at], event);
+                self.rows[at] = row;
+                return Change::Position(at as u8);
+            }
+            if event.code == ABS_MT_POSITION_Y {
+                let row = with_y(&self.rows[at], event);
+                self.rows[at] = row;
+                return Change::Position(at as u8);
+            }
             let row = written(&self.rows[at], event);
             self.rows[at] = row;
             self.palm_tool = tool_after(event.code, self.palm_tool, &self.rows);
@@ -208,6 +219,28 @@ fn place(slot: i32) -> Option<usize>
         }
     }
     None
+}
+
+/// A slot after an ABS_MT_POSITION_X was written to it.
+#[inline(always)]
+fn with_x(row: &Row, event: &RawEvent) -> Row
+    requires { event.now.code ≡ 53 }
+    ensures { result ≡ row_after event.now.code event.now.value row.now }
+{
+    let mut after = *row;
+    after.x = event.value;
+    after
+}
+
+/// A slot after an ABS_MT_POSITION_Y was written to it.
+#[inline(always)]
+fn with_y(row: &Row, event: &RawEvent) -> Row
+    requires { event.now.code ≡ 54 }
+    ensures { result ≡ row_after event.now.code event.now.value row.now }
+{
+    let mut after = *row;
+    after.y = event.value;
+    after
 }
 
 /// A slot after an EV_ABS event was written to it.
