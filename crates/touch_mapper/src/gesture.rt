@@ -113,10 +113,7 @@ fn put(given: &mut Vec<Args>, motion: Motion)
     ensures len { vec_len given.new ≡ vec_len given.old + 1 }
     ensures room { vec_capacity given.old ≤ vec_capacity given.new }
 {
-    match given.push(Args::Motion(motion)) {
-        Ok(()) => {}
-        Err(_) => unreachable!(),
-    }
+    given.push_reserved(Args::Motion(motion));
 }
 
 /// Whether a pointer that goes up is cancelled.
