@@ -46,7 +46,7 @@ fn reader_of(
         } => {
             let on = display_at(displays, *display);
             let cook = Cook::new(*x, *y, on.width, on.height, on.rotation).unwrap();
-            Ok(DeviceReader::touch(alloc, number, *slots, cook))
+            Ok(DeviceReader::touch(number, *slots, cook))
         }
         DeviceKind::Keys { layout } => Ok(DeviceReader::keys(alloc, number, layout.clone()?)),
     }

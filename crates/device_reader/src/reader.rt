@@ -27,7 +27,6 @@ enum Kind {
 /// The reader of one device, with touch or with keys.
 #[derive(Drop)]
 pub struct DeviceReader {
-    alloc: Global,
     device: DeviceId,
     void: bool,
     kind: Kind,
@@ -46,7 +45,7 @@ impl DeviceReader {
     ///
     /// Whatever the device sends, all that it gives keeps the rule for devices, and the ids that are down by that rule
     /// are those of its last packet since the last SYN_DROPPED.
-    pub fn touch(alloc: Global, device: DeviceId, slots: u8, cook: Cook) -> DeviceReader
+    pub fn touch(device: DeviceId, slots: u8, cook: Cook) -> DeviceReader
         requires { (1 ≤ slots) × (slots ≤ 16) }
         ensures state { DeviceStandsFor (Touches (record { device = device; slots = slots; cook = cook })) [] result }
         ensures device { result.device ≡ device }
@@ -54,7 +53,6 @@ impl DeviceReader {
             → KeepsRule (Touches (record { device = device; slots = slots; cook = cook })) past }
     {
         DeviceReader {
-            alloc,
             device,
             void: false,
             kind: Kind::Touch(Touch::new(device, slots, cook)),
@@ -72,7 +70,6 @@ impl DeviceReader {
         ensures rule { (past : List Event) → KeepsRule (KeysDevice (record { device = device; layout = layout })) past }
     {
         DeviceReader {
-            alloc,
             device,
             void: false,
             kind: Kind::Keys(Keys::new(alloc, device, layout)),
@@ -89,6 +86,7 @@ impl DeviceReader {
     ///
     /// Only the end of a packet, a key and a SYN_DROPPED ask for memory, and for none where `args` has room for the
     /// motions of a packet, which are at most `Gestures::MOST`, but for that of a key that goes down.
+    #[inline(always)]
     pub fn take(&mut self, event: &RawEvent, args: &mut Vec<Args>) -> Result<(), AllocError>
         requires { event.now.device ≡ self.old.device }
         ensures ok { (plan : DevicePlan) (past : List Event) → DeviceStandsFor plan past self.old
@@ -111,23 +109,10 @@ impl DeviceReader {
         }
         take_by_kind(&mut self.kind, event, args)
     }
-
-    /// Does what `take` does with an event of its own.
-    pub fn take_into(&mut self, event: RawEvent, args: &mut Vec<Args>) -> Result<(), AllocError>
-        requires { event.device ≡ self.old.device }
-        ensures ok { (plan : DevicePlan) (past : List Event) → DeviceStandsFor plan past self.old
-            → OnOk result (args.new.items ≡ args.old.items ++ args_of plan past event) }
-        ensures after { (plan : DevicePlan) (past : List Event) → DeviceStandsFor plan past self.old
-            → OnOk result (DeviceStandsFor plan (event ∷ past) self.new) }
-        ensures device { self.new.device ≡ self.old.device }
-        ensures err { OnErr result (self.new ≡ self.old) }
-        ensures given { OnErr result (args.new.items ≡ args.old.items) }
-    {
-        self.take(&event, args)
-    }
 }
 
 /// Takes an event that is neither void nor a drop, and adds what it gives.
+#[inline(always)]
 fn take_by_kind(kind: &mut Kind, event: &RawEvent, args: &mut Vec<Args>) -> Result<(), AllocError>
     ensures ok { (plan : DevicePlan) (past : List Event) → KindStandsFor plan past kind.old
         → OnOk result (args.new.items ≡ args.old.items ++ kind_args plan past event.now) }
@@ -143,6 +128,7 @@ fn take_by_kind(kind: &mut Kind, event: &RawEvent, args: &mut Vec<Args>) -> Resu
 }
 
 /// Takes an event of a device with keys, and adds the key that it moves.
+#[inline(always)]
 fn take_key(keys: &mut Keys, event: &RawEvent, args: &mut Vec<Args>) -> Result<(), AllocError>
     ensures ok { (plan : KeysPlan) (past : List Event) → HeldStandsFor plan past keys.old
         → OnOk result (args.new.items ≡ args.old.items ++ key_args plan past event.now) }
@@ -180,6 +166,7 @@ fn move_key(keys: &mut Keys, event: RawEvent, args: &mut Vec<Args>) -> Result<()
 }
 
 /// Forgets all that is down.
+#[inline(never)]
 fn reset(kind: &mut Kind)
     ensures { (plan : DevicePlan) (past : List Event) → KindStandsFor plan past kind.old
         → KindStandsFor plan [] kind.new }

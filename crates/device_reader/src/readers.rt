@@ -73,6 +73,7 @@ impl Readers {
 }
 
 /// Takes an event by the reader of its device, and adds what it gives.
+#[inline(always)]
 fn take_any(
     readers: &mut [DeviceReader],
     event: &RawEvent,

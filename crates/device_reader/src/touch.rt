@@ -50,6 +50,7 @@ impl Touch {
     }
 
     /// Takes the next event, and adds the motions of the packet that it ends.
+    #[inline(always)]
     pub fn take(&mut self, event: &RawEvent, args: &mut Vec<Args>) -> Result<(), AllocError>
         ensures ok { (plan : TouchPlan) (past : List Event) → TouchStandsFor plan past self.old
             → OnOk result (args.new.items ≡ args.old.items ++ touch_args plan past event.now) }

@@ -72,13 +72,13 @@ impl DeviceTable {
 
     /// A touch device with so many slots, whose positions become pixels by `cook`, is plugged in with this number. The
     /// one that had it is gone.
-    pub fn add_touch(&mut self, alloc: Global, device: DeviceId, slots: u8, cook: Cook)
+    pub fn add_touch(&mut self, device: DeviceId, slots: u8, cook: Cook)
         requires { (1 ≤ slots) × (slots ≤ 16) }
         ensures reader { StandsAt (Touches (record { device = device; slots = slots; cook = cook })) []
             device self.new }
         ensures others { (d : ℕ) → 1 ≤ d → (d == device) ≡ false → reader_of self.new d ≡ reader_of self.old d }
     {
-        self.readers[row(device)] = Some(DeviceReader::touch(alloc, device, slots, cook));
+        self.readers[row(device)] = Some(DeviceReader::touch(device, slots, cook));
     }
 
     /// A device with keys, whose layout says which key code each scan code has, is plugged in with this number. The one
@@ -110,7 +110,7 @@ impl DeviceTable {
         ensures given { OnErr result (args.new.items ≡ args.old.items) }
     {
         match &mut self.readers[row(event.device)] {
-            Some(reader) => reader.take_into(event, args),
+            Some(reader) => reader.take(&event, args),
             None => Ok(()),
         }
     }

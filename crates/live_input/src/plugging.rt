@@ -41,7 +41,7 @@ impl Live {
         let Some(device) = self.devices.first_free(self.dispatcher.displays(), display) else {
             return Err(AddRefused::TooMany);
         };
-        self.devices.add_touch(self.alloc, device, slots, cook);
+        self.devices.add_touch(device, slots, cook);
         Ok(device)
     }
 

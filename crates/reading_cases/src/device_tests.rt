@@ -30,7 +30,7 @@ fn display() -> Option<Cook> {
 fn phone(alloc: Global, device: DeviceId) -> Option<DeviceReader>
     ensures { IfSome result (λ r. r.device ≡ device) }
 {
-    Some(DeviceReader::touch(alloc, device, 10, display()?))
+    Some(DeviceReader::touch(device, 10, display()?))
 }
 
 /// An event at a moment in microseconds, of a type, a code and a value.
