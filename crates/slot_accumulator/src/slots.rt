@@ -1,6 +1,6 @@
 //! The slots of a device.
 ghost use Rattle.std.specs.Prelude.{◌≡◌, ℕ, ◌<◌, ◌≤◌, List, [], ◌∷◌, MatchOption, ℤ, pos, true, false, not, ◌&&◌};
-ghost use Rattle.std.specs.Prelude.{◌||◌, int_le};
+ghost use Rattle.std.specs.Prelude.{◌||◌, int_le, nat_eq};
 ghost use Rattle.raw_events.specs.declared.event.RawEvent.{RawEvent as Event};
 ghost use Rattle.slot_accumulator.specs.SlotValues.{row_after, is_slot};
 ghost use Rattle.slot_accumulator.specs.Changes.{Changes};
@@ -243,15 +243,15 @@ fn with_y(row: &Row, event: &RawEvent) -> Row
     after
 }
 
-/// A slot after an EV_ABS event was written to it.
+/// A slot after an EV_ABS event was written to it that is no position.
 fn written(row: &Row, event: &RawEvent) -> Row
+    requires x { nat_eq event.now.code 53 ≡ false }
+    requires y { nat_eq event.now.code 54 ≡ false }
     ensures { result ≡ row_after event.now.code event.now.value row.now }
 {
     let mut after = *row;
     match event.code {
         ABS_MT_TRACKING_ID => after.tracking = event.value,
-        ABS_MT_POSITION_X => after.x = event.value,
-        ABS_MT_POSITION_Y => after.y = event.value,
         ABS_MT_TOOL_TYPE => after.tool = event.value,
         _ => {}
     }
