@@ -18,6 +18,7 @@ ghost use Rattle.live_input.specs.Standing.{LiveIs, IsLive};
 use crate::client::{Client, Seat, client_of, is_open, occupy, seat_of, vacate};
 use crate::live::Live;
 use crate::refused::{CloseRefused, OpenRefused};
+use dispatch_calls::Call;
 use dispatcher::Dispatcher;
 use input_types::Moment;
 use std::alloc::AllocError;
@@ -85,7 +86,7 @@ impl Live {
         ensures err { OnErr result (self.new ≡ self.old) }
     {
         if self.dispatcher.opened() < channel {
-            match self.dispatcher.open(self.limit) {
+            match self.dispatcher.apply(&Call::Open { limit: self.limit }) {
                 Ok(_) => Ok(sent(&self.dispatcher, channel)),
                 Err(error) => Err(error),
             }

@@ -21,8 +21,8 @@ returns-in-Ok-clause-after c = λ ds es h next.
     let lt : opened (past_of es) < c.args.channel = omega (arith, c.if-opened-channel.true, count) in
     let to = next.to in
     let few : opened (past_of es) < 64 = omega (arith, lt, to) in
-    let release = release_same ds es (Open c.self.inside.limit) c.self.inside.dispatcher c.open.new.self refl refl before.release c.in-Ok.ensures.ok.goes.gone_are c.in-Ok.ensures.ok.goes.anrs_are in
-    let x = open_goes ds es _ before c.open.new.self c.in-Ok.ensures.ok.goes.displays_are c.self.inside.limit c.in-Ok.field-0 few (stands_with _ _ _ _ c.in-Ok.ensures.ok es before.stands) release in
+    let release = release_same ds es (Open c.self.inside.limit) c.self.inside.dispatcher c.apply.new.self refl refl before.release c.in-Ok.ensures.ok.goes.gone_are c.in-Ok.ensures.ok.goes.anrs_are in
+    let x = open_goes ds es _ before c.apply.new.self c.in-Ok.ensures.ok.goes.displays_are c.self.inside.limit c.in-Ok.field-0 few (stands_with _ _ _ _ c.in-Ok.ensures.ok es before.stands) release in
     opening_live ds c.self.inside.limit c.args.self.now.limit c.args.channel es _ (ap (λ (s : LiveState). s.limit) c.self.view_is) lt x.1
 
 pub returns-in-Ok-clause-sent : goal.returns-in-Ok-clause-sent
@@ -32,13 +32,13 @@ returns-in-Ok-clause-sent c = λ ds es h next.
     let lt : opened (past_of es) < c.args.channel = omega (arith, c.if-opened-channel.true, count) in
     let to = next.to in
     let few : opened (past_of es) < 64 = omega (arith, lt, to) in
-    let release = release_same ds es (Open c.self.inside.limit) c.self.inside.dispatcher c.open.new.self refl refl before.release c.in-Ok.ensures.ok.goes.gone_are c.in-Ok.ensures.ok.goes.anrs_are in
-    let x = open_goes ds es _ before c.open.new.self c.in-Ok.ensures.ok.goes.displays_are c.self.inside.limit c.in-Ok.field-0 few (stands_with _ _ _ _ c.in-Ok.ensures.ok es before.stands) release in
+    let release = release_same ds es (Open c.self.inside.limit) c.self.inside.dispatcher c.apply.new.self refl refl before.release c.in-Ok.ensures.ok.goes.gone_are c.in-Ok.ensures.ok.goes.anrs_are in
+    let x = open_goes ds es _ before c.apply.new.self c.in-Ok.ensures.ok.goes.displays_are c.self.inside.limit c.in-Ok.field-0 few (stands_with _ _ _ _ c.in-Ok.ensures.ok es before.stands) release in
     let more = next.next in
     let grown = x.0 in
     let fs = answered ds (Open c.self.inside.limit) es in
     let high : c.args.channel ≤ opened (past_of fs) = omega (arith, more, grown) in
-    c.sent.ensures fs (after_of fs c.open.new.self (x.1).stands) (opened_at fs c.args.channel next.from high)
+    c.sent.ensures fs (after_of fs c.apply.new.self (x.1).stands) (opened_at fs c.args.channel next.from high)
     ∙ ap (λ gs. length (stream gs c.args.channel))
     (opening_new ds c.self.inside.limit c.args.channel es lt ∙ ap (λ (s : LiveState). opening ds s.limit c.args.channel es) c.self.view_is)
 
@@ -49,8 +49,8 @@ returns-in-Ok-clause-opened c = λ ds es h next.
     let lt : opened (past_of es) < c.args.channel = omega (arith, c.if-opened-channel.true, count) in
     let to = next.to in
     let few : opened (past_of es) < 64 = omega (arith, lt, to) in
-    let release = release_same ds es (Open c.self.inside.limit) c.self.inside.dispatcher c.open.new.self refl refl before.release c.in-Ok.ensures.ok.goes.gone_are c.in-Ok.ensures.ok.goes.anrs_are in
-    let x = open_goes ds es _ before c.open.new.self c.in-Ok.ensures.ok.goes.displays_are c.self.inside.limit c.in-Ok.field-0 few (stands_with _ _ _ _ c.in-Ok.ensures.ok es before.stands) release in
+    let release = release_same ds es (Open c.self.inside.limit) c.self.inside.dispatcher c.apply.new.self refl refl before.release c.in-Ok.ensures.ok.goes.gone_are c.in-Ok.ensures.ok.goes.anrs_are in
+    let x = open_goes ds es _ before c.apply.new.self c.in-Ok.ensures.ok.goes.displays_are c.self.inside.limit c.in-Ok.field-0 few (stands_with _ _ _ _ c.in-Ok.ensures.ok es before.stands) release in
     let more = next.next in
     let grown = x.0 in
     let high : c.args.channel ≤ opened (past_of (answered ds (Open c.self.inside.limit) es)) = omega (arith, more, grown) in
