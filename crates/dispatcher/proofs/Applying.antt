@@ -1,24 +1,20 @@
--- A dispatcher after a call.
-use Rattle.std.proofs.Common.{◌≡◌, ◌+◌, ◌≤◌, ℕ, List, Result, Ok, Err, IfOk, OnOk, OnErr, sym, ap, subst, arith}
+-- What contracts see of the tables.
+use Rattle.std.proofs.Common.{◌≡◌, ◌+◌, ◌≤◌, ℕ, List, Result, Ok, Err, OnOk, OnErr, sym, ap, subst}
 use Rattle.dispatch_calls.specs.declared.call.Call.{Call}
 use Rattle.dispatch_calls.specs.declared.call.Call.TheVariants.{Open, Windows, FocusOn, Notify, Pump, Tick, Receive, Finish, Pilfer, Remove}
-use Rattle.dispatch_calls.specs.declared.reply.Reply.{Reply}
 use Rattle.dispatch_channels.specs.Table.{but_for_room}
 use Rattle.dispatch_history.specs.Effect.{Effect, past_of}
 use Rattle.dispatch_history.specs.History.{received}
 use Rattle.dispatch_tables.proofs.Ables.{live_number}
-use Rattle.dispatch_history.specs.Effects.{step}
 use Rattle.dispatcher.specs.declared.tables.Tables.{Tables}
-use Rattle.dispatcher.specs.Dispatching.{Dispatching, IsOfHistory}
+use Rattle.dispatcher.specs.Dispatching.{Dispatching}
 use Rattle.dispatcher.specs.Dispatching.{IsAfter, StandsFor, with_room, with_args_room}
-use Rattle.dispatcher.specs.Queueing.{args_in}
 use Rattle.dispatcher.specs.Queueing.{with_room as queue_with_room, with_args_room as queue_with_args_room}
 use Rattle.dispatcher.specs.Queue.{Queue}
 use Rattle.dispatcher.specs.Roomy.{KeepsPromise}
-use Rattle.dispatcher.specs.Tables.{TablesStandFor, GoesOnSomehow, Answers, SameAll, SameButRoom, kept}
+use Rattle.dispatcher.specs.Tables.{TablesStandFor, SameAll, SameButRoom, kept}
 use Rattle.dispatcher.specs.Replying.{MayHand}
 use Rattle.dispatcher.proofs.Rooms.{stands_raw, stands_bare, channel_bare}
-use Rattle.dispatcher.proofs.Standing.{after_of}
 
 -- what contracts see of the tables
 abbrev pub seen : Tables → Dispatching
@@ -41,7 +37,8 @@ pub bare : (es : List Effect) (t : Tables) → TablesStandFor es t → IsAfter e
 bare es t s =
     stands_bare t.routing.displays es t.queueing t.routing.shown t.routing.touches t.routing.channels t.routing.focus t.routing.repeat s
 
-seen_same : (old new : Tables) → SameAll old new → seen new ≡ seen old
+-- without memory nothing changed but the room
+pub seen_same : (old new : Tables) → SameAll old new → seen new ≡ seen old
 seen_same old new h =
     λ i.
     record {
@@ -53,35 +50,6 @@ seen_same old new h =
       focus = (h.routing_is.0 i).focus;
       repeat = (h.routing_is.0 i).repeat;
     }
-
--- whatever the answer is
-pub answers_somehow : {E : Type 0} (call : Call) (r : Result Reply E) (old new : Tables)
-    → IfOk r (λ answer. Answers call answer old new) → OnOk r (GoesOnSomehow call old new)
-answers_somehow call (Ok answer) old new ok = ok.somehow
-answers_somehow call (Err e) old new ok = tt
-
--- it is as after some history
-pub history_after : {A E : Type 0} (call : Call) (r : Result A E) (old new : Tables)
-    → OnOk r (GoesOnSomehow call old new) → OnErr r (SameAll old new) → IsOfHistory (seen old) → IsOfHistory (seen new)
-history_after call (Ok a) old new ok err h =
-    let on = ok.after h.0 (raw h.0 old h.1) in
-    (step old.routing.displays call on.0 h.0, bare (step old.routing.displays call on.0 h.0) new on.1)
-history_after call (Err e) old new ok err h = subst IsOfHistory (sym (seen_same old new err)) h
-
--- no display changes
-pub answered_displays : {A E : Type 0} (call : Call) (r : Result A E) (old new : Tables)
-    → OnOk r (GoesOnSomehow call old new) → OnErr r (SameAll old new) → (seen new).displays ≡ (seen old).displays
-answered_displays call (Ok a) old new ok err = ok.displays_are
-answered_displays call (Err e) old new ok err = ap (λ d. d.displays) (seen_same old new err)
-
--- whatever it was after, it is after that with one step more
-pub stands_somehow : {A E : Type 0} (call : Call) (r : Result A E) (old new : Tables) (now : Dispatching) → seen old ≡ now
-    → OnOk r (GoesOnSomehow call old new) → (es : List Effect) → IsAfter es now
-    → OnOk r ((answer : Reply) × IsAfter (step now.displays call answer es) (seen new))
-stands_somehow call (Err e) old new now is ok es s = tt
-stands_somehow call (Ok a) old new now is ok es s =
-    let on = ok.after es (raw es old (subst (IsAfter es) (sym is) s)) in
-    (on.0, subst (λ d. IsAfter (step d.displays call on.0 es) (seen new)) is (bare (step old.routing.displays call on.0 es) new on.1))
 
 -- of what stands for a history no message was let go that is to be handed out
 pub may_hand : (es : List Effect) (t : Tables) (call : Call) → StandsFor es (seen t) → MayHand es (kept t.queueing t.routing) call
@@ -97,24 +65,6 @@ may_hand es t (Tick now) s = tt
 may_hand es t (Finish now c seq) s = tt
 may_hand es t (Pilfer now c d) s = tt
 may_hand es t (Remove now c) s = tt
-
--- with the answer, where it stood for a history
-pub answered_after : {E : Type 0} (call : Call) (r : Result Reply E) (old new : Tables) (now : Dispatching) → seen old ≡ now
-    → IfOk r (λ answer. Answers call answer old new) → (es : List Effect) → StandsFor es now
-    → IfOk r (λ answer. IsAfter (step now.displays call answer es) (seen new))
-answered_after call (Err e) old new now is ok es s = tt
-answered_after call (Ok answer) old new now is ok es s =
-    let stands : StandsFor es (seen old) = subst (StandsFor es) (sym is) s in
-    subst (λ d. IsAfter (step d.displays call answer es) (seen new)) is
-    (bare (step old.routing.displays call answer es) new
-    (ok.after es (raw es old (after_of es (seen old) stands)) (may_hand es old call stands)))
-
--- only args that are handed in take of the room for args
-pub room_left : {A E : Type 0} (call : Call) (r : Result A E) (old new : Tables) (now : Dispatching) → seen old ≡ now
-    → OnOk r (GoesOnSomehow call old new) → OnErr r (SameAll old new) → now.queue.spare ≤ (seen new).queue.spare + args_in call
-room_left call (Ok a) old new now is ok err = subst (λ d. d.queue.spare ≤ new.queueing.spare + args_in call) is ok.room_is
-room_left call (Err e) old new now is ok err =
-    omega (arith, ap (λ q. q.spare) err.queueing_is, ap (λ d. d.queue.spare) is)
 
 -- what stands for a history stands for it with more room for args
 pub roomier : (es : List Effect) (d : Dispatching) (n : ℕ) → IsAfter es d → IsAfter es (with_room n d)

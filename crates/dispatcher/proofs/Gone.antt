@@ -5,7 +5,7 @@ use Rattle.dispatch_calls.specs.declared.call.Call.{Call}
 use Rattle.dispatch_channels.specs.Table.{Table, channel_of, with_channel, but_for_room}
 use Rattle.dispatch_channels.specs.Changes.{Opens, new_channel, finished_at, finished_in, named_in}
 use Rattle.dispatcher.specs.declared.tables.Tables.{Tables}
-use Rattle.dispatcher.specs.Tables.{LetsNoneGo, GoesOnSomehow, SameAll}
+use Rattle.dispatcher.specs.Tables.{LetsNoneGo}
 use Rattle.dispatcher.proofs.Rooms.{channel_bare}
 
 -- where nothing changes
@@ -77,18 +77,3 @@ named_gone mask clock t u h = record { of_channels = h.of_channels; of_anrs = h.
 pub both_gone : (t u v : Table) → LetsNoneGo t u → LetsNoneGo u v → LetsNoneGo t v
 both_gone t u v h k =
     record { of_channels = λ c low. k.of_channels c low ∙ h.of_channels c low; of_anrs = k.of_anrs ∙ h.of_anrs }
-
--- whatever is answered
-pub answered_gone : {A E : Type 0} (call : Call) (r : Result A E) (old new : Tables)
-    → OnOk r (GoesOnSomehow call old new) → OnErr r (SameAll old new)
-    → LetsNoneGo (but_for_room old.routing.channels) (but_for_room new.routing.channels)
-answered_gone call (Ok a) old new ok err =
-    record {
-      of_channels = λ c low.
-          ap (λ s. s.gone) (channel_bare new.routing.channels c)
-          ∙ ok.gone_are.of_channels c low
-          ∙ sym (ap (λ s. s.gone) (channel_bare old.routing.channels c));
-      of_anrs = ok.gone_are.of_anrs;
-    }
-answered_gone call (Err e) old new ok err =
-    record { of_channels = λ c low. ap (λ r. (channel_of r.channels c).gone) err.routing_is.0; of_anrs = ap (λ r. r.channels.anrs.gone) err.routing_is.0 }

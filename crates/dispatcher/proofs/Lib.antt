@@ -1,4 +1,4 @@
-pub mod Briefly
+pub mod Outcomes
 pub mod QueueLaws
 pub mod ShownLaws
 pub mod Pointed
@@ -30,6 +30,8 @@ pub mod Showing
 pub mod Rooms
 pub mod Reading
 pub mod Applying
+pub mod Answered
+pub mod Following
 pub mod Going
 pub mod Calls
 pub mod Timely

@@ -1,4 +1,4 @@
-pub mod Briefs
+pub mod Outcomes
 pub mod Queue
 pub mod Shown
 pub mod Pointing
@@ -21,6 +21,7 @@ pub mod Dispatching
 pub mod Memory
 pub mod Needing
 pub mod Access
+pub mod Answered
 pub mod Keying
 pub mod Carrying
 pub mod Anr

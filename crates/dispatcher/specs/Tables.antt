@@ -42,16 +42,6 @@ pub record Goes (call : ℕ → Call) (answer : Reply) (place clock : ℕ) (old 
   pub displays_are : new.displays ≡ old.displays
   pub gone_are : LetsNoneGo old.channels new.channels
 
--- the same of a call with its moment
-pub record GoesAs (call : Call) (answer : Reply) (place clock : ℕ) (old new : Routing) : Type 0 where
-  pub after :
-      (es : List Effect) (queue later : Queue)
-      → queue.place ≡ place → max (moment_of call) queue.clock ≡ clock
-      → KeptStandsFor old.displays es (kept queue old) → QueueGoes call answer queue later
-      → KeptStandsFor old.displays (step old.displays call answer es) (kept later new)
-  pub displays_are : new.displays ≡ old.displays
-  pub gone_are : LetsNoneGo old.channels new.channels
-
 -- the same of a pump, where these args are the first ones that wait, or none wait
 pub record Pumps (first : Option Args) (answer : Reply) (place clock : ℕ) (old new : Routing) : Type 0 where
   pub after :
@@ -91,13 +81,6 @@ is_routed (Notify now args) = false
 is_routed (Pump now) = false
 is_routed call = true
 
--- the call is one of the owner of a channel, or removes one
-abbrev pub is_owned : Call → Bool
-is_owned (Receive channel) = true
-is_owned (Finish now channel seq) = true
-is_owned (Remove now channel) = true
-is_owned call = false
-
 -- All tables went one step on: whatever they stood for, they stand for it with this step more. Only args that are handed in take of the
 -- room for args.
 pub record GoesOn (call : Call) (answer : Reply) (old new : Tables) : Type 0 where
@@ -105,21 +88,6 @@ pub record GoesOn (call : Call) (answer : Reply) (old new : Tables) : Type 0 whe
   pub displays_are : new.routing.displays ≡ old.routing.displays
   pub gone_are : LetsNoneGo old.routing.channels new.routing.channels
   pub room_is : old.queueing.spare ≤ new.queueing.spare + args_in call
-
--- all tables went one step on with this call, whatever its answer is
-pub record GoesOnSomehow (call : Call) (old new : Tables) : Type 0 where
-  pub after :
-      (es : List Effect) → TablesStandFor es old → (answer : Reply) × TablesStandFor (step old.routing.displays call answer es) new
-  pub displays_are : new.routing.displays ≡ old.routing.displays
-  pub gone_are : LetsNoneGo old.routing.channels new.routing.channels
-  pub room_is : old.queueing.spare ≤ new.queueing.spare + args_in call
-
--- The same, and where no message was let go that is to be handed out, with this answer.
-pub record Answers (call : Call) (answer : Reply) (old new : Tables) : Type 0 where
-  pub somehow : GoesOnSomehow call old new
-  pub after :
-      (es : List Effect) → TablesStandFor es old → MayHand es (kept old.queueing old.routing) call
-      → TablesStandFor (step old.routing.displays call answer es) new
 
 -- all are the same, but for that room
 pub record SameAll (old new : Tables) : Type 0 where

@@ -19,15 +19,16 @@ ghost use Rattle.dispatcher.specs.Dispatching.{IsAfter, StandsFor};
 ghost use Rattle.dispatcher.specs.Memory.{IsCalm, MayCount};
 ghost use Rattle.dispatcher.specs.Queueing.{args_in, is_input, is_pump};
 
+mod apply;
 mod asked;
-mod direct;
+mod inputs;
+mod owned;
 mod pending;
 mod releasing;
+mod requests;
 mod room;
 
-use crate::apply::apply;
 use crate::tables::Tables;
-use crate::unread::apply_unread;
 use cancel_synthesis::InputState;
 use dispatch_calls::{Anr, Call, Counts, Reply};
 use input_types::{Displays, Message, Moment};
@@ -71,52 +72,6 @@ impl Dispatcher {
     {
         let tables = Tables::new(alloc, displays)?;
         Ok(Dispatcher { tables })
-    }
-
-    /// Answers a call, and makes what it says. Want of memory changes nothing, and the call is as if it had not come.
-    ///
-    /// Some calls need no memory: owners that receive or finish, a removal, a request that changes no focus, a tick
-    /// that names nobody and a pump that is idle.
-    pub fn apply(&mut self, call: &Call) -> Result<Reply, AllocError>
-        ensures after { (es : List Effect) → StandsFor es self.old
-            → IfOk result (λ answer. StandsFor (step self.old.displays call.now answer es) self.new) }
-        ensures known { (es : List Effect) → IsAfter es self.old
-            → OnOk result ((answer : Answer) × IsAfter (step self.old.displays call.now answer es) self.new) }
-        ensures displays { self.new.displays ≡ self.old.displays }
-        ensures gone { (c : ℕ) → 1 ≤ c → gone self.new c ≡ gone self.old c }
-        ensures anrs { anrs_released self.new ≡ anrs_released self.old }
-        ensures err { OnErr result (self.new ≡ self.old) }
-        ensures calm { (es : List Effect) → IsAfter es self.old → MayCount es → IsCalm es call.now → IsOk result }
-        ensures reserved { (es : List Effect) → IsAfter es self.old → MayCount es
-            → args_in call.now ≡ 1 → 1 ≤ self.old.queue.spare → IsOk result }
-        ensures room { self.old.queue.spare ≤ self.new.queue.spare + args_in call.now }
-        ensures pumped { (es : List Effect) → IsAfter es self.old → MayCount es
-            → is_pump call.now ≡ true → 1 ≤ self.old.queue.pumps → IsOk result }
-        ensures pumps { is_input call.now ≡ true → self.old.queue.pumps ≤ self.new.queue.pumps + 1 }
-    {
-        apply(&mut self.tables, call)
-    }
-
-    /// Answers a call as [`apply`](Dispatcher::apply) does, for one who does not read what it is answered: the message
-    /// that a `Receive` hands out is not copied. It is the one that [`next`](Dispatcher::next) lends before.
-    pub fn apply_unread(&mut self, call: &Call) -> Result<(), AllocError>
-        ensures after { (es : List Effect) → StandsFor es self.old
-            → OnOk result ((answer : Answer) × StandsFor (step self.old.displays call.now answer es) self.new) }
-        ensures known { (es : List Effect) → IsAfter es self.old
-            → OnOk result ((answer : Answer) × IsAfter (step self.old.displays call.now answer es) self.new) }
-        ensures displays { self.new.displays ≡ self.old.displays }
-        ensures gone { (c : ℕ) → 1 ≤ c → gone self.new c ≡ gone self.old c }
-        ensures anrs { anrs_released self.new ≡ anrs_released self.old }
-        ensures err { OnErr result (self.new ≡ self.old) }
-        ensures calm { (es : List Effect) → IsAfter es self.old → MayCount es → IsCalm es call.now → IsOk result }
-        ensures reserved { (es : List Effect) → IsAfter es self.old → MayCount es
-            → args_in call.now ≡ 1 → 1 ≤ self.old.queue.spare → IsOk result }
-        ensures room { self.old.queue.spare ≤ self.new.queue.spare + args_in call.now }
-        ensures pumped { (es : List Effect) → IsAfter es self.old → MayCount es
-            → is_pump call.now ≡ true → 1 ≤ self.old.queue.pumps → IsOk result }
-        ensures pumps { is_input call.now ≡ true → self.old.queue.pumps ≤ self.new.queue.pumps + 1 }
-    {
-        apply_unread(&mut self.tables, call)
     }
 
     /// How many channels were opened. They have the numbers from 1 to this.

@@ -39,21 +39,20 @@
 #![tactic(auto)]
 
 mod anr;
-mod apply;
-mod brief;
 mod cancelled;
 mod carry;
-mod direct;
 mod dispatcher;
 mod focusing;
 mod key_steps;
 mod motions;
+mod outcome;
 mod owners;
+mod pumping;
 mod queueing;
 mod reserving;
 mod shown;
 mod stays;
 mod tables;
-mod unread;
 
 pub use dispatcher::Dispatcher;
+pub use outcome::Outcome;

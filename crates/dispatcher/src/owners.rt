@@ -8,10 +8,10 @@ ghost use Rattle.input_channel.specs.State.{next_of};
 ghost use Rattle.dispatch_history.specs.Reply.{got_reply};
 ghost use Rattle.dispatch_channels.specs.Table.{channel_of};
 ghost use Rattle.dispatch_round.specs.Rounds.{IsTimely};
-ghost use Rattle.dispatcher.specs.Briefs.{reply_of};
+ghost use Rattle.dispatcher.specs.Outcomes.{reply_of};
 ghost use Rattle.dispatcher.specs.Tables.{Goes, HandsOn};
 
-use crate::brief::Brief;
+use crate::outcome::Outcome;
 use crate::tables::Routing;
 use dispatch_calls::Reply;
 use input_types::Moment;
@@ -20,26 +20,22 @@ use key_tables::focusable;
 use route_split::Mark;
 use window_snapshot::mask_has;
 
-/// The owner of a channel takes its next message. One that was let go is passed over.
-pub(crate) fn receive(routing: &mut Routing, channel: u32) -> Reply
-    ensures goes { HandsOn channel routing.old routing.new }
-    ensures answer { result ≡ (if not (mask_has routing.old.channels.live channel) then Gone
-        else got_reply (next_of (channel_of routing.old.channels channel))) }
+/// What the owner of a channel that takes its next message is answered. The message was not released.
+pub(crate) fn next_reply(routing: &Routing, channel: u32) -> Reply
+    ensures { result ≡ (if not (mask_has routing.now.channels.live channel) then Gone
+        else got_reply (next_of (channel_of routing.now.channels channel))) }
 {
     if !mask_has(routing.channels.live(), channel) {
         return Reply::Gone;
     }
-    let Some(next) = routing.channels.next(channel) else {
-        routing.channels.pass(channel);
-        return Reply::Empty;
-    };
-    let reply = Reply::Got(*next);
-    routing.channels.pass(channel);
-    reply
+    match routing.channels.next(channel) {
+        Some(next) => Reply::Got(*next),
+        None => Reply::Empty,
+    }
 }
 
-/// The owner of a channel has its next message, where there is one, and it is not handed out.
-pub(crate) fn pass(routing: &mut Routing, channel: u32)
+/// The owner of a channel has its next message, where there is one. It is not handed out.
+pub(crate) fn receive(routing: &mut Routing, channel: u32)
     ensures { HandsOn channel routing.old routing.new }
 {
     if !mask_has(routing.channels.live(), channel) {
@@ -49,28 +45,28 @@ pub(crate) fn pass(routing: &mut Routing, channel: u32)
 }
 
 /// The owner of a channel is done with a message.
-pub(crate) fn finish(routing: &mut Routing, channel: u32, seq: u64, clock: Moment) -> Brief
+pub(crate) fn finish(routing: &mut Routing, channel: u32, seq: u64, clock: Moment) -> Outcome
     requires { IsTimely clock routing.old.channels }
     ensures { (place : ℕ)
         → Goes (λ now. Call.Finish now channel seq) (reply_of result) place clock routing.old routing.new }
 {
     if !mask_has(routing.channels.live(), channel) {
-        return Brief::Gone;
+        return Outcome::Gone;
     }
     match routing.channels.finish(channel, seq, clock) {
-        Ok(()) => Brief::Done,
-        Err(_) => Brief::UnknownSeq,
+        Ok(()) => Outcome::Done,
+        Err(_) => Outcome::UnknownSeq,
     }
 }
 
 /// A channel is closed for good. Nobody is told of it: the window is not live any more, and no other one loses or
 /// gains anything.
-pub(crate) fn remove(routing: &mut Routing, channel: u32, place: u64) -> Brief
+pub(crate) fn remove(routing: &mut Routing, channel: u32, place: u64) -> Outcome
     ensures { (clock : ℕ)
         → Goes (λ now. Call.Remove now channel) (reply_of result) place clock routing.old routing.new }
 {
     if !mask_has(routing.channels.live(), channel) {
-        return Brief::Gone;
+        return Outcome::Gone;
     }
     let target = routing.focus.target();
     routing.channels.remove(channel);
@@ -80,7 +76,7 @@ pub(crate) fn remove(routing: &mut Routing, channel: u32, place: u64) -> Brief
     let windows = focusable(routing.shown.windows(), routing.channels.live());
     let _change = routing.focus.windows(windows);
     forget_key(&mut routing.repeat, target, channel);
-    Brief::Done
+    Outcome::Done
 }
 
 /// No key is repeated any more where the key target is the channel.

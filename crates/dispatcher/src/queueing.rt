@@ -69,6 +69,18 @@ impl Queueing {
         self.place
     }
 
+    /// Whether one step more can be counted. With 64 bits a run of one call a nanosecond comes to the end in 584 years;
+    /// then there is no memory for more.
+    pub(crate) fn may_step(&self) -> Result<(), AllocError>
+        ensures ok { OnOk result (self.now.place < 2 ^ 64 - 1) }
+        ensures few { self.now.place < 2 ^ 64 - 1 → IsOk result }
+    {
+        if self.place == u64::MAX {
+            return Err(AllocError);
+        }
+        Ok(())
+    }
+
     /// The args that are next; None exactly where nothing waits.
     pub(crate) fn first(&self) -> Option<&Args>
         ensures { option_copied result ≡ slice_get self.now.waiting 0 }
@@ -121,6 +133,15 @@ impl Queueing {
     {
         self.clock = now.later(self.clock);
         self.place += 1;
+    }
+
+    /// One step more, of a call that neither hands in args nor dispatches them: no room for pumps is left.
+    pub(crate) fn go_on(&mut self, now: Moment)
+        requires { self.old.place < 2 ^ 64 - 1 }
+        ensures { self.new ≡ with_pumps 0 (stepped now self.old) }
+    {
+        self.step(now);
+        self.pumps = 0;
     }
 
     /// One step more, with which these args are put behind those that wait, and change what is planned for them.

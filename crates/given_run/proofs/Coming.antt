@@ -84,6 +84,7 @@ has_whole plan cs es s h =
       causes_are = h.causes_are;
       next_is = h.next_is;
       calls_are = h.calls_are;
+      released_are = h.released_are;
     }
 
 -- the next of some args

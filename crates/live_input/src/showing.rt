@@ -10,7 +10,6 @@ ghost use Rattle.live_input.specs.Standing.{AreOfHeld, IsOfSome, LiveIs};
 use crate::client::{Client, Seat, is_open};
 use crate::live::Live;
 use crate::refused::FocusRefused;
-use dispatch_calls::Call;
 use input_types::{DisplayId, Moment};
 use std::alloc::AllocError;
 use window_snapshot::Snapshot;
@@ -27,12 +26,9 @@ impl Live {
         ensures named { self.new.named ≡ self.old.named }
         ensures err { OnErr result (self.new ≡ self.old) }
     {
-        let call = Call::Windows { now, snapshot };
-        match self.dispatcher.apply(&call) {
+        match self.dispatcher.show(now, &snapshot) {
             Ok(_) => {
-                if let Call::Windows { snapshot, .. } = call {
-                    self.windows = snapshot;
-                }
+                self.windows = snapshot;
                 Ok(())
             }
             Err(error) => Err(error),
@@ -55,11 +51,7 @@ impl Live {
         ensures named { self.new.named ≡ self.old.named }
         ensures err { OnErr result (self.new ≡ self.old) }
     {
-        match self.dispatcher.apply(&Call::FocusOn {
-            now,
-            display,
-            channel,
-        }) {
+        match self.dispatcher.request(now, display, channel) {
             Ok(_) => {
                 self.requested[usize::from(display.get())] = channel;
                 self.asked = display;

@@ -23,7 +23,7 @@ use Rattle.schedule.specs.Choosing.{Advances, dues_of, is_before, is_due_by, kep
 use Rattle.schedule.proofs.Choosing.{dues_first, tick_later, step_soonest, step_later, no_step}
 use Rattle.schedule.specs.DueView.{call_of, candidate_of, sooner_due}
 use Rattle.schedule.specs.Handing.{single}
-use Rattle.schedule.specs.Kinds.{is_receiving, is_opening}
+use Rattle.schedule.specs.Kinds.{is_receiving, is_opening, is_finishing}
 use Rattle.schedule.specs.Next.{fore, sooner_with, up_to}
 use Rattle.schedule.specs.State.{Caught, ScheduleState, ReadyWith}
 use Rattle.schedule.proofs.Going.{first_call, single_notified}
@@ -53,10 +53,9 @@ due_plain t (whats.Finish channel seq) = record { receives_not = refl; opens_not
 due_plain t whats.Tick = record { receives_not = refl; opens_not = refl; notifies_not = refl }
 due_plain t whats.Repeat = record { receives_not = refl; opens_not = refl; notifies_not = refl }
 
-pub due_unscripted : (t : ℕ) (what : What) → is_scripted (call_of t what) ≡ 0
-due_unscripted t (whats.Finish channel seq) = refl
-due_unscripted t whats.Tick = refl
-due_unscripted t whats.Repeat = refl
+pub scripted_unfinished : (call : Call) → is_scripted call ≡ 1 → is_finishing call ≡ false
+scripted_unfinished (Finish now channel seq) e = absurd (omega (arith, e))
+scripted_unfinished call e = refl
 
 pub due_single : (t : ℕ) (what : What) → single (call_of t what) ≡ record { moment = t; calls = call_of t what ∷ [] }
 due_single t (whats.Finish channel seq) = refl

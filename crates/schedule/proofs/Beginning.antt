@@ -14,9 +14,13 @@ use Rattle.dispatch_history.specs.Ordered.{extend, begun, scripted, start}
 use Rattle.schedule.specs.declared.keeping.Lines.{Lines}
 use Rattle.schedule.specs.declared.plan.Channel.{Channel}
 use Rattle.schedule.specs.Planned.{channel_of}
+use Rattle.dispatcher.specs.Access.{gone}
+use Rattle.schedule.specs.Released.{released}
 use Rattle.schedule.specs.Run.{messages_in}
 use Rattle.schedule.specs.State.{ScheduleState, HasWith, RanWith}
 use Rattle.schedule.proofs.Going.{sum_agree}
+use Rattle.schedule.proofs.Released.{sum_low}
+use Rattle.schedule.proofs.Releases.{gone_few}
 use Rattle.schedule.proofs.Opening.{Fresh, fresh_start, fresh_more, fresh_begun, fresh_caught}
 use Rattle.schedule.proofs.Receiving.{extend_append}
 
@@ -59,9 +63,27 @@ begins how plan s few has messages latest =
             has = has;
             caught = fresh_caught plan.displays (begun plan) (length plan.channels) f;
             opened_is = f.opened_is;
+            all_released = λ c low. all_had c low;
             messages_are = omega (arith, messages, no_messages plan.displays (begun plan) (length plan.channels) f);
           };
       rounds = λ later. start;
       taken = λ w. f.none_notified;
       latest_is = latest;
     }
+  where
+    all_had : (c : ℕ) → 1 ≤ c → gone s.dispatcher c ≡ length (stream (begun plan) c)
+    all_had c low =
+        let none : length (stream (begun plan) c) ≡ 0 = ap length ((fresh_begun plan few).no_stream c) in
+        omega (arith, none, gone_few (begun plan) s.dispatcher c has.stands low)
+
+-- none are released in its beginning
+pub none_counted : (how : Lines) (plan : Plan) (s : ScheduleState) → length plan.channels ≤ 64 → HasWith how plan (begun plan) s → s.messages ≡ 0
+none_counted how plan s few has =
+    let none : released (begun plan) s.dispatcher ≡ 0 =
+    sum_low (gone s.dispatcher) (λ c. 0) (opened (past_of (begun plan))) (λ c low high. none_of c low) ∙ none_summed (channels (opened (past_of (begun plan)))) in
+    omega (arith, has.released_are, none)
+  where
+    none_of : (c : ℕ) → 1 ≤ c → gone s.dispatcher c ≡ 0
+    none_of c low =
+        let none : length (stream (begun plan) c) ≡ 0 = ap length ((fresh_begun plan few).no_stream c) in
+        omega (arith, none, gone_few (begun plan) s.dispatcher c has.stands low)

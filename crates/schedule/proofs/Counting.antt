@@ -43,6 +43,10 @@ live_opened ds es c l y =
     let r = live_number ds es c l y in
     and_from (nat_le 1 c) (nat_le c (opened (past_of es))) (le-leb 1 c r.0) (le-leb c (opened (past_of es)) r.1)
 
+-- the channels up to the last one that was opened were opened
+pub opened_between : (es : List Effect) (c : ℕ) → 1 ≤ c → c ≤ opened (past_of es) → is_opened es c ≡ true
+opened_between es c low high = and_from (nat_le 1 c) (nat_le c (opened (past_of es))) (le-leb 1 c low) (le-leb c (opened (past_of es)) high)
+
 -- of one without counts nothing is to be received
 pub counts_none : (ds : List ℕ) (es : List Effect) (c : ℕ) → Lawful ds es → counts es c ≡ None → receives_of es c ≡ []
 counts_none ds es c l e = by_live (live (past_of es) c) refl

@@ -1,5 +1,5 @@
 -- A run with one round more.
-use Rattle.std.proofs.Common.{◌≡◌, ℕ, suc, true, false, List, ◌∷◌, length, refl, sym, ap, ◌∙◌, inl, inr, arith}
+use Rattle.std.proofs.Common.{◌≡◌, ℕ, suc, true, false, List, ◌∷◌, length, refl, ap, ◌∙◌, inl, inr, arith}
 use Rattle.std.specs.Prelude.{sum_by, Result, Ok, Err, OnOk}
 use Rattle.std.proofs.Math.Path.{fun_ext}
 use Rattle.std.proofs.lemmas.Bool.{true≢false}
@@ -8,7 +8,7 @@ use Rattle.dispatch_calls.specs.declared.call.Call.{Call}
 use Rattle.dispatch_calls.specs.declared.call.Call.TheVariants.{Open, Windows, FocusOn, Notify, Pump, Tick, Receive, Finish, Pilfer, Remove}
 use Rattle.dispatch_calls.specs.declared.reply.Reply.{Reply}
 use Rattle.dispatch_history.specs.History.{History, clock, live, opened}
-use Rattle.dispatch_history.specs.Effect.{Effect, past_of, stream}
+use Rattle.dispatch_history.specs.Effect.{Effect, past_of}
 use Rattle.dispatch_history.specs.Effects.{step, channels}
 use Rattle.dispatch_history.specs.Legal.{answered}
 use Rattle.dispatch_history.specs.Reply.{reply_to}
@@ -20,9 +20,10 @@ use Rattle.dispatch_tables.proofs.Lawfuls.{lawful_step}
 use Rattle.schedule.specs.declared.keeping.Lines.{Lines}
 use Rattle.schedule.specs.Handing.{handing}
 use Rattle.schedule.specs.Kinds.{is_opening}
-use Rattle.schedule.specs.Run.{messages_in}
+use Rattle.schedule.specs.Released.{AllReleased}
 use Rattle.schedule.specs.State.{ScheduleState, HasWith, Behind, Caught, ReadyWith, counted}
 use Rattle.schedule.proofs.Behind.{behind_step}
+use Rattle.schedule.proofs.Released.{released_all, released_stay}
 use Rattle.schedule.proofs.Receiving.{TookTo, took_to, caught_after}
 
 -- who is live after a step that opens nothing was live before
@@ -88,22 +89,22 @@ took_all ds mid l = took_to ds mid (opened (past_of mid)) l
 pub sum_agree : (f g : ℕ → ℕ) (n : ℕ) → ((c : ℕ) → f c ≡ g c) → sum_by f (channels n) ≡ sum_by g (channels n)
 sum_agree f g n e = ap (λ h. sum_by h (channels n)) (fun_ext e)
 
-messages_same : (ds : List ℕ) (mid : List Effect) → Lawful ds mid → messages_in (received_all ds mid) ≡ messages_in mid
-messages_same ds mid l =
-    let t = (took_all ds mid l).later_is in
-    ap (λ n. sum_by (λ c. length (stream (received_all ds mid) c)) (channels n)) t.opened_is
-    ∙ sum_agree (λ c. length (stream (received_all ds mid) c)) (λ c. length (stream mid c)) (opened (past_of mid)) (λ c. ap length (t.stream_is c))
-
 -- a run that received all is ready again
 pub ready_again : (how : Lines) (plan : Plan) (es mid : List Effect) (s : ScheduleState) → Between plan.displays es mid → opened (past_of es) ≡ length plan.channels
-    → HasWith how plan (received_all plan.displays mid) s → s.messages ≡ counted (messages_in mid) → ReadyWith how plan (received_all plan.displays mid) s
-ready_again how plan es mid s b opened has messages =
+    → HasWith how plan (received_all plan.displays mid) s → AllReleased mid s.dispatcher → ReadyWith how plan (received_all plan.displays mid) s
+ready_again how plan es mid s b opened has all =
     record {
       has = has;
       caught = caught_after plan.displays mid b.lawful b.behind;
       opened_is = (took_all plan.displays mid b.lawful).later_is.opened_is ∙ b.opened_is ∙ opened;
-      messages_are = messages ∙ ap counted (sym (messages_same plan.displays mid b.lawful));
+      all_released = every;
+      messages_are = has.released_are ∙ ap counted (released_all (received_all plan.displays mid) s.dispatcher every);
     }
+  where
+    every : AllReleased (received_all plan.displays mid) s.dispatcher
+    every =
+        released_stay mid (received_all plan.displays mid) s.dispatcher s.dispatcher (took_all plan.displays mid b.lawful).later_is.stream_is
+        (λ c low. refl) all
 
 -- receives hand in nothing and make no steps
 pub notified_all : (ds : List ℕ) (mid : List Effect) → Lawful ds mid → notified (past_of (received_all ds mid)) ≡ notified (past_of mid)

@@ -7,6 +7,7 @@ pub mod Opening
 pub mod Rounds
 pub mod Drained
 pub mod Releases
+pub mod Released
 pub mod Caused
 pub mod Stepping
 pub mod Taking

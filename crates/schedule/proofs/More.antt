@@ -1,6 +1,5 @@
--- A run with one call more, and one that lets messages go.
-use Rattle.std.proofs.Common.{◌≡◌, Bool, true, false, List, [], ◌∷◌, ◌++◌, cond, Result, Ok, Err, sym, ap, ◌∙◌, subst}
-use Rattle.std.specs.Prelude.{OnErr, OnOk}
+-- What a run comes to with one call more, and once messages are released.
+use Rattle.std.proofs.Common.{◌≡◌, Bool, true, false, List, [], ◌∷◌, ◌++◌, cond, sym, ap, ◌∙◌, subst}
 use Rattle.dispatch_calls.specs.declared.call.Call.{Call}
 use Rattle.dispatch_calls.specs.declared.reply.Reply.{Reply}
 use Rattle.dispatch_history.specs.Effect.{Effect}
@@ -56,10 +55,3 @@ made_more es d later call made k =
               stands;
         }
     by_made false stands = record { calls = k.calls; stands = subst (λ ds. IsAfter (extend ds es k.calls) later) (sym made.displays_are) stands }
-
--- a call whose answer is not read
-pub unread_more : {A E : Type 0} (r : Result A E) (es : List Effect) (d later : Dispatching) (call : Call) → later.displays ≡ d.displays
-    → ((fs : List Effect) → IsAfter fs d → OnOk r ((answer : Reply) × IsAfter (step d.displays call answer fs) later)) → OnErr r (later ≡ d)
-    → ComesTo es d → ComesTo es later
-unread_more (Ok a) es d later call same goes stays k = one_more es d later call same goes k
-unread_more (Err e) es d later call same goes stays k = subst (ComesTo es) (sym stays) k

@@ -18,9 +18,7 @@ use Rattle.dispatch_tables.proofs.Channels.{sound, stepped}
 use Rattle.dispatch_tables.proofs.Lawfuls.{lawful_step}
 use Rattle.dispatch_tables.proofs.Silence.{silent_calls}
 use Rattle.schedule.specs.Receives.{receives_of, receives_to}
-use Rattle.schedule.specs.Run.{messages_in}
 use Rattle.schedule.specs.State.{Caught}
-use Rattle.schedule.proofs.Going.{sum_agree}
 use Rattle.schedule.proofs.Receiving.{receives_next}
 
 finished_same : (answer : Reply) (h : History) (t c seq d : ℕ) → (d ≡ c → ⊥) → finished ((Finish t c seq, answer) ∷ h) d ≡ finished h d
@@ -93,8 +91,3 @@ module _ (ds : List ℕ) (es : List Effect) (t c seq : ℕ) (l : Lawful ds es) w
               → receives_of (answered ds (Finish t c seq) es) d ≡ []
           each here d (inl e) = ap (receives_of (answered ds (Finish t c seq) es)) e ∙ here
           each here d (inr ne) = others_none h d ne
-
-  -- there are as many messages as before
-  pub finish_messages : messages_in (answered ds (Finish t c seq) es) ≡ messages_in es
-  finish_messages =
-      sum_agree (λ d. length (stream (answered ds (Finish t c seq) es) d)) (λ d. length (stream es d)) (opened (past_of es)) (λ d. ap length (stream_same d))

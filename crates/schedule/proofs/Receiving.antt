@@ -45,10 +45,10 @@ pub record Later (ds : List ℕ) (es later : List Effect) : Type 0 where
 pub published_later : (ds : List ℕ) (es later : List Effect) → Later ds es later → (d : ℕ) → published later d ≡ published es d
 published_later ds es later h d = ap₂ (λ (ms : List Message) (ns : List ℕ). min (length ms) (length ns + 64)) (h.stream_is d) (h.finished_is d)
 
-later_refl : (ds : List ℕ) (es : List Effect) → Lawful ds es → Later ds es es
+pub later_refl : (ds : List ℕ) (es : List Effect) → Lawful ds es → Later ds es es
 later_refl ds es l = record { lawful = l; opened_is = refl; live_is = λ d. refl; stream_is = λ d. refl; finished_is = λ d. refl; scripted_is = refl; notified_is = refl; behind = λ d b. b }
 
-later_trans : (ds : List ℕ) (es fs gs : List Effect) → Later ds es fs → Later ds fs gs → Later ds es gs
+pub later_trans : (ds : List ℕ) (es fs gs : List Effect) → Later ds es fs → Later ds fs gs → Later ds es gs
 later_trans ds es fs gs g h =
     record {
       lawful = h.lawful;

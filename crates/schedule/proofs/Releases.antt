@@ -1,4 +1,4 @@
--- How many messages of a channel can have been let go.
+-- How many messages a channel can have released: at most those that it was sent.
 use Rattle.std.proofs.Common.{◌≡◌, ℕ, ◌-◌, ◌≤◌, ◌<◌, nat_le, List, length, sym, ap, subst, inl, inr, arith}
 use Rattle.std.proofs.Math.ListN.{get_or-eq_default}
 use Rattle.std.proofs.lemmas.Bool.{cases_Bool, leb-true, leb-false}
@@ -9,7 +9,7 @@ use Rattle.dispatcher.specs.Access.{gone}
 use Rattle.dispatcher.specs.Dispatching.{Dispatching, IsAfter}
 
 -- of a channel that was not opened none were
-none_gone : (es : List Effect) (d : Dispatching) (c : ℕ) → IsAfter es d → opened (past_of es) < c → gone d c ≡ 0
+pub none_gone : (es : List Effect) (d : Dispatching) (c : ℕ) → IsAfter es d → opened (past_of es) < c → gone d c ≡ 0
 none_gone es d c after lt =
     let past : length d.channels.channels ≤ c - 1 = omega (arith, after.knows.delivery.count_is, lt) in
     ap (λ s. s.gone) (get_or-eq_default d.channels.channels (opened_with 0) past)

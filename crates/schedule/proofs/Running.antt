@@ -51,9 +51,11 @@ ready_latest how plan es s t r =
             causes_are = r.has.causes_are;
             next_is = r.has.next_is;
             calls_are = r.has.calls_are;
+            released_are = r.has.released_are;
           };
       caught = r.caught;
       opened_is = r.opened_is;
+      all_released = r.all_released;
       messages_are = r.messages_are;
     }
 

@@ -17,10 +17,12 @@ use Rattle.schedule.specs.declared.keeping.Lines.{Lines}
 use Rattle.schedule.specs.Causes.{Applies, and_more, sent_of}
 use Rattle.schedule.specs.Kinds.{is_receiving}
 use Rattle.schedule.specs.Lines.{Drained, lines_first}
+use Rattle.schedule.specs.Released.{released}
 use Rattle.schedule.specs.State.{ScheduleState, HasWith, counted}
 use Rattle.schedule.proofs.Caused.{causes_next, causes_stay}
 use Rattle.schedule.proofs.Drained.{first_stays}
 use Rattle.schedule.proofs.Releases.{gone_few}
+use Rattle.schedule.proofs.Released.{released_step}
 
 -- the effects are lawful for the displays of the plan
 pub lawful_of : (how : Lines) (plan : Plan) (es : List Effect) (s : ScheduleState) → HasWith how plan es s → Lawful plan.displays es
@@ -38,7 +40,12 @@ one_more : (n k : ℕ) → k ≡ counted n → counted (k + 1) ≡ counted (suc 
 one_more n k e = omega (arith, e)
 
 module _ (how : Lines) (plan : Plan) (es : List Effect) (s t : ScheduleState) (h : HasWith how plan es s) (same : t.dispatcher.displays ≡ s.dispatcher.displays)
-    (kept : (c : ℕ) → 1 ≤ c → gone t.dispatcher c ≡ gone s.dispatcher c) (named : anrs_released t.dispatcher ≡ anrs_released s.dispatcher) where
+    (kept : (c : ℕ) → 1 ≤ c → gone t.dispatcher c ≡ gone s.dispatcher c) (named : anrs_released t.dispatcher ≡ anrs_released s.dispatcher)
+    (messages : t.messages ≡ s.messages) where
+  released_on : (call : Call) (answer : Reply) → t.messages ≡ counted (released (step plan.displays call answer es) t.dispatcher)
+  released_on call answer =
+      messages ∙ h.released_are ∙ ap counted (sym (released_step plan.displays call answer es s.dispatcher t.dispatcher h.stands kept))
+
   drained_on : (call : Call) (answer : Reply) → Lawful plan.displays (step plan.displays call answer es) → t.lines ≡ s.lines
       → Drained (step plan.displays call answer es) t.dispatcher t.lines
   drained_on call answer l lines =
@@ -67,6 +74,7 @@ module _ (how : Lines) (plan : Plan) (es : List Effect) (s t : ScheduleState) (h
         causes_are = causes_next how plan.displays call answer es s.causes t.causes h.causes_are causes;
         next_is = next;
         calls_are = calls ∙ one_more (length es) s.calls h.calls_are;
+        released_are = released_on call answer;
       })
 
   pub has_received : (answer : Reply) (c : ℕ) → IsAfter (step s.dispatcher.displays (Receive c) answer es) t.dispatcher
@@ -85,6 +93,7 @@ module _ (how : Lines) (plan : Plan) (es : List Effect) (s t : ScheduleState) (h
         causes_are = causes ∙ h.causes_are ∙ causes_stay how plan.displays c answer es;
         next_is = next ∙ h.next_is ∙ omega arith;
         calls_are = calls ∙ one_more (length es) s.calls h.calls_are;
+        released_are = released_on (Receive c) answer;
       })
 
 -- what holds where a call was done, by what it ensures there

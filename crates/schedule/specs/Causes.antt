@@ -10,7 +10,7 @@ use Rattle.why_text.specs.Text.{step_text, why_text}
 use Rattle.schedule.specs.declared.keeping.Lines.{Lines}
 use Rattle.schedule.specs.declared.keeping.Lines.TheVariants.{Kept, Counted, Causes}
 
--- the text of the causes of all steps, where a run tells them
+-- the text of the causes of all steps, where a run explains them
 abbrev pub causes_of : Lines → (displays : List ℕ) → List Effect → Option (List ℕ)
 causes_of Kept displays es = None
 causes_of Counted displays es = None

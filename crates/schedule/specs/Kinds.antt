@@ -1,7 +1,7 @@
 -- Kinds of calls.
 use Rattle.std.specs.Prelude.{Bool, true, false}
 use Rattle.dispatch_calls.specs.declared.call.Call.{Call}
-use Rattle.dispatch_calls.specs.declared.call.Call.TheVariants.{Open, Receive}
+use Rattle.dispatch_calls.specs.declared.call.Call.TheVariants.{Open, Receive, Finish}
 
 -- the owner of a channel receives
 abbrev pub is_receiving : Call → Bool
@@ -12,3 +12,8 @@ is_receiving call = false
 abbrev pub is_opening : Call → Bool
 is_opening (Open limit) = true
 is_opening call = false
+
+-- the owner of a channel is done with a message
+abbrev pub is_finishing : Call → Bool
+is_finishing (Finish now channel seq) = true
+is_finishing call = false

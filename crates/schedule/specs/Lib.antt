@@ -4,11 +4,13 @@ pub mod Planned
 pub mod Printing
 pub mod Lines
 pub mod Causes
+pub mod Released
 pub mod State
 pub mod More
 pub mod DueView
 pub mod Receives
 pub mod Kinds
+pub mod Making
 pub mod Choosing
 pub mod Draining
 pub mod Handing

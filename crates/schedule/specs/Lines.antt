@@ -21,6 +21,6 @@ lines_at lines c = slice_index_or lines (c - 1) []
 abbrev pub lines_first : List Effect → (channel count : ℕ) → List ℕ
 lines_first es c n = message_lines (take n (reverse (stream es c)))
 
--- of each channel the lines of what the dispatcher let go, whether its owner received that or not
+-- for each channel, the lines of what it released, whether its owner received that or not
 abbrev pub Drained : List Effect → Dispatching → List (List ℕ) → Type 0
 Drained es d lines = (c : ℕ) → 1 ≤ c → c ≤ length lines → lines_at lines c ≡ lines_first es c (gone d c)

@@ -11,10 +11,11 @@ use Rattle.schedule.specs.declared.keeping.Lines.{Lines}
 use Rattle.schedule.specs.declared.keeping.Lines.TheVariants.{Kept}
 use Rattle.schedule.specs.Causes.{causes_of}
 use Rattle.schedule.specs.Lines.{Drained, texts}
+use Rattle.schedule.specs.Released.{AllReleased, released}
 use Rattle.schedule.specs.Run.{with_cooked, messages_in, IsWithin}
 
--- a run: the dispatcher, the lines of what each channel was sent and let go, the causes of the calls where they are sent, how many steps were
--- made, how many calls, how many messages there are, and the latest moment of args
+-- a run: the dispatcher, the lines of what each channel was sent and released, the causes of the calls where they are sent, how many steps were
+-- made, how many calls, how many messages were released, and the latest moment of args
 pub record ScheduleState : Type 0 where
   pub dispatcher : Dispatching
   pub lines : List (List ℕ)
@@ -32,8 +33,8 @@ counted n = min n (2 ^ 64 - 1)
 abbrev pub is_over : ScheduleState → Bool
 is_over s = nat_lt 4000000 s.calls || nat_lt 4000000 s.messages
 
--- it is as after these effects, no naming was let go, and of what was let go of each channel it has the lines, or none where they are not kept;
--- where it tells causes it has their text
+-- It is as after these effects and no ANR was released. It has the lines of what each channel released, or none where lines are not kept; where it
+-- explains causes it has their text. It counts the messages that were released.
 pub record HasWith (how : Lines) (plan : Plan) (es : List Effect) (s : ScheduleState) : Type 0 where
   pub stands : IsAfter es s.dispatcher
   pub displays_are : s.dispatcher.displays ≡ plan.displays
@@ -43,6 +44,7 @@ pub record HasWith (how : Lines) (plan : Plan) (es : List Effect) (s : ScheduleS
   pub causes_are : s.causes ≡ causes_of how plan.displays es
   pub next_is : s.next ≡ scripted (past_of es)
   pub calls_are : s.calls ≡ counted (length es)
+  pub released_are : s.messages ≡ counted (released es s.dispatcher)
 
 -- what a channel's owner received was delivered when it was received, and what it did not receive is delivered now
 pub record Behind (es : List Effect) (c : ℕ) : Type 0 where
@@ -59,6 +61,7 @@ pub record ReadyWith (how : Lines) (plan : Plan) (es : List Effect) (s : Schedul
   pub has : HasWith how plan es s
   pub caught : Caught es
   pub opened_is : opened (past_of es) ≡ length plan.channels
+  pub all_released : AllReleased es s.dispatcher
   pub messages_are : s.messages ≡ counted (messages_in es)
 
 -- these args came so far, and what comes before them was done; a run that became too long goes no further

@@ -2,18 +2,17 @@
 ghost use Rattle.std.specs.Prelude.{Some, IfSome, option_map, ◌≡◌, ◌≤◌, ◌<◌, ◌+◌, ◌-◌, ◌^◌, true, false, List, IfOk, OnOk, None};
 ghost use Rattle.dispatch_calls.specs.declared.call.Call.{Call as CallView};
 ghost use Rattle.dispatch_history.specs.Effect.{Effect, past_of};
-ghost use Rattle.dispatch_history.specs.Ordered.{soonest, is_scripted, round, scripted, extend};
+ghost use Rattle.dispatch_history.specs.Ordered.{soonest, is_scripted, round, scripted};
 ghost use Rattle.dispatch_history.specs.Plan.{Plan as PlanView};
 ghost use Rattle.schedule.specs.declared.keeping.Lines.{Lines};
 ghost use Rattle.schedule.specs.Choosing.{Advances, NoneOverdue};
 ghost use Rattle.schedule.specs.DueView.{call_of, candidate_of};
 ghost use Rattle.schedule.specs.Next.{fore};
-ghost use Rattle.schedule.specs.Kinds.{is_receiving, is_opening};
+ghost use Rattle.schedule.specs.Kinds.{is_receiving, is_opening, is_finishing};
 ghost use Rattle.schedule.specs.Handing.{handing, single};
 ghost use Rattle.schedule.specs.Planned.{IsRun, plan_of};
-ghost use Rattle.schedule.specs.More.{ComesTo};
-ghost use Rattle.schedule.specs.Receives.{receives_of};
-ghost use Rattle.schedule.specs.State.{HasWith, ReadyWith};
+ghost use Rattle.schedule.specs.State.{ReadyWith};
+ghost use Rattle.schedule.specs.Making.{CountsMore, GoesOn, MakesRound};
 
 use crate::choose::{first_step, next_at_once, next_due};
 use crate::due::{AtOnce, Due, What};
@@ -24,16 +23,17 @@ use input_types::{Args, Moment};
 use std::alloc::AllocError;
 
 impl Schedule {
-    /// One round: a call that is no opening and no receive, after which so many steps were made, and then all that is
-    /// published is received.
+    /// One round: a call that opens, receives and finishes nothing, after which so many steps were made, and then all
+    /// that is published is received.
     fn round(&mut self, call: &Call, next: usize) -> Result<(), AllocError>
         ensures after { (how : Lines) (plan : PlanView) (es : List Effect) → ReadyWith how plan es self.old
             → is_receiving call.now ≡ false
             → is_opening call.now ≡ false
+            → is_finishing call.now ≡ false
             → next ≡ is_scripted call.now + scripted (past_of es)
             → OnOk result (ReadyWith how plan (round plan es (single call.now)) self.new) }
-        ensures calls { OnOk result (self.old.calls < 2 ^ 64 - 1 → self.old.calls < self.new.calls) }
-        ensures more { (es : List Effect) → ComesTo es self.old.dispatcher → ComesTo es self.new.dispatcher }
+        ensures calls { OnOk result (CountsMore self.old self.new) }
+        ensures more { GoesOn self.old self.new }
         ensures latest { self.new.latest ≡ self.old.latest }
     {
         self.make(call, next)?;
@@ -43,53 +43,34 @@ impl Schedule {
     /// The round of a finish. After it only the owner of its channel may have more to take.
     #[inline(always)]
     fn finish_round(&mut self, now: Moment, channel: u32, seq: u64) -> Result<(), AllocError>
-        ensures after { (how : Lines) (plan : PlanView) (es : List Effect) → ReadyWith how plan es self.old
-            → OnOk result (ReadyWith how plan (round plan es (single (CallView.Finish now channel seq))) self.new) }
-        ensures calls { OnOk result (self.old.calls < 2 ^ 64 - 1 → self.old.calls < self.new.calls) }
-        ensures more { (es : List Effect) → ComesTo es self.old.dispatcher → ComesTo es self.new.dispatcher }
+        ensures after { MakesRound result (single (CallView.Finish now channel seq)) self.old self.new }
+        ensures calls { OnOk result (CountsMore self.old self.new) }
+        ensures more { GoesOn self.old self.new }
         ensures latest { self.new.latest ≡ self.old.latest }
     {
         self.finish_one(now, channel, seq)?;
-        self.receive_on(channel)
-    }
-
-    /// The owner of a channel takes all that is published on it.
-    fn receive_on(&mut self, channel: u32) -> Result<(), AllocError>
-        ensures after { (how : Lines) (plan : PlanView) (es : List Effect) → HasWith how plan es self.old
-            → OnOk result (HasWith how plan (extend plan.displays es (receives_of es channel)) self.new) }
-        ensures messages { self.new.messages ≡ self.old.messages }
-        ensures calls { OnOk result (self.old.calls ≤ self.new.calls) }
-        ensures more { (es : List Effect) → ComesTo es self.old.dispatcher → ComesTo es self.new.dispatcher }
-        ensures latest { self.new.latest ≡ self.old.latest }
-    {
-        self.receive(channel)?;
-        Ok(())
+        self.receive(channel)
     }
 
     /// The round of what is due, at this moment.
     fn due_round(&mut self, due: Due, at: Moment) -> Result<(), AllocError>
-        ensures after { (how : Lines) (plan : PlanView) (es : List Effect) → ReadyWith how plan es self.old
-            → OnOk result (ReadyWith how plan (round plan es (single (call_of at due.what))) self.new) }
-        ensures calls { OnOk result (self.old.calls < 2 ^ 64 - 1 → self.old.calls < self.new.calls) }
-        ensures more { (es : List Effect) → ComesTo es self.old.dispatcher → ComesTo es self.new.dispatcher }
+        ensures after { MakesRound result (single (call_of at due.what)) self.old self.new }
+        ensures calls { OnOk result (CountsMore self.old self.new) }
+        ensures more { GoesOn self.old self.new }
         ensures latest { self.new.latest ≡ self.old.latest }
     {
         let next = self.next;
         match due.what {
             What::Finish { channel, seq } => self.finish_round(at, channel, seq),
-            _ => {
-                let call = due.call(at);
-                self.round(&call, next)
-            }
+            What::Tick => self.round(&Call::Tick { now: at }, next),
+            What::Repeat => self.round(&Call::Pump { now: at }, next),
         }
     }
 
     /// The round that hands in args.
     pub(crate) fn hand_in(&mut self, moment: Moment, args: &Args) -> Result<(), AllocError>
-        ensures after { (how : Lines) (plan : PlanView) (es : List Effect) → ReadyWith how plan es self.old
-            → OnOk result (ReadyWith how plan
-            (round plan es (handing (record { moment = moment; args = args.now }))) self.new) }
-        ensures more { (es : List Effect) → ComesTo es self.old.dispatcher → ComesTo es self.new.dispatcher }
+        ensures after { MakesRound result (handing (record { moment = moment; args = args.now })) self.old self.new }
+        ensures more { GoesOn self.old self.new }
         ensures latest { self.new.latest ≡ self.old.latest }
     {
         self.notify(moment, args)?;
@@ -104,8 +85,8 @@ impl Schedule {
             → is_scripted call.now ≡ 1
             → soonest (fore plan es) ≡ Some (single call.now)
             → IfOk result (λ b. Advances how plan until es self.old self.new b) }
-        ensures calls { IfOk result (λ b. b ≡ true → self.old.calls < 2 ^ 64 - 1 → self.old.calls < self.new.calls) }
-        ensures more { (es : List Effect) → ComesTo es self.old.dispatcher → ComesTo es self.new.dispatcher }
+        ensures calls { IfOk result (λ b. b ≡ true → CountsMore self.old self.new) }
+        ensures more { GoesOn self.old self.new }
         ensures latest { self.new.latest ≡ self.old.latest }
     {
         if until.get() < call.moment().get() {
@@ -121,8 +102,8 @@ impl Schedule {
         ensures after { (how : Lines) (plan : PlanView) (es : List Effect) → ReadyWith how plan es self.old
             → soonest (fore plan es) ≡ option_map candidate_of due
             → IfOk result (λ b. Advances how plan until es self.old self.new b) }
-        ensures calls { IfOk result (λ b. b ≡ true → self.old.calls < 2 ^ 64 - 1 → self.old.calls < self.new.calls) }
-        ensures more { (es : List Effect) → ComesTo es self.old.dispatcher → ComesTo es self.new.dispatcher }
+        ensures calls { IfOk result (λ b. b ≡ true → CountsMore self.old self.new) }
+        ensures more { GoesOn self.old self.new }
         ensures latest { self.new.latest ≡ self.old.latest }
     {
         let Some(due) = due else {
@@ -142,8 +123,8 @@ impl Schedule {
         ensures after { (how : Lines) (es : List Effect) → ReadyWith how (plan_of plan.now) es self.old
             → NoneOverdue (plan_of plan.now).channels es
             → IfOk result (λ b. Advances how (plan_of plan.now) until es self.old self.new b) }
-        ensures calls { IfOk result (λ b. b ≡ true → self.old.calls < 2 ^ 64 - 1 → self.old.calls < self.new.calls) }
-        ensures more { (es : List Effect) → ComesTo es self.old.dispatcher → ComesTo es self.new.dispatcher }
+        ensures calls { IfOk result (λ b. b ≡ true → CountsMore self.old self.new) }
+        ensures more { GoesOn self.old self.new }
         ensures latest { self.new.latest ≡ self.old.latest }
     {
         let due = next_due(&self.dispatcher, &plan.channels);
@@ -189,8 +170,8 @@ impl Schedule {
             → NoneOverdue (plan_of plan.now).channels es
             → IfOk result (λ b. b ≡ true → Advances how (plan_of plan.now) until es self.old self.new true) }
         ensures stays { IfOk result (λ b. b ≡ false → self.new ≡ self.old) }
-        ensures calls { IfOk result (λ b. b ≡ true → self.old.calls < 2 ^ 64 - 1 → self.old.calls < self.new.calls) }
-        ensures more { (es : List Effect) → ComesTo es self.old.dispatcher → ComesTo es self.new.dispatcher }
+        ensures calls { IfOk result (λ b. b ≡ true → CountsMore self.old self.new) }
+        ensures more { GoesOn self.old self.new }
         ensures latest { self.new.latest ≡ self.old.latest }
     {
         let Some(found) = self.due_at_once(plan, until) else {

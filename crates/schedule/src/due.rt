@@ -2,7 +2,6 @@
 ghost use Rattle.std.specs.Prelude.{◌≡◌};
 ghost use Rattle.schedule.specs.DueView.{sooner_due};
 
-use dispatch_calls::Call;
 use input_types::Moment;
 
 /// What is done.
@@ -44,26 +43,6 @@ pub(crate) fn sooner(best: Option<Due>, due: Option<Due>) -> Option<Due>
             } else {
                 Some(first)
             }
-        }
-    }
-}
-
-impl Due {
-    ghost use Rattle.std.specs.Prelude.{◌≡◌};
-    ghost use Rattle.schedule.specs.DueView.{call_of};
-
-    /// The call at this moment.
-    pub(crate) fn call(self, moment: Moment) -> Call
-        ensures { result ≡ call_of moment self.what }
-    {
-        match self.what {
-            What::Finish { channel, seq } => Call::Finish {
-                now: moment,
-                channel,
-                seq,
-            },
-            What::Tick => Call::Tick { now: moment },
-            What::Repeat => Call::Pump { now: moment },
         }
     }
 }

@@ -12,13 +12,13 @@
 //! ```
 //!
 //! Of one moment a finish comes first, then a tick, a repeat of a key, a step, and args last. A [`Schedule`] drives a
-//! dispatcher so and keeps no list of what it was given or told: its contract says that the dispatcher is as after the
+//! dispatcher so and keeps no list of what it was given or sent: its contract says that the dispatcher is as after the
 //! effects of the ordered run of all args that came. The next round is found from the oldest message of each channel,
 //! since what is published is received at once. Where a run keeps its [`Lines`], each message is written at the end of
 //! the round that sent it, and the text of the run is made of these; a run that only counts them goes the same way, and
-//! has no text. Either way the dispatcher lets each message go then, so that an owner that is slow to receive makes no
-//! message stay: its receives are counted, and hand out nothing.
-//! A run that tells causes has, of each call but receives, what it came to: the first of these rounds gives
+//! has no text. Either way the dispatcher then releases each message, so a slow owner keeps none in memory: its
+//! receives are counted, and hand out nothing.
+//! A run that explains causes adds what each call but a receive came to: the first of these rounds gives
 //!
 //! ```text
 //! 5000 down 1 0 540,1200 touched 1 row first chosen 1 spies - pilfering - given 1 mute - outside -
@@ -26,8 +26,8 @@
 #![tactic(auto)]
 
 mod advance;
+mod calls;
 mod choose;
-mod direct;
 mod draining;
 mod due;
 mod keeping;

@@ -66,7 +66,6 @@ impl Schedule {
         ensures after { (how : LinesView) (plan : PlanView) (es : List Effect) → HasWith how plan es self.old
             → scripted (past_of es) ≡ 0
             → OnOk result (HasWith how plan (answered plan.displays (CallView.Open limit) es) self.new) }
-        ensures messages { self.new.messages ≡ self.old.messages }
         ensures latest { self.new.latest ≡ self.old.latest }
     {
         self.make(&Call::Open { limit }, 0)

@@ -44,7 +44,7 @@ fn head_text(alloc: Global, channel: u32, name: &str) -> Result<Vec<u8>, AllocEr
     Ok(text)
 }
 
-/// The lines of the messages of a channel that were not let go, and the last line of its section.
+/// The lines of the messages that a channel has not released, and the last line of its section.
 fn rest_text(alloc: Global, dispatcher: &Dispatcher, channel: u32) -> Result<Vec<u8>, AllocError>
     ensures { (es : List Effect) → IsAfter es dispatcher.now → is_opened es channel ≡ true
         → IfOk result (λ v. v.items

@@ -5,9 +5,9 @@ ghost use Rattle.dispatch_history.specs.Plan.{Plan as PlanView, Cooked};
 ghost use Rattle.schedule.specs.declared.keeping.Lines.{Lines};
 ghost use Rattle.schedule.specs.Planned.{IsRun, plan_of};
 ghost use Rattle.schedule.specs.Run.{IsWithin, IsTooLong};
-ghost use Rattle.schedule.specs.More.{ComesTo};
 ghost use Rattle.schedule.specs.State.{RanWith, CompletedWith, ReadyWith, is_over};
 ghost use Rattle.schedule.specs.Ends.{last_step};
+ghost use Rattle.schedule.specs.Making.{GoesOn};
 
 use crate::plan::{Plan, Step};
 use crate::schedule::Schedule;
@@ -57,7 +57,7 @@ impl Schedule {
         ensures ran { (how : Lines) (given : List Cooked) → RanWith how (plan_of plan.now) given self.old
             → OnOk result (RanWith how (plan_of plan.now)
             (given ++ record { moment = moment; args = args.now } ∷ []) self.new) }
-        ensures more { (es : List Effect) → ComesTo es self.old.dispatcher → ComesTo es self.new.dispatcher }
+        ensures more { GoesOn self.old self.new }
     {
         self.latest = self.latest.later(moment);
         'quick: while !self.is_too_long() {
@@ -79,7 +79,7 @@ impl Schedule {
         requires { IsRun plan.now }
         ensures completed { (how : Lines) (given : List Cooked) → RanWith how (plan_of plan.now) given self.old
             → OnOk result (CompletedWith how (plan_of plan.now) given self.new) }
-        ensures more { (es : List Effect) → ComesTo es self.old.dispatcher → ComesTo es self.new.dispatcher }
+        ensures more { GoesOn self.old self.new }
     {
         let end = plan.until.later(last_step(&plan.steps).later(self.latest));
         'rounds: while !self.is_too_long() {

@@ -1,21 +1,22 @@
 //! The run itself.
-ghost use Rattle.std.specs.Prelude.{◌≡◌, ◌≤◌, ◌<◌, ◌+◌, ◌-◌, ℕ, true, false, List, IfOk, OnOk, replicate, length, option_map};
+ghost use Rattle.std.specs.Prelude.{◌≡◌, ◌≤◌, ◌<◌, ◌+◌, ◌-◌, ℕ, false, List, OnOk, OnErr, replicate, option_map};
 ghost use Rattle.dispatch_calls.specs.declared.call.Call.{Call as CallView};
-ghost use Rattle.dispatch_history.specs.Effect.{Effect, past_of, stream};
+ghost use Rattle.dispatch_history.specs.Effect.{Effect, past_of};
 ghost use Rattle.dispatch_history.specs.Legal.{answered};
 ghost use Rattle.dispatch_history.specs.Ordered.{extend, is_scripted, scripted, received_all};
 ghost use Rattle.dispatch_history.specs.Plan.{Plan as PlanView};
-ghost use Rattle.dispatcher.specs.Access.{gone, is_opened, anrs_released};
+ghost use Rattle.dispatcher.specs.Access.{gone, anrs_released};
+ghost use Rattle.dispatcher.specs.Answered.{StepsOn};
 ghost use Rattle.dispatcher.specs.Dispatching.{IsAfter};
 ghost use Rattle.schedule.specs.declared.keeping.Lines.{Lines};
 ghost use Rattle.schedule.specs.declared.keeping.Lines.TheVariants.{Causes};
 ghost use Rattle.why_text.specs.Text.{why_text};
 ghost use Rattle.schedule.specs.Causes.{Applies};
-ghost use Rattle.schedule.specs.Kinds.{is_receiving};
-ghost use Rattle.schedule.specs.Receives.{receives_of};
-ghost use Rattle.schedule.specs.Run.{messages_in};
+ghost use Rattle.schedule.specs.Kinds.{is_receiving, is_finishing};
+ghost use Rattle.schedule.specs.Released.{AllReleased, KeepsUnfinished};
 ghost use Rattle.schedule.specs.More.{ComesTo};
-ghost use Rattle.schedule.specs.State.{HasWith, counted};
+ghost use Rattle.schedule.specs.State.{HasWith};
+ghost use Rattle.schedule.specs.Making.{CountsAll, CountsNoFewer, CountsOne, GoesOn, Makes, MakesWith, NoFewerMessages, Receives, ReleasesNone};
 
 use crate::stream::Stream;
 use dispatch_calls::Call;
@@ -24,6 +25,7 @@ use input_types::Moment;
 use std::alloc::{AllocError, Global};
 use std::marker::Model;
 use std::mem;
+use window_snapshot::{mask_first, mask_without};
 
 /// A run of a plan, to which args come one by one.
 #[derive(Drop)]
@@ -35,6 +37,7 @@ pub struct Schedule {
     /// How many steps were made.
     pub(crate) next: usize,
     pub(crate) calls: u64,
+    /// How many messages were released, of all channels together.
     pub(crate) messages: u64,
     /// The latest moment of args that came.
     pub(crate) latest: Moment,
@@ -65,7 +68,8 @@ impl Schedule {
         self.next
     }
 
-    /// Takes out the text of the causes of the calls so far, of a run that tells them. Those of later calls are lost.
+    /// Takes out the text of the causes of the calls so far, of a run that explains them. Those of later calls are
+    /// lost.
     pub fn take_causes(&mut self, alloc: Global) -> Vec<u8>
         ensures { (plan : PlanView) (es : List Effect) → HasWith Causes plan es self.old
             → result.items ≡ why_text plan.displays es }
@@ -76,32 +80,35 @@ impl Schedule {
         }
     }
 
-    /// One call that is no receive, after which so many steps were made. What it tells comes to the lines, and is let
-    /// go.
+    /// Makes one call that is not a receive, after which `next` steps were made. All messages are then drained to lines
+    /// and released.
     pub fn step(&mut self, call: &Call, next: usize) -> Result<(), AllocError>
-        ensures after { (how : Lines) (plan : PlanView) (es : List Effect) → HasWith how plan es self.old
+        ensures after { MakesWith result call.now next self.old self.new }
+        ensures calls { CountsOne result self.old self.new }
+        ensures counted { (how : Lines) (plan : PlanView) (es : List Effect) → HasWith how plan es self.old
             → is_receiving call.now ≡ false
             → next ≡ is_scripted call.now + scripted (past_of es)
-            → OnOk result (HasWith how plan (answered plan.displays call.now es) self.new) }
-        ensures calls { OnOk result (self.new.calls ≡ counted (self.old.calls + 1)) }
-        ensures messages { self.new.messages ≡ self.old.messages }
-        ensures more { (es : List Effect) → ComesTo es self.old.dispatcher → ComesTo es self.new.dispatcher }
+            → CountsAll result (answered plan.displays call.now es) self.new }
+        ensures messages { NoFewerMessages self.old self.new }
+        ensures more { GoesOn self.old self.new }
         ensures latest { self.new.latest ≡ self.old.latest }
     {
         self.make(call, next)?;
         self.drain_sent()
     }
 
-    /// One call that is no receive, after which so many steps were made. Of a channel that it removes nothing is kept
-    /// but lines.
+    /// Makes one call that is not a receive, after which `next` steps were made. Of a channel that it removes only
+    /// lines are kept.
     pub(crate) fn make(&mut self, call: &Call, next: usize) -> Result<(), AllocError>
-        ensures after { (how : Lines) (plan : PlanView) (es : List Effect) → HasWith how plan es self.old
+        ensures after { MakesWith result call.now next self.old self.new }
+        ensures calls { CountsOne result self.old self.new }
+        ensures keeps { (how : Lines) (plan : PlanView) (es : List Effect) → HasWith how plan es self.old
             → is_receiving call.now ≡ false
             → next ≡ is_scripted call.now + scripted (past_of es)
-            → OnOk result (HasWith how plan (answered plan.displays call.now es) self.new) }
-        ensures calls { OnOk result (self.new.calls ≡ counted (self.old.calls + 1)) }
-        ensures messages { self.new.messages ≡ self.old.messages }
-        ensures more { (es : List Effect) → ComesTo es self.old.dispatcher → ComesTo es self.new.dispatcher }
+            → is_finishing call.now ≡ false → AllReleased es self.old.dispatcher
+            → OnOk result (KeepsUnfinished (answered plan.displays call.now es) self.new.dispatcher) }
+        ensures messages { NoFewerMessages self.old self.new }
+        ensures more { GoesOn self.old self.new }
         ensures latest { self.new.latest ≡ self.old.latest }
     {
         self.apply(call, next)?;
@@ -112,14 +119,12 @@ impl Schedule {
     }
 
     /// The call alone.
-    fn apply(&mut self, call: &Call, next: usize) -> Result<(), AllocError>
-        ensures after { (how : Lines) (plan : PlanView) (es : List Effect) → HasWith how plan es self.old
-            → is_receiving call.now ≡ false
-            → next ≡ is_scripted call.now + scripted (past_of es)
-            → OnOk result (HasWith how plan (answered plan.displays call.now es) self.new) }
-        ensures calls { OnOk result (self.new.calls ≡ counted (self.old.calls + 1)) }
+    pub(crate) fn apply(&mut self, call: &Call, next: usize) -> Result<(), AllocError>
+        ensures after { MakesWith result call.now next self.old self.new }
+        ensures calls { CountsOne result self.old self.new }
+        ensures gone { ReleasesNone self.old self.new }
         ensures messages { self.new.messages ≡ self.old.messages }
-        ensures more { (es : List Effect) → ComesTo es self.old.dispatcher → ComesTo es self.new.dispatcher }
+        ensures more { GoesOn self.old self.new }
         ensures latest { self.new.latest ≡ self.old.latest }
     {
         match apply_call(&mut self.causes, &mut self.dispatcher, call) {
@@ -135,14 +140,14 @@ impl Schedule {
     /// The owner of a channel takes its next message, where there is one.
     #[inline(always)]
     pub fn receive_next(&mut self, channel: u32) -> Result<(), AllocError>
-        ensures after { (how : Lines) (plan : PlanView) (es : List Effect) → HasWith how plan es self.old
-            → OnOk result (HasWith how plan (answered plan.displays (CallView.Receive channel) es) self.new) }
+        ensures after { Makes result (CallView.Receive channel) self.old self.new }
+        ensures gone { ReleasesNone self.old self.new }
+        ensures calls { CountsNoFewer result self.old self.new }
         ensures messages { self.new.messages ≡ self.old.messages }
-        ensures calls { OnOk result (self.old.calls ≤ self.new.calls) }
-        ensures more { (es : List Effect) → ComesTo es self.old.dispatcher → ComesTo es self.new.dispatcher }
+        ensures more { GoesOn self.old self.new }
         ensures latest { self.new.latest ≡ self.old.latest }
     {
-        match self.dispatcher.pass(channel) {
+        match self.dispatcher.receive(channel) {
             Ok(()) => {
                 self.calls = self.calls.saturating_add(1);
                 Ok(())
@@ -157,9 +162,9 @@ impl Schedule {
         ensures after { (how : Lines) (plan : PlanView) (es : List Effect) → HasWith how plan es self.old
             → OnOk result
             (HasWith how plan (extend plan.displays es (replicate count (CallView.Receive channel))) self.new) }
-        ensures messages { self.new.messages ≡ self.old.messages }
-        ensures calls { OnOk result (self.old.calls ≤ self.new.calls) }
-        ensures more { (es : List Effect) → ComesTo es self.old.dispatcher → ComesTo es self.new.dispatcher }
+        ensures gone { ReleasesNone self.old self.new }
+        ensures calls { CountsNoFewer result self.old self.new }
+        ensures more { GoesOn self.old self.new }
         ensures latest { self.new.latest ≡ self.old.latest }
     {
         for _ in 0..count {
@@ -168,65 +173,56 @@ impl Schedule {
         Ok(())
     }
 
-    /// The owner of a channel takes all that is published. The answer is how many messages the channel has. Mostly
-    /// there is nothing to take, so it is a part of the loop that calls it.
+    /// The owner of a channel takes all that is published. Mostly there is nothing to take, so it is a part of the loop
+    /// that calls it.
     #[inline(always)]
-    pub(crate) fn receive(&mut self, channel: u32) -> Result<u64, AllocError>
-        ensures after { (how : Lines) (plan : PlanView) (es : List Effect) → HasWith how plan es self.old
-            → OnOk result (HasWith how plan (extend plan.displays es (receives_of es channel)) self.new) }
-        ensures sent { (how : Lines) (plan : PlanView) (es : List Effect) → HasWith how plan es self.old
-            → is_opened es channel ≡ true
-            → IfOk result (λ n. n ≡ length (stream es channel)) }
-        ensures messages { self.new.messages ≡ self.old.messages }
-        ensures calls { OnOk result (self.old.calls ≤ self.new.calls) }
-        ensures more { (es : List Effect) → ComesTo es self.old.dispatcher → ComesTo es self.new.dispatcher }
+    pub(crate) fn receive(&mut self, channel: u32) -> Result<(), AllocError>
+        ensures after { Receives result channel self.old self.new }
+        ensures gone { ReleasesNone self.old self.new }
+        ensures calls { CountsNoFewer result self.old self.new }
+        ensures more { GoesOn self.old self.new }
         ensures latest { self.new.latest ≡ self.old.latest }
     {
         let Some(counts) = self.dispatcher.counts(channel) else {
-            return Ok(0);
+            return Ok(());
         };
         let left = counts.published.saturating_sub(counts.received);
         if 0 < left && counts.live {
             self.receive_many(channel, left)?;
         }
-        Ok(counts.sent)
+        Ok(())
     }
 
-    /// The same, and what the channel was sent comes to the lines, and is let go.
-    #[inline(always)]
-    fn take_sent(&mut self, channel: u32) -> Result<u64, AllocError>
-        ensures after { (how : Lines) (plan : PlanView) (es : List Effect) → HasWith how plan es self.old
-            → OnOk result (HasWith how plan (extend plan.displays es (receives_of es channel)) self.new) }
-        ensures sent { (how : Lines) (plan : PlanView) (es : List Effect) → HasWith how plan es self.old
-            → is_opened es channel ≡ true
-            → IfOk result (λ n. n ≡ length (stream es channel)) }
-        ensures messages { self.new.messages ≡ self.old.messages }
-        ensures calls { OnOk result (self.old.calls ≤ self.new.calls) }
-        ensures more { (es : List Effect) → ComesTo es self.old.dispatcher → ComesTo es self.new.dispatcher }
-        ensures latest { self.new.latest ≡ self.old.latest }
-    {
-        let sent = self.receive(channel)?;
-        self.drain_some(channel)?;
-        Ok(sent)
-    }
-
-    /// The owners of all live channels take all that is published. What all channels were sent comes to the lines, and
-    /// is let go.
+    /// The owners of all live channels take all that is published, and what those channels were sent is drained. Only
+    /// channels with an unfinished message are looked at: the owner of any other one has received all.
     pub(crate) fn receive_all(&mut self) -> Result<(), AllocError>
         ensures after { (how : Lines) (plan : PlanView) (es : List Effect) → HasWith how plan es self.old
             → OnOk result (HasWith how plan (received_all plan.displays es) self.new) }
-        ensures messages { (how : Lines) (plan : PlanView) (es : List Effect) → HasWith how plan es self.old
-            → OnOk result (self.new.messages ≡ counted (messages_in es)) }
-        ensures calls { OnOk result (self.old.calls ≤ self.new.calls) }
-        ensures more { (es : List Effect) → ComesTo es self.old.dispatcher → ComesTo es self.new.dispatcher }
+        ensures released { (how : Lines) (plan : PlanView) (es : List Effect) → HasWith how plan es self.old
+            → KeepsUnfinished es self.old.dispatcher → OnOk result (AllReleased es self.new.dispatcher) }
+        ensures calls { CountsNoFewer result self.old self.new }
+        ensures more { GoesOn self.old self.new }
         ensures latest { self.new.latest ≡ self.old.latest }
     {
-        let mut messages: u64 = 0;
-        for place in 0..self.dispatcher.opened() {
-            messages = messages.saturating_add(self.take_sent(place + 1)?);
+        let mut rest = self.dispatcher.unfinished();
+        while rest != 0 {
+            let channel = mask_first(rest);
+            self.receive(channel)?;
+            self.drain(channel)?;
+            rest = mask_without(rest, channel);
         }
-        self.messages = messages;
         Ok(())
+    }
+}
+
+/// Makes a call without reading its reply. Out of memory changes nothing.
+fn take_step(dispatcher: &mut Dispatcher, call: &Call) -> Result<(), AllocError>
+    ensures ok { OnOk result (StepsOn call.now dispatcher.old dispatcher.new) }
+    ensures err { OnErr result (dispatcher.new ≡ dispatcher.old) }
+{
+    match dispatcher.apply(call) {
+        Ok(_) => Ok(()),
+        Err(error) => Err(error),
     }
 }
 
@@ -246,6 +242,9 @@ fn apply_call(
 {
     match causes {
         Some(text) => why_lines::apply(text, dispatcher, call),
-        None => dispatcher.apply_unread(call),
+        None => {
+            take_step(dispatcher, call)?;
+            Ok(())
+        }
     }
 }

@@ -1,5 +1,5 @@
 //! The lines of what a channel was sent.
-ghost use Rattle.std.specs.Prelude.{◌≡◌, [], ◌++◌, ℕ, true, List, OnOk, OnErr, IfOk, vec_len, drop, reverse};
+ghost use Rattle.std.specs.Prelude.{◌≡◌, ◌-◌, [], ◌++◌, ℕ, true, List, OnOk, OnErr, IfOk, vec_len, drop, length, reverse};
 ghost use Rattle.dispatch_history.specs.Effect.{Effect, stream};
 ghost use Rattle.dispatcher.specs.Access.{gone, is_opened};
 ghost use Rattle.dispatcher.specs.Dispatching.{IsAfter};
@@ -14,7 +14,7 @@ use std::marker::Model;
 use std::mem;
 use stream_text::LineWriter;
 
-/// The messages that a channel was sent and let go. Their lines alone are kept, which are far shorter than they are.
+/// The messages that a channel was sent and released. Only their lines are kept, which are far shorter.
 #[derive(Drop)]
 pub(crate) struct Stream {
     lines: Vec<u8>,
@@ -94,18 +94,23 @@ fn drain_all(
     Ok(())
 }
 
-/// Puts the messages of a channel that were not let go to its lines.
+/// Puts the messages of a channel that were not released to its lines, and answers how many they are.
 pub(crate) fn drain_left(
     streams: &mut Vec<Stream>,
     dispatcher: &Dispatcher,
     channel: u32,
-) -> Result<(), AllocError>
-    ensures { (es : List Effect) → IsAfter es dispatcher.now → is_opened es channel ≡ true
+) -> Result<u64, AllocError>
+    ensures lines { (es : List Effect) → IsAfter es dispatcher.now → is_opened es channel ≡ true
         → OnOk result (WithMore (message_lines (drop (gone dispatcher.now channel) (reverse (stream es channel))))
         channel streams.old.items streams.new.items) }
+    ensures count { (es : List Effect) → IsAfter es dispatcher.now → is_opened es channel ≡ true
+        → IfOk result (λ n. n ≡ length (stream es channel) - gone dispatcher.now channel) }
 {
     match dispatcher.messages(channel) {
-        Some(messages) => drain_all(streams, channel, messages),
-        None => Ok(()),
+        Some(messages) => {
+            drain_all(streams, channel, messages)?;
+            Ok(messages.len() as u64)
+        }
+        None => Ok(0),
     }
 }

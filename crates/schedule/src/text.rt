@@ -28,7 +28,7 @@ fn add_messages(messages: &[Message], text: &mut Vec<u8>) -> Result<(), AllocErr
     Ok(())
 }
 
-/// Appends the lines of the messages of a channel that were not let go.
+/// Appends the lines of the messages that a channel has not released.
 pub(crate) fn add_left(
     dispatcher: &Dispatcher,
     channel: u32,
@@ -60,7 +60,7 @@ pub(crate) fn counts_of(dispatcher: &Dispatcher, channel: u32) -> Counts
     }
 }
 
-/// Appends the lines of namings, or as many of them as memory serves for.
+/// Appends the lines of ANRs, or of as many of them as there is memory for.
 fn append_anrs(anrs: &[Anr], text: &mut Vec<u8>) -> Result<(), AllocError>
     ensures ok { OnOk result (text.new.items ≡ text.old.items ++ anr_lines anrs.now) }
     ensures front { take (length text.old.items) text.new.items ≡ text.old.items }
@@ -71,7 +71,7 @@ fn append_anrs(anrs: &[Anr], text: &mut Vec<u8>) -> Result<(), AllocError>
     Ok(())
 }
 
-/// Appends the lines of namings. After want of memory `text` is as before.
+/// Appends the lines of ANRs. Out of memory leaves `text` as it was.
 pub fn add_all_anrs(anrs: &[Anr], text: &mut Vec<u8>) -> Result<(), AllocError>
     ensures ok { OnOk result (text.new.items ≡ text.old.items ++ anr_lines anrs.now) }
     ensures err { OnErr result (text.new.items ≡ text.old.items) }

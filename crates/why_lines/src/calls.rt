@@ -1,7 +1,8 @@
 //! Any call of a dispatcher, made and told.
-ghost use Rattle.std.specs.Prelude.{◌≡◌, ℕ, List, true, OnOk};
+ghost use Rattle.std.specs.Prelude.{◌≡◌, ℕ, List, true, OnOk, OnErr};
 ghost use Rattle.dispatch_calls.specs.declared.reply.Reply.{Reply as Answer};
 ghost use Rattle.dispatch_history.specs.Effect.{Effect};
+ghost use Rattle.dispatcher.specs.Answered.{StepsOn};
 ghost use Rattle.dispatcher.specs.Dispatching.{IsAfter, StandsFor};
 ghost use Rattle.why_text.specs.Laws.{is_silent};
 ghost use Rattle.why_lines.specs.Explaining.{MayMake, Explains, ExplainsAfter};
@@ -13,6 +14,17 @@ use dispatch_calls::Call;
 use dispatcher::Dispatcher;
 use std::alloc::AllocError;
 
+/// Makes a call without reading its reply. Out of memory changes nothing.
+pub(crate) fn take_step(dispatcher: &mut Dispatcher, call: &Call) -> Result<(), AllocError>
+    ensures ok { OnOk result (StepsOn call.now dispatcher.old dispatcher.new) }
+    ensures err { OnErr result (dispatcher.new ≡ dispatcher.old) }
+{
+    match dispatcher.apply(call) {
+        Ok(_) => Ok(()),
+        Err(error) => Err(error),
+    }
+}
+
 /// Makes a call that tells nothing, whatever it is answered.
 fn make(dispatcher: &mut Dispatcher, call: &Call) -> Result<(), AllocError>
     requires { (answer : Answer) → is_silent call.now answer ≡ true }
@@ -22,10 +34,11 @@ fn make(dispatcher: &mut Dispatcher, call: &Call) -> Result<(), AllocError>
         → OnOk result (ExplainsAfter call.now es dispatcher.old.displays text text dispatcher.new) }
     ensures made { MayMake call.now dispatcher.old dispatcher.new }
 {
-    dispatcher.apply_unread(call)
+    take_step(dispatcher, call)?;
+    Ok(())
 }
 
-/// Makes a call as [`apply_unread`](Dispatcher::apply_unread) does, and adds what its step tells to the end of a text.
+/// Makes a call as [`apply`](Dispatcher::apply) does, and adds what its step tells to the end of a text.
 ///
 /// After want of memory the call was made or it was not, and a part of its lines may have been added.
 pub fn apply(text: &mut Vec<u8>, dispatcher: &mut Dispatcher, call: &Call) -> Result<(), AllocError>

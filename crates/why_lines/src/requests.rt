@@ -7,6 +7,7 @@ ghost use Rattle.why_lines.specs.Gone.{target_line};
 ghost use Rattle.why_lines.specs.Growing.{with_lines};
 ghost use Rattle.why_lines.specs.Explaining.{MayMake, Explains, ExplainsAfter};
 
+use crate::calls::take_step;
 use crate::focuses::{add_changes, all_focused};
 use crate::gone::{add_gone, keys_gone, target_keys};
 use crate::lines::{Lost, request};
@@ -60,11 +61,14 @@ pub fn focus_on(
     let target = dispatcher.target();
     let held = target_keys(*text.allocator(), dispatcher, target)?;
     request(text, clock, display, channel)?;
-    dispatcher.apply_unread(&Call::FocusOn {
-        now,
-        display,
-        channel,
-    })?;
+    take_step(
+        dispatcher,
+        &Call::FocusOn {
+            now,
+            display,
+            channel,
+        },
+    )?;
     let after = all_focused(dispatcher);
     add_target(text, clock, target, &held, dispatcher.target())?;
     add_changes(text, clock, &before, &after)

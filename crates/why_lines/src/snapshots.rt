@@ -10,6 +10,7 @@ ghost use Rattle.why_lines.specs.Growing.{with_lines};
 ghost use Rattle.why_lines.specs.Held.{HoldThis, IsQuiet, held_keys};
 ghost use Rattle.why_lines.specs.Explaining.{MayMake, Explains, ExplainsAfter};
 
+use crate::calls::take_step;
 use crate::focuses::{add_changes, all_focused};
 use crate::gone::{add_gone, is_at, keys_gone, target_keys};
 use crate::lines::Lost;
@@ -107,7 +108,7 @@ pub fn windows(
         keys: &keys,
     };
     crate::lines::windows(text, clock, snapshot.windows())?;
-    dispatcher.apply_unread(call)?;
+    take_step(dispatcher, call)?;
     let after = all_focused(dispatcher);
     add_all_lost(text, clock, &held, dispatcher)?;
     add_changes(text, clock, &before, &after)

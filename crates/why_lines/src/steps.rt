@@ -6,6 +6,7 @@ ghost use Rattle.dispatch_history.specs.Effect.{Effect};
 ghost use Rattle.dispatcher.specs.Dispatching.{IsAfter, StandsFor};
 ghost use Rattle.why_lines.specs.Explaining.{MayMake, Explains, ExplainsAfter};
 
+use crate::calls::take_step;
 use crate::focuses::{add_changes, all_focused};
 use crate::losing::add_removal;
 use crate::owners::{add_finish, add_pilfer};
@@ -28,7 +29,8 @@ pub fn pump(text: &mut Vec<u8>, dispatcher: &mut Dispatcher, now: Moment) -> Res
 {
     let clock = now.later(dispatcher.clock());
     add_pump(text, clock, dispatcher)?;
-    dispatcher.apply_unread(&Call::Pump { now })
+    dispatcher.pump(now)?;
+    Ok(())
 }
 
 /// Makes a tick, and adds what it tells: of each window that it names, what that loses.
@@ -43,7 +45,8 @@ pub fn tick(text: &mut Vec<u8>, dispatcher: &mut Dispatcher, now: Moment) -> Res
 {
     let clock = now.later(dispatcher.clock());
     add_tick(text, clock, dispatcher)?;
-    dispatcher.apply_unread(&Call::Tick { now })
+    take_step(dispatcher, &Call::Tick { now })?;
+    Ok(())
 }
 
 /// Makes a pilfer by a channel of a device, and adds what it tells.
@@ -65,11 +68,15 @@ pub fn pilfer(
 {
     let clock = now.later(dispatcher.clock());
     add_pilfer(text, clock, dispatcher, channel, device)?;
-    dispatcher.apply_unread(&Call::Pilfer {
-        now,
-        channel,
-        device,
-    })
+    take_step(
+        dispatcher,
+        &Call::Pilfer {
+            now,
+            channel,
+            device,
+        },
+    )?;
+    Ok(())
 }
 
 /// Makes a finish of a message of a channel, and adds what it tells.
@@ -91,7 +98,7 @@ pub fn finish(
 {
     let clock = now.later(dispatcher.clock());
     let before = dispatcher.able();
-    dispatcher.apply_unread(&Call::Finish { now, channel, seq })?;
+    dispatcher.finish(now, channel, seq)?;
     let after = dispatcher.able();
     add_finish(text, clock, channel, before, after)
 }
@@ -114,7 +121,7 @@ pub fn remove(
     let clock = now.later(dispatcher.clock());
     let before = all_focused(dispatcher);
     add_removal(text, clock, dispatcher, channel)?;
-    dispatcher.apply_unread(&Call::Remove { now, channel })?;
+    dispatcher.remove(now, channel)?;
     let after = all_focused(dispatcher);
     add_changes(text, clock, &before, &after)
 }
@@ -131,7 +138,7 @@ pub fn open(text: &mut Vec<u8>, dispatcher: &mut Dispatcher, limit: Limit) -> Re
 {
     let clock = Moment::zero().later(dispatcher.clock());
     let before = all_focused(dispatcher);
-    dispatcher.apply_unread(&Call::Open { limit })?;
+    take_step(dispatcher, &Call::Open { limit })?;
     let after = all_focused(dispatcher);
     add_changes(text, clock, &before, &after)
 }

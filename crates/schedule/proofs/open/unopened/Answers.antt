@@ -16,4 +16,5 @@ returns-clause-has c = record {
   causes_are = c.causes.ensures c.args.plan.now.displays;
   next_is = refl;
   calls_are = refl;
+  released_are = refl;
 }

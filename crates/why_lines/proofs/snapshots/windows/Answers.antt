@@ -5,13 +5,14 @@ use Rattle.dispatch_history.specs.Effect.{past_of}
 use Rattle.dispatch_history.specs.Effects.{effect_of, step}
 use Rattle.dispatch_history.specs.History.{clock}
 use Rattle.dispatch_history.specs.Queue.{args_of, inbound}
+use Rattle.dispatcher.specs.Answered.{StepsOn}
 use Rattle.dispatcher.specs.Dispatching.{IsAfter}
 use Rattle.route_split.specs.Tables.{holds_at}
 use Rattle.why_text.specs.Lines.{gone_words, snapshot_words}
 use Rattle.why_text.specs.Text.{focus_words, line}
+use Rattle.dispatcher.proofs.Following.{known_so}
 use Rattle.dispatcher.proofs.Standing.{after_of}
 use Rattle.why_lines.specs.Growing.{with_lines}
-use Rattle.why_lines.specs.Explaining.{MayMake}
 use Rattle.why_lines.proofs.Growing.{more_lines, one_line}
 use Rattle.why_lines.proofs.Held.{keys_there}
 use Rattle.why_lines.proofs.Making.{made_now, sends_of}
@@ -26,12 +27,13 @@ returns-clause-known c es st =
     let call = Windows now ws in
     let text = c.args.text.now.items in
     let t = c.later-clock.result in
-    let later = c.apply_unread.new.self in
+    let later = c.take_step.new.dispatcher in
     let at : t ≡ max now (clock (past_of es)) = c.later-clock.ensures ∙ ap (max now) (c.clock.ensures es st) in
-    let p = c.in_ok-apply_unread.ensures.known es st in
+    let goes = subst (λ k. StepsOn k c.args.dispatcher.now later) c.requires c.in_ok-take_step.ensures.ok in
+    let p = known_so _ _ _ goes es st in
     let fs = step ds call p.0 es in
     let x = effect_of ds call p.0 (args_of call p.0 (inbound (past_of es))) es in
-    let stands : IsAfter fs later = subst (λ k. IsAfter (step ds k p.0 es) later) c.requires p.1 in
+    let stands : IsAfter fs later = p.1 in
     let o = c.target-target.result in
     let shown = snapshot_words ws in
     let gone = gone_words x es in
@@ -50,7 +52,7 @@ returns-clause-known c es st =
     from_if c.add_changes.result _ _
     (c.add_changes.ensures (past_of es) (past_of fs) (c.all_focused-before.ensures es st) (c.all_focused-after.ensures fs stands))
     (λ grown.
-    sends_moved ds call es p.0 later t (shown ∷ gone) text c.add_changes.new.text.items stands c.in_ok-apply_unread.ensures.displays at
+    sends_moved ds call es p.0 later t (shown ∷ gone) text c.add_changes.new.text.items stands goes.displays_are at
     (grown
     ∙ ap (with_lines t (focus_words (past_of es) (past_of fs)))
     (lost
@@ -61,19 +63,15 @@ returns-clause-known c es st =
 
 pub returns-clause-made : goal.returns-clause-made
 returns-clause-made c =
-    subst (λ k. MayMake k c.args.dispatcher.now c.apply_unread.new.self) c.requires
-    (made_now c.args.call.now c.args.dispatcher.now c.apply_unread.new.self c.in_ok-apply_unread.ensures.displays c.in_ok-apply_unread.ensures.gone
-    c.in_ok-apply_unread.ensures.anrs
-    c.in_ok-apply_unread.ensures.known)
+    made_now (Windows c.args.now c.args.snapshot.now) c.args.dispatcher.now c.take_step.new.dispatcher
+    (subst (λ k. StepsOn k c.args.dispatcher.now c.take_step.new.dispatcher) c.requires c.in_ok-take_step.ensures.ok)
 
 pub returns-in_err-add_all_lost-clause-made : goal.returns-in_err-add_all_lost-clause-made
 returns-in_err-add_all_lost-clause-made c =
-    subst (λ k. MayMake k c.args.dispatcher.now c.apply_unread.new.self) c.requires
-    (made_now c.args.call.now c.args.dispatcher.now c.apply_unread.new.self c.in_ok-apply_unread.ensures.displays c.in_ok-apply_unread.ensures.gone
-    c.in_ok-apply_unread.ensures.anrs
-    c.in_ok-apply_unread.ensures.known)
+    made_now (Windows c.args.now c.args.snapshot.now) c.args.dispatcher.now c.take_step.new.dispatcher
+    (subst (λ k. StepsOn k c.args.dispatcher.now c.take_step.new.dispatcher) c.requires c.in_ok-take_step.ensures.ok)
 
 pub returns-clause-outgoing : goal.returns-clause-outgoing
 returns-clause-outgoing c es st =
-    sends_of (Windows c.args.now c.args.snapshot.now) c.add_changes.result es _ _ c.args.dispatcher.now c.apply_unread.new.self st (returns-clause-made c)
+    sends_of (Windows c.args.now c.args.snapshot.now) c.add_changes.result es _ _ c.args.dispatcher.now c.take_step.new.dispatcher st (returns-clause-made c)
     (returns-clause-known c es (after_of es c.args.dispatcher.now st))

@@ -4,6 +4,7 @@ use Rattle.dispatch_calls.specs.declared.call.Call.TheVariants.{Finish}
 use Rattle.dispatch_history.specs.Effect.{past_of}
 use Rattle.dispatch_history.specs.Effects.{step}
 use Rattle.dispatch_history.specs.History.{clock}
+use Rattle.dispatcher.proofs.Following.{known_so}
 use Rattle.dispatcher.proofs.Standing.{after_of}
 use Rattle.why_lines.specs.Owners.{again_words}
 use Rattle.why_lines.proofs.Finishing.{finish_law}
@@ -18,10 +19,10 @@ returns-clause-known c es st =
     let w = c.args.channel in
     let seq = c.args.seq in
     let call = Finish now w seq in
-    let later = c.apply_unread.new.self in
+    let later = c.finish.new.self in
     let at : c.later-clock.result ≡ max now (clock (past_of es)) = c.later-clock.ensures ∙ ap (max now) (c.clock.ensures es st) in
-    let p = c.in_ok-apply_unread.ensures.known es st in
-    let lawful = stands_lawful ds (step ds call p.0 es) later p.1 c.in_ok-apply_unread.ensures.displays in
+    let p = known_so _ _ _ c.in_ok-finish.ensures.ok.goes es st in
+    let lawful = stands_lawful ds (step ds call p.0 es) later p.1 c.in_ok-finish.ensures.ok.goes.displays_are in
     from_if c.add_finish.result _ _ c.add_finish.ensures
     (λ grown.
     sends ds call es p.0 later c.later-clock.result
@@ -29,7 +30,7 @@ returns-clause-known c es st =
     c.args.text.now.items
     c.add_finish.new.text.items
     p.1
-    c.in_ok-apply_unread.ensures.displays
+    c.in_ok-finish.ensures.ok.goes.displays_are
     at
     refl
     grown
@@ -40,11 +41,9 @@ returns-clause-known c es st =
 
 pub returns-clause-made : goal.returns-clause-made
 returns-clause-made c =
-    made_now (Finish c.args.now c.args.channel c.args.seq) c.args.dispatcher.now c.apply_unread.new.self c.in_ok-apply_unread.ensures.displays c.in_ok-apply_unread.ensures.gone
-    c.in_ok-apply_unread.ensures.anrs
-    c.in_ok-apply_unread.ensures.known
+    made_now (Finish c.args.now c.args.channel c.args.seq) c.args.dispatcher.now c.finish.new.self c.in_ok-finish.ensures.ok.goes
 
 pub returns-clause-outgoing : goal.returns-clause-outgoing
 returns-clause-outgoing c es st =
-    sends_of (Finish c.args.now c.args.channel c.args.seq) c.add_finish.result es _ _ c.args.dispatcher.now c.apply_unread.new.self st (returns-clause-made c)
+    sends_of (Finish c.args.now c.args.channel c.args.seq) c.add_finish.result es _ _ c.args.dispatcher.now c.finish.new.self st (returns-clause-made c)
     (returns-clause-known c es (after_of es c.args.dispatcher.now st))

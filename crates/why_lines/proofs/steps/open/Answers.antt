@@ -4,6 +4,7 @@ use Rattle.dispatch_history.specs.Effect.{past_of}
 use Rattle.dispatch_history.specs.Effects.{step}
 use Rattle.dispatch_history.specs.History.{clock}
 use Rattle.why_text.specs.Text.{focus_words}
+use Rattle.dispatcher.proofs.Following.{known_so}
 use Rattle.dispatcher.proofs.Standing.{after_of}
 use Rattle.why_lines.specs.Growing.{with_lines}
 use Rattle.why_lines.proofs.Growing.{no_line}
@@ -17,24 +18,22 @@ returns-clause-known c es st =
     let call = Open c.args.limit in
     let text = c.args.text.now.items in
     let t = c.later-clock.result in
-    let later = c.apply_unread.new.self in
+    let later = c.take_step.new.dispatcher in
     let at : t ≡ max 0 (clock (past_of es)) = c.later-clock.ensures ∙ ap₂ max c.zero.ensures (c.clock.ensures es st) in
-    let p = c.in_ok-apply_unread.ensures.known es st in
+    let p = known_so _ _ _ c.in_ok-take_step.ensures.ok es st in
     let fs = step ds call p.0 es in
     from_if c.add_changes.result _ _
     (c.add_changes.ensures (past_of es) (past_of fs) (c.all_focused-before.ensures es st) (c.all_focused-after.ensures fs p.1))
     (λ grown.
-    sends_moved ds call es p.0 later t [] text c.add_changes.new.text.items p.1 c.in_ok-apply_unread.ensures.displays at
+    sends_moved ds call es p.0 later t [] text c.add_changes.new.text.items p.1 c.in_ok-take_step.ensures.ok.displays_are at
     (grown ∙ ap (with_lines t (focus_words (past_of es) (past_of fs))) (no_line t text))
     (λ a. refl))
 
 pub returns-clause-made : goal.returns-clause-made
 returns-clause-made c =
-    made_now (Open c.args.limit) c.args.dispatcher.now c.apply_unread.new.self c.in_ok-apply_unread.ensures.displays c.in_ok-apply_unread.ensures.gone
-    c.in_ok-apply_unread.ensures.anrs
-    c.in_ok-apply_unread.ensures.known
+    made_now (Open c.args.limit) c.args.dispatcher.now c.take_step.new.dispatcher c.in_ok-take_step.ensures.ok
 
 pub returns-clause-outgoing : goal.returns-clause-outgoing
 returns-clause-outgoing c es st =
-    sends_of (Open c.args.limit) c.add_changes.result es _ _ c.args.dispatcher.now c.apply_unread.new.self st (returns-clause-made c)
+    sends_of (Open c.args.limit) c.add_changes.result es _ _ c.args.dispatcher.now c.take_step.new.dispatcher st (returns-clause-made c)
     (returns-clause-known c es (after_of es c.args.dispatcher.now st))

@@ -5,10 +5,11 @@ use Rattle.dispatch_history.specs.History.{clock}
 use Rattle.dispatch_history.specs.Reply.{pilfer_reply}
 use Rattle.dispatch_history.specs.Step.{scene}
 use Rattle.why_text.specs.Lines.{pilfer_words}
+use Rattle.dispatcher.proofs.Following.{known_so}
 use Rattle.dispatcher.proofs.Standing.{after_of}
 use Rattle.why_lines.proofs.Growing.{one_line}
-use Rattle.why_lines.proofs.Making.{made_by, sends_of}
-use Rattle.why_lines.proofs.Outgoing.{on_ok, sends}
+use Rattle.why_lines.proofs.Making.{made_now, sends_now}
+use Rattle.why_lines.proofs.Outgoing.{sends}
 use Rattle.why_lines.proofs.steps.pilfer.Goals as goal
 
 pub returns-clause-known : goal.returns-clause-known
@@ -19,10 +20,9 @@ returns-clause-known c es st =
     let d = c.args.device in
     let words = pilfer_words (pilfer_reply es w d) (scene ds es) w d in
     let at : c.later-clock.result ≡ max now (clock (past_of es)) = c.later-clock.ensures ∙ ap (max now) (c.clock.ensures es st) in
-    on_ok c.apply_unread.result _ _ (c.apply_unread.ensures.known es st)
-    (λ p.
-    sends ds (Pilfer now w d) es p.0 c.apply_unread.new.self c.later-clock.result (words ∷ []) c.args.text.now.items c.add_pilfer.new.text.items p.1
-    c.apply_unread.ensures.displays
+    let p = known_so _ _ _ c.in_ok-take_step.ensures.ok es st in
+    (sends ds (Pilfer now w d) es p.0 c.take_step.new.dispatcher c.later-clock.result (words ∷ []) c.args.text.now.items c.add_pilfer.new.text.items p.1
+    c.in_ok-take_step.ensures.ok.displays_are
     at
     refl
     (c.in_ok-add_pilfer.ensures es st ∙ one_line c.later-clock.result words c.args.text.now.items)
@@ -30,12 +30,9 @@ returns-clause-known c es st =
 
 pub returns-clause-made : goal.returns-clause-made
 returns-clause-made c =
-    made_by (Pilfer c.args.now c.args.channel c.args.device) c.args.dispatcher.now c.apply_unread.new.self c.apply_unread.result c.apply_unread.ensures.displays c.apply_unread.ensures.gone
-    c.apply_unread.ensures.anrs
-    c.apply_unread.ensures.known
-    c.apply_unread.ensures.err
+    made_now (Pilfer c.args.now c.args.channel c.args.device) c.args.dispatcher.now c.take_step.new.dispatcher c.in_ok-take_step.ensures.ok
 
 pub returns-clause-outgoing : goal.returns-clause-outgoing
 returns-clause-outgoing c es st =
-    sends_of (Pilfer c.args.now c.args.channel c.args.device) c.apply_unread.result es _ _ c.args.dispatcher.now c.apply_unread.new.self st (returns-clause-made c)
+    sends_now (Pilfer c.args.now c.args.channel c.args.device) es _ _ c.args.dispatcher.now c.take_step.new.dispatcher st (returns-clause-made c)
     (returns-clause-known c es (after_of es c.args.dispatcher.now st))

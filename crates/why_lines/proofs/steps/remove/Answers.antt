@@ -7,6 +7,7 @@ use Rattle.dispatch_history.specs.Queue.{args_of, inbound}
 use Rattle.dispatch_history.specs.Reply.{reply_to}
 use Rattle.why_text.specs.Lines.{removed_words}
 use Rattle.why_text.specs.Text.{focus_words}
+use Rattle.dispatcher.proofs.Following.{known_so}
 use Rattle.dispatcher.proofs.Standing.{after_of}
 use Rattle.why_lines.specs.Growing.{with_lines}
 use Rattle.why_lines.proofs.AllLost.{remove_loses}
@@ -23,17 +24,17 @@ returns-clause-known c es st =
     let call = Remove now w in
     let text = c.args.text.now.items in
     let t = c.later-clock.result in
-    let later = c.apply_unread.new.self in
+    let later = c.remove.new.self in
     let at : t ≡ max now (clock (past_of es)) = c.later-clock.ensures ∙ ap (max now) (c.clock.ensures es st) in
-    let p = c.in_ok-apply_unread.ensures.known es st in
+    let p = known_so _ _ _ c.in_ok-remove.ensures.ok.goes es st in
     let fs = step ds call p.0 es in
     let x = effect_of ds call p.0 (args_of call p.0 (inbound (past_of es))) es in
-    let lawful = stands_lawful ds fs later p.1 c.in_ok-apply_unread.ensures.displays in
+    let lawful = stands_lawful ds fs later p.1 c.in_ok-remove.ensures.ok.goes.displays_are in
     let words = removed_words (reply_to es call) x es w in
     from_if c.add_changes.result _ _
     (c.add_changes.ensures (past_of es) (past_of fs) (c.all_focused-before.ensures es st) (c.all_focused-after.ensures fs p.1))
     (λ grown.
-    sends_moved ds call es p.0 later t (words ∷ []) text c.add_changes.new.text.items p.1 c.in_ok-apply_unread.ensures.displays at
+    sends_moved ds call es p.0 later t (words ∷ []) text c.add_changes.new.text.items p.1 c.in_ok-remove.ensures.ok.goes.displays_are at
     (grown
     ∙ ap (with_lines t (focus_words (past_of es) (past_of fs)))
     (c.in_ok-add_removal.ensures es x st (remove_loses ds es now w p.0 lawful) ∙ one_line t words text))
@@ -41,11 +42,9 @@ returns-clause-known c es st =
 
 pub returns-clause-made : goal.returns-clause-made
 returns-clause-made c =
-    made_now (Remove c.args.now c.args.channel) c.args.dispatcher.now c.apply_unread.new.self c.in_ok-apply_unread.ensures.displays c.in_ok-apply_unread.ensures.gone
-    c.in_ok-apply_unread.ensures.anrs
-    c.in_ok-apply_unread.ensures.known
+    made_now (Remove c.args.now c.args.channel) c.args.dispatcher.now c.remove.new.self c.in_ok-remove.ensures.ok.goes
 
 pub returns-clause-outgoing : goal.returns-clause-outgoing
 returns-clause-outgoing c es st =
-    sends_of (Remove c.args.now c.args.channel) c.add_changes.result es _ _ c.args.dispatcher.now c.apply_unread.new.self st (returns-clause-made c)
+    sends_of (Remove c.args.now c.args.channel) c.add_changes.result es _ _ c.args.dispatcher.now c.remove.new.self st (returns-clause-made c)
     (returns-clause-known c es (after_of es c.args.dispatcher.now st))

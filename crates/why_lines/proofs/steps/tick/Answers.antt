@@ -8,10 +8,11 @@ use Rattle.dispatch_history.specs.Reply.{is_due}
 use Rattle.dispatch_tables.specs.Dues.{due_moment}
 use Rattle.why_text.specs.Lines.{timeout_words}
 use Rattle.why_text.specs.Words.{channels_that}
+use Rattle.dispatcher.proofs.Following.{known_so}
 use Rattle.dispatcher.proofs.Standing.{after_of}
-use Rattle.why_lines.proofs.Making.{made_by, sends_of}
+use Rattle.why_lines.proofs.Making.{made_now, sends_now}
 use Rattle.why_lines.proofs.Ticking.{named_loses, named_words}
-use Rattle.why_lines.proofs.Outgoing.{on_ok, stands_lawful, sends}
+use Rattle.why_lines.proofs.Outgoing.{stands_lawful, sends}
 use Rattle.why_lines.proofs.steps.tick.Goals as goal
 
 pub returns-clause-known : goal.returns-clause-known
@@ -20,14 +21,13 @@ returns-clause-known c es st =
     let now = c.args.now in
     let call = Tick now in
     let t = c.later-clock.result in
-    let later = c.apply_unread.new.self in
+    let later = c.take_step.new.dispatcher in
     let at : t ≡ max now (clock (past_of es)) = c.later-clock.ensures ∙ ap (max now) (c.clock.ensures es st) in
-    on_ok c.apply_unread.result _ _ (c.apply_unread.ensures.known es st)
-    (λ p.
-    let x = effect_of ds call p.0 (args_of call p.0 (inbound (past_of es))) es in
-    let lawful = stands_lawful ds (step ds call p.0 es) later p.1 c.apply_unread.ensures.displays in
+    let p = known_so _ _ _ c.in_ok-take_step.ensures.ok es st in
+    (let x = effect_of ds call p.0 (args_of call p.0 (inbound (past_of es))) es in
+    let lawful = stands_lawful ds (step ds call p.0 es) later p.1 c.in_ok-take_step.ensures.ok.displays_are in
     sends ds call es p.0 later t (map (timeout_words x es) (channels_that (λ w. is_due (due_moment es w) t))) c.args.text.now.items c.add_tick.new.text.items p.1
-    c.apply_unread.ensures.displays
+    c.in_ok-take_step.ensures.ok.displays_are
     at
     refl
     (c.in_ok-add_tick.ensures es x st (λ w due. named_loses ds es now w p.0 lawful (ap (is_due (due_moment es w)) (sym at) ∙ due)))
@@ -37,12 +37,9 @@ returns-clause-known c es st =
 
 pub returns-clause-made : goal.returns-clause-made
 returns-clause-made c =
-    made_by (Tick c.args.now) c.args.dispatcher.now c.apply_unread.new.self c.apply_unread.result c.apply_unread.ensures.displays c.apply_unread.ensures.gone
-    c.apply_unread.ensures.anrs
-    c.apply_unread.ensures.known
-    c.apply_unread.ensures.err
+    made_now (Tick c.args.now) c.args.dispatcher.now c.take_step.new.dispatcher c.in_ok-take_step.ensures.ok
 
 pub returns-clause-outgoing : goal.returns-clause-outgoing
 returns-clause-outgoing c es st =
-    sends_of (Tick c.args.now) c.apply_unread.result es _ _ c.args.dispatcher.now c.apply_unread.new.self st (returns-clause-made c)
+    sends_now (Tick c.args.now) es _ _ c.args.dispatcher.now c.take_step.new.dispatcher st (returns-clause-made c)
     (returns-clause-known c es (after_of es c.args.dispatcher.now st))

@@ -2,6 +2,7 @@ use Rattle.std.proofs.Common.{List, ◌≤◌, ◌++◌, ◌∷◌, [], ap, ◌�
 use Rattle.dispatch_calls.specs.declared.call.Entry.{Entry}
 use Rattle.dispatch_history.specs.Legal.{reply}
 use Rattle.dispatcher.specs.Memory.{IsCalm}
+use Rattle.dispatcher.proofs.Following.{stands_with}
 use Rattle.dispatch_core.specs.Recorded.{effects_of, history_of, IsRecorded, IsSound, AnswersGone}
 use Rattle.dispatch_core.proofs.Recording.{recorded_more, recorded_behind, replied, sound_of, gone_of, room_after, may_count, one_in, pumps_fit}
 use Rattle.dispatch_core.proofs.record.Core.apply.Goals.{in-Windows-2, in-Open-2}
@@ -16,8 +17,9 @@ entry c = record { seat = c.args.seat; call = c.args.call; reply = c.in-Ok.reply
 
 newest : (c : goal.After-self-in-Ok-1) → IsRecorded (entry c ∷ reverse c.self.inside.entries.items) c.apply.new.self
 newest c =
-    recorded_more (entry c) _ c.self.inside.dispatcher c.apply.new.self c.self.invariant.0 (c.in-Ok.ensures.after _ c.self.invariant.0.stands) c.in-Ok.ensures.displays c.in-Ok.ensures.gone
-    c.in-Ok.ensures.anrs
+    recorded_more (entry c) _ c.self.inside.dispatcher c.apply.new.self c.self.invariant.0 (stands_with _ _ _ _ c.in-Ok.ensures.ok _ c.self.invariant.0.stands) c.in-Ok.ensures.ok.goes.displays_are
+    c.in-Ok.ensures.ok.goes.gone_are
+    c.in-Ok.ensures.ok.goes.anrs_are
 
 all : (c : goal.After-self-in-Ok-1) → IsRecorded (reverse c.note.new.entries.items) c.apply.new.self
 all c = recorded_behind (entry c) c.self.inside.entries.items c.note.new.entries.items c.apply.new.self (c.note.ensures.items ∙ ap (λ (xs : List Entry). xs ++ entry c ∷ []) c.in_ok-make_sure.ensures.items) (newest c)
@@ -26,7 +28,7 @@ pub invariant_of-self-in-Ok : goal.invariant_of-self-in-Ok
 invariant_of-self-in-Ok c = (
   all c,
   room_after _ _ c.self.inside.spare _ _ _ c.in_ok-make_sure.ensures.ok c.note.ensures.len c.note.ensures.capacity c.saturating_sub-self-inside.ensures,
-  omega (arith, c.saturating_sub-self-inside.ensures, c.self.invariant.2, c.in-Ok.ensures.room, one_in c.args.call),
+  omega (arith, c.saturating_sub-self-inside.ensures, c.self.invariant.2, c.in-Ok.ensures.ok.goes.room_is, one_in c.args.call),
   pumps_fit c.args.call _ _ _ _ c.self.invariant.3 c.in-Ok.ensures.pumps c.pumps_after-self-inside.ensures,
 )
 
@@ -37,7 +39,7 @@ pub returns-in-Ok-clause-gone : goal.returns-in-Ok-clause-gone
 returns-in-Ok-clause-gone c =
     let h = history_of (reverse c.self.inside.entries.items) in
     let is : c.in-Ok.reply ≡ reply c.self.inside.dispatcher.displays h c.args.call =
-    replied (entry c) _ c.apply.new.self (newest c) ∙ ap (λ ds. reply ds h c.args.call) c.in-Ok.ensures.displays in
+    replied (entry c) _ c.apply.new.self (newest c) ∙ ap (λ ds. reply ds h c.args.call) c.in-Ok.ensures.ok.goes.displays_are in
     subst (λ r. AnswersGone (history_of r.entries) c.args.call c.in-Ok.reply) c.self.view_is
     (subst (AnswersGone h c.args.call) (sym is) (gone_of c.self.inside.dispatcher.displays h c.args.call))
 

@@ -1,87 +1,53 @@
-use Rattle.std.proofs.Common.{◌≤◌, ◌+◌, sym, ap, ◌∙◌, subst}
-use Rattle.dispatcher.specs.Access.{gone, anrs_released}
-use Rattle.dispatcher.specs.Dispatching.{IsAfter}
-use Rattle.dispatcher.proofs.Gone.{answered_gone}
-use Rattle.dispatcher.proofs.Standing.{stands_answered}
-use Rattle.dispatcher.proofs.Applying.{seen, answered_displays, raw, answers_somehow, history_after, stands_somehow, answered_after, room_left}
+use Rattle.std.proofs.Common.{IfOk, sym, subst}
+use Rattle.dispatcher.specs.Answered.{Answers}
+use Rattle.dispatcher.specs.Outcomes.{reply_of}
+use Rattle.dispatcher.proofs.Outcomes.{replied_ok}
 use Rattle.dispatcher.proofs.dispatcher.Dispatcher.apply.Goals as goal
 
-pub apply-requires : goal.apply-requires
-apply-requires c = let s = c.self.invariant.0 in (s.0, raw s.0 c.self.inside.tables s.1)
+pub returns-in-Notify-clause-ok : goal.returns-in-Notify-clause-ok
+returns-in-Notify-clause-ok c =
+    subst (λ r. IfOk r (λ answer. Answers c.args.call.now answer c.args.self.now c.notify.new.self)) (sym c.replied.ensures)
+    (replied_ok _ c.notify.result
+    (subst (λ call. IfOk c.notify.result (λ outcome. Answers call (reply_of outcome) c.args.self.now c.notify.new.self)) (sym c.in-Notify.is) c.notify.ensures.ok))
 
-pub invariant_of-self : goal.invariant_of-self
-invariant_of-self c = (
-  history_after c.args.call.now c.apply.result c.self.inside.tables c.apply.new.tables
-      (answers_somehow c.args.call.now c.apply.result c.self.inside.tables c.apply.new.tables c.apply.ensures.ok)
-      c.apply.ensures.err
-      c.self.invariant.0,
-  c.apply.ensures.promise c.self.invariant.1,
-)
+pub returns-in-Pump-clause-ok : goal.returns-in-Pump-clause-ok
+returns-in-Pump-clause-ok c =
+    subst (λ r. IfOk r (λ answer. Answers c.args.call.now answer c.args.self.now c.pump.new.self)) (sym c.replied-in-Pump.ensures)
+    (replied_ok _ c.pump.result
+    (subst (λ call. IfOk c.pump.result (λ outcome. Answers call (reply_of outcome) c.args.self.now c.pump.new.self)) (sym c.in-Pump.is) c.pump.ensures.ok))
 
-pub returns-clause-known : goal.returns-clause-known
-returns-clause-known c =
-    λ es s.
-    stands_somehow c.args.call.now c.apply.result c.self.inside.tables c.apply.new.tables c.args.self.now c.self.view_is
-    (answers_somehow c.args.call.now c.apply.result c.self.inside.tables c.apply.new.tables c.apply.ensures.ok)
-    es
-    s
+pub returns-in-Finish-clause-ok : goal.returns-in-Finish-clause-ok
+returns-in-Finish-clause-ok c =
+    subst (λ r. IfOk r (λ answer. Answers c.args.call.now answer c.args.self.now c.finish.new.self)) (sym c.replied-in-Finish.ensures)
+    (replied_ok _ c.finish.result
+    (subst (λ call. IfOk c.finish.result (λ outcome. Answers call (reply_of outcome) c.args.self.now c.finish.new.self)) (sym c.in-Finish.is) c.finish.ensures.ok))
 
-pub returns-clause-after : goal.returns-clause-after
-returns-clause-after c =
-    λ es s.
-    stands_answered c.args.call.now c.apply.result es c.args.self.now (seen c.apply.new.tables) s
-    ((answered_displays c.args.call.now c.apply.result c.self.inside.tables c.apply.new.tables
-    (answers_somehow c.args.call.now c.apply.result c.self.inside.tables c.apply.new.tables c.apply.ensures.ok)
-    c.apply.ensures.err)
-    ∙ ap (λ d. d.displays) c.self.view_is)
-    (λ k low.
-    (answered_gone c.args.call.now c.apply.result c.self.inside.tables c.apply.new.tables
-    (answers_somehow c.args.call.now c.apply.result c.self.inside.tables c.apply.new.tables c.apply.ensures.ok)
-    c.apply.ensures.err).of_channels
-    k
-    low
-    ∙ ap (λ d. gone d k) c.self.view_is)
-    (answered_after c.args.call.now c.apply.result c.self.inside.tables c.apply.new.tables c.args.self.now c.self.view_is c.apply.ensures.ok es s)
+pub returns-in-Remove-clause-ok : goal.returns-in-Remove-clause-ok
+returns-in-Remove-clause-ok c =
+    subst (λ r. IfOk r (λ answer. Answers c.args.call.now answer c.args.self.now c.remove.new.self)) (sym c.replied-in-Remove.ensures)
+    (replied_ok _ c.remove.result
+    (subst (λ call. IfOk c.remove.result (λ outcome. Answers call (reply_of outcome) c.args.self.now c.remove.new.self)) (sym c.in-Remove.is) c.remove.ensures.ok))
 
-pub returns-clause-calm : goal.returns-clause-calm
-returns-clause-calm c =
-    λ es s. c.apply.ensures.calm es (raw es c.self.inside.tables (subst (IsAfter es) (sym c.self.view_is) s))
+pub returns-in-Open-clause-ok : goal.returns-in-Open-clause-ok
+returns-in-Open-clause-ok c =
+    subst (λ call. IfOk c.open.result (λ answer. Answers call answer c.args.self.now c.open.new.self)) (sym c.in-Open.is) c.open.ensures.ok
 
-pub returns-clause-gone : goal.returns-clause-gone
-returns-clause-gone c =
-    λ k low.
-    (answered_gone c.args.call.now c.apply.result c.self.inside.tables c.apply.new.tables
-    (answers_somehow c.args.call.now c.apply.result c.self.inside.tables c.apply.new.tables c.apply.ensures.ok)
-    c.apply.ensures.err).of_channels
-    k
-    low
-    ∙ ap (λ d. gone d k) c.self.view_is
+pub returns-in-Windows-clause-ok : goal.returns-in-Windows-clause-ok
+returns-in-Windows-clause-ok c =
+    subst (λ call. IfOk c.show.result (λ answer. Answers call answer c.args.self.now c.show.new.self)) (sym c.in-Windows.is) c.show.ensures.ok
 
-pub returns-clause-anrs : goal.returns-clause-anrs
-returns-clause-anrs c =
-    (answered_gone c.args.call.now c.apply.result c.self.inside.tables c.apply.new.tables
-    (answers_somehow c.args.call.now c.apply.result c.self.inside.tables c.apply.new.tables c.apply.ensures.ok)
-    c.apply.ensures.err).of_anrs
-    ∙ ap anrs_released c.self.view_is
+pub returns-in-FocusOn-clause-ok : goal.returns-in-FocusOn-clause-ok
+returns-in-FocusOn-clause-ok c =
+    subst (λ call. IfOk c.request.result (λ answer. Answers call answer c.args.self.now c.request.new.self)) (sym c.in-FocusOn.is) c.request.ensures.ok
 
-pub returns-clause-reserved : goal.returns-clause-reserved
-returns-clause-reserved c =
-    λ es s few one room.
-    c.apply.ensures.reserved es (raw es c.self.inside.tables (subst (IsAfter es) (sym c.self.view_is) s)) few one
-    (subst (λ d. 1 ≤ d.queue.spare) (sym c.self.view_is) room)
+pub returns-in-Tick-clause-ok : goal.returns-in-Tick-clause-ok
+returns-in-Tick-clause-ok c =
+    subst (λ call. IfOk c.tick.result (λ answer. Answers call answer c.args.self.now c.tick.new.self)) (sym c.in-Tick.is) c.tick.ensures.ok
 
-pub returns-clause-room : goal.returns-clause-room
-returns-clause-room c =
-    room_left c.args.call.now c.apply.result c.self.inside.tables c.apply.new.tables c.args.self.now c.self.view_is
-    (answers_somehow c.args.call.now c.apply.result c.self.inside.tables c.apply.new.tables c.apply.ensures.ok)
-    c.apply.ensures.err
+pub returns-in-Receive-clause-ok : goal.returns-in-Receive-clause-ok
+returns-in-Receive-clause-ok c =
+    subst (λ call. IfOk c.hand_out.result (λ answer. Answers call answer c.args.self.now c.hand_out.new.self)) (sym c.in-Receive.is) c.hand_out.ensures.ok
 
-pub returns-clause-pumped : goal.returns-clause-pumped
-returns-clause-pumped c =
-    λ es s few pump some.
-    c.apply.ensures.pumped es (raw es c.self.inside.tables (subst (IsAfter es) (sym c.self.view_is) s)) few pump
-    (subst (λ d. 1 ≤ d.queue.pumps) (sym c.self.view_is) some)
-    c.self.invariant.1
-
-pub returns-clause-pumps : goal.returns-clause-pumps
-returns-clause-pumps c = λ input. subst (λ d. d.queue.pumps ≤ c.apply.new.tables.queueing.pumps + 1) c.self.view_is (c.apply.ensures.pumps input)
+pub returns-in-Pilfer-clause-ok : goal.returns-in-Pilfer-clause-ok
+returns-in-Pilfer-clause-ok c =
+    subst (λ call. IfOk c.pilfer.result (λ answer. Answers call answer c.args.self.now c.pilfer.new.self)) (sym c.in-Pilfer.is) c.pilfer.ensures.ok

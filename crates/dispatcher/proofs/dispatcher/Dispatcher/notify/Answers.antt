@@ -1,58 +1,90 @@
-use Rattle.std.proofs.Common.{◌≤◌, sym, ap, ◌∙◌, subst}
+use Rattle.std.proofs.lemmas.Bool.{true≢false}
 use Rattle.dispatch_calls.specs.declared.call.Call.TheVariants.{Notify}
-use Rattle.dispatcher.specs.Access.{gone, anrs_released}
-use Rattle.dispatcher.specs.Dispatching.{IsAfter}
-use Rattle.dispatcher.proofs.Gone.{answered_gone}
-use Rattle.dispatcher.proofs.Standing.{after_of, stands_if}
-use Rattle.dispatcher.proofs.Applying.{seen, answered_displays, raw, history_after, stands_somehow, room_left}
+use Rattle.dispatch_calls.specs.declared.reply.Reply.TheVariants.{Taken}
+use Rattle.dispatcher.proofs.Answered.{answers_on, as_promised, counted, history_on, makes}
+use Rattle.dispatcher.proofs.Applying.{seen}
+use Rattle.dispatcher.proofs.Notifying.{accepted_on, refused_on}
+use Rattle.dispatcher.specs.Answered.{Answers}
+use Rattle.dispatcher.specs.Dispatching.{IsOfHistory}
+use Rattle.dispatcher.specs.Roomy.{KeepsPromise}
+use Rattle.std.proofs.Common.{◌≤◌, ap, sym, ◌∙◌, subst}
+use Rattle.dispatcher.proofs.Oks.{on_err}
 use Rattle.dispatcher.proofs.dispatcher.Dispatcher.notify.Goals as goal
 
-pub hand_in-requires : goal.hand_in-requires
-hand_in-requires c = let s = c.self.invariant.0 in (s.0, raw s.0 c.self.inside.tables s.1)
+pub returns-in_ok-accept-in-Ok-clause-ok : goal.returns-in_ok-accept-in-Ok-clause-ok
+returns-in_ok-accept-in-Ok-clause-ok c =
+    answers_on (Notify c.args.now c.args.args.now) Taken c.self.inside.tables _ c.args.self.now c.self.view_is
+    (accepted_on c.self.inside.tables c.accept.new.self c.args.now c.args.args.now c.in-Ok.change c.in-Ok.ensures.plan
+    c.in-Ok.ensures.device.0
+    c.in-Ok.ensures.device.1
+    c.rises.ensures
+    c.in_ok-accept-in-Ok.ensures.ok
+    c.in_ok-accept-in-Ok.ensures.spare)
 
-pub invariant_of-self : goal.invariant_of-self
-invariant_of-self c = (
-  history_after (Notify c.args.now c.args.args.now) c.hand_in.result c.self.inside.tables c.hand_in.new.tables c.hand_in.ensures.ok c.hand_in.ensures.err c.self.invariant.0,
-  c.hand_in.ensures.promise c.self.invariant.1,
+pub invariant_of-self-in-Ok : goal.invariant_of-self-in-Ok
+invariant_of-self-in-Ok c = (
+  history_on (Notify c.args.now c.args.args.now) c.self.inside.tables _
+      (makes (Notify c.args.now c.args.args.now) Taken c.self.inside.tables _
+      (accepted_on c.self.inside.tables c.accept.new.self c.args.now c.args.args.now c.in-Ok.change c.in-Ok.ensures.plan
+      c.in-Ok.ensures.device.0
+      c.in-Ok.ensures.device.1
+      c.rises.ensures
+      c.in_ok-accept-in-Ok.ensures.ok
+      c.in_ok-accept-in-Ok.ensures.spare))
+      c.self.invariant.0,
+  as_promised _ _ c.self.inside.tables.routing c.in_ok-accept-in-Ok.ensures.pumps c.self.invariant.1,
 )
 
-pub returns-clause-known : goal.returns-clause-known
-returns-clause-known c =
-    λ es s.
-    stands_somehow (Notify c.args.now c.args.args.now) c.hand_in.result c.self.inside.tables c.hand_in.new.tables c.args.self.now c.self.view_is c.hand_in.ensures.ok es s
+pub returns-in-Err-clause-ok : goal.returns-in-Err-clause-ok
+returns-in-Err-clause-ok c =
+    subst (λ a. Answers (Notify c.args.now c.args.args.now) a c.args.self.now (seen (record c.self.inside.tables { queueing = c.step.new.self })))
+    (sym c.refusal-outcome.ensures.reply)
+    (answers_on (Notify c.args.now c.args.args.now) _ c.self.inside.tables _ c.args.self.now c.self.view_is
+    (refused_on c.self.inside.tables c.step.new.self c.args.now c.args.args.now c.in-Err.refused
+    c.in-Err.ensures.plan
+    c.in-Err.ensures.device.0
+    c.in-Err.ensures.device.1
+    c.rises.ensures
+    c.refusal-outcome.ensures.small
+    c.step.ensures))
 
-pub returns-clause-after : goal.returns-clause-after
-returns-clause-after c =
-    λ es s.
-    stands_if (Notify c.args.now c.args.args.now) c.hand_in.result es c.args.self.now (seen c.hand_in.new.tables) s
-    ((answered_displays (Notify c.args.now c.args.args.now) c.hand_in.result c.self.inside.tables c.hand_in.new.tables c.hand_in.ensures.ok c.hand_in.ensures.err) ∙ ap (λ d. d.displays) c.self.view_is)
-    (λ k low.
-    (answered_gone (Notify c.args.now c.args.args.now) c.hand_in.result c.self.inside.tables c.hand_in.new.tables c.hand_in.ensures.ok c.hand_in.ensures.err).of_channels k low
-    ∙ ap (λ d. gone d k) c.self.view_is)
-    (stands_somehow (Notify c.args.now c.args.args.now) c.hand_in.result c.self.inside.tables c.hand_in.new.tables c.args.self.now c.self.view_is c.hand_in.ensures.ok es (after_of es c.args.self.now s))
+pub invariant_of-self-in-Err : goal.invariant_of-self-in-Err
+invariant_of-self-in-Err c = (
+  history_on (Notify c.args.now c.args.args.now) c.self.inside.tables _
+      (makes (Notify c.args.now c.args.args.now) _ c.self.inside.tables _
+      (refused_on c.self.inside.tables c.step.new.self c.args.now c.args.args.now c.in-Err.refused
+      c.in-Err.ensures.plan
+      c.in-Err.ensures.device.0
+      c.in-Err.ensures.device.1
+      c.rises.ensures
+      c.refusal-outcome.ensures.small
+      c.step.ensures))
+      c.self.invariant.0,
+  as_promised _ _ c.self.inside.tables.routing (ap (λ q. q.pumps) c.step.ensures) c.self.invariant.1,
+)
 
-pub returns-clause-gone : goal.returns-clause-gone
-returns-clause-gone c =
-    λ k low.
-    (answered_gone (Notify c.args.now c.args.args.now) c.hand_in.result c.self.inside.tables c.hand_in.new.tables c.hand_in.ensures.ok c.hand_in.ensures.err).of_channels k low
-    ∙ ap (λ d. gone d k) c.self.view_is
+pub returns-in_err-accept-in-Ok-clause-reserved : goal.returns-in_err-accept-in-Ok-clause-reserved
+returns-in_err-accept-in-Ok-clause-reserved c es s few one room =
+    absurd (true≢false (sym (c.in_err-accept-in-Ok.ensures.reserved (subst (λ d. 1 ≤ d.queue.spare) (sym c.self.view_is) room))))
 
-pub returns-clause-anrs : goal.returns-clause-anrs
-returns-clause-anrs c =
-    (answered_gone (Notify c.args.now c.args.args.now) c.hand_in.result c.self.inside.tables c.hand_in.new.tables c.hand_in.ensures.ok c.hand_in.ensures.err).of_anrs
-    ∙ ap anrs_released c.self.view_is
+pub returns-in_err-may_step-clause-reserved : goal.returns-in_err-may_step-clause-reserved
+returns-in_err-may_step-clause-reserved c es s few one room =
+    absurd (true≢false (sym (c.in_err-may_step.ensures.few (counted es c.self.inside.tables c.args.self.now c.self.view_is s few))))
 
-pub returns-clause-reserved : goal.returns-clause-reserved
-returns-clause-reserved c =
-    λ es s few room.
-    c.hand_in.ensures.reserved es (raw es c.self.inside.tables (subst (IsAfter es) (sym c.self.view_is) s)) few
-    (subst (λ d. 1 ≤ d.queue.spare) (sym c.self.view_is) room)
+pub invariant_of-self : goal.invariant_of-self
+invariant_of-self c =
+    let t = c.self.inside.tables in
+    subst (λ q. IsOfHistory (seen (record t { queueing = q })) × KeepsPromise (record t { queueing = q })) (sym c.in_err-accept-in-Ok.ensures.err) c.self.invariant
 
-pub returns-clause-room : goal.returns-clause-room
-returns-clause-room c =
-    room_left (Notify c.args.now c.args.args.now) c.hand_in.result c.self.inside.tables c.hand_in.new.tables c.args.self.now c.self.view_is
-    c.hand_in.ensures.ok
-    c.hand_in.ensures.err
+pub returns-in_err-accept-in-Ok-clause-err : goal.returns-in_err-accept-in-Ok-clause-err
+returns-in_err-accept-in-Ok-clause-err c =
+    on_err _ _ (ap (λ q. seen (record c.self.inside.tables { queueing = q })) c.in_err-accept-in-Ok.ensures.err ∙ c.self.view_is)
 
-pub returns-clause-pumps : goal.returns-clause-pumps
-returns-clause-pumps c = c.hand_in.ensures.pumps ∙ ap (λ d. d.queue.pumps) c.self.view_is
+pub returns-in_err-accept-in-Ok-clause-pumps : goal.returns-in_err-accept-in-Ok-clause-pumps
+returns-in_err-accept-in-Ok-clause-pumps c = c.in_err-accept-in-Ok.ensures.pumps ∙ ap (λ d. d.queue.pumps) c.self.view_is
+
+pub returns-in_ok-accept-in-Ok-clause-pumps : goal.returns-in_ok-accept-in-Ok-clause-pumps
+returns-in_ok-accept-in-Ok-clause-pumps c = c.in_ok-accept-in-Ok.ensures.pumps ∙ ap (λ d. d.queue.pumps) c.self.view_is
+
+pub returns-in-Err-clause-pumps : goal.returns-in-Err-clause-pumps
+returns-in-Err-clause-pumps c = ap (λ q. q.pumps) c.step.ensures ∙ ap (λ d. d.queue.pumps) c.self.view_is

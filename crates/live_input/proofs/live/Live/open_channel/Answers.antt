@@ -5,6 +5,7 @@ use Rattle.dispatch_calls.specs.declared.call.Call.TheVariants.{Open}
 use Rattle.dispatch_history.specs.History.{opened}
 use Rattle.dispatch_history.specs.Legal.{answered}
 use Rattle.dispatcher.proofs.Standing.{after_of}
+use Rattle.dispatcher.proofs.Following.{stands_with}
 use Rattle.live_input.specs.Opening.{opening}
 use Rattle.live_input.specs.Standing.{LiveIs}
 use Rattle.live_input.specs.State.{LiveState}
@@ -20,8 +21,8 @@ returns-in-Ok-clause-after c = λ ds es h next.
     let lt : opened (past_of es) < c.args.channel = omega (arith, c.if-opened-channel.true, count) in
     let to = next.to in
     let few : opened (past_of es) < 64 = omega (arith, lt, to) in
-    let release = release_same ds es (Open c.self.inside.limit) c.self.inside.dispatcher c.apply.new.self refl refl before.release c.apply.ensures.gone c.apply.ensures.anrs in
-    let x = open_goes ds es _ before c.apply.new.self c.apply.ensures.displays c.self.inside.limit c.in-Ok.field-0 few (c.in-Ok.ensures.after es before.stands) release in
+    let release = release_same ds es (Open c.self.inside.limit) c.self.inside.dispatcher c.apply.new.self refl refl before.release c.in-Ok.ensures.ok.goes.gone_are c.in-Ok.ensures.ok.goes.anrs_are in
+    let x = open_goes ds es _ before c.apply.new.self c.in-Ok.ensures.ok.goes.displays_are c.self.inside.limit c.in-Ok.field-0 few (stands_with _ _ _ _ c.in-Ok.ensures.ok es before.stands) release in
     opening_live ds c.self.inside.limit c.args.self.now.limit c.args.channel es _ (ap (λ (s : LiveState). s.limit) c.self.view_is) lt x.1
 
 pub returns-in-Ok-clause-sent : goal.returns-in-Ok-clause-sent
@@ -31,8 +32,8 @@ returns-in-Ok-clause-sent c = λ ds es h next.
     let lt : opened (past_of es) < c.args.channel = omega (arith, c.if-opened-channel.true, count) in
     let to = next.to in
     let few : opened (past_of es) < 64 = omega (arith, lt, to) in
-    let release = release_same ds es (Open c.self.inside.limit) c.self.inside.dispatcher c.apply.new.self refl refl before.release c.apply.ensures.gone c.apply.ensures.anrs in
-    let x = open_goes ds es _ before c.apply.new.self c.apply.ensures.displays c.self.inside.limit c.in-Ok.field-0 few (c.in-Ok.ensures.after es before.stands) release in
+    let release = release_same ds es (Open c.self.inside.limit) c.self.inside.dispatcher c.apply.new.self refl refl before.release c.in-Ok.ensures.ok.goes.gone_are c.in-Ok.ensures.ok.goes.anrs_are in
+    let x = open_goes ds es _ before c.apply.new.self c.in-Ok.ensures.ok.goes.displays_are c.self.inside.limit c.in-Ok.field-0 few (stands_with _ _ _ _ c.in-Ok.ensures.ok es before.stands) release in
     let more = next.next in
     let grown = x.0 in
     let fs = answered ds (Open c.self.inside.limit) es in
@@ -48,8 +49,8 @@ returns-in-Ok-clause-opened c = λ ds es h next.
     let lt : opened (past_of es) < c.args.channel = omega (arith, c.if-opened-channel.true, count) in
     let to = next.to in
     let few : opened (past_of es) < 64 = omega (arith, lt, to) in
-    let release = release_same ds es (Open c.self.inside.limit) c.self.inside.dispatcher c.apply.new.self refl refl before.release c.apply.ensures.gone c.apply.ensures.anrs in
-    let x = open_goes ds es _ before c.apply.new.self c.apply.ensures.displays c.self.inside.limit c.in-Ok.field-0 few (c.in-Ok.ensures.after es before.stands) release in
+    let release = release_same ds es (Open c.self.inside.limit) c.self.inside.dispatcher c.apply.new.self refl refl before.release c.in-Ok.ensures.ok.goes.gone_are c.in-Ok.ensures.ok.goes.anrs_are in
+    let x = open_goes ds es _ before c.apply.new.self c.in-Ok.ensures.ok.goes.displays_are c.self.inside.limit c.in-Ok.field-0 few (stands_with _ _ _ _ c.in-Ok.ensures.ok es before.stands) release in
     let more = next.next in
     let grown = x.0 in
     let high : c.args.channel ≤ opened (past_of (answered ds (Open c.self.inside.limit) es)) = omega (arith, more, grown) in

@@ -1,6 +1,7 @@
 -- What is requested is kept.
 use Rattle.std.proofs.Common.{refl, sym, ap, ◌∙◌, subst, arith}
 use Rattle.dispatch_calls.specs.declared.call.Call.TheVariants.{FocusOn}
+use Rattle.dispatcher.proofs.Following.{stands_with}
 use Rattle.live_input.specs.Standing.{IsOfSome, LiveIs}
 use Rattle.live_input.specs.State.{LiveState}
 use Rattle.live_input.proofs.Released.{release_same}
@@ -10,8 +11,8 @@ use Rattle.live_input.proofs.live.Live.request.Goals as goal
 pub returns-in-Ok-clause-after : goal.returns-in-Ok-clause-after
 returns-in-Ok-clause-after c = λ ds es h own.
     let before = subst (LiveIs ds es) (sym c.self.view_is) h in
-    let release = release_same ds es (FocusOn c.args.now c.args.display c.args.channel) c.self.inside.dispatcher c.apply.new.self refl refl before.release c.apply.ensures.gone c.apply.ensures.anrs in
+    let release = release_same ds es (FocusOn c.args.now c.args.display c.args.channel) c.self.inside.dispatcher c.request.new.self refl refl before.release c.in-Ok.ensures.ok.goes.gone_are c.in-Ok.ensures.ok.goes.anrs_are in
     let value = c.get.ensures.value in
     let range = c.get.ensures.range in
-    request_goes_at ds es _ before c.apply.new.self c.apply.ensures.displays c.args.now c.args.display c.args.channel c.in-Ok.field-0 c.from.result
-    (c.from.ensures ∙ value) (omega (arith, value, range)) (subst (λ ss. IsOfSome c.args.channel ss) (sym (ap (λ (s : LiveState). s.seats) c.self.view_is)) own) (c.in-Ok.ensures.after es before.stands) release
+    request_goes_at ds es _ before c.request.new.self c.in-Ok.ensures.ok.goes.displays_are c.args.now c.args.display c.args.channel c.in-Ok.field-0 c.from.result
+    (c.from.ensures ∙ value) (omega (arith, value, range)) (subst (λ ss. IsOfSome c.args.channel ss) (sym (ap (λ (s : LiveState). s.seats) c.self.view_is)) own) (stands_with _ _ _ _ c.in-Ok.ensures.ok es before.stands) release

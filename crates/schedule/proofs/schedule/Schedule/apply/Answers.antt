@@ -9,7 +9,7 @@ pub returns-in-Ok-clause-after : goal.returns-in-Ok-clause-after
 returns-in-Ok-clause-after c = λ how plan es h never next.
     let before = subst (HasWith how plan es) (sym c.self.view_is) h in
     let applies = (rw c.in-Ok.is at c.apply_call.ensures.after) es before.stands in
-    has_step how plan es _ _ before c.apply_call.ensures.displays c.apply_call.ensures.gone c.apply_call.ensures.anrs c.args.call.now applies never
+    has_step how plan es _ _ before c.apply_call.ensures.displays c.apply_call.ensures.gone c.apply_call.ensures.anrs refl c.args.call.now applies never
     refl next
     c.saturating_add-self-inside.ensures
 

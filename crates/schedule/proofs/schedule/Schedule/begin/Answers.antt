@@ -1,9 +1,10 @@
 -- One channel more, and all of them.
 use Rattle.std.proofs.Common.{◌≡◌, ◌∙◌, ◌<◌, ◌≤◌, List, length, get_or, ap, subst, arith}
 use Rattle.schedule.specs.declared.plan.Channel.{Channel}
-use Rattle.schedule.specs.Planned.{plan_of}
+use Rattle.std.proofs.lemmas.List.{length-map}
+use Rattle.schedule.specs.Planned.{plan_of, channel_of}
 use Rattle.schedule.specs.State.{HasWith}
-use Rattle.schedule.proofs.Beginning.{opened_first, none_scripted, one_opened, all_opened}
+use Rattle.schedule.proofs.Beginning.{opened_first, none_scripted, one_opened, all_opened, none_counted}
 use Rattle.schedule.proofs.schedule.Schedule.begin.Goals as goal
 
 pub loop-channel-preserved : goal.loop-channel-preserved
@@ -19,7 +20,6 @@ loop-channel-preserved c =
       has = subst (λ fs. HasWith c.args.lines (plan_of c.args.plan.now) fs c.open.new.self) (one_opened c.args.plan.now.displays c.args.plan.now.channels.items c.loop-channel.channel-index c.channel-item.result within is)
           (c.in_ok-open.ensures.after c.args.lines (plan_of c.args.plan.now) (opened_first c.args.plan.now.displays c.args.plan.now.channels.items c.loop-channel.channel-index) c.loop-channel.invariant.has
           (none_scripted c.args.plan.now.displays c.args.plan.now.channels.items c.loop-channel.channel-index (omega (arith, within)) c.requires.few));
-      messages = c.open.ensures.messages ∙ c.loop-channel.invariant.messages;
       latest = c.open.ensures.latest ∙ c.loop-channel.invariant.latest;
     }
 
@@ -33,3 +33,7 @@ returns-clause-has c =
     subst (λ fs. HasWith c.args.lines (plan_of c.args.plan.now) fs c.loop-channel.run)
     (ap (opened_first c.args.plan.now.displays c.args.plan.now.channels.items) all ∙ all_opened c.args.plan.now.displays c.args.plan.now.channels.items)
     c.loop-channel.invariant.has
+
+pub returns-clause-messages : goal.returns-clause-messages
+returns-clause-messages c =
+    none_counted c.args.lines (plan_of c.args.plan.now) c.loop-channel.run (omega (arith, length-map c.args.plan.now.channels.items channel_of, c.requires.few)) (returns-clause-has c)

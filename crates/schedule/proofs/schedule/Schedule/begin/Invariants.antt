@@ -9,6 +9,5 @@ abbrev pub invariant-loop-channel : goal.invariant-loop-channel
 invariant-loop-channel l =
     record {
       has : HasWith l.fn.lines (plan_of l.plan) (opened_first l.plan.displays l.plan.channels.items l.channel-index) l.run;
-      messages : l.run.messages ≡ 0;
       latest : l.run.latest ≡ 0;
     }

@@ -1,8 +1,11 @@
--- What a removed channel was sent and did not let go comes to its lines, and is let go.
-use Rattle.std.proofs.Common.{◌≡◌, ◌∙◌, false, ap, sym, subst}
-use Rattle.dispatch_history.specs.Effect.{past_of}
+-- What a removed channel was sent and did not release comes to its lines, and is released.
+use Rattle.std.proofs.Common.{◌≡◌, ◌∙◌, false, length, ap, sym, subst, inl, inr}
+use Rattle.std.proofs.lemmas.Bool.{cases_eq, ne_eqb}
+use Rattle.dispatch_history.specs.Effect.{past_of, stream}
 use Rattle.dispatch_history.specs.History.{live}
-use Rattle.schedule.specs.State.{HasWith}
+use Rattle.dispatcher.specs.Access.{gone}
+use Rattle.schedule.specs.Released.{KeepsUnfinished}
+use Rattle.schedule.specs.State.{HasWith, ScheduleState}
 use Rattle.schedule.proofs.Counting.{count_of, counts_are, counts_opened}
 use Rattle.schedule.proofs.Removing.{drains}
 use Rattle.schedule.proofs.schedule.Schedule.drain_removed.Goals as goal
@@ -14,6 +17,21 @@ returns-clause-after c = λ how plan es h.
     let there_is = counts_opened es c.args.channel c.in-Some.counts outgoing in
     let are : c.in-Some.counts ≡ count_of es c.args.channel = counts_are es c.args.channel c.in-Some.counts there_is outgoing in
     let dead : live (past_of es) c.args.channel ≡ false = sym (ap (λ k. k.live) are) ∙ c.if-counts.false in
-    drains how plan es _ c.let_all_go.new.self c.drain_left.new.streams.items c.args.channel before (c.in_ok-drain_left.ensures es before.stands there_is)
+    drains how plan es _ c.let_all_go.new.self c.drain_left.new.streams.items c.args.channel c.in_ok-left.left _ before there_is
+    (c.in_ok-left.ensures.count es before.stands there_is) c.saturating_add-self-inside.ensures
+    (c.in_ok-left.ensures.lines es before.stands there_is)
     (c.let_all_go.ensures.known es before.stands) c.let_all_go.ensures.displays
     (c.let_all_go.ensures.gone es before.stands there_is dead) c.let_all_go.ensures.others c.let_all_go.ensures.anrs
+
+pub returns-clause-keeps : goal.returns-clause-keeps
+returns-clause-keeps c = λ how plan es h left k low idle.
+    let before = subst (HasWith how plan es) (sym c.self.view_is) h in
+    let left_before = subst (λ (s : ScheduleState). KeepsUnfinished es s.dispatcher) (sym c.self.view_is) left in
+    let outgoing = sym (c.counts.ensures es before.stands) ∙ c.in-Some.is in
+    let there_is = counts_opened es c.args.channel c.in-Some.counts outgoing in
+    let are : c.in-Some.counts ≡ count_of es c.args.channel = counts_are es c.args.channel c.in-Some.counts there_is outgoing in
+    let dead : live (past_of es) c.args.channel ≡ false = sym (ap (λ k. k.live) are) ∙ c.if-counts.false in
+    elim (cases_eq k c.args.channel) [
+      | inl e ↦ subst (λ n. gone c.let_all_go.new.self n ≡ length (stream es n)) (sym e) (c.let_all_go.ensures.gone es before.stands there_is dead)
+      | inr ne ↦ c.let_all_go.ensures.others k low (ne_eqb k c.args.channel ne) ∙ left_before k low idle
+    ]

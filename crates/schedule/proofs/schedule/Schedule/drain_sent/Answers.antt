@@ -1,13 +1,41 @@
--- One channel more.
-use Rattle.std.proofs.Common.{◌∙◌}
+-- One channel more, and all of them.
+use Rattle.std.proofs.Common.{◌≡◌, ◌+◌, ◌∙◌, length, sym, ap, subst, inl, inr, arith}
+use Rattle.std.proofs.lemmas.Bool.{cases_eq, ne_eqb}
+use Rattle.dispatch_history.specs.Effect.{past_of, stream}
+use Rattle.dispatch_history.specs.History.{opened}
+use Rattle.dispatcher.specs.Access.{gone}
+use Rattle.schedule.specs.State.{HasWith, counted}
+use Rattle.schedule.proofs.Counting.{opened_between}
+use Rattle.schedule.proofs.Released.{sum_low}
 use Rattle.schedule.proofs.schedule.Schedule.drain_sent.Goals as goal
 
 pub loop-place-preserved : goal.loop-place-preserved
 loop-place-preserved c =
     record {
-      has = λ how plan es h. c.in_ok-drain_some.ensures.after how plan es (c.loop-place.invariant.has how plan es h);
-      calls = c.drain_some.ensures.calls ∙ c.loop-place.invariant.calls;
-      messages = c.drain_some.ensures.messages ∙ c.loop-place.invariant.messages;
-      more = λ es k. c.drain_some.ensures.more es (c.loop-place.invariant.more es k);
-      latest = c.drain_some.ensures.latest ∙ c.loop-place.invariant.latest;
+      has = λ how plan es h. c.in_ok-drain.ensures.after how plan es (c.loop-place.invariant.has how plan es h);
+      all = λ how plan es h k low high.
+          let start = subst (HasWith how plan es) (sym c.self.view_is) h in
+          let count = c.opened-place-end.ensures.value es start.stands in
+          let there_is = opened_between es (c.loop-place.place + 1) (omega arith) (omega (arith, count, c.loop-place-test.true)) in
+          elim (cases_eq k (c.loop-place.place + 1)) [
+            | inl e ↦ subst (λ n. gone c.drain.new.self.dispatcher n ≡ length (stream es n)) (sym e)
+                (c.in_ok-drain.ensures.all how plan es (c.loop-place.invariant.has how plan es h) there_is)
+            | inr ne ↦ c.drain.ensures.others k low (ne_eqb k (c.loop-place.place + 1) ne)
+                ∙ c.loop-place.invariant.all how plan es h k low (omega (arith, high, ne))
+          ];
+      calls = c.drain.ensures.calls ∙ c.loop-place.invariant.calls;
+      messages = omega (arith, c.loop-place.invariant.messages, c.drain.ensures.messages);
+      more = λ es k. c.drain.ensures.more es (c.loop-place.invariant.more es k);
+      latest = c.drain.ensures.latest ∙ c.loop-place.invariant.latest;
     }
+
+pub returns-clause-counted : goal.returns-clause-counted
+returns-clause-counted c = λ how plan es h.
+    let start = subst (HasWith how plan es) (sym c.self.view_is) h in
+    let count = c.opened-place-end.ensures.value es start.stands in
+    let done : c.loop-place.place ≡ c.opened-place-end.result = omega (arith, c.loop-place-test.false, c.loop-place.auto.place-end) in
+    let has = c.loop-place.invariant.has how plan es h in
+    has.released_are
+    ∙ ap counted
+    (sum_low (gone c.loop-place.self.dispatcher) (λ k. length (stream es k)) (opened (past_of es))
+    (λ k low high. c.loop-place.invariant.all how plan es h k low (omega (arith, high, done, count))))

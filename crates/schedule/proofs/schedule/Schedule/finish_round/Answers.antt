@@ -1,13 +1,14 @@
 -- After a finish one owner receives, and no other one has more to take.
-use Rattle.std.proofs.Common.{◌∙◌, List, ap, refl, sym, subst}
+use Rattle.std.proofs.Common.{◌∙◌, List, refl, sym, subst}
 use Rattle.std.specs.Prelude.{OnOk}
 use Rattle.dispatch_calls.specs.declared.call.Call.{Call}
 use Rattle.dispatch_calls.specs.declared.call.Call.TheVariants.{Finish}
 use Rattle.dispatch_history.specs.Effect.{Effect}
 use Rattle.dispatch_history.specs.Legal.{answered}
-use Rattle.schedule.specs.State.{HasWith, counted}
+use Rattle.schedule.specs.State.{HasWith}
 use Rattle.schedule.proofs.Going.{first_call, ready_again, on_ok_both}
-use Rattle.schedule.proofs.OneFinish.{finish_messages, finish_received}
+use Rattle.schedule.proofs.OneFinish.{finish_received}
+use Rattle.schedule.proofs.Released.{released_stay, silent_stream}
 use Rattle.schedule.proofs.Stepping.{lawful_of, on_ok_any}
 use Rattle.schedule.proofs.schedule.Schedule.finish_round.Goals as goal
 
@@ -18,8 +19,10 @@ returns-clause-after c = λ how plan es r.
     let l = lawful_of how plan es _ r.has in
     let has = c.in_ok-finish_one.ensures.after how plan es r.has in
     let all = finish_received plan.displays es c.args.now c.args.channel c.args.seq l r.caught in
-    let same = finish_messages plan.displays es c.args.now c.args.channel c.args.seq l in
-    on_ok_both c.receive_on.result _ _ _
-    (subst (λ (fs : List Effect). OnOk c.receive_on.result (HasWith how plan fs c.receive_on.new.self)) (sym all) (c.receive_on.ensures.after how plan mid has))
-    (on_ok_any c.receive_on.result _ (c.receive_on.ensures.messages ∙ c.finish_one.ensures.messages ∙ r.messages_are ∙ ap counted (sym same)))
-    (λ every messages. ready_again how plan es mid c.receive_on.new.self (first_call plan.displays es call l r.caught refl) r.opened_is every messages)
+    let released =
+    released_stay es mid c.args.self.now.dispatcher c.receive.new.self.dispatcher (λ d. silent_stream plan.displays call es d l refl)
+    (λ d low. c.receive.ensures.gone d low ∙ c.finish_one.ensures.gone d low) r.all_released in
+    on_ok_both c.receive.result _ _ _
+    (subst (λ (fs : List Effect). OnOk c.receive.result (HasWith how plan fs c.receive.new.self)) (sym all) (c.receive.ensures.after how plan mid has))
+    (on_ok_any c.receive.result _ released)
+    (λ every none. ready_again how plan es mid c.receive.new.self (first_call plan.displays es call l r.caught refl) r.opened_is every none)

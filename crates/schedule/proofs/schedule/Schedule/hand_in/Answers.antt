@@ -3,6 +3,7 @@ use Rattle.std.proofs.Common.{refl}
 use Rattle.dispatch_calls.specs.declared.call.Call.TheVariants.{Notify, Pump}
 use Rattle.dispatch_history.specs.Legal.{answered}
 use Rattle.schedule.proofs.Going.{first_call, second_call, clock_twice, ready_again, on_ok_both}
+use Rattle.schedule.proofs.Released.{left_by, released_stay, silent_stream}
 use Rattle.schedule.proofs.Stepping.{lawful_of}
 use Rattle.schedule.proofs.schedule.Schedule.hand_in.Goals as goal
 
@@ -15,6 +16,11 @@ returns-clause-after c = λ how plan es r.
     let has = c.in_ok-notify.ensures.after how plan es r.has in
     let both = c.in_ok-pump.ensures.after how plan one has in
     let first = first_call plan.displays es (Notify t a) (lawful_of how plan es _ r.has) r.caught refl in
-    on_ok_both c.receive_all.result _ _ _ (c.receive_all.ensures.after how plan two both) (c.receive_all.ensures.messages how plan two both)
-    (λ all messages.
-    ready_again how plan es two c.receive_all.new.self (second_call plan.displays es one (Pump t) first refl (clock_twice t es plan.displays a)) r.opened_is all messages)
+    let l = lawful_of how plan es _ r.has in
+    let quiet =
+    released_stay es one c.args.self.now.dispatcher c.notify.new.self.dispatcher (λ d. silent_stream plan.displays (Notify t a) es d l refl)
+    (λ d low. c.notify.ensures.gone d low) r.all_released in
+    let left = left_by plan.displays (Pump t) one c.notify.new.self.dispatcher c.pump.new.self.dispatcher first.lawful refl (λ d low. c.pump.ensures.gone d low) quiet in
+    on_ok_both c.receive_all.result _ _ _ (c.receive_all.ensures.after how plan two both) (c.receive_all.ensures.released how plan two both left)
+    (λ all released.
+    ready_again how plan es two c.receive_all.new.self (second_call plan.displays es one (Pump t) first refl (clock_twice t es plan.displays a)) r.opened_is all released)

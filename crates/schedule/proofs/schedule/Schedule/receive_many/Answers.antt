@@ -12,7 +12,7 @@ loop-preserved c =
       has = λ how plan es h.
           subst (λ fs. HasWith how plan fs c.receive_next.new.self) (one_receive_more plan.displays es c.args.channel c.loop.counter)
           (c.in_ok-receive_next.ensures.after how plan _ (c.loop.invariant.has how plan es h));
-      messages = c.receive_next.ensures.messages ∙ c.loop.invariant.messages;
+      gone = λ k low. c.receive_next.ensures.gone k low ∙ c.loop.invariant.gone k low;
       calls = omega (arith, c.loop.invariant.calls, c.in_ok-receive_next.ensures.calls);
       more = λ es k. c.receive_next.ensures.more es (c.loop.invariant.more es k);
       latest = c.receive_next.ensures.latest ∙ c.loop.invariant.latest;

@@ -1,7 +1,8 @@
-use Rattle.std.proofs.Common.{◌≡◌, ◌≤◌, List}
+use Rattle.std.proofs.Common.{◌≡◌, ◌≤◌, ℕ, List}
 use Rattle.std.specs.Prelude.{replicate}
 use Rattle.dispatch_calls.specs.declared.call.Call.TheVariants.{Receive}
 use Rattle.dispatch_history.specs.Effect.{Effect}
+use Rattle.dispatcher.specs.Access.{gone as gone_of}
 use Rattle.dispatch_history.specs.Plan.{Plan}
 use Rattle.dispatch_history.specs.Ordered.{extend}
 use Rattle.schedule.specs.declared.keeping.Lines.{Lines}
@@ -14,7 +15,7 @@ abbrev pub invariant-loop : goal.invariant-loop
 invariant-loop l =
     record {
       has : (how : Lines) (plan : Plan) (es : List Effect) → HasWith how plan es l.initial.self → HasWith how plan (extend plan.displays es (replicate l.counter (Receive l.channel))) l.self;
-      messages : l.self.messages ≡ l.initial.self.messages;
+      gone : (c : ℕ) → 1 ≤ c → gone_of l.self.dispatcher c ≡ gone_of l.initial.self.dispatcher c;
       calls : l.initial.self.calls ≤ l.self.calls;
       more : (es : List Effect) → ComesTo es l.initial.self.dispatcher → ComesTo es l.self.dispatcher;
       latest : l.self.latest ≡ l.initial.self.latest;

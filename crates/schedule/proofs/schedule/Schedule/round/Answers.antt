@@ -5,9 +5,9 @@ use Rattle.schedule.proofs.Stepping.{lawful_of}
 use Rattle.schedule.proofs.schedule.Schedule.round.Goals as goal
 
 pub returns-clause-after : goal.returns-clause-after
-returns-clause-after c = λ how plan es r receiving opening next.
+returns-clause-after c = λ how plan es r receiving opening finishing next.
     let has = c.in_ok-make.ensures.after how plan es r.has receiving next in
     let mid = answered plan.displays c.args.call.now es in
-    on_ok_both c.receive_all.result _ _ _ (c.receive_all.ensures.after how plan mid has) (c.receive_all.ensures.messages how plan mid has)
-    (λ all messages.
-    ready_again how plan es mid c.receive_all.new.self (first_call plan.displays es c.args.call.now (lawful_of how plan es _ r.has) r.caught opening) r.opened_is all messages)
+    on_ok_both c.receive_all.result _ _ _ (c.receive_all.ensures.after how plan mid has) (c.receive_all.ensures.released how plan mid has (c.in_ok-make.ensures.keeps how plan es r.has receiving next finishing r.all_released))
+    (λ all released.
+    ready_again how plan es mid c.receive_all.new.self (first_call plan.displays es c.args.call.now (lawful_of how plan es _ r.has) r.caught opening) r.opened_is all released)

@@ -1,0 +1,38 @@
+-- A dispatcher after a call.
+use Rattle.std.specs.Prelude.{◌≡◌, ◌≤◌, ◌+◌, ℕ, true, List, Result, IsOk}
+use Rattle.dispatch_calls.specs.declared.call.Call.{Call}
+use Rattle.dispatch_calls.specs.declared.reply.Reply.{Reply}
+use Rattle.dispatch_history.specs.Effect.{Effect}
+use Rattle.dispatch_history.specs.Legal.{answered}
+use Rattle.dispatch_history.specs.Reply.{reply_to}
+use Rattle.dispatcher.specs.Access.{gone, anrs_released}
+use Rattle.dispatcher.specs.Dispatching.{Dispatching, IsAfter, StandsFor}
+use Rattle.dispatcher.specs.Memory.{IsCalm, MayCount}
+use Rattle.dispatcher.specs.Queueing.{args_in, is_pump}
+
+-- The dispatcher went one step on with a call. Whatever history it was as after, it is as after that one with the call, answered as it says; so it is
+-- with those that it stood for. The displays stay, no message and no ANR is released, and only args that are handed in take of the room for args.
+pub record StepsOn (call : Call) (old new : Dispatching) : Type 0 where
+  pub known : (es : List Effect) → IsAfter es old → IsAfter (answered old.displays call es) new
+  pub after : (es : List Effect) → StandsFor es old → StandsFor (answered old.displays call es) new
+  pub displays_are : new.displays ≡ old.displays
+  pub gone_are : (c : ℕ) → 1 ≤ c → gone new c ≡ gone old c
+  pub anrs_are : anrs_released new ≡ anrs_released old
+  pub room_is : old.queue.spare ≤ new.queue.spare + args_in call
+
+-- It did, and the call was answered so: that is the reply of each history that the dispatcher stood for.
+pub record Answers (call : Call) (answer : Reply) (old new : Dispatching) : Type 0 where
+  pub goes : StepsOn call old new
+  pub reply_is : (es : List Effect) → StandsFor es old → answer ≡ reply_to es call
+
+-- a call that needs no memory is answered
+abbrev pub AnswersCalm : {A E : Type 0} → Call → Dispatching → Result A E → Type 0
+AnswersCalm call d r = (es : List Effect) → IsAfter es d → MayCount es → IsCalm es call → IsOk r
+
+-- args are answered where room for them was reserved
+abbrev pub AnswersReserved : {A E : Type 0} → Call → Dispatching → Result A E → Type 0
+AnswersReserved call d r = (es : List Effect) → IsAfter es d → MayCount es → args_in call ≡ 1 → 1 ≤ d.queue.spare → IsOk r
+
+-- a pump is answered where room for it was reserved
+abbrev pub AnswersPumped : {A E : Type 0} → Call → Dispatching → Result A E → Type 0
+AnswersPumped call d r = (es : List Effect) → IsAfter es d → MayCount es → is_pump call ≡ true → 1 ≤ d.queue.pumps → IsOk r
