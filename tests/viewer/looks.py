@@ -4,6 +4,7 @@ import json
 import math
 import os
 
+import access
 from looked_at import equal, text_of
 
 HERE = os.path.dirname(os.path.abspath(__file__))
@@ -127,33 +128,6 @@ def check_colours(page):
     page.scheme("light")
 
 
-# Named rules of WCAG 2.1, in the words of axe-core, which Debian does not have. Each is code that answers the elements that break it.
-RULES = {
-    "button-name, link-name": "[...document.querySelectorAll('button, a[href], summary')].filter((e) => !(e.getAttribute('aria-label') || e.textContent).trim() && e.offsetParent)",
-    "label": "[...document.querySelectorAll('input, select')].filter((e) => !e.hidden && !e.getAttribute('aria-label') && e.labels.length === 0)",
-    "duplicate-id": "[...document.querySelectorAll('[id]')].filter((e) => document.querySelectorAll('#' + CSS.escape(e.id)).length > 1)",
-    "aria-valid-attr-value": "['aria-controls', 'aria-describedby', 'aria-labelledby'].flatMap((a) => [...document.querySelectorAll(`[${a}]`)]"
-                             ".filter((e) => e.getAttribute(a).split(' ').some((id) => !document.getElementById(id))))",
-    "html-has-lang, document-title": "[document.documentElement].filter((e) => !e.lang || !document.title)",
-    "landmark-one-main": "document.querySelectorAll('main').length === 1 ? [] : [document.body]",
-    "heading-order": "[...document.querySelectorAll('h1, h2, h3')].filter((e, k, all) => k > 0 && e.tagName[1] - all[k - 1].tagName[1] > 1)",
-    "page-has-heading-one": "document.querySelectorAll('h1').length === 1 ? [] : [document.body]",
-    "list, listitem": "[...document.querySelectorAll('ul, ol')].flatMap((e) => [...e.children].filter((c) => c.tagName !== 'LI'))",
-    "canvas has a name": "[...document.querySelectorAll('canvas')].filter((e) => !e.getAttribute('aria-label') && !e.getAttribute('aria-labelledby'))",
-    "svg-img-alt": "[...document.querySelectorAll('svg')].filter((e) => e.getAttribute('aria-hidden') !== 'true')",
-    "scrollable-region-focusable": "[...document.querySelectorAll('#said, #table')].filter((e) => e.tabIndex < 0)",
-    "tabindex": "[...document.querySelectorAll('[tabindex]')].filter((e) => e.tabIndex > 0)",
-    "th-has-data-cells": "[...document.querySelectorAll('th')].filter((e) => !e.scope)",
-    "meta-viewport": "[...document.querySelectorAll('meta[name=viewport]')].filter((e) => /user-scalable=no|maximum-scale/.test(e.content))",
-    "target-size": "[...document.querySelectorAll('button, select, input')].filter((e) => e.offsetParent && (e.offsetHeight < 24 || e.offsetWidth < 24) && e.type !== 'range')",
-    "color-contrast": "[...document.querySelectorAll('p, button, label, li, dt, dd, th, td, h1, h2, summary, caption, output')].filter((e) => e.offsetParent && e.textContent.trim()"
-                      " && (() => { const lum = (c) => { const [r, g, b] = c.match(/[\\d.]+/g).map(Number).map((v) => v / 255).map((v) => (v <= 0.04045 ? v / 12.92 : ((v + 0.055) / 1.055) ** 2.4));"
-                      " return 0.2126 * r + 0.7152 * g + 0.0722 * b; }; let at = e; while (at && /rgba\\(0, 0, 0, 0\\)/.test(getComputedStyle(at).backgroundColor)) { at = at.parentElement; }"
-                      " const [a, b] = [getComputedStyle(e).color, getComputedStyle(at || document.body).backgroundColor].map(lum).sort((x, y) => y - x);"
-                      " return !e.disabled && (a + 0.05) / (b + 0.05) < 4.5; })())",
-}
-
-
 def check_access(page):
     """The named rules hold with all panels open, dark and light; the table has what is drawn; everything is reached by keys."""
     for scheme in ("light", "dark"):
@@ -161,8 +135,7 @@ def check_access(page):
         give_phone(page)
         page.run("['help', 'windows-panel', 'share-panel', 'program'].forEach((id) => { byId(id).hidden = false; }); byId('table-panel').open = true; showTable()")
         page.settle()
-        for name, code in RULES.items():
-            equal("%s: %s" % (scheme, name), page.run("(%s).map((e) => e.outerHTML.slice(0, 120))" % code), [])
+        access.check_rules(page, scheme)
     page.scheme("light")
     rows = page.run("[...document.querySelectorAll('#table tbody tr')].map((row) => [...row.children].map((cell) => cell.textContent))")
     counts = page.run("viewer.counts()")
