@@ -1,8 +1,25 @@
-"""How a tool ends: status 0 where it did all, 1 where it refuses, with one line on standard error that says why, and 2
-where the words are not those of the tool, with one line too."""
+"""How a tool ends. Status 0: it did all. 1: it refuses, or found something, and says what. 2: the words are not those of the tool. Each with
+at most one line that says why. Every tool ends with 5 and the line `write failed` if a part of its output cannot be written, with 5 and no
+line if nobody reads it any more, and with 130 at Ctrl-C.
+
+A tool imports this module before its others: Ctrl-C then ends it quietly while those are still being loaded."""
 import argparse
+import contextlib
+import errno
 import os
+import signal
 import sys
+
+WRITE_FAILED, INTERRUPTED = 5, 130
+
+
+def stop(*_):
+    os._exit(INTERRUPTED)
+
+
+# A handler that ignores the interrupt, as that of a job in the background, stays.
+if signal.getsignal(signal.SIGINT) is signal.default_int_handler:
+    signal.signal(signal.SIGINT, stop)
 
 
 class Refused(Exception):
@@ -15,12 +32,19 @@ class Words(argparse.ArgumentParser):
     def __init__(self, **more):
         super().__init__(formatter_class=argparse.RawDescriptionHelpFormatter, allow_abbrev=False, **more)
 
+    def print_help(self, file=None):
+        # argparse passes over a write that fails.
+        (file or sys.stdout).write(self.format_help())
+
     def error(self, message):
-        self.exit(2, "%s: %s; --help tells the words\n" % (self.prog, message))
+        say(self.prog, "%s; see tools/%s --help" % (message, self.prog))
+        sys.exit(2)
 
 
 def say(tool, line):
-    print("%s: %s" % (tool, printable(line)), file=sys.stderr)
+    """Says one line on standard error. If it cannot be written, the status stays what it is."""
+    with contextlib.suppress(OSError):
+        sys.stderr.write("%s: %s\n" % (tool, printable(line)))
 
 
 def printable(text):
@@ -32,19 +56,65 @@ def counted(count, word):
     return "%d %s%s" % (count, word, "" if count == 1 else "s")
 
 
-def end(tool, main):
-    """Ends the tool as `main` does."""
+def nowhere(stream):
+    """Drops what a stream has not written yet."""
+    os.dup2(os.open(os.devnull, os.O_WRONLY), stream.fileno())
+
+
+def prepare():
+    """Opens an output that the caller closed, so that writing fails as it does on a full one, and spells names that are no text as escapes."""
+    if sys.stdin is None:
+        sys.stdin = open(os.devnull, encoding="utf-8")
+    if sys.stdout is None:
+        sys.stdout = open(os.open(os.devnull, os.O_RDONLY), "w", encoding="utf-8")
+    if sys.stderr is None:
+        sys.stderr = open(os.devnull, "w", encoding="utf-8")
+    sys.stdout.reconfigure(errors="backslashreplace")
+    if signal.getsignal(signal.SIGINT) is stop:
+        signal.signal(signal.SIGINT, signal.default_int_handler)
+
+
+def status_of(tool, main):
+    """What `main` comes to: the status that it gives, 0 for none, or that of what it raises."""
     try:
-        main()
+        status = main()
         sys.stdout.flush()
+    except SystemExit as ended:
+        status = ended.code
     except Refused as error:
         say(tool, str(error))
-        sys.exit(1)
-    except BrokenPipeError:
-        os.dup2(os.open(os.devnull, os.O_WRONLY), sys.stdout.fileno())
-        sys.exit(1)
+        status = 1
     except KeyboardInterrupt:
-        sys.exit(130)
+        nowhere(sys.stdout)
+        status = INTERRUPTED
     except OSError as error:
-        say(tool, "%s: %s" % (error.filename or "standard output", error.strerror))
-        sys.exit(1)
+        if error.filename is None:
+            return write_failed(error)
+        say(tool, "%s: %s" % (os.fsdecode(error.filename), error.strerror))
+        status = 1
+    return status or 0
+
+
+def write_failed(error):
+    """Says what a write that failed is told by, if anybody is left to be told."""
+    if error.errno != errno.EPIPE:
+        with contextlib.suppress(OSError):
+            sys.stderr.write("write failed\n")
+    with contextlib.suppress(OSError):
+        nowhere(sys.stdout)
+    return WRITE_FAILED
+
+
+def end(tool, main):
+    """Ends the tool as `main` does, once all that it said is written."""
+    prepare()
+    status = status_of(tool, main)
+    try:
+        sys.stdout.flush()
+    except OSError as error:
+        status = write_failed(error)
+    try:
+        sys.stderr.flush()
+    except OSError:
+        nowhere(sys.stderr)
+    sys.exit(status)

@@ -51,7 +51,11 @@ def begins_as_event(line):
 def bytes_of(name):
     """The bytes of a file, or of standard input for `-`."""
     if name == "-":
-        return sys.stdin.buffer.read()
+        try:
+            return sys.stdin.buffer.read()
+        except OSError as error:
+            error.filename = "standard input"
+            raise
     with open(name, "rb") as file:
         return file.read()
 

@@ -91,18 +91,20 @@ class Junit:
 
     def write(self, path):
         """Writes the whole report to a file, or to standard output for `-`."""
+        if path == "-":
+            self.write_to(sys.stdout)
+            return
         try:
-            file = sys.stdout if path == "-" else open(path, "w", encoding="utf-8")
-            file.writelines(self.head())
-            self.cases.seek(0)
-            shutil.copyfileobj(self.cases, file)
-            file.write("  </testsuite>\n</testsuites>\n")
-            if path == "-":
-                file.flush()
-            else:
-                file.close()
+            with open(path, "w", encoding="utf-8") as file:
+                self.write_to(file)
         except OSError as error:
             raise Failed("%s: %s" % (path, error.strerror)) from None
+
+    def write_to(self, file):
+        file.writelines(self.head())
+        self.cases.seek(0)
+        shutil.copyfileobj(self.cases, file)
+        file.write("  </testsuite>\n</testsuites>\n")
 
 
 class Read:

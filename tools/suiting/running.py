@@ -66,7 +66,9 @@ class Runs:
         place.clear()
         place.case, place.number, place.late, place.begun = case, number, False, time.monotonic()
         try:
-            pid = os.posix_spawn(self.program, words, os.environ, file_actions=place.actions(), setpgroup=0)
+            # Python ignores these two; the program meets them as from a shell.
+            defaults = [signal.SIGPIPE, signal.SIGXFSZ]
+            pid = os.posix_spawn(self.program, words, os.environ, file_actions=place.actions(), setpgroup=0, setsigdef=defaults)
         except OSError as error:
             self.free.append(place)
             if error.errno in (errno.E2BIG, errno.EAGAIN, errno.ENOMEM):
