@@ -88,6 +88,8 @@ def regions(findings, plan):
             rectangles = window.said["region"] if key == "region" else [window.said["frame"]]
             size = extent(plan, window.get("display", 0))
             full, at = "%s.%s" % (window.name, key), window.node.get(key).at
+            if not rectangles and window.get("opacity") == 0:
+                continue  # It is meant so: with NOT_TOUCHABLE it would obscure nothing.
             if all(is_empty(rectangle) for rectangle in rectangles):
                 findings.warning(at, full, "it has no pixel, so the window cannot be touched")
             elif size and all(is_empty(r) or is_outside(r, size) for r in rectangles):

@@ -164,6 +164,7 @@ IN_SESSION = [
     ("a range too small", "x = [0, 1079]", "x = [0, 539]", [(9, 5, "warning", "device[1].x", "from 100 to 1000")], None),
     ("no region", MAIN, '{ channel = "main", frame = [0, 0, 9, 9], region = [] }',
      [(32, 56, "warning", "step[1].windows[2].region", "no pixel")], None),
+    ("no region and no opacity", MAIN, '{ channel = "main", frame = [0, 0, 9, 9], region = [], opacity = 0 }', [], None),
     ("a frame of one line", MAIN, '{ channel = "main", frame = [0, 0, 1080, 0] }',
      [(32, 33, "warning", "step[1].windows[2].frame", "no pixel")], None),
     ("a frame beside the display", MAIN, '{ channel = "main", frame = [1080, 0, 2160, 2400] }',
