@@ -86,8 +86,9 @@ def bits(text, table):
 
 def names_of(values):
     """The flags of a window by the names that Android has for them since Android 13."""
+    trusted = {"TRUSTED_OVERLAY"} if values.get("trustedOverlay") == "true" else set()
     if "inputConfig" in values:
-        return bits(values["inputConfig"], {})
+        return bits(values["inputConfig"], {}) | trusted
     flags = bits(values.get("flags", "0"), FLAGS)
     found = flags & {"NOT_FOCUSABLE", "NOT_TOUCHABLE", "WATCH_OUTSIDE_TOUCH", "SLIPPERY", "NOT_TOUCH_MODAL"}
     found |= bits(values.get("inputFeatures", "0"), FEATURES) - {"DISABLE_TOUCH_PAD_GESTURES", "NONE"}
@@ -97,9 +98,7 @@ def names_of(values):
         found.add("NOT_FOCUSABLE")
     if values.get("paused") == "true":
         found.add("PAUSE_DISPATCHING")
-    if values.get("trustedOverlay") == "true":
-        found.add("TRUSTED_OVERLAY")
-    return found
+    return found | trusted
 
 
 def viewport_of(found):

@@ -3,10 +3,11 @@ import collections
 import re
 
 import rectangles
+import session_trust
 from session_text import channel_name, comment, numbers, table
 
 MOST_CHANNELS, MOST_RECTANGLES, LAST_LIMIT = 64, 64, 600000
-FLAGS = ("NOT_TOUCHABLE", "SPY", "PREVENT_SPLITTING", "SLIPPERY", "WATCH_OUTSIDE_TOUCH", "NOT_FOCUSABLE")
+FLAGS = ("NOT_TOUCHABLE", "SPY", "PREVENT_SPLITTING", "SLIPPERY", "WATCH_OUTSIDE_TOUCH", "NOT_FOCUSABLE", "TRUSTED_OVERLAY")
 
 # What Android says of a window that changes what windows are told, and that a session cannot say.
 UNSAID = {
@@ -22,17 +23,17 @@ UNSAID = {
 SCALED = "scaled or turned, so that its places are other ones"
 # What says nothing about who is told what.
 PASSED_OVER = {
-    "TRUSTED_OVERLAY", "DISABLE_USER_ACTIVITY", "IS_WALLPAPER", "NOT_VISIBLE", "NOT_TOUCH_MODAL", "NONE", "DEFAULT",
-    "SENSITIVE_FOR_PRIVACY", "SENSITIVE_FOR_TRACING",
+    "DISABLE_USER_ACTIVITY", "IS_WALLPAPER", "NOT_VISIBLE", "NOT_TOUCH_MODAL", "NONE", "DEFAULT", "SENSITIVE_FOR_PRIVACY",
+    "SENSITIVE_FOR_TRACING",
 }
 
 
 class Shown:
     """A window of a session: who it is through all dumps, and what the step says of it."""
 
-    def __init__(self, who, name, display, frame, region, flags, limit_ms=5000):
+    def __init__(self, who, name, display, frame, region, flags, limit_ms=5000, trust=session_trust.Trust()):
         self.who, self.name, self.display, self.frame = who, name, display, frame
-        self.region, self.flags, self.limit_ms = region, flags, limit_ms
+        self.region, self.flags, self.limit_ms, self.trust = region, flags, limit_ms, trust
         self.focused, self.why = False, None
 
     def can_be_told(self):
@@ -46,6 +47,7 @@ class Shown:
             parts.append("region = [%s]" % ", ".join(numbers(rectangle) for rectangle in self.region))
         if self.flags:
             parts.append("flags = [%s]" % ", ".join('"%s"' % flag for flag in self.flags))
+        parts += self.trust.parts()
         return "    { %s },%s" % (", ".join(parts), "  # " + self.why if self.why else "")
 
 
@@ -92,11 +94,7 @@ def unsaid(window):
         elif name not in FLAGS and name not in PASSED_OVER:
             yield "the flag %s is not known" % name
     values = window.values
-    if not is_one(values.get("alpha", "1")):
-        yield "an alpha that is not 1"
-    passes = "NOT_TOUCHABLE" in window.names and "TRUSTED_OVERLAY" not in window.names
-    if passes and values.get("touchOcclusionMode", "ALLOW") != "ALLOW":
-        yield "Android may block touches that go through it (occlusion)"
+    yield from session_trust.unknown(values)
     if values.get("portalToDisplayId", "-1") != "-1":
         yield "a portal to another display"
     scales = [values.get(key, "1") for key in ("globalScale", "scale")]
@@ -130,19 +128,22 @@ def shown_window(window, count, displays, causes):
     flags = [flag for flag in FLAGS if flag in window.names]
     who = (window.name, window.id, count)
     limit_ms = min(max(window.limit_ms(), 1), LAST_LIMIT)
-    return Shown(who, window.name, displays.place[window.display], in_order(window.frame), region, flags, limit_ms)
+    place, trust = displays.place[window.display], session_trust.trust_of(window.values)
+    return Shown(who, window.name, place, in_order(window.frame), region, flags, limit_ms, trust)
 
 
 def shown_windows(dump, displays, causes):
-    """The windows that a dump shows, front to back. Monitors of gestures, before Android 13, are spies before all."""
+    """The windows that a dump shows, front to back. Monitors of gestures, before Android 13, are spies before all that obscure nothing."""
     shown, counts = [], collections.Counter()
+    spy = ["SPY", "NOT_FOCUSABLE"]
+    if any(session_trust.tells(window.values) for window in dump.windows):
+        spy.append("TRUSTED_OVERLAY")
     for kind, display, name in dump.monitors:
         if kind == "Global":
             causes.add("a global monitor, which sees all that is touched", name)
         elif display in displays.place:
             whole = displays.whole(display)
-            who, flags = (name, "monitor", 0), ["SPY", "NOT_FOCUSABLE"]
-            shown.append(Shown(who, name, displays.place[display], whole, [whole], flags))
+            shown.append(Shown((name, "monitor", 0), name, displays.place[display], whole, [whole], list(spy)))
     for window in dump.windows:
         if window.visible() and window.display in displays.place:
             counts[window.name, window.id] += 1
@@ -159,7 +160,7 @@ def shown_windows(dump, displays, causes):
 
 def mark_unreachable(shown, displays):
     """Marks windows that no finger can reach as not touchable: those off their display, and those wholly behind others. Nothing is
-    routed in another way, and the session shows that this is meant."""
+    routed or obscured in another way, and the session shows that this is meant."""
     covers = collections.defaultdict(list)
     sizes = {place: displays.whole(display)[2:] for display, place in displays.place.items()}
     for window in shown:
@@ -171,7 +172,9 @@ def mark_unreachable(shown, displays):
                 window.why = "lies behind windows that can be touched"
             elif "SPY" not in window.flags:
                 over.extend(window.region)
-        if window.why:
+        if window.why and window.trust.opacity == 0:
+            window.region = []  # With NOT_TOUCHABLE it would obscure nothing any more.
+        elif window.why:
             window.flags = [flag for flag in FLAGS if flag in window.flags or flag == "NOT_TOUCHABLE"]
 
 
