@@ -108,7 +108,7 @@ def broken(name):
     for pattern, value in lines:
         places = list(re.finditer(pattern, text, re.M))
         if not places:
-            yield 1, "there is no %s, but %s" % (pattern, given)
+            yield 1, "no line has the form %s, but %s" % (pattern, given)
         for place in places:
             if place[1] != value:
                 number, line = line_at(text, place.start(1))
