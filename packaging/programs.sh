@@ -81,7 +81,7 @@ against_dist_library() {
 
 # Whether `make -C lib` made the library here, and no source is newer.
 is_library_made() {
-    for name in libinputflinger.a libinputflinger.so.1; do
+    for name in libinputflinger.a libinputflinger.so.1 inputflinger.pc; do
         [ -e "$top/lib/out/$name" ] || return 1
     done
     [ -z "$(find "$top/crates.txt" "$top/crates" "$top/lib" "$top/include" -name out -prune -o -name must-fail -prune -o -type f \
