@@ -10,8 +10,8 @@ use Rattle.dispatcher.specs.Dispatching.{Dispatching, IsAfter, StandsFor}
 use Rattle.dispatcher.specs.Memory.{IsCalm, MayCount}
 use Rattle.dispatcher.specs.Queueing.{args_in, is_pump}
 
--- The dispatcher went one step on with a call. Whatever history it was as after, it is as after that one with the call, answered as it says; so it is
--- with those that it stood for. The displays stay, no message and no ANR is released, and only args that are handed in take of the room for args.
+-- The dispatcher made a call. If it matched or stood for a history, it now does so for that history with this call and its answer added. The
+-- displays stay, no message and no ANR is released, and only args that are handed in use the room for args.
 pub record StepsOn (call : Call) (old new : Dispatching) : Type 0 where
   pub known : (es : List Effect) → IsAfter es old → IsAfter (answered old.displays call es) new
   pub after : (es : List Effect) → StandsFor es old → StandsFor (answered old.displays call es) new
@@ -20,7 +20,7 @@ pub record StepsOn (call : Call) (old new : Dispatching) : Type 0 where
   pub anrs_are : anrs_released new ≡ anrs_released old
   pub room_is : old.queue.spare ≤ new.queue.spare + args_in call
 
--- It did, and the call was answered so: that is the reply of each history that the dispatcher stood for.
+-- The dispatcher made the call and answered it so: this is the reply after each history that it stood for.
 pub record Answers (call : Call) (answer : Reply) (old new : Dispatching) : Type 0 where
   pub goes : StepsOn call old new
   pub reply_is : (es : List Effect) → StandsFor es old → answer ≡ reply_to es call

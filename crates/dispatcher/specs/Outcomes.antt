@@ -1,10 +1,10 @@
--- What calls come to that hand out no message.
+-- The results of calls that hand out no message.
 use Rattle.std.specs.Prelude.{Result, Ok, Err}
 use Rattle.std.specs.declared.alloc.AllocError.{AllocError}
 use Rattle.dispatch_calls.specs.declared.reply.Reply.{Reply}
 use Rattle.dispatcher.specs.declared.outcome.Outcome.{Outcome}
 
--- the reply that it stands for
+-- the reply with this result
 abbrev pub reply_of : Outcome → Reply
 reply_of Outcome.Taken = Reply.Taken
 reply_of (Outcome.Inconsistent pointers key_down) = Reply.Inconsistent pointers key_down

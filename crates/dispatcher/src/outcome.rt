@@ -1,12 +1,12 @@
-//! What calls come to that hand out no message.
+//! The results of calls that hand out no message.
 ghost use Rattle.std.specs.Prelude.{◌≡◌};
 ghost use Rattle.dispatcher.specs.Outcomes.{reply_of, replied};
 
 use dispatch_calls::Reply;
 use std::alloc::AllocError;
 
-/// What `Notify`, `Pump`, `Finish` and `Remove` come to. A reply has the size of a message; this is some words, and
-/// costs nothing where it is not read.
+/// The result of `Notify`, `Pump`, `Finish` or `Remove`. A `Reply` is as large as a message; this is a few words, and
+/// costs nothing if nobody reads it.
 #[derive(Clone, Copy)]
 pub enum Outcome {
     /// The args wait to be dispatched.
@@ -28,7 +28,7 @@ pub enum Outcome {
     UnknownSeq,
 }
 
-/// The reply that it stands for.
+/// The reply with this result.
 fn reply_of(outcome: Outcome) -> Reply
     ensures { result ≡ reply_of outcome }
 {
@@ -44,7 +44,7 @@ fn reply_of(outcome: Outcome) -> Reply
     }
 }
 
-/// The reply, for one who reads it.
+/// The same of a call that may have run out of memory.
 pub(crate) fn replied(outcome: Result<Outcome, AllocError>) -> Result<Reply, AllocError>
     ensures { result ≡ replied outcome }
 {

@@ -20,7 +20,7 @@ use key_tables::focusable;
 use route_split::Mark;
 use window_snapshot::mask_has;
 
-/// What the owner of a channel that takes its next message is answered. The message was not released.
+/// The answer to the owner of a channel that receives its next message, which was not released.
 pub(crate) fn next_reply(routing: &Routing, channel: u32) -> Reply
     ensures { result ≡ (if not (mask_has routing.now.channels.live channel) then Gone
         else got_reply (next_of (channel_of routing.now.channels channel))) }
@@ -34,7 +34,7 @@ pub(crate) fn next_reply(routing: &Routing, channel: u32) -> Reply
     }
 }
 
-/// The owner of a channel has its next message, where there is one. It is not handed out.
+/// Receives the next message of a channel, if there is one, without handing it out.
 pub(crate) fn receive(routing: &mut Routing, channel: u32)
     ensures { HandsOn channel routing.old routing.new }
 {

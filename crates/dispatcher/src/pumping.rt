@@ -18,7 +18,7 @@ use crate::tables::{Routing, Tables};
 use input_types::{Args, Moment};
 use std::alloc::AllocError;
 
-/// The first args that wait are dispatched.
+/// Dispatches the first args that wait.
 pub(crate) fn dispatch_first(tables: &mut Tables, now: Moment) -> Result<(), AllocError>
     requires { MayStep tables.old }
     ensures ok { OnOk result (IfSome (slice_get tables.old.queueing.waiting 0)
@@ -38,7 +38,7 @@ pub(crate) fn dispatch_first(tables: &mut Tables, now: Moment) -> Result<(), All
     Ok(())
 }
 
-/// Args are dispatched.
+/// Dispatches args.
 fn dispatch(routing: &mut Routing, args: &Args, place: u64, clock: Moment) -> Result<(), AllocError>
     requires { IsTimely clock routing.old.channels }
     ensures ok { OnOk result (Pumps (Some args.now) Dispatched place clock routing.old routing.new) }
@@ -52,7 +52,7 @@ fn dispatch(routing: &mut Routing, args: &Args, place: u64, clock: Moment) -> Re
     }
 }
 
-/// Nothing waits: a key that is held is repeated, where that is due.
+/// Repeats a key that is held, if that is due. Nothing waits.
 pub(crate) fn idle(tables: &mut Tables, now: Moment) -> Result<Outcome, AllocError>
     requires step { MayStep tables.old }
     requires none { slice_get tables.old.queueing.waiting 0 ≡ None }
@@ -75,7 +75,7 @@ pub(crate) fn idle(tables: &mut Tables, now: Moment) -> Result<Outcome, AllocErr
     }
 }
 
-/// What a pump comes to for which nothing waits.
+/// The result of a pump if nothing waits.
 fn idle_outcome(is_due: bool) -> Outcome
     ensures { reply_of result ≡ (if is_due then Repeated else Idle) }
 {

@@ -69,8 +69,8 @@ impl Queueing {
         self.place
     }
 
-    /// Whether one step more can be counted. With 64 bits a run of one call a nanosecond comes to the end in 584 years;
-    /// then there is no memory for more.
+    /// Checks that one more step can be counted. At one call a nanosecond, 64 bits last for 584 years; after that, each
+    /// call is out of memory.
     pub(crate) fn may_step(&self) -> Result<(), AllocError>
         ensures ok { OnOk result (self.now.place < 2 ^ 64 - 1) }
         ensures few { self.now.place < 2 ^ 64 - 1 → IsOk result }
@@ -135,7 +135,7 @@ impl Queueing {
         self.place += 1;
     }
 
-    /// One step more, of a call that neither hands in args nor dispatches them: no room for pumps is left.
+    /// Counts the step of a call that neither hands in args nor dispatches them. It leaves no room for pumps.
     pub(crate) fn go_on(&mut self, now: Moment)
         requires { self.old.place < 2 ^ 64 - 1 }
         ensures { self.new ≡ with_pumps 0 (stepped now self.old) }

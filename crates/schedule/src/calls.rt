@@ -1,4 +1,4 @@
-//! The calls of which a run has the most. Where no causes are sent, none of them is put together.
+//! The calls that a run makes most often. A run that explains no causes makes them without building a `Call`.
 ghost use Rattle.std.specs.Prelude.{◌≡◌, ◌-◌};
 ghost use Rattle.dispatch_calls.specs.declared.call.Call.{Call as CallView};
 ghost use Rattle.schedule.specs.Making.{CountsOne, GoesOn, Makes, ReleasesNone};
@@ -9,7 +9,7 @@ use input_types::{Args, Moment};
 use std::alloc::AllocError;
 
 impl Schedule {
-    /// Args are handed in.
+    /// Hands in args.
     pub(crate) fn notify(&mut self, now: Moment, args: &Args) -> Result<(), AllocError>
         ensures after { Makes result (CallView.Notify now args.now) self.old self.new }
         ensures calls { CountsOne result self.old self.new }
@@ -30,7 +30,7 @@ impl Schedule {
         }
     }
 
-    /// The first args that wait are dispatched; where none wait, a key that is held is repeated.
+    /// Dispatches the first args that wait. If none wait, repeats a key that is held.
     pub(crate) fn pump(&mut self, now: Moment) -> Result<(), AllocError>
         ensures after { Makes result (CallView.Pump now) self.old self.new }
         ensures calls { CountsOne result self.old self.new }
@@ -51,7 +51,7 @@ impl Schedule {
         }
     }
 
-    /// The owner of a channel is done with a message.
+    /// Finishes a message of a channel.
     pub(crate) fn finish_one(
         &mut self,
         now: Moment,

@@ -1,4 +1,4 @@
-//! The lines of what channels were sent. What came to them is released.
+//! Drains what channels were sent: its lines are written, and the messages are released.
 ghost use Rattle.std.specs.Prelude.{◌≡◌, ◌≤◌, ◌==◌, ℕ, true, false, List, OnOk, length};
 ghost use Rattle.dispatch_history.specs.Effect.{Effect, stream};
 ghost use Rattle.dispatch_history.specs.Plan.{Plan as PlanView};

@@ -173,8 +173,7 @@ impl Schedule {
         Ok(())
     }
 
-    /// The owner of a channel takes all that is published. Mostly there is nothing to take, so it is a part of the loop
-    /// that calls it.
+    /// Receives all published messages of a channel. Usually there are none, so the call is inlined into its loop.
     #[inline(always)]
     pub(crate) fn receive(&mut self, channel: u32) -> Result<(), AllocError>
         ensures after { Receives result channel self.old self.new }
@@ -193,8 +192,8 @@ impl Schedule {
         Ok(())
     }
 
-    /// The owners of all live channels take all that is published, and what those channels were sent is drained. Only
-    /// channels with an unfinished message are looked at: the owner of any other one has received all.
+    /// Receives all published messages of the live channels, and drains what those channels were sent. It visits only
+    /// channels with an unfinished message: the owner of any other channel has received everything.
     pub(crate) fn receive_all(&mut self) -> Result<(), AllocError>
         ensures after { (how : Lines) (plan : PlanView) (es : List Effect) → HasWith how plan es self.old
             → OnOk result (HasWith how plan (received_all plan.displays es) self.new) }

@@ -53,7 +53,7 @@ impl Dispatcher {
     }
 }
 
-/// What args come to that may not follow.
+/// The result of args that may not follow.
 fn refusal(pointers: u32, key_down: bool) -> Outcome
     ensures reply { reply_of result ≡ Inconsistent pointers key_down }
     ensures small { pointers < 2 ^ 32 }
