@@ -14,7 +14,7 @@ use Rattle.window_snapshot.specs.Window.{is_slippery, is_spy, is_touchable, is_h
 use Rattle.window_snapshot.proofs.Naming.{named_passes}
 use Rattle.routing_rules.specs.Pairs.{has}
 use Rattle.routing_rules.specs.Scene.{Scene, shows, which}
-use Rattle.routing_rules.specs.Choice.{takers, is_target, is_candidate, is_holder, is_alone, chosen, choose, earliest, sooner}
+use Rattle.routing_rules.specs.Choice.{takers, may_take, is_target, is_candidate, is_holder, is_alone, chosen, choose, earliest, sooner}
 use Rattle.routing_rules.specs.Slip.{Slip, slip, slip_of, slips_to, only, holders_of}
 use Rattle.routing_rules.specs.Given.{pairs, slips_in, given_by}
 
@@ -123,24 +123,25 @@ takers_given : (P : ℕ → Bool) (s : Scene) (m : Motion) (p : Pointer) (w e j 
 takers_given P s m p w e j f h =
     let d = m.device in
     let o = chosen s d p.at in
-    let test : Window → Bool = λ v. is_target s d (is_candidate s d p.at o) v.channel && s.able v.channel in
+    let target_is : Window → Bool = λ v. is_target s d (is_candidate s d p.at o) v.channel in
+    let test : Window → Bool = λ v. target_is v && may_take s d p.at v.channel in
     let target : (v : Window) → test v ≡ true → is_candidate s d p.at o v.channel ≡ true =
-    λ v t. (and_parts (is_candidate s d p.at o v.channel) _ (and_parts (is_target s d (is_candidate s d p.at o) v.channel) (s.able v.channel) t).0).0 in
+    λ v t. (and_parts (is_candidate s d p.at o v.channel) _ (and_parts (target_is v) (may_take s d p.at v.channel) t).0).0 in
     pairs_given P s d p.id w e j (takers s d p.at)
-    (which_pass s.able test (λ v t. (and_parts (is_target s d (is_candidate s d p.at o) v.channel) (s.able v.channel) t).1) s.windows)
+    (which_pass s.able test (λ v t. (and_parts (s.able v.channel) _ (and_parts (target_is v) (may_take s d p.at v.channel) t).1).0) s.windows)
     (which_pass P test (λ v t. candidate_passes P s d p.at f o (chosen_passes P s d p.at f) v.channel (target v t)) s.windows) h
 
 -- a window that a pointer slips to is the touched one, and able
-slips_are : (s : Scene) (v t : Option ℕ) (x : Slip) → slips_to s v t ≡ Some x → (s.able x.to ≡ true) × (t ≡ Some x.to)
-slips_are s None t x e = absurd (cc e)
-slips_are s (Some v) None x e = absurd (cc e)
-slips_are s (Some v) (Some t) x e = by_test (shows s is_slippery v && not (t == v) && s.able t) refl e
+slips_are : (s : Scene) (d : ℕ) (at : Pixel) (v t : Option ℕ) (x : Slip) → slips_to s d at v t ≡ Some x → (s.able x.to ≡ true) × (t ≡ Some x.to)
+slips_are s d at None t x e = absurd (cc e)
+slips_are s d at (Some v) None x e = absurd (cc e)
+slips_are s d at (Some v) (Some t) x e = by_test (shows s is_slippery v && not (t == v) && may_take s d at t) refl e
   where
-    by_test : (b : Bool) → (shows s is_slippery v && not (t == v) && s.able t) ≡ b → cond b (Some (record { from = v; to = t })) None ≡ Some x
+    by_test : (b : Bool) → (shows s is_slippery v && not (t == v) && may_take s d at t) ≡ b → cond b (Some (record { from = v; to = t })) None ≡ Some x
         → (s.able x.to ≡ true) × (Some t ≡ Some x.to)
     by_test true q e =
         let z : t ≡ x.to = ap (λ o. to_of o) e in
-        (subst (λ c. s.able c ≡ true) z (and_parts (shows s is_slippery v && not (t == v)) (s.able t) q).1, ap Some z)
+        (subst (λ c. s.able c ≡ true) z (and_parts (s.able t) _ (and_parts (shows s is_slippery v && not (t == v)) (may_take s d at t) q).1).0, ap Some z)
       where
         to_of : Option Slip → ℕ
         to_of None = t
@@ -150,7 +151,7 @@ slips_are s (Some v) (Some t) x e = by_test (shows s is_slippery v && not (t == 
 slip_is : (P : ℕ → Bool) (s : Scene) (d : ℕ) (a : MotionAction) (o : Option Pointer) (x : Slip) → ForDevice P s d → slip_of s d a o ≡ Some x
     → (s.able x.to ≡ true) × (P x.to ≡ true)
 slip_is P s d Move (Some p) x f e =
-    let r = slips_are s (only (holders_of s d p.id)) (touched s.windows (s.reach d) p.at.x p.at.y) x e in
+    let r = slips_are s d p.at (only (holders_of s d p.id)) (touched s.windows (s.reach d) p.at.x p.at.y) x e in
     (r.0, subst (Passes P) r.1 (touched_passes P s d p.at f))
 slip_is P s d Move None x f e = absurd (cc e)
 slip_is P s d Down o x f e = absurd (cc e)

@@ -3,6 +3,7 @@ use Rattle.std.proofs.Common.{◌≡◌, ◌≤◌, ◌==◌, ℕ, suc, Bool, tr
 use Rattle.std.specs.List.{list_any}
 use Rattle.std.specs.Option.{option_copied}
 use Rattle.std.proofs.lemmas.Bool.{cases_Bool, both_ways}
+use Rattle.input_types.specs.declared.axis.Pixel.{Pixel}
 use Rattle.input_types.specs.declared.message.Args.TheVariants.{Motion as MotionArgs}
 use Rattle.input_types.specs.declared.message.Body.TheVariants.{Key}
 use Rattle.input_types.specs.declared.motion.Motion.{Motion}
@@ -19,6 +20,7 @@ use Rattle.window_snapshot.specs.Window.{is_slippery}
 use Rattle.window_snapshot.proofs.Masks.{mask_has-mask_of, mask_has-zero}
 use Rattle.routing_rules.specs.Pairs.{Pair, has}
 use Rattle.routing_rules.specs.Scene.{Scene, Moves}
+use Rattle.routing_rules.specs.Choice.{may_take}
 use Rattle.routing_rules.specs.Slip.{Slip, only, holders_of, slips_to, slip_of, slip}
 use Rattle.routing_rules.specs.Taking.{Taking, Nothing, takes, pilfers}
 use Rattle.routing_rules.specs.Given.{changed, given_by, taken_by, slips_in, slips_out, mark as rule_mark}
@@ -56,15 +58,15 @@ no_such v (u ∷ us) e =
     let both = neither (is_slippery u) (list_any is_slippery us) e in
     ap₂ (λ a b. (u.channel == v && a) || b) both.0 (no_such v us both.1) ∙ ap (λ b. b || false) (and_false (u.channel == v))
 
-none_to : (s : Scene) (o t : Option ℕ) → list_any is_slippery s.windows ≡ false → slips_to s o t ≡ None
-none_to s None t e = refl
-none_to s (Some v) None e = refl
-none_to s (Some v) (Some t) e =
-    ap (λ b. cond (b && not (t == v) && s.able t) (Some (let x : Slip = record { from = v; to = t } in x)) None) (no_such v s.windows e)
+none_to : (s : Scene) (d : ℕ) (at : Pixel) (o t : Option ℕ) → list_any is_slippery s.windows ≡ false → slips_to s d at o t ≡ None
+none_to s d at None t e = refl
+none_to s d at (Some v) None e = refl
+none_to s d at (Some v) (Some t) e =
+    ap (λ b. cond (b && not (t == v) && may_take s d at t) (Some (let x : Slip = record { from = v; to = t } in x)) None) (no_such v s.windows e)
 
 none_of : (s : Scene) (d : ℕ) (o : Option Pointer) → list_any is_slippery s.windows ≡ false → slip_of s d Move o ≡ None
 none_of s d None e = refl
-none_of s d (Some p) e = none_to s (only (holders_of s d p.id)) (touched s.windows (s.reach d) p.at.x p.at.y) e
+none_of s d (Some p) e = none_to s d p.at (only (holders_of s d p.id)) (touched s.windows (s.reach d) p.at.x p.at.y) e
 
 none_slips : (s : Scene) (m : Motion) → m.action ≡ Move → list_any is_slippery s.windows ≡ false → slip s m ≡ None
 none_slips s m is e = ap (λ a. slip_of s m.device a (only m.pointers)) is ∙ none_of s m.device (only m.pointers) e

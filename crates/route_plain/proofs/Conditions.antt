@@ -4,6 +4,7 @@ use Rattle.std.specs.List.{list_any, find}
 use Rattle.std.proofs.lemmas.List.Folds.{list_any-append}
 use Rattle.std.proofs.lemmas.Option.{cond_some}
 use Rattle.std.proofs.lemmas.Bool.{eqb-true, eqb-false, eq-eqb, and_parts, or_cases, or_left, or_right, not-true, true≢false}
+use Rattle.input_types.specs.declared.axis.Pixel.{Pixel}
 use Rattle.input_types.specs.declared.motion.Motion.{Motion}
 use Rattle.input_types.specs.declared.motion.MotionAction.{MotionAction}
 use Rattle.input_types.specs.declared.motion.MotionAction.TheVariants.{Down, Up, Move, Cancel, Outside, PointerDown, PointerUp}
@@ -15,7 +16,7 @@ use Rattle.routing_rules.specs.Pairs.{has}
 use Rattle.routing_rules.specs.Taking.{Taking, Nothing, Lifted, Emptied, Slipped, Pilfered, Dropped, takes}
 use Rattle.routing_rules.specs.Marks.{kept}
 use Rattle.routing_rules.specs.Scene.{Scene, Step, Moves, Resets, Pilfers, Shows, Mutes, Removes, NoOp}
-use Rattle.routing_rules.specs.Choice.{is_candidate, is_target, chosen, takers}
+use Rattle.routing_rules.specs.Choice.{is_candidate, is_target, chosen, takers, may_take}
 use Rattle.routing_rules.specs.Slip.{Slip, only, holders_of, slips_to, slip_of, slip}
 use Rattle.routing_rules.specs.Given.{given, taken, given_by, taken_by, pairs, slips_in, slips_out, changed}
 use Rattle.routing_rules.specs.Fits.{last_then}
@@ -77,7 +78,8 @@ IsGood s w = (s.able w ≡ true) × (is_named s.windows w ≡ true)
 takers_good : (s : Scene) (d : ℕ) (m : Motion) (p : Pointer) (w e i : ℕ) → has (pairs d p.id (takers s d p.at)) w e i ≡ true → IsGood s w
 takers_good s d m p w e i h =
     let cand : ℕ → Bool = is_candidate s d p.at (chosen s d p.at) in
-    in_which (λ v. is_target s d cand v.channel && s.able v.channel) s.able (λ v t. (and_parts (is_target s d cand v.channel) (s.able v.channel) t).1)
+    in_which (λ v. is_target s d cand v.channel && may_take s d p.at v.channel) s.able
+    (λ v t. (and_parts (s.able v.channel) _ (and_parts (is_target s d cand v.channel) (may_take s d p.at v.channel) t).1).0)
     s.windows w (in_pairs d p.id (takers s d p.at) w e i h)
 
 found_named : (p : Window → Bool) (vs : List Window) (t : ℕ) → option_map (λ v. v.channel) (find p vs) ≡ Some t → is_named vs t ≡ true
@@ -89,17 +91,17 @@ found_named p (v ∷ vs) t e = first (p v) e (found_named p vs t)
     first true e r = let q : v.channel ≡ t = cc in or_left (v.channel == t) _ (eq-eqb v.channel t q)
     first false e r = or_right (v.channel == t) _ (r e)
 
-slips_good : (s : Scene) (o t : Option ℕ) (x : Slip) → slips_to s o t ≡ Some x → (s.able x.to ≡ true) × (t ≡ Some x.to)
-slips_good s None t x e = absurd (cc e)
-slips_good s (Some v) None x e = absurd (cc e)
-slips_good s (Some v) (Some t) x e =
+slips_good : (s : Scene) (d : ℕ) (at : Pixel) (o t : Option ℕ) (x : Slip) → slips_to s d at o t ≡ Some x → (s.able x.to ≡ true) × (t ≡ Some x.to)
+slips_good s d at None t x e = absurd (cc e)
+slips_good s d at (Some v) None x e = absurd (cc e)
+slips_good s d at (Some v) (Some t) x e =
     let k = cond_some _ _ _ e in
     let q : t ≡ x.to = ap (λ (y : Slip). y.to) k.1 in
-    (ap s.able (sym q) ∙ (and_parts _ (s.able t) k.0).1, ap Some q)
+    (ap s.able (sym q) ∙ (and_parts (s.able t) _ (and_parts _ (may_take s d at t) k.0).1).0, ap Some q)
 
 slip_good : (s : Scene) (d : ℕ) (a : MotionAction) (o : Option Pointer) (x : Slip) → slip_of s d a o ≡ Some x → IsGood s x.to
 slip_good s d Move (Some p) x e =
-    let k = slips_good s (only (holders_of s d p.id)) (touched s.windows (s.reach d) p.at.x p.at.y) x e in
+    let k = slips_good s d p.at (only (holders_of s d p.id)) (touched s.windows (s.reach d) p.at.x p.at.y) x e in
     (k.0, found_named (takes_touch (s.reach d) p.at.x p.at.y) s.windows x.to k.1)
 slip_good s d Move None x e = absurd (cc e)
 slip_good s d Down o x e = absurd (cc e)

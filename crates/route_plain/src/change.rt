@@ -5,7 +5,7 @@ ghost use Rattle.window_snapshot.specs.Hits.{is_spy_at};
 ghost use Rattle.routing_rules.specs.Scene.{Moves};
 ghost use Rattle.routing_rules.specs.Slip.{slip};
 ghost use Rattle.routing_rules.specs.Given.{given, taken, pairs, slips_in, changed};
-ghost use Rattle.routing_rules.specs.Choice.{takers, is_candidate_of};
+ghost use Rattle.routing_rules.specs.Choice.{takers, is_candidate_of, may_take};
 ghost use Rattle.route_plain.specs.Loss.{taking_of};
 ghost use Rattle.route_plain.specs.Seen.{scene_at};
 ghost use Rattle.route_plain.specs.Route.{hold_from, step_of};
@@ -51,17 +51,26 @@ fn taken_by(
     chosen: Option<u32>,
     spies: u64,
     some_pilfering: bool,
+    at: Pixel,
 ) -> Result<Vec<Hold>, AllocError>
     ensures { let s = scene_at seen.now in
         IfOk result (λ v. v.items
         ≡ map (λ w. hold_from turn seen.now.holds.now (record { window = w.channel; device = device; id = id }))
         (filter (λ w. is_candidate_of chosen (mask_has spies) w.channel
-        && (s.pilfering w.channel device || not some_pilfering) && s.able w.channel) s.windows)) }
+        && (s.pilfering w.channel device || not some_pilfering) && may_take s device at w.channel) s.windows)) }
 {
     seen.snapshot
         .windows()
         .iter()
-        .filter(|window| is_taker(seen, device, chosen, spies, some_pilfering, window.channel))
+        .filter(|window| is_taker(
+            seen,
+            device,
+            chosen,
+            spies,
+            some_pilfering,
+            at,
+            window.channel,
+        ))
         .map(|window| hold_from(seen, turn, window.channel, device, id))
         .collect(alloc)
 }
@@ -89,7 +98,9 @@ fn gained_down(
     let chosen = choice_at(seen, device, pointer.at).window;
     let spies = spies(seen, device, pointer.at);
     let some = some_pilfering(seen, device, chosen, spies);
-    taken_by(alloc, seen, turn, device, pointer.id, chosen, spies, some)
+    taken_by(
+        alloc, seen, turn, device, pointer.id, chosen, spies, some, pointer.at,
+    )
 }
 
 /// The hold of the window that a pointer slips to.

@@ -1,18 +1,19 @@
 //! Who gets a pointer that goes down.
-ghost use Rattle.std.specs.Prelude.{◌≡◌, ◌&&◌, ◌||◌, not};
+ghost use Rattle.std.specs.Prelude.{◌≡◌, ◌&&◌, ◌||◌, not, ℕ};
 ghost use Rattle.std.specs.List.{list_any};
-ghost use Rattle.routing_rules.specs.Choice.{is_holder, sooner, earliest, is_alone, choose, choice_at, is_candidate_of};
+ghost use Rattle.routing_rules.specs.Choice.{is_holder, sooner, earliest, is_alone, choose, choice_at, is_candidate_of, may_take};
 ghost use Rattle.routing_rules.specs.Scene.{shows, which};
 ghost use Rattle.window_snapshot.specs.Mask.{mask_has};
 ghost use Rattle.window_snapshot.specs.Window.{prevents_splitting};
 ghost use Rattle.window_snapshot.specs.Hits.{touched};
+ghost use Rattle.window_snapshot.specs.Occlusion.{is_blocked_at};
 ghost use Rattle.route_plain.specs.Seen.{scene_at};
 
 use crate::hold::{holds_any, is_earlier, is_pilfering};
 use crate::seen::Seen;
 use input_types::{DeviceId, Pixel};
 use routing_rules::{Choice, Row};
-use window_snapshot::{Window, mask_has};
+use window_snapshot::{Window, mask_has, mask_less};
 
 /// Whether the window is not a spy and holds something of the device.
 fn is_holder(seen: &Seen, device: DeviceId, window: &Window) -> bool
@@ -161,13 +162,31 @@ pub(crate) fn is_taker(
     chosen: Option<u32>,
     spies: u64,
     some_pilfering: bool,
+    at: Pixel,
     channel: u32,
 ) -> bool
     ensures { let s = scene_at seen.now in result
         ≡ (is_candidate_of chosen (mask_has spies) channel && (s.pilfering channel device || not some_pilfering)
-        && s.able channel) }
+        && may_take s device at channel) }
 {
     is_candidate(chosen, spies, channel)
         && (is_pilfering(seen.pilferers, channel, device) || !some_pilfering)
-        && mask_has(seen.able, channel)
+        && may_take(seen, device, at, channel)
+}
+
+/// Whether a window may be given a pointer at a place: it is able to take input, and no window of another owner blocks
+/// it there.
+pub(crate) fn may_take(seen: &Seen, device: DeviceId, at: Pixel, channel: u32) -> bool
+    ensures { result ≡ may_take (scene_at seen.now) device at channel }
+{
+    let blocked = blocked(seen, device, at);
+    mask_has(mask_less(seen.able, blocked), channel)
+}
+
+/// The mask of the windows that are able to take input but blocked at a place.
+fn blocked(seen: &Seen, device: DeviceId, at: Pixel) -> u64
+    ensures { let s = scene_at seen.now in (w : ℕ)
+        → mask_has result w ≡ (mask_has seen.now.able w && is_blocked_at s.windows (s.reach device) at.x at.y w) }
+{
+    seen.snapshot.blocked(at.x, at.y, seen.live, seen.able)
 }

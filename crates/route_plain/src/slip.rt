@@ -6,10 +6,11 @@ ghost use Rattle.routing_rules.specs.Slip.{only, holders_of, slips_to, slip};
 ghost use Rattle.route_plain.specs.Seen.{scene_at};
 ghost use Rattle.route_plain.specs.Slipping.{rule_slip, and_one, the_one};
 
+use crate::choice::may_take;
 use crate::hold::holds_pointer;
 use crate::seen::Seen;
-use input_types::{DeviceId, Motion, MotionAction, PointerId};
-use window_snapshot::{Window, mask_has};
+use input_types::{DeviceId, Motion, MotionAction, Pixel, PointerId};
+use window_snapshot::Window;
 
 /// The window from which a pointer slips, and the one to which it slips.
 #[derive(Clone, Copy)]
@@ -85,12 +86,18 @@ fn is_slippery(seen: &Seen, channel: u32) -> bool
 }
 
 /// The slip from the only holder to the touched window, if it may slip there.
-fn slips_to(seen: &Seen, holder: Option<u32>, touched: Option<u32>) -> Option<Slip>
-    ensures { option_map rule_slip result ≡ slips_to (scene_at seen.now) holder touched }
+fn slips_to(
+    seen: &Seen,
+    device: DeviceId,
+    at: Pixel,
+    holder: Option<u32>,
+    touched: Option<u32>,
+) -> Option<Slip>
+    ensures { option_map rule_slip result ≡ slips_to (scene_at seen.now) device at holder touched }
 {
     match (holder, touched) {
         (Some(from), Some(to)) => {
-            if is_slippery(seen, from) && to != from && mask_has(seen.able, to) {
+            if is_slippery(seen, from) && to != from && may_take(seen, device, at, to) {
                 Some(Slip { from, to })
             } else {
                 None
@@ -108,7 +115,13 @@ pub(crate) fn slip_of(seen: &Seen, motion: &Motion) -> Option<Slip>
         MotionAction::Move => match motion.pointers.as_slice() {
             [pointer] => {
                 let touched = seen.snapshot.touched(pointer.at.x, pointer.at.y, seen.live);
-                slips_to(seen, only_holder(seen, motion.device, pointer.id), touched)
+                slips_to(
+                    seen,
+                    motion.device,
+                    pointer.at,
+                    only_holder(seen, motion.device, pointer.id),
+                    touched,
+                )
             }
             _ => None,
         },

@@ -3,7 +3,7 @@ use Rattle.std.proofs.Common.{◌≡◌, ℕ, Bool, true, false, not, ◌&&◌, 
 use mathlib.Core.Path.{fun_ext}
 use Rattle.std.specs.Prelude.{fold, IfSome}
 use Rattle.std.specs.List.{list_any}
-use Rattle.std.proofs.lemmas.Bool.{and_parts, or_left, cases_eq, eq-eqb, ne_eqb}
+use Rattle.std.proofs.lemmas.Bool.{and_parts, or_left, cases_eq, eq-eqb, ne_eqb, true≢false}
 use Rattle.input_types.specs.declared.axis.Pixel.{Pixel}
 use Rattle.window_snapshot.specs.declared.window.Window.{Window}
 use Rattle.window_snapshot.specs.Mask.{is_channel, mask_has}
@@ -11,10 +11,11 @@ use Rattle.window_snapshot.specs.MaskOf.{mask_of}
 use Rattle.window_snapshot.specs.Named.{is_named}
 use Rattle.window_snapshot.specs.Window.{is_spy}
 use Rattle.window_snapshot.specs.Hits.{is_spy_at}
-use Rattle.window_snapshot.proofs.Masks.{mask_has-live, mask_has_channel}
+use Rattle.window_snapshot.proofs.Among.{named_among}
+use Rattle.window_snapshot.proofs.Masks.{mask_has-mask_of, mask_has_channel}
 use Rattle.window_snapshot.proofs.Naming.{named_passes}
 use Rattle.routing_rules.specs.Scene.{Scene}
-use Rattle.routing_rules.specs.Choice.{is_candidate, is_target, chosen, takers, is_candidate_of}
+use Rattle.routing_rules.specs.Choice.{is_candidate, is_target, chosen, targets_at, may_take, takers, is_candidate_of}
 use Rattle.routing_rules.specs.Given.{pairs}
 use Rattle.routing_rules.specs.Pairs.{has}
 use Rattle.routing_rules.specs.Slip.{only, holders_of}
@@ -72,17 +73,14 @@ has_pairs device id (v ∷ ws) w d i =
     ∙ ap (λ r. v == w && d == device && i == id || r) (has_pairs device id ws w d i)
     ∙ shared (v == w) (d == device) (i == id) (list_any (λ u. u == w) ws)
 
--- the mask of the windows that get a pointer
-pub takers_are : (s : Scene) (d : ℕ) (at : Pixel) (spies : ℕ → Bool) (some : Bool) (c : Option ℕ) (able mask : ℕ)
+-- the mask of the targets
+pub targets_are : (s : Scene) (d : ℕ) (at : Pixel) (spies : ℕ → Bool) (some : Bool) (c : Option ℕ) (mask : ℕ)
     → ((w : ℕ) → spies w ≡ is_spy_at s.windows (s.reach d) at.x at.y w) → c ≡ chosen s d at
-    → some ≡ list_any (λ v. is_candidate_of c spies v.channel && s.pilfering v.channel d) s.windows → s.able ≡ mask_has able
-    → mask ≡ mask_of (filter (λ v. is_candidate_of c spies v.channel && (s.pilfering v.channel d || not some) && s.able v.channel) s.windows)
-    → (w : ℕ) → mask_has mask w ≡ list_any (λ v. v == w) (takers s d at)
-takers_are s d at spies some c able mask spied choice pilfered can is w =
-    ap (λ m. mask_has m w) (is ∙ ap mask_of same)
-    ∙ mask_has-live (λ v. is_target s d (is_candidate s d at (chosen s d at)) v.channel && s.able v.channel)
-    (λ v h. mask_has_channel able v.channel (sym (ap (λ f. f v.channel) can) ∙ (and_parts _ (s.able v.channel) h).1)) s.windows w
-    ∙ any_channels _ w
+    → some ≡ list_any (λ v. is_candidate_of c spies v.channel && s.pilfering v.channel d) s.windows
+    → mask ≡ mask_of (filter (λ v. is_candidate_of c spies v.channel && (s.pilfering v.channel d || not some)) s.windows)
+    → (w : ℕ) → mask_has mask w ≡ (is_channel w && list_any (λ v. v == w) (targets_at s d at))
+targets_are s d at spies some c mask spied choice pilfered is w =
+    ap (λ m. mask_has m w) (is ∙ ap mask_of same) ∙ mask_has-mask_of _ w ∙ ap (λ b. is_channel w && b) (any_channels _ w)
   where
     candidate_at : (o : Option ℕ) (v : ℕ) → is_candidate_of o spies v ≡ is_candidate s d at o v
     candidate_at None v = spied v
@@ -94,6 +92,39 @@ takers_are s d at spies some c able mask spied choice pilfered can is w =
     one : some ≡ list_any (λ v. is_candidate s d at (chosen s d at) v.channel && s.pilfering v.channel d) s.windows
     one = pilfered ∙ ap (λ f. list_any (λ v. f v.channel && s.pilfering v.channel d) s.windows) candidate
 
-    same : filter (λ v. is_candidate_of c spies v.channel && (s.pilfering v.channel d || not some) && s.able v.channel) s.windows
-        ≡ filter (λ v. is_target s d (is_candidate s d at (chosen s d at)) v.channel && s.able v.channel) s.windows
-    same k = filter (λ v. candidate k v.channel && (s.pilfering v.channel d || not (one k)) && s.able v.channel) s.windows
+    same : filter (λ v. is_candidate_of c spies v.channel && (s.pilfering v.channel d || not some)) s.windows
+        ≡ filter (λ v. is_target s d (is_candidate s d at (chosen s d at)) v.channel) s.windows
+    same k = filter (λ v. candidate k v.channel && (s.pilfering v.channel d || not (one k))) s.windows
+
+and_turned : (a b : Bool) → (a && b) ≡ (b && a)
+and_turned true true = refl
+and_turned true false = refl
+and_turned false true = refl
+and_turned false false = refl
+
+-- what is left of a mask without those of it that are in another one
+pub left_over : (a b k : Bool) → (not ((a && b) && k) && (a && b)) ≡ (a && (b && not k))
+left_over true true true = refl
+left_over true true false = refl
+left_over true false k = refl
+left_over false b k = refl
+
+without_channel : (k x m : Bool) → (m ≡ true → k ≡ true) → ((k && x) && m) ≡ (m && x)
+without_channel true x m h = and_turned x m
+without_channel false x true h = absurd (true≢false (sym (h refl)))
+without_channel false x false h = refl
+
+-- who may be given a pointer is a channel
+pub taker_channel : (s : Scene) (d : ℕ) (at : Pixel) (able w : ℕ) → s.able ≡ mask_has able → may_take s d at w ≡ true → is_channel w ≡ true
+taker_channel s d at able w can h = mask_has_channel able w (sym (ap (λ f. f w) can) ∙ (and_parts (s.able w) _ h).0)
+
+-- the targets that may be given a pointer are those that get it
+pub takers_are : (s : Scene) (d : ℕ) (at : Pixel) (able w : ℕ) → s.able ≡ mask_has able
+    → ((is_channel w && list_any (λ v. v == w) (targets_at s d at)) && may_take s d at w) ≡ list_any (λ v. v == w) (takers s d at)
+takers_are s d at able w can =
+    let test : Window → Bool = λ v. is_target s d (is_candidate s d at (chosen s d at)) v.channel in
+    without_channel (is_channel w) _ (may_take s d at w) (taker_channel s d at able w can)
+    ∙ ap (λ b. may_take s d at w && b) (sym (any_channels (filter test s.windows) w))
+    ∙ sym (named_among (may_take s d at) test s.windows w)
+    ∙ ap (λ (f : Window → Bool). is_named (filter f s.windows) w) (fun_ext (λ v. and_turned (may_take s d at v.channel) (test v)))
+    ∙ any_channels (filter (λ v. test v && may_take s d at v.channel) s.windows) w

@@ -9,7 +9,7 @@ use Rattle.window_snapshot.specs.declared.window.Window.{Window}
 use Rattle.routing_rules.specs.Pairs.{has}
 use Rattle.routing_rules.specs.Taking.{takes, pilfers}
 use Rattle.routing_rules.specs.Scene.{Scene, Moves}
-use Rattle.routing_rules.specs.Choice.{choice_at, takers}
+use Rattle.routing_rules.specs.Choice.{choice_at, targets_at}
 use Rattle.routing_rules.specs.Slip.{slip}
 use Rattle.routing_rules.specs.Given.{given, taken, given_by, taken_by, changed, mark}
 use Rattle.touch_state.specs.Touches.{Touches}
@@ -99,11 +99,11 @@ pub chooses : (s : Scene) (ts : List Touches) (t : Touches) (windows : List Wind
 chooses s ts t windows reach able d at f e q =
     ap (λ (x : Scene). choice_at x d at) (sym (near_is s ts windows reach able d f e ∙ ap (scene_with windows reach able) q))
 
--- so are the windows that get a pointer
-pub takers_near : (s : Scene) (ts : List Touches) (t : Touches) (windows : List Window) (reach able d : ℕ) (at : Pixel)
-    → Stands s ts → Sees s windows reach able d → table_of ts d ≡ t → takers (scene_with windows reach able t) d at ≡ takers s d at
-takers_near s ts t windows reach able d at f e q =
-    ap (λ (x : Scene). takers x d at) (sym (near_is s ts windows reach able d f e ∙ ap (scene_with windows reach able) q))
+-- so are the targets
+pub targets_near : (s : Scene) (ts : List Touches) (t : Touches) (windows : List Window) (reach able d : ℕ) (at : Pixel)
+    → Stands s ts → Sees s windows reach able d → table_of ts d ≡ t → targets_at (scene_with windows reach able t) d at ≡ targets_at s d at
+targets_near s ts t windows reach able d at f e q =
+    ap (λ (x : Scene). targets_at x d at) (sym (near_is s ts windows reach able d f e ∙ ap (scene_with windows reach able) q))
 
 -- so is what slips
 pub slip_near : (s : Scene) (ts : List Touches) (t : Touches) (windows : List Window) (reach able : ℕ) (m : Motion)

@@ -1,27 +1,53 @@
 //! Who gets a pointer that goes down.
-ghost use Rattle.std.specs.Prelude.{◌≡◌, ◌&&◌, ◌||◌, ◌==◌, not, ℕ, filter, option_copied, option_map};
+ghost use Rattle.std.specs.Prelude.{◌≡◌, ◌&&◌, ◌||◌, ◌==◌, not, true, ℕ, filter, option_copied, option_map};
 ghost use Rattle.std.specs.List.{find, list_any};
 ghost use Rattle.window_snapshot.specs.Hits.{touched, is_spy_at};
-ghost use Rattle.window_snapshot.specs.Mask.{mask_has};
+ghost use Rattle.window_snapshot.specs.Occlusion.{is_blocked_at};
+ghost use Rattle.window_snapshot.specs.Mask.{is_channel, mask_has};
 ghost use Rattle.window_snapshot.specs.MaskOf.{mask_of};
 ghost use Rattle.window_snapshot.specs.Window.{is_spy, prevents_splitting};
-ghost use Rattle.routing_rules.specs.Choice.{is_holder, earliest, is_alone, choose, choice_at, takers, is_candidate_of};
+ghost use Rattle.routing_rules.specs.Choice.{is_holder, earliest, is_alone, choose, choice_at, targets_at, may_take, takers, is_candidate_of};
 ghost use Rattle.routing_rules.specs.Scene.{shows, which};
 ghost use Rattle.route_split.specs.Seen.{scene_at};
 
 use crate::seen::{Seen, holds_any, is_pilfering};
 use input_types::{DeviceId, Pixel};
 use routing_rules::{Choice, Row};
-use window_snapshot::{Window, mask_has, mask_with};
+use window_snapshot::{Window, mask_has, mask_less, mask_with};
 
-/// The mask of the windows that get a pointer of a device that goes down at a place.
-pub(crate) fn takers(seen: &Seen, device: DeviceId, at: Pixel) -> u64
-    ensures { (w : ℕ) → mask_has result w ≡ list_any (λ v. v == w) (takers (scene_at seen.now) device at) }
+/// The mask of the targets of a pointer of a device that goes down at a place.
+pub(crate) fn targets(seen: &Seen, device: DeviceId, at: Pixel) -> u64
+    ensures { (w : ℕ) → mask_has result w
+        ≡ (is_channel w && list_any (λ v. v == w) (targets_at (scene_at seen.now) device at)) }
 {
     let chosen = choice_at(seen, device, at).window;
     let spies = spies(seen, device, at);
     let some = some_pilfering(seen, device, chosen, spies);
-    taker_mask(seen, device, chosen, spies, some)
+    target_mask(seen, device, chosen, spies, some)
+}
+
+/// The mask of the windows that get a pointer of a device that goes down at a place: the targets that may be given it.
+pub(crate) fn takers(seen: &Seen, device: DeviceId, at: Pixel) -> u64
+    ensures { (w : ℕ) → mask_has result w ≡ list_any (λ v. v == w) (takers (scene_at seen.now) device at) }
+{
+    may_take(seen, device, at, targets(seen, device, at))
+}
+
+/// Of the windows of a mask, those that may be given a pointer at a place: they are able to take input, and no window of
+/// another owner blocks them there.
+fn may_take(seen: &Seen, device: DeviceId, at: Pixel, among: u64) -> u64
+    ensures { (w : ℕ) → mask_has result w ≡ (mask_has among w && may_take (scene_at seen.now) device at w) }
+{
+    let able = among & seen.able;
+    mask_less(able, blocked(seen, device, at, able))
+}
+
+/// Of the windows of a mask, those that are blocked at a place.
+fn blocked(seen: &Seen, device: DeviceId, at: Pixel, among: u64) -> u64
+    ensures { let s = scene_at seen.now in (w : ℕ)
+        → mask_has result w ≡ (mask_has among w && is_blocked_at s.windows (s.reach device) at.x at.y w) }
+{
+    seen.windows.blocked(at.x, at.y, seen.reach, among)
 }
 
 /// The mask of the spies at a place.
@@ -136,6 +162,14 @@ fn is_alone(seen: &Seen, device: DeviceId, touched: Option<u32>) -> bool
     }
 }
 
+/// Whether the window of a channel may be given a pointer at a place.
+pub(crate) fn may_take_one(seen: &Seen, device: DeviceId, at: Pixel, channel: u32) -> bool
+    ensures value { result ≡ may_take (scene_at seen.now) device at channel }
+    ensures channel { result ≡ true → is_channel channel ≡ true }
+{
+    mask_has(may_take(seen, device, at, mask_with(0, channel)), channel)
+}
+
 /// The choice, as a table.
 fn choose(first: Option<u32>, whole: Option<u32>, touched: Option<u32>, alone: bool) -> Choice
     ensures { result ≡ choose first whole touched alone }
@@ -184,8 +218,8 @@ fn some_pilfering(seen: &Seen, device: DeviceId, chosen: Option<u32>, spies: u64
         && is_pilfering(seen.table, window.channel))
 }
 
-/// Whether the window gets the pointer.
-fn is_taker(
+/// Whether the window is a target.
+fn is_target(
     seen: &Seen,
     device: DeviceId,
     chosen: Option<u32>,
@@ -194,16 +228,13 @@ fn is_taker(
     channel: u32,
 ) -> bool
     ensures { let s = scene_at seen.now in result
-        ≡ (is_candidate_of chosen (mask_has spies) channel && (s.pilfering channel device || not some_pilfering)
-        && s.able channel) }
+        ≡ (is_candidate_of chosen (mask_has spies) channel && (s.pilfering channel device || not some_pilfering)) }
 {
-    is_candidate(chosen, spies, channel)
-        && (is_pilfering(seen.table, channel) || !some_pilfering)
-        && mask_has(seen.able, channel)
+    is_candidate(chosen, spies, channel) && (is_pilfering(seen.table, channel) || !some_pilfering)
 }
 
-/// The mask of those that do.
-fn taker_mask(
+/// The mask of those that are.
+fn target_mask(
     seen: &Seen,
     device: DeviceId,
     chosen: Option<u32>,
@@ -213,11 +244,11 @@ fn taker_mask(
     ensures { let s = scene_at seen.now in result
         ≡ mask_of (filter
         (λ v. is_candidate_of chosen (mask_has spies) v.channel
-        && (s.pilfering v.channel device || not some_pilfering) && s.able v.channel) s.windows) }
+        && (s.pilfering v.channel device || not some_pilfering)) s.windows) }
 {
     seen.windows
         .windows()
         .iter()
-        .filter(|window| is_taker(seen, device, chosen, spies, some_pilfering, window.channel))
+        .filter(|window| is_target(seen, device, chosen, spies, some_pilfering, window.channel))
         .fold(0, |mask, window| mask_with(mask, window.channel))
 }

@@ -8,9 +8,10 @@ ghost use Rattle.routing_rules.specs.Slip.{only, holders_of, slips_to, slip};
 ghost use Rattle.route_split.specs.Seen.{scene_at};
 ghost use Rattle.route_split.specs.Slipping.{rule_slip, and_one, the_one};
 
+use crate::choice::may_take_one;
 use crate::seen::{Seen, holds_pointer};
 use input_types::{DeviceId, Motion, MotionAction, Pointer, PointerId};
-use window_snapshot::{Window, mask_has};
+use window_snapshot::Window;
 
 /// The window from which a pointer slips, and the one to which it slips.
 #[derive(Clone, Copy, Debug)]
@@ -86,17 +87,18 @@ fn is_slippery(seen: &Seen, channel: u32) -> bool
         .any(|window| window.channel == channel && window.is_slippery())
 }
 
-/// The slip from a slippery holder to the window at the pointer's position, if that is another one that is able.
+/// The slip from a slippery holder to the window at the pointer's position, if that is another one that may be given the
+/// pointer.
 fn slips_from(seen: &Seen, device: DeviceId, from: u32, pointer: Pointer) -> Option<Way>
     requires slippery { shows (scene_at seen.now) is_slippery from ≡ true }
     requires channel { is_channel from ≡ true }
     ensures channels { IfSome result (λ x. (is_channel x.from ≡ true) × (is_channel x.to ≡ true)) }
     ensures slip { let s = scene_at seen.now in option_map rule_slip result
-        ≡ slips_to s (Some from) (touched s.windows (s.reach device) pointer.at.x pointer.at.y) }
+        ≡ slips_to s device pointer.at (Some from) (touched s.windows (s.reach device) pointer.at.x pointer.at.y) }
 {
     match seen.windows.touched(pointer.at.x, pointer.at.y, seen.reach) {
         Some(to) => {
-            if to != from && mask_has(seen.able, to) {
+            if to != from && may_take_one(seen, device, pointer.at, to) {
                 Some(Way { from, to })
             } else {
                 None
@@ -110,7 +112,7 @@ fn slips_from(seen: &Seen, device: DeviceId, from: u32, pointer: Pointer) -> Opt
 fn slips(seen: &Seen, device: DeviceId, pointer: Pointer) -> Option<Way>
     ensures channels { IfSome result (λ x. (is_channel x.from ≡ true) × (is_channel x.to ≡ true)) }
     ensures slip { let s = scene_at seen.now in option_map rule_slip result
-        ≡ slips_to s (only (holders_of s device pointer.id))
+        ≡ slips_to s device pointer.at (only (holders_of s device pointer.id))
         (touched s.windows (s.reach device) pointer.at.x pointer.at.y) }
 {
     match only_holder(seen, device, pointer.id) {

@@ -1,9 +1,9 @@
 //! The touch states of all devices.
-ghost use Rattle.std.specs.Prelude.{◌≡◌, ◌==◌, ℕ, [], ◌∷◌, false, true, IfOk, IfSome, option_map};
+ghost use Rattle.std.specs.Prelude.{◌≡◌, ◌==◌, ◌&&◌, ℕ, [], ◌∷◌, false, true, IfOk, IfSome, option_map};
 ghost use Rattle.std.specs.List.{list_any};
 ghost use Rattle.bits32.specs.Set.{is_in};
 ghost use Rattle.window_snapshot.specs.Mask.{is_channel, mask_has};
-ghost use Rattle.routing_rules.specs.Choice.{choice_at, takers};
+ghost use Rattle.routing_rules.specs.Choice.{choice_at, targets_at};
 ghost use Rattle.routing_rules.specs.Taking.{takes, pilfers};
 ghost use Rattle.routing_rules.specs.Scene.{Scene, Moves};
 ghost use Rattle.routing_rules.specs.Given.{changed, mark as rule_mark};
@@ -18,7 +18,7 @@ ghost use Rattle.route_split.specs.Tables.{table_of, any_at, holds_at, pilfering
 ghost use Rattle.route_split.specs.declared.mark.Mark.TheVariants.{NoOp};
 ghost use Rattle.route_split.specs.Marking.{gives, taking, is_pilfer, IsWhole, IsMark, AreLosses, may_be_sent};
 
-use crate::choice::{choice_at, takers};
+use crate::choice::{choice_at, targets};
 use crate::concern::given_windows;
 use crate::holding::holding;
 use crate::mark::Mark;
@@ -128,9 +128,9 @@ impl Touches {
         choice_at(&seen, device, at)
     }
 
-    /// The mask of the windows that get a pointer of a device that goes down at a position. The masks are those of
+    /// The mask of the targets of a pointer of a device that goes down at a position, able or not. The masks are those of
     /// the channels that the device can reach, and of those that can take input.
-    pub fn takers(
+    pub fn targets(
         &self,
         device: DeviceId,
         at: Pixel,
@@ -139,7 +139,7 @@ impl Touches {
         able: u64,
     ) -> u64
         ensures { (s : Scene) → Stands s self.now → Sees s windows.now reach able device → (w : ℕ)
-            → mask_has result w ≡ list_any (λ v. v == w) (takers s device at) }
+            → mask_has result w ≡ (is_channel w && list_any (λ v. v == w) (targets_at s device at)) }
     {
         let seen = Seen {
             windows,
@@ -147,7 +147,7 @@ impl Touches {
             able,
             table: &self.states[index_of(device)],
         };
-        takers(&seen, device, at)
+        targets(&seen, device, at)
     }
 
     /// The window from which the pointer of a motion slips, and the one to which it slips; None exactly if it does

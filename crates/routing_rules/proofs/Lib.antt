@@ -3,6 +3,7 @@ pub mod SinceLaws
 pub mod PilferingLaws
 pub mod Worked
 pub mod Examples
+pub mod Blocked
 pub mod ChoiceRows
 pub mod Listings
 pub mod SentRows

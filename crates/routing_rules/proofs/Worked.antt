@@ -4,6 +4,7 @@ use Rattle.input_types.specs.declared.motion.Motion.{Motion}
 use Rattle.input_types.specs.declared.motion.MotionAction.{MotionAction}
 use Rattle.input_types.specs.declared.pointer.Pointer.{Pointer}
 use Rattle.touch_region.specs.declared.rectangle.Rect.{Rect}
+use Rattle.window_snapshot.specs.declared.occlusion.Occlusion.{Occlusion}
 use Rattle.window_snapshot.specs.declared.occlusion.Occlusion.TheVariants.{Block}
 use Rattle.window_snapshot.specs.declared.window.Window.{Window}
 use Rattle.window_snapshot.specs.Named.{is_shown_on}
@@ -36,6 +37,10 @@ pair w i = record { window = w; device = 1; id = i }
 abbrev pub scene : List Window → List Pair → List Pointer → Scene
 scene windows qs last =
     scene_of windows (λ d w. true) (λ w. true) qs (λ v w d. has_any qs v d && has_any qs w d && nat_lt v w) (λ w d. false) (λ d. last)
+
+-- the window of an owner, of this opacity and this occlusion
+abbrev pub owned : (owner opacity : ℕ) → Occlusion → Window → Window
+owned o p m v = record v { owner = o; opacity = p; occlusion = m }
 
 -- the window on another display
 abbrev pub on : ℕ → Window → Window

@@ -5,6 +5,7 @@ use Rattle.input_types.specs.declared.axis.Pixel.{Pixel}
 use Rattle.window_snapshot.specs.declared.window.Window.{Window}
 use Rattle.window_snapshot.specs.Window.{is_spy, prevents_splitting}
 use Rattle.window_snapshot.specs.Hits.{touched, is_spy_at}
+use Rattle.window_snapshot.specs.Occlusion.{is_blocked_at}
 use Rattle.routing_rules.specs.declared.choice.Choice.{Choice}
 use Rattle.routing_rules.specs.declared.choice.Row.TheVariants.{First, Unsplit, Nothing, Whole, Split}
 use Rattle.routing_rules.specs.Scene.{Scene, shows, which}
@@ -57,14 +58,23 @@ is_candidate_of (Some c) spies w = w == c || spies w
 
 -- a candidate is the chosen window, or a spy at the place
 abbrev pub is_candidate : Scene → ℕ → Pixel → Option ℕ → ℕ → Bool
-is_candidate s d at None w = is_spy_at s.windows (s.reach d) at.x at.y w
-is_candidate s d at (Some c) w = w == c || is_spy_at s.windows (s.reach d) at.x at.y w
+is_candidate s d at c = is_candidate_of c (is_spy_at s.windows (s.reach d) at.x at.y)
 
 -- a target is a candidate that is pilfering the device, or any candidate if none is
 abbrev pub is_target : Scene → ℕ → (ℕ → Bool) → ℕ → Bool
 is_target s d candidate w =
     candidate w && (s.pilfering w d || not (list_any (λ v. candidate v.channel && s.pilfering v.channel d) s.windows))
 
--- the windows that get a pointer of the device that goes down at this place, front to back: the targets that are able to
+-- the targets of a pointer of the device that goes down at this place, front to back
+abbrev pub targets_at : Scene → ℕ → Pixel → List ℕ
+targets_at s d at = let c = chosen s d at in which s (λ v. is_target s d (is_candidate s d at c) v.channel)
+
+-- a window may be given a pointer of the device at this place: it is able to take input, and no window of another owner
+-- blocks it there
+abbrev pub may_take : Scene → ℕ → Pixel → ℕ → Bool
+may_take s d at w = s.able w && not (is_blocked_at s.windows (s.reach d) at.x at.y w)
+
+-- the windows that get it, front to back: the targets that may be given it
 abbrev pub takers : Scene → ℕ → Pixel → List ℕ
-takers s d at = let c = chosen s d at in which s (λ v. is_target s d (is_candidate s d at c) v.channel && s.able v.channel)
+takers s d at =
+    let c = chosen s d at in which s (λ v. is_target s d (is_candidate s d at c) v.channel && may_take s d at v.channel)

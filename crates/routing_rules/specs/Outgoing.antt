@@ -88,10 +88,13 @@ abbrev pub is_first : MotionAction → Bool
 is_first Down = true
 is_first _ = false
 
--- what a window that watches for touches outside of it is sent when a gesture begins
+-- a window watches for touches outside of it, and this pointer begins a gesture in front of which it stands
+abbrev pub watches : Scene → Motion → Pointer → ℕ → Bool
+watches s m p w = is_first m.action && s.able w && is_watcher_at s.windows (s.reach m.device) p.at.x p.at.y w
+
+-- such a window is sent a touch outside
 abbrev pub outside : Scene → Motion → Pointer → ℕ → List Motion
-outside s m p w =
-    if is_first m.action && s.able w && is_watcher_at s.windows (s.reach m.device) p.at.x p.at.y w then plain m.device Outside (p ∷ []) ∷ [] else []
+outside s m p w = if watches s m p w then plain m.device Outside (p ∷ []) ∷ [] else []
 
 -- the first non-empty list of two
 abbrev pub or_else : List Motion → List Motion → List Motion

@@ -1,5 +1,6 @@
 -- A pointer that slips from one window to another.
 use Rattle.std.specs.Prelude.{ℕ, not, ◌==◌, ◌&&◌, if◌then◌else◌, List, [], ◌∷◌, Option, Some, None}
+use Rattle.input_types.specs.declared.axis.Pixel.{Pixel}
 use Rattle.input_types.specs.declared.motion.Motion.{Motion}
 use Rattle.input_types.specs.declared.motion.MotionAction.{MotionAction}
 use Rattle.input_types.specs.declared.motion.MotionAction.TheVariants.{Move}
@@ -7,6 +8,7 @@ use Rattle.input_types.specs.declared.pointer.Pointer.{Pointer}
 use Rattle.window_snapshot.specs.Window.{is_spy, is_slippery}
 use Rattle.window_snapshot.specs.Hits.{touched}
 use Rattle.routing_rules.specs.Scene.{Scene, shows, which}
+use Rattle.routing_rules.specs.Choice.{may_take}
 
 -- the window from which a pointer slips, and the one to which it slips
 pub record Slip : Type 0 where
@@ -23,15 +25,15 @@ only (x ∷ y ∷ xs) = None
 abbrev pub holders_of : Scene → ℕ → ℕ → List ℕ
 holders_of s d i = which s (λ v. not (is_spy v) && s.holds v.channel d i)
 
--- a pointer slips from its only holder to the touched window if the holder is slippery and the touched window is
--- another one that is able
-abbrev pub slips_to : Scene → Option ℕ → Option ℕ → Option Slip
-slips_to s (Some v) (Some t) = if shows s is_slippery v && not (t == v) && s.able t then Some (record { from = v; to = t }) else None
-slips_to s _ _ = None
+-- a pointer of the device at this place slips from its only holder to the touched window if the holder is slippery and the
+-- touched window is another one that may be given it
+abbrev pub slips_to : Scene → ℕ → Pixel → Option ℕ → Option ℕ → Option Slip
+slips_to s d at (Some v) (Some t) = if shows s is_slippery v && not (t == v) && may_take s d at t then Some (record { from = v; to = t }) else None
+slips_to s d at _ _ = None
 
 -- a motion lets a pointer slip if it is a move that lists only that pointer
 abbrev pub slip_of : Scene → ℕ → MotionAction → Option Pointer → Option Slip
-slip_of s d Move (Some p) = slips_to s (only (holders_of s d p.id)) (touched s.windows (s.reach d) p.at.x p.at.y)
+slip_of s d Move (Some p) = slips_to s d p.at (only (holders_of s d p.id)) (touched s.windows (s.reach d) p.at.x p.at.y)
 slip_of s d _ _ = None
 
 -- what slips at a motion

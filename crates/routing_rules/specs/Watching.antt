@@ -1,16 +1,15 @@
 -- Windows that watch for touches outside of them.
-use Rattle.std.specs.Prelude.{ℕ, Bool, false, ◌&&◌, List, [], ◌∷◌, Option, Some, None}
+use Rattle.std.specs.Prelude.{ℕ, Bool, false, List, [], ◌∷◌, Option, Some, None}
 use Rattle.input_types.specs.declared.motion.Motion.{Motion}
 use Rattle.input_types.specs.declared.motion.MotionAction.TheVariants.{Outside}
 use Rattle.input_types.specs.declared.pointer.Pointer.{Pointer}
-use Rattle.window_snapshot.specs.Hits.{is_watcher_at}
 use Rattle.routing_rules.specs.Scene.{Scene}
-use Rattle.routing_rules.specs.Outgoing.{plain, is_first}
+use Rattle.routing_rules.specs.Outgoing.{plain, watches}
 
 -- the window watches for touches outside of it, and this pointer begins a gesture
 abbrev pub is_watching : Scene → Motion → Option Pointer → ℕ → Bool
 is_watching s m None w = false
-is_watching s m (Some p) w = is_first m.action && s.able w && is_watcher_at s.windows (s.reach m.device) p.at.x p.at.y w
+is_watching s m (Some p) w = watches s m p w
 
 -- a window is sent a touch outside, if there is such a pointer
 abbrev pub outside_of : ℕ → Option Pointer → List Motion

@@ -1,20 +1,16 @@
 -- Masks of candidates and targets.
-use Rattle.std.proofs.Common.{◌≡◌, ℕ, Bool, true, false, not, ◌&&◌, ◌||◌, ◌==◌, List, Option, Some, None, refl, sym, ap, ap₂, ◌∙◌, bit_and, arith}
-use Rattle.std.specs.Int.{bit_not, w64}
-use Rattle.std.specs.List.{list_any}
+use Rattle.std.proofs.Common.{◌≡◌, ℕ, Bool, true, false, not, ◌&&◌, ◌||◌, ◌==◌, Option, Some, None, refl, sym, ap, ap₂, ◌∙◌, bit_and}
 use Rattle.input_types.specs.declared.axis.Pixel.{Pixel}
 use Rattle.input_types.specs.declared.motion.Motion.{Motion}
 use Rattle.input_types.specs.declared.pointer.Pointer.{Pointer}
 use Rattle.window_snapshot.specs.Hits.{is_spy_at}
+use Rattle.window_snapshot.specs.Occlusion.{is_blocked_at}
 use Rattle.window_snapshot.specs.Mask.{is_channel, mask_has, mask_with}
-use Rattle.window_snapshot.proofs.Masks.{mask_has-with, mask_has-zero}
+use Rattle.window_snapshot.proofs.Masks.{mask_has-with}
 use Rattle.window_snapshot.proofs.Parts.{mask_has-and}
 use Rattle.routing_rules.specs.Scene.{Scene}
-use Rattle.routing_rules.specs.Choice.{is_candidate, is_candidate_of, takers}
-use Rattle.route_split.specs.Tables.{Stands}
-use Rattle.route_split.proofs.Found.{symmetric}
-use Rattle.route_split.proofs.MaskSets.{mask_has-not}
-use Rattle.touch_state.specs.Touches.{Touches}
+use Rattle.routing_rules.specs.Choice.{is_candidate, is_candidate_of}
+use Rattle.route_split.proofs.Found.{left_over, symmetric}
 use Rattle.why_text.specs.Down.{down_of, targets}
 use Rattle.why_text.proofs.PartLaws.{given_is}
 use Rattle.why_lines.specs.Causes.{Comes}
@@ -33,10 +29,6 @@ and_turned true false = refl
 and_turned false true = refl
 and_turned false false = refl
 
-and_true : (b : Bool) → (b && true) ≡ b
-and_true true = refl
-and_true false = refl
-
 -- the chosen window and the spies
 pub with_chosen : (spies c w : ℕ) → is_channel w ≡ true → mask_has (mask_with spies c) w ≡ (w == c || mask_has spies w)
 with_chosen spies c w number =
@@ -51,39 +43,34 @@ pub same_candidates : (s : Scene) (d : ℕ) (at : Pixel) (o : Option ℕ) (spies
 same_candidates s d at None spies w e = e
 same_candidates s d at (Some c) spies w e = ap (λ b. w == c || b) e
 
--- each channel is in the mask of all
-pub all_channels : (w : ℕ) → is_channel w ≡ true → mask_has (bit_not w64 0) w ≡ true
-all_channels w number = mask_has-not 0 w (omega arith) ∙ ap₂ (λ a b. a && not b) number (mask_has-zero w)
-
--- the scene in which the channels of a mask are able
-abbrev pub with_able : Scene → ℕ → Scene
-with_able s mask =
-    record {
-      windows = s.windows;
-      reach = s.reach;
-      able = mask_has mask;
-      holds = s.holds;
-      any = s.any;
-      earlier = s.earlier;
-      pilfering = s.pilfering;
-      last = s.last;
-    }
-
-pub stands_able : (s : Scene) (ts : List Touches) (mask : ℕ) → Stands s ts → Stands (with_able s mask) ts
-stands_able s ts mask h =
-    record { holds_are = h.holds_are; any_are = h.any_are; earlier_are = h.earlier_are; pilfering_are = h.pilfering_are }
-
--- who would get the pointer if every channel were able to is a target
-pub targets_are : (s : Scene) (m : Motion) (p : Pointer) (mask all w : ℕ) → mask_has all w ≡ true
-    → mask_has mask w ≡ list_any (λ v. v == w) (takers (with_able s all) m.device p.at) → mask_has mask w ≡ targets s m p w
-targets_are s m p mask all w able has =
-    has ∙ given_is (with_able s all) m p w ∙ ap (λ b. targets s m p w && b) able ∙ and_true (targets s m p w)
-
--- those of the targets that are able to get it
+-- the targets that are able
 pub able_targets : (s : Scene) (m : Motion) (p : Pointer) (mask able w : ℕ) → s.able ≡ mask_has able → mask_has mask w ≡ targets s m p w
-    → mask_has (bit_and mask able) w ≡ (down_of s m p).given w
-able_targets s m p mask able w e has =
-    mask_has-and mask able w ∙ ap₂ (λ a b. a && b) has (sym (ap (λ f. f w) e)) ∙ sym (given_is s m p w)
+    → mask_has (bit_and mask able) w ≡ (targets s m p w && s.able w)
+able_targets s m p mask able w e has = mask_has-and mask able w ∙ ap₂ (λ a b. a && b) has (sym (ap (λ f. f w) e))
+
+regroup : (a b c : Bool) → ((a && b) && c) ≡ (a && (b && c))
+regroup true b c = refl
+regroup false b c = refl
+
+-- of those, the windows that are blocked
+pub blocked_targets : (s : Scene) (m : Motion) (p : Pointer) (blocked able w : ℕ) → mask_has able w ≡ (targets s m p w && s.able w)
+    → mask_has blocked w ≡ (mask_has able w && is_blocked_at s.windows (s.reach m.device) p.at.x p.at.y w)
+    → mask_has blocked w ≡ (down_of s m p).blocked w
+blocked_targets s m p blocked able w can is =
+    let k = is_blocked_at s.windows (s.reach m.device) p.at.x p.at.y w in
+    is ∙ ap (λ b. b && k) can ∙ regroup (targets s m p w) (s.able w) k
+
+-- and the others are given it
+pub given_targets : (s : Scene) (m : Motion) (p : Pointer) (given blocked able w : ℕ) → mask_has given w ≡ (not (mask_has blocked w) && mask_has able w)
+    → mask_has able w ≡ (targets s m p w && s.able w)
+    → mask_has blocked w ≡ (mask_has able w && is_blocked_at s.windows (s.reach m.device) p.at.x p.at.y w)
+    → mask_has given w ≡ (down_of s m p).given w
+given_targets s m p given blocked able w rest can is =
+    let k = is_blocked_at s.windows (s.reach m.device) p.at.x p.at.y w in
+    rest
+    ∙ ap₂ (λ x y. not x && y) (is ∙ ap (λ b. b && k) can) can
+    ∙ left_over (targets s m p w) (s.able w) k
+    ∙ sym (given_is s m p w)
 
 -- those who watch and are not given it are told of a touch outside
 pub watching_rest : (s : Scene) (m : Motion) (p : Pointer) (r watchers given w : ℕ) → Comes s m p

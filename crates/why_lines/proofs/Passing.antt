@@ -1,5 +1,5 @@
 -- The channels and the ids that pass a test, one by one.
-use Rattle.std.proofs.Common.{◌≡◌, ℕ, zero, suc, ◌+◌, ◌-◌, ◌<◌, ◌≤◌, ◌==◌, Bool, true, false, not, ◌&&◌, cond, List, [], ◌∷◌, ◌++◌, filter, length, refl, sym, ap, ap₂, ◌∙◌, inl, inr, arith, append_assoc, append-nil}
+use Rattle.std.proofs.Common.{◌≡◌, ℕ, zero, suc, ◌+◌, ◌-◌, ◌<◌, ◌≤◌, ◌==◌, Bool, true, false, not, ◌&&◌, cond, List, [], ◌∷◌, ◌++◌, filter, flat_map, length, refl, sym, ap, ap₂, ◌∙◌, inl, inr, arith, append_assoc, append-nil}
 use Rattle.std.specs.Prelude.{codes}
 use Rattle.std.specs.Fmt.{decimal}
 use Rattle.std.proofs.lemmas.List.Elements.{filter-append}
@@ -171,21 +171,21 @@ pub set_of_ids : (ids : List ℕ) → 0 < length ids → set_word ids ≡ joined
 set_of_ids [] some = absurd (omega (arith, some))
 set_of_ids (i ∷ is) some = refl
 
--- one channel less is left
-pub further_more : (mask rest c : ℕ) (all old new : List ℕ) → 1 ≤ c → c ≤ 64 → mask_has mask c ≡ true → ((e : ℕ) → mask_has mask e ≡ true → c ≤ e)
-    → ((e : ℕ) → mask_has rest e ≡ (not (e == c) && mask_has mask e)) → new ≡ old ++ (codes "," ++ decimal c)
-    → old ++ behind_commas (channels_that (mask_has mask)) ≡ all → new ++ behind_commas (channels_that (mask_has rest)) ≡ all
-further_more mask rest c all old new low high is first others added before =
-    ap (λ xs. xs ++ behind_commas (channels_that (mask_has rest))) added
-    ∙ append_assoc old (codes "," ++ decimal c) (behind_commas (channels_that (mask_has rest)))
-    ∙ ap (λ cs. old ++ behind_commas cs) (sym (first_channel (mask_has mask) (mask_has rest) c low high is first others))
+-- one channel less is left to be written, each with some words
+pub further_more : (words : ℕ → List ℕ) (mask rest c : ℕ) (all old new : List ℕ) → 1 ≤ c → c ≤ 64 → mask_has mask c ≡ true
+    → ((e : ℕ) → mask_has mask e ≡ true → c ≤ e) → ((e : ℕ) → mask_has rest e ≡ (not (e == c) && mask_has mask e)) → new ≡ old ++ words c
+    → old ++ flat_map words (channels_that (mask_has mask)) ≡ all → new ++ flat_map words (channels_that (mask_has rest)) ≡ all
+further_more words mask rest c all old new low high is first others added before =
+    ap (λ xs. xs ++ flat_map words (channels_that (mask_has rest))) added
+    ∙ append_assoc old (words c) (flat_map words (channels_that (mask_has rest)))
+    ∙ ap (λ cs. old ++ flat_map words cs) (sym (first_channel (mask_has mask) (mask_has rest) c low high is first others))
     ∙ before
 
 -- no channel is left
-pub further_done : (mask : ℕ) (all text : List ℕ) → mask ≡ 0 → text ++ behind_commas (channels_that (mask_has mask)) ≡ all → text ≡ all
-further_done mask all text none done =
+pub further_done : (words : ℕ → List ℕ) (mask : ℕ) (all text : List ℕ) → mask ≡ 0 → text ++ flat_map words (channels_that (mask_has mask)) ≡ all → text ≡ all
+further_done words mask all text none done =
     sym (append-nil text)
-    ∙ ap (λ cs. text ++ behind_commas cs) (sym (no_channel (mask_has mask) (λ c. ap (λ m. mask_has m c) none ∙ mask_has-zero c)))
+    ∙ ap (λ cs. text ++ flat_map words cs) (sym (no_channel (mask_has mask) (λ c. ap (λ m. mask_has m c) none ∙ mask_has-zero c)))
     ∙ done
 
 -- the set of the windows of a mask, by the first of them

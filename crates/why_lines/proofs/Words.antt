@@ -1,5 +1,5 @@
 -- The words of the causes.
-use Rattle.std.proofs.Common.{◌≡◌, ◌≤◌, ℕ, zero, suc, ◌&&◌, Bool, true, cond, [], ◌∷◌, ◌++◌, filter, Option, refl, sym, ap, ap₂, ◌∙◌, arith}
+use Rattle.std.proofs.Common.{◌≡◌, ◌≤◌, ℕ, zero, suc, ◌&&◌, Bool, true, cond, [], ◌∷◌, ◌++◌, filter, flat_map, Option, refl, sym, ap, ap₂, ◌∙◌, arith}
 use Rattle.std.specs.Prelude.{codes}
 use Rattle.std.proofs.lemmas.Bool.{lt-ltb, le-leb}
 use Rattle.std.proofs.lemmas.List.Elements.{filter-append}
@@ -8,7 +8,7 @@ use Rattle.dispatch_history.specs.Effects.{channels}
 use Rattle.routing_rules.specs.declared.choice.Choice.{Choice}
 use Rattle.why_text.specs.Words.{channel_word, channels_that, row_word, set_word, windows_word}
 use Rattle.why_text.specs.Down.{Down}
-use Rattle.why_text.specs.Lines.{choice_words, pointer_words, sets_words}
+use Rattle.why_text.specs.Lines.{blocked_word, blocked_words, choice_words, pointer_words, sets_words}
 use Rattle.why_lines.specs.declared.lines.downs.Causes.{Causes}
 use Rattle.why_lines.specs.Causes.{AreCauses, down_with}
 use Rattle.why_lines.specs.Laws.{WordsLaw}
@@ -24,9 +24,12 @@ same_upto p q (suc n) few same =
     number : is_channel (suc n) ≡ true
     number = ap₂ (λ a b. a && b) (lt-ltb 0 (suc n) (omega arith)) (le-leb (suc n) 64 few)
 
-pub same_windows : (p q : ℕ → Bool) → ((w : ℕ) → is_channel w ≡ true → p w ≡ q w) → windows_word p ≡ windows_word q
+same_channels : (p q : ℕ → Bool) → ((w : ℕ) → is_channel w ≡ true → p w ≡ q w) → channels_that p ≡ channels_that q
 unfolding channels_that
-same_windows p q same = ap set_word (same_upto p q 64 (omega arith) same)
+same_channels p q same = same_upto p q 64 (omega arith) same
+
+pub same_windows : (p q : ℕ → Bool) → ((w : ℕ) → is_channel w ≡ true → p w ≡ q w) → windows_word p ≡ windows_word q
+same_windows p q same = ap set_word (same_channels p q same)
 
 same_choice : (c : Causes) (k : Down) → AreCauses c k → choice_words (down_with c) ≡ choice_words k
 same_choice c k h =
@@ -45,5 +48,11 @@ same_sets c k h =
     )
     refl
 
+same_blocked : (c : Causes) (k : Down) → AreCauses c k → blocked_words (down_with c).blocked (down_with c).blockers ≡ blocked_words k.blocked k.blockers
+same_blocked c k h = ap₂ (λ (f : ℕ → ℕ → Bool) cs. flat_map (blocked_word f) cs) h.blockers_are (same_channels _ k.blocked h.blocked_are)
+
 pub words_law : WordsLaw
-words_law d p c k h = ap₂ (λ xs ys. codes "down " ++ pointer_words d p ++ xs ++ ys) (same_choice c k h) (same_sets c k h)
+words_law d p c k h =
+    ap₂ (λ xs ys. codes "down " ++ pointer_words d p ++ xs ++ ys ++ blocked_words (down_with c).blocked (down_with c).blockers) (same_choice c k h)
+    (same_sets c k h)
+    ∙ ap (λ ys. codes "down " ++ pointer_words d p ++ choice_words k ++ sets_words k ++ ys) (same_blocked c k h)

@@ -10,9 +10,15 @@ use Rattle.routing_rules.specs.Outgoing.{is_down}
 use Rattle.routing_rules.specs.Fits.{Fits, down_after}
 use Rattle.route_split.specs.Tables.{Stands}
 use Rattle.route_split.specs.Seen.{Sees}
+use Rattle.why_text.specs.Blocking.{blockers}
 use Rattle.why_text.specs.Down.{Down}
+use Rattle.why_lines.specs.declared.blocking.Blocked.{Blocked}
 use Rattle.why_lines.specs.declared.lines.downs.Causes.{Causes}
 use Rattle.why_lines.specs.declared.sight.Sight.{Sight}
+
+-- the windows that block a window
+abbrev pub blocked_by : Blocked → ℕ → ℕ → Bool
+blocked_by k = blockers k.windows.now (mask_has k.reach) k.at
 
 -- the windows of each set are those of its mask
 abbrev pub down_with : Causes → Down
@@ -25,6 +31,8 @@ down_with k =
       given = mask_has k.given;
       mute = mask_has k.mute;
       outside = mask_has k.outside;
+      blocked = mask_has k.blocked.mask;
+      blockers = blocked_by k.blocked;
     }
 
 -- the scene is what is seen before a motion of this device
@@ -55,3 +63,5 @@ pub record AreCauses (c : Causes) (k : Down) : Type 0 where
   pub given_are : Has c.given k.given
   pub mute_are : Has c.mute k.mute
   pub outside_are : Has c.outside k.outside
+  pub blocked_are : Has c.blocked.mask k.blocked
+  pub blockers_are : blocked_by c.blocked ≡ k.blockers

@@ -4,16 +4,18 @@
 //! goes down on the right one, while the owner of channel 2 does not answer:
 //!
 //! ```text
-//! touched 2   row split   chosen 2   spies {}   pilfering {}   given {}   mute {2}   outside {}
+//! touched 2   row split   chosen 2   spies {}   pilfering {}   given {}   mute {2}   outside {}   blocked {}
 //! ```
 ghost use Rattle.std.specs.Prelude.{◌≡◌, ◌&&◌, ℕ};
 ghost use Rattle.window_snapshot.specs.Hits.{is_spy_at, touched};
 ghost use Rattle.window_snapshot.specs.Mask.{mask_has};
+ghost use Rattle.window_snapshot.specs.Occlusion.{is_blocked_at};
 ghost use Rattle.routing_rules.specs.Choice.{is_candidate_of};
 ghost use Rattle.routing_rules.specs.Scene.{Scene};
 ghost use Rattle.why_text.specs.Down.{down_of, targets};
 ghost use Rattle.why_lines.specs.Causes.{AreCauses, Comes, Has, IsSeen};
 
+use crate::blocking::Blocked;
 use crate::lines::Causes;
 use crate::sight::Sight;
 use input_types::{DeviceId, Motion, Pixel, Pointer};
@@ -35,6 +37,14 @@ fn spies_at(sight: &Sight, at: Pixel) -> u64
     sight.windows.spies(at.x, at.y, sight.reach)
 }
 
+/// Of the windows of a mask, those that are blocked at a place.
+fn blocked_at(sight: &Sight, at: Pixel, among: u64) -> u64
+    ensures { (c : ℕ) → mask_has result c
+        ≡ (mask_has among c && is_blocked_at sight.now.windows.now (mask_has sight.now.reach) at.x at.y c) }
+{
+    sight.windows.blocked(at.x, at.y, sight.reach, among)
+}
+
 /// The mask of the candidates: the chosen window and the spies.
 fn candidates(chosen: Option<u32>, spies: u64) -> u64
     ensures { Has result (is_candidate_of chosen (mask_has spies)) }
@@ -53,18 +63,21 @@ fn pilfering(sight: &Sight, device: DeviceId, chosen: Option<u32>, spies: u64) -
     candidates(chosen, spies) & sight.touches.pilfering(device)
 }
 
-/// The mask of the targets: they get the pointer where they are able to, so those that would get it if every channel
-/// were.
+/// The mask of the targets.
 fn target_mask(sight: &Sight, motion: &Motion, pointer: &Pointer) -> u64
     ensures { (s : Scene) → IsSeen s motion.now.device sight.now → Has result (targets s motion.now pointer.now) }
 {
-    sight
-        .touches
-        .takers(motion.device, pointer.at, sight.windows, sight.reach, !0)
+    sight.touches.targets(
+        motion.device,
+        pointer.at,
+        sight.windows,
+        sight.reach,
+        sight.able,
+    )
 }
 
 /// The causes of a pointer that goes down with a motion: those of the rules, with sets of windows as masks.
-pub fn down_causes(sight: &Sight, motion: &Motion, pointer: &Pointer) -> Causes
+pub fn down_causes<'a>(sight: &Sight<'a>, motion: &Motion, pointer: &Pointer) -> Causes<'a>
     ensures { (s : Scene) → IsSeen s motion.now.device sight.now → Comes s motion.now pointer.now
         → AreCauses result (down_of s motion.now pointer.now) }
 {
@@ -76,7 +89,9 @@ pub fn down_causes(sight: &Sight, motion: &Motion, pointer: &Pointer) -> Causes
         .choice(device, at, windows, sight.reach, sight.able);
     let spies = spies_at(sight, at);
     let targets = target_mask(sight, motion, pointer);
-    let given = targets & sight.able;
+    let able = targets & sight.able;
+    let blocked = blocked_at(sight, at, able);
+    let given = mask_less(able, blocked);
     Causes {
         touched: touched_at(sight, at),
         choice,
@@ -85,5 +100,11 @@ pub fn down_causes(sight: &Sight, motion: &Motion, pointer: &Pointer) -> Causes
         given,
         mute: mask_less(targets, sight.able),
         outside: mask_less(watchers(motion, windows, sight.reach, sight.able), given),
+        blocked: Blocked {
+            mask: blocked,
+            windows,
+            reach: sight.reach,
+            at,
+        },
     }
 }

@@ -22,6 +22,7 @@
 //! - [`all_focused`], [`add_changes`]: the changes of the focus, and of the window that keys go to.
 #![tactic(auto)]
 
+mod blocking;
 mod calls;
 mod causes;
 mod focuses;

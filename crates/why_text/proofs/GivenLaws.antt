@@ -16,7 +16,7 @@ use Rattle.window_snapshot.specs.Hits.{touched, takes_touch, is_watcher_at}
 use Rattle.routing_rules.specs.Pairs.{has}
 use Rattle.routing_rules.specs.Taking.{takes}
 use Rattle.routing_rules.specs.Scene.{Scene, Moves, Resets, Pilfers, Shows, Mutes, Removes, NoOp, shows}
-use Rattle.routing_rules.specs.Choice.{takers}
+use Rattle.routing_rules.specs.Choice.{takers, may_take}
 use Rattle.routing_rules.specs.Slip.{Slip, slip, slip_of, slips_to, only, holders_of}
 use Rattle.routing_rules.specs.Given.{changed, given, given_by, pairs, slips_in, taken, mark}
 use Rattle.routing_rules.specs.Outgoing.{after, cancelled_ups, cancels, cancels_of, closing, is_cancelled, is_down, is_first, is_up, listing, moves as moved, opening, or_else, outside, plain, sent_motion}
@@ -155,13 +155,13 @@ only_is (x ∷ y ∷ xs) v t e h = absurd (cc e)
 
 -- a window to which a pointer slips did not hold it
 slip_fresh : (s : Scene) (d : ℕ) (p : Pointer) (holder t : Option ℕ) (way : Slip) → only (holders_of s d p.id) ≡ holder
-    → touched s.windows (s.reach d) p.at.x p.at.y ≡ t → slips_to s holder t ≡ Some way → s.holds way.to d p.id ≡ false
+    → touched s.windows (s.reach d) p.at.x p.at.y ≡ t → slips_to s d p.at holder t ≡ Some way → s.holds way.to d p.id ≡ false
 slip_fresh s d p None t way a b e = absurd (cc e)
 slip_fresh s d p (Some v) None way a b e = absurd (cc e)
 slip_fresh s d p (Some v) (Some t) way a b e =
     let k = cond_some _ _ _ e in
     let q : t ≡ way.to = ap (λ (y : Slip). y.to) k.1 in
-    let other : (t == v) ≡ false = not-true (t == v) (and_parts (shows s is_slippery v) (not (t == v)) (and_parts _ (s.able t) k.0).0).1 in
+    let other : (t == v) ≡ false = not-true (t == v) (and_parts (shows s is_slippery v) (not (t == v)) (and_parts _ (may_take s d p.at t) k.0).0).1 in
     elim (cases_Bool (s.holds t d p.id)) [
       | inl h ↦
           let good : (u : Window) → takes_touch (s.reach d) p.at.x p.at.y u ≡ true → u.channel ≡ t → (not (is_spy u) && s.holds u.channel d p.id) ≡ true =

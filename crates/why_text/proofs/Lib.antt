@@ -4,3 +4,4 @@ pub mod GivenLaws
 pub mod OutsideLaws
 pub mod NoOpLaws
 pub mod Rows
+pub mod BlockedRows

@@ -1,4 +1,4 @@
--- The targets of a pointer are divided into the windows that are given it and the mute ones.
+-- The targets of a pointer are divided into the windows that are given it, the mute ones and the blocked ones.
 use Rattle.std.proofs.Common.{◌≡◌, ℕ, zero, suc, Bool, true, false, not, ◌&&◌, ◌||◌, ◌==◌, cond, List, [], ◌∷◌, map, filter, find, take, option_map, Option, Some, None, refl, sym, ap, ◌∙◌, subst, inl, inr}
 use Rattle.std.specs.Prelude.{fold}
 use Rattle.std.specs.List.{list_any, prefix_len}
@@ -10,10 +10,11 @@ use Rattle.window_snapshot.specs.declared.window.Window.{Window}
 use Rattle.window_snapshot.specs.Named.{is_named}
 use Rattle.window_snapshot.specs.Window.{prevents_splitting}
 use Rattle.window_snapshot.specs.Hits.{touched, takes_touch, spies_touch, in_front, is_spy_at}
+use Rattle.window_snapshot.specs.Occlusion.{is_blocked_at}
 use Rattle.routing_rules.specs.Scene.{Scene, which}
-use Rattle.routing_rules.specs.Choice.{is_holder, is_alone, sooner, earliest, choose, chosen, is_candidate}
+use Rattle.routing_rules.specs.Choice.{is_holder, is_alone, sooner, earliest, choose, chosen, is_candidate, may_take, targets_at}
 use Rattle.why_text.specs.Down.{down_of, may_get, targets}
-use Rattle.why_text.specs.Laws.{PartsLaw}
+use Rattle.why_text.specs.Laws.{Parts, PartsLaw}
 
 -- the channel passes a test, if there is one; and all of these channels do
 abbrev Passes : (ℕ → Bool) → Option ℕ → Type 0
@@ -129,32 +130,41 @@ among_which P (v ∷ vs) w = first (P v.channel) (v.channel == w) refl refl (amo
         and_none false = refl
     first false false p q r = rw q r
 
--- two conditions on a target, by whether it is named and able
-parts : (n t a : Bool) → (t ≡ true → n ≡ true) → ((n && (t && a) && (t && not a)) ≡ false) × ((n && (t && a) || t && not a) ≡ t)
-parts true true true h = (refl, refl)
-parts true true false h = (refl, refl)
-parts true false true h = (refl, refl)
-parts true false false h = (refl, refl)
-parts false true a h = absurd (true≢false (sym (h refl)))
-parts false false a h = (refl, refl)
+-- three conditions on a target, by whether it is named, able and blocked
+parts : (n t a b : Bool) → (t ≡ true → n ≡ true) → Parts t (n && (t && (a && not b))) (t && not a) (t && (a && b))
+parts true true true true h = (refl, refl, refl, refl)
+parts true true true false h = (refl, refl, refl, refl)
+parts true true false true h = (refl, refl, refl, refl)
+parts true true false false h = (refl, refl, refl, refl)
+parts true false a b h = (refl, refl, refl, refl)
+parts false true a b h = absurd (true≢false (sym (h refl)))
+parts false false a b h = (refl, refl, refl, refl)
 
 target_named : (s : Scene) (m : Motion) (p : Pointer) (w : ℕ) → targets s m p w ≡ true → is_named s.windows w ≡ true
 target_named s m p w h = candidate_named s m.device p.at (chosen s m.device p.at) (chosen_named s m.device p.at) w (and_parts (may_get s m p w) _ h).0
 
--- the windows that get it are the named targets that are able
-given_named : (s : Scene) (m : Motion) (p : Pointer) (w : ℕ) → (down_of s m p).given w ≡ (is_named s.windows w && (targets s m p w && s.able w))
-given_named s m p w = among_which (λ v. targets s m p v && s.able v) s.windows w
+-- the windows that get it are the named targets that may be given it
+given_named : (s : Scene) (m : Motion) (p : Pointer) (w : ℕ)
+    → (down_of s m p).given w ≡ (is_named s.windows w && (targets s m p w && may_take s m.device p.at w))
+given_named s m p w = among_which (λ v. targets s m p v && may_take s m.device p.at v) s.windows w
 
 pub parts_law : PartsLaw
 parts_law s m p w =
-    let x = parts (is_named s.windows w) (targets s m p w) (s.able w) (target_named s m p w) in (
-      ap (λ b. b && (targets s m p w && not (s.able w))) (given_named s m p w) ∙ x.0,
-      ap (λ b. b || targets s m p w && not (s.able w)) (given_named s m p w) ∙ x.1,
-    )
+    subst (λ g. Parts (targets s m p w) g ((down_of s m p).mute w) ((down_of s m p).blocked w)) (sym (given_named s m p w))
+    (parts (is_named s.windows w) (targets s m p w) (s.able w) (is_blocked_at s.windows (s.reach m.device) p.at.x p.at.y w) (target_named s m p w))
 
--- so they are the targets that are able
-pub given_is : (s : Scene) (m : Motion) (p : Pointer) (w : ℕ) → (down_of s m p).given w ≡ (targets s m p w && s.able w)
-given_is s m p w = given_named s m p w ∙ enough (is_named s.windows w) (targets s m p w) (s.able w) (target_named s m p w)
+-- a target is listed among the targets
+pub targets_listed : (s : Scene) (m : Motion) (p : Pointer) (w : ℕ) → list_any (λ v. v == w) (targets_at s m.device p.at) ≡ targets s m p w
+targets_listed s m p w = among_which (targets s m p) s.windows w ∙ named (is_named s.windows w) (targets s m p w) (target_named s m p w)
+  where
+    named : (n t : Bool) → (t ≡ true → n ≡ true) → (n && t) ≡ t
+    named true t h = refl
+    named false true h = absurd (true≢false (sym (h refl)))
+    named false false h = refl
+
+-- so they are the targets that may be given it
+pub given_is : (s : Scene) (m : Motion) (p : Pointer) (w : ℕ) → (down_of s m p).given w ≡ (targets s m p w && may_take s m.device p.at w)
+given_is s m p w = given_named s m p w ∙ enough (is_named s.windows w) (targets s m p w) (may_take s m.device p.at w) (target_named s m p w)
   where
     enough : (n t a : Bool) → (t ≡ true → n ≡ true) → (n && (t && a)) ≡ (t && a)
     enough true t a h = refl

@@ -6,14 +6,16 @@ use Rattle.input_types.specs.declared.motion.MotionAction.{MotionAction}
 use Rattle.input_types.specs.declared.motion.MotionAction.TheVariants.{Outside}
 use Rattle.input_types.specs.declared.pointer.Pointer.{Pointer}
 use Rattle.window_snapshot.specs.Hits.{touched, is_spy_at}
+use Rattle.window_snapshot.specs.Occlusion.{is_blocked_at}
 use Rattle.routing_rules.specs.declared.choice.Choice.{Choice}
 use Rattle.routing_rules.specs.Scene.{Scene, Moves}
 use Rattle.routing_rules.specs.Choice.{choice_at, is_candidate, is_target, takers}
 use Rattle.routing_rules.specs.Outgoing.{outgoing}
+use Rattle.why_text.specs.Blocking.{blockers}
 
 -- The causes of a down: the window under the position, the choice with its row, the spies at the position, the
--- candidates that are pilfering the device, the windows that get the pointer, the targets that are not able to, and
--- the windows that are sent a touch outside.
+-- candidates that are pilfering the device, the windows that get the pointer, the targets that are not able to, the
+-- windows that are sent a touch outside, and the targets that are able to get it but blocked, each with those that block it.
 pub record Down : Type 0 where
   pub touched : Option ℕ
   pub choice : Choice
@@ -22,6 +24,8 @@ pub record Down : Type 0 where
   pub given : ℕ → Bool
   pub mute : ℕ → Bool
   pub outside : ℕ → Bool
+  pub blocked : ℕ → Bool
+  pub blockers : (blocked : ℕ) → ℕ → Bool
 
 -- the window is a candidate for a pointer of the motion's device that goes down: the chosen window, or a spy
 abbrev pub may_get : Scene → Motion → Pointer → ℕ → Bool
@@ -48,4 +52,6 @@ down_of s m p =
       given = λ w. list_any (λ v. v == w) (takers s d p.at);
       mute = λ w. targets s m p w && not (s.able w);
       outside = λ w. list_any (λ n. is_outside n.action) (outgoing s (Moves m) w d);
+      blocked = λ w. targets s m p w && (s.able w && is_blocked_at s.windows (s.reach d) p.at.x p.at.y w);
+      blockers = blockers s.windows (s.reach d) p.at;
     }

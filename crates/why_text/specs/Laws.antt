@@ -49,11 +49,15 @@ RowLaw =
     (s : Scene) (d : ℕ) (at : Pixel) (k : Choice) → choice_at s d at ≡ k
     → RowSays s d (touched s.windows (s.reach d) at.x at.y) k.window k.row
 
--- The windows that are given a pointer that goes down and the mute ones part its targets.
+-- no two of three conditions hold, and some of them does exactly if the whole does
+abbrev pub Parts : (whole a b c : Bool) → Type 0
+Parts whole a b c = (a && b ≡ false) × (a && c ≡ false) × (b && c ≡ false) × ((a || (b || c)) ≡ whole)
+
+-- The windows that are given a pointer that goes down, the mute ones and the blocked ones part its targets.
 abbrev pub PartsLaw : Type 0
 PartsLaw =
     (s : Scene) (m : Motion) (p : Pointer) (w : ℕ)
-    → ((down_of s m p).given w && (down_of s m p).mute w ≡ false) × (((down_of s m p).given w || (down_of s m p).mute w) ≡ targets s m p w)
+    → Parts (targets s m p w) ((down_of s m p).given w) ((down_of s m p).mute w) ((down_of s m p).blocked w)
 
 -- the motions contain a pointer's down
 abbrev pub sends_down : List Motion → Bool

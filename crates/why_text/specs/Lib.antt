@@ -1,4 +1,5 @@
 pub mod Words
+pub mod Blocking
 pub mod Down
 pub mod Lost
 pub mod Lines

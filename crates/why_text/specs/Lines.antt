@@ -64,9 +64,17 @@ sets_words k =
     codes " spies " ++ windows_word k.spies ++ codes " pilfering " ++ windows_word k.pilfering ++ codes " given " ++ windows_word k.given ++ codes " mute "
     ++ windows_word k.mute ++ codes " outside " ++ windows_word k.outside
 
+-- a window that is blocked, with those that block it
+abbrev pub blocked_word : (blockers : ℕ → ℕ → Bool) → ℕ → List ℕ
+blocked_word blockers w = codes " blocked " ++ decimal w ++ codes " by " ++ windows_word (blockers w)
+
+-- the windows that are blocked, in rising order
+abbrev pub blocked_words : (blocked : ℕ → Bool) → (blockers : ℕ → ℕ → Bool) → List ℕ
+blocked_words blocked blockers = flat_map (blocked_word blockers) (channels_that blocked)
+
 -- a pointer goes down, with the causes
 abbrev pub down_words : ℕ → Pointer → Down → List ℕ
-down_words d p k = codes "down " ++ pointer_words d p ++ choice_words k ++ sets_words k
+down_words d p k = codes "down " ++ pointer_words d p ++ choice_words k ++ sets_words k ++ blocked_words k.blocked k.blockers
 
 -- a pointer slips from one window to another
 abbrev pub slip_word : ℕ → Pointer → (from to : ℕ) → List ℕ

@@ -6,7 +6,7 @@ pub fn choosing()
     ensures { RowLaw }
 {}
 
-/// The targets of a pointer are divided into the windows that are given it and the mute ones.
+/// The targets of a pointer are divided into the windows that are given it, the mute ones and the blocked ones.
 pub fn parting()
     ensures { PartsLaw }
 {}

@@ -1,3 +1,4 @@
+pub mod Among
 pub mod Examples
 pub mod Fronts
 pub mod Masks

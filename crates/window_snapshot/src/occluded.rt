@@ -1,7 +1,7 @@
 //! Which windows of a snapshot lie over windows of other owners, and which of those block them.
 ghost use Rattle.std.specs.Prelude.{◌≡◌, ◌≤◌, ℕ, ◌&&◌, ◌==◌, filter, fold, nat_lt};
 ghost use Rattle.std.specs.List.{list_any, before_first};
-ghost use Rattle.window_snapshot.specs.Mask.{is_channel, mask_has};
+ghost use Rattle.window_snapshot.specs.Mask.{mask_has};
 ghost use Rattle.window_snapshot.specs.MaskOf.{mask_of};
 ghost use Rattle.window_snapshot.specs.Opaque.{is_dimming};
 ghost use Rattle.window_snapshot.specs.Occlusion.{is_absent, may_obscure, obscures, stretches_meet, rects_meet, overlaps, dimmed, clearness, blocks, in_front_of, is_blocked, is_obscured, is_overlapped, is_blocked_at, is_obscured_at, is_overlapped_on};
@@ -19,59 +19,63 @@ const LIGHT: u32 = 1_000_000;
 const CLEAR: u32 = 200_000;
 
 impl Snapshot {
-    /// The mask of the windows that are blocked at a point of the display: a touch there comes through a window of
-    /// another owner, with a channel in the mask `live`, that may not be touched through, or through windows of one
-    /// other owner whose opacity decides and which together hide more than 80 per cent. Frames decide, not regions.
-    pub fn blocked(&self, x: i32, y: i32, live: u64) -> u64
-        ensures { (c : ℕ) → mask_has result c ≡ (is_channel c && is_blocked_at self.now (mask_has live) x y c) }
+    /// Of the windows of the mask `among`, those that are blocked at a point of the display: a touch there comes through
+    /// a window of another owner, with a channel in the mask `live`, that may not be touched through, or through windows
+    /// of one other owner whose opacity decides and which together hide more than 80 per cent. Frames decide, not regions.
+    pub fn blocked(&self, x: i32, y: i32, live: u64, among: u64) -> u64
+        ensures { (c : ℕ) → mask_has result c ≡ (mask_has among c && is_blocked_at self.now (mask_has live) x y c) }
     {
-        blocked_mask(self.windows(), x, y, live)
+        blocked_mask(self.windows(), x, y, live, among)
     }
 
-    /// The mask of the windows that a window of another owner, with a channel in the mask `live`, obscures at a point
-    /// of the display.
-    pub fn obscured(&self, x: i32, y: i32, live: u64) -> u64
-        ensures { (c : ℕ) → mask_has result c ≡ (is_channel c && is_obscured_at self.now (mask_has live) x y c) }
+    /// Of the windows of the mask `among`, those that a window of another owner, with a channel in the mask `live`,
+    /// obscures at a point of the display.
+    pub fn obscured(&self, x: i32, y: i32, live: u64, among: u64) -> u64
+        ensures { (c : ℕ) → mask_has result c ≡ (mask_has among c && is_obscured_at self.now (mask_has live) x y c) }
     {
-        obscured_mask(self.windows(), x, y, live)
+        obscured_mask(self.windows(), x, y, live, among)
     }
 
-    /// The mask of the windows whose frames have a point in common with that of a window of another owner in front of
-    /// them, with a channel in the mask `live`.
-    pub fn overlapped(&self, live: u64) -> u64
-        ensures { (c : ℕ) → mask_has result c ≡ (is_channel c && is_overlapped_on self.now (mask_has live) c) }
+    /// Of the windows of the mask `among`, those whose frames have a point in common with that of a window of another
+    /// owner in front of them, with a channel in the mask `live`.
+    pub fn overlapped(&self, live: u64, among: u64) -> u64
+        ensures { (c : ℕ) → mask_has result c ≡ (mask_has among c && is_overlapped_on self.now (mask_has live) c) }
     {
-        overlapped_mask(self.windows(), live)
+        overlapped_mask(self.windows(), live, among)
     }
 }
 
-/// The mask of those of these windows that are blocked.
-fn blocked_mask(windows: &[Window], x: i32, y: i32, live: u64) -> u64
-    ensures { result ≡ mask_of (filter (is_blocked windows.now (mask_has live) x y) windows.now) }
+/// The mask of those of these windows that are in a mask and blocked.
+fn blocked_mask(windows: &[Window], x: i32, y: i32, live: u64, among: u64) -> u64
+    ensures { result
+        ≡ mask_of (filter (λ v. mask_has among v.channel && is_blocked windows.now (mask_has live) x y v) windows.now) }
 {
     windows
         .iter()
-        .filter(|window| is_blocked(windows, x, y, live, window))
+        .filter(|window| mask_has(among, window.channel) && is_blocked(windows, x, y, live, window))
         .fold(0, |mask, window| mask_with(mask, window.channel))
 }
 
-/// The mask of those of these windows that are obscured.
-fn obscured_mask(windows: &[Window], x: i32, y: i32, live: u64) -> u64
-    ensures { result ≡ mask_of (filter (is_obscured windows.now (mask_has live) x y) windows.now) }
+/// The mask of those of these windows that are in a mask and obscured.
+fn obscured_mask(windows: &[Window], x: i32, y: i32, live: u64, among: u64) -> u64
+    ensures { result
+        ≡ mask_of (filter (λ v. mask_has among v.channel && is_obscured windows.now (mask_has live) x y v) windows.now) }
 {
     windows
         .iter()
-        .filter(|window| is_obscured(windows, x, y, live, window))
+        .filter(|window| mask_has(among, window.channel)
+            && is_obscured(windows, x, y, live, window))
         .fold(0, |mask, window| mask_with(mask, window.channel))
 }
 
-/// The mask of those of these windows that are overlapped.
-fn overlapped_mask(windows: &[Window], live: u64) -> u64
-    ensures { result ≡ mask_of (filter (is_overlapped windows.now (mask_has live)) windows.now) }
+/// The mask of those of these windows that are in a mask and overlapped.
+fn overlapped_mask(windows: &[Window], live: u64, among: u64) -> u64
+    ensures { result
+        ≡ mask_of (filter (λ v. mask_has among v.channel && is_overlapped windows.now (mask_has live) v) windows.now) }
 {
     windows
         .iter()
-        .filter(|window| is_overlapped(windows, live, window))
+        .filter(|window| mask_has(among, window.channel) && is_overlapped(windows, live, window))
         .fold(0, |mask, window| mask_with(mask, window.channel))
 }
 

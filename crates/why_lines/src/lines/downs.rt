@@ -1,23 +1,25 @@
 //! A pointer that goes down, with the causes.
 ghost use Rattle.std.specs.Prelude.{◌≡◌, ◌++◌, IfOk};
 ghost use Rattle.window_snapshot.specs.Mask.{mask_has};
-ghost use Rattle.why_text.specs.Lines.{choice_words, down_words, sets_words};
+ghost use Rattle.why_text.specs.Lines.{blocked_word, blocked_words, choice_words, down_words, sets_words};
 ghost use Rattle.why_text.specs.Text.{line};
 ghost use Rattle.why_text.specs.Words.{row_word, windows_word};
-ghost use Rattle.why_lines.specs.Causes.{down_with};
+ghost use Rattle.why_lines.specs.Causes.{blocked_by, down_with};
 
+use crate::blocking::{Blocked, blockers};
 use crate::lines::line::{add_clock, add_pointer};
-use crate::lines::sets::{add_channel, add_windows};
+use crate::lines::sets::{add_behind, add_channel, add_windows};
 use input_types::{DeviceId, Moment, Pointer};
 use routing_rules::{Choice, Row};
 use std::alloc::AllocError;
 use text_lines::add_word;
+use window_snapshot::{mask_first, mask_without};
 
 /// The causes of a down: the window under the place, the choice with its row, and as masks the spies at the place, the
-/// candidates that are pilfering the device, the windows that get the pointer, the targets that are not able to, and
-/// the windows that are told of a touch outside of them.
-#[derive(Clone, Copy, Debug)]
-pub struct Causes {
+/// candidates that are pilfering the device, the windows that get the pointer, the targets that are not able to, the
+/// windows that are told of a touch outside of them, and the targets that are able to get it but blocked.
+#[derive(Clone, Copy)]
+pub struct Causes<'a> {
     pub touched: Option<u32>,
     pub choice: Choice,
     pub spies: u64,
@@ -25,6 +27,7 @@ pub struct Causes {
     pub given: u64,
     pub mute: u64,
     pub outside: u64,
+    pub blocked: Blocked<'a>,
 }
 
 /// The word of a row.
@@ -73,6 +76,31 @@ fn add_sets(text: &mut Vec<u8>, causes: &Causes) -> Result<(), AllocError>
     add_named(text, " outside ", causes.outside)
 }
 
+/// Adds a window that is blocked, with those that block it.
+fn add_one_blocked(text: &mut Vec<u8>, blocked: &Blocked, channel: u32) -> Result<(), AllocError>
+    ensures { IfOk result (λ _. text.new.items
+        ≡ text.old.items
+        ++ blocked_word (blocked_by blocked.now) channel) }
+{
+    add_behind(text, " blocked ", channel)?;
+    add_named(text, " by ", blockers(blocked, channel))
+}
+
+/// Adds each window that is blocked.
+fn add_blocked(text: &mut Vec<u8>, blocked: &Blocked) -> Result<(), AllocError>
+    ensures { IfOk result (λ _. text.new.items
+        ≡ text.old.items
+        ++ blocked_words (mask_has blocked.now.mask) (blocked_by blocked.now)) }
+{
+    let mut rest = blocked.mask;
+    while rest != 0 {
+        let channel = mask_first(rest);
+        add_one_blocked(text, blocked, channel)?;
+        rest = mask_without(rest, channel);
+    }
+    Ok(())
+}
+
 /// Adds the line of a pointer of a device that goes down.
 pub fn down(
     text: &mut Vec<u8>,
@@ -88,5 +116,6 @@ pub fn down(
     add_pointer(text, "down ", device, pointer)?;
     add_choice(text, causes)?;
     add_sets(text, causes)?;
+    add_blocked(text, &causes.blocked)?;
     add_word(text, "\n")
 }

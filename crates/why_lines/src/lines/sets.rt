@@ -21,7 +21,7 @@ pub(crate) fn add_channel(text: &mut Vec<u8>, channel: Option<u32>) -> Result<()
 }
 
 /// Adds a channel behind some words.
-fn add_behind(text: &mut Vec<u8>, words: &str, channel: u32) -> Result<(), AllocError>
+pub(crate) fn add_behind(text: &mut Vec<u8>, words: &str, channel: u32) -> Result<(), AllocError>
     ensures { IfOk result (λ _. text.new.items ≡ text.old.items ++ (words.now ++ decimal channel)) }
 {
     add_labeled(text, words, u64::from(channel))

@@ -1,12 +1,13 @@
-use Rattle.std.proofs.Common.{refl}
-use Rattle.std.specs.Int.{bit_not, w64}
-use Rattle.why_lines.proofs.Masks.{all_channels, stands_able, targets_are, with_able}
+use Rattle.std.proofs.Common.{◌&&◌, ◌==◌, ap, ◌∙◌}
+use Rattle.std.specs.List.{list_any}
+use Rattle.routing_rules.specs.Choice.{targets_at}
+use Rattle.why_text.proofs.PartLaws.{targets_listed}
 use Rattle.why_lines.proofs.causes.target_mask.Goals as goal
 
 pub returns : goal.returns
 returns c s seen w number =
-    let all = bit_not w64 0 in
-    targets_are s c.args.motion.now c.args.pointer.now c.takers.result all w (all_channels w number)
-    (c.takers.ensures (with_able s all) (stands_able s _ all seen.stands)
-    (record { windows_are = seen.sees.windows_are; reach_is = seen.sees.reach_is; able_is = refl })
-    w)
+    let m = c.args.motion.now in
+    let p = c.args.pointer.now in
+    c.targets.ensures s seen.stands seen.sees w
+    ∙ ap (λ b. b && list_any (λ v. v == w) (targets_at s m.device p.at)) number
+    ∙ targets_listed s m p w

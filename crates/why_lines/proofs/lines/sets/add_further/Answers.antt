@@ -1,4 +1,6 @@
-use Rattle.std.proofs.Common.{length, arith, ap}
+use Rattle.std.proofs.Common.{◌++◌, length, arith, ap}
+use Rattle.std.specs.Prelude.{codes}
+use Rattle.std.specs.Fmt.{decimal}
 use Rattle.window_snapshot.specs.Mask.{mask_has}
 use Rattle.why_lines.proofs.Passing.{first_channel, further_done, further_more}
 use Rattle.why_lines.proofs.lines.sets.add_further.Goals as goal
@@ -15,7 +17,7 @@ loop-rest-smaller c =
 pub loop-rest-preserved : goal.loop-rest-preserved
 loop-rest-preserved c =
     let first = c.mask_first-channel in
-    further_more c.loop-rest.rest c.mask_without-rest.result first.result _ c.loop-rest.text.items c.add_behind.new.text.items
+    further_more (λ n. codes "," ++ decimal n) c.loop-rest.rest c.mask_without-rest.result first.result _ c.loop-rest.text.items c.add_behind.new.text.items
     first.ensures.range.0
     first.ensures.range.1
     first.ensures.has
@@ -25,4 +27,4 @@ loop-rest-preserved c =
     c.loop-rest.invariant
 
 pub returns : goal.returns
-returns c = further_done c.loop-rest.rest _ c.loop-rest.text.items c.loop-rest-test.false c.loop-rest.invariant
+returns c = further_done (λ n. codes "," ++ decimal n) c.loop-rest.rest _ c.loop-rest.text.items c.loop-rest-test.false c.loop-rest.invariant

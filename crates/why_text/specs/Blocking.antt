@@ -1,0 +1,29 @@
+-- Which windows of other owners block a window.
+use Rattle.std.specs.Prelude.{ℕ, Bool, false, if◌then◌else◌, List, filter, Option, Some, None}
+use Rattle.std.specs.List.{list_any}
+use Rattle.input_types.specs.declared.axis.Pixel.{Pixel}
+use Rattle.window_snapshot.specs.declared.window.Window.{Window}
+use Rattle.window_snapshot.specs.Named.{is_named, window_of}
+use Rattle.window_snapshot.specs.Occlusion.{blocks, in_front_of}
+use Rattle.window_snapshot.specs.Opaque.{is_blocking}
+
+-- no touch may go through the window
+abbrev pub is_wall : Window → Bool
+is_wall v = is_blocking v.occlusion
+
+-- of windows that block another one, those that no touch may go through; if there are none, all of them, whose opacity decides
+abbrev pub decisive : List Window → List Window
+decisive vs = if list_any is_wall vs then filter is_wall vs else vs
+
+-- the windows, of those in front of w, that block it at a point which the live channels may take
+abbrev pub blocking : (ℕ → Bool) → (front : List Window) → Window → Pixel → List Window
+blocking live front w at = filter (blocks live front w at.x at.y) front
+
+-- the channels of the decisive ones, if there is such a window
+abbrev pub blockers_of : (ℕ → Bool) → (front : List Window) → Pixel → Option Window → ℕ → Bool
+blockers_of live front at None c = false
+blockers_of live front at (Some w) c = is_named (decisive (blocking live front w at)) c
+
+-- the channels of those that block the window of a channel at a point
+abbrev pub blockers : List Window → (ℕ → Bool) → Pixel → ℕ → ℕ → Bool
+blockers windows live at w = blockers_of live (in_front_of windows w) at (window_of windows w)
